@@ -1,0 +1,41 @@
+-- Lines are answered as their bytes come. Some bytes wait for the end of their line, and of a line that is too long only
+-- its beginning is kept.
+use Rattle.std.specs.Prelude.{◌≡◌, ◌≢◌, ℕ, ◌+◌, ◌-◌, List, [], ◌∷◌, ◌++◌, length, take}
+use Rattle.objects.specs.Reading.{most_bytes}
+use Rattle.plain.specs.Store.{Store}
+use Rattle.plain.specs.Lines.{lines}
+use Rattle.plain.specs.Served.{answers}
+
+-- there is no line feed among these bytes
+abbrev pub NoFeed : List ℕ → Type 0
+NoFeed [] = Unit {0}
+NoFeed (b ∷ bs) = (b ≢ 10) × NoFeed bs
+
+-- these bytes are kept and more follow: one byte past the most shows that a line is too long
+abbrev pub kept_with : List ℕ → List ℕ → List ℕ
+kept_with kept bytes = kept ++ take (most_bytes + 1 - length kept) bytes
+
+-- where the answering of an input stands: the store, the bytes that wait, the text of the replies so far and the
+-- number of the lines so far
+pub record Point : Type 0 where
+  pub store : Store
+  pub waiting : List ℕ
+  pub text : List ℕ
+  pub count : ℕ
+
+-- the text of all replies, if these bytes and no more follow
+abbrev pub text_with : Point → List ℕ → List ℕ
+text_with p more = p.text ++ answers p.store (lines (p.waiting ++ more))
+
+-- the number of all lines, if these bytes and no more follow
+abbrev pub count_with : Point → List ℕ → ℕ
+count_with p more = p.count + length (lines (p.waiting ++ more))
+
+-- both come to the same, whatever follows
+pub record Reaches (p q : Point) : Type 0 where
+  pub text : (more : List ℕ) → text_with p more ≡ text_with q more
+  pub count : (more : List ℕ) → count_with p more ≡ count_with q more
+
+-- bytes that come
+abbrev pub given : Point → List ℕ → Point
+given p bytes = record p { waiting = p.waiting ++ bytes }

@@ -1,0 +1,13 @@
+pub mod Verdict
+pub mod Store
+pub mod Filed
+pub mod Run
+pub mod Requests
+pub mod Verbs
+pub mod Replies
+pub mod Lines
+pub mod Cuts
+pub mod Served
+pub mod Streams
+pub mod Faults
+pub mod Serving

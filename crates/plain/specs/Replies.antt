@@ -1,0 +1,63 @@
+-- The line of each reply: compact JSON with keys in byte order, and the HTTP status that the API would give.
+use Rattle.std.specs.Prelude.{ℕ, List, codes}
+use Rattle.serde_json.specs.Data.{Data, number, unsigned, string, object, Members, no_members, member}
+use Rattle.serde_json.specs.Written.{compact_text}
+use Rattle.objects.specs.declared.object.Object.{Object}
+use Rattle.objects.specs.declared.fault.ReadError.{ReadError}
+use Rattle.objects.specs.declared.fault.ReadError.TheVariants as read
+use Rattle.objects.specs.Text.{printed}
+use Rattle.plain.specs.declared.reply.Reason.{Reason}
+use Rattle.plain.specs.declared.reply.Reason.TheVariants.{NotFound, AlreadyExists, Conflict, Invalid, StoreFull}
+use Rattle.plain.specs.declared.reply.Reply.{Reply}
+use Rattle.plain.specs.declared.reply.Reply.TheVariants.{Created, Found, Updated, Refused}
+use Rattle.plain.specs.declared.request.RequestError.{RequestError}
+use Rattle.plain.specs.declared.request.RequestError.TheVariants as errors
+
+abbrev pub reason_code : Reason → ℕ
+reason_code NotFound = 404
+reason_code AlreadyExists = 409
+reason_code Conflict = 409
+reason_code Invalid = 422
+reason_code StoreFull = 507
+
+abbrev pub reason_name : Reason → List ℕ
+reason_name NotFound = codes "NotFound"
+reason_name AlreadyExists = codes "AlreadyExists"
+reason_name Conflict = codes "Conflict"
+reason_name Invalid = codes "Invalid"
+reason_name StoreFull = codes "StoreFull"
+
+-- the name of the refusal of a line
+abbrev pub read_error_name : ReadError → List ℕ
+read_error_name read.NotJson = codes "NotJson"
+read_error_name read.NotWhole = codes "NotWhole"
+read_error_name read.NoKind = codes "NoKind"
+read_error_name read.UnknownKind = codes "UnknownKind"
+read_error_name read.BadName = codes "BadName"
+read_error_name read.BadMeta = codes "BadMeta"
+read_error_name read.TooLong = codes "TooLong"
+read_error_name read.Memory = codes "Memory"
+
+abbrev pub error_name : RequestError → List ℕ
+error_name (errors.Read e) = read_error_name e
+error_name errors.NoVerb = codes "NoVerb"
+error_name errors.UnknownVerb = codes "UnknownVerb"
+
+-- `{"code":C,"object":O,"result":R}`
+abbrev pub with_object : ℕ → Object → List ℕ → Data
+with_object code o result =
+    object (member (codes "code") (number (unsigned code)) (member (codes "object") (printed o) (member (codes "result") (string result) no_members)))
+
+-- `{"code":C,"reason":R}`
+abbrev pub with_reason : ℕ → List ℕ → Data
+with_reason code reason = object (member (codes "code") (number (unsigned code)) (member (codes "reason") (string reason) no_members))
+
+abbrev pub reply_data : Reply → Data
+reply_data (Created o) = with_object 201 o (codes "Created")
+reply_data (Found o) = with_object 200 o (codes "Found")
+reply_data (Updated o) = with_object 200 o (codes "Updated")
+reply_data (Refused reason) = with_reason (reason_code reason) (reason_name reason)
+
+-- a line that is no request
+abbrev pub error_data : RequestError → Data
+error_data e = with_reason 400 (error_name e)

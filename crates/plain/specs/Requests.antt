@@ -1,0 +1,57 @@
+-- The request that a line is, or the first refusal. The tests are made in this order: TooLong, NotJson, NotWhole,
+-- NoVerb, UnknownVerb, and then those of the object or the key.
+use Rattle.std.specs.Prelude.{◌≡◌, ℕ, List, codes, bytes_eq, Option, Some, None, option_and_then, Result, Ok, Err, if◌then◌else◌, ⊤}
+use Rattle.serde_json.specs.Data.{Data, Members}
+use Rattle.serde_json.specs.Find.{as_object, as_str, get_member}
+use Rattle.objects.specs.declared.fault.ReadError.{ReadError}
+use Rattle.objects.specs.declared.fault.ReadError.TheVariants as read
+use Rattle.objects.specs.declared.object.Draft.{Draft}
+use Rattle.objects.specs.Steps.{required}
+use Rattle.objects.specs.Reading.{reading_of_data, draft_of, key_in}
+use Rattle.plain.specs.declared.request.Request.{Request}
+use Rattle.plain.specs.declared.request.Request.TheVariants.{Create, Get, Update}
+use Rattle.plain.specs.declared.request.RequestError.{RequestError}
+use Rattle.plain.specs.declared.request.RequestError.TheVariants as errors
+
+infixl 10 ◌>>=◌
+abbrev pub ◌>>=◌ : {A B : Type 0} → Result A RequestError → (A → Result B RequestError) → Result B RequestError
+(Ok x) >>= f = f x
+(Err e) >>= f = Err e
+
+abbrev pub demanded : {A : Type 0} → RequestError → Option A → Result A RequestError
+demanded e None = Err e
+demanded e (Some x) = Ok x
+
+-- a step of reading objects, as a step of reading requests
+abbrev pub lifted : {A : Type 0} → Result A ReadError → Result A RequestError
+lifted (Ok x) = Ok x
+lifted (Err e) = Err (errors.Read e)
+
+-- the object of a request; a missing one has no kind
+abbrev pub object_draft : Option Data → Result Draft ReadError
+object_draft None = Err read.NoKind
+object_draft (Some d) = draft_of d
+
+unfoldable pub verb_request : List ℕ → Members → Result Request RequestError
+verb_request verb ms =
+    if bytes_eq verb (codes "create") then (lifted (object_draft (get_member (codes "object") ms)) >>= λ d. Ok (Create d))
+    else if bytes_eq verb (codes "get") then (lifted (key_in ms) >>= λ k. Ok (Get k))
+    else if bytes_eq verb (codes "update") then (lifted (object_draft (get_member (codes "object") ms)) >>= λ d. Ok (Update d))
+    else Err errors.UnknownVerb
+
+unfoldable pub request_of : List ℕ → Result Request RequestError
+request_of line = do
+  d ← lifted (reading_of_data line)
+  ms ← demanded errors.NoVerb (as_object d)
+  verb ← demanded errors.NoVerb (option_and_then as_str (get_member (codes "do") ms))
+  verb_request verb ms
+
+-- reading refuses with e; nothing is said where memory ran out
+abbrev pub Refuses : {A : Type 0} → RequestError → Result A RequestError → Type 0
+Refuses (errors.Read read.Memory) reading = ⊤
+Refuses e reading = reading ≡ Err e
+
+-- what a function returned is what reading gives, unless memory ran out
+abbrev pub Answers : {A : Type 0} → Result A RequestError → Result A RequestError → Type 0
+Answers (Ok x) reading = reading ≡ Ok x
+Answers (Err e) reading = Refuses e reading

@@ -1,0 +1,21 @@
+-- What a reader has left and what a writer was given, where the device tells.
+use Rattle.std.specs.Prelude.{◌≡◌, ℕ, List, ◌++◌, Option, Some, None, ⊤}
+
+-- these bytes were taken from the front of what was left
+abbrev pub Takes : Option (List ℕ) → List ℕ → Option (List ℕ) → Type 0
+Takes None taken new = ⊤
+Takes (Some left) taken new = (rest : List ℕ) × (left ≡ taken ++ rest) × (new ≡ Some rest)
+
+-- these bytes were put after what was there
+abbrev pub Puts : Option (List ℕ) → List ℕ → Option (List ℕ) → Type 0
+Puts None put new = ⊤
+Puts (Some written) put new = new ≡ Some (written ++ put)
+
+-- a beginning of these bytes was put after what was there
+abbrev pub PutsPart : Option (List ℕ) → List ℕ → Option (List ℕ) → Type 0
+PutsPart old bytes new = (text : List ℕ) × (more : List ℕ) × (bytes ≡ text ++ more) × Puts old text new
+
+-- A serving that ended early, from what the reader had and has left and what the writer had and has: of the bytes that
+-- were read, a beginning of the replies' text was written.
+abbrev pub ServesPart : (List ℕ → List ℕ) → Option (List ℕ) → Option (List ℕ) → Option (List ℕ) → Option (List ℕ) → Type 0
+ServesPart text had left before after = (consumed : List ℕ) × Takes had consumed left × PutsPart before (text consumed) after

@@ -1,0 +1,30 @@
+-- What a request's `do` asks for.
+use Rattle.std.specs.Prelude.{ℕ, List, codes, bytes_eq, Option, Some, None, option_and_then, Result, Ok, if◌then◌else◌}
+use Rattle.serde_json.specs.Data.{Members}
+use Rattle.serde_json.specs.Find.{as_str, get_member}
+use Rattle.objects.specs.Reading.{key_in}
+use Rattle.plain.specs.declared.request.Request.{Request}
+use Rattle.plain.specs.declared.request.Request.TheVariants.{Create, Get, Update}
+use Rattle.plain.specs.declared.request.RequestError.{RequestError}
+use Rattle.plain.specs.declared.request.RequestError.TheVariants as errors
+use Rattle.plain.specs.declared.request.Verb.{Verb}
+use Rattle.plain.specs.declared.request.Verb.TheVariants as verb
+use Rattle.plain.specs.Requests.{◌>>=◌, demanded, lifted, object_draft}
+
+-- the verb of that name
+abbrev pub verb_named : List ℕ → Option Verb
+verb_named s =
+    if bytes_eq s (codes "create") then Some verb.Create
+    else if bytes_eq s (codes "get") then Some verb.Get
+    else if bytes_eq s (codes "update") then Some verb.Update
+    else None
+
+unfoldable pub verb_in : Members → Result Verb RequestError
+verb_in ms = do
+  name ← demanded errors.NoVerb (option_and_then as_str (get_member (codes "do") ms))
+  demanded errors.UnknownVerb (verb_named name)
+
+unfoldable pub request_by : Verb → Members → Result Request RequestError
+request_by verb.Create ms = lifted (object_draft (get_member (codes "object") ms)) >>= λ d. Ok (Create d)
+request_by verb.Get ms = lifted (key_in ms) >>= λ k. Ok (Get k)
+request_by verb.Update ms = lifted (object_draft (get_member (codes "object") ms)) >>= λ d. Ok (Update d)
