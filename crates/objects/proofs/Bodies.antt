@@ -1,0 +1,110 @@
+-- The body of an object: its metadata without the held members.
+use Rattle.std.proofs.Common.{◌≡◌, ℕ, List, [], ◌∷◌, Bool, true, false, not, ◌||◌, filter, cond, Option, Some, None, Result, Ok, Err, refl, sym, ap, ◌∙◌, subst}
+use Rattle.std.specs.Prelude.{codes, bytes_eq, option_and_then}
+use Rattle.std.specs.Option.{option_map_or}
+use Rattle.std.proofs.lemmas.Slice.Eq.{bytes_eq-Decides}
+use Rattle.serde_json.specs.Data.{Data, null, boolean, number, string, array, object, Members, no_members, member, put}
+use Rattle.serde_json.specs.Find.{get_member, as_str, as_object}
+use Rattle.serde_json.proofs.Views.{get_member-put, get_member-put_other}
+use Rattle.objects.specs.declared.kind.Kind.{Kind}
+use Rattle.objects.specs.declared.kind.Kind.TheVariants.{StatefulSet, Pod, PersistentVolumeClaim, ControllerRevision}
+use Rattle.objects.specs.declared.fault.ReadError.TheVariants.{NoKind, UnknownKind}
+use Rattle.objects.specs.declared.tree.Tree.{Tree}
+use Rattle.objects.specs.Tree.{data_of, members_of}
+use Rattle.objects.specs.Kind.{kind_name, kind_named, api_version}
+use Rattle.objects.specs.Object.{is_held, without_held, has_held, is_missing_or, IsBody, SaysKind}
+use Rattle.objects.specs.Steps.{◌>>=◌, required, guarded}
+use Rattle.objects.specs.Reading.{kind_in}
+
+held_at : (held : Bool) (e : List ℕ × Tree) (es : List (List ℕ × Tree)) (ms : Members) → members_of es ≡ ms → members_of (cond (not held) (e ∷ es) es) ≡ cond held ms (member e.0 (data_of e.1) ms)
+held_at true e es ms h = h
+held_at false e es ms h = ap (member e.0 (data_of e.1)) h
+
+-- the entries that are not held are the members without the held ones
+pub members_of-filter : (es : List (List ℕ × Tree)) → members_of (filter (λ e. not (is_held e.0)) es) ≡ without_held (members_of es)
+members_of-filter [] = refl
+members_of-filter (e ∷ es) = held_at (is_held e.0) e _ _ (members_of-filter es)
+
+none_at : (held : Bool) (k : List ℕ) (d : Data) (ms : Members) → is_held k ≡ held → has_held ms ≡ false → has_held (cond held ms (member k d ms)) ≡ false
+none_at true k d ms is h = h
+none_at false k d ms is h = rw (is, h) refl
+
+pub has_held-without_held : (ms : Members) → has_held (without_held ms) ≡ false
+has_held-without_held no_members = refl
+has_held-without_held (member k d ms) = none_at (is_held k) k d (without_held ms) refl (has_held-without_held ms)
+
+some_kind : (s : List ℕ) (k kind : Kind) → bytes_eq s (kind_name k) ≡ true → Some k ≡ Some kind → s ≡ kind_name kind
+some_kind s k kind is h = (bytes_eq-Decides s (kind_name k)).0 is ∙ ap kind_name cc
+
+-- the tests in turn
+by_name : (s : List ℕ) (a b c d : Bool) (kind : Kind) → bytes_eq s (kind_name StatefulSet) ≡ a → bytes_eq s (kind_name Pod) ≡ b → bytes_eq s (kind_name PersistentVolumeClaim) ≡ c → bytes_eq s (kind_name ControllerRevision) ≡ d
+    → cond a (Some StatefulSet) (cond b (Some Pod) (cond c (Some PersistentVolumeClaim) (cond d (Some ControllerRevision) None))) ≡ Some kind → s ≡ kind_name kind
+by_name s true b c d kind is-a is-b is-c is-d h = some_kind s StatefulSet kind is-a h
+by_name s false true c d kind is-a is-b is-c is-d h = some_kind s Pod kind is-b h
+by_name s false false true d kind is-a is-b is-c is-d h = some_kind s PersistentVolumeClaim kind is-c h
+by_name s false false false true kind is-a is-b is-c is-d h = some_kind s ControllerRevision kind is-d h
+by_name s false false false false kind is-a is-b is-c is-d h = absurd cc
+
+pub kind_named-says : (s : List ℕ) (kind : Kind) → kind_named s ≡ Some kind → s ≡ kind_name kind
+kind_named-says s kind h = by_name s _ _ _ _ kind refl refl refl refl h
+
+required_kind : (o : Option Kind) (kind : Kind) → required UnknownKind o ≡ Ok kind → o ≡ Some kind
+required_kind None kind h = absurd cc
+required_kind (Some k) kind h = cc
+
+said : (o : Option Data) (kind : Kind) → (required NoKind (option_and_then as_str o) >>= λ s. required UnknownKind (kind_named s)) ≡ Ok kind → o ≡ Some (string (kind_name kind))
+said None kind h = absurd cc
+said (Some (string s)) kind h = ap (λ t. Some (string t)) (kind_named-says s kind (required_kind (kind_named s) kind h))
+said (Some null) kind h = absurd cc
+said (Some (boolean b)) kind h = absurd cc
+said (Some (number n)) kind h = absurd cc
+said (Some (array ds)) kind h = absurd cc
+said (Some (object ms)) kind h = absurd cc
+
+-- the member `kind` is the kind's name
+pub kind_in-says : (ms : Members) (kind : Kind) → kind_in ms ≡ Ok kind → get_member (codes "kind") ms ≡ Some (string (kind_name kind))
+unfolding kind_in
+kind_in-says ms kind h = said (get_member (codes "kind") ms) kind h
+
+guarded_kind : (b : Bool) (named kind : Kind) → guarded UnknownKind b named ≡ Ok kind → (b ≡ true) × (named ≡ kind)
+guarded_kind true named kind h = (refl, cc)
+guarded_kind false named kind h = absurd cc
+
+-- the version that was tested is that of the kind
+pub version_says : (ms : Members) (named kind : Kind) → guarded UnknownKind (is_missing_or (api_version named) (get_member (codes "apiVersion") ms)) named ≡ Ok kind
+    → (is_missing_or (api_version kind) (get_member (codes "apiVersion") ms) ≡ true) × (named ≡ kind)
+version_says ms named kind h =
+    let both = guarded_kind (is_missing_or (api_version named) (get_member (codes "apiVersion") ms)) named kind h in
+    (subst (λ k. is_missing_or (api_version k) (get_member (codes "apiVersion") ms) ≡ true) both.1 both.0, both.1)
+
+-- what a body has to say, said by the members that were read
+pub body_said : (kind : Kind) (ms metadata : Members) → get_member (codes "kind") ms ≡ Some (string (kind_name kind)) → is_missing_or (api_version kind) (get_member (codes "apiVersion") ms) ≡ true
+    → IsBody kind (object (put (codes "metadata") (object (without_held metadata)) ms))
+body_said kind ms metadata kind_said version_said =
+    let d = object (without_held metadata) in
+    record {
+      members = put (codes "metadata") d ms;
+      metadata = without_held metadata;
+      whole = refl;
+      kind_said = get_member-put_other (codes "kind") (codes "metadata") d ms (λ e. absurd cc) ∙ kind_said;
+      version_said = ap (is_missing_or (api_version kind)) (get_member-put_other (codes "apiVersion") (codes "metadata") d ms (λ e. absurd cc)) ∙ version_said;
+      metadata_said = get_member-put (codes "metadata") d ms;
+      none_held = has_held-without_held metadata;
+    }
+
+-- what was read of the kind
+pub says_kind : (ms : Members) (named kind keyed : Kind) → kind_in ms ≡ Ok named → guarded UnknownKind (is_missing_or (api_version named) (get_member (codes "apiVersion") ms)) named ≡ Ok kind → keyed ≡ kind → SaysKind keyed ms
+says_kind ms named kind keyed read tested same =
+    let version = version_says ms named kind tested in
+    subst (λ k. SaysKind k ms) (sym same) (record {
+      kind_said = subst (λ k. get_member (codes "kind") ms ≡ Some (string (kind_name k))) version.1 (kind_in-says ms named read);
+      version_said = version.0;
+    })
+
+pub is_object : (d : Data) (ms : Members) → Some ms ≡ as_object d → d ≡ object ms
+is_object (object ns) ms h = ap object cc
+is_object null ms h = absurd cc
+is_object (boolean b) ms h = absurd cc
+is_object (number n) ms h = absurd cc
+is_object (string s) ms h = absurd cc
+is_object (array ds) ms h = absurd cc

@@ -1,0 +1,17 @@
+pub mod Lookups
+pub mod Conversion
+pub mod EntryPlaces
+pub mod Chains
+pub mod Numerals
+pub mod Bodies
+pub mod Printing
+pub mod Merging
+pub mod WholeObjects
+pub mod PutOrder
+pub mod ProperText
+pub mod HeldMembers
+pub mod UidRound
+pub mod PrintedObjects
+pub mod DraftAgain
+pub mod WholeTokens
+pub mod ReadsAgain

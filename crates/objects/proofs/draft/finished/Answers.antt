@@ -1,0 +1,12 @@
+use Rattle.std.proofs.Common.{◌≡◌, codes, subst}
+use Rattle.serde_json.specs.Data.{Data, object, put}
+use Rattle.objects.specs.Tree.{data_of}
+use Rattle.objects.specs.Object.{IsBody, without_held}
+use Rattle.objects.proofs.Bodies.{body_said}
+use Rattle.objects.proofs.draft.finished.Goals as goal
+
+pub invariant_of-result : goal.invariant_of-result
+invariant_of-result c =
+    let gives = c.in_ok-body.ensures c.requires.whole.0 c.requires.whole.1 in
+    let same : object (put (codes "metadata") (object (without_held c.requires.whole.0)) c.args.members) ≡ data_of c.in_ok-body.body = cc in
+    subst (IsBody c.args.key.kind) same (body_said c.args.key.kind c.args.members c.requires.whole.0 c.requires.said.kind_said c.requires.said.version_said)

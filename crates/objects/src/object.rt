@@ -1,0 +1,50 @@
+ghost use Rattle.std.specs.Prelude.{◌≡◌};
+
+use crate::key::Key;
+use crate::meta::Meta;
+use crate::text::Text;
+use crate::tree::Tree;
+use std::alloc::AllocError;
+use std::marker::Model;
+
+/// An object. The body holds all members as they were read, `kind` among them, but the six of `metadata` that the
+/// key and the meta hold: `name`, `namespace`, `uid`, `resourceVersion`, `generation` and `deletionTimestamp`.
+#[derive(Debug, Drop)]
+pub struct Object {
+    pub key: Key,
+    pub meta: Meta,
+    pub body: Tree,
+}
+
+impl Model for Object {
+    ghost use Rattle.objects.specs.Tree.{data_of};
+    ghost use Rattle.objects.specs.Object.{ObjectParts, object_coded, IsBody};
+
+    ghost Value = { ObjectParts };
+
+    ghost coded = { object_coded };
+
+    ghost view = { λ o. record { key = o.key; meta = o.meta; body = data_of o.body } };
+
+    ghost invariant = { λ o. IsBody o.key.kind (data_of o.body) };
+}
+
+impl Clone for Object {
+    ghost is_clone = { λ old new. new ≡ old };
+
+    fn clone(&self) -> Result<Object, AllocError> {
+        Ok(Object {
+            key: self.key.clone()?,
+            meta: self.meta.clone()?,
+            body: self.body.clone()?,
+        })
+    }
+}
+
+/// An object as it was read, with the texts of its UID and its resource version as they stood. An empty text is none.
+#[derive(Debug, Drop)]
+pub struct Draft {
+    pub object: Object,
+    pub uid: Option<Text>,
+    pub version: Option<Text>,
+}

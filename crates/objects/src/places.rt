@@ -1,0 +1,56 @@
+// Work on the entries of a map: where a key stands, and entries copied or taken.
+ghost use Rattle.std.specs.Prelude.{◌≡◌, ◌<◌, length, IfOk, IfErr, OnOk, option_map, Some};
+ghost use Rattle.serde_json.specs.Data.{object, put};
+ghost use Rattle.serde_json.specs.Find.{get_member};
+ghost use Rattle.objects.specs.Tree.{data_of, members_of, AreAscending};
+ghost use Rattle.objects.specs.Places.{IsAt, IsGap};
+ghost use Rattle.objects.specs.Object.{is_held, without_held};
+
+use crate::text::Text;
+use crate::tree::Tree;
+use std::alloc::{AllocError, Global};
+use std::cmp::Ordering;
+
+/// Where the key stands, or where it would go.
+pub(crate) fn place_of(entries: &[(Text, Tree)], key: &str) -> Result<usize, usize>
+    ensures found { IfOk result (λ i. IsAt key.now i entries.now) }
+    ensures gap { IfErr result (λ i. IsGap key.now i entries.now) }
+{
+    for (i, (name, _)) in entries.iter().enumerate() {
+        match key.cmp(name.as_str()) {
+            Ordering::Greater => {}
+            Ordering::Equal => return Ok(i),
+            Ordering::Less => return Err(i),
+        }
+    }
+    Err(entries.len())
+}
+
+/// The entries again, which share what their lists and maps hold.
+pub(crate) fn copied(alloc: Global, entries: &[(Text, Tree)]) -> Result<Vec<(Text, Tree)>, AllocError>
+    ensures { IfOk result (λ copies. copies.items ≡ entries.now) }
+{
+    let mut copies = Vec::with_capacity(alloc, entries.len())?;
+    for (name, value) in entries {
+        copies.push((name.clone()?, value.clone()?))?;
+    }
+    Ok(copies)
+}
+
+fn is_held(name: &str) -> bool
+    ensures { result ≡ is_held name.now }
+{
+    name == "deletionTimestamp"
+        || name == "generation"
+        || name == "name"
+        || name == "namespace"
+        || name == "resourceVersion"
+        || name == "uid"
+}
+
+/// Takes out the members of `metadata` that the key and the meta hold.
+pub(crate) fn drop_held(entries: &mut Vec<(Text, Tree)>)
+    ensures { members_of entries.new.items ≡ without_held (members_of entries.old.items) }
+{
+    entries.retain(|(name, _)| !is_held(name.as_str()));
+}

@@ -1,0 +1,215 @@
+ghost use Rattle.std.specs.Prelude.{◌≡◌, ◌≤◌, ◌++◌, length, IfOk, OnOk, Ok, Some, codes, true, false, option_map, decimal, string_bytes};
+ghost use Rattle.std.specs.Option.{option_copied};
+ghost use Rattle.json.specs.Tree.{json_tokens, members_tokens};
+ghost use Rattle.serde_json.specs.Data.{Members as DataMembers, object as map, string, number as number_data, unsigned, depth, put};
+ghost use Rattle.serde_json.specs.Find.{get_member};
+ghost use Rattle.serde_json.specs.Written.{outline, members_outline};
+ghost use Rattle.objects.specs.Tree.{data_of, members_of, AreAscending};
+ghost use Rattle.objects.specs.Object.{is_held, has_held, KeepsRules};
+ghost use Rattle.objects.specs.Key.{is_key};
+ghost use Rattle.objects.specs.Meta.{IsMeta};
+ghost use Rattle.objects.specs.Proper.{IsProper, AreProperMembers};
+ghost use Rattle.objects.specs.Text.{text, printed, whole_metadata, unless_zero};
+ghost use Rattle.objects.specs.Uid.{uid_text, uid_prefix, twelve_digits};
+ghost use Rattle.objects.specs.Reading.{reading, most_bytes};
+ghost use Rattle.objects.specs.Again.{draft_again_of};
+ghost use Rattle.serde_json.specs.Read.{max_depth};
+ghost use Rattle.objects.specs.Merged.{held_data, some_tokens, WritesFront, WritesStep};
+
+use crate::memory::Memory;
+use crate::object::Object;
+use crate::text::Text;
+use crate::tree::Tree;
+use crate::uid::uid_bytes;
+use crate::write::{write_entries, write_tree};
+use json::Writer;
+use std::alloc::{AllocError, Global};
+use std::cmp::Ordering;
+use std::str;
+
+// The value of a member that the key or the meta holds.
+#[derive(Clone, Copy, Drop)]
+enum Held<'a> {
+    Text(&'a str),
+    Whole(u64),
+}
+
+// Writes the entries whose keys are below the key, and answers the others.
+fn write_front<'a>(
+    entries: &'a [(Text, Tree)],
+    key: &str,
+    out: &mut Writer,
+) -> Result<&'a [(Text, Tree)], AllocError>
+    ensures front { IfOk result (λ rest. WritesFront key.now entries.now rest.now out.old.tokens out.new.tokens) }
+    ensures before { out.new.before ≡ out.old.before }
+{
+    for (i, (name, value)) in entries.iter().enumerate() {
+        match key.cmp(name.as_str()) {
+            Ordering::Greater => {
+                out.key(name.as_str())?;
+                write_tree(value, out)?;
+            }
+            Ordering::Less | Ordering::Equal => return Ok(&entries[i..]),
+        }
+    }
+    Ok(&entries[entries.len()..])
+}
+
+fn write_held(key: &str, value: Option<Held<'_>>, out: &mut Writer) -> Result<(), AllocError>
+    ensures tokens { OnOk result (out.new.tokens ≡ out.old.tokens ++ some_tokens key.now (option_map held_data value.entry)) }
+    ensures before { out.new.before ≡ out.old.before }
+{
+    match value {
+        None => Ok(()),
+        Some(Held::Text(text)) => {
+            out.key(key)?;
+            out.string(text)
+        }
+        Some(Held::Whole(number)) => {
+            out.key(key)?;
+            out.u64(number)
+        }
+    }
+}
+
+// Writes the entries below the key and then the held member, and answers the entries that are left.
+fn write_step<'a>(
+    entries: &'a [(Text, Tree)],
+    key: &str,
+    value: Option<Held<'_>>,
+    out: &mut Writer,
+) -> Result<&'a [(Text, Tree)], AllocError>
+    requires held { is_held key.now ≡ true }
+    requires none { has_held (members_of entries.now) ≡ false }
+    ensures step { IfOk result (λ rest. WritesStep key.now (option_map held_data value.entry) entries.now rest.now out.old.tokens out.new.tokens) }
+    ensures none { IfOk result (λ rest. has_held (members_of rest.now) ≡ false) }
+    ensures before { out.new.before ≡ out.old.before }
+    ensures proper { IfOk result (λ rest. AreProperMembers (members_of rest.now) → AreProperMembers (members_of entries.now)) }
+{
+    let rest = write_front(entries, key, out)?;
+    write_held(key, value, out)?;
+    Ok(rest)
+}
+
+// The text, if there is one.
+fn held_text<'a>(text: Option<&'a Text>) -> Option<Held<'a>>
+    ensures { option_map held_data result ≡ option_map string (option_copied text.entry) }
+{
+    match text {
+        Some(text) => Some(Held::Text(text.as_str())),
+        None => None,
+    }
+}
+
+// The number, unless it is 0.
+fn held_number<'a>(number: u64) -> Option<Held<'a>>
+    ensures { option_map held_data result ≡ unless_zero number (number_data (unsigned number)) }
+{
+    if number == 0 {
+        None
+    } else {
+        Some(Held::Whole(number))
+    }
+}
+
+// The text of a resource version, unless it is 0.
+fn held_version<'a>(buffer: &'a mut itoa::Buffer, revision: u64) -> Option<Held<'a>>
+    ensures { option_map held_data result ≡ unless_zero revision (string (decimal revision)) }
+{
+    if revision == 0 {
+        None
+    } else {
+        Some(Held::Text(buffer.format(revision)))
+    }
+}
+
+// The text of a UID, unless it is 0.
+#[tactic(auto, unfolding(crate::specs::Uid::uid_text))]
+fn held_uid<'a>(text: &'a [u8; 36], number: u64) -> Option<Held<'a>>
+    requires { text.now ≡ uid_prefix ++ twelve_digits number }
+    ensures { option_map held_data result ≡ unless_zero number (string (uid_text number)) }
+{
+    if number == 0 {
+        return None;
+    }
+    match str::from_utf8(text) {
+        Ok(text) => Some(Held::Text(text)),
+        Err(_) => unreachable!(),
+    }
+}
+
+// Writes the metadata with the members that the key and the meta hold, each at its place; with the closing brace.
+fn write_metadata(object: &Object, entries: &[(Text, Tree)], out: &mut Writer) -> Result<(), AllocError>
+    requires { has_held (members_of entries.now) ≡ false }
+    ensures tokens { OnOk result (out.new.tokens ≡ out.old.tokens ++ members_tokens (members_outline (whole_metadata object.now (members_of entries.now)))) }
+    ensures before { out.new.before ≡ out.old.before }
+    ensures proper { OnOk result (AreProperMembers (members_of entries.now)) }
+    ensures kept { OnOk result ((is_key object.now.key ≡ true) × IsMeta object.now.meta) }
+{
+    let meta = &object.meta;
+    let key = &object.key;
+    let mut buffer = itoa::Buffer::new();
+    let version = held_version(&mut buffer, meta.revision);
+    let text = uid_bytes(meta.uid);
+    let uid = held_uid(&text, meta.uid);
+
+    let deleted = write_step(entries, "deletionTimestamp", held_text(meta.deletion.as_ref()), out)?;
+    let generated = write_step(deleted, "generation", held_number(meta.generation), out)?;
+    let named = write_step(generated, "name", Some(Held::Text(key.name.as_str())), out)?;
+    let spaced = write_step(named, "namespace", Some(Held::Text(key.namespace.as_str())), out)?;
+    let versioned = write_step(spaced, "resourceVersion", version, out)?;
+    let known = write_step(versioned, "uid", uid, out)?;
+    write_entries(known, out)
+}
+
+// Writes the members of the body, the metadata whole; with the closing brace.
+fn write_members(object: &Object, entries: &[(Text, Tree)], out: &mut Writer) -> Result<(), AllocError>
+    requires ascending { AreAscending (members_of entries.now) }
+    requires said { (metadata : DataMembers) × (get_member (codes "metadata") (members_of entries.now) ≡ Some (map metadata)) × (has_held metadata ≡ false) }
+    ensures tokens { (metadata : DataMembers) → get_member (codes "metadata") (members_of entries.now) ≡ Some (map metadata)
+        → OnOk result (out.new.tokens ≡ out.old.tokens ++ members_tokens (members_outline (put (codes "metadata") (map (whole_metadata object.now metadata)) (members_of entries.now)))) }
+    ensures before { out.new.before ≡ out.old.before }
+    ensures proper { OnOk result (AreProperMembers (members_of entries.now)) }
+    ensures kept { OnOk result ((is_key object.now.key ≡ true) × IsMeta object.now.meta) }
+{
+    let rest = write_front(entries, "metadata", out)?;
+    let Some((entry, after)) = rest.split_first() else {
+        unreachable!();
+    };
+    let Tree::Map(metadata) = &entry.1 else {
+        unreachable!();
+    };
+    out.key("metadata")?;
+    out.begin_object()?;
+    write_metadata(object, metadata.entries(), out)?;
+    write_entries(after, out)
+}
+
+/// Writes the object in the place of a value: its members in byte order of their keys.
+pub fn write_object(object: &Object, out: &mut Writer) -> Result<(), AllocError>
+    ensures tokens { OnOk result (out.new.tokens ≡ out.old.tokens ++ json_tokens (outline (printed object.now))) }
+    ensures before { out.new.before ≡ out.old.before }
+    ensures proper { OnOk result (IsProper object.now.body) }
+    ensures kept { OnOk result (KeepsRules object.now) }
+{
+    let Tree::Map(members) = &object.body else {
+        unreachable!();
+    };
+    out.begin_object()?;
+    write_members(object, members.entries(), out)
+}
+
+/// The object as compact JSON, its keys in byte order. `read_object` gives it back, where the text is short enough
+/// and nests at most 127 deep.
+pub fn print_object(alloc: Global, object: &Object) -> Result<String, Memory>
+    ensures text { IfOk result (λ s. string_bytes s ≡ text object.now) }
+    ensures reads_back { IfOk result (λ s. length (string_bytes s) ≤ most_bytes → depth (printed object.now) ≤ max_depth
+        → reading (string_bytes s) ≡ Ok (draft_again_of object.now)) }
+{
+    let mut out = Writer::new(Vec::with_capacity(alloc, 256)?);
+    write_object(object, &mut out)?;
+    match String::from_utf8(out.into_inner()) {
+        Ok(text) => Ok(text),
+        Err(_) => unreachable!(),
+    }
+}

@@ -1,0 +1,97 @@
+ghost use Rattle.std.specs.Prelude.{◌≡◌, ◌++◌, ◌∷◌, [], pos, Some, OnOk};
+ghost use Rattle.serde_json.specs.Find.{as_u64, of_integer};
+
+use json::Writer;
+use std::alloc::AllocError;
+use std::marker::Model;
+
+/// A whole number that fits 64 bits, unsigned or signed.
+#[derive(Debug, Drop)]
+pub struct Whole {
+    number: Number,
+}
+
+// A signed one is below zero, so that each number has one form.
+#[derive(Clone, Copy, Debug, Drop)]
+pub(crate) enum Number {
+    Count(u64),
+    Below(i64),
+}
+
+impl Model for Whole {
+    ghost use Rattle.std.specs.Prelude.{ℤ};
+
+    ghost Value = { ℤ };
+
+    ghost use Rattle.objects.specs.Whole.{number_of, IsWhole};
+
+    ghost view = { λ w. number_of w.number };
+
+    ghost invariant = { λ w. IsWhole w.number };
+}
+
+impl Whole {
+    /// The number, if it fits 64 bits unsigned.
+    pub fn as_u64(&self) -> Option<u64>
+        ensures { result ≡ as_u64 (of_integer self.now) }
+    {
+        match self.number {
+            Number::Count(count) => Some(count),
+            Number::Below(_) => None,
+        }
+    }
+}
+
+impl Whole {
+    ghost use Rattle.json.specs.Token.{number as number_token};
+    ghost use Rattle.serde_json.specs.Read.{number_of};
+    ghost use Rattle.serde_json.specs.Written.{number_text};
+
+    /// Writes the number in decimal.
+    pub(crate) fn write(&self, out: &mut Writer) -> Result<(), AllocError>
+        ensures tokens { OnOk result (out.new.tokens ≡ out.old.tokens ++ number_token (number_text (of_integer self.now)) ∷ []) }
+        ensures before { out.new.before ≡ out.old.before }
+        ensures proper { number_of (number_text (of_integer self.now)) ≡ Some (of_integer self.now) }
+    {
+        match self.number {
+            Number::Count(count) => out.u64(count),
+            Number::Below(number) => out.i64(number),
+        }
+    }
+}
+
+impl From<u64> for Whole {
+    ghost from_gives = { λ n w. w ≡ pos n };
+
+    fn from(count: u64) -> Whole {
+        Whole {
+            number: Number::Count(count),
+        }
+    }
+}
+
+impl From<i64> for Whole {
+    ghost from_gives = { λ z w. w ≡ z };
+
+    fn from(number: i64) -> Whole {
+        if number < 0 {
+            Whole {
+                number: Number::Below(number),
+            }
+        } else {
+            Whole {
+                number: Number::Count(number as u64),
+            }
+        }
+    }
+}
+
+impl Clone for Whole {
+    ghost is_clone = { λ old new. new ≡ old };
+
+    fn clone(&self) -> Result<Whole, AllocError> {
+        Ok(Whole {
+            number: self.number,
+        })
+    }
+}
