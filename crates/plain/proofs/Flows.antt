@@ -1,0 +1,80 @@
+-- What was taken from a reader and put into a writer, one part after another.
+use Rattle.std.proofs.Common.{◌≡◌, ℕ, ◌-◌, List, [], ◌∷◌, ◌++◌, length, take, drop, refl, sym, ◌∙◌, ap, subst, arith, append_assoc, append-nil, length-drop, take_all, take-append-drop, Option, Some, None}
+use Rattle.std.specs.Option.{IfSome, IfNone}
+use Rattle.plain.specs.Streams.{Takes, Puts, PutsPart}
+
+pub Puts-none : (o : Option (List ℕ)) → Puts o [] o
+Puts-none None = tt
+Puts-none (Some w) = ap Some (sym (append-nil w))
+
+pub Puts-then : (a b c : Option (List ℕ)) (x y : List ℕ) → Puts a x b → Puts b y c → Puts a (x ++ y) c
+Puts-then None b c x y p q = tt
+Puts-then (Some w) b c x y p q =
+    let r : c ≡ Some ((w ++ x) ++ y) = subst (λ o. Puts o y c) p q in
+    r ∙ ap Some (append_assoc w x y)
+
+-- what stands before the rest was put
+abbrev pub PutsBefore : Option (List ℕ) → List ℕ → List ℕ → Option (List ℕ) → Type 0
+PutsBefore old bytes rest new = (text : List ℕ) × (bytes ≡ text ++ rest) × Puts old text new
+
+pub PutsBefore-none : (o : Option (List ℕ)) (bytes : List ℕ) → PutsBefore o bytes bytes o
+PutsBefore-none o bytes = ([], refl, Puts-none o)
+
+pub PutsBefore-next : (old now new : Option (List ℕ)) (bytes rest later : List ℕ) (n : ℕ) → PutsBefore old bytes rest now → Puts now (take n rest) new → later ≡ take (length rest - n) (drop n rest) → PutsBefore old bytes later new
+PutsBefore-next old now new bytes rest later n (text, e, p) q l =
+    let whole : later ≡ drop n rest = l ∙ take_all (length rest - n) (drop n rest) (rw length-drop (omega arith)) in (
+      text ++ take n rest,
+      e ∙ (ap (λ t. text ++ t) (sym (take-append-drop n rest) ∙ ap (λ t. take n rest ++ t) (sym whole)) ∙ sym (append_assoc text (take n rest) later)),
+      Puts-then old now new text (take n rest) p q,
+    )
+
+pub PutsBefore-kept : (old now new : Option (List ℕ)) (bytes rest : List ℕ) → PutsBefore old bytes rest now → new ≡ now → PutsPart old bytes new
+PutsBefore-kept old now new bytes rest (text, e, p) k = (text, rest, e, subst (λ o. Puts old text o) (sym k) p)
+
+pub PutsBefore-part : (old now : Option (List ℕ)) (bytes rest : List ℕ) → PutsBefore old bytes rest now → PutsPart old bytes now
+PutsBefore-part old now bytes rest (text, e, p) = (text, rest, e, p)
+
+pub PutsBefore-all : (old now : Option (List ℕ)) (bytes rest : List ℕ) → length rest ≡ 0 → PutsBefore old bytes rest now → Puts old bytes now
+PutsBefore-all old now bytes [] l (text, e, p) = subst (λ t. Puts old t now) (sym (e ∙ append-nil text)) p
+PutsBefore-all old now bytes (b ∷ bs) l h = absurd (omega arith)
+
+pub Takes-none : (o : Option (List ℕ)) → Takes o [] o
+Takes-none None = tt
+Takes-none (Some l) = (l, refl, refl)
+
+pub Takes-then : (a b c : Option (List ℕ)) (x y : List ℕ) → Takes a x b → Takes b y c → Takes a (x ++ y) c
+Takes-then None b c x y p q = tt
+Takes-then (Some l) b c x y (rest, e, p) q =
+    let r : Takes (Some rest) y c = subst (λ o. Takes o y c) p q in
+    (r.0, e ∙ (ap (λ t. x ++ t) r.1 ∙ sym (append_assoc x y r.0)), r.2)
+
+-- what was put first and then a part of more bytes
+pub PutsPart-after : (a b c : Option (List ℕ)) (text bytes : List ℕ) → Puts a text b → PutsPart b bytes c → PutsPart a (text ++ bytes) c
+PutsPart-after a b c text bytes p (part, more, e, q) =
+    (text ++ part, more, ap (λ t. text ++ t) e ∙ sym (append_assoc text part more), Puts-then a b c text part p q)
+
+pub PutsPart-none : (o : Option (List ℕ)) (bytes : List ℕ) → PutsPart o bytes o
+PutsPart-none o bytes = ([], bytes, refl, Puts-none o)
+
+-- all was taken, where nothing is left
+pub Takes-all : (input consumed : List ℕ) (left : Option (List ℕ)) → Takes (Some input) consumed left → IfSome left (λ l. l ≡ []) → input ≡ consumed
+Takes-all input consumed left (rest, e, p) none =
+    let nil : rest ≡ [] = subst (λ o. IfSome o (λ l. l ≡ [])) p none in
+    e ∙ (ap (λ t. consumed ++ t) nil ∙ append-nil consumed)
+
+pub Takes-end : (input consumed : List ℕ) (left : Option (List ℕ)) → Takes (Some input) consumed left → IfSome left (λ l. l ≡ []) → left ≡ Some []
+Takes-end input consumed left (rest, e, p) none =
+    let nil : rest ≡ [] = subst (λ o. IfSome o (λ l. l ≡ [])) p none in
+    p ∙ ap Some nil
+
+-- nothing was taken
+pub Takes-nothing : (a b : Option (List ℕ)) (piece : List ℕ) → piece ≡ [] → a ≡ Some [] → Takes a piece b → b ≡ Some []
+Takes-nothing a b piece none e h =
+    let r : Takes (Some []) [] b = subst (λ o. Takes o [] b) e (subst (λ t. Takes a t b) none h) in
+    r.2 ∙ ap Some (sym r.1)
+
+pub if_none : (P : Type 0) (o : Option ℕ) → o ≡ None → IfNone o P → P
+if_none P o e h = subst (λ r. IfNone r P) e h
+
+pub if_some : (P : ℕ → Type 0) (o : Option ℕ) (n : ℕ) → o ≡ Some n → IfSome o P → P n
+if_some P o n e h = subst (λ r. IfSome r P) e h

@@ -1,0 +1,8 @@
+pub mod Entries
+pub mod Steps
+pub mod Readings
+pub mod Written
+pub mod LineCuts
+pub mod Flows
+pub mod Servings
+pub mod Walks

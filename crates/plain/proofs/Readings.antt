@@ -1,0 +1,177 @@
+-- Steps of reading a request.
+use Rattle.std.proofs.Common.{◌≡◌, ℕ, List, Bool, true, false, cond, codes, bytes_eq, Option, Some, None, Result, Ok, Err, refl, sym, ap, ◌∙◌, subst}
+use Rattle.std.specs.Option.{option_and_then, ok_or}
+use Rattle.serde_json.specs.Data.{Data, Members}
+use Rattle.serde_json.specs.Find.{as_object, as_str, get_member}
+use Rattle.objects.specs.declared.fault.ReadError.{ReadError}
+use Rattle.objects.specs.declared.fault.ReadError.TheVariants as read
+use Rattle.objects.specs.declared.key.Key.{Key}
+use Rattle.objects.specs.declared.object.Draft.{Draft}
+use Rattle.objects.specs.declared.tree.Tree.{Tree}
+use Rattle.objects.specs.declared.tree.Tree.TheVariants as tree
+use Rattle.objects.specs.Tree.{data_of}
+use Rattle.objects.specs.Steps.{Fails}
+use Rattle.objects.specs.Reading.{key_in, reading_of_data}
+use Rattle.plain.specs.declared.request.Request.{Request}
+use Rattle.plain.specs.declared.request.Request.TheVariants.{Create, Get, Update}
+use Rattle.plain.specs.declared.request.RequestError.{RequestError}
+use Rattle.plain.specs.declared.request.RequestError.TheVariants as errors
+use Rattle.plain.specs.declared.request.Verb.{Verb}
+use Rattle.plain.specs.declared.request.Verb.TheVariants as verb
+use Rattle.plain.specs.Requests.{◌>>=◌, demanded, lifted, object_draft, verb_request, request_of, Refuses, Answers}
+use Rattle.plain.specs.Verbs.{verb_named, verb_in, request_by}
+
+-- what a step of reading objects refuses, the reading of a request refuses
+pub refuses_lifted : {A B : Type 0} (e : ReadError) (r : Result A ReadError) (f : A → Result B RequestError) → Fails e r → Refuses (errors.Read e) (lifted r >>= f)
+refuses_lifted read.NotJson r f h = ap (λ x. lifted x >>= f) h
+refuses_lifted read.NotWhole r f h = ap (λ x. lifted x >>= f) h
+refuses_lifted read.NoKind r f h = ap (λ x. lifted x >>= f) h
+refuses_lifted read.UnknownKind r f h = ap (λ x. lifted x >>= f) h
+refuses_lifted read.BadName r f h = ap (λ x. lifted x >>= f) h
+refuses_lifted read.BadMeta r f h = ap (λ x. lifted x >>= f) h
+refuses_lifted read.TooLong r f h = ap (λ x. lifted x >>= f) h
+refuses_lifted read.Memory r f h = tt
+
+pub answers_lifted : {A B : Type 0} (result : Result B RequestError) (y : RequestError) (e : ReadError) (r : Result A ReadError) (f : A → Result B RequestError)
+    → result ≡ Err y → y ≡ errors.Read e → Fails e r → Answers result (lifted r >>= f)
+answers_lifted result y e r f is same h = subst (λ x. Answers x (lifted r >>= f)) (sym (is ∙ ap Err same)) (refuses_lifted e r f h)
+
+-- one test of a verb's name
+either : {A B : Type 0} (b : Bool) (x y : Option A) (f : Option A → B) → f (cond b x y) ≡ cond b (f x) (f y)
+either true x y f = refl
+either false x y f = refl
+
+-- the request of a verb, by the verb that the name stands for
+pub by_verb : (name : List ℕ) (ms : Members) → verb_request name ms ≡ (demanded errors.UnknownVerb (verb_named name) >>= λ v. request_by v ms)
+unfolding verb_request request_by
+by_verb name ms =
+    let f : Option Verb → Result Request RequestError = λ o. demanded errors.UnknownVerb o >>= λ v. request_by v ms in
+    sym (either (bytes_eq name (codes "create")) _ _ f
+    ∙ ap (cond (bytes_eq name (codes "create")) (f (Some verb.Create)))
+    (either (bytes_eq name (codes "get")) _ _ f
+    ∙ ap (cond (bytes_eq name (codes "get")) (f (Some verb.Get))) (either (bytes_eq name (codes "update")) (Some verb.Update) None f)))
+
+bind_bind : {A B C : Type 0} (r : Result A RequestError) (f : A → Result B RequestError) (g : B → Result C RequestError) → ((r >>= f) >>= g) ≡ (r >>= λ x. f x >>= g)
+bind_bind (Ok x) f g = refl
+bind_bind (Err e) f g = refl
+
+same_after : {A B : Type 0} (r : Result A RequestError) (f g : A → Result B RequestError) → ((x : A) → f x ≡ g x) → (r >>= f) ≡ (r >>= g)
+same_after (Ok x) f g h = h x
+same_after (Err e) f g h = refl
+
+-- the request that the members are
+pub members_request : (ms : Members)
+    → (demanded errors.NoVerb (option_and_then as_str (get_member (codes "do") ms)) >>= λ name. verb_request name ms) ≡ (verb_in ms >>= λ v. request_by v ms)
+unfolding verb_in
+members_request ms =
+    let name = demanded errors.NoVerb (option_and_then as_str (get_member (codes "do") ms)) in
+    same_after name _ _ (λ s. by_verb s ms) ∙ sym (bind_bind name (λ s. demanded errors.UnknownVerb (verb_named s)) (λ v. request_by v ms))
+
+-- the request that a value is
+abbrev pub data_request : Data → Result Request RequestError
+data_request d = demanded errors.NoVerb (as_object d) >>= λ ms. verb_in ms >>= λ v. request_by v ms
+
+pub line_request : (line : List ℕ) → request_of line ≡ (lifted (reading_of_data line) >>= data_request)
+unfolding request_of
+line_request line =
+    same_after (lifted (reading_of_data line)) _ _ (λ d. same_after (demanded errors.NoVerb (as_object d)) _ _ (λ ms. members_request ms))
+
+-- the value is known
+pub line_members : (line : List ℕ) (d : Data) → reading_of_data line ≡ Ok d → request_of line ≡ data_request d
+line_members line d h = line_request line ∙ ap (λ r. lifted r >>= data_request) h
+
+-- ---- the request of each verb, and its refusals
+
+answers_at : (v w : Verb) (ms : Members) (result : Result Request RequestError) → v ≡ w → Answers result (request_by w ms) → Answers result (request_by v ms)
+answers_at v w ms result is h = subst (λ x. Answers result (request_by x ms)) (sym is) h
+
+pub create_refused : (v : Verb) (ms : Members) (result : Result Request RequestError) (y : RequestError) (e : ReadError)
+    → v ≡ verb.Create → result ≡ Err y → y ≡ errors.Read e → Fails e (object_draft (get_member (codes "object") ms)) → Answers result (request_by v ms)
+unfolding request_by
+create_refused v ms result y e named is same h = answers_at v verb.Create ms result named (answers_lifted result y e _ (λ d. Ok (Create d)) is same h)
+
+pub get_refused : (v : Verb) (ms : Members) (result : Result Request RequestError) (y : RequestError) (e : ReadError)
+    → v ≡ verb.Get → result ≡ Err y → y ≡ errors.Read e → Fails e (key_in ms) → Answers result (request_by v ms)
+unfolding request_by
+get_refused v ms result y e named is same h = answers_at v verb.Get ms result named (answers_lifted result y e _ (λ k. Ok (Get k)) is same h)
+
+pub update_refused : (v : Verb) (ms : Members) (result : Result Request RequestError) (y : RequestError) (e : ReadError)
+    → v ≡ verb.Update → result ≡ Err y → y ≡ errors.Read e → Fails e (object_draft (get_member (codes "object") ms)) → Answers result (request_by v ms)
+unfolding request_by
+update_refused v ms result y e named is same h = answers_at v verb.Update ms result named (answers_lifted result y e _ (λ d. Ok (Update d)) is same h)
+
+pub create_read : (v : Verb) (ms : Members) (d : Draft) → v ≡ verb.Create → object_draft (get_member (codes "object") ms) ≡ Ok d → request_by v ms ≡ Ok (Create d)
+unfolding request_by
+create_read v ms d is h = ap (λ x. request_by x ms) is ∙ ap (λ r. lifted r >>= λ x. Ok (Create x)) h
+
+pub get_read : (v : Verb) (ms : Members) (k : Key) → v ≡ verb.Get → key_in ms ≡ Ok k → request_by v ms ≡ Ok (Get k)
+unfolding request_by
+get_read v ms k is h = ap (λ x. request_by x ms) is ∙ ap (λ r. lifted r >>= λ x. Ok (Get x)) h
+
+pub update_read : (v : Verb) (ms : Members) (d : Draft) → v ≡ verb.Update → object_draft (get_member (codes "object") ms) ≡ Ok d → request_by v ms ≡ Ok (Update d)
+unfolding request_by
+update_read v ms d is h = ap (λ x. request_by x ms) is ∙ ap (λ r. lifted r >>= λ x. Ok (Update x)) h
+
+-- ---- the whole line
+
+-- the value is refused
+pub line_refused : (line : List ℕ) (result : Result Request RequestError) (y : RequestError) (e : ReadError)
+    → result ≡ Err y → y ≡ errors.Read e → Fails e (reading_of_data line) → Answers result (request_of line)
+line_refused line result y e is same h = subst (Answers result) (sym (line_request line)) (answers_lifted result y e _ data_request is same h)
+
+-- a refusal that is not the memory's
+pub refused_so : (result : Result Request RequestError) (y : RequestError) (reading : Result Request RequestError)
+    → result ≡ Err y → reading ≡ Err y → Answers result reading
+refused_so result y reading is h = subst (λ x. Answers x reading) (sym is) (go y h)
+  where
+    go : (z : RequestError) → reading ≡ Err z → Refuses z reading
+    go (errors.Read read.NotJson) e = e
+    go (errors.Read read.NotWhole) e = e
+    go (errors.Read read.NoKind) e = e
+    go (errors.Read read.UnknownKind) e = e
+    go (errors.Read read.BadName) e = e
+    go (errors.Read read.BadMeta) e = e
+    go (errors.Read read.TooLong) e = e
+    go (errors.Read read.Memory) e = tt
+    go errors.NoVerb e = e
+    go errors.UnknownVerb e = e
+
+-- ---- the verb
+
+pub demanded_is : {A : Type 0} (o : Option A) (e : RequestError) → ok_or o e ≡ demanded e o
+demanded_is None e = refl
+demanded_is (Some x) e = refl
+
+pub no_verb : (ms : Members) → None ≡ option_and_then as_str (get_member (codes "do") ms) → Err errors.NoVerb ≡ verb_in ms
+unfolding verb_in
+no_verb ms h = ap (λ o. demanded errors.NoVerb o >>= λ name. demanded errors.UnknownVerb (verb_named name)) h
+
+pub verb_of : (ms : Members) (name : List ℕ) (o : Option Verb) → Some name ≡ option_and_then as_str (get_member (codes "do") ms) → o ≡ verb_named name
+    → ok_or o errors.UnknownVerb ≡ verb_in ms
+unfolding verb_in
+verb_of ms name o h is =
+    demanded_is o errors.UnknownVerb ∙ ap (demanded errors.UnknownVerb) is
+    ∙ ap (λ p. demanded errors.NoVerb p >>= λ s. demanded errors.UnknownVerb (verb_named s)) h
+
+-- ---- the value of the line
+
+pub map_read : (line : List ℕ) (t : Tree) (ms : Members) → reading_of_data line ≡ Ok (data_of t) → t ≡ tree.Map ms → request_of line ≡ (verb_in ms >>= λ v. request_by v ms)
+map_read line t ms h is = line_members line (data_of t) h ∙ ap (λ x. data_request (data_of x)) is
+
+pub no_map : (line : List ℕ) (t : Tree) → reading_of_data line ≡ Ok (data_of t) → ((ms : Members) → t ≡ tree.Map ms → ⊥) → request_of line ≡ Err errors.NoVerb
+no_map line tree.Null h other = line_members line _ h
+no_map line (tree.Truth b) h other = line_members line _ h
+no_map line (tree.Whole z) h other = line_members line _ h
+no_map line (tree.Text s) h other = line_members line _ h
+no_map line (tree.List ds) h other = line_members line _ h
+no_map line (tree.Map ms) h other = absurd (other ms refl)
+
+pub verb_refused : (line : List ℕ) (t : Tree) (ms : Members) (result : Result Request RequestError) (y e : RequestError)
+    → reading_of_data line ≡ Ok (data_of t) → t ≡ tree.Map ms → Err e ≡ verb_in ms → result ≡ Err y → y ≡ e → Answers result (request_of line)
+verb_refused line t ms result y e h is named at same =
+    refused_so result y (request_of line) at (map_read line t ms h is ∙ ap (λ r. r >>= λ v. request_by v ms) (sym named) ∙ ap Err (sym same))
+
+pub verb_read : (line : List ℕ) (t : Tree) (ms : Members) (v : Verb) (result : Result Request RequestError)
+    → reading_of_data line ≡ Ok (data_of t) → t ≡ tree.Map ms → Ok v ≡ verb_in ms → Answers result (request_by v ms) → Answers result (request_of line)
+verb_read line t ms v result h is named answers =
+    subst (Answers result) (sym (map_read line t ms h is ∙ ap (λ r. r >>= λ x. request_by x ms) (sym named))) answers

@@ -1,0 +1,141 @@
+-- Replies that were written come of the bytes that were read.
+use Rattle.std.proofs.Common.{◌≡◌, ℕ, ◌+◌, List, [], ◌++◌, length, sym, ◌∙◌, ap, subst, arith, append_assoc, append-nil, Option, Some, None, Result, Ok, Err}
+use Rattle.std.specs.Result.{OnErr, OnOk, IfOk}
+use Rattle.std.specs.Option.{IfSome}
+use Rattle.plain.specs.Store.{Store}
+use Rattle.plain.specs.Lines.{lines}
+use Rattle.plain.specs.Served.{answers}
+use Rattle.plain.specs.Cuts.{Reaches}
+use Rattle.plain.specs.Streams.{Takes, Puts, PutsPart, ServesPart}
+use Rattle.plain.specs.Serving.{Answered, Serving}
+use Rattle.plain.specs.declared.server.ServeFault.{ServeFault}
+use Rattle.plain.specs.declared.server.ServeFault.TheVariants.{Read, Write, Memory, BadCapacity}
+use Rattle.plain.specs.Faults.{CountsReads, CountsWrites, IsWriteOrMemory, IsInRange}
+use Rattle.plain.proofs.LineCuts.{Reaches-same}
+use Rattle.plain.proofs.Flows.{Puts-none, Puts-then, Takes-none, Takes-then, Takes-all, Takes-end, Takes-nothing, PutsPart-after, PutsPart-none}
+
+pub on_err : {A E : Type 0} (P : Type 0) (r : Result A E) → P → OnErr r P
+on_err P (Ok x) p = tt
+on_err P (Err e) p = p
+
+-- a beginning of the bytes is one of more bytes
+pub PutsPart-more : (old new : Option (List ℕ)) (bytes more : List ℕ) → PutsPart old bytes new → PutsPart old (bytes ++ more) new
+PutsPart-more old new bytes more (text, rest, e, p) = (text, rest ++ more, ap (λ b. b ++ more) e ∙ append_assoc text rest more, p)
+
+-- where a part of the replies was written
+pub PutsPart-replies : (s t : Store) (bytes start kept text slice : List ℕ) (n m : ℕ) (old new : Option (List ℕ)) → start ≡ [] → Reaches (record { store = s; waiting = bytes; text = start; count = n }) (record { store = t; waiting = kept; text = text; count = m }) → slice ≡ text → PutsPart old slice new → PutsPart old (answers s (lines bytes)) new
+PutsPart-replies s t bytes start kept text slice n m old new none r e p =
+    let all : answers s (lines bytes) ≡ slice ++ answers t (lines (kept ++ [])) =
+    ap (λ b. answers s (lines b)) (sym (append-nil bytes)) ∙ (ap (λ b. b ++ answers s (lines (bytes ++ []))) (sym none) ∙
+    (r.text [] ∙ ap (λ b. b ++ answers t (lines (kept ++ []))) (sym e))) in
+    subst (λ b. PutsPart old b new) (sym all) (PutsPart-more old new slice (answers t (lines (kept ++ []))) p)
+
+pub Serving-start : (s : Store) (had before : Option (List ℕ)) (kept : List ℕ) → kept ≡ [] → Serving s had had before before s kept 0
+Serving-start s had before kept none = record {
+  consumed = [];
+  taken = Takes-none had;
+  answered = record {
+    text = [];
+    put = Puts-none before;
+    reaches =
+        subst (λ k. Reaches (record { store = s; waiting = []; text = []; count = 0 }) (record { store = s; waiting = k; text = []; count = 0 }))
+        (sym none) (Reaches-same (record { store = s; waiting = []; text = []; count = 0 }));
+  };
+}
+
+pub Serving-next : (s t u : Store) (had left later before after then : Option (List ℕ)) (kept piece next : List ℕ) (n m : ℕ) →
+    Serving s had left before after t kept n → Takes left piece later → Answered t (kept ++ piece) n after u next m then → Serving s had later before then u next m
+Serving-next s t u had left later before after then kept piece next n m h taken a = record {
+  consumed = h.consumed ++ piece;
+  taken = Takes-then had left later h.consumed piece h.taken taken;
+  answered = record {
+    text = h.answered.text ++ a.text;
+    put = Puts-then before after then h.answered.text a.text h.answered.put a.put;
+    reaches = record {
+      text = λ more.
+          ap (λ b. answers s (lines b)) (append_assoc h.consumed piece more) ∙ (h.answered.reaches.text (piece ++ more) ∙
+          (ap (λ b. h.answered.text ++ answers t (lines b)) (sym (append_assoc kept piece more)) ∙ (ap (λ b. h.answered.text ++ b) (a.reaches.text more) ∙
+          sym (append_assoc h.answered.text a.text (answers u (lines (next ++ more)))))));
+      count = λ more.
+          ap (λ b. 0 + length (lines b)) (append_assoc h.consumed piece more) ∙ (h.answered.reaches.count (piece ++ more) ∙
+          (ap (λ b. n + length (lines b)) (sym (append_assoc kept piece more)) ∙ a.reaches.count more));
+    };
+  };
+}
+
+-- a fault after one more piece was read
+pub Serving-fault : (s t : Store) (had left later before after then : Option (List ℕ)) (kept piece : List ℕ) (n : ℕ) →
+    Serving s had left before after t kept n → Takes left piece later → PutsPart after (answers t (lines (kept ++ piece))) then →
+    ServesPart (λ input. answers s (lines input)) had later before then
+Serving-fault s t had left later before after then kept piece n h taken p = (
+  h.consumed ++ piece,
+  Takes-then had left later h.consumed piece h.taken taken,
+  subst (λ b. PutsPart before b then) (sym (h.answered.reaches.text piece))
+      (PutsPart-after before after then h.answered.text (answers t (lines (kept ++ piece))) h.answered.put p),
+)
+
+-- a failed read
+pub Serving-unread : (s t : Store) (had left later before after : Option (List ℕ)) (kept : List ℕ) (n : ℕ) → Serving s had left before after t kept n → later ≡ left →
+    ServesPart (λ input. answers s (lines input)) had later before after
+Serving-unread s t had left later before after kept n h same =
+    Serving-fault s t had left later before after after kept [] n h (subst (λ o. Takes left [] o) (sym same) (Takes-none left))
+    (PutsPart-none after (answers t (lines (kept ++ []))))
+
+-- a fault at the last line
+pub Serving-last : {A E : Type 0} (r : Result A E) (s t : Store) (had left later before after then : Option (List ℕ)) (kept piece : List ℕ) (n : ℕ) →
+    Serving s had left before after t kept n → Takes left piece later → piece ≡ [] → OnErr r (PutsPart after (answers t (lines kept)) then) →
+    OnErr r (ServesPart (λ input. answers s (lines input)) had later before then)
+Serving-last (Ok x) s t had left later before after then kept piece n h taken none p = tt
+Serving-last (Err e) s t had left later before after then kept piece n h taken none p =
+    Serving-fault s t had left later before after then kept [] n h (subst (λ b. Takes left b later) none taken)
+    (subst (λ b. PutsPart after (answers t (lines b)) then) (sym (append-nil kept)) p)
+
+-- the end of the input
+pub Serving-text : {A E : Type 0} (r : Result A E) (s t : Store) (had left before after then : Option (List ℕ)) (kept : List ℕ) (n : ℕ) →
+    Serving s had left before after t kept n → IfSome left (λ l. l ≡ []) → OnOk r (Puts after (answers t (lines kept)) then) →
+    OnOk r (IfSome had (λ input. Puts before (answers s (lines input)) then))
+Serving-text (Err e) s t had left before after then kept n h ended p = tt
+Serving-text (Ok x) s t None left before after then kept n h ended p = tt
+Serving-text (Ok x) s t (Some input) left before after then kept n h ended p =
+    let whole : answers s (lines input) ≡ h.answered.text ++ answers t (lines kept) =
+    ap (λ b. answers s (lines b)) (Takes-all input h.consumed left h.taken ended ∙ sym (append-nil h.consumed)) ∙ (h.answered.reaches.text [] ∙
+    ap (λ b. h.answered.text ++ answers t (lines b)) (append-nil kept)) in
+    subst (λ b. Puts before b then) (sym whole) (Puts-then before after then h.answered.text (answers t (lines kept)) h.answered.put p)
+
+pub Serving-count : {E : Type 0} (r : Result ℕ E) (s t : Store) (had left before after : Option (List ℕ)) (kept : List ℕ) (n : ℕ) →
+    Serving s had left before after t kept n → IfSome left (λ l. l ≡ []) → IfOk r (λ m. m ≡ n + length (lines kept)) →
+    IfOk r (λ m. IfSome had (λ input. m ≡ length (lines input)))
+Serving-count (Err e) s t had left before after kept n h ended p = tt
+Serving-count (Ok x) s t None left before after kept n h ended p = tt
+Serving-count (Ok x) s t (Some input) left before after kept n h ended p =
+    let first : length (lines input) ≡ length (lines (h.consumed ++ [])) =
+    ap (λ b. length (lines b)) (Takes-all input h.consumed left h.taken ended ∙ sym (append-nil h.consumed)) in
+    let last : n + length (lines (kept ++ [])) ≡ n + length (lines kept) = ap (λ b. n + length (lines b)) (append-nil kept) in
+    let middle : 0 + length (lines (h.consumed ++ [])) ≡ n + length (lines (kept ++ [])) = h.answered.reaches.count [] in
+    omega arith
+
+pub Serving-left : {A E : Type 0} (r : Result A E) (s t : Store) (had left later before after : Option (List ℕ)) (kept piece : List ℕ) (n : ℕ) →
+    Serving s had left before after t kept n → IfSome left (λ l. l ≡ []) → Takes left piece later → piece ≡ [] →
+    OnOk r (IfSome had (λ _. later ≡ Some []))
+Serving-left (Err e) s t had left later before after kept piece n h ended taken none = tt
+Serving-left (Ok x) s t None left later before after kept piece n h ended taken none = tt
+Serving-left (Ok x) s t (Some input) left later before after kept piece n h ended taken none =
+    Takes-nothing left later piece none (Takes-end input h.consumed left h.taken ended) taken
+
+-- a fault of the writer or of memory is no failure of the reader
+pub CountsReads-other : {A : Type 0} (r : Result A ServeFault) (old now new : ℕ) → IsWriteOrMemory r → now ≡ old → new ≡ now → CountsReads r old new
+CountsReads-other (Ok x) old now new _ e f = f ∙ e
+CountsReads-other (Err Read) old now new w e f = absurd w
+CountsReads-other (Err Write) old now new _ e f = f ∙ e
+CountsReads-other (Err Memory) old now new _ e f = f ∙ e
+CountsReads-other (Err BadCapacity) old now new w e f = absurd w
+
+pub CountsWrites-from : {A : Type 0} (r : Result A ServeFault) (old now new : ℕ) → now ≡ old → CountsWrites r now new → CountsWrites r old new
+CountsWrites-from (Ok x) old now new e h = h ∙ e
+CountsWrites-from (Err Read) old now new e h = h ∙ e
+CountsWrites-from (Err Write) old now new e h = omega arith
+CountsWrites-from (Err Memory) old now new e h = h ∙ e
+CountsWrites-from (Err BadCapacity) old now new e h = h ∙ e
+
+pub in_range : {A : Type 0} (r : Result A ServeFault) → IsInRange r → r ≡ Err BadCapacity → ⊥
+in_range r h e = subst IsInRange e h

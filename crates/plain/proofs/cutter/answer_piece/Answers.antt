@@ -1,0 +1,24 @@
+use Rattle.std.proofs.Common.{refl}
+use Rattle.plain.proofs.LineCuts.{NoFeed-none, NoFeed-end, Reaches-next, Reaches-end, count-next}
+use Rattle.plain.proofs.cutter.answer_piece.Goals as goal
+
+pub loop-at-preserved : goal.loop-at-preserved
+loop-at-preserved c = record {
+  begun = NoFeed-none _ c.in_ok-cut.ensures.kept;
+  reaches =
+      Reaches-next _ c.loop-at.plain _ c.loop-at.cut.kept.items _ c.loop-at.rest.now _ c.loop-at.cut.replies.items _ c.loop-at.cut.lines _ c.in-Some.at
+      c.loop-at.invariant.reaches c.loop-at.invariant.begun c.in-Some.ensures.0 c.in-Some.ensures.1 c.in_ok-cut.ensures.text c.in_ok-cut.ensures.store
+      c.in_ok-cut.ensures.kept c.in_ok-cut.ensures.count refl;
+  count =
+      count-next c.loop-at.cut.kept.items _ c.loop-at.rest.now _ c.loop-at.cut.lines _ c.in-Some.at _ c.in-Some.ensures.0.high c.in_ok-cut.ensures.kept
+      c.in_ok-cut.ensures.count refl c.loop-at.invariant.count;
+}
+
+pub returns-clause-reaches : goal.returns-clause-reaches
+returns-clause-reaches c =
+    Reaches-end _ _ c.loop-at.cut.kept.items _ c.loop-at.rest.now _ _ c.loop-at.invariant.reaches c.loop-at.invariant.begun c.in_default.ensures
+    c.in_ok-kept.ensures
+
+pub returns-clause-begun : goal.returns-clause-begun
+returns-clause-begun c =
+    NoFeed-end c.loop-at.cut.kept.items _ c.loop-at.rest.now c.loop-at.invariant.begun c.in_default.ensures c.in_ok-kept.ensures

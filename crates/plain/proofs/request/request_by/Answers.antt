@@ -1,0 +1,27 @@
+use Rattle.std.proofs.lemmas.Result.{err_from_is_err_and}
+use Rattle.plain.proofs.Readings.{create_refused, get_refused, update_refused, create_read, get_read, update_read}
+use Rattle.plain.proofs.request.request_by.Goals as goal
+
+pub returns-in_err-draft_in-in-Create : goal.returns-in_err-draft_in-in-Create
+returns-in_err-draft_in-in-Create c =
+    let p = err_from_is_err_and c.from_residual.result c.from_residual.ensures.1 in
+    create_refused c.args.verb c.args.members _ p.0 _ c.in-Create.is p.1 p.2 c.in_err-draft_in-in-Create.ensures
+
+pub returns-in_ok-draft_in-in-Create : goal.returns-in_ok-draft_in-in-Create
+returns-in_ok-draft_in-in-Create c = create_read c.args.verb c.args.members _ c.in-Create.is c.in_ok-draft_in-in-Create.ensures
+
+pub returns-in_err-read_key-in-Get : goal.returns-in_err-read_key-in-Get
+returns-in_err-read_key-in-Get c =
+    let p = err_from_is_err_and c.from_residual-in_err-read_key-in-Get.result c.from_residual-in_err-read_key-in-Get.ensures.1 in
+    get_refused c.args.verb c.args.members _ p.0 _ c.in-Get.is p.1 p.2 c.in_err-read_key-in-Get.ensures
+
+pub returns-in_ok-read_key-in-Get : goal.returns-in_ok-read_key-in-Get
+returns-in_ok-read_key-in-Get c = get_read c.args.verb c.args.members _ c.in-Get.is c.in_ok-read_key-in-Get.ensures
+
+pub returns-in_err-draft_in-in-Update : goal.returns-in_err-draft_in-in-Update
+returns-in_err-draft_in-in-Update c =
+    let p = err_from_is_err_and c.from_residual-in_err-draft_in-in-Update.result c.from_residual-in_err-draft_in-in-Update.ensures.1 in
+    update_refused c.args.verb c.args.members _ p.0 _ c.in-Update.is p.1 p.2 c.in_err-draft_in-in-Update.ensures
+
+pub returns-in_ok-draft_in-in-Update : goal.returns-in_ok-draft_in-in-Update
+returns-in_ok-draft_in-in-Update c = update_read c.args.verb c.args.members _ c.in-Update.is c.in_ok-draft_in-in-Update.ensures

@@ -1,0 +1,29 @@
+use Rattle.std.proofs.Common.{subst}
+use Rattle.std.specs.Option.{IfSome}
+use Rattle.std.specs.Result.{OnOk, OnErr}
+use Rattle.plain.specs.Lines.{lines}
+use Rattle.plain.specs.Served.{answers}
+use Rattle.plain.specs.Streams.{Puts, ServesPart}
+use Rattle.plain.proofs.Servings.{in_range}
+use Rattle.plain.proofs.server.serve.Goals as goal
+
+pub returns-clause-text : goal.returns-clause-text
+returns-clause-text g c =
+    subst
+    (λ s. OnOk c.serve_store.result
+    (IfSome (g.R.Source.remaining c.args.reader.now) (λ input. Puts (g.W.Sink.written c.args.writer.now) (answers s (lines input)) (g.W.Sink.written c.serve_store.new.writer))))
+    c.in_ok-plain.ensures.opened c.serve_store.ensures.text
+
+pub returns-clause-fault : goal.returns-clause-fault
+returns-clause-fault g c =
+    subst
+    (λ s. OnErr c.serve_store.result
+    (ServesPart (λ input. answers s (lines input)) (g.R.Source.remaining c.args.reader.now) (g.R.Source.remaining c.serve_store.new.reader) (g.W.Sink.written c.args.writer.now)
+    (g.W.Sink.written c.serve_store.new.writer)))
+    c.in_ok-plain.ensures.opened c.serve_store.ensures.fault
+
+pub returns-clause-capacity : goal.returns-clause-capacity
+returns-clause-capacity g c = (
+  λ e. absurd (in_range c.serve_store.result c.serve_store.ensures.cause e),
+  λ out. let no = c.in_ok-plain.ensures.refused.1 out in cc,
+)

@@ -1,0 +1,103 @@
+ghost use Rattle.std.specs.Prelude.{◌≡◌, ◌+◌, ◌<◌, ◌≤◌, ◌^◌, ◌++◌, ◌∷◌, [], length, IfOk};
+ghost use Rattle.plain.specs.Lines.{lines};
+ghost use Rattle.plain.specs.Served.{answer, answers};
+ghost use Rattle.plain.specs.Cuts.{NoFeed, kept_with, Reaches};
+
+use crate::line::answer_line;
+use crate::store::Plain;
+use memchr::memchr;
+use objects::Memory;
+use std::alloc::Global;
+
+/// How many bytes of a line are kept: one more than a line may have, which shows that it is too long.
+const MOST_KEPT: usize = 1_048_577;
+
+/// Where the cutting of an input into lines stands.
+#[derive(Drop)]
+pub(crate) struct Cut {
+    /// The beginning of the line whose end has not come yet.
+    pub(crate) kept: Vec<u8>,
+    /// The replies that are not written yet.
+    pub(crate) replies: Vec<u8>,
+    /// How many lines were answered.
+    pub(crate) lines: u64,
+}
+
+/// Keeps the bytes after those that are kept, but none that no answer turns on.
+fn keep(mut kept: Vec<u8>, bytes: &[u8]) -> Result<Vec<u8>, Memory>
+    ensures { IfOk result (λ v. v.items ≡ kept_with kept.items bytes.now) }
+{
+    let room = MOST_KEPT.saturating_sub(kept.len());
+    let taken = bytes.len().min(room);
+    kept.extend_from_slice(&bytes[..taken])?;
+    Ok(kept)
+}
+
+/// Answers the line that ends with these bytes and began with those that are kept.
+fn answer_end(alloc: Global, plain: &mut Plain, cut: Cut, end: &[u8]) -> Result<Cut, Memory>
+    requires { cut.lines + 1 < 2 ^ 64 }
+    ensures text { IfOk result (λ v. v.replies.items ≡ cut.replies.items ++ ((answer plain.old (cut.kept.items ++ end.now)).1 ++ 10 ∷ [])) }
+    ensures store { IfOk result (λ v. plain.new ≡ (answer plain.old (cut.kept.items ++ end.now)).0) }
+    ensures kept { IfOk result (λ v. v.kept.items ≡ []) }
+    ensures count { IfOk result (λ v. v.lines ≡ cut.lines + 1) }
+{
+    let lines = cut.lines + 1;
+    if cut.kept.is_empty() {
+        let replies = answer_line(alloc, plain, end, cut.replies)?;
+        return Ok(Cut {
+            kept: cut.kept,
+            replies,
+            lines,
+        });
+    }
+    let mut kept = keep(cut.kept, end)?;
+    let replies = answer_line(alloc, plain, kept.as_slice(), cut.replies)?;
+    kept.clear();
+    Ok(Cut {
+        kept,
+        replies,
+        lines,
+    })
+}
+
+/// Answers the lines that end in the piece, and keeps what comes after them.
+pub(crate) fn answer_piece(
+    alloc: Global,
+    plain: &mut Plain,
+    mut cut: Cut,
+    piece: &[u8],
+) -> Result<Cut, Memory>
+    requires begun { NoFeed cut.kept.items }
+    requires room { cut.lines + length cut.kept.items + length piece.now < 2 ^ 64 }
+    ensures reaches { IfOk result (λ v. Reaches
+        (record { store = plain.old; waiting = cut.kept.items ++ piece.now; text = cut.replies.items; count = cut.lines })
+        (record { store = plain.new; waiting = v.kept.items; text = v.replies.items; count = v.lines })) }
+    ensures begun { IfOk result (λ v. NoFeed v.kept.items) }
+    ensures count { IfOk result (λ v. v.lines + length v.kept.items ≤ cut.lines + length cut.kept.items + length piece.now) }
+{
+    let mut rest = piece;
+    while let Some(at) = memchr(b'\n', rest) {
+        cut = answer_end(alloc, plain, cut, &rest[..at])?;
+        rest = &rest[at + 1..];
+    }
+    let kept = keep(cut.kept, rest)?;
+    Ok(Cut {
+        kept,
+        replies: cut.replies,
+        lines: cut.lines,
+    })
+}
+
+/// Answers the last line, if its line feed has not come.
+pub(crate) fn answer_last(alloc: Global, plain: &mut Plain, cut: Cut) -> Result<Cut, Memory>
+    requires begun { NoFeed cut.kept.items }
+    requires room { cut.lines + length cut.kept.items < 2 ^ 64 }
+    ensures text { IfOk result (λ v. v.replies.items ≡ cut.replies.items ++ answers plain.old (lines cut.kept.items)) }
+    ensures count { IfOk result (λ v. v.lines ≡ cut.lines + length (lines cut.kept.items)) }
+{
+    if cut.kept.is_empty() {
+        return Ok(cut);
+    }
+    let cut = answer_end(alloc, plain, cut, &[])?;
+    Ok(cut)
+}

@@ -1,0 +1,27 @@
+//! The plain store: Kubernetes API requests over one map of objects, one whole request at a time, and the lines that
+//! carry requests in and replies out.
+#![tactic(auto)]
+
+mod buffers;
+mod cutter;
+mod decide;
+mod devices;
+mod failures;
+mod line;
+mod reply;
+mod request;
+mod server;
+mod slices;
+mod store;
+mod stream;
+#[cfg(test)]
+mod tests;
+
+pub use buffers::BufferSink;
+pub use devices::{ReadSource, WriteSink};
+pub use reply::{Reason, Reply};
+pub use request::{Request, RequestError, read_request};
+pub use server::{ServeFault, serve};
+pub use slices::SliceSource;
+pub use store::{MOST_REVISIONS, Plain, PlainError};
+pub use stream::{Sink, Source};

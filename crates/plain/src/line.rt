@@ -1,0 +1,57 @@
+ghost use Rattle.std.specs.Prelude.{◌≡◌, ◌++◌, ◌∷◌, [], IfOk};
+ghost use Rattle.json.specs.Print.{print};
+ghost use Rattle.serde_json.specs.Written.{compact_text};
+ghost use Rattle.plain.specs.Replies.{reply_data, error_data, error_name};
+ghost use Rattle.plain.specs.Served.{answer};
+
+use crate::reply::{Reply, write_reply, write_with_reason};
+use crate::request::{RequestError, read_request};
+use crate::store::Plain;
+use json::Writer;
+use objects::{Memory, ReadError};
+use std::alloc::{AllocError, Global};
+
+/// Answers a line: the reply's text and a line feed come after what `out` holds.
+pub(crate) fn answer_line(
+    alloc: Global,
+    plain: &mut Plain,
+    line: &[u8],
+    out: Vec<u8>,
+) -> Result<Vec<u8>, Memory>
+    ensures text { IfOk result (λ v. v.items ≡ out.items ++ ((answer plain.old line.now).1 ++ 10 ∷ [])) }
+    ensures store { IfOk result (λ v. plain.new ≡ (answer plain.old line.now).0) }
+{
+    match read_request(alloc, line) {
+        Ok(request) => {
+            let reply = plain.take(request)?;
+            Ok(reply_line(&reply, out)?)
+        }
+        Err(RequestError::Read(ReadError::Memory)) => Err(Memory),
+        Err(error) => Ok(refusal_line(error, out)?),
+    }
+}
+
+fn reply_line(reply: &Reply, out: Vec<u8>) -> Result<Vec<u8>, AllocError>
+    ensures { IfOk result (λ v. v.items ≡ out.items ++ (compact_text (reply_data reply.now) ++ 10 ∷ [])) }
+{
+    let mut writer = Writer::new(out);
+    write_reply(reply, &mut writer)?;
+    ended(writer)
+}
+
+fn refusal_line(error: RequestError, out: Vec<u8>) -> Result<Vec<u8>, AllocError>
+    ensures { IfOk result (λ v. v.items ≡ out.items ++ (compact_text (error_data error) ++ 10 ∷ [])) }
+{
+    let mut writer = Writer::new(out);
+    write_with_reason(400, error.name(), &mut writer)?;
+    ended(writer)
+}
+
+/// What was written, with a line feed.
+fn ended(writer: Writer) -> Result<Vec<u8>, AllocError>
+    ensures { IfOk result (λ v. v.items ≡ (writer.before ++ print writer.tokens) ++ 10 ∷ []) }
+{
+    let mut text = writer.into_inner();
+    text.push(b'\n')?;
+    Ok(text)
+}

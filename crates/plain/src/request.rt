@@ -1,0 +1,139 @@
+ghost use Rattle.std.specs.Prelude.{◌≡◌, codes, option_map, option_and_then};
+ghost use Rattle.serde_json.specs.Find.{get_member, as_str};
+ghost use Rattle.objects.specs.Steps.{Gives};
+ghost use Rattle.plain.specs.declared.request.RequestError.TheVariants.{Read};
+ghost use Rattle.plain.specs.Replies.{read_error_name, error_name};
+ghost use Rattle.plain.specs.Requests.{Answers, request_of, object_draft};
+ghost use Rattle.plain.specs.Verbs.{verb_named, verb_in, request_by};
+
+use objects::{Draft, Key, Members, ReadError, Tree, read_draft, read_key, read_tree};
+use std::alloc::Global;
+use thiserror::Error;
+
+/// A request to the store.
+#[derive(Debug, Drop)]
+pub enum Request {
+    Create(Draft),
+    Get(Key),
+    Update(Draft),
+}
+
+/// Why a line is no request: the first of these that fits, in the order of the tests (TooLong, NotJson and NotWhole
+/// of `ReadError`, NoVerb, UnknownVerb, then the other refusals of `ReadError`).
+#[derive(Clone, Copy, Debug, PartialEq, Eq, Error)]
+pub enum RequestError {
+    /// The value, the object or the key is refused.
+    #[error("{0}")]
+    Read(ReadError),
+    /// The line is not an object, or its `do` is not a text.
+    #[error("there is no verb")]
+    NoVerb,
+    #[error("the verb is not known")]
+    UnknownVerb,
+}
+
+impl From<ReadError> for RequestError {
+    ghost from_gives = { λ error e. e ≡ Read error };
+
+    fn from(error: ReadError) -> RequestError {
+        RequestError::Read(error)
+    }
+}
+
+impl RequestError {
+    /// The text of a reply's member `reason`.
+    pub fn name(self) -> &'static str
+        ensures { result.now ≡ error_name self }
+    {
+        match self {
+            RequestError::Read(error) => read_error_name(error),
+            RequestError::NoVerb => "NoVerb",
+            RequestError::UnknownVerb => "UnknownVerb",
+        }
+    }
+}
+
+fn read_error_name(error: ReadError) -> &'static str
+    ensures { result.now ≡ read_error_name error }
+{
+    match error {
+        ReadError::NotJson => "NotJson",
+        ReadError::NotWhole => "NotWhole",
+        ReadError::NoKind => "NoKind",
+        ReadError::UnknownKind => "UnknownKind",
+        ReadError::BadName => "BadName",
+        ReadError::BadMeta => "BadMeta",
+        ReadError::TooLong => "TooLong",
+        ReadError::Memory => "Memory",
+    }
+}
+
+// What a request asks for.
+#[derive(Clone, Copy)]
+enum Verb {
+    Create,
+    Get,
+    Update,
+}
+
+impl Verb {
+    fn named(name: &str) -> Option<Verb>
+        ensures { result ≡ verb_named name.now }
+    {
+        if name == "create" {
+            Some(Verb::Create)
+        } else if name == "get" {
+            Some(Verb::Get)
+        } else if name == "update" {
+            Some(Verb::Update)
+        } else {
+            None
+        }
+    }
+}
+
+/// The request that a line, without its line end, is.
+pub fn read_request(alloc: Global, line: &[u8]) -> Result<Request, RequestError>
+    ensures { Answers result (request_of line.now) }
+{
+    let Tree::Map(members) = read_tree(alloc, line)? else {
+        return Err(RequestError::NoVerb);
+    };
+    let verb = verb_in(&members)?;
+    request_by(alloc, verb, members)
+}
+
+fn verb_in(members: &Members) -> Result<Verb, RequestError>
+    ensures { result ≡ verb_in members.now }
+{
+    match verb_name(members) {
+        Some(name) => Verb::named(name).ok_or(RequestError::UnknownVerb),
+        None => Err(RequestError::NoVerb),
+    }
+}
+
+fn verb_name(members: &Members) -> Option<&str>
+    ensures { option_map (λ name. name.now) result ≡ option_and_then as_str (get_member (codes "do") members.now) }
+{
+    members.get("do")?.as_text()
+}
+
+fn request_by(alloc: Global, verb: Verb, members: Members) -> Result<Request, RequestError>
+    ensures { Answers result (request_by verb members) }
+{
+    match verb {
+        Verb::Create => Ok(Request::Create(draft_in(alloc, members)?)),
+        Verb::Get => Ok(Request::Get(read_key(alloc, &members)?)),
+        Verb::Update => Ok(Request::Update(draft_in(alloc, members)?)),
+    }
+}
+
+/// The draft that the member `object` is.
+fn draft_in(alloc: Global, members: Members) -> Result<Draft, ReadError>
+    ensures { Gives (λ draft. draft) result (object_draft (get_member (codes "object") members)) }
+{
+    match members.take("object")? {
+        Some(tree) => read_draft(alloc, tree),
+        None => Err(ReadError::NoKind),
+    }
+}

@@ -1,0 +1,190 @@
+ghost use Rattle.std.specs.Prelude.{◌≡◌, ◌+◌, ◌<◌, ◌≤◌, ◌^◌, ◌++◌, [], length, IfOk, IfSome, IfNone, OnSome, OnOk, OnErr, IsErrOf, ◌↔◌, Some};
+ghost use Rattle.plain.specs.Store.{opening};
+ghost use Rattle.plain.specs.Lines.{lines};
+ghost use Rattle.plain.specs.Served.{served, answers};
+ghost use Rattle.plain.specs.Cuts.{NoFeed, Reaches};
+ghost use Rattle.plain.specs.Streams.{Takes, Puts, PutsPart, ServesPart};
+ghost use Rattle.plain.specs.Serving.{Answered};
+ghost use Rattle.plain.specs.Faults.{CountsReads, CountsWrites, IsWriteOrMemory, IsInRange};
+ghost use Rattle.plain.specs.declared.store.TheConstants.{MOST_REVISIONS};
+ghost use Rattle.plain.specs.declared.server.ServeFault.TheVariants.{Memory as OutOfMemory, BadCapacity as CapacityOut};
+
+use crate::cutter::{Cut, answer_last, answer_piece};
+use crate::store::{Plain, PlainError};
+use crate::stream::{Sink, Source};
+use objects::Memory;
+use std::alloc::{AllocError, Global};
+use thiserror::Error;
+
+/// The room for one read, in bytes.
+const READ_ROOM: usize = 65_536;
+
+/// Why `serve` ended before the end of the input.
+#[derive(Clone, Copy, Debug, PartialEq, Eq, Error)]
+pub enum ServeFault {
+    /// The reader failed.
+    #[error("the input could not be read")]
+    Read,
+    /// The writer failed.
+    #[error("the output could not be written")]
+    Write,
+    /// An allocation was refused.
+    #[error("out of memory")]
+    Memory,
+    /// The capacity is not from 1 to 1,048,576.
+    #[error("the capacity is out of range")]
+    BadCapacity,
+}
+
+impl From<Memory> for ServeFault {
+    ghost from_gives = { λ _ fault. fault ≡ OutOfMemory };
+
+    fn from(_error: Memory) -> ServeFault {
+        ServeFault::Memory
+    }
+}
+
+impl From<PlainError> for ServeFault {
+    ghost from_gives = { λ _ fault. fault ≡ CapacityOut };
+
+    fn from(error: PlainError) -> ServeFault {
+        match error {
+            PlainError::BadCapacity => ServeFault::BadCapacity,
+        }
+    }
+}
+
+impl From<AllocError> for ServeFault {
+    ghost from_gives = { λ _ fault. fault ≡ OutOfMemory };
+
+    fn from(_error: AllocError) -> ServeFault {
+        ServeFault::Memory
+    }
+}
+
+/// Writes all of the bytes, in as many writes as it takes. After a failure some of them may be written.
+fn write_all<W: Sink>(writer: &mut W, bytes: &[u8]) -> Option<()>
+    ensures put { OnSome result (Puts (W.written writer.old) bytes.now (W.written writer.new)) }
+    ensures part { PutsPart (W.written writer.old) bytes.now (W.written writer.new) }
+    ensures well { OnSome result (W.failures writer.new ≡ W.failures writer.old) }
+    ensures failed { IfNone result (W.failures writer.old < W.failures writer.new) }
+{
+    let mut rest = bytes;
+    while !rest.is_empty() {
+        let count = writer.write(rest)?;
+        rest = &rest[count..];
+    }
+    Some(())
+}
+
+/// Answers the lines that end in the piece, and writes the replies.
+fn answer_read<W: Sink>(
+    alloc: Global,
+    plain: &mut Plain,
+    writer: &mut W,
+    cut: Cut,
+    piece: &[u8],
+) -> Result<Cut, ServeFault>
+    requires begun { NoFeed cut.kept.items }
+    requires room { cut.lines + length cut.kept.items + length piece.now < 2 ^ 64 }
+    requires written { cut.replies.items ≡ [] }
+    ensures reaches { IfOk result (λ v. Answered plain.old (cut.kept.items ++ piece.now) cut.lines (W.written writer.old)
+        plain.new v.kept.items v.lines (W.written writer.new)) }
+    ensures begun { IfOk result (λ v. NoFeed v.kept.items) }
+    ensures count { IfOk result (λ v. v.lines + length v.kept.items ≤ cut.lines + length cut.kept.items + length piece.now) }
+    ensures written { IfOk result (λ v. v.replies.items ≡ []) }
+    ensures fault { OnErr result (PutsPart (W.written writer.old) (answers plain.old (lines (cut.kept.items ++ piece.now))) (W.written writer.new)) }
+    ensures writes { CountsWrites result (W.failures writer.old) (W.failures writer.new) }
+    ensures cause { IsWriteOrMemory result }
+{
+    let mut cut = answer_piece(alloc, plain, cut, piece)?;
+    write_all(writer, cut.replies.as_slice()).ok_or(ServeFault::Write)?;
+    cut.replies.clear();
+    Ok(cut)
+}
+
+/// Answers the last line, if its line feed has not come, and writes the reply. Answers how many lines there were.
+fn answer_rest<W: Sink>(
+    alloc: Global,
+    plain: &mut Plain,
+    writer: &mut W,
+    cut: Cut,
+) -> Result<u64, ServeFault>
+    requires begun { NoFeed cut.kept.items }
+    requires room { cut.lines + length cut.kept.items < 2 ^ 64 }
+    requires written { cut.replies.items ≡ [] }
+    ensures text { OnOk result (Puts (W.written writer.old) (answers plain.old (lines cut.kept.items)) (W.written writer.new)) }
+    ensures count { IfOk result (λ n. n ≡ cut.lines + length (lines cut.kept.items)) }
+    ensures fault { OnErr result (PutsPart (W.written writer.old) (answers plain.old (lines cut.kept.items)) (W.written writer.new)) }
+    ensures writes { CountsWrites result (W.failures writer.old) (W.failures writer.new) }
+    ensures cause { IsWriteOrMemory result }
+{
+    let cut = answer_last(alloc, plain, cut)?;
+    write_all(writer, cut.replies.as_slice()).ok_or(ServeFault::Write)?;
+    Ok(cut.lines)
+}
+
+/// Answers the lines of the reader's bytes from this store, with this room for one read.
+fn serve_store<R: Source, W: Sink>(
+    alloc: Global,
+    plain: &mut Plain,
+    reader: &mut R,
+    writer: &mut W,
+    room: &mut [u8],
+) -> Result<u64, ServeFault>
+    requires { 0 < length room.old }
+    ensures count { IfOk result (λ n. IfSome (R.remaining reader.old) (λ input. n ≡ length (lines input))) }
+    ensures left { OnOk result (IfSome (R.remaining reader.old) (λ _. R.remaining reader.new ≡ Some [])) }
+    ensures text { OnOk result (IfSome (R.remaining reader.old) (λ input.
+        Puts (W.written writer.old) (answers plain.old (lines input)) (W.written writer.new))) }
+    ensures fault { OnErr result (ServesPart (λ input. answers plain.old (lines input))
+        (R.remaining reader.old) (R.remaining reader.new) (W.written writer.old) (W.written writer.new)) }
+    ensures reads { CountsReads result (R.failures reader.old) (R.failures reader.new) }
+    ensures writes { CountsWrites result (W.failures writer.old) (W.failures writer.new) }
+    ensures cause { IsInRange result }
+{
+    let mut cut = Cut {
+        kept: Vec::new(alloc),
+        replies: Vec::new(alloc),
+        lines: 0,
+    };
+    'reads: loop {
+        let count = reader.read(room).ok_or(ServeFault::Read)?;
+        if count == 0 {
+            break;
+        }
+        cut = answer_read(alloc, plain, writer, cut, &room[..count])?;
+    }
+    answer_rest(alloc, plain, writer, cut)
+}
+
+/// Answers each line of the reader's bytes with a line to the writer, as the plain store with room for `capacity`
+/// revisions answers them, and says how many lines there were. The bytes are cut at line feeds, and a last line may lack
+/// its line feed. What is held at a time is one piece of a read of 64 KiB at most, its replies, and of a line that is cut
+/// by the piece's end at most 1,048,577 bytes.
+///
+/// # Errors
+///
+/// Where the capacity is out of range, nothing was read or written. At any other fault what was written is a beginning
+/// of the replies to what was read.
+pub fn serve<R: Source, W: Sink>(
+    alloc: Global,
+    reader: &mut R,
+    writer: &mut W,
+    capacity: u64,
+) -> Result<u64, ServeFault>
+    ensures count { IfOk result (λ n. IfSome (R.remaining reader.old) (λ input. n ≡ length (lines input))) }
+    ensures left { OnOk result (IfSome (R.remaining reader.old) (λ _. R.remaining reader.new ≡ Some [])) }
+    ensures text { OnOk result (IfSome (R.remaining reader.old) (λ input.
+        Puts (W.written writer.old) (served capacity input) (W.written writer.new))) }
+    ensures fault { OnErr result (ServesPart (served capacity)
+        (R.remaining reader.old) (R.remaining reader.new) (W.written writer.old) (W.written writer.new)) }
+    ensures reads { CountsReads result (R.failures reader.old) (R.failures reader.new) }
+    ensures writes { CountsWrites result (W.failures writer.old) (W.failures writer.new) }
+    ensures capacity { IsErrOf result ServeFault.BadCapacity ↔ (1 ≤ capacity → MOST_REVISIONS < capacity) }
+    ensures untouched { IsErrOf result ServeFault.BadCapacity → (reader.new ≡ reader.old) × (writer.new ≡ writer.old) }
+{
+    let mut plain = Plain::new(alloc, capacity)?;
+    let mut room = vec![in alloc; 0u8; READ_ROOM]?;
+    serve_store(alloc, &mut plain, reader, writer, room.as_mut_slice())
+}

@@ -1,0 +1,188 @@
+ghost use Rattle.std.specs.Prelude.{◌≡◌, ◌≢◌, ◌≤◌, ◌<◌, ◌↔◌, ◌==◌, ◌+◌, ◌^◌, IfOk, IfSome, OnOk, OnErr, IsErrOf};
+ghost use Rattle.std.specs.FinMap as map;
+ghost use Rattle.std.specs.Option.{option_copied};
+ghost use Rattle.plain.specs.Store.{step, opening, found};
+ghost use Rattle.plain.specs.Verdict.{stamp, creates, updates, updated};
+ghost use Rattle.plain.specs.declared.request.Request.TheVariants.{Create, Update};
+
+use crate::decide::{refused_creation, refused_update};
+use crate::reply::{Reason, Reply};
+use crate::request::Request;
+use objects::{Draft, Key, Memory, Meta, Object};
+use std::alloc::{AllocError, Global};
+use std::collections::BTreeMap;
+use std::marker::Model;
+use thiserror::Error;
+
+/// The most revisions that a store may draw.
+pub const MOST_REVISIONS: u64 = 1_048_576;
+
+#[derive(Clone, Copy, Debug, PartialEq, Eq, Error)]
+pub enum PlainError {
+    /// The capacity is not from 1 to 1,048,576.
+    #[error("the capacity is out of range")]
+    BadCapacity,
+}
+
+/// The plain store: a map from keys to objects, a counter of the revisions drawn, and a capacity for them.
+#[derive(Drop)]
+pub struct Plain {
+    objects: BTreeMap<Key, Object>,
+    counter: u64,
+    capacity: u64,
+}
+
+impl Model for Plain {
+    ghost use Rattle.std.specs.Prelude.{◌≤◌};
+    ghost use Rattle.std.specs.FinMap as map;
+    ghost use Rattle.plain.specs.Store.{Store, store_coded};
+    ghost use Rattle.plain.specs.Filed.{AreFiled};
+    ghost use Rattle.plain.specs.declared.store.TheConstants.{MOST_REVISIONS};
+
+    ghost Value = { Store };
+
+    ghost coded = { store_coded };
+
+    ghost view = { λ p. record { objects = map.from_entries p.objects.entries; counter = p.counter; capacity = p.capacity } };
+
+    ghost invariant = { λ p. (p.counter ≤ p.capacity) × (p.capacity ≤ MOST_REVISIONS) × AreFiled (map.from_entries p.objects.entries) };
+}
+
+impl Plain {
+    /// A store with nothing in it.
+    pub fn new(alloc: Global, capacity: u64) -> Result<Plain, PlainError>
+        ensures opened { IfOk result (λ plain. plain ≡ opening capacity) }
+        ensures refused { IsErrOf result PlainError.BadCapacity ↔ ((1 ≤ capacity → MOST_REVISIONS < capacity)) }
+    {
+        if capacity < 1 || MOST_REVISIONS < capacity {
+            return Err(PlainError::BadCapacity);
+        }
+        Ok(Plain {
+            objects: BTreeMap::new(alloc),
+            counter: 0,
+            capacity,
+        })
+    }
+
+    /// Takes one whole request. Where memory runs out, nothing has changed.
+    pub fn take(&mut self, request: Request) -> Result<Reply, Memory>
+        ensures step { IfOk result (λ reply. (self.new, reply) ≡ step self.old request) }
+        ensures memory { OnErr result (self.new ≡ self.old) }
+    {
+        match request {
+            Request::Create(draft) => self.create(draft),
+            Request::Get(key) => self.get(&key),
+            Request::Update(draft) => self.update(draft),
+        }
+    }
+
+    /// The object of that key.
+    fn find(&self, key: &Key) -> Option<&Object>
+        ensures there { option_copied result ≡ map.get self.now.objects key.now }
+        ensures filed { IfSome result (λ object. object.now.key ≡ key.now) }
+    {
+        self.objects.get(key)
+    }
+
+    fn get(&self, key: &Key) -> Result<Reply, Memory>
+        ensures { IfOk result (λ reply. reply ≡ found (map.get self.now.objects key.now)) }
+    {
+        match self.find(key) {
+            Some(object) => Ok(Reply::Found(object.clone()?)),
+            None => Ok(Reply::Refused(Reason::NotFound)),
+        }
+    }
+
+    fn create(&mut self, draft: Draft) -> Result<Reply, Memory>
+        ensures step { IfOk result (λ reply. (self.new, reply) ≡ step self.old (Create draft)) }
+        ensures memory { OnErr result (self.new ≡ self.old) }
+    {
+        if let Some(reason) = refused_creation(&draft, self.find(&draft.object.key)) {
+            return Ok(Reply::Refused(reason));
+        }
+        if self.is_full() {
+            return Ok(Reply::Refused(Reason::StoreFull));
+        }
+        let written = self.write(created(draft.object, self.counter + 1))?;
+        Ok(Reply::Created(written))
+    }
+
+    fn update(&mut self, draft: Draft) -> Result<Reply, Memory>
+        ensures step { IfOk result (λ reply. (self.new, reply) ≡ step self.old (Update draft)) }
+        ensures memory { OnErr result (self.new ≡ self.old) }
+    {
+        let Some(current) = self.find(&draft.object.key) else {
+            return Ok(Reply::Refused(Reason::NotFound));
+        };
+        if let Some(reason) = refused_update(&draft, current) {
+            return Ok(Reply::Refused(reason));
+        }
+        if self.is_full() {
+            return Ok(Reply::Refused(Reason::StoreFull));
+        }
+        let object = updated(draft, current, self.counter + 1)?;
+        let written = self.write(object)?;
+        Ok(Reply::Updated(written))
+    }
+
+    /// Whether all revisions are drawn.
+    fn is_full(&self) -> bool
+        ensures { result ≡ (self.now.counter == self.now.capacity) }
+    {
+        self.counter == self.capacity
+    }
+
+    /// Draws the next revision for this object, and answers a copy of it.
+    fn write(&mut self, object: Object) -> Result<Object, Memory>
+        requires { self.old.counter ≢ self.old.capacity }
+        ensures copy { IfOk result (λ copy. copy ≡ object) }
+        ensures written { OnOk result (self.new ≡ record { objects = map.insert self.old.objects object.key object; counter = self.old.counter + 1; capacity = self.old.capacity }) }
+        ensures memory { OnErr result (self.new ≡ self.old) }
+    {
+        let copy = object.clone()?;
+        let key = copied_key(&object)?;
+        self.objects.insert(key, object)?;
+        self.counter += 1;
+        Ok(copy)
+    }
+}
+
+fn copied_key(object: &Object) -> Result<Key, AllocError>
+    ensures { IfOk result (λ key. key ≡ object.now.key) }
+{
+    object.key.clone()
+}
+
+/// The object as the revision that creates it leaves it.
+fn created(object: Object, number: u64) -> Object
+    requires { number ≤ 2 ^ 20 }
+    ensures { result ≡ stamp (creates object) number }
+{
+    let Object { key, meta: _, body } = object;
+    Object {
+        key,
+        meta: Meta {
+            uid: number,
+            revision: number,
+            generation: 1,
+            deletion: None,
+        },
+        body,
+    }
+}
+
+/// The object as the revision that updates it leaves it, given the one that now has its key.
+fn updated(draft: Draft, current: &Object, number: u64) -> Result<Object, AllocError>
+    requires { current.now.key ≡ draft.object.key }
+    ensures { IfOk result (λ object. object ≡ stamp (updates (updated current.now draft)) number) }
+{
+    let meta = Meta {
+        uid: current.meta.uid,
+        revision: number,
+        generation: current.meta.generation,
+        deletion: current.meta.deletion.clone()?,
+    };
+    let Draft { object, .. } = draft;
+    let Object { key, meta: _, body } = object;
+    Ok(Object { key, meta, body })
+}

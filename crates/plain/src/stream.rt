@@ -1,0 +1,46 @@
+ghost use Rattle.std.specs.Prelude.{◌≡◌, ◌≤◌, ◌<◌, ◌+◌, ◌^◌, ℕ, List, [], length, take, Option, IfSome, IfNone, OnSome};
+ghost use Rattle.plain.specs.Streams.{Takes, Puts};
+
+/// Where bytes come from.
+pub trait Source {
+    /// The bytes that are left, where the device tells.
+    ghost remaining: { Self → Option (List ℕ) };
+
+    /// How often it has failed.
+    ghost failures: { Self → ℕ };
+
+    /// How many bytes it still gives, at most.
+    ghost most: { Self → ℕ };
+
+    /// Reads some bytes to the front of the room, and answers how many; 0 with room is the end of the input. `None`
+    /// is a failure.
+    fn read(&mut self, room: &mut [u8]) -> Option<usize>
+        ensures fits { IfSome result (λ n. n ≤ length room.old) }
+        ensures taken { IfSome result (λ n. Takes (remaining self.old) (take n room.new) (remaining self.new)) }
+        ensures ended { IfSome result (λ n. n ≡ 0 → 0 < length room.old → IfSome (remaining self.old) (λ left. left ≡ [])) }
+        ensures bounded { IfSome result (λ n. n + most self.new ≤ most self.old) }
+        ensures well { OnSome result (failures self.new ≡ failures self.old) }
+        ensures failed { IfNone result (failures self.old < failures self.new) }
+        ensures kept { IfNone result (remaining self.new ≡ remaining self.old) }
+        ensures worn { IfNone result (most self.new ≤ most self.old) };
+
+    ghost finite: { (s : Self) → most s < 2 ^ 64 };
+}
+
+/// Where bytes go.
+pub trait Sink {
+    /// The bytes that it was given, where the device tells.
+    ghost written: { Self → Option (List ℕ) };
+
+    /// How often it has failed.
+    ghost failures: { Self → ℕ };
+
+    /// Takes some of the bytes from the front, at least one if there is one, and answers how many. `None` is a failure.
+    fn write(&mut self, bytes: &[u8]) -> Option<usize>
+        ensures fits { IfSome result (λ n. n ≤ length bytes.now) }
+        ensures some { IfSome result (λ n. 0 < length bytes.now → 0 < n) }
+        ensures put { IfSome result (λ n. Puts (written self.old) (take n bytes.now) (written self.new)) }
+        ensures well { OnSome result (failures self.new ≡ failures self.old) }
+        ensures failed { IfNone result (failures self.old < failures self.new) }
+        ensures kept { IfNone result (written self.new ≡ written self.old) };
+}
