@@ -1,0 +1,153 @@
+//! The command line: what the words ask for, and the exit status that it comes to.
+ghost use Rattle.std.specs.Prelude.{◌≡◌, ◌≢◌, ◌≤◌, ◌<◌, ◌⊎◌, [], map, true, OnSome, IfNone, IfOk};
+ghost use Rattle.std.specs.List.{list_any};
+ghost use Rattle.clap.specs.Words.{FailsBy, app_of, kind_of};
+ghost use Rattle.plain.specs.Streams.{Puts};
+ghost use Rattle.stsctl.specs.Grammar.{faults_of, is_mistake, is_request, stsctl_app};
+
+use clap::error::ErrorKind;
+use clap::{Arg, Command, Error, value_parser};
+use plain::{Sink, Source};
+use std::alloc::{AllocError, Global};
+use std::convert::AsStr;
+
+/// The exit status of a run that did all that it was asked for.
+const SUCCESS: u8 = 0;
+
+/// The exit status where reading or writing failed, or memory ran out.
+const FAILURE: u8 = 1;
+
+/// The exit status where the words ask for nothing that the program does.
+const BAD_WORDS: u8 = 2;
+
+/// The capacity of a store for which none is given: the most that there may be.
+const DEFAULT_CAPACITY: u64 = 1_048_576;
+
+/// What the program takes: `serve [--capacity N]`, and what `clap` adds for help and the version.
+fn grammar<'a>(alloc: Global) -> Result<Command<'a>, AllocError>
+    ensures { IfOk result (λ c. app_of c ≡ stsctl_app) }
+{
+    let capacity = Arg::new(alloc, "capacity")
+        .long("capacity")
+        .value_name("N")
+        .value_parser(value_parser!(u64).range(1..=1_048_576))
+        .help("How many revisions the store may draw, from 1 to 1048576 [default: 1048576]");
+    let serve = Command::new(alloc, "serve")
+        .about("Answers each request line of standard input with a line of standard output")
+        .arg(capacity)?;
+    Command::new(alloc, "stsctl")
+        .bin_name("stsctl")?
+        .version("0.1.0")
+        .about("A plain in-memory store of Kubernetes objects")
+        .subcommand_required(true)
+        .subcommand(serve)
+}
+
+/// The capacity of the store that the words ask to serve. An `Err` is also a call for help or for the version.
+fn capacity_asked<S: AsStr>(alloc: Global, words: &[S]) -> Result<u64, Error>
+    ensures { FailsBy (faults_of (map S.text words.now)) result }
+{
+    let matches = grammar(alloc)?.try_get_matches_from(words)?;
+    let given = match matches.subcommand_matches("serve") {
+        Some(serve) => serve.get_one::<u64>("capacity"),
+        None => None,
+    };
+    Ok(given.unwrap_or(DEFAULT_CAPACITY))
+}
+
+/// Writes all of the bytes, or those that the sink takes before it fails.
+fn write_all<W: Sink>(writer: &mut W, bytes: &[u8]) -> Option<()>
+    ensures put { OnSome result (Puts (W.written writer.old) bytes.now (W.written writer.new)) }
+    ensures well { OnSome result (W.failures writer.new ≡ W.failures writer.old) }
+    ensures failed { IfNone result (W.failures writer.old < W.failures writer.new) }
+{
+    let mut rest = bytes;
+    while !rest.is_empty() {
+        let count = writer.write(rest)?;
+        rest = &rest[count..];
+    }
+    Some(())
+}
+
+/// Serves the lines of the reader.
+fn served<R: Source, W: Sink>(alloc: Global, reader: &mut R, writer: &mut W, capacity: u64) -> u8
+    ensures { result < BAD_WORDS }
+{
+    match plain::serve(alloc, reader, writer, capacity) {
+        Ok(_) => SUCCESS,
+        Err(_) => FAILURE,
+    }
+}
+
+/// Writes the text that was asked for.
+fn shown<W: Sink>(writer: &mut W, text: &[u8]) -> u8
+    ensures status { result < BAD_WORDS }
+    ensures all { result ≡ SUCCESS → Puts (W.written writer.old) text.now (W.written writer.new) }
+    ensures failed { result ≢ SUCCESS → W.failures writer.old < W.failures writer.new }
+{
+    match write_all(writer, text) {
+        Some(()) => SUCCESS,
+        None => FAILURE,
+    }
+}
+
+/// Whether the words ask for help or for the version.
+fn is_request(kind: ErrorKind) -> bool
+    ensures { result ≡ is_request kind }
+{
+    matches!(kind, ErrorKind::DisplayHelp | ErrorKind::DisplayVersion)
+}
+
+/// Whether the words are bad.
+fn is_mistake(kind: ErrorKind) -> bool
+    ensures { result ≡ is_mistake kind }
+{
+    !is_request(kind) && kind != ErrorKind::OutOfMemory
+}
+
+/// Says why nothing is served: help and the version on `writer`, a mistake in the words on `faults`.
+fn explained<W: Sink, F: Sink>(alloc: Global, error: &Error, writer: &mut W, faults: &mut F) -> u8
+    ensures status { result ≤ BAD_WORDS }
+    ensures success { result ≡ SUCCESS → is_request (kind_of error.now) ≡ true }
+    ensures refused { result ≡ BAD_WORDS → is_mistake (kind_of error.now) ≡ true }
+    ensures quiet { result ≢ BAD_WORDS → faults.new ≡ faults.old }
+    ensures untouched { result ≡ BAD_WORDS → writer.new ≡ writer.old }
+{
+    let Ok(text) = format!(in alloc; "{error}") else {
+        return FAILURE;
+    };
+    let kind = error.kind();
+    if is_request(kind) {
+        return shown(writer, text.as_bytes());
+    }
+    if is_mistake(kind) {
+        // The status already says that the words are bad, so nothing is lost where this fails.
+        let _ = write_all(faults, text.as_bytes());
+        return BAD_WORDS;
+    }
+    FAILURE
+}
+
+/// The whole program: does what the words ask for, the program's name first, and answers the exit status. It is 0 on
+/// success and for help and the version, which go to `writer`; 1, with nothing more said, where reading or writing fails
+/// or memory runs out; and 2 where the words are bad, for which the reason goes to `faults`.
+pub(crate) fn command<S: AsStr, R: Source, W: Sink, F: Sink>(
+    alloc: Global,
+    words: &[S],
+    reader: &mut R,
+    writer: &mut W,
+    faults: &mut F,
+) -> u8
+    ensures status { result ≤ BAD_WORDS }
+    ensures success { let kinds = faults_of (map S.text words.now) in
+        result ≡ SUCCESS → (kinds ≡ []) ⊎ (list_any is_request kinds ≡ true) }
+    ensures refused { result ≡ BAD_WORDS → list_any is_mistake (faults_of (map S.text words.now)) ≡ true }
+    ensures quiet { result ≢ BAD_WORDS → faults.new ≡ faults.old }
+    ensures reads_nothing { result ≡ BAD_WORDS → reader.new ≡ reader.old }
+    ensures writes_nothing { result ≡ BAD_WORDS → writer.new ≡ writer.old }
+{
+    match capacity_asked(alloc, words) {
+        Ok(capacity) => served(alloc, reader, writer, capacity),
+        Err(error) => explained(alloc, &error, writer, faults),
+    }
+}
