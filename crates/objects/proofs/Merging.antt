@@ -74,7 +74,7 @@ pub tokens_more : (old now keyed new : List Token) (es : List (List ℕ × Tree)
     → now ≡ old ++ entry_tokens (take i es) → keyed ≡ now ++ key name ∷ [] → new ≡ keyed ++ json_tokens (outline (data_of e.1)) → new ≡ old ++ entry_tokens (take (i + 1) es)
 tokens_more old now keyed new es i e name inside is named first second third =
     let last : entry_tokens (take (i + 1) es) ≡ entry_tokens (take i es) ++ key e.0 ∷ json_tokens (outline (data_of e.1)) =
-        ap entry_tokens (take_more es i e inside ∙ ap (λ x. take i es ++ x ∷ []) (sym is)) ∙ entry_tokens-append (take i es) (e ∷ []) ∙ ap (λ ts. entry_tokens (take i es) ++ ts) (one_entry e) in
+    ap entry_tokens (take_more es i e inside ∙ ap (λ x. take i es ++ x ∷ []) (sym is)) ∙ entry_tokens-append (take i es) (e ∷ []) ∙ ap (λ ts. entry_tokens (take i es) ++ ts) (one_entry e) in
     third ∙ ap (λ ts. ts ++ json_tokens (outline (data_of e.1))) (second ∙ ap (λ ts. ts ++ key name ∷ []) first ∙ ap (λ n. (old ++ entry_tokens (take i es)) ++ key n ∷ []) named)
     ∙ append_assoc (old ++ entry_tokens (take i es)) (key e.0 ∷ []) (json_tokens (outline (data_of e.1)))
     ∙ append_assoc old (entry_tokens (take i es)) (key e.0 ∷ json_tokens (outline (data_of e.1)))
@@ -144,7 +144,7 @@ writes_step k d es rest old mid new w last held none hs below =
     let is_front = front_of k w.count es w.above in
     let split : members_of es ≡ join_members (members_of front) (members_of rest) = members_of-split w.count es ∙ ap (λ xs. join_members (members_of front) (members_of xs)) (sym w.left) in
     let put_there : puts ((k, d) ∷ hs) (members_of es) ≡ join_members (members_of front) (put_some k d (puts hs (members_of rest))) =
-        ap (λ ms. put_some k d (puts hs ms)) split ∙ ap (put_some k d) (puts_past hs k front (members_of rest) below is_front) ∙ some_past k d front (puts hs (members_of rest)) is_front in
+    ap (λ ms. put_some k d (puts hs ms)) split ∙ ap (put_some k d) (puts_past hs k front (members_of rest) below is_front) ∙ some_past k d front (puts hs (members_of rest)) is_front in
     ap (λ ms. old ++ members_tokens (members_outline ms)) put_there
     ∙ ap (λ ts. old ++ ts) (tokens_join front (put_some k d (puts hs (members_of rest))) ∙ ap (λ ts. entry_tokens front ++ ts) (tokens_some k d (puts hs (members_of rest)) before))
     ∙ regroup old (entry_tokens front) (some_tokens k d) (members_tokens (members_outline (puts hs (members_of rest)))) mid new w.tokens last

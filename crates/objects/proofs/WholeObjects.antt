@@ -99,7 +99,6 @@ not_empty k d rest f none = let some : length rest ≡ suc (length f.after) = ap
 heads : (a b : List ℕ × Tree) (xs ys : List (List ℕ × Tree)) → a ∷ xs ≡ b ∷ ys → a ≡ b
 heads a b xs ys h = cc
 
-
 pub first_value : (k : List ℕ) (d : Data) (rest after : List (List ℕ × Tree)) (e : List ℕ × Tree) → IsFirst k d rest → rest ≡ e ∷ after → data_of e.1 ≡ d
 first_value k d rest after e f is = ap (λ x. data_of x.1) (heads e f.entry after f.after (sym is ∙ f.first)) ∙ f.value
 
@@ -131,8 +130,8 @@ members_written k w es rest after e old t1 t2 t3 t4 new front is equal q r s t =
     let first = take front.count es in
     let here : put k (object w) (members_of (e ∷ after)) ≡ member k (object w) (members_of after) = rw equal (ap (λ n. member n (object w) (members_of after)) (sym named)) in
     let placed : put k (object w) (members_of es) ≡ join_members (members_of first) (member k (object w) (members_of after)) =
-        ap (put k (object w)) (members_of-split front.count es ∙ ap (λ xs. join_members (members_of first) (members_of xs)) (sym front.left ∙ is))
-        ∙ put_past k (object w) first (members_of (e ∷ after)) (front_of k front.count es front.above) ∙ ap (join_members (members_of first)) here in
+    ap (put k (object w)) (members_of-split front.count es ∙ ap (λ xs. join_members (members_of first) (members_of xs)) (sym front.left ∙ is))
+    ∙ put_past k (object w) first (members_of (e ∷ after)) (front_of k front.count es front.above) ∙ ap (join_members (members_of first)) here in
     grouped old (entry_tokens first) (members_tokens (members_outline w)) (members_tokens (members_outline (members_of after))) t1 t2 t3 t4 new (key k) begin_object front.tokens q r s t
     ∙ ap (λ ts. old ++ ts) (sym (ap (λ ms. members_tokens (members_outline ms)) placed ∙ tokens_join first (member k (object w) (members_of after))))
 
@@ -146,8 +145,8 @@ pub object_written : (kind : Kind) (v o : Object) (b : IsBody kind v.body) (ms :
     → new ≡ t1 ++ members_tokens (members_outline (put (codes "metadata") (object (whole_metadata o b.metadata)) ms)) → new ≡ old ++ json_tokens (outline (printed o))
 object_written kind v o b ms old t1 new same members first last =
     let is : printed o ≡ object (put (codes "metadata") (object (whole_metadata o b.metadata)) ms) =
-        sym (ap printed same) ∙ printed_is kind v b ∙ ap (λ (x : Object). object (put (codes "metadata") (object (whole_metadata x b.metadata)) b.members)) same
-        ∙ ap (λ m. object (put (codes "metadata") (object (whole_metadata o b.metadata)) m)) (sym members) in
+    sym (ap printed same) ∙ printed_is kind v b ∙ ap (λ (x : Object). object (put (codes "metadata") (object (whole_metadata x b.metadata)) b.members)) same
+    ∙ ap (λ m. object (put (codes "metadata") (object (whole_metadata o b.metadata)) m)) (sym members) in
     last ∙ ap (λ x. x ++ members_tokens (members_outline (put (codes "metadata") (object (whole_metadata o b.metadata)) ms))) first
     ∙ append_assoc old (begin_object ∷ []) (members_tokens (members_outline (put (codes "metadata") (object (whole_metadata o b.metadata)) ms)))
     ∙ ap (λ d. old ++ json_tokens (outline d)) (sym is)

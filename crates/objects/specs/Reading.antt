@@ -101,14 +101,16 @@ meta_of s = record {
   uid = unwrap_or (option_and_then uid_number s.uid) 0;
   revision = unwrap_or (option_map version_number s.version) 0;
   generation = s.generation;
-  deletion = s.deletion }
+  deletion = s.deletion;
+}
 
 -- an object of these parts; the held members leave the body
 abbrev pub draft_parts : KeyParts → Stated → Members → Members → Draft
 draft_parts key s metadata ms = record {
   object = record { key = key; meta = meta_of s; body = object (put (codes "metadata") (object (without_held metadata)) ms) };
   uid = s.uid;
-  version = s.version }
+  version = s.version;
+}
 
 -- an object from its members: the kind, the name and the metadata
 unfoldable pub draft_in : Members → Result Draft ReadError

@@ -171,7 +171,12 @@ pub(crate) fn draft_in(alloc: Global, members: Members) -> Result<Draft, ReadErr
 }
 
 // The draft of these parts; the held members leave the body.
-fn finished(alloc: Global, key: Key, stated_parts: Stated, members: Members) -> Result<Draft, ReadError>
+fn finished(
+    alloc: Global,
+    key: Key,
+    stated_parts: Stated,
+    members: Members,
+) -> Result<Draft, ReadError>
     requires said { SaysKind key.kind members }
     requires whole { (metadata : DataMembers) × (get_member (codes "metadata") members ≡ Some (object metadata)) }
     ensures { (metadata : DataMembers) → get_member (codes "metadata") members ≡ Some (object metadata)
@@ -185,8 +190,13 @@ fn finished(alloc: Global, key: Key, stated_parts: Stated, members: Members) -> 
         deletion,
     } = stated_parts;
     let meta = Meta {
-        uid: uid.as_ref().and_then(|uid| uid_number(uid.as_str())).unwrap_or(0),
-        revision: version.as_ref().map_or(0, |version| version_number(version.as_str())),
+        uid: uid
+            .as_ref()
+            .and_then(|uid| uid_number(uid.as_str()))
+            .unwrap_or(0),
+        revision: version
+            .as_ref()
+            .map_or(0, |version| version_number(version.as_str())),
         generation,
         deletion,
     };

@@ -14,6 +14,8 @@ mod object;
 mod places;
 mod print;
 mod read;
+#[cfg(test)]
+mod tests;
 mod text;
 mod tree;
 mod uid;
@@ -26,7 +28,6 @@ pub use kind::Kind;
 pub use memory::Memory;
 pub use meta::Meta;
 pub use object::{Draft, Object};
-
 pub use print::{print_object, write_object};
 pub use read::{read_draft, read_key, read_object, read_tree};
 pub use text::Text;

@@ -27,7 +27,10 @@ pub(crate) fn place_of(entries: &[(Text, Tree)], key: &str) -> Result<usize, usi
 }
 
 /// The entries again, which share what their lists and maps hold.
-pub(crate) fn copied(alloc: Global, entries: &[(Text, Tree)]) -> Result<Vec<(Text, Tree)>, AllocError>
+pub(crate) fn copied(
+    alloc: Global,
+    entries: &[(Text, Tree)],
+) -> Result<Vec<(Text, Tree)>, AllocError>
     ensures { IfOk result (λ copies. copies.items ≡ entries.now) }
 {
     let mut copies = Vec::with_capacity(alloc, entries.len())?;

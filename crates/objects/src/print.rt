@@ -139,7 +139,11 @@ fn held_uid<'a>(text: &'a [u8; 36], number: u64) -> Option<Held<'a>>
 }
 
 // Writes the metadata with the members that the key and the meta hold, each at its place; with the closing brace.
-fn write_metadata(object: &Object, entries: &[(Text, Tree)], out: &mut Writer) -> Result<(), AllocError>
+fn write_metadata(
+    object: &Object,
+    entries: &[(Text, Tree)],
+    out: &mut Writer,
+) -> Result<(), AllocError>
     requires { has_held (members_of entries.now) ≡ false }
     ensures tokens { OnOk result (out.new.tokens ≡ out.old.tokens ++ members_tokens (members_outline (whole_metadata object.now (members_of entries.now)))) }
     ensures before { out.new.before ≡ out.old.before }
@@ -153,17 +157,31 @@ fn write_metadata(object: &Object, entries: &[(Text, Tree)], out: &mut Writer) -
     let text = uid_bytes(meta.uid);
     let uid = held_uid(&text, meta.uid);
 
-    let deleted = write_step(entries, "deletionTimestamp", held_text(meta.deletion.as_ref()), out)?;
+    let deleted = write_step(
+        entries,
+        "deletionTimestamp",
+        held_text(meta.deletion.as_ref()),
+        out,
+    )?;
     let generated = write_step(deleted, "generation", held_number(meta.generation), out)?;
     let named = write_step(generated, "name", Some(Held::Text(key.name.as_str())), out)?;
-    let spaced = write_step(named, "namespace", Some(Held::Text(key.namespace.as_str())), out)?;
+    let spaced = write_step(
+        named,
+        "namespace",
+        Some(Held::Text(key.namespace.as_str())),
+        out,
+    )?;
     let versioned = write_step(spaced, "resourceVersion", version, out)?;
     let known = write_step(versioned, "uid", uid, out)?;
     write_entries(known, out)
 }
 
 // Writes the members of the body, the metadata whole; with the closing brace.
-fn write_members(object: &Object, entries: &[(Text, Tree)], out: &mut Writer) -> Result<(), AllocError>
+fn write_members(
+    object: &Object,
+    entries: &[(Text, Tree)],
+    out: &mut Writer,
+) -> Result<(), AllocError>
     requires ascending { AreAscending (members_of entries.now) }
     requires said { (metadata : DataMembers) × (get_member (codes "metadata") (members_of entries.now) ≡ Some (map metadata)) × (has_held metadata ≡ false) }
     ensures tokens { (metadata : DataMembers) → get_member (codes "metadata") (members_of entries.now) ≡ Some (map metadata)

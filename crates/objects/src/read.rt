@@ -7,7 +7,6 @@ ghost use Rattle.serde_json.specs.View.{view};
 
 use crate::convert::tree_of;
 use crate::draft::{draft_in, key_of, kind_of};
-
 use crate::fault::ReadError;
 use crate::key::Key;
 use crate::object::Draft;

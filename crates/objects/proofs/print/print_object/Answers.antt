@@ -27,6 +27,6 @@ returns-clause-reads_back c = λ short shallow.
     let kept = c.in_ok-write_object.ensures.kept in
     let written = c.in_ok-write_object.ensures.tokens ∙ ap (λ ts. ts ++ json_tokens (outline (printed c.args.object.now))) c.new-out.ensures.tokens in
     let bytes = ap (λ v. v.items) c.in-Ok.ensures.ok
-            ∙ bytes_printed _ _ _ c.into_inner.ensures.items (c.write_object.ensures.before ∙ c.new-out.ensures.before ∙ c.in_ok-with_capacity.ensures.items) in
+    ∙ bytes_printed _ _ _ c.into_inner.ensures.items (c.write_object.ensures.before ∙ c.new-out.ensures.before ∙ c.in_ok-with_capacity.ensures.items) in
     reads_again c.args.object.now kept.body kept.key kept.meta c.in_ok-write_object.ensures.proper _ (subst IsUtf8 (sym bytes) c.into_inner.ensures.utf8)
     (ap tokens bytes ∙ c.into_inner.ensures.reads_back ∙ written) short shallow
