@@ -8,6 +8,7 @@ pub mod Replies
 pub mod Lines
 pub mod Cuts
 pub mod Served
+pub mod ServedRun
 pub mod Streams
 pub mod Faults
 pub mod Serving

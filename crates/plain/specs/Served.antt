@@ -22,10 +22,5 @@ abbrev pub answers : Store → List (List ℕ) → List ℕ
 answers s [] = []
 answers s (line ∷ rest) = (answer s line).1 ++ 10 ∷ answers (answer s line).0 rest
 
--- what the store is after the lines
-abbrev pub after_lines : Store → List (List ℕ) → Store
-after_lines s [] = s
-after_lines s (line ∷ rest) = after_lines (answer s line).0 rest
-
 abbrev pub served : ℕ → List ℕ → List ℕ
 served capacity input = answers (opening capacity) (lines input)

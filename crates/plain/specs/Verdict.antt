@@ -37,7 +37,8 @@ abbrev pub updated : Object → Draft → Object
 updated o d = record {
   key = o.key;
   meta = record { uid = o.meta.uid; revision = o.meta.revision; generation = o.meta.generation; deletion = o.meta.deletion };
-  body = d.object.body }
+  body = d.object.body;
+}
 
 abbrev pub on_update : Draft → Option Object → Verdict
 on_update d None = refuse NotFound
@@ -49,4 +50,5 @@ stamp (creates o) n = record { key = o.key; meta = record { uid = n; revision = 
 stamp (updates o) n = record {
   key = o.key;
   meta = record { uid = o.meta.uid; revision = n; generation = o.meta.generation; deletion = o.meta.deletion };
-  body = o.body }
+  body = o.body;
+}

@@ -10,6 +10,9 @@ mod failures;
 mod line;
 mod reply;
 mod request;
+#[cfg(test)]
+mod request_tests;
+mod runs;
 mod server;
 mod slices;
 mod store;
@@ -21,6 +24,7 @@ pub use buffers::BufferSink;
 pub use devices::{ReadSource, WriteSink};
 pub use reply::{Reason, Reply};
 pub use request::{Request, RequestError, read_request};
+pub use runs::{lines_are_one_run, runs_go_on};
 pub use server::{ServeFault, serve};
 pub use slices::SliceSource;
 pub use store::{MOST_REVISIONS, Plain, PlainError};

@@ -1,0 +1,369 @@
+//! Request lines, and the replies of a store to them.
+use crate::{Plain, PlainError, Reason, Reply, Request, RequestError, read_request};
+use objects::{Kind, Object, ReadError};
+use std::alloc::Global;
+use std::process::Abort;
+use std::test::Fail;
+
+/// Lines that are no request, each with the first refusal that fits.
+static REFUSED: [(&str, RequestError); 29] = [
+    ("", RequestError::Read(ReadError::NotJson)),
+    ("{", RequestError::Read(ReadError::NotJson)),
+    (
+        r#"{"do":"patch"} {"#,
+        RequestError::Read(ReadError::NotJson),
+    ),
+    (
+        r#"{"do":"create","object":{"kind":"Pod","metadata":{"name":"x"},"spec":{"n":1.5}}}"#,
+        RequestError::Read(ReadError::NotWhole),
+    ),
+    // A number that is passed over is read too.
+    (
+        r#"{"do":"patch","n":-0}"#,
+        RequestError::Read(ReadError::NotWhole),
+    ),
+    // No verb.
+    ("[]", RequestError::NoVerb),
+    ("null", RequestError::NoVerb),
+    (r#""create""#, RequestError::NoVerb),
+    ("{}", RequestError::NoVerb),
+    (r#"{"do":null}"#, RequestError::NoVerb),
+    (
+        r#"{"do":["get"],"kind":"Pod","name":"x"}"#,
+        RequestError::NoVerb,
+    ),
+    (
+        r#"{"do":"get","kind":"Pod","name":"x","do":1}"#,
+        RequestError::NoVerb,
+    ),
+    // A verb that is not known; it is tested before the object and the key.
+    (r#"{"do":"patch"}"#, RequestError::UnknownVerb),
+    (
+        r#"{"do":"","kind":"Pod","name":"x"}"#,
+        RequestError::UnknownVerb,
+    ),
+    (
+        r#"{"do":"Get","kind":"Node","name":"X"}"#,
+        RequestError::UnknownVerb,
+    ),
+    // The object of a creation or an update.
+    (r#"{"do":"create"}"#, RequestError::Read(ReadError::NoKind)),
+    (
+        r#"{"do":"update","kind":"Pod","name":"x"}"#,
+        RequestError::Read(ReadError::NoKind),
+    ),
+    (
+        r#"{"do":"create","object":[]}"#,
+        RequestError::Read(ReadError::NoKind),
+    ),
+    (
+        r#"{"do":"create","object":{"kind":"Node","metadata":{"name":"X"}}}"#,
+        RequestError::Read(ReadError::UnknownKind),
+    ),
+    (
+        r#"{"do":"update","object":{"kind":"Pod"}}"#,
+        RequestError::Read(ReadError::BadName),
+    ),
+    (
+        r#"{"do":"update","object":{"kind":"Pod","metadata":{"name":"x","uid":1}}}"#,
+        RequestError::Read(ReadError::BadMeta),
+    ),
+    // The key of a reading.
+    (r#"{"do":"get"}"#, RequestError::Read(ReadError::NoKind)),
+    (
+        r#"{"do":"get","object":{"kind":"Pod","metadata":{"name":"x"}}}"#,
+        RequestError::Read(ReadError::NoKind),
+    ),
+    (
+        r#"{"do":"get","kind":"Node","name":"x"}"#,
+        RequestError::Read(ReadError::UnknownKind),
+    ),
+    (
+        r#"{"do":"get","kind":"Node","name":"X"}"#,
+        RequestError::Read(ReadError::UnknownKind),
+    ),
+    (
+        r#"{"do":"get","kind":"Pod","name":"X"}"#,
+        RequestError::Read(ReadError::BadName),
+    ),
+    (
+        r#"{"do":"get","kind":"Pod"}"#,
+        RequestError::Read(ReadError::BadName),
+    ),
+    (
+        r#"{"do":"get","kind":"Pod","name":"x","namespace":"a.b"}"#,
+        RequestError::Read(ReadError::BadName),
+    ),
+    (
+        r#"{"do":"get","kind":"StatefulSet","name":"a.b"}"#,
+        RequestError::Read(ReadError::BadName),
+    ),
+];
+
+#[test]
+fn lines_that_are_no_request(rt: HostRuntime) {
+    for (line, expected) in REFUSED.iter() {
+        match read_request(rt.alloc(), line.as_bytes()) {
+            Ok(_) => panic!(rt; "a request: {line}"),
+            Err(error) => assert_eq!(rt; error, *expected, "of {line}"),
+        }
+    }
+}
+
+#[test]
+fn lines_that_are_too_long(rt: HostRuntime) -> Result<(), Fail> {
+    let get = r#"{"do":"get","kind":"Pod","name":"x"}"#;
+    assert_eq!(rt; get.len(), 36);
+    let mut line = " ".repeat(rt.alloc(), 1_048_540)?;
+    line.push_str(get)?;
+    assert!(rt; read_request(rt.alloc(), line.as_bytes()).is_ok());
+    line.push_str(" ")?;
+    let refused = read_request(rt.alloc(), line.as_bytes());
+    assert!(rt; refused.is_err_and(|error| error == RequestError::Read(ReadError::TooLong)));
+    Ok(())
+}
+
+#[test]
+fn lines_that_are_requests(rt: HostRuntime) -> Result<(), Fail> {
+    let line =
+        br#"{"do":"get","namespace":"n","kind":"ControllerRevision","name":"a.b","other":[1]}"#;
+    match read_request(rt.alloc(), line)? {
+        Request::Get(key) => {
+            assert_eq!(rt; key.kind, Kind::ControllerRevision);
+            assert_eq!(rt; key.namespace.as_str(), "n");
+            assert_eq!(rt; key.name.as_str(), "a.b");
+        }
+        _ => panic!(rt; "no get"),
+    }
+    match read_request(
+        rt.alloc(),
+        br#"{"object":{"kind":"Pod","metadata":{"name":"x"}},"do":"create"}"#,
+    )? {
+        Request::Create(draft) => assert_eq!(rt; draft.object.key.namespace.as_str(), "default"),
+        _ => panic!(rt; "no create"),
+    }
+    match read_request(
+        rt.alloc(),
+        br#"{"do":"update","object":{"kind":"Pod","metadata":{"name":"x"}}}"#,
+    )? {
+        Request::Update(draft) => assert_eq!(rt; draft.object.key.name.as_str(), "x"),
+        _ => panic!(rt; "no update"),
+    }
+    Ok(())
+}
+
+/// The names of refusals.
+static NAMES: [(RequestError, &str); 9] = [
+    (RequestError::NoVerb, "NoVerb"),
+    (RequestError::UnknownVerb, "UnknownVerb"),
+    (RequestError::Read(ReadError::NotJson), "NotJson"),
+    (RequestError::Read(ReadError::NotWhole), "NotWhole"),
+    (RequestError::Read(ReadError::NoKind), "NoKind"),
+    (RequestError::Read(ReadError::UnknownKind), "UnknownKind"),
+    (RequestError::Read(ReadError::BadName), "BadName"),
+    (RequestError::Read(ReadError::BadMeta), "BadMeta"),
+    (RequestError::Read(ReadError::TooLong), "TooLong"),
+];
+
+/// The codes and the names of reasons.
+static REASONS: [(Reason, u16, &str); 5] = [
+    (Reason::NotFound, 404, "NotFound"),
+    (Reason::AlreadyExists, 409, "AlreadyExists"),
+    (Reason::Conflict, 409, "Conflict"),
+    (Reason::Invalid, 422, "Invalid"),
+    (Reason::StoreFull, 507, "StoreFull"),
+];
+
+#[test]
+fn refusals_and_reasons_have_names(rt: HostRuntime) {
+    for (error, name) in NAMES.iter() {
+        assert_eq!(rt; error.name(), *name);
+    }
+    for (reason, code, name) in REASONS.iter() {
+        assert_eq!(rt; reason.code(), *code);
+        assert_eq!(rt; reason.name(), *name);
+    }
+}
+
+/// Capacities, and whether a store may have them.
+static CAPACITIES: [(u64, bool); 5] = [
+    (0, false),
+    (1, true),
+    (1_048_576, true),
+    (1_048_577, false),
+    (u64::MAX, false),
+];
+
+#[test]
+fn capacities_have_limits(rt: HostRuntime) {
+    for (capacity, expected) in CAPACITIES.iter() {
+        match Plain::new(rt.alloc(), *capacity) {
+            Ok(_) => assert!(rt; *expected, "{capacity}"),
+            Err(PlainError::BadCapacity) => assert!(rt; !*expected, "{capacity}"),
+        }
+    }
+}
+
+/// What a reply comes to: its name, or the reason of a refusal.
+fn outcome(reply: &Reply) -> &'static str {
+    match reply {
+        Reply::Created(_) => "Created",
+        Reply::Found(_) => "Found",
+        Reply::Updated(_) => "Updated",
+        Reply::Refused(reason) => reason.name(),
+    }
+}
+
+fn object_in(reply: &Reply) -> Option<&Object> {
+    match reply {
+        Reply::Created(object) | Reply::Found(object) | Reply::Updated(object) => Some(object),
+        Reply::Refused(_) => None,
+    }
+}
+
+/// The value of an object's label `a`, or an empty text where there is none.
+fn label(object: &Object) -> &str {
+    label_in(object).unwrap_or("")
+}
+
+fn label_in(object: &Object) -> Option<&str> {
+    let metadata = object.body.as_map()?.get("metadata")?.as_map()?;
+    metadata.get("labels")?.as_map()?.get("a")?.as_text()
+}
+
+/// Takes a line, and asserts what the reply comes to: its name, and the object's resource version, UID and label
+/// (none of them in a refusal).
+fn assert_takes(
+    rt: &impl Abort,
+    alloc: Global,
+    plain: &mut Plain,
+    line: &str,
+    expected: (&str, u64, u64, &str),
+) -> Result<(), Fail> {
+    let reply = plain.take(read_request(alloc, line.as_bytes())?)?;
+    assert_eq!(rt; outcome(&reply), expected.0, "of {line}");
+    let (revision, uid, label) = match object_in(&reply) {
+        Some(object) => {
+            assert_eq!(rt; object.meta.generation, 1, "of {line}");
+            (object.meta.revision, object.meta.uid, label(object))
+        }
+        None => (0, 0, ""),
+    };
+    assert_eq!(rt; revision, expected.1, "of {line}");
+    assert_eq!(rt; uid, expected.2, "of {line}");
+    assert_eq!(rt; label, expected.3, "of {line}");
+    Ok(())
+}
+
+const CREATE: &str = r#"{"do":"create","object":{"kind":"Pod","metadata":{"name":"web-0"}}}"#;
+
+const GET: &str = r#"{"do":"get","kind":"Pod","name":"web-0"}"#;
+
+const UPDATE: &str =
+    r#"{"do":"update","object":{"kind":"Pod","metadata":{"labels":{"a":"b"},"name":"web-0","resourceVersion":"1"}}}"#;
+
+const CREATE_OTHER: &str = r#"{"do":"create","object":{"kind":"Pod","metadata":{"name":"y"}}}"#;
+
+/// Lines to a new store of much room, with the name of each reply, and the resource version, the number of the UID and
+/// the label of its object (0, 0 and nothing in a refusal).
+static ROWS: [(&str, (&str, u64, u64, &str)); 21] = [
+    (GET, ("NotFound", 0, 0, "")),
+    (UPDATE, ("NotFound", 0, 0, "")),
+    (CREATE, ("Created", 1, 1, "")),
+    (CREATE, ("AlreadyExists", 0, 0, "")),
+    (GET, ("Found", 1, 1, "")),
+    (UPDATE, ("Updated", 2, 1, "b")),
+    (GET, ("Found", 2, 1, "b")),
+    // The version that it names is no longer current.
+    (UPDATE, ("Conflict", 0, 0, "")),
+    // A version that is given is refused before the name is looked up.
+    (
+        r#"{"do":"create","object":{"kind":"Pod","metadata":{"name":"web-0","resourceVersion":"2"}}}"#,
+        ("Invalid", 0, 0, ""),
+    ),
+    (
+        r#"{"do":"create","object":{"kind":"Pod","metadata":{"name":"web-1","resourceVersion":"x"}}}"#,
+        ("Invalid", 0, 0, ""),
+    ),
+    // Versions and UIDs are compared as texts.
+    (
+        r#"{"do":"update","object":{"kind":"Pod","metadata":{"name":"web-0","resourceVersion":"02"}}}"#,
+        ("Conflict", 0, 0, ""),
+    ),
+    (
+        r#"{"do":"update","object":{"kind":"Pod","metadata":{"name":"web-0","uid":"00000000-0000-4000-8000-000000000002"}}}"#,
+        ("Conflict", 0, 0, ""),
+    ),
+    (
+        r#"{"do":"update","object":{"kind":"Pod","metadata":{"name":"web-0","resourceVersion":"2","uid":"1"}}}"#,
+        ("Conflict", 0, 0, ""),
+    ),
+    // Nothing that was refused has changed anything.
+    (GET, ("Found", 2, 1, "b")),
+    (
+        r#"{"do":"update","object":{"kind":"Pod","metadata":{"labels":{"a":"c"},"name":"web-0","resourceVersion":"2","uid":"00000000-0000-4000-8000-000000000001","generation":7}}}"#,
+        ("Updated", 3, 1, "c"),
+    ),
+    // With no version and no UID an update is unconditional, and an empty text is none.
+    (
+        r#"{"do":"update","object":{"kind":"Pod","metadata":{"name":"web-0","resourceVersion":"","uid":null}}}"#,
+        ("Updated", 4, 1, ""),
+    ),
+    // Other keys: by namespace, by kind, by name. A UID that is handed in does not count.
+    (
+        r#"{"do":"get","kind":"Pod","name":"web-0","namespace":"other"}"#,
+        ("NotFound", 0, 0, ""),
+    ),
+    (
+        r#"{"do":"get","kind":"StatefulSet","name":"web-0"}"#,
+        ("NotFound", 0, 0, ""),
+    ),
+    (
+        r#"{"do":"create","object":{"kind":"Pod","metadata":{"name":"web-0","namespace":"other","uid":"x"}}}"#,
+        ("Created", 5, 5, ""),
+    ),
+    (
+        r#"{"do":"get","kind":"Pod","name":"web-0","namespace":"other"}"#,
+        ("Found", 5, 5, ""),
+    ),
+    (
+        r#"{"do":"get","kind":"Pod","name":"web-0","namespace":"default"}"#,
+        ("Found", 4, 1, ""),
+    ),
+];
+
+#[test]
+fn requests_are_taken_in_order(rt: HostRuntime) -> Result<(), Fail> {
+    let mut plain = Plain::new(rt.alloc(), 1_048_576)?;
+    for (line, expected) in ROWS.iter() {
+        assert_takes(&rt, rt.alloc(), &mut plain, line, *expected)?;
+    }
+    Ok(())
+}
+
+/// Lines to a new store of one revision.
+static ROWS_OF_ONE: [(&str, (&str, u64, u64, &str)); 7] = [
+    (CREATE, ("Created", 1, 1, "")),
+    // A request that would be refused anyway has its own reason.
+    (CREATE, ("AlreadyExists", 0, 0, "")),
+    (CREATE_OTHER, ("StoreFull", 0, 0, "")),
+    (UPDATE, ("StoreFull", 0, 0, "")),
+    (GET, ("Found", 1, 1, "")),
+    (
+        r#"{"do":"get","kind":"Pod","name":"y"}"#,
+        ("NotFound", 0, 0, ""),
+    ),
+    (
+        r#"{"do":"update","object":{"kind":"Pod","metadata":{"name":"web-0","resourceVersion":"2"}}}"#,
+        ("Conflict", 0, 0, ""),
+    ),
+];
+
+#[test]
+fn a_store_is_full_at_its_capacity(rt: HostRuntime) -> Result<(), Fail> {
+    let mut plain = Plain::new(rt.alloc(), 1)?;
+    for (line, expected) in ROWS_OF_ONE.iter() {
+        assert_takes(&rt, rt.alloc(), &mut plain, line, *expected)?;
+    }
+    Ok(())
+}
