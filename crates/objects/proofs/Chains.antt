@@ -1,5 +1,5 @@
 -- Steps of reading, one after another.
-use Rattle.std.proofs.Common.{◌≡◌, Bool, true, false, Result, Ok, Err, Option, Some, None, refl}
+use Rattle.std.proofs.Common.{◌≡◌, Result, Ok, refl}
 use Rattle.objects.specs.declared.fault.ReadError.{ReadError}
 use Rattle.objects.specs.declared.fault.ReadError.TheVariants as errors
 use Rattle.objects.specs.Steps.{◌>>=◌, Fails}

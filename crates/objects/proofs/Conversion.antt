@@ -1,5 +1,5 @@
 -- Values that are read in turn, and refused where a number is not whole.
-use Rattle.std.proofs.Common.{◌≡◌, ℕ, List, [], ◌∷◌, ◌++◌, Bool, true, false, not, ◌||◌, Result, Ok, Err, map, refl, sym, ap, ◌∙◌}
+use Rattle.std.proofs.Common.{◌≡◌, ℕ, List, [], ◌∷◌, ◌++◌, Bool, true, false, not, ◌||◌, Ok, map, refl, sym, ap, ◌∙◌}
 use Rattle.serde_json.specs.Data.{Data, Items, no_items, item, Members, no_members, member}
 use Rattle.serde_json.specs.Written.{has_float, items_have_float, members_have_float}
 use Rattle.serde_json.specs.View.{view, items_view, members_view}
@@ -13,7 +13,7 @@ use Rattle.objects.specs.declared.fault.ReadError.TheVariants as errors
 use Rattle.objects.specs.declared.tree.Tree.{Tree}
 use Rattle.objects.specs.Steps.{Fails, guarded}
 use Rattle.objects.specs.Reading.{whole_value}
-use Rattle.objects.specs.Tree.{data_of, items_of, members_of, ComesBefore, AreAscending}
+use Rattle.objects.specs.Tree.{data_of, items_of, members_of, AreAscending}
 
 -- these items, and then those
 abbrev pub join_items : Items → Items → Items

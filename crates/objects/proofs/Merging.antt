@@ -1,5 +1,5 @@
 -- Members that are put among others, and the tokens that are written for them in order.
-use Rattle.std.proofs.Common.{◌≡◌, ◌≢◌, ℕ, zero, suc, ◌+◌, ◌<◌, List, [], ◌∷◌, ◌++◌, length, get_or, take, drop, Bool, true, false, ◌||◌, Option, Some, None, refl, sym, ap, ◌∙◌, subst, arith, append_assoc, append-nil, bytes_eq}
+use Rattle.std.proofs.Common.{◌≡◌, ◌≢◌, ℕ, zero, suc, ◌+◌, ◌<◌, List, [], ◌∷◌, ◌++◌, length, get_or, take, drop, Bool, true, false, ◌||◌, Option, Some, None, refl, sym, ap, ◌∙◌, subst, append_assoc, append-nil}
 use Rattle.std.proofs.lemmas.List.{drop_more, take_more}
 use Rattle.std.proofs.lemmas.Slice.Eq.{bytes_eq-Decides}
 use Rattle.std.proofs.lemmas.Map.Text.{is_eq-slice_cmp}
@@ -9,16 +9,15 @@ use Rattle.std.specs.declared.cmp.Ordering.TheVariants.{Less, Equal, Greater}
 use Rattle.std.specs.Cmp.Lexicographic.{slice_cmp, nat_list_cmp_total}
 use Rattle.json.specs.Token.{Token, key}
 use Rattle.json.specs.Tree.{json_tokens, members_tokens}
-use Rattle.serde_json.specs.Data.{Data, object, Members, no_members, member, put}
-use Rattle.serde_json.specs.Find.{get_member}
+use Rattle.serde_json.specs.Data.{Data, Members, no_members, member, put}
 use Rattle.serde_json.specs.Written.{outline, members_outline}
 use Rattle.objects.specs.declared.tree.Tree.{Tree}
-use Rattle.objects.specs.Tree.{data_of, members_of, ComesBefore, AreAscending}
+use Rattle.objects.specs.Tree.{data_of, members_of, ComesBefore}
 use Rattle.objects.specs.Object.{is_held, has_held}
 use Rattle.objects.specs.Text.{put_some}
 use Rattle.objects.specs.Places.{IsAbove}
 use Rattle.objects.specs.Proper.{IsProper, AreProperMembers}
-use Rattle.objects.specs.Merged.{puts, IsBelowAll, entry_tokens, some_tokens, StopsAt, WritesFront, rest_tokens, WritesStep}
+use Rattle.objects.specs.Merged.{puts, IsBelowAll, entry_tokens, some_tokens, StopsAt, WritesFront, WritesStep}
 use Rattle.objects.proofs.Conversion.{join_members}
 use Rattle.objects.proofs.EntryPlaces.{before_put}
 

@@ -1,7 +1,6 @@
 -- Texts of numbers.
-use Rattle.std.proofs.Common.{◌≡◌, ℕ, zero, suc, ◌+◌, ◌*◌, ◌^◌, ◌<◌, ◌≤◌, List, [], ◌∷◌, ◌++◌, length, get_or, drop, Bool, true, false, ◌&&◌, nat_lt, bytes_eq, Result, Ok, Err, Some, None, refl, sym, ap, ◌∙◌, subst, arith, cond, length-append}
+use Rattle.std.proofs.Common.{◌≡◌, ℕ, ◌^◌, ◌<◌, List, [], ◌∷◌, ◌++◌, length, get_or, drop, Bool, true, false, ◌&&◌, nat_lt, bytes_eq, Result, Ok, Err, Some, None, refl, sym, ap, ◌∙◌, arith, cond}
 use Rattle.std.specs.Result.{OkIff, result_unwrap_or}
-use Rattle.std.specs.Int.{w64, to_be_bytes}
 use Rattle.std.specs.List.{list_all}
 use Rattle.std.specs.Str.{all_ascii_digits, IsAscii, IsUtf8}
 use Rattle.std.proofs.lemmas.Str.Ascii.{IsAscii-nil, IsAscii-cons}

@@ -1,6 +1,6 @@
 -- An object's tokens: its metadata with the held members, among its other members.
-use Rattle.std.proofs.Common.{◌≡◌, ◌≢◌, ℕ, zero, suc, List, [], ◌∷◌, ◌++◌, length, take, drop, Bool, true, false, Option, Some, None, Result, Ok, Err, codes, decimal, refl, sym, ap, ◌∙◌, subst, arith, append_assoc, bytes_eq}
-use Rattle.std.specs.Prelude.{OnOk, unwrap_or, option_map}
+use Rattle.std.proofs.Common.{◌≡◌, ◌≢◌, ℕ, zero, suc, List, [], ◌∷◌, ◌++◌, length, take, drop, Option, Some, None, Result, Ok, Err, codes, decimal, refl, sym, ap, ◌∙◌, subst, arith, append_assoc}
+use Rattle.std.specs.Prelude.{OnOk, option_map}
 use Rattle.std.proofs.lemmas.Slice.Eq.{bytes_eq-Decides}
 use Rattle.std.proofs.lemmas.Map.Text.{is_eq-slice_cmp}
 use Rattle.std.specs.Ordering.{nat_cmp, is_eq}
@@ -9,7 +9,7 @@ use Rattle.std.specs.declared.cmp.Ordering.TheVariants.{Less, Equal, Greater}
 use Rattle.std.specs.Cmp.Lexicographic.{slice_cmp}
 use Rattle.json.specs.Token.{Token, key, begin_object}
 use Rattle.json.specs.Tree.{json_tokens, members_tokens}
-use Rattle.serde_json.specs.Data.{Data, number, unsigned, string, object, Members, no_members, member, put}
+use Rattle.serde_json.specs.Data.{Data, number, unsigned, string, object, Members, member, put}
 use Rattle.serde_json.specs.Find.{get_member}
 use Rattle.serde_json.specs.Written.{outline, members_outline}
 use Rattle.objects.specs.declared.kind.Kind.{Kind}
@@ -17,11 +17,11 @@ use Rattle.objects.specs.declared.object.Object.{Object}
 use Rattle.objects.specs.declared.tree.Tree.{Tree}
 use Rattle.objects.specs.declared.tree.Tree.TheVariants as tree
 use Rattle.objects.specs.Tree.{data_of, members_of, AreAscending}
-use Rattle.objects.specs.Object.{has_held, IsBody}
+use Rattle.objects.specs.Object.{IsBody}
 use Rattle.objects.specs.Places.{IsAbove}
 use Rattle.objects.specs.Text.{printed, whole_metadata, unless_zero}
 use Rattle.objects.specs.Uid.{uid_text}
-use Rattle.objects.specs.Merged.{puts, entry_tokens, StopsAt, WritesFront, rest_tokens, WritesStep}
+use Rattle.objects.specs.Merged.{puts, entry_tokens, StopsAt, WritesFront, WritesStep}
 use Rattle.objects.proofs.Conversion.{join_members}
 use Rattle.objects.proofs.EntryPlaces.{none_before}
 use Rattle.objects.proofs.Merging.{put_past, tokens_join, front_of, members_of-split}

@@ -1,5 +1,5 @@
 -- How the values of lists and maps are told apart.
-use Rattle.std.specs.Prelude.{◌≡◌, ℕ, ℤ, List, Bool, Float, refl, ◌⊎◌}
+use Rattle.std.specs.Prelude.{◌≡◌, ℕ, ℤ, List, Float, refl, ◌⊎◌}
 use Rattle.std.proofs.Common.{ap, arith, inl, inr}
 use Rattle.std.specs.Coded.{Coded, coded_ℕ, coded_ℤ, coded_bool, coded_list, coded⊎, code_by}
 use base.Stored.{Gv, gnil, gnum, gcons, coded_float}

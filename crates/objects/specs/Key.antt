@@ -1,6 +1,6 @@
 -- What names an object: its kind, its namespace and its name.
-use Rattle.std.specs.Prelude.{◌≡◌, ℕ, suc, zero, Bool, ◌&&◌, ◌==◌, List, refl, IsTrue, if◌then◌else◌}
-use Rattle.std.specs.Ordering.{nat_cmp, then_cmp, on, eq_by_cmp}
+use Rattle.std.specs.Prelude.{◌≡◌, ℕ, Bool, ◌&&◌, ◌==◌, List, refl, if◌then◌else◌}
+use Rattle.std.specs.Ordering.{nat_cmp, then_cmp, on}
 use Rattle.std.specs.Cmp.Lexicographic.{slice_cmp}
 use Rattle.std.specs.declared.cmp.Ordering.{Ordering}
 use Rattle.std.specs.Coded.{Coded, code_by, coded×, coded_ℕ, coded_list}

@@ -1,5 +1,5 @@
 -- What the store knows of an object (Kubernetes `ObjectMeta`: uid, resourceVersion, generation, deletionTimestamp).
-use Rattle.std.specs.Prelude.{◌≡◌, ℕ, ◌^◌, ◌<◌, List, Option, refl}
+use Rattle.std.specs.Prelude.{ℕ, ◌^◌, ◌<◌, List, Option, refl}
 use Rattle.std.specs.Coded.{Coded, code_by, coded×, coded_ℕ, coded_list, coded_option}
 
 -- 0 stands for none

@@ -1,6 +1,6 @@
 -- Values that read back as they are printed: keys ascend, and each number is read from its digits again.
-use Rattle.std.specs.Prelude.{◌≡◌, ℕ, Some, ⊤}
-use Rattle.serde_json.specs.Data.{Num, Data, null, boolean, number, string, array, object, Items, no_items, item, Members, no_members, member}
+use Rattle.std.specs.Prelude.{◌≡◌, Some, ⊤}
+use Rattle.serde_json.specs.Data.{Data, null, boolean, number, string, array, object, Items, no_items, item, Members, no_members, member}
 use Rattle.serde_json.specs.Read.{number_of}
 use Rattle.serde_json.specs.Written.{number_text}
 use Rattle.objects.specs.Tree.{AreAscending}

@@ -1,11 +1,11 @@
 -- The reading of an object (RFC 8259 for the text; Kubernetes API conventions for `kind`, `apiVersion` and `metadata`).
 -- The tests are made in this order: TooLong, NotJson, NotWhole, NoKind, UnknownKind, BadName, BadMeta.
-use Rattle.std.specs.Prelude.{ℕ, ◌^◌, Bool, true, not, nat_lt, List, [], length, codes, Option, Some, None, option_map, option_and_then, unwrap_or, Result, Ok, Err, if◌then◌else◌}
+use Rattle.std.specs.Prelude.{ℕ, ◌^◌, not, nat_lt, List, [], length, codes, Option, Some, None, option_map, option_and_then, unwrap_or, Result, Ok, Err, if◌then◌else◌}
 use Rattle.std.specs.Str.{is_utf8}
 use Rattle.serde_json.specs.Data.{Data, null, boolean, number, string, array, object, Members, put}
 use Rattle.serde_json.specs.Read.{read}
 use Rattle.serde_json.specs.Written.{has_float}
-use Rattle.serde_json.specs.Find.{get_member, as_object, as_str, as_number, as_u64}
+use Rattle.serde_json.specs.Find.{get_member, as_object, as_str, as_u64}
 use Rattle.objects.specs.declared.kind.Kind.{Kind}
 use Rattle.objects.specs.declared.fault.ReadError.{ReadError}
 use Rattle.objects.specs.declared.fault.ReadError.TheVariants.{NotJson, NotWhole, NoKind, UnknownKind, BadName, BadMeta, TooLong}

@@ -1,7 +1,7 @@
 -- The text of an object: compact JSON (RFC 8259) with keys in byte order, the held members back in `metadata`.
 use Rattle.std.specs.Prelude.{ℕ, ◌==◌, List, codes, decimal, Option, Some, None, option_map, if◌then◌else◌, unwrap_or}
 use Rattle.serde_json.specs.Data.{Data, number, unsigned, string, object, Members, no_members, put}
-use Rattle.serde_json.specs.Find.{as_object, get_member}
+use Rattle.serde_json.specs.Find.{as_object}
 use Rattle.serde_json.specs.Written.{compact_text}
 use Rattle.objects.specs.declared.object.Object.{Object}
 use Rattle.objects.specs.Object.{object_at}

@@ -1,5 +1,5 @@
 use Rattle.std.proofs.Common.{◌≡◌, codes, subst}
-use Rattle.serde_json.specs.Data.{Data, object, put}
+use Rattle.serde_json.specs.Data.{object, put}
 use Rattle.objects.specs.Tree.{data_of}
 use Rattle.objects.specs.Object.{IsBody, without_held}
 use Rattle.objects.proofs.Bodies.{body_said}

@@ -1,4 +1,4 @@
-use Rattle.std.proofs.Common.{subst, sym, ◌∙◌}
+use Rattle.std.proofs.Common.{subst, sym}
 use Rattle.objects.specs.Tree.{AreAscending, members_of}
 use Rattle.objects.proofs.EntryPlaces.{ascending_without}
 use Rattle.objects.proofs.draft.stripped.Goals as goal

@@ -4,8 +4,7 @@ use Rattle.json.specs.Token.{Token}
 use Rattle.json.specs.Lex.{tokens}
 use Rattle.json.specs.Print.{print}
 use Rattle.json.specs.Tree.{json_tokens}
-use Rattle.serde_json.specs.Data.{Data}
-use Rattle.serde_json.specs.Written.{outline, compact_text}
+use Rattle.serde_json.specs.Written.{outline}
 use Rattle.serde_json.proofs.Texts.{print-outline}
 use Rattle.objects.specs.Text.{printed}
 use Rattle.objects.proofs.ReadsAgain.{reads_again}

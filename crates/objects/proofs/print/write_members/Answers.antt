@@ -2,7 +2,6 @@ use Rattle.std.proofs.Common.{◌≡◌, ◌++◌, false, codes, sym, ap, ◌∙
 use Rattle.json.specs.Tree.{members_tokens}
 use Rattle.serde_json.specs.Data.{object}
 use Rattle.serde_json.specs.Written.{members_outline}
-use Rattle.objects.specs.Tree.{members_of}
 use Rattle.objects.specs.Object.{has_held}
 use Rattle.objects.specs.Text.{whole_metadata}
 use Rattle.objects.proofs.WholeObjects.{on_ok, front_first, not_empty, first_value, first_same, is_map, same_members, members_written}

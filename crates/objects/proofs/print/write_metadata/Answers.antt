@@ -1,4 +1,4 @@
-use Rattle.std.proofs.Common.{◌≡◌, ◌++◌, sym, ap, ◌∙◌, Some, decimal}
+use Rattle.std.proofs.Common.{◌++◌, ap, ◌∙◌, decimal}
 use Rattle.std.specs.Prelude.{option_map}
 use Rattle.json.specs.Tree.{members_tokens}
 use Rattle.serde_json.specs.Data.{number, unsigned, string}
@@ -7,7 +7,7 @@ use Rattle.objects.specs.Meta.{MetaParts}
 use Rattle.objects.specs.Uid.{uid_text}
 use Rattle.serde_json.specs.Written.{members_outline}
 use Rattle.objects.specs.Tree.{members_of}
-use Rattle.objects.specs.Text.{whole_metadata, unless_zero}
+use Rattle.objects.specs.Text.{unless_zero}
 use Rattle.objects.proofs.WholeObjects.{on_ok, steps_written, held_is}
 use Rattle.objects.proofs.print.write_metadata.Goals as goal
 

@@ -1,4 +1,4 @@
-use Rattle.std.proofs.Common.{arith, ◌∙◌}
+use Rattle.std.proofs.Common.{◌∙◌}
 use Rattle.objects.proofs.Numerals.{version_by}
 use Rattle.objects.proofs.uid.version_number.Goals as goal
 

@@ -1,6 +1,5 @@
 use Rattle.std.proofs.Common.{sym, ap, ◌∙◌, subst, arith}
 use Rattle.serde_json.specs.Find.{get_member}
-use Rattle.objects.specs.Tree.{members_of, AreAscending}
 use Rattle.objects.specs.Places.{IsAt, IsGap}
 use Rattle.objects.proofs.EntryPlaces.{at_inside, at_found, gap_none}
 use Rattle.objects.proofs.tree.Members.take.Goals as goal
