@@ -28,8 +28,9 @@ PutsBefore-next old now new bytes rest later n (text, e, p) q l =
       Puts-then old now new text (take n rest) p q,
     )
 
-pub PutsBefore-kept : (old now new : Option (List ℕ)) (bytes rest : List ℕ) → PutsBefore old bytes rest now → new ≡ now → PutsPart old bytes new
-PutsBefore-kept old now new bytes rest (text, e, p) k = (text, rest, e, subst (λ o. Puts old text o) (sym k) p)
+pub PutsBefore-kept : (old now new : Option (List ℕ)) (bytes rest : List ℕ) → PutsBefore old bytes rest now → Puts now [] new → PutsPart old bytes new
+PutsBefore-kept old now new bytes rest (text, e, p) k =
+    (text, rest, e, subst (λ t. Puts old t new) (append-nil text) (Puts-then old now new text [] p k))
 
 pub PutsBefore-part : (old now : Option (List ℕ)) (bytes rest : List ℕ) → PutsBefore old bytes rest now → PutsPart old bytes now
 PutsBefore-part old now bytes rest (text, e, p) = (text, rest, e, p)

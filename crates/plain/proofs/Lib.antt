@@ -5,5 +5,4 @@ pub mod Written
 pub mod LineCuts
 pub mod Flows
 pub mod Servings
-pub mod Walks
 pub mod RunsOfLines

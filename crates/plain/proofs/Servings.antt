@@ -75,11 +75,10 @@ Serving-fault s t had left later before after then kept piece n h taken p = (
 )
 
 -- a failed read
-pub Serving-unread : (s t : Store) (had left later before after : Option (List ℕ)) (kept : List ℕ) (n : ℕ) → Serving s had left before after t kept n → later ≡ left →
-    ServesPart (λ input. answers s (lines input)) had later before after
-Serving-unread s t had left later before after kept n h same =
-    Serving-fault s t had left later before after after kept [] n h (subst (λ o. Takes left [] o) (sym same) (Takes-none left))
-    (PutsPart-none after (answers t (lines (kept ++ []))))
+pub Serving-unread : (s t : Store) (had left later before after : Option (List ℕ)) (kept : List ℕ) (n : ℕ) → Serving s had left before after t kept n →
+    Takes left [] later → ServesPart (λ input. answers s (lines input)) had later before after
+Serving-unread s t had left later before after kept n h none =
+    Serving-fault s t had left later before after after kept [] n h none (PutsPart-none after (answers t (lines (kept ++ []))))
 
 -- a fault at the last line
 pub Serving-last : {A E : Type 0} (r : Result A E) (s t : Store) (had left later before after then : Option (List ℕ)) (kept piece : List ℕ) (n : ℕ) →

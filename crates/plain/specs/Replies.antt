@@ -1,7 +1,6 @@
 -- The line of each reply: compact JSON with keys in byte order, and the HTTP status that the API would give.
 use Rattle.std.specs.Prelude.{ℕ, List, codes}
-use Rattle.serde_json.specs.Data.{Data, number, unsigned, string, object, Members, no_members, member}
-use Rattle.serde_json.specs.Written.{compact_text}
+use Rattle.serde_json.specs.Data.{Data, number, unsigned, string, object, no_members, member}
 use Rattle.objects.specs.declared.object.Object.{Object}
 use Rattle.objects.specs.declared.fault.ReadError.{ReadError}
 use Rattle.objects.specs.declared.fault.ReadError.TheVariants as read

@@ -6,7 +6,6 @@ use Rattle.serde_json.specs.Find.{as_object, as_str, get_member}
 use Rattle.objects.specs.declared.fault.ReadError.{ReadError}
 use Rattle.objects.specs.declared.fault.ReadError.TheVariants as read
 use Rattle.objects.specs.declared.object.Draft.{Draft}
-use Rattle.objects.specs.Steps.{required}
 use Rattle.objects.specs.Reading.{reading_of_data, draft_of, key_in}
 use Rattle.plain.specs.declared.request.Request.{Request}
 use Rattle.plain.specs.declared.request.Request.TheVariants.{Create, Get, Update}

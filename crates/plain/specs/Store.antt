@@ -1,11 +1,10 @@
 -- The plain store: a map from keys to objects, a counter and a capacity. It takes one whole request at a time.
-use Rattle.std.specs.Prelude.{◌≡◌, ℕ, ◌+◌, ◌==◌, ◌≤◌, Option, Some, None, refl, if◌then◌else◌}
+use Rattle.std.specs.Prelude.{ℕ, ◌+◌, ◌==◌, Option, Some, None, refl, if◌then◌else◌}
 use Rattle.std.specs.Coded.{Coded, code_by, coded×, coded_ℕ}
 use Rattle.std.specs.FinMap as map
 use Rattle.std.specs.FinMap.{FinMap}
 use Rattle.objects.specs.declared.key.Key.{Key}
 use Rattle.objects.specs.declared.object.Object.{Object}
-use Rattle.objects.specs.declared.object.Draft.{Draft}
 use Rattle.objects.specs.Key.{key_cmp, key_coded}
 use Rattle.objects.specs.Object.{object_coded}
 use Rattle.plain.specs.declared.request.Request.{Request}

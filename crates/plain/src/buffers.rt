@@ -15,6 +15,7 @@ impl BufferSink {
     /// An empty buffer with room for so many bytes.
     pub fn with_room(alloc: Global, room: usize) -> Result<BufferSink, AllocError>
         ensures empty { IfOk result (λ sink. ⟦<BufferSink as Sink>⟧.written sink ≡ Some []) }
+        ensures room { IfOk result (λ sink. room ≤ vec_capacity sink.bytes) }
     {
         Ok(BufferSink {
             bytes: Vec::with_capacity(alloc, room)?,

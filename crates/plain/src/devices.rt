@@ -1,12 +1,13 @@
-ghost use Rattle.std.specs.Prelude.{◌≡◌, ◌-◌, ◌^◌, ℕ, List, min, None};
+ghost use Rattle.std.specs.Prelude.{◌≡◌, ◌-◌, ◌^◌, ℕ, List, min};
 ghost use Rattle.std.proofs.Common.{rules};
 
 use crate::failures::Failures;
 use crate::stream::{Sink, Source};
 use std::io::{Read, Write};
 
-/// Reads from one of std's readers, of which no proof tells what it gives. An error of the reader is a failure, also an
-/// interruption, and so is any byte past the first 2^64 - 1.
+/// Reads from one of std's readers: what it has left is what std's reader tells of it, and nothing where that tells
+/// nothing, as of a file. An error of the reader is a failure, also an interruption, and so is a read past the first
+/// 2^64 - 1 bytes, which takes none.
 #[derive(Drop)]
 pub struct ReadSource<R> {
     inner: R,
@@ -15,7 +16,11 @@ pub struct ReadSource<R> {
 }
 
 impl<R: Read> ReadSource<R> {
-    pub fn new(inner: R) -> ReadSource<R> {
+    pub fn new(inner: R) -> ReadSource<R>
+        ensures left { ⟦<ReadSource<R> as Source>⟧.remaining result ≡ R.remaining inner }
+        ensures fresh { ⟦<ReadSource<R> as Source>⟧.failures result ≡ 0 }
+        ensures most { ⟦<ReadSource<R> as Source>⟧.most result ≡ 2 ^ 64 - 1 }
+    {
         ReadSource {
             inner,
             left: u64::MAX,
@@ -25,15 +30,17 @@ impl<R: Read> ReadSource<R> {
 }
 
 impl<R: Read> Source for ReadSource<R> {
-    ghost remaining = { λ _. None };
+    ghost remaining = { λ s. R.remaining s.inner };
 
     ghost failures = { λ s. s.failures.count };
 
     ghost most = { λ s. min s.left (2 ^ 64 - 1) };
 
     fn read(&mut self, room: &mut [u8]) -> Option<usize> {
-        match self.inner.read(room) {
-            Ok(count) if count as u64 <= self.left => {
+        let is_spent = self.left == 0 && !room.is_empty();
+        let most = room.len().min(self.left as usize);
+        match self.inner.read(&mut room[..most]) {
+            Ok(count) if !is_spent => {
                 self.left -= count as u64;
                 Some(count)
             }
@@ -47,8 +54,9 @@ impl<R: Read> Source for ReadSource<R> {
     ghost finite = { λ s. Prim.search rules };
 }
 
-/// Writes to one of std's writers, of which no proof tells what it holds. An error of the writer is a failure, also an
-/// interruption, and so is a write that takes none of the bytes.
+/// Writes to one of std's writers: what it holds is what std's writer tells of it, and nothing where that tells nothing,
+/// as of a file. An error of the writer is a failure, also an interruption, and so is a write that takes none of the
+/// bytes.
 #[derive(Drop)]
 pub struct WriteSink<W> {
     inner: W,
@@ -56,16 +64,17 @@ pub struct WriteSink<W> {
 }
 
 impl<W: Write> WriteSink<W> {
-    pub fn new(inner: W) -> WriteSink<W> {
-        WriteSink {
-            inner,
-            failures: Failures::none(),
-        }
+    pub fn new(inner: W) -> WriteSink<W>
+        ensures written { ⟦<WriteSink<W> as Sink>⟧.written result ≡ W.contents inner }
+        ensures fresh { ⟦<WriteSink<W> as Sink>⟧.failures result ≡ 0 }
+    {
+        let failures = Failures::none();
+        WriteSink { inner, failures }
     }
 }
 
 impl<W: Write> Sink for WriteSink<W> {
-    ghost written = { λ _. None };
+    ghost written = { λ s. W.contents s.inner };
 
     ghost failures = { λ s. s.failures.count };
 

@@ -28,4 +28,4 @@ pub use runs::{lines_are_one_run, runs_go_on};
 pub use server::{ServeFault, serve};
 pub use slices::SliceSource;
 pub use store::{MOST_REVISIONS, Plain, PlainError};
-pub use stream::{Sink, Source};
+pub use stream::{Sink, Source, write_all};

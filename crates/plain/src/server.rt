@@ -11,7 +11,7 @@ ghost use Rattle.plain.specs.declared.server.ServeFault.TheVariants.{Memory as O
 
 use crate::cutter::{Cut, answer_last, answer_piece};
 use crate::store::{Plain, PlainError};
-use crate::stream::{Sink, Source};
+use crate::stream::{Sink, Source, write_all};
 use objects::Memory;
 use std::alloc::{AllocError, Global};
 use thiserror::Error;
@@ -60,21 +60,6 @@ impl From<AllocError> for ServeFault {
     fn from(_error: AllocError) -> ServeFault {
         ServeFault::Memory
     }
-}
-
-/// Writes all of the bytes, in as many writes as it takes. After a failure some of them may be written.
-fn write_all<W: Sink>(writer: &mut W, bytes: &[u8]) -> Option<()>
-    ensures put { OnSome result (Puts (W.written writer.old) bytes.now (W.written writer.new)) }
-    ensures part { PutsPart (W.written writer.old) bytes.now (W.written writer.new) }
-    ensures well { OnSome result (W.failures writer.new ≡ W.failures writer.old) }
-    ensures failed { IfNone result (W.failures writer.old < W.failures writer.new) }
-{
-    let mut rest = bytes;
-    while !rest.is_empty() {
-        let count = writer.write(rest)?;
-        rest = &rest[count..];
-    }
-    Some(())
 }
 
 /// Answers the lines that end in the piece, and writes the replies.

@@ -1,5 +1,5 @@
 ghost use Rattle.std.specs.Prelude.{◌≡◌, ◌≤◌, ◌<◌, ◌+◌, ◌^◌, ℕ, List, [], length, take, Option, IfSome, IfNone, OnSome};
-ghost use Rattle.plain.specs.Streams.{Takes, Puts};
+ghost use Rattle.plain.specs.Streams.{Takes, Puts, PutsPart};
 
 /// Where bytes come from.
 pub trait Source {
@@ -21,7 +21,7 @@ pub trait Source {
         ensures bounded { IfSome result (λ n. n + most self.new ≤ most self.old) }
         ensures well { OnSome result (failures self.new ≡ failures self.old) }
         ensures failed { IfNone result (failures self.old < failures self.new) }
-        ensures kept { IfNone result (remaining self.new ≡ remaining self.old) }
+        ensures kept { IfNone result (Takes (remaining self.old) [] (remaining self.new)) }
         ensures worn { IfNone result (most self.new ≤ most self.old) };
 
     ghost finite: { (s : Self) → most s < 2 ^ 64 };
@@ -42,5 +42,20 @@ pub trait Sink {
         ensures put { IfSome result (λ n. Puts (written self.old) (take n bytes.now) (written self.new)) }
         ensures well { OnSome result (failures self.new ≡ failures self.old) }
         ensures failed { IfNone result (failures self.old < failures self.new) }
-        ensures kept { IfNone result (written self.new ≡ written self.old) };
+        ensures kept { IfNone result (Puts (written self.old) [] (written self.new)) };
+}
+
+/// Writes all of the bytes, in as many writes as it takes. After a failure some of them may be written.
+pub fn write_all<W: Sink>(writer: &mut W, bytes: &[u8]) -> Option<()>
+    ensures put { OnSome result (Puts (W.written writer.old) bytes.now (W.written writer.new)) }
+    ensures part { PutsPart (W.written writer.old) bytes.now (W.written writer.new) }
+    ensures well { OnSome result (W.failures writer.new ≡ W.failures writer.old) }
+    ensures failed { IfNone result (W.failures writer.old < W.failures writer.new) }
+{
+    let mut rest = bytes;
+    while !rest.is_empty() {
+        let count = writer.write(rest)?;
+        rest = &rest[count..];
+    }
+    Some(())
 }

@@ -2,7 +2,9 @@ ghost use Rattle.std.specs.Prelude.{◌≡◌, ◌-◌, ◌^◌, ℕ, List, leng
 ghost use Rattle.std.proofs.Common.{rules};
 
 use crate::failures::Failures;
-use crate::{BufferSink, ReadSource, ServeFault, SliceSource, Source, WriteSink, serve};
+use crate::{
+    BufferSink, ReadSource, ServeFault, Sink, SliceSource, Source, WriteSink, serve, write_all,
+};
 use std::test::Fail;
 
 const TOO_LONG: &[u8] = b"{\"code\":400,\"reason\":\"TooLong\"}\n";
@@ -38,6 +40,35 @@ impl Source for Torn<'_> {
     }
 
     ghost finite = { λ s. Prim.search rules };
+}
+
+/// Takes one byte at a time.
+#[derive(Drop)]
+struct Slow {
+    inner: BufferSink,
+}
+
+impl Sink for Slow {
+    ghost written = { λ s. ⟦<BufferSink as Sink>⟧.written s.inner };
+
+    ghost failures = { λ s. ⟦<BufferSink as Sink>⟧.failures s.inner };
+
+    fn write(&mut self, bytes: &[u8]) -> Option<usize> {
+        self.inner.write(&bytes[..bytes.len().min(1)])
+    }
+}
+
+#[test]
+fn bytes_are_written_until_the_writer_fails(rt: HostRuntime) -> Result<(), Fail> {
+    let mut sink = Slow {
+        inner: BufferSink::with_room(rt.alloc(), 5)?,
+    };
+    assert!(rt; write_all(&mut sink, b"abc").is_some());
+    assert_eq!(rt; sink.inner.bytes(), b"abc".as_slice());
+    assert!(rt; write_all(&mut sink, b"").is_some());
+    assert!(rt; write_all(&mut sink, b"def").is_none());
+    assert_eq!(rt; sink.inner.bytes(), b"abcde".as_slice());
+    Ok(())
 }
 
 #[test]

@@ -1,4 +1,4 @@
-use Rattle.std.proofs.Common.{◌≡◌, ◌+◌, ◌≤◌, take, ap, arith, length-take, ◌∙◌}
+use Rattle.std.proofs.Common.{◌≡◌, ◌+◌, ◌≤◌, [], take, ap, arith, length-take, ◌∙◌}
 use Rattle.plain.specs.Streams.{Takes}
 use Rattle.plain.proofs.Flows.{if_none, if_some}
 use Rattle.plain.proofs.Servings.{on_err, Serving-next, Serving-fault, Serving-unread, Serving-last}
@@ -6,8 +6,9 @@ use Rattle.plain.proofs.server.serve_store.Goals as goal
 
 pub returns-in_err-count-clause-fault : goal.returns-in_err-count-clause-fault
 returns-in_err-count-clause-fault g c =
-    let same : g.R.Source.remaining c.read.new.self ≡ g.R.Source.remaining c.reads.reader = if_none _ c.read.result c.in_err-count.ensures.ok_part c.read.ensures.kept in
-    on_err _ c.from_residual.result (Serving-unread _ _ _ _ _ _ _ _ _ c.reads.invariant.serving same)
+    let none : Takes (g.R.Source.remaining c.reads.reader) [] (g.R.Source.remaining c.read.new.self) =
+    if_none _ c.read.result c.in_err-count.ensures.ok_part c.read.ensures.kept in
+    on_err _ c.from_residual.result (Serving-unread _ _ _ _ _ _ _ _ _ c.reads.invariant.serving none)
 
 pub returns-in_err-cut-clause-fault : goal.returns-in_err-cut-clause-fault
 returns-in_err-cut-clause-fault g c =

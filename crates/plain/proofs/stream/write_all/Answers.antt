@@ -1,6 +1,6 @@
 use Rattle.std.proofs.Common.{refl, ◌∙◌}
 use Rattle.plain.proofs.Flows.{PutsBefore-next}
-use Rattle.plain.proofs.server.write_all.Goals as goal
+use Rattle.plain.proofs.stream.write_all.Goals as goal
 
 pub loop-rest-preserved : goal.loop-rest-preserved
 loop-rest-preserved g c = record {

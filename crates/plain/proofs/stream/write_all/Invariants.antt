@@ -1,6 +1,6 @@
 use Rattle.std.proofs.Common.{◌≡◌, length}
 use Rattle.plain.proofs.Flows.{PutsBefore}
-use Rattle.plain.proofs.server.write_all.Given as goal
+use Rattle.plain.proofs.stream.write_all.Given as goal
 
 abbrev pub invariant-loop-rest : goal.invariant-loop-rest
 invariant-loop-rest g l = record {
