@@ -46,3 +46,11 @@ failed app words error same kinds =
 pub parsed : (app : App) (words : List Text) → app ≡ stsctl_app
     → (is_simple_and_free app ≡ true → fault_of app words ≡ []) → faults_of words ≡ []
 parsed app words same kinds = sym (faults_of-app app words same) ∙ kinds (is_free-of app same)
+
+-- where the words have no fault, memory ran out
+pub only_memory : (error : Error) (words : List Text) → HasKind (faults_of words) error → faults_of words ≡ [] → kind_of error ≡ OutOfMemory
+only_memory error words has none =
+    elim (subst (λ k. HasKind k error) none has) [
+      | inl memory ↦ memory
+      | inr among ↦ absurd among
+    ]

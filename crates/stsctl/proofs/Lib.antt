@@ -1,3 +1,3 @@
 pub mod Asked
 pub mod Capacity
-pub mod Writing
+pub mod Serving

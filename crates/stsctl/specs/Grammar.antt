@@ -1,6 +1,9 @@
 -- What the program takes, as `clap` reads it: `serve [--capacity N]`. `clap` adds help and the version.
-use Rattle.std.specs.Prelude.{Bool, true, false, List, Some, codes}
-use Rattle.clap.specs.Words.{App, Kinds, Rule, Text, fault_of, new_app, new_rule, with_rule, with_subcommand}
+use Rattle.std.specs.Prelude.{◌≡◌, ◌<◌, ◌^◌, ℕ, Bool, true, false, List, [], Option, Some, None, codes, if◌then◌else◌}
+use Rattle.std.specs.Option.{option_map_or}
+use Rattle.std.specs.Str.{bytes_eq}
+use Rattle.std.specs.Str.Parse.{IsNumeral, digits_value, without_leading_plus}
+use Rattle.clap.specs.Words.{App, Kinds, Row, Rule, Text, fault_of, new_app, new_rule, one_of, subcommand_of, with_rule, with_subcommand}
 use Rattle.clap.specs.Simple.{new_shape}
 use Rattle.clap.specs.declared.builder.value_parser.ValueParser.TheVariants as parsers
 use Rattle.clap.specs.declared.error.kind.ErrorKind.{ErrorKind}
@@ -24,6 +27,26 @@ stsctl_app = with_subcommand
 -- why the words, the program's name first, ask for no serving: nothing where they do ask for it
 unfoldable pub faults_of : List Text → Kinds
 faults_of words = fault_of stsctl_app words
+
+-- what `serve` is given, option by option
+abbrev pub rows_of_serve : Option (Text × List Row) → List Row
+rows_of_serve entered = option_map_or (λ e. if bytes_eq e.0 (codes "serve") then e.1 else []) entered []
+
+-- the text after `--capacity`, if the words have one
+unfoldable pub capacity_text : List Text → Option Text
+capacity_text words = one_of (codes "capacity") (rows_of_serve (subcommand_of stsctl_app words))
+
+-- The store has room for as many revisions as the text says in decimal digits, or else for as many as there may be. Where
+-- the text is no such number, the words have a fault.
+abbrev pub IsCapacityBy : Option Text → ℕ → Type 0
+IsCapacityBy None capacity = capacity ≡ 1048576
+IsCapacityBy (Some text) capacity =
+    IsNumeral 10 (without_leading_plus text) → digits_value 10 (without_leading_plus text) < 2 ^ 64
+    → capacity ≡ digits_value 10 (without_leading_plus text)
+
+-- the words ask for a store with room for so many revisions
+abbrev pub AsksFor : List Text → ℕ → Type 0
+AsksFor words capacity = IsCapacityBy (capacity_text words) capacity
 
 -- the words ask for help or for the version
 abbrev pub is_request : ErrorKind → Bool

@@ -1,13 +1,17 @@
 //! The command line: what the words ask for, and the exit status that it comes to.
-ghost use Rattle.std.specs.Prelude.{◌≡◌, ◌≢◌, ◌≤◌, ◌<◌, ◌⊎◌, [], map, true, OnSome, IfNone, IfOk};
+ghost use Rattle.std.specs.Prelude.{◌≡◌, ◌≢◌, ◌≤◌, ◌<◌, ◌⊎◌, [], map, true, IfOk};
 ghost use Rattle.std.specs.List.{list_any};
 ghost use Rattle.clap.specs.Words.{FailsBy, app_of, kind_of};
-ghost use Rattle.plain.specs.Streams.{Puts};
-ghost use Rattle.stsctl.specs.Grammar.{faults_of, is_mistake, is_request, stsctl_app};
+ghost use Rattle.clap.specs.declared.error.kind.ErrorKind.TheVariants.{OutOfMemory};
+ghost use Rattle.plain.specs.Streams.{Puts, ServesPart};
+ghost use Rattle.plain.specs.Served.{served};
+ghost use Rattle.plain.specs.declared.store.TheConstants.{MOST_REVISIONS};
+ghost use Rattle.stsctl.specs.Grammar.{AsksFor, faults_of, is_mistake, is_request, stsctl_app};
+ghost use Rattle.stsctl.specs.Serving.{Serves, ServesAll, ServesSome};
 
 use clap::error::ErrorKind;
 use clap::{Arg, Command, Error, value_parser};
-use plain::{Sink, Source};
+use plain::{MOST_REVISIONS, Sink, Source, write_all};
 use std::alloc::{AllocError, Global};
 use std::convert::AsStr;
 
@@ -20,9 +24,6 @@ const FAILURE: u8 = 1;
 /// The exit status where the words ask for nothing that the program does.
 const BAD_WORDS: u8 = 2;
 
-/// The capacity of a store for which none is given: the most that there may be.
-const DEFAULT_CAPACITY: u64 = 1_048_576;
-
 /// What the program takes: `serve [--capacity N]`, and what `clap` adds for help and the version.
 fn grammar<'a>(alloc: Global) -> Result<Command<'a>, AllocError>
     ensures { IfOk result (λ c. app_of c ≡ stsctl_app) }
@@ -30,7 +31,7 @@ fn grammar<'a>(alloc: Global) -> Result<Command<'a>, AllocError>
     let capacity = Arg::new(alloc, "capacity")
         .long("capacity")
         .value_name("N")
-        .value_parser(value_parser!(u64).range(1..=1_048_576))
+        .value_parser(value_parser!(u64).range(1..=MOST_REVISIONS as i64))
         .help("How many revisions the store may draw, from 1 to 1048576 [default: 1048576]");
     let serve = Command::new(alloc, "serve")
         .about("Answers each request line of standard input with a line of standard output")
@@ -45,33 +46,25 @@ fn grammar<'a>(alloc: Global) -> Result<Command<'a>, AllocError>
 
 /// The capacity of the store that the words ask to serve. An `Err` is also a call for help or for the version.
 fn capacity_asked<S: AsStr>(alloc: Global, words: &[S]) -> Result<u64, Error>
-    ensures { FailsBy (faults_of (map S.text words.now)) result }
+    ensures faults { FailsBy (faults_of (map S.text words.now)) result }
+    ensures capacity { IfOk result (AsksFor (map S.text words.now)) }
 {
     let matches = grammar(alloc)?.try_get_matches_from(words)?;
     let given = match matches.subcommand_matches("serve") {
         Some(serve) => serve.get_one::<u64>("capacity"),
         None => None,
     };
-    Ok(given.unwrap_or(DEFAULT_CAPACITY))
-}
-
-/// Writes all of the bytes, or those that the sink takes before it fails.
-fn write_all<W: Sink>(writer: &mut W, bytes: &[u8]) -> Option<()>
-    ensures put { OnSome result (Puts (W.written writer.old) bytes.now (W.written writer.new)) }
-    ensures well { OnSome result (W.failures writer.new ≡ W.failures writer.old) }
-    ensures failed { IfNone result (W.failures writer.old < W.failures writer.new) }
-{
-    let mut rest = bytes;
-    while !rest.is_empty() {
-        let count = writer.write(rest)?;
-        rest = &rest[count..];
-    }
-    Some(())
+    Ok(given.unwrap_or(MOST_REVISIONS))
 }
 
 /// Serves the lines of the reader.
 fn served<R: Source, W: Sink>(alloc: Global, reader: &mut R, writer: &mut W, capacity: u64) -> u8
-    ensures { result < BAD_WORDS }
+    ensures status { result < BAD_WORDS }
+    ensures range { result ≡ SUCCESS → (1 ≤ capacity) × (capacity ≤ MOST_REVISIONS) }
+    ensures all { result ≡ SUCCESS → ServesAll capacity (R.remaining reader.old) (R.remaining reader.new)
+        (W.written writer.old) (W.written writer.new) }
+    ensures part { result ≢ SUCCESS → ServesPart (served capacity) (R.remaining reader.old) (R.remaining reader.new)
+        (W.written writer.old) (W.written writer.new) }
 {
     match plain::serve(alloc, reader, writer, capacity) {
         Ok(_) => SUCCESS,
@@ -112,6 +105,7 @@ fn explained<W: Sink, F: Sink>(alloc: Global, error: &Error, writer: &mut W, fau
     ensures refused { result ≡ BAD_WORDS → is_mistake (kind_of error.now) ≡ true }
     ensures quiet { result ≢ BAD_WORDS → faults.new ≡ faults.old }
     ensures untouched { result ≡ BAD_WORDS → writer.new ≡ writer.old }
+    ensures silent { kind_of error.now ≡ OutOfMemory → writer.new ≡ writer.old }
 {
     let Ok(text) = format!(in alloc; "{error}") else {
         return FAILURE;
@@ -141,6 +135,12 @@ pub(crate) fn command<S: AsStr, R: Source, W: Sink, F: Sink>(
     ensures status { result ≤ BAD_WORDS }
     ensures success { let kinds = faults_of (map S.text words.now) in
         result ≡ SUCCESS → (kinds ≡ []) ⊎ (list_any is_request kinds ≡ true) }
+    ensures served { let texts = map S.text words.now in
+        result ≡ SUCCESS → (faults_of texts ≡ []) → Serves texts (R.remaining reader.old) (R.remaining reader.new)
+        (W.written writer.old) (W.written writer.new) }
+    ensures part { let texts = map S.text words.now in
+        result ≡ FAILURE → (faults_of texts ≡ []) → ServesSome texts (R.remaining reader.old) (R.remaining reader.new)
+        (W.written writer.old) (W.written writer.new) }
     ensures refused { result ≡ BAD_WORDS → list_any is_mistake (faults_of (map S.text words.now)) ≡ true }
     ensures quiet { result ≢ BAD_WORDS → faults.new ≡ faults.old }
     ensures reads_nothing { result ≡ BAD_WORDS → reader.new ≡ reader.old }

@@ -1,0 +1,21 @@
+-- What a run of the program that was asked to serve has done, where the devices tell.
+use Rattle.std.specs.Prelude.{◌≡◌, ◌≤◌, ℕ, List, [], Option, Some}
+use Rattle.std.specs.Option.{IfSome}
+use Rattle.clap.specs.Words.{Text}
+use Rattle.plain.specs.Served.{served}
+use Rattle.plain.specs.Streams.{Puts, ServesPart}
+use Rattle.stsctl.specs.Grammar.{AsksFor}
+
+-- All of the reader's bytes were read, and what a plain store with this capacity answers to them was written.
+abbrev pub ServesAll : ℕ → Option (List ℕ) → Option (List ℕ) → Option (List ℕ) → Option (List ℕ) → Type 0
+ServesAll capacity had left before after = IfSome had (λ input. (left ≡ Some []) × Puts before (served capacity input) after)
+
+-- the same at the capacity that the words ask for
+abbrev pub Serves : List Text → Option (List ℕ) → Option (List ℕ) → Option (List ℕ) → Option (List ℕ) → Type 0
+Serves words had left before after =
+    (capacity : ℕ) × AsksFor words capacity × (1 ≤ capacity) × (capacity ≤ 1048576) × ServesAll capacity had left before after
+
+-- Some of the reader's bytes were read, and a beginning of what that store answers to them was written.
+abbrev pub ServesSome : List Text → Option (List ℕ) → Option (List ℕ) → Option (List ℕ) → Option (List ℕ) → Type 0
+ServesSome words had left before after =
+    (capacity : ℕ) × AsksFor words capacity × ServesPart (served capacity) had left before after
