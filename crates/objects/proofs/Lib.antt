@@ -15,3 +15,4 @@ pub mod PrintedObjects
 pub mod DraftAgain
 pub mod WholeTokens
 pub mod ReadsAgain
+pub mod Sameness

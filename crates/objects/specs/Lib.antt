@@ -16,3 +16,4 @@ pub mod Places
 pub mod Proper
 pub mod Merged
 pub mod Again
+pub mod Same

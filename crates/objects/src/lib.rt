@@ -14,6 +14,7 @@ mod object;
 mod places;
 mod print;
 mod read;
+mod same;
 #[cfg(test)]
 mod tests;
 mod text;

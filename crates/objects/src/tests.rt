@@ -373,3 +373,44 @@ fn parts_are_made_and_copied(rt: HostRuntime) -> Result<(), Fail> {
     assert!(rt; out.into_inner().as_slice() == expected.as_slice());
     Ok(())
 }
+
+/// Two JSON texts, and whether they are the same value.
+static PAIRS: [(&str, &str, bool); 26] = [
+    ("null", "null", true),
+    ("null", "false", false),
+    ("true", "true", true),
+    ("true", "false", false),
+    ("0", "0", true),
+    ("0", "null", false),
+    ("1", "2", false),
+    ("1", "-1", false),
+    ("-1", "-1", true),
+    ("-1", "-2", false),
+    ("18446744073709551615", "18446744073709551615", true),
+    ("-9223372036854775808", "9223372036854775808", false),
+    (r#""a""#, r#""\u0061""#, true),
+    (r#""a""#, r#""A""#, false),
+    (r#""1""#, "1", false),
+    ("[]", "[]", true),
+    ("[]", "{}", false),
+    ("[1,2]", "[1,2]", true),
+    ("[1,2]", "[2,1]", false),
+    ("[1,2]", "[1,2,3]", false),
+    ("[[],[[1]]]", "[[],[[2]]]", false),
+    ("{}", "{}", true),
+    (r#"{"a":1,"b":2}"#, r#"{"b":2,"a":1}"#, true),
+    (r#"{"a":1,"a":2}"#, r#"{"a":2}"#, true),
+    (r#"{"a":1}"#, r#"{"b":1}"#, false),
+    (r#"{"a":{"b":null}}"#, r#"{"a":{}}"#, false),
+];
+
+#[test]
+fn trees_are_compared(rt: HostRuntime) -> Result<(), Fail> {
+    for (left, right, expected) in PAIRS.iter() {
+        let left = read_tree(rt.alloc(), left.as_bytes())?;
+        let right = read_tree(rt.alloc(), right.as_bytes())?;
+        assert_eq!(rt; left.is_same(&right), *expected);
+        assert_eq!(rt; right.is_same(&left), *expected);
+    }
+    Ok(())
+}

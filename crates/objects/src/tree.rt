@@ -1,8 +1,10 @@
 ghost use Rattle.std.specs.Prelude.{◌≡◌, IfOk, option_map};
 ghost use Rattle.serde_json.specs.Find.{get_member, as_str, as_array, as_object};
 ghost use Rattle.objects.specs.Tree.{data_of, items_of, members_of, AreAscending};
+ghost use Rattle.objects.specs.Same.{same_data};
 
 use crate::places::{copied, place_of};
+use crate::same::same_trees;
 use crate::text::Text;
 use crate::whole::Whole;
 use std::alloc::{AllocError, Global};
@@ -167,6 +169,16 @@ impl Tree {
             Tree::Text(text) => Some(text.as_str()),
             _ => None,
         }
+    }
+}
+
+impl Tree {
+    /// Whether both are the same JSON value: numbers by value, maps whatever order their members came in. It takes no
+    /// memory, and as many steps as the smaller of the two has parts.
+    pub fn is_same(&self, other: &Tree) -> bool
+        ensures { result ≡ same_data (data_of self.now) (data_of other.now) }
+    {
+        same_trees(self, other)
     }
 }
 

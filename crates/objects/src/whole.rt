@@ -43,6 +43,26 @@ impl Whole {
 }
 
 impl Whole {
+    ghost use Rattle.objects.specs.Same.{same_numbers};
+
+    /// Whether both are the same number.
+    pub(crate) fn is_same(&self, other: &Whole) -> bool
+        ensures { result ≡ same_numbers (of_integer self.now) (of_integer other.now) }
+    {
+        match self.number {
+            Number::Count(count) => match other.number {
+                Number::Count(other) => count == other,
+                Number::Below(_) => false,
+            },
+            Number::Below(number) => match other.number {
+                Number::Count(_) => false,
+                Number::Below(other) => number == other,
+            },
+        }
+    }
+}
+
+impl Whole {
     ghost use Rattle.json.specs.Token.{number as number_token};
     ghost use Rattle.serde_json.specs.Read.{number_of};
     ghost use Rattle.serde_json.specs.Written.{number_text};

@@ -8,7 +8,7 @@ use Rattle.objects.specs.Text.{printed}
 use Rattle.plain.specs.declared.reply.Reason.{Reason}
 use Rattle.plain.specs.declared.reply.Reason.TheVariants.{NotFound, AlreadyExists, Conflict, Invalid, StoreFull}
 use Rattle.plain.specs.declared.reply.Reply.{Reply}
-use Rattle.plain.specs.declared.reply.Reply.TheVariants.{Created, Found, Updated, Refused}
+use Rattle.plain.specs.declared.reply.Reply.TheVariants.{Created, Found, Updated, Unchanged, Refused}
 use Rattle.plain.specs.declared.request.RequestError.{RequestError}
 use Rattle.plain.specs.declared.request.RequestError.TheVariants as errors
 
@@ -55,6 +55,7 @@ abbrev pub reply_data : Reply → Data
 reply_data (Created o) = with_object 201 o (codes "Created")
 reply_data (Found o) = with_object 200 o (codes "Found")
 reply_data (Updated o) = with_object 200 o (codes "Updated")
+reply_data (Unchanged o) = with_object 200 o (codes "Unchanged")
 reply_data (Refused reason) = with_reason (reason_code reason) (reason_name reason)
 
 -- a line that is no request

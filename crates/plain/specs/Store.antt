@@ -10,9 +10,9 @@ use Rattle.objects.specs.Object.{object_coded}
 use Rattle.plain.specs.declared.request.Request.{Request}
 use Rattle.plain.specs.declared.request.Request.TheVariants.{Create, Get, Update}
 use Rattle.plain.specs.declared.reply.Reply.{Reply}
-use Rattle.plain.specs.declared.reply.Reply.TheVariants.{Created, Found, Updated, Refused}
+use Rattle.plain.specs.declared.reply.Reply.TheVariants.{Created, Found, Updated, Unchanged, Refused}
 use Rattle.plain.specs.declared.reply.Reason.TheVariants.{NotFound, StoreFull}
-use Rattle.plain.specs.Verdict.{Change, creates, updates, Verdict, refuse, write, on_create, on_update, stamp}
+use Rattle.plain.specs.Verdict.{Change, creates, updates, Verdict, refuse, same, write, on_create, on_update, stamp}
 
 pub record Store : Type 0 where
   pub objects : FinMap key_cmp Object
@@ -37,9 +37,10 @@ abbrev pub found : Option Object → Reply
 found None = Refused NotFound
 found (Some o) = Found o
 
--- A write draws the next number, unless all are drawn. A refusal changes nothing.
+-- A write draws the next number, unless all are drawn. Nothing else changes the store.
 abbrev pub carried_out : Store → Key → Verdict → Store × Reply
 carried_out s k (refuse reason) = (s, Refused reason)
+carried_out s k (same o) = (s, Unchanged o)
 carried_out s k (write c) =
     let n = s.counter + 1 in
     if s.counter == s.capacity then (s, Refused StoreFull)

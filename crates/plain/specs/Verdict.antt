@@ -4,6 +4,7 @@ use Rattle.std.specs.Prelude.{ℕ, Bool, false, not, ◌||◌, List, bytes_eq, d
 use Rattle.std.specs.Option.{option_map_or}
 use Rattle.objects.specs.declared.object.Object.{Object}
 use Rattle.objects.specs.declared.object.Draft.{Draft}
+use Rattle.objects.specs.Same.{same_data}
 use Rattle.objects.specs.Uid.{uid_text}
 use Rattle.plain.specs.declared.reply.Reason.{Reason}
 use Rattle.plain.specs.declared.reply.Reason.TheVariants.{NotFound, AlreadyExists, Conflict, Invalid}
@@ -15,6 +16,7 @@ pub data Change : Type 0 where
 
 pub data Verdict : Type 0 where
   refuse : Reason → Verdict
+  same : Object → Verdict
   write : Change → Verdict
 
 -- a text was given, and it is another one
@@ -40,9 +42,13 @@ updated o d = record {
   body = d.object.body;
 }
 
+-- An update that would leave the object as it is writes nothing (an unchanged object keeps its resource version).
+abbrev pub unless_same : Object → Draft → Verdict
+unless_same o d = if same_data o.body d.object.body then same o else write (updates (updated o d))
+
 abbrev pub on_update : Draft → Option Object → Verdict
 on_update d None = refuse NotFound
-on_update d (Some o) = if conflicts d o then refuse Conflict else write (updates (updated o d))
+on_update d (Some o) = if conflicts d o then refuse Conflict else unless_same o d
 
 -- The object of a change that draws the number n: a creation has n as its UID too, generation 1 and no deletion.
 abbrev pub stamp : Change → ℕ → Object

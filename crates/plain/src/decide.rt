@@ -1,6 +1,7 @@
 ghost use Rattle.std.specs.Prelude.{◌≡◌, Some, decimal, ◌<◌, ◌^◌};
 ghost use Rattle.std.specs.Option.{option_copied, option_map_or};
-ghost use Rattle.plain.specs.Verdict.{refuse, write, creates, updates, updated, conflicts, differs, on_create, on_update};
+ghost use Rattle.plain.specs.Verdict.{refuse, write, creates, unless_same, conflicts, differs, on_create, on_update};
+ghost use Rattle.objects.specs.Same.{same_data};
 ghost use Rattle.objects.specs.Uid.{uid_text};
 
 use crate::reply::Reason;
@@ -21,13 +22,20 @@ pub(crate) fn refused_creation(draft: &Draft, current: Option<&Object>) -> Optio
 
 /// Why an update is refused, given the object that now has its key.
 pub(crate) fn refused_update(draft: &Draft, current: &Object) -> Option<Reason>
-    ensures { on_update draft.now (Some current.now) ≡ option_map_or refuse result (write (updates (updated current.now draft.now))) }
+    ensures { on_update draft.now (Some current.now) ≡ option_map_or refuse result (unless_same current.now draft.now) }
 {
     if conflicts(draft, current) {
         Some(Reason::Conflict)
     } else {
         None
     }
+}
+
+/// Whether an update by the draft would leave the object as it is.
+pub(crate) fn is_unchanged(draft: &Draft, current: &Object) -> bool
+    ensures { result ≡ same_data current.now.body draft.now.object.body }
+{
+    current.body.is_same(&draft.object.body)
 }
 
 /// Whether the draft names a resource version or a UID that is not the object's.

@@ -59,6 +59,8 @@ pub enum Reply {
     Found(Object),
     /// 200: the object as the update left it.
     Updated(Object),
+    /// 200: the object as it is, which the update would not have changed.
+    Unchanged(Object),
     Refused(Reason),
 }
 
@@ -71,6 +73,7 @@ pub(crate) fn write_reply(reply: &Reply, out: &mut Writer) -> Result<(), AllocEr
         Reply::Created(object) => write_with_object(201, object, "Created", out),
         Reply::Found(object) => write_with_object(200, object, "Found", out),
         Reply::Updated(object) => write_with_object(200, object, "Updated", out),
+        Reply::Unchanged(object) => write_with_object(200, object, "Unchanged", out),
         Reply::Refused(reason) => write_with_reason(reason.code(), reason.name(), out),
     }
 }

@@ -210,13 +210,17 @@ fn outcome(reply: &Reply) -> &'static str {
         Reply::Created(_) => "Created",
         Reply::Found(_) => "Found",
         Reply::Updated(_) => "Updated",
+        Reply::Unchanged(_) => "Unchanged",
         Reply::Refused(reason) => reason.name(),
     }
 }
 
 fn object_in(reply: &Reply) -> Option<&Object> {
     match reply {
-        Reply::Created(object) | Reply::Found(object) | Reply::Updated(object) => Some(object),
+        Reply::Created(object)
+        | Reply::Found(object)
+        | Reply::Updated(object)
+        | Reply::Unchanged(object) => Some(object),
         Reply::Refused(_) => None,
     }
 }
@@ -266,7 +270,7 @@ const CREATE_OTHER: &str = r#"{"do":"create","object":{"kind":"Pod","metadata":{
 
 /// Lines to a new store of much room, with the name of each reply, and the resource version, the number of the UID and
 /// the label of its object (0, 0 and nothing in a refusal).
-static ROWS: [(&str, (&str, u64, u64, &str)); 21] = [
+static ROWS: [(&str, (&str, u64, u64, &str)); 24] = [
     (GET, ("NotFound", 0, 0, "")),
     (UPDATE, ("NotFound", 0, 0, "")),
     (CREATE, ("Created", 1, 1, "")),
@@ -274,6 +278,15 @@ static ROWS: [(&str, (&str, u64, u64, &str)); 21] = [
     (GET, ("Found", 1, 1, "")),
     (UPDATE, ("Updated", 2, 1, "b")),
     (GET, ("Found", 2, 1, "b")),
+    // Nothing would change, so no number is drawn: the members' order does not count, nor does what the store sets.
+    (
+        r#"{"do":"update","object":{"kind":"Pod","metadata":{"labels":{"a":"b"},"name":"web-0","resourceVersion":""}}}"#,
+        ("Unchanged", 2, 1, "b"),
+    ),
+    (
+        r#"{"do":"update","object":{"metadata":{"generation":9,"resourceVersion":"2","name":"web-0","labels":{"a":"b"}},"kind":"Pod"}}"#,
+        ("Unchanged", 2, 1, "b"),
+    ),
     // The version that it names is no longer current.
     (UPDATE, ("Conflict", 0, 0, "")),
     // A version that is given is refused before the name is looked up.
@@ -309,6 +322,10 @@ static ROWS: [(&str, (&str, u64, u64, &str)); 21] = [
         r#"{"do":"update","object":{"kind":"Pod","metadata":{"name":"web-0","resourceVersion":"","uid":null}}}"#,
         ("Updated", 4, 1, ""),
     ),
+    (
+        r#"{"do":"update","object":{"kind":"Pod","metadata":{"name":"web-0"}}}"#,
+        ("Unchanged", 4, 1, ""),
+    ),
     // Other keys: by namespace, by kind, by name. A UID that is handed in does not count.
     (
         r#"{"do":"get","kind":"Pod","name":"web-0","namespace":"other"}"#,
@@ -342,12 +359,17 @@ fn requests_are_taken_in_order(rt: HostRuntime) -> Result<(), Fail> {
 }
 
 /// Lines to a new store of one revision.
-static ROWS_OF_ONE: [(&str, (&str, u64, u64, &str)); 7] = [
+static ROWS_OF_ONE: [(&str, (&str, u64, u64, &str)); 8] = [
     (CREATE, ("Created", 1, 1, "")),
     // A request that would be refused anyway has its own reason.
     (CREATE, ("AlreadyExists", 0, 0, "")),
     (CREATE_OTHER, ("StoreFull", 0, 0, "")),
     (UPDATE, ("StoreFull", 0, 0, "")),
+    // What changes nothing needs no number.
+    (
+        r#"{"do":"update","object":{"kind":"Pod","metadata":{"name":"web-0"}}}"#,
+        ("Unchanged", 1, 1, ""),
+    ),
     (GET, ("Found", 1, 1, "")),
     (
         r#"{"do":"get","kind":"Pod","name":"y"}"#,

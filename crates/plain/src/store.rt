@@ -5,7 +5,7 @@ ghost use Rattle.plain.specs.Store.{step, opening, found};
 ghost use Rattle.plain.specs.Verdict.{stamp, creates, updates, updated};
 ghost use Rattle.plain.specs.declared.request.Request.TheVariants.{Create, Update};
 
-use crate::decide::{refused_creation, refused_update};
+use crate::decide::{is_unchanged, refused_creation, refused_update};
 use crate::reply::{Reason, Reply};
 use crate::request::Request;
 use objects::{Draft, Key, Memory, Meta, Object};
@@ -116,6 +116,9 @@ impl Plain {
         };
         if let Some(reason) = refused_update(&draft, current) {
             return Ok(Reply::Refused(reason));
+        }
+        if is_unchanged(&draft, current) {
+            return Ok(Reply::Unchanged(current.clone()?));
         }
         if self.is_full() {
             return Ok(Reply::Refused(Reason::StoreFull));

@@ -13,3 +13,8 @@ pub returns-in-Updated-clause-tokens : goal.returns-in-Updated-clause-tokens
 returns-in-Updated-clause-tokens c =
     on_ok_weaker c.write_with_object-in-Updated.result (λ e. e ∙ ap (λ r. c.args.out.now.tokens ++ json_tokens (outline (reply_data r))) (sym c.in-Updated.is))
     c.write_with_object-in-Updated.ensures.tokens
+
+pub returns-in-Unchanged-clause-tokens : goal.returns-in-Unchanged-clause-tokens
+returns-in-Unchanged-clause-tokens c =
+    on_ok_weaker c.write_with_object-in-Unchanged.result (λ e. e ∙ ap (λ r. c.args.out.now.tokens ++ json_tokens (outline (reply_data r))) (sym c.in-Unchanged.is))
+    c.write_with_object-in-Unchanged.ensures.tokens
