@@ -6,3 +6,4 @@ pub mod LineCuts
 pub mod Flows
 pub mod Servings
 pub mod RunsOfLines
+pub mod DrawnNumbers

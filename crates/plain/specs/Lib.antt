@@ -9,6 +9,7 @@ pub mod Lines
 pub mod Cuts
 pub mod Served
 pub mod ServedRun
+pub mod Drawn
 pub mod Streams
 pub mod Faults
 pub mod Serving

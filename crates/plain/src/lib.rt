@@ -24,7 +24,10 @@ pub use buffers::BufferSink;
 pub use devices::{ReadSource, WriteSink};
 pub use reply::{Reason, Reply};
 pub use request::{Request, RequestError, read_request};
-pub use runs::{lines_are_one_run, runs_go_on};
+pub use runs::{
+    lines_are_one_run, only_writes_change_the_store, runs_go_on, uids_are_given_once,
+    versions_rise_by_one,
+};
 pub use server::{ServeFault, serve};
 pub use slices::SliceSource;
 pub use store::{MOST_REVISIONS, Plain, PlainError};

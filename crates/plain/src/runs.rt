@@ -1,7 +1,8 @@
-ghost use Rattle.std.specs.Prelude.{◌≡◌, ℕ, List, ◌++◌, map};
+ghost use Rattle.std.specs.Prelude.{◌≡◌, ◌+◌, ℕ, List, ◌++◌, length, map, None};
 ghost use Rattle.plain.specs.declared.request.Request.{Request};
-ghost use Rattle.plain.specs.Store.{Store};
+ghost use Rattle.plain.specs.Store.{Store, step};
 ghost use Rattle.plain.specs.Run.{after, replies};
+ghost use Rattle.plain.specs.Drawn.{AreNext, AreRising, uids_given, version_drawn, versions_drawn};
 ghost use Rattle.plain.specs.Requests.{request_of};
 ghost use Rattle.plain.specs.Served.{answers};
 ghost use Rattle.plain.specs.ServedRun.{requests, reply_lines};
@@ -16,4 +17,22 @@ pub fn lines_are_one_run()
 /// A run goes on from the store that its first part leaves.
 pub fn runs_go_on()
     ensures { (s : Store) (first more : List Request) → replies s (first ++ more) ≡ replies s first ++ replies (after s first) more }
+{}
+
+/// The resource versions of a run are those after the counter, one by one: each accepted write draws the next, and
+/// nothing else draws any.
+pub fn versions_rise_by_one()
+    ensures next { (s : Store) (requests : List Request) → AreNext s.counter (versions_drawn (replies s requests)) }
+    ensures counted { (s : Store) (requests : List Request) →
+        (after s requests).counter ≡ s.counter + length (versions_drawn (replies s requests)) }
+{}
+
+/// No UID is given twice in a run: each is above those given before.
+pub fn uids_are_given_once()
+    ensures { (s : Store) (requests : List Request) → AreRising s.counter (uids_given (replies s requests)) }
+{}
+
+/// A request that draws no number leaves the store as it was: one that is refused, reads, or would change nothing.
+pub fn only_writes_change_the_store()
+    ensures { (s : Store) (request : Request) → version_drawn (step s request).1 ≡ None → (step s request).0 ≡ s }
 {}
