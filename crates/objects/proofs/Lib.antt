@@ -11,6 +11,7 @@ pub mod PutOrder
 pub mod ProperText
 pub mod HeldMembers
 pub mod UidRound
+pub mod PodNamesDiffer
 pub mod PrintedObjects
 pub mod DraftAgain
 pub mod WholeTokens

@@ -7,6 +7,7 @@ pub mod Whole
 pub mod Tree
 pub mod TreeFalls
 pub mod Uid
+pub mod PodNames
 pub mod Object
 pub mod Steps
 pub mod Reading

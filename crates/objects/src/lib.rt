@@ -1,5 +1,5 @@
 //! Kubernetes API objects as this project keeps them: what names an object, what the store knows of it, and its
-//! body as a tree; read from JSON and printed as JSON.
+//! body as a tree; read from JSON and printed as JSON. The names of a StatefulSet's pods and claims are here too.
 #![tactic(auto)]
 
 mod convert;
@@ -12,6 +12,9 @@ mod meta;
 mod names;
 mod object;
 mod places;
+#[cfg(test)]
+mod pod_name_tests;
+mod pod_names;
 mod print;
 mod read;
 mod same;
@@ -29,6 +32,9 @@ pub use kind::Kind;
 pub use memory::Memory;
 pub use meta::Meta;
 pub use object::{Draft, Object};
+pub use pod_names::{
+    claim_name, claim_names_of_a_set_differ, pod_name, pod_names_differ, split_pod_name,
+};
 pub use print::{print_object, write_object};
 pub use read::{read_draft, read_key, read_object, read_tree};
 pub use text::Text;
