@@ -1,6 +1,5 @@
 use Rattle.std.proofs.Common.{◌≡◌, ◌∙◌, ◌<◌, sym, ap, arith, length, decimal, not}
-use Rattle.std.proofs.lemmas.Bool.{not-false}
-use Rattle.std.proofs.lemmas.Bool.Decides.{nat_tests}
+use Rattle.std.proofs.lemmas.Bool.{eqb-false, eqb-true, not-false}
 use Rattle.std.proofs.lemmas.Slice.Eq.{bytes_eq-Decides}
 use Rattle.objects.proofs.PodNamesDiffer.{not_split, is_cut, parts_of_pod_name, result_ok-parsed, pod_name-cut}
 use Rattle.objects.proofs.pod_names.split_pod_name.Goals.{then-is_empty-via-then-is_empty, then-is_empty-via-else-is_empty+then-ordinal-gt-MOST_ORDINAL, then-is_empty-via-else-is_empty+else-ordinal-gt-MOST_ORDINAL+then-ne}
@@ -23,7 +22,7 @@ returns-then-is_empty-clause-none c set ordinal is =
     let same : c.in_ok-ordinal.ordinal ≡ ordinal = cc in
     elim c.then-is_empty.branch [
       | then-is_empty-via-then-is_empty w ↦
-          let some : 0 < length c.in_ok-set.set.now = rw parts.0 is.set_named in grind (arith, nat_tests, w.if-is_empty.true, c.is_empty.ensures)
+          let some : 0 < length c.in_ok-set.set.now = rw parts.0 is.set_named in omega (arith, eqb-true (length c.in_ok-set.set.now) 0 (sym c.is_empty.ensures ∙ w.if-is_empty.true))
       | then-is_empty-via-else-is_empty+then-ordinal-gt-MOST_ORDINAL w ↦ omega (arith, is.fits, w.if-ordinal-gt-MOST_ORDINAL.true)
       | then-is_empty-via-else-is_empty+else-ordinal-gt-MOST_ORDINAL+then-ne w ↦
           let equal = (bytes_eq-Decides c.in_ok-set.digits.now w.format.result.now).1 (parts.1 ∙ ap decimal (sym same) ∙ sym w.format.ensures.text) in
@@ -36,6 +35,6 @@ returns-clause-some c =
     let equal = (bytes_eq-Decides c.in_ok-set.digits.now c.format.result.now).0 (not-false _ (sym c.ne.ensures ∙ c.if-ne.false)) in
     record {
       joined = pod_name-cut _ _ _ c.in_ok-ordinal.ordinal cut (equal ∙ c.format.ensures.text);
-      set_named = grind (arith, nat_tests, c.if-is_empty.false, c.is_empty.ensures);
+      set_named = omega (arith, eqb-false (length c.in_ok-set.set.now) 0 (sym c.is_empty.ensures ∙ c.if-is_empty.false));
       fits = c.if-ordinal-gt-MOST_ORDINAL.false;
     }
