@@ -2,11 +2,11 @@
 use Rattle.std.proofs.Common.{◌≡◌, ◌≤◌, ◌<◌, ◌+◌, ◌==◌, ℕ, Bool, true, false, cond, List, [], ◌∷◌, length, Option, Some, None, MatchOption, refl, ap, subst, arith}
 use Rattle.objects.specs.declared.key.Key.{Key}
 use Rattle.plain.specs.declared.request.Request.{Request}
-use Rattle.plain.specs.declared.request.Request.TheVariants.{Create, Get, Update}
+use Rattle.plain.specs.declared.request.Request.TheVariants.{Create, Get, Update, Delete}
 use Rattle.plain.specs.declared.reply.Reply.{Reply}
 use Rattle.plain.specs.declared.reply.Reply.TheVariants.{Refused}
 use Rattle.plain.specs.declared.reply.Reason.TheVariants.{StoreFull}
-use Rattle.plain.specs.Verdict.{Change, creates, updates, Verdict, refuse, same, write, on_create, on_update, stamp}
+use Rattle.plain.specs.Verdict.{Change, creates, updates, marks, removes, Verdict, refuse, same, write, on_create, on_update, on_delete, stamp}
 use Rattle.objects.specs.declared.object.Object.{Object}
 use Rattle.std.specs.FinMap as map
 use Rattle.plain.specs.Store.{Store, step, carried_out, accepted, found}
@@ -24,6 +24,8 @@ draws-write : (s : Store) (k : Key) (c : Change) (full : Bool) →
 draws-write s k c true = record { version = refl; uid = omega arith }
 draws-write s k (creates o) false = record { version = (refl, refl); uid = (refl, refl) }
 draws-write s k (updates o) false = record { version = (refl, refl); uid = omega arith }
+draws-write s k (marks o) false = record { version = (refl, refl); uid = omega arith }
+draws-write s k (removes o) false = record { version = (refl, refl); uid = omega arith }
 
 draws-verdict : (s : Store) (k : Key) (v : Verdict) → let end = carried_out s k v in Draws s end.0 end.1
 draws-verdict s k (refuse reason) = record { version = refl; uid = omega arith }
@@ -39,6 +41,7 @@ unfolding step
 draws s (Get k) = draws-found s (map.get s.objects k)
 draws s (Create d) = draws-verdict s d.object.key (on_create d (map.get s.objects d.object.key))
 draws s (Update d) = draws-verdict s d.object.key (on_update d (map.get s.objects d.object.key))
+draws s (Delete k uid version at) = draws-verdict s k (on_delete version uid at (map.get s.objects k))
 
 pub nothing_changes : (s : Store) (r : Request) → version_drawn (step s r).1 ≡ None → (step s r).0 ≡ s
 nothing_changes s r none = subst (λ o. MatchOption o ((step s r).0 ≡ s) (λ v. (v ≡ s.counter + 1) × ((step s r).0.counter ≡ v))) none (draws s r).version

@@ -8,7 +8,7 @@ use Rattle.std.specs.Cmp.{eq_by_cmp_equiv}
 use Rattle.std.specs.Cmp.Lexicographic.{slice_cmp}
 use Rattle.std.specs.BTreeMap.{is_at}
 use Rattle.std.specs.Map.{lookup}
-use Rattle.std.specs.FinMap.{FinMap, from_entries, get, insert, find, same_map, get-from_entries, get-insert, empty}
+use Rattle.std.specs.FinMap.{FinMap, from_entries, get, insert, remove, find, same_map, get-from_entries, get-insert, get-remove, empty}
 use Rattle.std.proofs.lemmas.Map.Lookups.{CmpEqualImpliesEq, exact_pairs, exact_unsigned, exact_bytes}
 use Rattle.std.proofs.lemmas.Option.{none-some, same_Some}
 use Rattle.objects.specs.declared.kind.Kind.{Kind}
@@ -63,6 +63,23 @@ one_drawn es fs counter capacity key o s viewed named written =
     ∙ ap (λ k. state (insert (from_entries es) k o) (counter + 1) capacity) named
     ∙ ap (λ (t : Store). with_object t o) viewed
 
+-- entries that lack one key, and have all others, make the map without it
+pub one_removed : (es fs : List (KeyParts × Object)) (key : KeyParts)
+    → ((q : KeyParts) → object_at fs q ≡ cond (is_at (key_cmp key) q) None (object_at es q)) → from_entries {R = key_cmp} fs ≡ remove (from_entries es) key
+one_removed es fs key removed = same_map key_cmp_total exact_keys _ _ (λ q.
+    get_object fs q ∙ removed q ∙ ap (λ b. cond b None (object_at es q)) ((eq_by_cmp_equiv key_cmp_total).symm key q)
+    ∙ sym (get-remove key_cmp_total (from_entries es) key q ∙ ap (cond (is_at (key_cmp q) key) None) (get_object es q)))
+
+-- the store without the object of a key, and the next number drawn
+abbrev pub without_object : Store → KeyParts → Store
+without_object s key = record { objects = remove s.objects key; counter = s.counter + 1; capacity = s.capacity }
+
+pub one_drawn_away : (es fs : List (KeyParts × Object)) (counter capacity : ℕ) (key : KeyParts) (s : Store)
+    → state (from_entries es) counter capacity ≡ s
+    → ((q : KeyParts) → object_at fs q ≡ cond (is_at (key_cmp key) q) None (object_at es q)) → state (from_entries fs) (counter + 1) capacity ≡ without_object s key
+one_drawn_away es fs counter capacity key s viewed removed =
+    ap (λ m. state m (counter + 1) capacity) (one_removed es fs key removed) ∙ ap (λ (t : Store). without_object t key) viewed
+
 -- ---- each object stands under its own key
 
 none_filed : AreFiled (from_entries {R = key_cmp} [])
@@ -96,3 +113,13 @@ all_filed es fs key o named written filed k w there =
     (λ tie. sym named ∙ exact_keys key k (equal_from (key_cmp key k) tie))
     (λ before. filed k w (get_object es k ∙ before))
     (sym (written k) ∙ sym (get_object fs k) ∙ there)
+
+left_by : (b : Bool) (k : KeyParts) (w : Object) (at : Option Object) → (at ≡ Some w → w.key ≡ k) → cond b None at ≡ Some w → w.key ≡ k
+left_by true k w at before there = absurd (none-some w there)
+left_by false k w at before there = before there
+
+-- those that are left are filed
+pub left_filed : (es fs : List (KeyParts × Object)) (key : KeyParts)
+    → ((q : KeyParts) → object_at fs q ≡ cond (is_at (key_cmp key) q) None (object_at es q)) → AreFiled (from_entries {R = key_cmp} es) → AreFiled (from_entries {R = key_cmp} fs)
+left_filed es fs key removed filed k w there =
+    left_by (is_at (key_cmp key) k) k w (object_at es k) (λ before. filed k w (get_object es k ∙ before)) (sym (removed k) ∙ sym (get_object fs k) ∙ there)

@@ -13,12 +13,12 @@ use Rattle.objects.specs.Tree.{data_of}
 use Rattle.objects.specs.Steps.{Fails}
 use Rattle.objects.specs.Reading.{key_in, reading_of_data}
 use Rattle.plain.specs.declared.request.Request.{Request}
-use Rattle.plain.specs.declared.request.Request.TheVariants.{Create, Get, Update}
+use Rattle.plain.specs.declared.request.Request.TheVariants.{Create, Get, Update, Delete}
 use Rattle.plain.specs.declared.request.RequestError.{RequestError}
 use Rattle.plain.specs.declared.request.RequestError.TheVariants as errors
 use Rattle.plain.specs.declared.request.Verb.{Verb}
 use Rattle.plain.specs.declared.request.Verb.TheVariants as verb
-use Rattle.plain.specs.Requests.{◌>>=◌, demanded, lifted, object_draft, verb_request, request_of, Refuses, Answers}
+use Rattle.plain.specs.Requests.{◌>>=◌, deletion_in, demanded, field_text, lifted, object_draft, verb_request, request_of, Refuses, Answers}
 use Rattle.plain.specs.Verbs.{verb_named, verb_in, request_by}
 
 -- what a step of reading objects refuses, the reading of a request refuses
@@ -49,7 +49,9 @@ by_verb name ms =
     sym (either (bytes_eq name (codes "create")) _ _ f
     ∙ ap (cond (bytes_eq name (codes "create")) (f (Some verb.Create)))
     (either (bytes_eq name (codes "get")) _ _ f
-    ∙ ap (cond (bytes_eq name (codes "get")) (f (Some verb.Get))) (either (bytes_eq name (codes "update")) (Some verb.Update) None f)))
+    ∙ ap (cond (bytes_eq name (codes "get")) (f (Some verb.Get)))
+    (either (bytes_eq name (codes "update")) _ _ f
+    ∙ ap (cond (bytes_eq name (codes "update")) (f (Some verb.Update))) (either (bytes_eq name (codes "delete")) (Some verb.Delete) None f))))
 
 bind_bind : {A B C : Type 0} (r : Result A RequestError) (f : A → Result B RequestError) (g : B → Result C RequestError) → ((r >>= f) >>= g) ≡ (r >>= λ x. f x >>= g)
 bind_bind (Ok x) f g = refl
@@ -112,6 +114,80 @@ pub update_read : (v : Verb) (ms : Members) (d : Draft) → v ≡ verb.Update �
 unfolding request_by
 update_read v ms d is h = ap (λ x. request_by x ms) is ∙ ap (λ r. lifted r >>= λ x. Ok (Update x)) h
 
+pub delete_at : (v : Verb) (ms : Members) (result : Result Request RequestError) → v ≡ verb.Delete → Answers result (deletion_in ms) → Answers result (request_by v ms)
+unfolding request_by
+delete_at v ms result named h = answers_at v verb.Delete ms result named h
+
+-- ---- a deletion, part by part
+
+refuses_bind : {A B : Type 0} (e : RequestError) (r : Result A RequestError) (f : A → Result B RequestError) → Refuses e r → Refuses e (r >>= f)
+refuses_bind (errors.Read read.NotJson) r f h = ap (λ x. x >>= f) h
+refuses_bind (errors.Read read.NotWhole) r f h = ap (λ x. x >>= f) h
+refuses_bind (errors.Read read.NoKind) r f h = ap (λ x. x >>= f) h
+refuses_bind (errors.Read read.UnknownKind) r f h = ap (λ x. x >>= f) h
+refuses_bind (errors.Read read.BadName) r f h = ap (λ x. x >>= f) h
+refuses_bind (errors.Read read.BadMeta) r f h = ap (λ x. x >>= f) h
+refuses_bind (errors.Read read.TooLong) r f h = ap (λ x. x >>= f) h
+refuses_bind (errors.Read read.Memory) r f h = tt
+refuses_bind errors.NoVerb r f h = ap (λ x. x >>= f) h
+refuses_bind errors.UnknownVerb r f h = ap (λ x. x >>= f) h
+refuses_bind errors.BadField r f h = ap (λ x. x >>= f) h
+
+-- what the members say of the time, of the version and of the UID, and then of what comes after
+abbrev time_part : Members → Key → Option (List ℕ) → Option (List ℕ) → Result Request RequestError
+time_part ms key uid version = field_text (get_member (codes "at") ms) >>= λ at. Ok (Delete key uid version at)
+
+abbrev version_part : Members → Key → Option (List ℕ) → Result Request RequestError
+version_part ms key uid = field_text (get_member (codes "resourceVersion") ms) >>= λ version. time_part ms key uid version
+
+abbrev uid_part : Members → Key → Result Request RequestError
+uid_part ms key = field_text (get_member (codes "uid") ms) >>= λ uid. version_part ms key uid
+
+named_part : (ms : Members) (key : Key) → key_in ms ≡ Ok key → deletion_in ms ≡ uid_part ms key
+unfolding deletion_in
+named_part ms key named = ap (λ r. lifted r >>= uid_part ms) named
+
+uid_read : (ms : Members) (key : Key) (uid : Option (List ℕ)) → key_in ms ≡ Ok key → field_text (get_member (codes "uid") ms) ≡ Ok uid → deletion_in ms ≡ version_part ms key uid
+uid_read ms key uid named is = named_part ms key named ∙ ap (λ r. r >>= version_part ms key) is
+
+version_read : (ms : Members) (key : Key) (uid version : Option (List ℕ)) → key_in ms ≡ Ok key → field_text (get_member (codes "uid") ms) ≡ Ok uid
+    → field_text (get_member (codes "resourceVersion") ms) ≡ Ok version → deletion_in ms ≡ time_part ms key uid version
+version_read ms key uid version named uid_is is = uid_read ms key uid named uid_is ∙ ap (λ r. r >>= time_part ms key uid) is
+
+-- a field is refused
+field_refused : (result : Result Request RequestError) (y e : RequestError) (ms : Members) (field : Result (Option (List ℕ)) RequestError)
+    (then : Option (List ℕ) → Result Request RequestError)
+    → deletion_in ms ≡ (field >>= then) → result ≡ Err y → y ≡ e → Refuses e field → Answers result (deletion_in ms)
+field_refused result y e ms field then goes is same h =
+    subst (Answers result) (sym goes) (subst (λ x. Answers x (field >>= then)) (sym (is ∙ ap Err same)) (refuses_bind e field then h))
+
+pub deletion_key_refused : (ms : Members) (result : Result Request RequestError) (y : RequestError) (e : ReadError)
+    → result ≡ Err y → y ≡ errors.Read e → Fails e (key_in ms) → Answers result (deletion_in ms)
+unfolding deletion_in
+deletion_key_refused ms result y e is same h = answers_lifted result y e _ (uid_part ms) is same h
+
+pub deletion_uid_refused : (ms : Members) (key : Key) (result : Result Request RequestError) (y e : RequestError)
+    → key_in ms ≡ Ok key → result ≡ Err y → y ≡ e → Refuses e (field_text (get_member (codes "uid") ms)) → Answers result (deletion_in ms)
+deletion_uid_refused ms key result y e named is same h = field_refused result y e ms _ (version_part ms key) (named_part ms key named) is same h
+
+pub deletion_version_refused : (ms : Members) (key : Key) (uid : Option (List ℕ)) (result : Result Request RequestError) (y e : RequestError)
+    → key_in ms ≡ Ok key → field_text (get_member (codes "uid") ms) ≡ Ok uid
+    → result ≡ Err y → y ≡ e → Refuses e (field_text (get_member (codes "resourceVersion") ms)) → Answers result (deletion_in ms)
+deletion_version_refused ms key uid result y e named uid_is is same h =
+    field_refused result y e ms _ (time_part ms key uid) (uid_read ms key uid named uid_is) is same h
+
+pub deletion_time_refused : (ms : Members) (key : Key) (uid version : Option (List ℕ)) (result : Result Request RequestError) (y e : RequestError)
+    → key_in ms ≡ Ok key → field_text (get_member (codes "uid") ms) ≡ Ok uid → field_text (get_member (codes "resourceVersion") ms) ≡ Ok version
+    → result ≡ Err y → y ≡ e → Refuses e (field_text (get_member (codes "at") ms)) → Answers result (deletion_in ms)
+deletion_time_refused ms key uid version result y e named uid_is version_is is same h =
+    field_refused result y e ms _ (λ at. Ok (Delete key uid version at)) (version_read ms key uid version named uid_is version_is) is same h
+
+pub deletion_read : (ms : Members) (key : Key) (uid version at : Option (List ℕ))
+    → key_in ms ≡ Ok key → field_text (get_member (codes "uid") ms) ≡ Ok uid → field_text (get_member (codes "resourceVersion") ms) ≡ Ok version
+    → field_text (get_member (codes "at") ms) ≡ Ok at → deletion_in ms ≡ Ok (Delete key uid version at)
+deletion_read ms key uid version at named uid_is version_is is =
+    version_read ms key uid version named uid_is version_is ∙ ap (λ r. r >>= λ t. Ok (Delete key uid version t)) is
+
 -- ---- the whole line
 
 -- the value is refused
@@ -135,6 +211,7 @@ refused_so result y reading is h = subst (λ x. Answers x reading) (sym is) (go 
     go (errors.Read read.Memory) e = tt
     go errors.NoVerb e = e
     go errors.UnknownVerb e = e
+    go errors.BadField e = e
 
 -- ---- the verb
 

@@ -1,17 +1,18 @@
 -- A step of the store, by what its verdict is.
-use Rattle.std.proofs.Common.{◌≡◌, ◌+◌, ◌==◌, Bool, true, false, cond, Option, Some, None, sym, ap, ◌∙◌}
+use Rattle.std.proofs.Common.{◌≡◌, ℕ, List, is_some, ◌+◌, ◌==◌, Bool, true, false, cond, Option, Some, None, sym, ap, ◌∙◌}
 use Rattle.std.specs.Option.{option_map_or}
 use Rattle.std.specs.FinMap as map
 use Rattle.objects.specs.declared.key.Key.{Key}
 use Rattle.objects.specs.declared.object.Object.{Object}
 use Rattle.objects.specs.declared.object.Draft.{Draft}
-use Rattle.plain.specs.declared.request.Request.TheVariants.{Create, Update}
-use Rattle.plain.specs.declared.reply.Reply.TheVariants.{Refused, Created, Updated, Unchanged}
+use Rattle.plain.specs.declared.request.Request.TheVariants.{Create, Update, Delete}
+use Rattle.plain.specs.declared.reply.Reply.{Reply}
+use Rattle.plain.specs.declared.reply.Reply.TheVariants.{Refused, Created, Updated, Unchanged, Marked}
 use Rattle.plain.specs.declared.reply.Reason.{Reason}
 use Rattle.plain.specs.declared.reply.Reason.TheVariants.{StoreFull, NotFound}
-use Rattle.plain.specs.Verdict.{Change, creates, updates, updated, Verdict, refuse, same, write, on_create, on_update, unless_same, stamp}
+use Rattle.plain.specs.Verdict.{Change, creates, updates, updated, marks, marked, removes, Verdict, refuse, same, write, deleted, graceful, on_create, on_update, on_delete, unless_same, stamp}
 use Rattle.objects.specs.Same.{same_data}
-use Rattle.plain.specs.Store.{Store, step, carried_out, accepted}
+use Rattle.plain.specs.Store.{Store, step, carried_out, accepted, changed_map}
 
 -- what is decided, given why the request is refused, if it is
 abbrev pub decided : Option Reason → Verdict → Verdict
@@ -19,7 +20,7 @@ decided refusal v = option_map_or refuse refusal v
 
 -- the store with a change made
 abbrev pub with_change : Store → Key → Change → Store
-with_change s k c = record { objects = map.insert s.objects k (stamp c (s.counter + 1)); counter = s.counter + 1; capacity = s.capacity }
+with_change s k c = record { objects = changed_map s.objects k c (s.counter + 1); counter = s.counter + 1; capacity = s.capacity }
 
 -- the store with an object under its key, and the next number drawn
 abbrev pub with_object : Store → Object → Store
@@ -114,3 +115,66 @@ update_made s new d current refusal o copy there filed verdict is test room stam
     let c = updates (updated current d) in
     changed s new _ c _ copy (goes_by s d current refusal false there verdict is test) room
     (state ∙ ap (with_object s) stamped ∙ ap (λ k. with_change s k c) filed) (same_copy ∙ stamped)
+
+-- ---- a deletion
+
+-- why a deletion is refused, if it is, whatever time it has
+abbrev pub DeletedBy : Option (List ℕ) → Option (List ℕ) → Object → Option Reason → Type 0
+DeletedBy version uid current refusal =
+    (at : Option (List ℕ)) → on_delete version uid at (Some current) ≡ decided refusal (deleted (graceful current.key.kind at) current)
+
+pub delete_missing : (s : Store) (k : Key) (uid version at : Option (List ℕ)) → None ≡ map.get s.objects k → (s, Refused NotFound) ≡ step s (Delete k uid version at)
+unfolding step
+delete_missing s k uid version at missing = ap (λ o. carried_out s k (on_delete version uid at o)) missing
+
+pub delete_refused : (s : Store) (k : Key) (uid version at : Option (List ℕ)) (current : Object) (refusal : Option Reason) (r : Reason)
+    → Some current ≡ map.get s.objects k → DeletedBy version uid current refusal → refusal ≡ Some r → (s, Refused r) ≡ step s (Delete k uid version at)
+unfolding step
+delete_refused s k uid version at current refusal r there verdict is =
+    refused s k _ (deleted (graceful current.key.kind at) current) refusal r (ap (on_delete version uid at) (sym there) ∙ verdict at) is
+
+deletes : (s : Store) (k : Key) (uid version at : Option (List ℕ)) (current : Object) (refusal : Option Reason) (time : Option (List ℕ))
+    → Some current ≡ map.get s.objects k → DeletedBy version uid current refusal → refusal ≡ None → time ≡ graceful current.key.kind at
+    → on_delete version uid at (map.get s.objects k) ≡ deleted time current
+deletes s k uid version at current refusal time there verdict is time_is =
+    ap (on_delete version uid at) (sym there) ∙ allowed _ _ refusal (verdict at) is ∙ ap (λ t. deleted t current) (sym time_is)
+
+pub delete_removed : (s : Store) (k : Key) (uid version at : Option (List ℕ)) (current : Object) (refusal : Option Reason) (time : Option (List ℕ)) (end : Store × Reply)
+    → Some current ≡ map.get s.objects k → DeletedBy version uid current refusal → refusal ≡ None → time ≡ graceful current.key.kind at → time ≡ None
+    → end ≡ carried_out s k (write (removes current)) → end ≡ step s (Delete k uid version at)
+unfolding step
+delete_removed s k uid version at current refusal time end there verdict is time_is none removed =
+    removed ∙ sym (ap (carried_out s k) (deletes s k uid version at current refusal time there verdict is time_is ∙ ap (λ t. deleted t current) none))
+
+-- the verdict on a graceful deletion, given whether the object is marked already
+marks_by : (s : Store) (k : Key) (uid version at : Option (List ℕ)) (current : Object) (refusal : Option Reason) (time : Option (List ℕ)) (t : List ℕ) (already : Bool)
+    → Some current ≡ map.get s.objects k → DeletedBy version uid current refusal → refusal ≡ None → time ≡ graceful current.key.kind at → time ≡ Some t
+    → is_some current.meta.deletion ≡ already
+    → on_delete version uid at (map.get s.objects k) ≡ cond already (same current) (write (marks (marked t current)))
+marks_by s k uid version at current refusal time t already there verdict is time_is some test =
+    deletes s k uid version at current refusal time there verdict is time_is ∙ ap (λ o. deleted o current) some
+    ∙ ap (λ b. cond b (same current) (write (marks (marked t current)))) test
+
+pub delete_unchanged : (s : Store) (k : Key) (uid version at : Option (List ℕ)) (current copy : Object) (refusal : Option Reason) (time : Option (List ℕ)) (t : List ℕ)
+    → Some current ≡ map.get s.objects k → DeletedBy version uid current refusal → refusal ≡ None → time ≡ graceful current.key.kind at → time ≡ Some t
+    → is_some current.meta.deletion ≡ true → copy ≡ current → (s, Unchanged copy) ≡ step s (Delete k uid version at)
+unfolding step
+delete_unchanged s k uid version at current copy refusal time t there verdict is time_is some test same_copy =
+    unchanged s k _ current copy (marks_by s k uid version at current refusal time t true there verdict is time_is some test) same_copy
+
+pub delete_full : (s : Store) (k : Key) (uid version at : Option (List ℕ)) (current : Object) (refusal : Option Reason) (time : Option (List ℕ)) (t : List ℕ)
+    → Some current ≡ map.get s.objects k → DeletedBy version uid current refusal → refusal ≡ None → time ≡ graceful current.key.kind at → time ≡ Some t
+    → is_some current.meta.deletion ≡ false → (s.counter == s.capacity) ≡ true → (s, Refused StoreFull) ≡ step s (Delete k uid version at)
+unfolding step
+delete_full s k uid version at current refusal time t there verdict is time_is some test drawn =
+    full s k (marks (marked t current)) _ (marks_by s k uid version at current refusal time t false there verdict is time_is some test) drawn
+
+pub delete_marked : (s new : Store) (k : Key) (uid version at : Option (List ℕ)) (current : Object) (refusal : Option Reason) (time : Option (List ℕ)) (t : List ℕ) (o copy : Object)
+    → Some current ≡ map.get s.objects k → current.key ≡ k → DeletedBy version uid current refusal → refusal ≡ None → time ≡ graceful current.key.kind at → time ≡ Some t
+    → is_some current.meta.deletion ≡ false → (s.counter == s.capacity) ≡ false
+    → o ≡ stamp (marks (marked t current)) (s.counter + 1) → new ≡ with_object s o → copy ≡ o → (new, Marked copy) ≡ step s (Delete k uid version at)
+unfolding step
+delete_marked s new k uid version at current refusal time t o copy there filed verdict is time_is some test room stamped state same_copy =
+    let c = marks (marked t current) in
+    changed s new k c _ copy (marks_by s k uid version at current refusal time t false there verdict is time_is some test) room
+    (state ∙ ap (with_object s) stamped ∙ ap (λ q. with_change s q c) filed) (same_copy ∙ stamped)

@@ -1,12 +1,14 @@
 -- The numbers that the replies of a run say were drawn.
 use Rattle.std.specs.Prelude.{◌≡◌, ◌<◌, ◌+◌, ℕ, List, [], ◌∷◌, Option, Some, None, ⊤}
 use Rattle.plain.specs.declared.reply.Reply.{Reply}
-use Rattle.plain.specs.declared.reply.Reply.TheVariants.{Created, Found, Updated, Unchanged, Refused}
+use Rattle.plain.specs.declared.reply.Reply.TheVariants.{Created, Found, Updated, Unchanged, Marked, Removed, Refused}
 
--- the resource version of what the reply says was written
+-- the resource version of what the reply says was written or taken away
 abbrev pub version_drawn : Reply → Option ℕ
 version_drawn (Created o) = Some o.meta.revision
 version_drawn (Updated o) = Some o.meta.revision
+version_drawn (Marked o) = Some o.meta.revision
+version_drawn (Removed o) = Some o.meta.revision
 version_drawn (Found o) = None
 version_drawn (Unchanged o) = None
 version_drawn (Refused reason) = None
@@ -15,6 +17,8 @@ version_drawn (Refused reason) = None
 abbrev pub uid_given : Reply → Option ℕ
 uid_given (Created o) = Some o.meta.uid
 uid_given (Updated o) = None
+uid_given (Marked o) = None
+uid_given (Removed o) = None
 uid_given (Found o) = None
 uid_given (Unchanged o) = None
 uid_given (Refused reason) = None

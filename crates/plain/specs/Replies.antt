@@ -8,7 +8,7 @@ use Rattle.objects.specs.Text.{printed}
 use Rattle.plain.specs.declared.reply.Reason.{Reason}
 use Rattle.plain.specs.declared.reply.Reason.TheVariants.{NotFound, AlreadyExists, Conflict, Invalid, StoreFull}
 use Rattle.plain.specs.declared.reply.Reply.{Reply}
-use Rattle.plain.specs.declared.reply.Reply.TheVariants.{Created, Found, Updated, Unchanged, Refused}
+use Rattle.plain.specs.declared.reply.Reply.TheVariants.{Created, Found, Updated, Unchanged, Marked, Removed, Refused}
 use Rattle.plain.specs.declared.request.RequestError.{RequestError}
 use Rattle.plain.specs.declared.request.RequestError.TheVariants as errors
 
@@ -41,6 +41,7 @@ abbrev pub error_name : RequestError → List ℕ
 error_name (errors.Read e) = read_error_name e
 error_name errors.NoVerb = codes "NoVerb"
 error_name errors.UnknownVerb = codes "UnknownVerb"
+error_name errors.BadField = codes "BadField"
 
 -- `{"code":C,"object":O,"result":R}`
 abbrev pub with_object : ℕ → Object → List ℕ → Data
@@ -56,6 +57,8 @@ reply_data (Created o) = with_object 201 o (codes "Created")
 reply_data (Found o) = with_object 200 o (codes "Found")
 reply_data (Updated o) = with_object 200 o (codes "Updated")
 reply_data (Unchanged o) = with_object 200 o (codes "Unchanged")
+reply_data (Marked o) = with_object 200 o (codes "Marked")
+reply_data (Removed o) = with_object 200 o (codes "Removed")
 reply_data (Refused reason) = with_reason (reason_code reason) (reason_name reason)
 
 -- a line that is no request

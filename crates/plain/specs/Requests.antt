@@ -1,14 +1,14 @@
 -- The request that a line is, or the first refusal. The tests are made in this order: TooLong, NotJson, NotWhole,
--- NoVerb, UnknownVerb, and then those of the object or the key.
+-- NoVerb, UnknownVerb, those of the object or the key, and last BadField.
 use Rattle.std.specs.Prelude.{◌≡◌, ℕ, List, codes, bytes_eq, Option, Some, None, option_and_then, Result, Ok, Err, if◌then◌else◌, ⊤}
-use Rattle.serde_json.specs.Data.{Data, Members}
+use Rattle.serde_json.specs.Data.{Data, null, boolean, number, string, array, object, Members}
 use Rattle.serde_json.specs.Find.{as_object, as_str, get_member}
 use Rattle.objects.specs.declared.fault.ReadError.{ReadError}
 use Rattle.objects.specs.declared.fault.ReadError.TheVariants as read
 use Rattle.objects.specs.declared.object.Draft.{Draft}
-use Rattle.objects.specs.Reading.{reading_of_data, draft_of, key_in}
+use Rattle.objects.specs.Reading.{reading_of_data, draft_of, key_in, unless_empty}
 use Rattle.plain.specs.declared.request.Request.{Request}
-use Rattle.plain.specs.declared.request.Request.TheVariants.{Create, Get, Update}
+use Rattle.plain.specs.declared.request.Request.TheVariants.{Create, Get, Update, Delete}
 use Rattle.plain.specs.declared.request.RequestError.{RequestError}
 use Rattle.plain.specs.declared.request.RequestError.TheVariants as errors
 
@@ -31,11 +31,31 @@ abbrev pub object_draft : Option Data → Result Draft ReadError
 object_draft None = Err read.NoKind
 object_draft (Some d) = draft_of d
 
+-- a member of a request that may be a text; `null` and an empty text count as missing
+abbrev pub field_text : Option Data → Result (Option (List ℕ)) RequestError
+field_text None = Ok None
+field_text (Some null) = Ok None
+field_text (Some (string s)) = Ok (unless_empty (Some s))
+field_text (Some (boolean b)) = Err errors.BadField
+field_text (Some (number n)) = Err errors.BadField
+field_text (Some (array ds)) = Err errors.BadField
+field_text (Some (object ms)) = Err errors.BadField
+
+-- the object to delete, the UID and the version that it has to have, and the time of a graceful deletion
+unfoldable pub deletion_in : Members → Result Request RequestError
+deletion_in ms = do
+  key ← lifted (key_in ms)
+  uid ← field_text (get_member (codes "uid") ms)
+  version ← field_text (get_member (codes "resourceVersion") ms)
+  at ← field_text (get_member (codes "at") ms)
+  Ok (Delete key uid version at)
+
 unfoldable pub verb_request : List ℕ → Members → Result Request RequestError
 verb_request verb ms =
     if bytes_eq verb (codes "create") then (lifted (object_draft (get_member (codes "object") ms)) >>= λ d. Ok (Create d))
     else if bytes_eq verb (codes "get") then (lifted (key_in ms) >>= λ k. Ok (Get k))
     else if bytes_eq verb (codes "update") then (lifted (object_draft (get_member (codes "object") ms)) >>= λ d. Ok (Update d))
+    else if bytes_eq verb (codes "delete") then deletion_in ms
     else Err errors.UnknownVerb
 
 unfoldable pub request_of : List ℕ → Result Request RequestError

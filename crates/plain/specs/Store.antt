@@ -8,11 +8,11 @@ use Rattle.objects.specs.declared.object.Object.{Object}
 use Rattle.objects.specs.Key.{key_cmp, key_coded}
 use Rattle.objects.specs.Object.{object_coded}
 use Rattle.plain.specs.declared.request.Request.{Request}
-use Rattle.plain.specs.declared.request.Request.TheVariants.{Create, Get, Update}
+use Rattle.plain.specs.declared.request.Request.TheVariants.{Create, Get, Update, Delete}
 use Rattle.plain.specs.declared.reply.Reply.{Reply}
-use Rattle.plain.specs.declared.reply.Reply.TheVariants.{Created, Found, Updated, Unchanged, Refused}
+use Rattle.plain.specs.declared.reply.Reply.TheVariants.{Created, Found, Updated, Unchanged, Marked, Removed, Refused}
 use Rattle.plain.specs.declared.reply.Reason.TheVariants.{NotFound, StoreFull}
-use Rattle.plain.specs.Verdict.{Change, creates, updates, Verdict, refuse, same, write, on_create, on_update, stamp}
+use Rattle.plain.specs.Verdict.{Change, creates, updates, marks, removes, Verdict, refuse, same, write, on_create, on_update, on_delete, stamp}
 
 pub record Store : Type 0 where
   pub objects : FinMap key_cmp Object
@@ -32,6 +32,15 @@ opening capacity = record { objects = map.empty; counter = 0; capacity = capacit
 abbrev pub accepted : Change → Object → Reply
 accepted (creates o) written = Created written
 accepted (updates o) written = Updated written
+accepted (marks o) written = Marked written
+accepted (removes o) written = Removed written
+
+-- the map with a change made that draws the number n
+abbrev pub changed_map : FinMap key_cmp Object → Key → Change → ℕ → FinMap key_cmp Object
+changed_map m k (creates o) n = map.insert m k (stamp (creates o) n)
+changed_map m k (updates o) n = map.insert m k (stamp (updates o) n)
+changed_map m k (marks o) n = map.insert m k (stamp (marks o) n)
+changed_map m k (removes o) n = map.remove m k
 
 abbrev pub found : Option Object → Reply
 found None = Refused NotFound
@@ -44,10 +53,11 @@ carried_out s k (same o) = (s, Unchanged o)
 carried_out s k (write c) =
     let n = s.counter + 1 in
     if s.counter == s.capacity then (s, Refused StoreFull)
-    else (record { objects = map.insert s.objects k (stamp c n); counter = n; capacity = s.capacity }, accepted c (stamp c n))
+    else (record { objects = changed_map s.objects k c n; counter = n; capacity = s.capacity }, accepted c (stamp c n))
 
 -- one whole request: what the store is then, and the reply
 unfoldable pub step : Store → Request → Store × Reply
 step s (Get k) = (s, found (map.get s.objects k))
 step s (Create d) = carried_out s d.object.key (on_create d (map.get s.objects d.object.key))
 step s (Update d) = carried_out s d.object.key (on_update d (map.get s.objects d.object.key))
+step s (Delete k uid version at) = carried_out s k (on_delete version uid at (map.get s.objects k))

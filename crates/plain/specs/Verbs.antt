@@ -9,7 +9,7 @@ use Rattle.plain.specs.declared.request.RequestError.{RequestError}
 use Rattle.plain.specs.declared.request.RequestError.TheVariants as errors
 use Rattle.plain.specs.declared.request.Verb.{Verb}
 use Rattle.plain.specs.declared.request.Verb.TheVariants as verb
-use Rattle.plain.specs.Requests.{◌>>=◌, demanded, lifted, object_draft}
+use Rattle.plain.specs.Requests.{◌>>=◌, demanded, lifted, object_draft, deletion_in}
 
 -- the verb of that name
 abbrev pub verb_named : List ℕ → Option Verb
@@ -17,6 +17,7 @@ verb_named s =
     if bytes_eq s (codes "create") then Some verb.Create
     else if bytes_eq s (codes "get") then Some verb.Get
     else if bytes_eq s (codes "update") then Some verb.Update
+    else if bytes_eq s (codes "delete") then Some verb.Delete
     else None
 
 unfoldable pub verb_in : Members → Result Verb RequestError
@@ -28,3 +29,4 @@ unfoldable pub request_by : Verb → Members → Result Request RequestError
 request_by verb.Create ms = lifted (object_draft (get_member (codes "object") ms)) >>= λ d. Ok (Create d)
 request_by verb.Get ms = lifted (key_in ms) >>= λ k. Ok (Get k)
 request_by verb.Update ms = lifted (object_draft (get_member (codes "object") ms)) >>= λ d. Ok (Update d)
+request_by verb.Delete ms = deletion_in ms

@@ -1,11 +1,12 @@
-ghost use Rattle.std.specs.Prelude.{◌≡◌, Some, decimal, ◌<◌, ◌^◌};
+ghost use Rattle.std.specs.Prelude.{◌≡◌, ℕ, List, Option, Some, is_some, decimal, ◌<◌, ◌^◌, if◌then◌else◌};
 ghost use Rattle.std.specs.Option.{option_copied, option_map_or};
-ghost use Rattle.plain.specs.Verdict.{refuse, write, creates, unless_same, conflicts, differs, on_create, on_update};
+ghost use Rattle.plain.specs.Verdict.{Verdict, refuse, write, creates, unless_same, conflicts, deleted, differs, graceful, on_create, on_update, on_delete};
+ghost use Rattle.plain.specs.declared.reply.Reason.TheVariants.{Conflict};
 ghost use Rattle.objects.specs.Same.{same_data};
 ghost use Rattle.objects.specs.Uid.{uid_text};
 
 use crate::reply::Reason;
-use objects::{Draft, Object, Text, is_uid_text, is_version_text};
+use objects::{Draft, Kind, Object, Text, is_uid_text, is_version_text};
 
 /// Why a creation is refused, given the object that now has its key.
 pub(crate) fn refused_creation(draft: &Draft, current: Option<&Object>) -> Option<Reason>
@@ -24,10 +25,44 @@ pub(crate) fn refused_creation(draft: &Draft, current: Option<&Object>) -> Optio
 pub(crate) fn refused_update(draft: &Draft, current: &Object) -> Option<Reason>
     ensures { on_update draft.now (Some current.now) ≡ option_map_or refuse result (unless_same current.now draft.now) }
 {
-    if conflicts(draft, current) {
+    refused_precondition(draft.version.as_ref(), draft.uid.as_ref(), current)
+}
+
+/// Why a request is refused that names a resource version or a UID of the object.
+fn refused_precondition(
+    version: Option<&Text>,
+    uid: Option<&Text>,
+    current: &Object,
+) -> Option<Reason>
+    ensures { (v : Verdict) → (if conflicts (option_copied version.entry) (option_copied uid.entry) current.now then refuse Conflict else v)
+        ≡ option_map_or refuse result v }
+{
+    if conflicts(version, uid, current) {
         Some(Reason::Conflict)
     } else {
         None
+    }
+}
+
+/// Why a deletion is refused, given the object that now has its key.
+pub(crate) fn refused_deletion(
+    version: Option<&Text>,
+    uid: Option<&Text>,
+    current: &Object,
+) -> Option<Reason>
+    ensures { (at : Option (List ℕ)) → on_delete (option_copied version.entry) (option_copied uid.entry) at (Some current.now)
+        ≡ option_map_or refuse result (deleted (graceful current.now.key.kind at) current.now) }
+{
+    refused_precondition(version, uid, current)
+}
+
+/// The time of a graceful deletion, which only a pod has.
+pub(crate) fn graceful(current: &Object, at: Option<Text>) -> Option<Text>
+    ensures { result ≡ graceful current.now.key.kind at }
+{
+    match current.key.kind {
+        Kind::Pod => at,
+        Kind::StatefulSet | Kind::PersistentVolumeClaim | Kind::ControllerRevision => None,
     }
 }
 
@@ -38,13 +73,19 @@ pub(crate) fn is_unchanged(draft: &Draft, current: &Object) -> bool
     current.body.is_same(&draft.object.body)
 }
 
-/// Whether the draft names a resource version or a UID that is not the object's.
-fn conflicts(draft: &Draft, current: &Object) -> bool
-    ensures { result ≡ conflicts draft.now current.now }
+/// Whether a graceful deletion has marked the object.
+pub(crate) fn is_marked(current: &Object) -> bool
+    ensures { result ≡ is_some current.now.meta.deletion }
+{
+    current.meta.deletion.is_some()
+}
+
+/// Whether a resource version or a UID is given that is not the object's.
+fn conflicts(version: Option<&Text>, uid: Option<&Text>, current: &Object) -> bool
+    ensures { result ≡ conflicts (option_copied version.entry) (option_copied uid.entry) current.now }
 {
     let meta = &current.meta;
-    differs_in_version(draft.version.as_ref(), meta.revision)
-        || differs_in_uid(draft.uid.as_ref(), meta.uid)
+    differs_in_version(version, meta.revision) || differs_in_uid(uid, meta.uid)
 }
 
 fn differs_in_version(given: Option<&Text>, revision: u64) -> bool

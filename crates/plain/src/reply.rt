@@ -59,8 +59,12 @@ pub enum Reply {
     Found(Object),
     /// 200: the object as the update left it.
     Updated(Object),
-    /// 200: the object as it is, which the update would not have changed.
+    /// 200: the object as it is, which the request would not have changed.
     Unchanged(Object),
+    /// 200: the pod with the time of its deletion.
+    Marked(Object),
+    /// 200: the object as it last was, at the resource version of its removal.
+    Removed(Object),
     Refused(Reason),
 }
 
@@ -74,6 +78,8 @@ pub(crate) fn write_reply(reply: &Reply, out: &mut Writer) -> Result<(), AllocEr
         Reply::Found(object) => write_with_object(200, object, "Found", out),
         Reply::Updated(object) => write_with_object(200, object, "Updated", out),
         Reply::Unchanged(object) => write_with_object(200, object, "Unchanged", out),
+        Reply::Marked(object) => write_with_object(200, object, "Marked", out),
+        Reply::Removed(object) => write_with_object(200, object, "Removed", out),
         Reply::Refused(reason) => write_with_reason(reason.code(), reason.name(), out),
     }
 }

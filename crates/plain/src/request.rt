@@ -3,11 +3,13 @@ ghost use Rattle.serde_json.specs.Find.{get_member, as_str};
 ghost use Rattle.objects.specs.Steps.{Gives};
 ghost use Rattle.plain.specs.declared.request.RequestError.TheVariants.{Read};
 ghost use Rattle.plain.specs.Replies.{read_error_name, error_name};
-ghost use Rattle.plain.specs.Requests.{Answers, request_of, object_draft};
+ghost use Rattle.objects.specs.Tree.{data_of};
+ghost use Rattle.objects.specs.declared.fault.ReadError.TheVariants.{Memory as OutOfMemory};
+ghost use Rattle.plain.specs.Requests.{Answers, request_of, object_draft, deletion_in, field_text};
 ghost use Rattle.plain.specs.Verbs.{verb_named, verb_in, request_by};
 
-use objects::{Draft, Key, Members, ReadError, Tree, read_draft, read_key, read_tree};
-use std::alloc::Global;
+use objects::{Draft, Key, Members, ReadError, Text, Tree, read_draft, read_key, read_tree};
+use std::alloc::{AllocError, Global};
 use thiserror::Error;
 
 /// A request to the store.
@@ -16,10 +18,18 @@ pub enum Request {
     Create(Draft),
     Get(Key),
     Update(Draft),
+    /// A UID or a resource version that is given has to be the object's. With a time `at`, a pod is marked with it and
+    /// goes by a later delete without one (graceful deletion); for the other kinds it is passed over.
+    Delete {
+        key: Key,
+        uid: Option<Text>,
+        version: Option<Text>,
+        at: Option<Text>,
+    },
 }
 
 /// Why a line is no request: the first of these that fits, in the order of the tests (TooLong, NotJson and NotWhole
-/// of `ReadError`, NoVerb, UnknownVerb, then the other refusals of `ReadError`).
+/// of `ReadError`, NoVerb, UnknownVerb, then the other refusals of `ReadError`, last BadField).
 #[derive(Clone, Copy, Debug, PartialEq, Eq, Error)]
 pub enum RequestError {
     /// The value, the object or the key is refused.
@@ -30,6 +40,9 @@ pub enum RequestError {
     NoVerb,
     #[error("the verb is not known")]
     UnknownVerb,
+    /// The `uid`, the `resourceVersion` or the `at` of a delete is not a text.
+    #[error("a member of the request is not a text")]
+    BadField,
 }
 
 impl From<ReadError> for RequestError {
@@ -37,6 +50,14 @@ impl From<ReadError> for RequestError {
 
     fn from(error: ReadError) -> RequestError {
         RequestError::Read(error)
+    }
+}
+
+impl From<AllocError> for RequestError {
+    ghost from_gives = { λ _ e. e ≡ Read OutOfMemory };
+
+    fn from(_error: AllocError) -> RequestError {
+        RequestError::Read(ReadError::Memory)
     }
 }
 
@@ -49,6 +70,7 @@ impl RequestError {
             RequestError::Read(error) => read_error_name(error),
             RequestError::NoVerb => "NoVerb",
             RequestError::UnknownVerb => "UnknownVerb",
+            RequestError::BadField => "BadField",
         }
     }
 }
@@ -74,6 +96,7 @@ enum Verb {
     Create,
     Get,
     Update,
+    Delete,
 }
 
 impl Verb {
@@ -86,6 +109,8 @@ impl Verb {
             Some(Verb::Get)
         } else if name == "update" {
             Some(Verb::Update)
+        } else if name == "delete" {
+            Some(Verb::Delete)
         } else {
             None
         }
@@ -125,6 +150,34 @@ fn request_by(alloc: Global, verb: Verb, members: Members) -> Result<Request, Re
         Verb::Create => Ok(Request::Create(draft_in(alloc, members)?)),
         Verb::Get => Ok(Request::Get(read_key(alloc, &members)?)),
         Verb::Update => Ok(Request::Update(draft_in(alloc, members)?)),
+        Verb::Delete => deletion_in(alloc, &members),
+    }
+}
+
+fn deletion_in(alloc: Global, members: &Members) -> Result<Request, RequestError>
+    ensures { Answers result (deletion_in members.now) }
+{
+    let key = read_key(alloc, members)?;
+    let uid = text_field(members, "uid")?;
+    let version = text_field(members, "resourceVersion")?;
+    let at = text_field(members, "at")?;
+    Ok(Request::Delete {
+        key,
+        uid,
+        version,
+        at,
+    })
+}
+
+/// The text of a member, if there is one that is not empty.
+fn text_field(members: &Members, name: &str) -> Result<Option<Text>, RequestError>
+    ensures { Answers result (field_text (get_member name.now members.now)) }
+{
+    match members.get(name) {
+        None | Some(Tree::Null) => Ok(None),
+        Some(Tree::Text(text)) if text.as_str().is_empty() => Ok(None),
+        Some(Tree::Text(text)) => Ok(Some(text.clone()?)),
+        Some(_) => Err(RequestError::BadField),
     }
 }
 

@@ -6,7 +6,7 @@ use std::process::Abort;
 use std::test::Fail;
 
 /// Lines that are no request, each with the first refusal that fits.
-static REFUSED: [(&str, RequestError); 29] = [
+static REFUSED: [(&str, RequestError); 36] = [
     ("", RequestError::Read(ReadError::NotJson)),
     ("{", RequestError::Read(ReadError::NotJson)),
     (
@@ -98,6 +98,35 @@ static REFUSED: [(&str, RequestError); 29] = [
         r#"{"do":"get","kind":"StatefulSet","name":"a.b"}"#,
         RequestError::Read(ReadError::BadName),
     ),
+    // A deletion: the key first, and then each field that is no text.
+    (
+        r#"{"do":"delete","object":{"kind":"Pod","metadata":{"name":"x"}}}"#,
+        RequestError::Read(ReadError::NoKind),
+    ),
+    (
+        r#"{"do":"delete","kind":"Pod","name":"X","uid":1}"#,
+        RequestError::Read(ReadError::BadName),
+    ),
+    (
+        r#"{"do":"delete","kind":"Pod","name":"x","uid":1}"#,
+        RequestError::BadField,
+    ),
+    (
+        r#"{"do":"delete","kind":"Pod","name":"x","resourceVersion":2}"#,
+        RequestError::BadField,
+    ),
+    (
+        r#"{"do":"delete","kind":"Pod","name":"x","at":{}}"#,
+        RequestError::BadField,
+    ),
+    (
+        r#"{"do":"delete","kind":"StatefulSet","name":"x","at":[]}"#,
+        RequestError::BadField,
+    ),
+    (
+        r#"{"do":"delete","kind":"Pod","name":"x","uid":null,"at":false}"#,
+        RequestError::BadField,
+    ),
 ];
 
 #[test]
@@ -149,13 +178,31 @@ fn lines_that_are_requests(rt: HostRuntime) -> Result<(), Fail> {
         Request::Update(draft) => assert_eq!(rt; draft.object.key.name.as_str(), "x"),
         _ => panic!(rt; "no update"),
     }
+    match read_request(
+        rt.alloc(),
+        br#"{"do":"delete","kind":"Pod","name":"x","uid":"","resourceVersion":"2","at":null}"#,
+    )? {
+        Request::Delete {
+            key,
+            uid,
+            version,
+            at,
+        } => {
+            assert_eq!(rt; key.name.as_str(), "x");
+            assert!(rt; uid.is_none());
+            assert!(rt; version.is_some_and(|version| version.as_str() == "2"));
+            assert!(rt; at.is_none());
+        }
+        _ => panic!(rt; "no delete"),
+    }
     Ok(())
 }
 
 /// The names of refusals.
-static NAMES: [(RequestError, &str); 9] = [
+static NAMES: [(RequestError, &str); 10] = [
     (RequestError::NoVerb, "NoVerb"),
     (RequestError::UnknownVerb, "UnknownVerb"),
+    (RequestError::BadField, "BadField"),
     (RequestError::Read(ReadError::NotJson), "NotJson"),
     (RequestError::Read(ReadError::NotWhole), "NotWhole"),
     (RequestError::Read(ReadError::NoKind), "NoKind"),
@@ -211,6 +258,8 @@ fn outcome(reply: &Reply) -> &'static str {
         Reply::Found(_) => "Found",
         Reply::Updated(_) => "Updated",
         Reply::Unchanged(_) => "Unchanged",
+        Reply::Marked(_) => "Marked",
+        Reply::Removed(_) => "Removed",
         Reply::Refused(reason) => reason.name(),
     }
 }
@@ -220,7 +269,9 @@ fn object_in(reply: &Reply) -> Option<&Object> {
         Reply::Created(object)
         | Reply::Found(object)
         | Reply::Updated(object)
-        | Reply::Unchanged(object) => Some(object),
+        | Reply::Unchanged(object)
+        | Reply::Marked(object)
+        | Reply::Removed(object) => Some(object),
         Reply::Refused(_) => None,
     }
 }
@@ -388,4 +439,87 @@ fn a_store_is_full_at_its_capacity(rt: HostRuntime) -> Result<(), Fail> {
         assert_takes(&rt, rt.alloc(), &mut plain, line, *expected)?;
     }
     Ok(())
+}
+
+const MARK: &str = r#"{"at":"2024-01-01T00:00:00Z","do":"delete","kind":"Pod","name":"web-0"}"#;
+
+const DELETE: &str = r#"{"do":"delete","kind":"Pod","name":"web-0"}"#;
+
+/// Lines to a new store of much room, as above: a pod is marked, goes, and comes again.
+static ROWS_OF_DELETION: [(&str, (&str, u64, u64, &str)); 22] = [
+    (DELETE, ("NotFound", 0, 0, "")),
+    (CREATE, ("Created", 1, 1, "")),
+    (MARK, ("Marked", 2, 1, "")),
+    // It is marked once, whatever the time, and still holds its name.
+    (MARK, ("Unchanged", 2, 1, "")),
+    (
+        r#"{"at":"later","do":"delete","kind":"Pod","name":"web-0","uid":"00000000-0000-4000-8000-000000000001"}"#,
+        ("Unchanged", 2, 1, ""),
+    ),
+    (CREATE, ("AlreadyExists", 0, 0, "")),
+    (GET, ("Found", 2, 1, "")),
+    // Preconditions are tested before anything else.
+    (
+        r#"{"do":"delete","kind":"Pod","name":"web-0","resourceVersion":"1"}"#,
+        ("Conflict", 0, 0, ""),
+    ),
+    (
+        r#"{"do":"delete","kind":"Pod","name":"web-0","uid":"00000000-0000-4000-8000-000000000002"}"#,
+        ("Conflict", 0, 0, ""),
+    ),
+    (DELETE, ("Removed", 3, 1, "")),
+    (GET, ("NotFound", 0, 0, "")),
+    (DELETE, ("NotFound", 0, 0, "")),
+    (MARK, ("NotFound", 0, 0, "")),
+    (CREATE, ("Created", 4, 4, "")),
+    // The successor stays where the UID of the first is named.
+    (
+        r#"{"do":"delete","kind":"Pod","name":"web-0","uid":"00000000-0000-4000-8000-000000000001"}"#,
+        ("Conflict", 0, 0, ""),
+    ),
+    (GET, ("Found", 4, 4, "")),
+    (
+        r#"{"do":"delete","kind":"Pod","name":"web-0","resourceVersion":"4","uid":"00000000-0000-4000-8000-000000000004"}"#,
+        ("Removed", 5, 4, ""),
+    ),
+    // Another kind has no graceful deletion, and its time is passed over.
+    (
+        r#"{"do":"create","object":{"kind":"PersistentVolumeClaim","metadata":{"name":"web-0"}}}"#,
+        ("Created", 6, 6, ""),
+    ),
+    (DELETE, ("NotFound", 0, 0, "")),
+    (
+        r#"{"at":"2024-01-01T00:00:00Z","do":"delete","kind":"PersistentVolumeClaim","name":"web-0"}"#,
+        ("Removed", 7, 6, ""),
+    ),
+    (
+        r#"{"do":"get","kind":"PersistentVolumeClaim","name":"web-0"}"#,
+        ("NotFound", 0, 0, ""),
+    ),
+    (CREATE, ("Created", 8, 8, "")),
+];
+
+#[test]
+fn pods_are_marked_before_they_go(rt: HostRuntime) -> Result<(), Fail> {
+    let mut plain = Plain::new(rt.alloc(), 1_048_576)?;
+    for (line, expected) in ROWS_OF_DELETION.iter() {
+        assert_takes(&rt, rt.alloc(), &mut plain, line, *expected)?;
+    }
+    Ok(())
+}
+
+#[test]
+fn a_marked_pod_has_the_time(rt: HostRuntime) -> Result<(), Fail> {
+    let mut plain = Plain::new(rt.alloc(), 2)?;
+    plain.take(read_request(rt.alloc(), CREATE.as_bytes())?)?;
+    match plain.take(read_request(rt.alloc(), MARK.as_bytes())?)? {
+        Reply::Marked(object) => {
+            let time = object.meta.deletion;
+            assert!(rt; time.is_some_and(|time| time.as_str() == "2024-01-01T00:00:00Z"));
+        }
+        _ => panic!(rt; "not marked"),
+    }
+    // A full store still answers what changes nothing, and takes nothing away.
+    assert_takes(&rt, rt.alloc(), &mut plain, MARK, ("Unchanged", 2, 1, ""))?;
+    assert_takes(&rt, rt.alloc(), &mut plain, DELETE, ("StoreFull", 0, 0, ""))
 }

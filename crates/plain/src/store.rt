@@ -1,14 +1,16 @@
-ghost use Rattle.std.specs.Prelude.{◌≡◌, ◌≢◌, ◌≤◌, ◌<◌, ◌↔◌, ◌==◌, ◌+◌, ◌^◌, IfOk, IfSome, OnOk, OnErr, IsErrOf};
+ghost use Rattle.std.specs.Prelude.{◌≡◌, ◌≢◌, ◌≤◌, ◌<◌, ◌↔◌, ◌==◌, ◌+◌, ◌^◌, Some, IfOk, IfSome, OnOk, OnErr, IsErrOf};
 ghost use Rattle.std.specs.FinMap as map;
 ghost use Rattle.std.specs.Option.{option_copied};
-ghost use Rattle.plain.specs.Store.{step, opening, found};
-ghost use Rattle.plain.specs.Verdict.{stamp, creates, updates, updated};
-ghost use Rattle.plain.specs.declared.request.Request.TheVariants.{Create, Update};
+ghost use Rattle.plain.specs.Store.{carried_out, step, opening, found};
+ghost use Rattle.plain.specs.Verdict.{stamp, at_version, creates, marked, marks, removes, updates, updated, write};
+ghost use Rattle.plain.specs.declared.request.Request.TheVariants.{Create, Delete, Update};
 
-use crate::decide::{is_unchanged, refused_creation, refused_update};
+use crate::decide::{
+    graceful, is_marked, is_unchanged, refused_creation, refused_deletion, refused_update,
+};
 use crate::reply::{Reason, Reply};
 use crate::request::Request;
-use objects::{Draft, Key, Memory, Meta, Object};
+use objects::{Draft, Key, Memory, Meta, Object, Text};
 use std::alloc::{AllocError, Global};
 use std::collections::BTreeMap;
 use std::marker::Model;
@@ -73,6 +75,12 @@ impl Plain {
             Request::Create(draft) => self.create(draft),
             Request::Get(key) => self.get(&key),
             Request::Update(draft) => self.update(draft),
+            Request::Delete {
+                key,
+                uid,
+                version,
+                at,
+            } => self.delete(&key, uid.as_ref(), version.as_ref(), at),
         }
     }
 
@@ -128,11 +136,68 @@ impl Plain {
         Ok(Reply::Updated(written))
     }
 
+    fn delete(
+        &mut self,
+        key: &Key,
+        uid: Option<&Text>,
+        version: Option<&Text>,
+        at: Option<Text>,
+    ) -> Result<Reply, Memory>
+        ensures step { IfOk result (λ reply. (self.new, reply)
+            ≡ step self.old (Delete key.now (option_copied uid.entry) (option_copied version.entry) at)) }
+        ensures memory { OnErr result (self.new ≡ self.old) }
+    {
+        let Some(current) = self.find(key) else {
+            return Ok(Reply::Refused(Reason::NotFound));
+        };
+        if let Some(reason) = refused_deletion(version, uid, current) {
+            return Ok(Reply::Refused(reason));
+        }
+        let Some(at) = graceful(current, at) else {
+            return self.remove(key);
+        };
+        if is_marked(current) {
+            return Ok(Reply::Unchanged(current.clone()?));
+        }
+        if self.is_full() {
+            return Ok(Reply::Refused(Reason::StoreFull));
+        }
+        let object = marked(current, at, self.counter + 1)?;
+        let written = self.write(object)?;
+        Ok(Reply::Marked(written))
+    }
+
     /// Whether all revisions are drawn.
     fn is_full(&self) -> bool
         ensures { result ≡ (self.now.counter == self.now.capacity) }
     {
         self.counter == self.capacity
+    }
+
+    /// Takes the object of that key away, and answers it at the revision that this draws.
+    fn remove(&mut self, key: &Key) -> Result<Reply, Memory>
+        ensures step { IfOk result (λ reply. (current : Object) → map.get self.old.objects key.now ≡ Some current
+            → (self.new, reply) ≡ carried_out self.old key.now (write (removes current))) }
+        ensures memory { OnErr result (self.new ≡ self.old) }
+    {
+        let Some(current) = self.find(key) else {
+            return Ok(Reply::Refused(Reason::NotFound));
+        };
+        if self.is_full() {
+            return Ok(Reply::Refused(Reason::StoreFull));
+        }
+        let removed = at_version(current, self.counter + 1)?;
+        self.drop_entry(key);
+        Ok(Reply::Removed(removed))
+    }
+
+    /// Draws the next revision for the removal of the object of that key.
+    fn drop_entry(&mut self, key: &Key)
+        requires { self.old.counter ≢ self.old.capacity }
+        ensures { self.new ≡ record { objects = map.remove self.old.objects key.now; counter = self.old.counter + 1; capacity = self.old.capacity } }
+    {
+        self.objects.remove(key);
+        self.counter += 1;
     }
 
     /// Draws the next revision for this object, and answers a copy of it.
@@ -188,4 +253,38 @@ fn updated(draft: Draft, current: &Object, number: u64) -> Result<Object, AllocE
     let Draft { object, .. } = draft;
     let Object { key, meta: _, body } = object;
     Ok(Object { key, meta, body })
+}
+
+/// The object at another revision.
+fn at_version(object: &Object, revision: u64) -> Result<Object, AllocError>
+    ensures { IfOk result (λ copy. copy ≡ at_version object.now revision) }
+{
+    let meta = Meta {
+        uid: object.meta.uid,
+        revision,
+        generation: object.meta.generation,
+        deletion: object.meta.deletion.clone()?,
+    };
+    Ok(Object {
+        key: object.key.clone()?,
+        meta,
+        body: object.body.clone()?,
+    })
+}
+
+/// The object as the revision that marks it with the time of its deletion leaves it.
+fn marked(object: &Object, at: Text, revision: u64) -> Result<Object, AllocError>
+    ensures { IfOk result (λ copy. copy ≡ stamp (marks (marked at object.now)) revision) }
+{
+    let meta = Meta {
+        uid: object.meta.uid,
+        revision,
+        generation: object.meta.generation,
+        deletion: Some(at),
+    };
+    Ok(Object {
+        key: object.key.clone()?,
+        meta,
+        body: object.body.clone()?,
+    })
 }

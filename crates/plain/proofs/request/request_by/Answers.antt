@@ -1,5 +1,5 @@
 use Rattle.std.proofs.lemmas.Result.{err_from_is_err_and}
-use Rattle.plain.proofs.Readings.{create_refused, get_refused, update_refused, create_read, get_read, update_read}
+use Rattle.plain.proofs.Readings.{create_refused, get_refused, update_refused, create_read, get_read, update_read, delete_at}
 use Rattle.plain.proofs.request.request_by.Goals as goal
 
 pub returns-in_err-draft_in-in-Create : goal.returns-in_err-draft_in-in-Create
@@ -25,3 +25,6 @@ returns-in_err-draft_in-in-Update c =
 
 pub returns-in_ok-draft_in-in-Update : goal.returns-in_ok-draft_in-in-Update
 returns-in_ok-draft_in-in-Update c = update_read c.args.verb c.args.members _ c.in-Update.is c.in_ok-draft_in-in-Update.ensures
+
+pub returns-in-Delete : goal.returns-in-Delete
+returns-in-Delete c = delete_at c.args.verb c.args.members c.deletion_in.result c.in-Delete.is c.deletion_in.ensures
