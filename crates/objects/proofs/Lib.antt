@@ -17,3 +17,4 @@ pub mod DraftAgain
 pub mod WholeTokens
 pub mod ReadsAgain
 pub mod Sameness
+pub mod KeyTexts

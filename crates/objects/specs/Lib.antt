@@ -2,6 +2,7 @@ pub mod Codes
 pub mod Names
 pub mod Kind
 pub mod Key
+pub mod ShardOf
 pub mod Meta
 pub mod Whole
 pub mod Tree

@@ -18,6 +18,7 @@ mod pod_names;
 mod print;
 mod read;
 mod same;
+mod shard;
 #[cfg(test)]
 mod tests;
 mod text;
@@ -37,6 +38,7 @@ pub use pod_names::{
 };
 pub use print::{print_object, write_object};
 pub use read::{read_draft, read_key, read_object, read_tree};
+pub use shard::shard_of;
 pub use text::Text;
 pub use tree::{Items, Members, Tree};
 pub use uid::{is_uid_text, is_version_text, uid_number, uid_text};
