@@ -10,6 +10,7 @@ pub mod TreeFalls
 pub mod Uid
 pub mod PodNames
 pub mod Object
+pub mod Metadata
 pub mod Steps
 pub mod Reading
 pub mod Text

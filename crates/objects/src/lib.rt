@@ -9,6 +9,7 @@ mod key;
 mod kind;
 mod memory;
 mod meta;
+mod metadata;
 mod names;
 mod object;
 mod places;

@@ -151,6 +151,16 @@ impl Members {
 }
 
 impl Tree {
+    /// The items, if this is a list.
+    pub fn as_list(&self) -> Option<&Items>
+        ensures { option_map (λ i. i.now) result ≡ as_array (data_of self.now) }
+    {
+        match self {
+            Tree::List(items) => Some(items),
+            _ => None,
+        }
+    }
+
     /// The members, if this is a map.
     pub fn as_map(&self) -> Option<&Members>
         ensures { option_map (λ m. m.now) result ≡ as_object (data_of self.now) }
