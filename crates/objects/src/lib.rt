@@ -10,6 +10,8 @@ mod kind;
 mod memory;
 mod meta;
 mod metadata;
+#[cfg(test)]
+mod metadata_tests;
 mod names;
 mod object;
 mod places;

@@ -315,6 +315,7 @@ fn trees_give_their_parts(rt: HostRuntime) -> Result<(), Fail> {
         br#"{"b":["x",-7,18446744073709551615],"a":null,"c":true}"#,
     )?;
     assert!(rt; tree.as_text().is_none());
+    assert!(rt; tree.as_list().is_none());
     let members = tree.clone()?;
     let members = members.as_map().ok_or("no map")?;
     assert_eq!(rt; members.entries().len(), 3);
