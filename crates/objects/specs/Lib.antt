@@ -6,6 +6,7 @@ pub mod ShardOf
 pub mod Meta
 pub mod Whole
 pub mod Tree
+pub mod Same
 pub mod TreeFalls
 pub mod Uid
 pub mod PodNames
@@ -19,4 +20,3 @@ pub mod Places
 pub mod Proper
 pub mod Merged
 pub mod Again
-pub mod Same
