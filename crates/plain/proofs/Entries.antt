@@ -96,7 +96,7 @@ pub found_filed : (found : Option (Bor Object)) (es : List (KeyParts × Object))
 found_filed None es key filed at = tt
 found_filed (Some o) es key filed at = filed key o.now (get_object es key ∙ sym at)
 
-equal_from : (r : Ordering) → is_eq r ≡ true → r ≡ Equal
+pub equal_from : (r : Ordering) → is_eq r ≡ true → r ≡ Equal
 equal_from Less e = cc
 equal_from Equal e = refl
 equal_from Greater e = cc

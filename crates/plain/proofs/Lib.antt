@@ -7,3 +7,4 @@ pub mod Flows
 pub mod Servings
 pub mod RunsOfLines
 pub mod DrawnNumbers
+pub mod OneKey

@@ -10,6 +10,7 @@ pub mod Cuts
 pub mod Served
 pub mod ServedRun
 pub mod Drawn
+pub mod Keys
 pub mod Streams
 pub mod Faults
 pub mod Serving

@@ -1,6 +1,6 @@
 -- What a request comes to, given the object that now has its key (Kubernetes API concepts: resource versions,
 -- UIDs, and the preconditions of a write).
-use Rattle.std.specs.Prelude.{ℕ, Bool, true, false, not, ◌||◌, List, bytes_eq, decimal, Option, Some, None, is_some, if◌then◌else◌}
+use Rattle.std.specs.Prelude.{ℕ, Bool, false, not, ◌||◌, List, bytes_eq, decimal, Option, Some, None, is_some, if◌then◌else◌}
 use Rattle.std.specs.Option.{option_map_or}
 use Rattle.objects.specs.declared.kind.Kind.{Kind}
 use Rattle.objects.specs.declared.kind.Kind.TheVariants.{StatefulSet, Pod, PersistentVolumeClaim, ControllerRevision}

@@ -25,8 +25,8 @@ pub use devices::{ReadSource, WriteSink};
 pub use reply::{Reason, Reply};
 pub use request::{Request, RequestError, read_request};
 pub use runs::{
-    lines_are_one_run, only_writes_change_the_store, runs_go_on, uids_are_given_once,
-    versions_rise_by_one,
+    deletes_spare_other_uids, lines_are_one_run, only_writes_change_the_store,
+    requests_touch_one_key, runs_go_on, uids_are_given_once, versions_rise_by_one,
 };
 pub use server::{ServeFault, serve};
 pub use slices::SliceSource;

@@ -508,17 +508,24 @@ fn pods_are_marked_before_they_go(rt: HostRuntime) -> Result<(), Fail> {
     Ok(())
 }
 
+/// The time of the deletion that marks an object, or an empty text.
+fn time(reply: &Reply) -> &str {
+    time_in(reply).unwrap_or("")
+}
+
+fn time_in(reply: &Reply) -> Option<&str> {
+    let time = object_in(reply)?.meta.deletion.as_ref()?;
+    Some(time.as_str())
+}
+
 #[test]
 fn a_marked_pod_has_the_time(rt: HostRuntime) -> Result<(), Fail> {
     let mut plain = Plain::new(rt.alloc(), 2)?;
-    plain.take(read_request(rt.alloc(), CREATE.as_bytes())?)?;
-    match plain.take(read_request(rt.alloc(), MARK.as_bytes())?)? {
-        Reply::Marked(object) => {
-            let time = object.meta.deletion;
-            assert!(rt; time.is_some_and(|time| time.as_str() == "2024-01-01T00:00:00Z"));
-        }
-        _ => panic!(rt; "not marked"),
-    }
+    let created = plain.take(read_request(rt.alloc(), CREATE.as_bytes())?)?;
+    assert_eq!(rt; time(&created), "");
+    let marked = plain.take(read_request(rt.alloc(), MARK.as_bytes())?)?;
+    assert_eq!(rt; outcome(&marked), "Marked");
+    assert_eq!(rt; time(&marked), "2024-01-01T00:00:00Z");
     // A full store still answers what changes nothing, and takes nothing away.
     assert_takes(&rt, rt.alloc(), &mut plain, MARK, ("Unchanged", 2, 1, ""))?;
     assert_takes(&rt, rt.alloc(), &mut plain, DELETE, ("StoreFull", 0, 0, ""))

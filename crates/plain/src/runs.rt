@@ -1,5 +1,13 @@
-ghost use Rattle.std.specs.Prelude.{◌≡◌, ◌+◌, ℕ, List, ◌++◌, length, map, None};
+ghost use Rattle.std.specs.Prelude.{◌≡◌, ◌+◌, ℕ, List, ◌++◌, bytes_eq, false, length, map as list_map, Option, Some, None};
+ghost use Rattle.std.specs.FinMap as map;
+ghost use Rattle.objects.specs.declared.key.Key.{Key};
+ghost use Rattle.objects.specs.declared.object.Object.{Object};
+ghost use Rattle.objects.specs.Uid.{uid_text};
 ghost use Rattle.plain.specs.declared.request.Request.{Request};
+ghost use Rattle.plain.specs.declared.request.Request.TheVariants.{Delete};
+ghost use Rattle.plain.specs.declared.reply.Reply.TheVariants.{Refused};
+ghost use Rattle.plain.specs.declared.reply.Reason.TheVariants.{Conflict};
+ghost use Rattle.plain.specs.Keys.{key_named};
 ghost use Rattle.plain.specs.Store.{Store, step};
 ghost use Rattle.plain.specs.Run.{after, replies};
 ghost use Rattle.plain.specs.Drawn.{AreNext, AreRising, uids_given, version_drawn, versions_drawn};
@@ -10,7 +18,7 @@ ghost use Rattle.plain.specs.ServedRun.{requests, reply_lines};
 /// The replies that `serve` writes are those of one run of the plain store by the requests among the lines, in their
 /// order, with the refusals of the other lines at their places.
 pub fn lines_are_one_run()
-    ensures { (s : Store) (lines : List (List ℕ)) → let readings = map request_of lines in
+    ensures { (s : Store) (lines : List (List ℕ)) → let readings = list_map request_of lines in
         answers s lines ≡ reply_lines readings (replies s (requests readings)) }
 {}
 
@@ -35,4 +43,17 @@ pub fn uids_are_given_once()
 /// A request that draws no number leaves the store as it was: one that is refused, reads, or would change nothing.
 pub fn only_writes_change_the_store()
     ensures { (s : Store) (request : Request) → version_drawn (step s request).1 ≡ None → (step s request).0 ≡ s }
+{}
+
+/// A request leaves the objects of all keys as they were but the one that it names.
+pub fn requests_touch_one_key()
+    ensures { (s : Store) (request : Request) (key : Key) → (key ≡ key_named request → ⊥)
+        → map.get (step s request).0.objects key ≡ map.get s.objects key }
+{}
+
+/// A delete that names a UID takes away, and marks, no object of another UID: it is a Conflict, and changes nothing.
+pub fn deletes_spare_other_uids()
+    ensures { (s : Store) (key : Key) (uid : List ℕ) (version at : Option (List ℕ)) (current : Object)
+        → map.get s.objects key ≡ Some current → bytes_eq uid (uid_text current.meta.uid) ≡ false
+        → step s (Delete key (Some uid) version at) ≡ (s, Refused Conflict) }
 {}
