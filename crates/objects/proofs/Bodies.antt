@@ -1,6 +1,7 @@
 -- The body of an object: its metadata without the held members.
 use Rattle.std.proofs.Common.{◌≡◌, ℕ, List, [], ◌∷◌, Bool, true, false, not, filter, cond, Option, Some, None, Ok, refl, sym, ap, ◌∙◌, subst}
 use Rattle.std.specs.Prelude.{codes, bytes_eq, option_and_then}
+use Rattle.std.proofs.lemmas.Bool.{and_parts}
 use Rattle.std.proofs.lemmas.Slice.Eq.{bytes_eq-Decides}
 use Rattle.serde_json.specs.Data.{Data, null, boolean, number, string, array, object, Members, no_members, member, put}
 use Rattle.serde_json.specs.Find.{get_member, as_str, as_object}
@@ -11,9 +12,11 @@ use Rattle.objects.specs.declared.fault.ReadError.TheVariants.{NoKind, UnknownKi
 use Rattle.objects.specs.declared.tree.Tree.{Tree}
 use Rattle.objects.specs.Tree.{data_of, members_of}
 use Rattle.objects.specs.Kind.{kind_name, kind_named, api_version}
+use Rattle.objects.specs.MetadataShape.{labels_fit, owners_fit, metadata_fits}
 use Rattle.objects.specs.Object.{is_held, without_held, has_held, is_missing_or, IsBody, SaysKind}
 use Rattle.objects.specs.Steps.{◌>>=◌, required, guarded}
 use Rattle.objects.specs.Reading.{kind_in}
+use Rattle.objects.proofs.HeldMembers.{unheld_found}
 
 held_at : (held : Bool) (e : List ℕ × Tree) (es : List (List ℕ × Tree)) (ms : Members) → members_of es ≡ ms → members_of (cond (not held) (e ∷ es) es) ≡ cond held ms (member e.0 (data_of e.1) ms)
 held_at true e es ms h = h
@@ -76,11 +79,17 @@ version_says ms named kind h =
     let both = guarded_kind (is_missing_or (api_version named) (get_member (codes "apiVersion") ms)) named kind h in
     (subst (λ k. is_missing_or (api_version k) (get_member (codes "apiVersion") ms) ≡ true) both.1 both.0, both.1)
 
+-- both members fit
+pub fits_parts : (ms : Members) → metadata_fits ms ≡ true → (labels_fit (get_member (codes "labels") ms) ≡ true) × (owners_fit (get_member (codes "ownerReferences") ms) ≡ true)
+unfolding metadata_fits
+fits_parts ms fits = and_parts (labels_fit (get_member (codes "labels") ms)) (owners_fit (get_member (codes "ownerReferences") ms)) fits
+
 -- what a body has to say, said by the members that were read
 pub body_said : (kind : Kind) (ms metadata : Members) → get_member (codes "kind") ms ≡ Some (string (kind_name kind)) → is_missing_or (api_version kind) (get_member (codes "apiVersion") ms) ≡ true
-    → IsBody kind (object (put (codes "metadata") (object (without_held metadata)) ms))
-body_said kind ms metadata kind_said version_said =
+    → metadata_fits metadata ≡ true → IsBody kind (object (put (codes "metadata") (object (without_held metadata)) ms))
+body_said kind ms metadata kind_said version_said fits =
     let d = object (without_held metadata) in
+    let parts = fits_parts metadata fits in
     record {
       members = put (codes "metadata") d ms;
       metadata = without_held metadata;
@@ -89,6 +98,8 @@ body_said kind ms metadata kind_said version_said =
       version_said = ap (is_missing_or (api_version kind)) (get_member-put_other (codes "apiVersion") (codes "metadata") d ms (λ e. absurd cc)) ∙ version_said;
       metadata_said = get_member-put (codes "metadata") d ms;
       none_held = has_held-without_held metadata;
+      labels_said = ap labels_fit (unheld_found (codes "labels") metadata refl) ∙ parts.0;
+      owners_said = ap owners_fit (unheld_found (codes "ownerReferences") metadata refl) ∙ parts.1;
     }
 
 -- what was read of the kind

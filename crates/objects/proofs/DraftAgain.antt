@@ -17,6 +17,7 @@ use Rattle.objects.specs.Names.{is_dns_label}
 use Rattle.objects.specs.Kind.{kind_name, kind_named, api_version, is_name}
 use Rattle.objects.specs.Key.{KeyParts, is_key}
 use Rattle.objects.specs.Meta.{MetaParts, IsMeta}
+use Rattle.objects.specs.MetadataShape.{labels_fit, owners_fit, metadata_fits}
 use Rattle.objects.specs.Object.{IsBody, is_missing_or, without_held}
 use Rattle.objects.specs.Tree.{AreAscending}
 use Rattle.objects.specs.Proper.{IsProper}
@@ -25,7 +26,7 @@ use Rattle.objects.specs.Text.{unless_zero, whole_metadata, printed}
 use Rattle.objects.specs.Uid.{uid_text, uid_number, version_number}
 use Rattle.objects.specs.Again.{text_unless_zero, draft_again_of}
 use Rattle.objects.proofs.PutOrder.{apart, put_back}
-use Rattle.objects.proofs.HeldMembers.{whole_without, whole_name, whole_namespace, whole_uid, whole_version, whole_generation, whole_deletion}
+use Rattle.objects.proofs.HeldMembers.{whole_without, whole_name, whole_namespace, whole_uid, whole_version, whole_generation, whole_deletion, whole_unheld}
 use Rattle.objects.proofs.UidRound.{version_number-decimal, uid_number-uid_text, length-decimal, length-uid}
 use Rattle.objects.proofs.PrintedObjects.{printed_members, printed_is, body_proper}
 
@@ -94,9 +95,17 @@ unfolding stated_in
 stated_again ms uid version generation deletion u v d g some_uid some_version = rw (u, v, d, g, some_uid, some_version) refl
 
 pub draft_steps : (ms metadata : Members) (kind : Kind) (key : KeyParts) (s : Stated) → kind_in ms ≡ Ok kind → is_missing_or (api_version kind) (get_member (codes "apiVersion") ms) ≡ true
-    → get_member (codes "metadata") ms ≡ Some (object metadata) → key_of kind metadata ≡ Ok key → stated_in metadata ≡ Ok s → draft_in ms ≡ Ok (draft_parts key s metadata ms)
+    → get_member (codes "metadata") ms ≡ Some (object metadata) → key_of kind metadata ≡ Ok key → metadata_fits metadata ≡ true → stated_in metadata ≡ Ok s → draft_in ms ≡ Ok (draft_parts key s metadata ms)
 unfolding draft_in
-draft_steps ms metadata kind key s read tested found keyed said = rw (read, tested, found, keyed, said) refl
+draft_steps ms metadata kind key s read tested found keyed fits said = rw (read, tested, found, keyed, fits, said) refl
+
+-- the labels and the owners fit as before
+pub fits_again : (o : Object) (b : IsBody o.key.kind o.body) → metadata_fits (whole_metadata o b.metadata) ≡ true
+unfolding metadata_fits
+fits_again o b =
+    let labels = ap labels_fit (whole_unheld (codes "labels") o b.metadata refl b.none_held) ∙ b.labels_said in
+    let owners = ap owners_fit (whole_unheld (codes "ownerReferences") o b.metadata refl b.none_held) ∙ b.owners_said in
+    rw (labels, owners) refl
 
 abbrev pub said_of : Object → Stated
 said_of o = stated (text_unless_zero o.meta.uid (uid_text o.meta.uid)) (text_unless_zero o.meta.revision (decimal o.meta.revision)) o.meta.generation o.meta.deletion
@@ -146,6 +155,7 @@ members_again o b right meta ascending =
     (ap (is_missing_or (api_version o.key.kind)) (get_member-put_other (codes "apiVersion") (codes "metadata") (object w) b.members (apart _ _ refl)) ∙ b.version_said)
     (get_member-put (codes "metadata") (object w) b.members)
     (key_again w o.key (whole_namespace o b.metadata) (whole_name o b.metadata) right)
+    (fits_again o b)
     (said_again o b meta)
     ∙ (λ i. Ok (draft_from o (meta_again o meta i) (body_again o b ascending i)))
 

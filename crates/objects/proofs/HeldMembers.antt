@@ -56,6 +56,22 @@ held_missing q (member l e ms) held h =
     let both = neither (is_held l) (has_held ms) h in
     held_missing_at (slice_cmp nat_cmp q l) q l e ms refl held both.0 (held_missing q ms held both.1)
 
+kept_past : (o : Ordering) (q l : List ℕ) (e : Data) (ms : Members) → slice_cmp nat_cmp q l ≡ o → is_held q ≡ false → is_held l ≡ true → get_member q (without_held ms) ≡ get_member q ms
+    → get_member q (without_held ms) ≡ match_ordering o (get_member q ms) (Some e) (get_member q ms)
+kept_past Less q l e ms is other held later = later
+kept_past Equal q l e ms is other held later = absurd (let q_held : is_held q ≡ true = subst (λ t. is_held t ≡ true) (sym (equal_texts q l is)) held in let clash : true ≡ false = sym q_held ∙ other in cc)
+kept_past Greater q l e ms is other held later = later
+
+kept_at : (held : Bool) (q l : List ℕ) (e : Data) (ms : Members) → is_held l ≡ held → is_held q ≡ false → get_member q (without_held ms) ≡ get_member q ms
+    → get_member q (cond held (without_held ms) (member l e (without_held ms))) ≡ get_member q (member l e ms)
+kept_at true q l e ms is other later = kept_past (slice_cmp nat_cmp q l) q l e ms refl other is later
+kept_at false q l e ms is other later = ap (λ found. match_ordering (slice_cmp nat_cmp q l) found (Some e) found) later
+
+-- a name that is not held is found as before where the held ones are taken out
+pub unheld_found : (q : List ℕ) (ms : Members) → is_held q ≡ false → get_member q (without_held ms) ≡ get_member q ms
+unheld_found q no_members other = refl
+unheld_found q (member l e ms) other = kept_at (is_held l) q l e ms refl other (unheld_found q ms other)
+
 -- ---- what is put only where it is there
 
 without_put_some : (k : List ℕ) (o : Option Data) (ms : Members) → is_held k ≡ true → without_held (put_some k o ms) ≡ without_held ms
@@ -205,6 +221,10 @@ uid_put o = unless_zero o.meta.uid (string (uid_text o.meta.uid))
 -- the held members leave what was there before
 pub whole_without : (o : Object) (mm : Members) → has_held mm ≡ false → without_held (whole_metadata o mm) ≡ mm
 whole_without o mm none = without_all (deletion_put o) (generation_put o) (string o.key.name) (string o.key.namespace) (version_put o) (uid_put o) mm none
+
+-- a member that is not held is as it was
+pub whole_unheld : (q : List ℕ) (o : Object) (mm : Members) → is_held q ≡ false → has_held mm ≡ false → get_member q (whole_metadata o mm) ≡ get_member q mm
+whole_unheld q o mm other none = sym (unheld_found q (whole_metadata o mm) other) ∙ ap (get_member q) (whole_without o mm none)
 
 pub whole_ascending : (o : Object) (mm : Members) → AreAscending mm → AreAscending (whole_metadata o mm)
 whole_ascending o mm h = ascending_all (deletion_put o) (generation_put o) (string o.key.name) (string o.key.namespace) (version_put o) (uid_put o) mm h

@@ -10,6 +10,7 @@ pub mod Same
 pub mod TreeFalls
 pub mod Uid
 pub mod PodNames
+pub mod MetadataShape
 pub mod Object
 pub mod Metadata
 pub mod Steps

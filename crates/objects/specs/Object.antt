@@ -9,6 +9,7 @@ use Rattle.objects.specs.Codes.{data_coded}
 use Rattle.objects.specs.Kind.{kind_name, api_version}
 use Rattle.objects.specs.Key.{KeyParts, key_coded, is_key}
 use Rattle.objects.specs.Meta.{MetaParts, meta_coded, IsMeta}
+use Rattle.objects.specs.MetadataShape.{labels_fit, owners_fit}
 
 pub record ObjectParts : Type 0 where
   pub key : KeyParts
@@ -46,7 +47,8 @@ object_at k ms = option_and_then as_object (get_member k ms)
 abbrev pub is_missing_or : List ℕ → Option Data → Bool
 is_missing_or s found = option_map_or (is_text s) found true
 
--- The body says its kind, may say its API version, and has a `metadata` without the held members.
+-- The body says its kind, may say its API version, and has a `metadata` without the held members, whose `labels` and
+-- `ownerReferences` have their shape.
 pub record IsBody (kind : Kind) (body : Data) : Type 0 where
   pub members : Members
   pub metadata : Members
@@ -55,6 +57,8 @@ pub record IsBody (kind : Kind) (body : Data) : Type 0 where
   pub version_said : is_missing_or (api_version kind) (get_member (codes "apiVersion") members) ≡ true
   pub metadata_said : get_member (codes "metadata") members ≡ Some (object metadata)
   pub none_held : has_held metadata ≡ false
+  pub labels_said : labels_fit (get_member (codes "labels") metadata) ≡ true
+  pub owners_said : owners_fit (get_member (codes "ownerReferences") metadata) ≡ true
 
 -- these members say the kind, and no other API version
 pub record SaysKind (kind : Kind) (members : Members) : Type 0 where

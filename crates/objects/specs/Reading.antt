@@ -14,6 +14,7 @@ use Rattle.objects.specs.Steps.{◌>>=◌, required, guarded}
 use Rattle.objects.specs.Kind.{kind_named, api_version}
 use Rattle.objects.specs.Key.{KeyParts, is_key}
 use Rattle.objects.specs.Meta.{MetaParts}
+use Rattle.objects.specs.MetadataShape.{metadata_fits}
 use Rattle.objects.specs.Object.{without_held, is_missing_or}
 use Rattle.objects.specs.Uid.{uid_number, version_number}
 
@@ -119,7 +120,8 @@ draft_in ms = do
   kind ← guarded UnknownKind (is_missing_or (api_version named) (get_member (codes "apiVersion") ms)) named
   metadata ← required BadName (option_and_then as_object (get_member (codes "metadata") ms))
   key ← key_of kind metadata
-  s ← stated_in metadata
+  fitting ← guarded BadMeta (metadata_fits metadata) metadata
+  s ← stated_in fitting
   Ok (draft_parts key s metadata ms)
 
 unfoldable pub draft_of : Data → Result Draft ReadError

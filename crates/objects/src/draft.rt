@@ -5,6 +5,7 @@ ghost use Rattle.serde_json.specs.Find.{get_member, as_object};
 ghost use Rattle.objects.specs.Tree.{data_of, members_of};
 ghost use Rattle.objects.specs.Steps.{Gives, guarded};
 ghost use Rattle.objects.specs.Kind.{api_version};
+ghost use Rattle.objects.specs.MetadataShape.{metadata_fits};
 ghost use Rattle.objects.specs.Object.{is_missing_or, without_held, SaysKind};
 ghost use Rattle.objects.specs.Reading.{kind_in, key_of, key_in, optional_text, unless_empty, generation_of, stated, stated_in, draft_parts, draft_in};
 ghost use Rattle.objects.specs.declared.fault.ReadError.TheVariants.{UnknownKind};
@@ -15,6 +16,7 @@ use crate::kind::Kind;
 use crate::meta::Meta;
 use crate::object::{Draft, Object};
 use crate::places::{drop_held, place_of};
+use crate::shape::metadata_fits;
 use crate::text::Text;
 use crate::tree::{Members, Tree};
 use crate::uid::{uid_number, version_number};
@@ -166,6 +168,9 @@ pub(crate) fn draft_in(alloc: Global, members: Members) -> Result<Draft, ReadErr
         return Err(ReadError::BadName);
     };
     let key = key_of(alloc, kind, metadata)?;
+    if !metadata_fits(metadata) {
+        return Err(ReadError::BadMeta);
+    }
     let stated = stated_in(alloc, metadata)?;
     finished(alloc, key, stated, members)
 }
@@ -178,7 +183,7 @@ fn finished(
     members: Members,
 ) -> Result<Draft, ReadError>
     requires said { SaysKind key.kind members }
-    requires whole { (metadata : DataMembers) × (get_member (codes "metadata") members ≡ Some (object metadata)) }
+    requires whole { (metadata : DataMembers) × (get_member (codes "metadata") members ≡ Some (object metadata)) × (metadata_fits metadata ≡ true) }
     ensures { (metadata : DataMembers) → get_member (codes "metadata") members ≡ Some (object metadata)
         → Gives (λ draft. draft) result (Ok (draft_parts key (stated stated_parts.uid stated_parts.version stated_parts.generation stated_parts.deletion) metadata members)) }
 {

@@ -22,6 +22,7 @@ mod print;
 mod read;
 mod same;
 mod shard;
+mod shape;
 #[cfg(test)]
 mod tests;
 mod text;

@@ -5,10 +5,17 @@ use crate::ReadError;
 pub(super) type Outcome = Result<&'static str, ReadError>;
 
 /// Whole texts.
-pub(super) static TEXTS: [(&str, Outcome); 49] = [
+pub(super) static TEXTS: [(&str, Outcome); 50] = [
     (
         r#"{"kind":"Pod","metadata":{"name":"a"}}"#,
         Ok(r#"{"kind":"Pod","metadata":{"name":"a","namespace":"default"}}"#),
+    ),
+    // Labels and owners are members of `metadata` alone.
+    (
+        r#"{"kind":"Pod","labels":1,"metadata":{"name":"a","namespace":"n"},"ownerReferences":1}"#,
+        Ok(
+            r#"{"kind":"Pod","labels":1,"metadata":{"name":"a","namespace":"n"},"ownerReferences":1}"#,
+        ),
     ),
     // The four kinds with their API versions. Keys are printed in byte order.
     (
@@ -235,7 +242,7 @@ pub(super) static VALUES: [(&str, Outcome); 38] = [
 ];
 
 /// Values of a pod's `metadata`.
-pub(super) static METADATA: [(&str, Outcome); 46] = [
+pub(super) static METADATA: [(&str, Outcome); 75] = [
     // Names.
     ("{}", Err(ReadError::BadName)),
     ("null", Err(ReadError::BadName)),
@@ -366,6 +373,106 @@ pub(super) static METADATA: [(&str, Outcome); 46] = [
     (r#"{"name":"a","generation":-1}"#, Err(ReadError::BadMeta)),
     (r#"{"name":"a","generation":"1"}"#, Err(ReadError::BadMeta)),
     (r#"{"name":"a","generation":true}"#, Err(ReadError::BadMeta)),
+    // Labels are a map of texts. They stay as they are, `null` too.
+    (
+        r#"{"name":"a","labels":{}}"#,
+        Ok(r#"{"labels":{},"name":"a","namespace":"default"}"#),
+    ),
+    (
+        r#"{"name":"a","labels":null}"#,
+        Ok(r#"{"labels":null,"name":"a","namespace":"default"}"#),
+    ),
+    (
+        r#"{"name":"a","labels":{"a":"b"}}"#,
+        Ok(r#"{"labels":{"a":"b"},"name":"a","namespace":"default"}"#),
+    ),
+    (
+        r#"{"name":"a","labels":{"c":"d","a":""}}"#,
+        Ok(r#"{"labels":{"a":"","c":"d"},"name":"a","namespace":"default"}"#),
+    ),
+    (r#"{"name":"a","labels":{"a":1}}"#, Err(ReadError::BadMeta)),
+    (
+        r#"{"name":"a","labels":{"a":null}}"#,
+        Err(ReadError::BadMeta),
+    ),
+    (r#"{"name":"a","labels":{"a":{}}}"#, Err(ReadError::BadMeta)),
+    (
+        r#"{"name":"a","labels":{"a":"b","c":1}}"#,
+        Err(ReadError::BadMeta),
+    ),
+    (r#"{"name":"a","labels":[]}"#, Err(ReadError::BadMeta)),
+    (r#"{"name":"a","labels":"x"}"#, Err(ReadError::BadMeta)),
+    (r#"{"name":"a","labels":1}"#, Err(ReadError::BadMeta)),
+    (r#"{"name":"a","labels":false}"#, Err(ReadError::BadMeta)),
+    // Owners are a list of maps, each with a text `uid`. They stay as they are, `null` too.
+    (
+        r#"{"name":"a","ownerReferences":[]}"#,
+        Ok(r#"{"name":"a","namespace":"default","ownerReferences":[]}"#),
+    ),
+    (
+        r#"{"name":"a","ownerReferences":null}"#,
+        Ok(r#"{"name":"a","namespace":"default","ownerReferences":null}"#),
+    ),
+    (
+        r#"{"name":"a","ownerReferences":[{"uid":"u","name":1,"controller":true}]}"#,
+        Ok(
+            r#"{"name":"a","namespace":"default","ownerReferences":[{"controller":true,"name":1,"uid":"u"}]}"#,
+        ),
+    ),
+    (
+        r#"{"name":"a","ownerReferences":[{"uid":"u"},{"uid":""}]}"#,
+        Ok(r#"{"name":"a","namespace":"default","ownerReferences":[{"uid":"u"},{"uid":""}]}"#),
+    ),
+    (
+        r#"{"name":"a","ownerReferences":[{}]}"#,
+        Err(ReadError::BadMeta),
+    ),
+    (
+        r#"{"name":"a","ownerReferences":[{"uid":1}]}"#,
+        Err(ReadError::BadMeta),
+    ),
+    (
+        r#"{"name":"a","ownerReferences":[{"uid":null}]}"#,
+        Err(ReadError::BadMeta),
+    ),
+    (
+        r#"{"name":"a","ownerReferences":[{"uid":"u"},{"name":"w"}]}"#,
+        Err(ReadError::BadMeta),
+    ),
+    (
+        r#"{"name":"a","ownerReferences":[1]}"#,
+        Err(ReadError::BadMeta),
+    ),
+    (
+        r#"{"name":"a","ownerReferences":["u"]}"#,
+        Err(ReadError::BadMeta),
+    ),
+    (
+        r#"{"name":"a","ownerReferences":[null]}"#,
+        Err(ReadError::BadMeta),
+    ),
+    (
+        r#"{"name":"a","ownerReferences":[[]]}"#,
+        Err(ReadError::BadMeta),
+    ),
+    (
+        r#"{"name":"a","ownerReferences":{}}"#,
+        Err(ReadError::BadMeta),
+    ),
+    (
+        r#"{"name":"a","ownerReferences":{"uid":"u"}}"#,
+        Err(ReadError::BadMeta),
+    ),
+    (
+        r#"{"name":"a","ownerReferences":"x"}"#,
+        Err(ReadError::BadMeta),
+    ),
+    // The name is tested first.
+    (r#"{"name":"A","labels":1}"#, Err(ReadError::BadName)),
+    (
+        r#"{"namespace":"B","name":"a","ownerReferences":1}"#,
+        Err(ReadError::BadName),
+    ),
 ];
 
 /// Bytes that are not UTF-8 (RFC 3629).
