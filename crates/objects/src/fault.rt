@@ -24,7 +24,8 @@ pub enum ReadError {
     /// `metadata` is not an object, or its `name` or `namespace` breaks the rule of names.
     #[error("the name or the namespace is not valid")]
     BadName,
-    /// A member of `metadata` that the store sets has the wrong type or is out of range.
+    /// A member of `metadata` that the store sets has the wrong type or is out of range, or `labels` is not a map of
+    /// texts, or `ownerReferences` is not a list of maps that each have a text `uid`.
     #[error("a member of the metadata is not valid")]
     BadMeta,
     /// There are more than 1,048,576 bytes.

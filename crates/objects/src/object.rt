@@ -9,6 +9,8 @@ use std::marker::Model;
 
 /// An object. The body holds all members as they were read, `kind` among them, but the six of `metadata` that the
 /// key and the meta hold: `name`, `namespace`, `uid`, `resourceVersion`, `generation` and `deletionTimestamp`.
+/// In `metadata`, `labels` is a map of texts and `ownerReferences` is a list of maps that each have a text `uid`;
+/// either may be missing or `null`.
 #[derive(Debug, Drop)]
 pub struct Object {
     pub key: Key,
