@@ -21,8 +21,8 @@ mod pod_names;
 mod print;
 mod read;
 mod same;
-mod shard;
 mod shape;
+mod shard;
 #[cfg(test)]
 mod tests;
 mod text;
