@@ -1,6 +1,7 @@
 pub mod Lookups
 pub mod Conversion
 pub mod EntryPlaces
+pub mod SetMembers
 pub mod Chains
 pub mod Numerals
 pub mod Bodies

@@ -13,6 +13,7 @@ pub mod PodNames
 pub mod MetadataShape
 pub mod Object
 pub mod Metadata
+pub mod Status
 pub mod Steps
 pub mod Reading
 pub mod Text

@@ -1,10 +1,11 @@
 // Work on the entries of a map: where a key stands, and entries copied or taken.
-ghost use Rattle.std.specs.Prelude.{◌≡◌, ◌<◌, length, IfOk, IfErr, OnOk, option_map, Some};
+ghost use Rattle.std.specs.Prelude.{◌≡◌, ◌<◌, length, IfOk, IfErr, OnOk, OnErr, option_map, Some};
 ghost use Rattle.serde_json.specs.Data.{object, put};
 ghost use Rattle.serde_json.specs.Find.{get_member};
 ghost use Rattle.objects.specs.Tree.{data_of, members_of, AreAscending};
 ghost use Rattle.objects.specs.Places.{IsAt, IsGap};
 ghost use Rattle.objects.specs.Object.{is_held, without_held};
+ghost use Rattle.objects.specs.Status.{without_member};
 
 use crate::text::Text;
 use crate::tree::Tree;
@@ -56,4 +57,31 @@ pub(crate) fn drop_held(entries: &mut Vec<(Text, Tree)>)
     ensures { members_of entries.new.items ≡ without_held (members_of entries.old.items) }
 {
     entries.retain(|(name, _)| !is_held(name.as_str()));
+}
+
+/// Puts a value at the key: in the place of the one there, or where the key goes. An `Err` leaves the entries.
+pub(crate) fn put_entry(
+    alloc: Global,
+    entries: &mut Vec<(Text, Tree)>,
+    key: &str,
+    value: Tree,
+) -> Result<(), AllocError>
+    ensures ok { OnOk result (members_of entries.new.items ≡ put key.now (data_of value) (members_of entries.old.items)) }
+    ensures err { OnErr result (entries.new.items ≡ entries.old.items) }
+{
+    match place_of(entries, key) {
+        Ok(at) => entries[at].1 = value,
+        Err(at) => entries.insert(at, (Text::copy_of(alloc, key)?, value))?,
+    }
+    Ok(())
+}
+
+/// Takes out the entry of the key, if there is one.
+pub(crate) fn remove_entry(entries: &mut Vec<(Text, Tree)>, key: &str)
+    requires { AreAscending (members_of entries.old.items) }
+    ensures { members_of entries.new.items ≡ without_member key.now (members_of entries.old.items) }
+{
+    if let Ok(at) = place_of(entries, key) {
+        entries.remove(at);
+    }
 }

@@ -5,6 +5,9 @@ ghost use Rattle.objects.specs.Same.{same_data};
 
 use crate::places::{copied, place_of};
 use crate::same::same_trees;
+ghost use Rattle.objects.specs.Status.{set_member};
+
+use crate::places::{copied, place_of, put_entry, remove_entry};
 use crate::text::Text;
 use crate::whole::Whole;
 use std::alloc::{AllocError, Global};
@@ -212,6 +215,24 @@ impl Members {
             }
             Err(_) => Ok(None),
         }
+    }
+
+    /// The members with that value at the key, or without the key where there is no value. They are copied only if
+    /// another map shares them, and what their values hold never.
+    pub(crate) fn with(
+        self,
+        alloc: Global,
+        key: &str,
+        value: Option<Tree>,
+    ) -> Result<Members, AllocError>
+        ensures { IfOk result (λ ms. ms ≡ set_member key.now (option_map data_of value) self) }
+    {
+        let mut entries = self.into_entries()?;
+        match value {
+            Some(value) => put_entry(alloc, &mut entries, key, value)?,
+            None => remove_entry(&mut entries, key),
+        }
+        Members::of(alloc, entries)
     }
 
     /// The members by themselves. They are copied only if another map shares them.
