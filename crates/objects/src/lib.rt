@@ -23,6 +23,7 @@ mod read;
 mod same;
 mod shape;
 mod shard;
+mod status;
 #[cfg(test)]
 mod tests;
 mod text;
