@@ -25,6 +25,8 @@ mod shape;
 mod shard;
 mod status;
 #[cfg(test)]
+mod status_tests;
+#[cfg(test)]
 mod tests;
 mod text;
 mod tree;
