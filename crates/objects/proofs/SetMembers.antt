@@ -128,4 +128,6 @@ body_with_status kind value body h =
       version_said = ap (is_missing_or (api_version kind)) (get_member-set_member (codes "apiVersion") (codes "status") value h.members (λ e. absurd cc)) ∙ h.version_said;
       metadata_said = get_member-set_member (codes "metadata") (codes "status") value h.members (λ e. absurd cc) ∙ h.metadata_said;
       none_held = h.none_held;
+      labels_said = h.labels_said;
+      owners_said = h.owners_said;
     })

@@ -2,12 +2,10 @@ ghost use Rattle.std.specs.Prelude.{◌≡◌, IfOk, option_map};
 ghost use Rattle.serde_json.specs.Find.{get_member, as_str, as_array, as_object};
 ghost use Rattle.objects.specs.Tree.{data_of, items_of, members_of, AreAscending};
 ghost use Rattle.objects.specs.Same.{same_data};
-
-use crate::places::{copied, place_of};
-use crate::same::same_trees;
 ghost use Rattle.objects.specs.Status.{set_member};
 
 use crate::places::{copied, place_of, put_entry, remove_entry};
+use crate::same::same_trees;
 use crate::text::Text;
 use crate::whole::Whole;
 use std::alloc::{AllocError, Global};
