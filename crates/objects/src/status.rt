@@ -4,7 +4,7 @@ ghost use Rattle.objects.specs.Status.{member_of, with_member};
 
 use crate::object::Object;
 use crate::tree::Tree;
-use std::alloc::{AllocError, Global};
+use std::alloc::AllocError;
 
 impl Object {
     /// The value of a member of the object, as `spec` or `status` (Kubernetes API conventions, "Objects"). A
@@ -18,7 +18,7 @@ impl Object {
     /// The object with that status, or without one. `status` is written by a request of its own, which leaves all
     /// else as it was (Kubernetes API conventions, "Spec and Status"). The members of the object are copied only if
     /// another object shares them, and what their values hold never.
-    pub fn with_status(self, alloc: Global, status: Option<Tree>) -> Result<Object, AllocError>
+    pub fn with_status(self, status: Option<Tree>) -> Result<Object, AllocError>
         ensures key { IfOk result (λ object. object.key ≡ self.key) }
         ensures meta { IfOk result (λ object. object.meta ≡ self.meta) }
         ensures body { IfOk result (λ object. object.body ≡ with_member (codes "status") (option_map data_of status) self.body) }
@@ -27,21 +27,16 @@ impl Object {
         Ok(Object {
             key,
             meta,
-            body: with_member(alloc, body, "status", status)?,
+            body: with_member(body, "status", status)?,
         })
     }
 }
 
-fn with_member(
-    alloc: Global,
-    body: Tree,
-    key: &str,
-    value: Option<Tree>,
-) -> Result<Tree, AllocError>
+fn with_member(body: Tree, key: &str, value: Option<Tree>) -> Result<Tree, AllocError>
     ensures { IfOk result (λ changed. data_of changed ≡ with_member key.now (option_map data_of value) (data_of body)) }
 {
     match body {
-        Tree::Map(members) => Ok(Tree::Map(members.with(alloc, key, value)?)),
+        Tree::Map(members) => Ok(Tree::Map(members.with(key, value)?)),
         other => Ok(other),
     }
 }

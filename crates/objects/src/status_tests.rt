@@ -99,7 +99,7 @@ fn is_printed_with(
     text: &str,
 ) -> Result<bool, ReadError> {
     let status = read_status(alloc, status)?;
-    let changed = object.with_status(alloc, status)?;
+    let changed = object.with_status(status)?;
     is_printed(alloc, &changed, text)
 }
 

@@ -217,14 +217,10 @@ impl Members {
 
     /// The members with that value at the key, or without the key where there is no value. They are copied only if
     /// another map shares them, and what their values hold never.
-    pub(crate) fn with(
-        self,
-        alloc: Global,
-        key: &str,
-        value: Option<Tree>,
-    ) -> Result<Members, AllocError>
+    pub(crate) fn with(self, key: &str, value: Option<Tree>) -> Result<Members, AllocError>
         ensures { IfOk result (λ ms. ms ≡ set_member key.now (option_map data_of value) self) }
     {
+        let alloc = *self.entries.allocator();
         let mut entries = self.into_entries()?;
         match value {
             Some(value) => put_entry(alloc, &mut entries, key, value)?,

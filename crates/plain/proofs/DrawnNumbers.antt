@@ -2,11 +2,11 @@
 use Rattle.std.proofs.Common.{◌≡◌, ◌≤◌, ◌<◌, ◌+◌, ◌==◌, ℕ, Bool, true, false, cond, List, [], ◌∷◌, length, Option, Some, None, MatchOption, refl, ap, subst, arith}
 use Rattle.objects.specs.declared.key.Key.{Key}
 use Rattle.plain.specs.declared.request.Request.{Request}
-use Rattle.plain.specs.declared.request.Request.TheVariants.{Create, Get, Update, Delete}
+use Rattle.plain.specs.declared.request.Request.TheVariants.{Create, Get, Update, UpdateStatus, Delete}
 use Rattle.plain.specs.declared.reply.Reply.{Reply}
 use Rattle.plain.specs.declared.reply.Reply.TheVariants.{Refused}
 use Rattle.plain.specs.declared.reply.Reason.TheVariants.{StoreFull}
-use Rattle.plain.specs.Verdict.{Change, creates, updates, marks, removes, Verdict, refuse, same, write, on_create, on_update, on_delete, stamp}
+use Rattle.plain.specs.Verdict.{Change, creates, updates, marks, removes, Verdict, refuse, same, write, on_create, on_update, on_status, on_delete, stamp}
 use Rattle.objects.specs.declared.object.Object.{Object}
 use Rattle.std.specs.FinMap as map
 use Rattle.plain.specs.Store.{Store, step, carried_out, accepted, found}
@@ -41,6 +41,7 @@ unfolding step
 draws s (Get k) = draws-found s (map.get s.objects k)
 draws s (Create d) = draws-verdict s d.object.key (on_create d (map.get s.objects d.object.key))
 draws s (Update d) = draws-verdict s d.object.key (on_update d (map.get s.objects d.object.key))
+draws s (UpdateStatus d) = draws-verdict s d.object.key (on_status d (map.get s.objects d.object.key))
 draws s (Delete k uid version at) = draws-verdict s k (on_delete version uid at (map.get s.objects k))
 
 pub nothing_changes : (s : Store) (r : Request) → version_drawn (step s r).1 ≡ None → (step s r).0 ≡ s

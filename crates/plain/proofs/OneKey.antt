@@ -10,11 +10,11 @@ use Rattle.objects.specs.Key.{key_cmp}
 use Rattle.objects.specs.KeyOrder.{key_cmp_total}
 use Rattle.objects.specs.Uid.{uid_text}
 use Rattle.plain.specs.declared.request.Request.{Request}
-use Rattle.plain.specs.declared.request.Request.TheVariants.{Create, Get, Update, Delete}
+use Rattle.plain.specs.declared.request.Request.TheVariants.{Create, Get, Update, UpdateStatus, Delete}
 use Rattle.plain.specs.declared.reply.Reply.{Reply}
 use Rattle.plain.specs.declared.reply.Reply.TheVariants.{Refused}
 use Rattle.plain.specs.declared.reply.Reason.TheVariants.{Conflict, StoreFull}
-use Rattle.plain.specs.Verdict.{Change, creates, updates, marks, removes, Verdict, refuse, same, write, deleted, differs, graceful, on_create, on_update, on_delete, stamp}
+use Rattle.plain.specs.Verdict.{Change, creates, updates, marks, removes, Verdict, refuse, same, write, deleted, differs, graceful, on_create, on_update, on_status, on_delete, stamp}
 use Rattle.plain.specs.Store.{Store, step, carried_out, accepted, changed_map}
 use Rattle.plain.specs.Keys.{key_named}
 use Rattle.plain.proofs.Entries.{equal_from, exact_keys}
@@ -54,6 +54,7 @@ unfolding step
 step_elsewhere s (Get k) q other = refl
 step_elsewhere s (Create d) q other = carried_elsewhere s d.object.key q (on_create d (map.get s.objects d.object.key)) other
 step_elsewhere s (Update d) q other = carried_elsewhere s d.object.key q (on_update d (map.get s.objects d.object.key)) other
+step_elsewhere s (UpdateStatus d) q other = carried_elsewhere s d.object.key q (on_status d (map.get s.objects d.object.key)) other
 step_elsewhere s (Delete k uid version at) q other = carried_elsewhere s k q (on_delete version uid at (map.get s.objects k)) other
 
 -- a delete that names another UID than the object's

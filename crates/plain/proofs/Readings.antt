@@ -13,7 +13,7 @@ use Rattle.objects.specs.Tree.{data_of}
 use Rattle.objects.specs.Steps.{Fails}
 use Rattle.objects.specs.Reading.{key_in, reading_of_data}
 use Rattle.plain.specs.declared.request.Request.{Request}
-use Rattle.plain.specs.declared.request.Request.TheVariants.{Create, Get, Update, Delete}
+use Rattle.plain.specs.declared.request.Request.TheVariants.{Create, Get, Update, UpdateStatus, Delete}
 use Rattle.plain.specs.declared.request.RequestError.{RequestError}
 use Rattle.plain.specs.declared.request.RequestError.TheVariants as errors
 use Rattle.plain.specs.declared.request.Verb.{Verb}
@@ -51,7 +51,9 @@ by_verb name ms =
     (either (bytes_eq name (codes "get")) _ _ f
     ∙ ap (cond (bytes_eq name (codes "get")) (f (Some verb.Get)))
     (either (bytes_eq name (codes "update")) _ _ f
-    ∙ ap (cond (bytes_eq name (codes "update")) (f (Some verb.Update))) (either (bytes_eq name (codes "delete")) (Some verb.Delete) None f))))
+    ∙ ap (cond (bytes_eq name (codes "update")) (f (Some verb.Update)))
+    (either (bytes_eq name (codes "status")) _ _ f
+    ∙ ap (cond (bytes_eq name (codes "status")) (f (Some verb.Status))) (either (bytes_eq name (codes "delete")) (Some verb.Delete) None f)))))
 
 bind_bind : {A B C : Type 0} (r : Result A RequestError) (f : A → Result B RequestError) (g : B → Result C RequestError) → ((r >>= f) >>= g) ≡ (r >>= λ x. f x >>= g)
 bind_bind (Ok x) f g = refl
@@ -101,6 +103,15 @@ pub update_refused : (v : Verb) (ms : Members) (result : Result Request RequestE
     → v ≡ verb.Update → result ≡ Err y → y ≡ errors.Read e → Fails e (object_draft (get_member (codes "object") ms)) → Answers result (request_by v ms)
 unfolding request_by
 update_refused v ms result y e named is same h = answers_at v verb.Update ms result named (answers_lifted result y e _ (λ d. Ok (Update d)) is same h)
+
+pub status_refused : (v : Verb) (ms : Members) (result : Result Request RequestError) (y : RequestError) (e : ReadError)
+    → v ≡ verb.Status → result ≡ Err y → y ≡ errors.Read e → Fails e (object_draft (get_member (codes "object") ms)) → Answers result (request_by v ms)
+unfolding request_by
+status_refused v ms result y e named is same h = answers_at v verb.Status ms result named (answers_lifted result y e _ (λ d. Ok (UpdateStatus d)) is same h)
+
+pub status_read : (v : Verb) (ms : Members) (d : Draft) → v ≡ verb.Status → object_draft (get_member (codes "object") ms) ≡ Ok d → request_by v ms ≡ Ok (UpdateStatus d)
+unfolding request_by
+status_read v ms d is h = ap (λ x. request_by x ms) is ∙ ap (λ r. lifted r >>= λ x. Ok (UpdateStatus x)) h
 
 pub create_read : (v : Verb) (ms : Members) (d : Draft) → v ≡ verb.Create → object_draft (get_member (codes "object") ms) ≡ Ok d → request_by v ms ≡ Ok (Create d)
 unfolding request_by

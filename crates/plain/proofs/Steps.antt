@@ -1,16 +1,16 @@
 -- A step of the store, by what its verdict is.
-use Rattle.std.proofs.Common.{◌≡◌, ℕ, List, is_some, ◌+◌, ◌==◌, Bool, true, false, cond, Option, Some, None, sym, ap, ◌∙◌}
+use Rattle.std.proofs.Common.{◌≡◌, ℕ, List, codes, is_some, ◌+◌, ◌==◌, Bool, true, false, cond, Option, Some, None, sym, ap, ◌∙◌}
 use Rattle.std.specs.Option.{option_map_or}
 use Rattle.std.specs.FinMap as map
 use Rattle.objects.specs.declared.key.Key.{Key}
 use Rattle.objects.specs.declared.object.Object.{Object}
 use Rattle.objects.specs.declared.object.Draft.{Draft}
-use Rattle.plain.specs.declared.request.Request.TheVariants.{Create, Update, Delete}
+use Rattle.plain.specs.declared.request.Request.TheVariants.{Create, Update, UpdateStatus, Delete}
 use Rattle.plain.specs.declared.reply.Reply.{Reply}
 use Rattle.plain.specs.declared.reply.Reply.TheVariants.{Refused, Created, Updated, Unchanged, Marked}
 use Rattle.plain.specs.declared.reply.Reason.{Reason}
-use Rattle.plain.specs.declared.reply.Reason.TheVariants.{StoreFull, NotFound}
-use Rattle.plain.specs.Verdict.{Change, creates, updates, updated, marks, marked, removes, Verdict, refuse, same, write, deleted, graceful, on_create, on_update, on_delete, unless_same, stamp}
+use Rattle.plain.specs.declared.reply.Reason.TheVariants.{StoreFull, NotFound, Invalid}
+use Rattle.plain.specs.Verdict.{Change, creates, updates, updated, born, marks, marked, removes, Verdict, refuse, same, write, deleted, graceful, has_status, on_create, on_update, on_status, on_status_of, on_delete, same_member, status_unless_same, unless_same, with_status_of, stamp}
 use Rattle.objects.specs.Same.{same_data}
 use Rattle.plain.specs.Store.{Store, step, carried_out, accepted, changed_map}
 
@@ -49,25 +49,25 @@ changed s new k c v o verdict room state written =
 -- ---- a creation
 
 pub creation_refused : (s : Store) (d : Draft) (refusal : Option Reason) (r : Reason)
-    → on_create d (map.get s.objects d.object.key) ≡ decided refusal (write (creates d.object)) → refusal ≡ Some r → (s, Refused r) ≡ step s (Create d)
+    → on_create d (map.get s.objects d.object.key) ≡ decided refusal (write (creates (born d.object))) → refusal ≡ Some r → (s, Refused r) ≡ step s (Create d)
 unfolding step
-creation_refused s d refusal r verdict is = refused s _ _ (write (creates d.object)) refusal r verdict is
+creation_refused s d refusal r verdict is = refused s _ _ (write (creates (born d.object))) refusal r verdict is
 
 allowed : (v w : Verdict) (refusal : Option Reason) → v ≡ decided refusal w → refusal ≡ None → v ≡ w
 allowed v w refusal verdict is = verdict ∙ ap (λ e. decided e w) is
 
 pub creation_full : (s : Store) (d : Draft) (refusal : Option Reason)
-    → on_create d (map.get s.objects d.object.key) ≡ decided refusal (write (creates d.object)) → refusal ≡ None → (s.counter == s.capacity) ≡ true
+    → on_create d (map.get s.objects d.object.key) ≡ decided refusal (write (creates (born d.object))) → refusal ≡ None → (s.counter == s.capacity) ≡ true
     → (s, Refused StoreFull) ≡ step s (Create d)
 unfolding step
-creation_full s d refusal verdict is drawn = full s _ (creates d.object) _ (allowed _ _ refusal verdict is) drawn
+creation_full s d refusal verdict is drawn = full s _ (creates (born d.object)) _ (allowed _ _ refusal verdict is) drawn
 
 pub creation_made : (s new : Store) (d : Draft) (refusal : Option Reason) (o copy : Object)
-    → on_create d (map.get s.objects d.object.key) ≡ decided refusal (write (creates d.object)) → refusal ≡ None → (s.counter == s.capacity) ≡ false
-    → o ≡ stamp (creates d.object) (s.counter + 1) → new ≡ with_object s o → copy ≡ o → (new, Created copy) ≡ step s (Create d)
+    → on_create d (map.get s.objects d.object.key) ≡ decided refusal (write (creates (born d.object))) → refusal ≡ None → (s.counter == s.capacity) ≡ false
+    → o ≡ stamp (creates (born d.object)) (s.counter + 1) → new ≡ with_object s o → copy ≡ o → (new, Created copy) ≡ step s (Create d)
 unfolding step
 creation_made s new d refusal o copy verdict is room stamped state same_copy =
-    changed s new _ (creates d.object) _ copy (allowed _ _ refusal verdict is) room (state ∙ ap (with_object s) stamped) (same_copy ∙ stamped)
+    changed s new _ (creates (born d.object)) _ copy (allowed _ _ refusal verdict is) room (state ∙ ap (with_object s) stamped) (same_copy ∙ stamped)
 
 -- ---- an update
 
@@ -85,7 +85,7 @@ update_refused s d current refusal r there verdict is =
 -- what an update that is not refused comes to, given whether it would change anything
 goes_by : (s : Store) (d : Draft) (current : Object) (refusal : Option Reason) (same_body : Bool)
     → Some current ≡ map.get s.objects d.object.key → on_update d (Some current) ≡ decided refusal (unless_same current d) → refusal ≡ None
-    → same_data current.body d.object.body ≡ same_body
+    → same_data current.body (updated current d).body ≡ same_body
     → on_update d (map.get s.objects d.object.key) ≡ cond same_body (same current) (write (updates (updated current d)))
 goes_by s d current refusal same_body there verdict is test =
     ap (on_update d) (sym there) ∙ allowed _ _ refusal verdict is
@@ -93,27 +93,81 @@ goes_by s d current refusal same_body there verdict is test =
 
 pub update_unchanged : (s : Store) (d : Draft) (current copy : Object) (refusal : Option Reason)
     → Some current ≡ map.get s.objects d.object.key → on_update d (Some current) ≡ decided refusal (unless_same current d) → refusal ≡ None
-    → same_data current.body d.object.body ≡ true → copy ≡ current → (s, Unchanged copy) ≡ step s (Update d)
+    → same_data current.body (updated current d).body ≡ true → copy ≡ current → (s, Unchanged copy) ≡ step s (Update d)
 unfolding step
 update_unchanged s d current copy refusal there verdict is test same_copy =
     unchanged s _ _ current copy (goes_by s d current refusal true there verdict is test) same_copy
 
 pub update_full : (s : Store) (d : Draft) (current : Object) (refusal : Option Reason)
     → Some current ≡ map.get s.objects d.object.key → on_update d (Some current) ≡ decided refusal (unless_same current d) → refusal ≡ None
-    → same_data current.body d.object.body ≡ false → (s.counter == s.capacity) ≡ true → (s, Refused StoreFull) ≡ step s (Update d)
+    → same_data current.body (updated current d).body ≡ false → (s.counter == s.capacity) ≡ true → (s, Refused StoreFull) ≡ step s (Update d)
 unfolding step
 update_full s d current refusal there verdict is test drawn =
     full s _ (updates (updated current d)) _ (goes_by s d current refusal false there verdict is test) drawn
 
 pub update_made : (s new : Store) (d : Draft) (current : Object) (refusal : Option Reason) (o copy : Object)
     → Some current ≡ map.get s.objects d.object.key → current.key ≡ d.object.key → on_update d (Some current) ≡ decided refusal (unless_same current d)
-    → refusal ≡ None → same_data current.body d.object.body ≡ false → (s.counter == s.capacity) ≡ false
+    → refusal ≡ None → same_data current.body (updated current d).body ≡ false → (s.counter == s.capacity) ≡ false
     → o ≡ stamp (updates (updated current d)) (s.counter + 1) → new ≡ with_object s o → copy ≡ o
     → (new, Updated copy) ≡ step s (Update d)
 unfolding step
 update_made s new d current refusal o copy there filed verdict is test room stamped state same_copy =
     let c = updates (updated current d) in
     changed s new _ c _ copy (goes_by s d current refusal false there verdict is test) room
+    (state ∙ ap (with_object s) stamped ∙ ap (λ k. with_change s k c) filed) (same_copy ∙ stamped)
+
+-- ---- a status request
+
+pub status_invalid : (s : Store) (d : Draft) → has_status d.object.key.kind ≡ false → (s, Refused Invalid) ≡ step s (UpdateStatus d)
+unfolding step
+status_invalid s d none =
+    sym (ap (λ b. carried_out s d.object.key (cond b (on_status_of d (map.get s.objects d.object.key)) (refuse Invalid))) none)
+
+has : (s : Store) (d : Draft) → has_status d.object.key.kind ≡ true → on_status d (map.get s.objects d.object.key) ≡ on_status_of d (map.get s.objects d.object.key)
+has s d is = ap (λ b. cond b (on_status_of d (map.get s.objects d.object.key)) (refuse Invalid)) is
+
+pub status_missing : (s : Store) (d : Draft) → has_status d.object.key.kind ≡ true → None ≡ map.get s.objects d.object.key → (s, Refused NotFound) ≡ step s (UpdateStatus d)
+unfolding step
+status_missing s d is missing = ap (λ o. carried_out s d.object.key (on_status_of d o)) missing ∙ sym (ap (carried_out s d.object.key) (has s d is))
+
+pub status_refused : (s : Store) (d : Draft) (current : Object) (refusal : Option Reason) (r : Reason) → has_status d.object.key.kind ≡ true
+    → Some current ≡ map.get s.objects d.object.key → on_status_of d (Some current) ≡ decided refusal (status_unless_same current d) → refusal ≡ Some r
+    → (s, Refused r) ≡ step s (UpdateStatus d)
+unfolding step
+status_refused s d current refusal r kind there verdict is =
+    refused s _ _ (status_unless_same current d) refusal r (has s d kind ∙ ap (on_status_of d) (sym there) ∙ verdict) is
+
+status_by : (s : Store) (d : Draft) (current : Object) (refusal : Option Reason) (same_status : Bool) → has_status d.object.key.kind ≡ true
+    → Some current ≡ map.get s.objects d.object.key → on_status_of d (Some current) ≡ decided refusal (status_unless_same current d) → refusal ≡ None
+    → same_member (codes "status") current.body d.object.body ≡ same_status
+    → on_status d (map.get s.objects d.object.key) ≡ cond same_status (same current) (write (updates (with_status_of current d)))
+status_by s d current refusal same_status kind there verdict is test =
+    has s d kind ∙ ap (on_status_of d) (sym there) ∙ allowed _ _ refusal verdict is
+    ∙ ap (λ b. cond b (same current) (write (updates (with_status_of current d)))) test
+
+pub status_unchanged : (s : Store) (d : Draft) (current copy : Object) (refusal : Option Reason) → has_status d.object.key.kind ≡ true
+    → Some current ≡ map.get s.objects d.object.key → on_status_of d (Some current) ≡ decided refusal (status_unless_same current d) → refusal ≡ None
+    → same_member (codes "status") current.body d.object.body ≡ true → copy ≡ current → (s, Unchanged copy) ≡ step s (UpdateStatus d)
+unfolding step
+status_unchanged s d current copy refusal kind there verdict is test same_copy =
+    unchanged s _ _ current copy (status_by s d current refusal true kind there verdict is test) same_copy
+
+pub status_full : (s : Store) (d : Draft) (current : Object) (refusal : Option Reason) → has_status d.object.key.kind ≡ true
+    → Some current ≡ map.get s.objects d.object.key → on_status_of d (Some current) ≡ decided refusal (status_unless_same current d) → refusal ≡ None
+    → same_member (codes "status") current.body d.object.body ≡ false → (s.counter == s.capacity) ≡ true → (s, Refused StoreFull) ≡ step s (UpdateStatus d)
+unfolding step
+status_full s d current refusal kind there verdict is test drawn =
+    full s _ (updates (with_status_of current d)) _ (status_by s d current refusal false kind there verdict is test) drawn
+
+pub status_made : (s new : Store) (d : Draft) (current : Object) (refusal : Option Reason) (o copy : Object) → has_status d.object.key.kind ≡ true
+    → Some current ≡ map.get s.objects d.object.key → current.key ≡ d.object.key → on_status_of d (Some current) ≡ decided refusal (status_unless_same current d)
+    → refusal ≡ None → same_member (codes "status") current.body d.object.body ≡ false → (s.counter == s.capacity) ≡ false
+    → o ≡ stamp (updates (with_status_of current d)) (s.counter + 1) → new ≡ with_object s o → copy ≡ o
+    → (new, Updated copy) ≡ step s (UpdateStatus d)
+unfolding step
+status_made s new d current refusal o copy kind there filed verdict is test room stamped state same_copy =
+    let c = updates (with_status_of current d) in
+    changed s new _ c _ copy (status_by s d current refusal false kind there verdict is test) room
     (state ∙ ap (with_object s) stamped ∙ ap (λ k. with_change s k c) filed) (same_copy ∙ stamped)
 
 -- ---- a deletion

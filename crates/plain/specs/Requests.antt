@@ -8,7 +8,7 @@ use Rattle.objects.specs.declared.fault.ReadError.TheVariants as read
 use Rattle.objects.specs.declared.object.Draft.{Draft}
 use Rattle.objects.specs.Reading.{reading_of_data, draft_of, key_in, unless_empty}
 use Rattle.plain.specs.declared.request.Request.{Request}
-use Rattle.plain.specs.declared.request.Request.TheVariants.{Create, Get, Update, Delete}
+use Rattle.plain.specs.declared.request.Request.TheVariants.{Create, Get, Update, UpdateStatus, Delete}
 use Rattle.plain.specs.declared.request.RequestError.{RequestError}
 use Rattle.plain.specs.declared.request.RequestError.TheVariants as errors
 
@@ -55,6 +55,7 @@ verb_request verb ms =
     if bytes_eq verb (codes "create") then (lifted (object_draft (get_member (codes "object") ms)) >>= λ d. Ok (Create d))
     else if bytes_eq verb (codes "get") then (lifted (key_in ms) >>= λ k. Ok (Get k))
     else if bytes_eq verb (codes "update") then (lifted (object_draft (get_member (codes "object") ms)) >>= λ d. Ok (Update d))
+    else if bytes_eq verb (codes "status") then (lifted (object_draft (get_member (codes "object") ms)) >>= λ d. Ok (UpdateStatus d))
     else if bytes_eq verb (codes "delete") then deletion_in ms
     else Err errors.UnknownVerb
 

@@ -8,11 +8,11 @@ use Rattle.objects.specs.declared.object.Object.{Object}
 use Rattle.objects.specs.Key.{key_cmp, key_coded}
 use Rattle.objects.specs.Object.{object_coded}
 use Rattle.plain.specs.declared.request.Request.{Request}
-use Rattle.plain.specs.declared.request.Request.TheVariants.{Create, Get, Update, Delete}
+use Rattle.plain.specs.declared.request.Request.TheVariants.{Create, Get, Update, UpdateStatus, Delete}
 use Rattle.plain.specs.declared.reply.Reply.{Reply}
 use Rattle.plain.specs.declared.reply.Reply.TheVariants.{Created, Found, Updated, Unchanged, Marked, Removed, Refused}
 use Rattle.plain.specs.declared.reply.Reason.TheVariants.{NotFound, StoreFull}
-use Rattle.plain.specs.Verdict.{Change, creates, updates, marks, removes, Verdict, refuse, same, write, on_create, on_update, on_delete, stamp}
+use Rattle.plain.specs.Verdict.{Change, creates, updates, marks, removes, Verdict, refuse, same, write, on_create, on_update, on_status, on_delete, stamp}
 
 pub record Store : Type 0 where
   pub objects : FinMap key_cmp Object
@@ -60,4 +60,5 @@ unfoldable pub step : Store → Request → Store × Reply
 step s (Get k) = (s, found (map.get s.objects k))
 step s (Create d) = carried_out s d.object.key (on_create d (map.get s.objects d.object.key))
 step s (Update d) = carried_out s d.object.key (on_update d (map.get s.objects d.object.key))
+step s (UpdateStatus d) = carried_out s d.object.key (on_status d (map.get s.objects d.object.key))
 step s (Delete k uid version at) = carried_out s k (on_delete version uid at (map.get s.objects k))

@@ -4,7 +4,7 @@ use Rattle.serde_json.specs.Data.{Members}
 use Rattle.serde_json.specs.Find.{as_str, get_member}
 use Rattle.objects.specs.Reading.{key_in}
 use Rattle.plain.specs.declared.request.Request.{Request}
-use Rattle.plain.specs.declared.request.Request.TheVariants.{Create, Get, Update}
+use Rattle.plain.specs.declared.request.Request.TheVariants.{Create, Get, Update, UpdateStatus}
 use Rattle.plain.specs.declared.request.RequestError.{RequestError}
 use Rattle.plain.specs.declared.request.RequestError.TheVariants as errors
 use Rattle.plain.specs.declared.request.Verb.{Verb}
@@ -17,6 +17,7 @@ verb_named s =
     if bytes_eq s (codes "create") then Some verb.Create
     else if bytes_eq s (codes "get") then Some verb.Get
     else if bytes_eq s (codes "update") then Some verb.Update
+    else if bytes_eq s (codes "status") then Some verb.Status
     else if bytes_eq s (codes "delete") then Some verb.Delete
     else None
 
@@ -29,4 +30,5 @@ unfoldable pub request_by : Verb → Members → Result Request RequestError
 request_by verb.Create ms = lifted (object_draft (get_member (codes "object") ms)) >>= λ d. Ok (Create d)
 request_by verb.Get ms = lifted (key_in ms) >>= λ k. Ok (Get k)
 request_by verb.Update ms = lifted (object_draft (get_member (codes "object") ms)) >>= λ d. Ok (Update d)
+request_by verb.Status ms = lifted (object_draft (get_member (codes "object") ms)) >>= λ d. Ok (UpdateStatus d)
 request_by verb.Delete ms = deletion_in ms

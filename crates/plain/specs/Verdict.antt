@@ -1,12 +1,14 @@
 -- What a request comes to, given the object that now has its key (Kubernetes API concepts: resource versions,
 -- UIDs, and the preconditions of a write).
-use Rattle.std.specs.Prelude.{ℕ, Bool, false, not, ◌||◌, List, bytes_eq, decimal, Option, Some, None, is_some, if◌then◌else◌}
+use Rattle.std.specs.Prelude.{ℕ, ◌+◌, ◌^◌, nat_lt, Bool, true, false, not, ◌||◌, ◌&&◌, List, bytes_eq, codes, decimal, Option, Some, None, is_some, if◌then◌else◌}
 use Rattle.std.specs.Option.{option_map_or}
 use Rattle.objects.specs.declared.kind.Kind.{Kind}
 use Rattle.objects.specs.declared.kind.Kind.TheVariants.{StatefulSet, Pod, PersistentVolumeClaim, ControllerRevision}
 use Rattle.objects.specs.declared.object.Object.{Object}
 use Rattle.objects.specs.declared.object.Draft.{Draft}
+use Rattle.serde_json.specs.Data.{Data}
 use Rattle.objects.specs.Same.{same_data}
+use Rattle.objects.specs.Status.{member_of, with_member}
 use Rattle.objects.specs.Uid.{uid_text}
 use Rattle.plain.specs.declared.reply.Reason.{Reason}
 use Rattle.plain.specs.declared.reply.Reason.TheVariants.{NotFound, AlreadyExists, Conflict, Invalid}
@@ -32,28 +34,84 @@ differs given current = option_map_or (λ t. not (bytes_eq t current)) given fal
 abbrev pub conflicts : Option (List ℕ) → Option (List ℕ) → Object → Bool
 conflicts version uid o = differs version (decimal o.meta.revision) || differs uid (uid_text o.meta.uid)
 
+-- A ControllerRevision has no status, and keeps all of its members.
+abbrev pub has_status : Kind → Bool
+has_status StatefulSet = true
+has_status Pod = true
+has_status PersistentVolumeClaim = true
+has_status ControllerRevision = false
+
+-- the body with that status or with none, for a kind that has a status
+abbrev pub body_with_status : Kind → Option Data → Data → Data
+body_with_status kind status body = if has_status kind then with_member (codes "status") status body else body
+
+-- the object that a create makes: its status comes later, by a request of its own
+abbrev pub born : Object → Object
+born o = record { key = o.key; meta = o.meta; body = body_with_status o.key.kind None o.body }
+
+-- a missing value differs from one that is there
+abbrev pub same_found : Option Data → Option Data → Bool
+same_found None None = true
+same_found None (Some e) = false
+same_found (Some d) None = false
+same_found (Some d) (Some e) = same_data d e
+
+abbrev pub same_member : List ℕ → Data → Data → Bool
+same_member k a b = same_found (member_of k a) (member_of k b)
+
+-- The generation rises with each change of `spec`, up to its limit.
+abbrev pub generation_after : ℕ → Bool → ℕ
+generation_after g same_spec = if same_spec then g else if nat_lt (g + 1) (2 ^ 63) then g + 1 else g
+
 -- A create may not name a resource version, and its name has to be free.
 abbrev pub on_create : Draft → Option Object → Verdict
 on_create d current =
     if is_some d.version then refuse Invalid
     else if is_some current then refuse AlreadyExists
-    else write (creates d.object)
+    else write (creates (born d.object))
 
--- what an update makes of the current object: its UID, generation and deletion stay
+-- what an update makes of the current object: its UID, deletion and status stay, and all else is what is handed in
 abbrev pub updated : Object → Draft → Object
 updated o d = record {
   key = o.key;
-  meta = record { uid = o.meta.uid; revision = o.meta.revision; generation = o.meta.generation; deletion = o.meta.deletion };
-  body = d.object.body;
+  meta = record {
+    uid = o.meta.uid;
+    revision = o.meta.revision;
+    generation = generation_after o.meta.generation (same_member (codes "spec") o.body d.object.body);
+    deletion = o.meta.deletion;
+  };
+  body = body_with_status o.key.kind (member_of (codes "status") o.body) d.object.body;
 }
 
 -- An update that would leave the object as it is writes nothing (an unchanged object keeps its resource version).
 abbrev pub unless_same : Object → Draft → Verdict
-unless_same o d = if same_data o.body d.object.body then same o else write (updates (updated o d))
+unless_same o d = if same_data o.body (updated o d).body then same o else write (updates (updated o d))
+
+-- The `data` of a ControllerRevision never changes.
+abbrev pub changes_data : Draft → Object → Bool
+changes_data d o = not (has_status o.key.kind) && not (same_member (codes "data") o.body d.object.body)
 
 abbrev pub on_update : Draft → Option Object → Verdict
 on_update d None = refuse NotFound
-on_update d (Some o) = if conflicts d.version d.uid o then refuse Conflict else unless_same o d
+on_update d (Some o) =
+    if conflicts d.version d.uid o then refuse Conflict
+    else if changes_data d o then refuse Invalid
+    else unless_same o d
+
+-- what a status request makes of the current object: its status is the one that is handed in, a missing one takes it away
+abbrev pub with_status_of : Object → Draft → Object
+with_status_of o d = record { key = o.key; meta = o.meta; body = with_member (codes "status") (member_of (codes "status") d.object.body) o.body }
+
+abbrev pub status_unless_same : Object → Draft → Verdict
+status_unless_same o d = if same_member (codes "status") o.body d.object.body then same o else write (updates (with_status_of o d))
+
+abbrev pub on_status_of : Draft → Option Object → Verdict
+on_status_of d None = refuse NotFound
+on_status_of d (Some o) = if conflicts d.version d.uid o then refuse Conflict else status_unless_same o d
+
+-- A status request writes `status` and nothing else.
+abbrev pub on_status : Draft → Option Object → Verdict
+on_status d current = if has_status d.object.key.kind then on_status_of d current else refuse Invalid
 
 -- the object with the time of its deletion
 abbrev pub marked : List ℕ → Object → Object

@@ -15,6 +15,8 @@ mod request_tests;
 mod runs;
 mod server;
 mod slices;
+#[cfg(test)]
+mod status_tests;
 mod store;
 mod stream;
 #[cfg(test)]

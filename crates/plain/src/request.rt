@@ -18,6 +18,8 @@ pub enum Request {
     Create(Draft),
     Get(Key),
     Update(Draft),
+    /// Writes the `status` of the draft's object, and nothing else.
+    UpdateStatus(Draft),
     /// A UID or a resource version that is given has to be the object's. With a time `at`, a pod is marked with it and
     /// goes by a later delete without one (graceful deletion); for the other kinds it is passed over.
     Delete {
@@ -96,6 +98,7 @@ enum Verb {
     Create,
     Get,
     Update,
+    Status,
     Delete,
 }
 
@@ -109,6 +112,8 @@ impl Verb {
             Some(Verb::Get)
         } else if name == "update" {
             Some(Verb::Update)
+        } else if name == "status" {
+            Some(Verb::Status)
         } else if name == "delete" {
             Some(Verb::Delete)
         } else {
@@ -150,6 +155,7 @@ fn request_by(alloc: Global, verb: Verb, members: Members) -> Result<Request, Re
         Verb::Create => Ok(Request::Create(draft_in(alloc, members)?)),
         Verb::Get => Ok(Request::Get(read_key(alloc, &members)?)),
         Verb::Update => Ok(Request::Update(draft_in(alloc, members)?)),
+        Verb::Status => Ok(Request::UpdateStatus(draft_in(alloc, members)?)),
         Verb::Delete => deletion_in(alloc, &members),
     }
 }

@@ -1,16 +1,19 @@
-ghost use Rattle.std.specs.Prelude.{◌≡◌, ◌≢◌, ◌≤◌, ◌<◌, ◌↔◌, ◌==◌, ◌+◌, ◌^◌, Some, IfOk, IfSome, OnOk, OnErr, IsErrOf};
+ghost use Rattle.std.specs.Prelude.{◌≡◌, ◌≢◌, ◌≤◌, ◌<◌, ◌↔◌, ◌==◌, ◌+◌, ◌^◌, Some, codes, option_map, IfOk, IfSome, OnOk, OnErr, IsErrOf};
 ghost use Rattle.std.specs.FinMap as map;
 ghost use Rattle.std.specs.Option.{option_copied};
 ghost use Rattle.plain.specs.Store.{carried_out, step, opening, found};
-ghost use Rattle.plain.specs.Verdict.{stamp, at_version, creates, marked, marks, removes, updates, updated, write};
-ghost use Rattle.plain.specs.declared.request.Request.TheVariants.{Create, Delete, Update};
+ghost use Rattle.plain.specs.Verdict.{stamp, at_version, body_with_status, born, creates, marked, marks, removes, updates, updated, with_status_of, write};
+ghost use Rattle.objects.specs.Tree.{data_of};
+ghost use Rattle.objects.specs.Status.{member_of};
+ghost use Rattle.plain.specs.declared.request.Request.TheVariants.{Create, Delete, Update, UpdateStatus};
 
 use crate::decide::{
-    graceful, is_marked, is_unchanged, refused_creation, refused_deletion, refused_update,
+    generation_after, graceful, has_status, is_marked, is_of_status, is_same_status, is_unchanged,
+    refused_creation, refused_deletion, refused_status, refused_update, same_member,
 };
 use crate::reply::{Reason, Reply};
 use crate::request::Request;
-use objects::{Draft, Key, Memory, Meta, Object, Text};
+use objects::{Draft, Key, Memory, Meta, Object, Text, Tree};
 use std::alloc::{AllocError, Global};
 use std::collections::BTreeMap;
 use std::marker::Model;
@@ -75,6 +78,7 @@ impl Plain {
             Request::Create(draft) => self.create(draft),
             Request::Get(key) => self.get(&key),
             Request::Update(draft) => self.update(draft),
+            Request::UpdateStatus(draft) => self.update_status(draft),
             Request::Delete {
                 key,
                 uid,
@@ -111,7 +115,8 @@ impl Plain {
         if self.is_full() {
             return Ok(Reply::Refused(Reason::StoreFull));
         }
-        let written = self.write(created(draft.object, self.counter + 1))?;
+        let object = created(draft.object, self.counter + 1)?;
+        let written = self.write(object)?;
         Ok(Reply::Created(written))
     }
 
@@ -125,13 +130,37 @@ impl Plain {
         if let Some(reason) = refused_update(&draft, current) {
             return Ok(Reply::Refused(reason));
         }
-        if is_unchanged(&draft, current) {
+        let object = updated(draft, current, self.counter + 1)?;
+        if is_unchanged(current, &object) {
             return Ok(Reply::Unchanged(current.clone()?));
         }
         if self.is_full() {
             return Ok(Reply::Refused(Reason::StoreFull));
         }
-        let object = updated(draft, current, self.counter + 1)?;
+        let written = self.write(object)?;
+        Ok(Reply::Updated(written))
+    }
+
+    fn update_status(&mut self, draft: Draft) -> Result<Reply, Memory>
+        ensures step { IfOk result (λ reply. (self.new, reply) ≡ step self.old (UpdateStatus draft)) }
+        ensures memory { OnErr result (self.new ≡ self.old) }
+    {
+        if !is_of_status(&draft) {
+            return Ok(Reply::Refused(Reason::Invalid));
+        }
+        let Some(current) = self.find(&draft.object.key) else {
+            return Ok(Reply::Refused(Reason::NotFound));
+        };
+        if let Some(reason) = refused_status(&draft, current) {
+            return Ok(Reply::Refused(reason));
+        }
+        if is_same_status(&draft, current) {
+            return Ok(Reply::Unchanged(current.clone()?));
+        }
+        if self.is_full() {
+            return Ok(Reply::Refused(Reason::StoreFull));
+        }
+        let object = with_status_of(&draft, current, self.counter + 1)?;
         let written = self.write(object)?;
         Ok(Reply::Updated(written))
     }
@@ -222,12 +251,12 @@ fn copied_key(object: &Object) -> Result<Key, AllocError>
 }
 
 /// The object as the revision that creates it leaves it.
-fn created(object: Object, number: u64) -> Object
+fn created(object: Object, number: u64) -> Result<Object, AllocError>
     requires { number ≤ 2 ^ 20 }
-    ensures { result ≡ stamp (creates object) number }
+    ensures { IfOk result (λ made. made ≡ stamp (creates (born object)) number) }
 {
-    let Object { key, meta: _, body } = object;
-    Object {
+    let Object { key, meta: _, body } = with_own_status(object, None)?;
+    Ok(Object {
         key,
         meta: Meta {
             uid: number,
@@ -236,6 +265,31 @@ fn created(object: Object, number: u64) -> Object
             deletion: None,
         },
         body,
+    })
+}
+
+/// The object with that status or with none, if its kind has one.
+fn with_own_status(object: Object, status: Option<Tree>) -> Result<Object, AllocError>
+    ensures { IfOk result (λ changed. changed ≡ record {
+      key = object.key;
+      meta = object.meta;
+      body = body_with_status object.key.kind (option_map data_of status) object.body;
+    }) }
+{
+    if has_status(object.key.kind) {
+        object.with_status(status)
+    } else {
+        Ok(object)
+    }
+}
+
+/// A copy of the object's status, which shares what it holds.
+fn status_of(object: &Object) -> Result<Option<Tree>, AllocError>
+    ensures { IfOk result (λ status. option_map data_of status ≡ member_of (codes "status") object.now.body) }
+{
+    match object.member("status") {
+        Some(status) => Ok(Some(status.clone()?)),
+        None => Ok(None),
     }
 }
 
@@ -244,15 +298,22 @@ fn updated(draft: Draft, current: &Object, number: u64) -> Result<Object, AllocE
     requires { current.now.key ≡ draft.object.key }
     ensures { IfOk result (λ object. object ≡ stamp (updates (updated current.now draft)) number) }
 {
+    let same_spec = same_member(current, &draft.object, "spec");
     let meta = Meta {
         uid: current.meta.uid,
         revision: number,
-        generation: current.meta.generation,
+        generation: generation_after(current.meta.generation, same_spec),
         deletion: current.meta.deletion.clone()?,
     };
-    let Draft { object, .. } = draft;
-    let Object { key, meta: _, body } = object;
+    let Object { key, meta: _, body } = with_own_status(draft.object, status_of(current)?)?;
     Ok(Object { key, meta, body })
+}
+
+/// The current object with the status of the one that is handed in, as that revision leaves it.
+fn with_status_of(draft: &Draft, current: &Object, revision: u64) -> Result<Object, AllocError>
+    ensures { IfOk result (λ changed. changed ≡ stamp (updates (with_status_of current.now draft.now)) revision) }
+{
+    at_version(current, revision)?.with_status(status_of(&draft.object)?)
 }
 
 /// The object at another revision.

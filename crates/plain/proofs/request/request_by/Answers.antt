@@ -1,5 +1,5 @@
 use Rattle.std.proofs.lemmas.Result.{err_from_is_err_and}
-use Rattle.plain.proofs.Readings.{create_refused, get_refused, update_refused, create_read, get_read, update_read, delete_at}
+use Rattle.plain.proofs.Readings.{create_refused, get_refused, update_refused, create_read, get_read, update_read, status_refused, status_read, delete_at}
 use Rattle.plain.proofs.request.request_by.Goals as goal
 
 pub returns-in_err-draft_in-in-Create : goal.returns-in_err-draft_in-in-Create
@@ -28,3 +28,11 @@ returns-in_ok-draft_in-in-Update c = update_read c.args.verb c.args.members _ c.
 
 pub returns-in-Delete : goal.returns-in-Delete
 returns-in-Delete c = delete_at c.args.verb c.args.members c.deletion_in.result c.in-Delete.is c.deletion_in.ensures
+
+pub returns-in_err-draft_in-in-Status : goal.returns-in_err-draft_in-in-Status
+returns-in_err-draft_in-in-Status c =
+    let p = err_from_is_err_and c.from_residual-in_err-draft_in-in-Status.result c.from_residual-in_err-draft_in-in-Status.ensures.1 in
+    status_refused c.args.verb c.args.members _ p.0 _ c.in-Status.is p.1 p.2 c.in_err-draft_in-in-Status.ensures
+
+pub returns-in_ok-draft_in-in-Status : goal.returns-in_ok-draft_in-in-Status
+returns-in_ok-draft_in-in-Status c = status_read c.args.verb c.args.members _ c.in-Status.is c.in_ok-draft_in-in-Status.ensures

@@ -2,7 +2,7 @@ use Rattle.std.proofs.Common.{◌+◌, sym, ap, ◌∙◌}
 use Rattle.std.specs.FinMap as map
 use Rattle.objects.specs.declared.object.Draft.{Draft}
 use Rattle.plain.specs.Store.{Store}
-use Rattle.plain.specs.Verdict.{on_create, stamp, creates}
+use Rattle.plain.specs.Verdict.{born, on_create, stamp, creates}
 use Rattle.plain.proofs.Steps.{creation_refused, creation_full, creation_made}
 use Rattle.plain.proofs.store.Plain.create.Goals as goal
 
@@ -22,7 +22,7 @@ pub returns-clause-step : goal.returns-clause-step
 returns-clause-step c =
     let there = c.find.ensures.there ∙ ap (λ (d : Draft). map.get c.args.self.now.objects d.object.key) c.draft.view_is in
     let verdict = ap (on_create c.args.draft) (sym there) ∙ c.refused_creation.ensures in
-    let stamped = c.created.ensures ∙ ap (λ (d : Draft). stamp (creates d.object) (c.write.inside.counter + 1)) c.draft.view_is
-    ∙ ap (λ (s : Store). stamp (creates c.args.draft.object) (s.counter + 1)) c.write.view_is in
-    creation_made c.args.self.now c.write-2.new.self c.args.draft _ c.created.result c.in_ok-written.written verdict c.in_default.is (sym c.is_full.ensures ∙ c.if-is_full.false)
+    let stamped = c.in_ok-object.ensures ∙ ap (λ (d : Draft). stamp (creates (born d.object)) (c.self.inside.counter + 1)) c.draft.view_is
+    ∙ ap (λ (s : Store). stamp (creates (born c.args.draft.object)) (s.counter + 1)) c.self.view_is in
+    creation_made c.args.self.now c.write.new.self c.args.draft _ c.in_ok-object.object c.in_ok-written.written verdict c.in_default.is (sym c.is_full.ensures ∙ c.if-is_full.false)
     stamped c.in_ok-written.ensures.written c.in_ok-written.ensures.copy
