@@ -50,3 +50,15 @@ pub struct Draft {
     pub uid: Option<Text>,
     pub version: Option<Text>,
 }
+
+impl Clone for Draft {
+    ghost is_clone = { λ old new. new ≡ old };
+
+    fn clone(&self) -> Result<Draft, AllocError> {
+        Ok(Draft {
+            object: self.object.clone()?,
+            uid: self.uid.clone()?,
+            version: self.version.clone()?,
+        })
+    }
+}

@@ -6,13 +6,15 @@ use Rattle.plain.specs.declared.request.Request.TheVariants.{Create, Get, Update
 use Rattle.plain.specs.declared.reply.Reply.{Reply}
 use Rattle.plain.specs.declared.reply.Reply.TheVariants.{Refused}
 use Rattle.plain.specs.declared.reply.Reason.TheVariants.{StoreFull}
-use Rattle.plain.specs.Verdict.{Change, creates, updates, marks, removes, Verdict, refuse, same, write, on_create, on_update, on_status, on_delete, stamp}
+use Rattle.plain.specs.declared.verdict.Verdict.{Verdict}
+use Rattle.plain.specs.declared.verdict.Verdict.TheVariants.{Refuse, Same, Write}
+use Rattle.plain.specs.Change.{Change, accepted, creates, updates, marks, removes, stamp}
+use Rattle.plain.specs.Verdict.{on_create, on_update, on_status, on_delete}
 use Rattle.objects.specs.declared.object.Object.{Object}
 use Rattle.std.specs.FinMap as map
-use Rattle.plain.specs.Store.{Store, step, carried_out, accepted, found}
+use Rattle.plain.specs.Store.{Store, step, carried_out, found, with_change}
 use Rattle.plain.specs.Run.{after, replies}
 use Rattle.plain.specs.Drawn.{AreNext, AreRising, among, uid_given, uids_given, version_drawn, versions_drawn}
-use Rattle.plain.proofs.Steps.{with_change}
 
 -- what a step does to the counter, by what its reply says
 record Draws (s t : Store) (r : Reply) : Type 0 where
@@ -28,9 +30,9 @@ draws-write s k (marks o) false = record { version = (refl, refl); uid = omega a
 draws-write s k (removes o) false = record { version = (refl, refl); uid = omega arith }
 
 draws-verdict : (s : Store) (k : Key) (v : Verdict) → let end = carried_out s k v in Draws s end.0 end.1
-draws-verdict s k (refuse reason) = record { version = refl; uid = omega arith }
-draws-verdict s k (same o) = record { version = refl; uid = omega arith }
-draws-verdict s k (write c) = draws-write s k c (s.counter == s.capacity)
+draws-verdict s k (Refuse reason) = record { version = refl; uid = omega arith }
+draws-verdict s k (Same o) = record { version = refl; uid = omega arith }
+draws-verdict s k (Write c) = draws-write s k c (s.counter == s.capacity)
 
 draws-found : (s : Store) (o : Option Object) → Draws s s (found o)
 draws-found s None = record { version = refl; uid = omega arith }

@@ -17,7 +17,6 @@ use Rattle.objects.specs.Key.{KeyParts, key_cmp, kind_index, kind_at, kind_at-ki
 use Rattle.objects.specs.KeyOrder.{key_cmp_total}
 use Rattle.plain.specs.Store.{Store}
 use Rattle.plain.specs.Filed.{AreFiled}
-use Rattle.plain.proofs.Steps.{with_object}
 
 -- kinds that stand at one place are one
 exact_kinds : CmpEqualImpliesEq (on kind_index nat_cmp)
@@ -54,14 +53,15 @@ one_written es fs key o written = same_map key_cmp_total exact_keys _ _ (λ q.
 abbrev state : FinMap key_cmp Object → ℕ → ℕ → Store
 state m counter capacity = record { objects = m; counter = counter; capacity = capacity }
 
--- the entries with an object under its key, and the next number drawn
+-- the store with an object under a key, and the next number drawn
+abbrev pub with_object : Store → KeyParts → Object → Store
+with_object s key o = record { objects = insert s.objects key o; counter = s.counter + 1; capacity = s.capacity }
+
 pub one_drawn : (es fs : List (KeyParts × Object)) (counter capacity : ℕ) (key : KeyParts) (o : Object) (s : Store)
-    → state (from_entries es) counter capacity ≡ s → key ≡ o.key
-    → ((q : KeyParts) → object_at fs q ≡ cond (is_at (key_cmp key) q) (Some o) (object_at es q)) → state (from_entries fs) (counter + 1) capacity ≡ with_object s o
-one_drawn es fs counter capacity key o s viewed named written =
-    ap (λ m. state m (counter + 1) capacity) (one_written es fs key o written)
-    ∙ ap (λ k. state (insert (from_entries es) k o) (counter + 1) capacity) named
-    ∙ ap (λ (t : Store). with_object t o) viewed
+    → state (from_entries es) counter capacity ≡ s
+    → ((q : KeyParts) → object_at fs q ≡ cond (is_at (key_cmp key) q) (Some o) (object_at es q)) → state (from_entries fs) (counter + 1) capacity ≡ with_object s key o
+one_drawn es fs counter capacity key o s viewed written =
+    ap (λ m. state m (counter + 1) capacity) (one_written es fs key o written) ∙ ap (λ (t : Store). with_object t key o) viewed
 
 -- entries that lack one key, and have all others, make the map without it
 pub one_removed : (es fs : List (KeyParts × Object)) (key : KeyParts)

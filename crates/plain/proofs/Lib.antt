@@ -1,5 +1,6 @@
 pub mod Entries
 pub mod Steps
+pub mod ChangedKeys
 pub mod Readings
 pub mod Written
 pub mod LineCuts

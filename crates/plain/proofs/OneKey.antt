@@ -14,11 +14,13 @@ use Rattle.plain.specs.declared.request.Request.TheVariants.{Create, Get, Update
 use Rattle.plain.specs.declared.reply.Reply.{Reply}
 use Rattle.plain.specs.declared.reply.Reply.TheVariants.{Refused}
 use Rattle.plain.specs.declared.reply.Reason.TheVariants.{Conflict, StoreFull}
-use Rattle.plain.specs.Verdict.{Change, creates, updates, marks, removes, Verdict, refuse, same, write, deleted, differs, graceful, on_create, on_update, on_status, on_delete, stamp}
-use Rattle.plain.specs.Store.{Store, step, carried_out, accepted, changed_map}
+use Rattle.plain.specs.declared.verdict.Verdict.{Verdict}
+use Rattle.plain.specs.declared.verdict.Verdict.TheVariants.{Refuse, Same, Write}
+use Rattle.plain.specs.Change.{Change, accepted, creates, updates, marks, removes, kept, stamp}
+use Rattle.plain.specs.Verdict.{deleted, differs, graceful, on_create, on_update, on_status, on_delete}
+use Rattle.plain.specs.Store.{Store, step, carried_out, put_at, with_change, written}
 use Rattle.plain.specs.Keys.{key_named}
 use Rattle.plain.proofs.Entries.{equal_from, exact_keys}
-use Rattle.plain.proofs.Steps.{with_change}
 
 no : (b : Bool) → (b ≡ true → ⊥) → b ≡ false
 no true other = absurd (other refl)
@@ -33,21 +35,19 @@ put_elsewhere m k q o other = get-insert key_cmp_total m k o q ∙ ap (λ b. con
 taken_elsewhere : (m : FinMap key_cmp Object) (k q : Key) → (q ≡ k → ⊥) → map.get (map.remove m k) q ≡ map.get m q
 taken_elsewhere m k q other = get-remove key_cmp_total m k q ∙ ap (λ b. cond b None (map.get m q)) (elsewhere q k other)
 
-changed_elsewhere : (m : FinMap key_cmp Object) (k q : Key) (c : Change) (n : ℕ) → (q ≡ k → ⊥) → map.get (changed_map m k c n) q ≡ map.get m q
-changed_elsewhere m k q (creates o) n other = put_elsewhere m k q (stamp (creates o) n) other
-changed_elsewhere m k q (updates o) n other = put_elsewhere m k q (stamp (updates o) n) other
-changed_elsewhere m k q (marks o) n other = put_elsewhere m k q (stamp (marks o) n) other
-changed_elsewhere m k q (removes o) n other = taken_elsewhere m k q other
+put_at_elsewhere : (m : FinMap key_cmp Object) (k q : Key) (now : Option Object) → (q ≡ k → ⊥) → map.get (put_at m k now) q ≡ map.get m q
+put_at_elsewhere m k q None other = taken_elsewhere m k q other
+put_at_elsewhere m k q (Some o) other = put_elsewhere m k q o other
 
 write_elsewhere : (s : Store) (k q : Key) (c : Change) (full : Bool) → (q ≡ k → ⊥)
     → let end : Store × Reply = cond full (s, Refused StoreFull) (with_change s k c, accepted c (stamp c (s.counter + 1))) in map.get end.0.objects q ≡ map.get s.objects q
 write_elsewhere s k q c true other = refl
-write_elsewhere s k q c false other = changed_elsewhere s.objects k q c (s.counter + 1) other
+write_elsewhere s k q c false other = put_at_elsewhere s.objects k q (kept c (s.counter + 1)) other
 
 carried_elsewhere : (s : Store) (k q : Key) (v : Verdict) → (q ≡ k → ⊥) → map.get (carried_out s k v).0.objects q ≡ map.get s.objects q
-carried_elsewhere s k q (refuse reason) other = refl
-carried_elsewhere s k q (same o) other = refl
-carried_elsewhere s k q (write c) other = write_elsewhere s k q c (s.counter == s.capacity) other
+carried_elsewhere s k q (Refuse reason) other = refl
+carried_elsewhere s k q (Same o) other = refl
+carried_elsewhere s k q (Write c) other = write_elsewhere s k q c (s.counter == s.capacity) other
 
 pub step_elsewhere : (s : Store) (r : Request) (q : Key) → (q ≡ key_named r → ⊥) → map.get (step s r).0.objects q ≡ map.get s.objects q
 unfolding step
@@ -63,6 +63,6 @@ pub spared : (s : Store) (k : Key) (uid : List ℕ) (version at : Option (List �
 unfolding step
 spared s k uid version at current there other =
     let old = differs version (decimal current.meta.revision) in
-    let then : Bool → Verdict = λ b. cond b (refuse Conflict) (deleted (graceful current.key.kind at) current) in
+    let then : Bool → Verdict = λ b. cond b (Refuse Conflict) (deleted (graceful current.key.kind at) current) in
     ap (λ o. carried_out s k (on_delete version (Some uid) at o)) there
     ∙ ap (λ b. carried_out s k (then (old || not b))) other ∙ ap (λ b. carried_out s k (then b)) (or-true old)

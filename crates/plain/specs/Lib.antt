@@ -1,3 +1,5 @@
+pub mod Change
+pub mod Forms
 pub mod Verdict
 pub mod Store
 pub mod Filed

@@ -10,9 +10,12 @@ use Rattle.objects.specs.Object.{object_coded}
 use Rattle.plain.specs.declared.request.Request.{Request}
 use Rattle.plain.specs.declared.request.Request.TheVariants.{Create, Get, Update, UpdateStatus, Delete}
 use Rattle.plain.specs.declared.reply.Reply.{Reply}
-use Rattle.plain.specs.declared.reply.Reply.TheVariants.{Created, Found, Updated, Unchanged, Marked, Removed, Refused}
+use Rattle.plain.specs.declared.reply.Reply.TheVariants.{Found, Unchanged, Refused}
 use Rattle.plain.specs.declared.reply.Reason.TheVariants.{NotFound, StoreFull}
-use Rattle.plain.specs.Verdict.{Change, creates, updates, marks, removes, Verdict, refuse, same, write, on_create, on_update, on_status, on_delete, stamp}
+use Rattle.plain.specs.declared.verdict.Verdict.{Verdict}
+use Rattle.plain.specs.declared.verdict.Verdict.TheVariants.{Refuse, Same, Write}
+use Rattle.plain.specs.Change.{Change, accepted, kept, stamp}
+use Rattle.plain.specs.Verdict.{verdict}
 
 pub record Store : Type 0 where
   pub objects : FinMap key_cmp Object
@@ -28,37 +31,33 @@ store_coded =
 abbrev pub opening : ℕ → Store
 opening capacity = record { objects = map.empty; counter = 0; capacity = capacity }
 
--- the reply to a write that left this object
-abbrev pub accepted : Change → Object → Reply
-accepted (creates o) written = Created written
-accepted (updates o) written = Updated written
-accepted (marks o) written = Marked written
-accepted (removes o) written = Removed written
-
--- the map with a change made that draws the number n
-abbrev pub changed_map : FinMap key_cmp Object → Key → Change → ℕ → FinMap key_cmp Object
-changed_map m k (creates o) n = map.insert m k (stamp (creates o) n)
-changed_map m k (updates o) n = map.insert m k (stamp (updates o) n)
-changed_map m k (marks o) n = map.insert m k (stamp (marks o) n)
-changed_map m k (removes o) n = map.remove m k
+-- the map with what the key has now
+abbrev pub put_at : FinMap key_cmp Object → Key → Option Object → FinMap key_cmp Object
+put_at m k None = map.remove m k
+put_at m k (Some o) = map.insert m k o
 
 abbrev pub found : Option Object → Reply
 found None = Refused NotFound
 found (Some o) = Found o
 
+-- the store with a change made at the next number
+abbrev pub with_change : Store → Key → Change → Store
+with_change s k c = let n = s.counter + 1 in record { objects = put_at s.objects k (kept c n); counter = n; capacity = s.capacity }
+
 -- A write draws the next number, unless all are drawn. Nothing else changes the store.
 abbrev pub carried_out : Store → Key → Verdict → Store × Reply
-carried_out s k (refuse reason) = (s, Refused reason)
-carried_out s k (same o) = (s, Unchanged o)
-carried_out s k (write c) =
-    let n = s.counter + 1 in
-    if s.counter == s.capacity then (s, Refused StoreFull)
-    else (record { objects = changed_map s.objects k c n; counter = n; capacity = s.capacity }, accepted c (stamp c n))
+carried_out s k (Refuse reason) = (s, Refused reason)
+carried_out s k (Same o) = (s, Unchanged o)
+carried_out s k (Write c) = if s.counter == s.capacity then (s, Refused StoreFull) else (with_change s k c, accepted c (stamp c (s.counter + 1)))
+
+-- a write request goes by its verdict over the object that now has its key
+abbrev pub written : Store → Key → Request → Store × Reply
+written s k r = carried_out s k (verdict r (map.get s.objects k))
 
 -- one whole request: what the store is then, and the reply
 unfoldable pub step : Store → Request → Store × Reply
 step s (Get k) = (s, found (map.get s.objects k))
-step s (Create d) = carried_out s d.object.key (on_create d (map.get s.objects d.object.key))
-step s (Update d) = carried_out s d.object.key (on_update d (map.get s.objects d.object.key))
-step s (UpdateStatus d) = carried_out s d.object.key (on_status d (map.get s.objects d.object.key))
-step s (Delete k uid version at) = carried_out s k (on_delete version uid at (map.get s.objects k))
+step s (Create d) = written s d.object.key (Create d)
+step s (Update d) = written s d.object.key (Update d)
+step s (UpdateStatus d) = written s d.object.key (UpdateStatus d)
+step s (Delete k uid version at) = written s k (Delete k uid version at)

@@ -10,21 +10,12 @@ use Rattle.serde_json.specs.Data.{Data}
 use Rattle.objects.specs.Same.{same_data}
 use Rattle.objects.specs.Status.{member_of, with_member}
 use Rattle.objects.specs.Uid.{uid_text}
-use Rattle.plain.specs.declared.reply.Reason.{Reason}
 use Rattle.plain.specs.declared.reply.Reason.TheVariants.{NotFound, AlreadyExists, Conflict, Invalid}
-
--- what is to be written, but for the numbers that the write gives it: an object that is made, one that is changed, a pod
--- that is marked with the time of its deletion, an object that is taken away
-pub data Change : Type 0 where
-  creates : Object → Change
-  updates : Object → Change
-  marks : Object → Change
-  removes : Object → Change
-
-pub data Verdict : Type 0 where
-  refuse : Reason → Verdict
-  same : Object → Verdict
-  write : Change → Verdict
+use Rattle.plain.specs.declared.request.Request.{Request}
+use Rattle.plain.specs.declared.request.Request.TheVariants.{Create, Get, Update, UpdateStatus, Delete}
+use Rattle.plain.specs.declared.verdict.Verdict.{Verdict}
+use Rattle.plain.specs.declared.verdict.Verdict.TheVariants.{Refuse, Same, Write}
+use Rattle.plain.specs.Change.{creates, updates, marks, removes}
 
 -- a text was given, and it is another one
 abbrev pub differs : Option (List ℕ) → List ℕ → Bool
@@ -66,36 +57,36 @@ generation_after g same_spec = if same_spec then g else if nat_lt (g + 1) (2 ^ 6
 -- A create may not name a resource version, and its name has to be free.
 abbrev pub on_create : Draft → Option Object → Verdict
 on_create d current =
-    if is_some d.version then refuse Invalid
-    else if is_some current then refuse AlreadyExists
-    else write (creates (born d.object))
+    if is_some d.version then Refuse Invalid
+    else if is_some current then Refuse AlreadyExists
+    else Write (creates (born d.object))
 
 -- what an update makes of the current object: its UID, deletion and status stay, and all else is what is handed in
 abbrev pub updated : Object → Draft → Object
 updated o d = record {
-  key = o.key;
+  key = d.object.key;
   meta = record {
     uid = o.meta.uid;
     revision = o.meta.revision;
     generation = generation_after o.meta.generation (same_member (codes "spec") o.body d.object.body);
     deletion = o.meta.deletion;
   };
-  body = body_with_status o.key.kind (member_of (codes "status") o.body) d.object.body;
+  body = body_with_status d.object.key.kind (member_of (codes "status") o.body) d.object.body;
 }
 
 -- An update that would leave the object as it is writes nothing (an unchanged object keeps its resource version).
 abbrev pub unless_same : Object → Draft → Verdict
-unless_same o d = if same_data o.body (updated o d).body then same o else write (updates (updated o d))
+unless_same o d = if same_data o.body (updated o d).body then Same o else Write (updates (updated o d))
 
 -- The `data` of a ControllerRevision never changes.
 abbrev pub changes_data : Draft → Object → Bool
 changes_data d o = not (has_status o.key.kind) && not (same_member (codes "data") o.body d.object.body)
 
 abbrev pub on_update : Draft → Option Object → Verdict
-on_update d None = refuse NotFound
+on_update d None = Refuse NotFound
 on_update d (Some o) =
-    if conflicts d.version d.uid o then refuse Conflict
-    else if changes_data d o then refuse Invalid
+    if conflicts d.version d.uid o then Refuse Conflict
+    else if changes_data d o then Refuse Invalid
     else unless_same o d
 
 -- what a status request makes of the current object: its status is the one that is handed in, a missing one takes it away
@@ -103,15 +94,15 @@ abbrev pub with_status_of : Object → Draft → Object
 with_status_of o d = record { key = o.key; meta = o.meta; body = with_member (codes "status") (member_of (codes "status") d.object.body) o.body }
 
 abbrev pub status_unless_same : Object → Draft → Verdict
-status_unless_same o d = if same_member (codes "status") o.body d.object.body then same o else write (updates (with_status_of o d))
+status_unless_same o d = if same_member (codes "status") o.body d.object.body then Same o else Write (updates (with_status_of o d))
 
 abbrev pub on_status_of : Draft → Option Object → Verdict
-on_status_of d None = refuse NotFound
-on_status_of d (Some o) = if conflicts d.version d.uid o then refuse Conflict else status_unless_same o d
+on_status_of d None = Refuse NotFound
+on_status_of d (Some o) = if conflicts d.version d.uid o then Refuse Conflict else status_unless_same o d
 
 -- A status request writes `status` and nothing else.
 abbrev pub on_status : Draft → Option Object → Verdict
-on_status d current = if has_status d.object.key.kind then on_status_of d current else refuse Invalid
+on_status d current = if has_status d.object.key.kind then on_status_of d current else Refuse Invalid
 
 -- the object with the time of its deletion
 abbrev pub marked : List ℕ → Object → Object
@@ -130,26 +121,26 @@ graceful ControllerRevision at = None
 
 -- A graceful deletion marks the object, once, with the time that is handed in. Any other takes it away, a marked one too.
 abbrev pub deleted : Option (List ℕ) → Object → Verdict
-deleted None o = write (removes o)
-deleted (Some at) o = if is_some o.meta.deletion then same o else write (marks (marked at o))
+deleted None o = Write (removes o)
+deleted (Some at) o = if is_some o.meta.deletion then Same o else Write (marks (marked at o))
 
 -- A delete names a key, and may name the UID and the resource version that the object has to have.
 abbrev pub on_delete : Option (List ℕ) → Option (List ℕ) → Option (List ℕ) → Option Object → Verdict
-on_delete version uid at None = refuse NotFound
-on_delete version uid at (Some o) = if conflicts version uid o then refuse Conflict else deleted (graceful o.key.kind at) o
+on_delete version uid at None = Refuse NotFound
+on_delete version uid at (Some o) = if conflicts version uid o then Refuse Conflict else deleted (graceful o.key.kind at) o
 
--- the object at another resource version
-abbrev pub at_version : Object → ℕ → Object
-at_version o n = record {
-  key = o.key;
-  meta = record { uid = o.meta.uid; revision = n; generation = o.meta.generation; deletion = o.meta.deletion };
-  body = o.body;
-}
+-- Reads have no verdict: they answer what there is.
+abbrev pub is_write : Request → Bool
+is_write (Create d) = true
+is_write (Get k) = false
+is_write (Update d) = true
+is_write (UpdateStatus d) = true
+is_write (Delete k uid version at) = true
 
--- The object of a change that draws the number n: a creation has n as its UID too, generation 1 and no deletion. What is
--- taken away is answered at the number of its removal.
-abbrev pub stamp : Change → ℕ → Object
-stamp (creates o) n = record { key = o.key; meta = record { uid = n; revision = n; generation = 1; deletion = None }; body = o.body }
-stamp (updates o) n = at_version o n
-stamp (marks o) n = at_version o n
-stamp (removes o) n = at_version o n
+-- The table: what a request comes to, given the object that now has its key. A read is never asked.
+abbrev pub verdict : Request → Option Object → Verdict
+verdict (Create d) current = on_create d current
+verdict (Get k) current = Refuse Invalid
+verdict (Update d) current = on_update d current
+verdict (UpdateStatus d) current = on_status d current
+verdict (Delete k uid version at) current = on_delete version uid at current

@@ -3,11 +3,14 @@
 #![tactic(auto)]
 
 mod buffers;
+mod change;
 mod cutter;
-mod decide;
 mod devices;
 mod failures;
+mod form;
 mod line;
+mod outcomes;
+mod preconditions;
 mod reply;
 mod request;
 #[cfg(test)]
@@ -19,10 +22,14 @@ mod slices;
 mod status_tests;
 mod store;
 mod stream;
+mod table;
 #[cfg(test)]
 mod tests;
+mod verdict;
+mod version;
 
 pub use buffers::BufferSink;
+pub use change::Change;
 pub use devices::{ReadSource, WriteSink};
 pub use reply::{Reason, Reply};
 pub use request::{Request, RequestError, read_request};
@@ -34,3 +41,6 @@ pub use server::{ServeFault, serve};
 pub use slices::SliceSource;
 pub use store::{MOST_REVISIONS, Plain, PlainError};
 pub use stream::{Sink, Source, write_all};
+pub use table::decide;
+pub use verdict::Verdict;
+pub use version::Version;

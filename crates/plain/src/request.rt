@@ -6,6 +6,7 @@ ghost use Rattle.plain.specs.Replies.{read_error_name, error_name};
 ghost use Rattle.objects.specs.Tree.{data_of};
 ghost use Rattle.objects.specs.declared.fault.ReadError.TheVariants.{Memory as OutOfMemory};
 ghost use Rattle.plain.specs.Requests.{Answers, request_of, object_draft, deletion_in, field_text};
+ghost use Rattle.plain.specs.Keys.{key_named};
 ghost use Rattle.plain.specs.Verbs.{verb_named, verb_in, request_by};
 
 use objects::{Draft, Key, Members, ReadError, Text, Tree, read_draft, read_key, read_tree};
@@ -28,6 +29,44 @@ pub enum Request {
         version: Option<Text>,
         at: Option<Text>,
     },
+}
+
+impl Request {
+    /// The key that the request names.
+    pub fn key(&self) -> &Key
+        ensures { result.now ≡ key_named self.now }
+    {
+        match self {
+            Request::Create(draft) | Request::Update(draft) | Request::UpdateStatus(draft) => {
+                &draft.object.key
+            }
+            Request::Get(key) | Request::Delete { key, .. } => key,
+        }
+    }
+}
+
+impl Clone for Request {
+    ghost is_clone = { λ old new. new ≡ old };
+
+    fn clone(&self) -> Result<Request, AllocError> {
+        match self {
+            Request::Create(draft) => Ok(Request::Create(draft.clone()?)),
+            Request::Get(key) => Ok(Request::Get(key.clone()?)),
+            Request::Update(draft) => Ok(Request::Update(draft.clone()?)),
+            Request::UpdateStatus(draft) => Ok(Request::UpdateStatus(draft.clone()?)),
+            Request::Delete {
+                key,
+                uid,
+                version,
+                at,
+            } => Ok(Request::Delete {
+                key: key.clone()?,
+                uid: uid.clone()?,
+                version: version.clone()?,
+                at: at.clone()?,
+            }),
+        }
+    }
 }
 
 /// Why a line is no request: the first of these that fits, in the order of the tests (TooLong, NotJson and NotWhole

@@ -1,7 +1,7 @@
 use Rattle.std.proofs.Common.{ap, arith}
 use Rattle.plain.specs.Store.{Store}
 use Rattle.plain.proofs.Entries.{one_drawn_away, left_filed}
-use Rattle.plain.proofs.store.Plain.drop_entry.Goals as goal
+use Rattle.plain.proofs.store.Plain.remove.Goals as goal
 
 pub invariant_of-self : goal.invariant_of-self
 invariant_of-self c =

@@ -1,0 +1,52 @@
+-- A request changes the object of the key that it names.
+use Rattle.std.specs.Bool.{⊤}
+use Rattle.std.proofs.Common.{◌≡◌, Bool, true, false, cond, not, codes, is_some, List, ℕ, Option, Some, None, IfSome, Bor, refl}
+use Rattle.std.specs.Option.{option_copied}
+use Rattle.objects.specs.declared.key.Key.{Key}
+use Rattle.objects.specs.declared.object.Object.{Object}
+use Rattle.plain.specs.declared.request.Request.{Request}
+use Rattle.plain.specs.declared.request.Request.TheVariants.{Create, Get, Update, UpdateStatus, Delete}
+use Rattle.plain.specs.declared.verdict.Verdict.{Verdict}
+use Rattle.plain.specs.declared.verdict.Verdict.TheVariants.{Refuse, Same, Write}
+use Rattle.plain.specs.Change.{change_object}
+use Rattle.plain.specs.Keys.{key_named}
+use Rattle.plain.specs.Verdict.{changes_data, conflicts, deleted, graceful, has_status, same_member, updated, verdict}
+use Rattle.objects.specs.Same.{same_data}
+
+-- the object, if there is one, has that key
+abbrev pub IsFiled : Key → Option Object → Type 0
+IsFiled k None = ⊤
+IsFiled k (Some o) = o.key ≡ k
+
+-- the change, if there is one, is of that key
+abbrev pub IsOfKey : Key → Verdict → Type 0
+IsOfKey k (Refuse reason) = ⊤
+IsOfKey k (Same o) = ⊤
+IsOfKey k (Write c) = (change_object c).key ≡ k
+
+pub found_is_filed : (k : Key) (found : Option (Bor Object)) → IfSome found (λ o. o.now.key ≡ k) → IsFiled k (option_copied found)
+found_is_filed k None is = tt
+found_is_filed k (Some o) is = is
+
+either : (k : Key) (b : Bool) (v w : Verdict) → IsOfKey k v → IsOfKey k w → IsOfKey k (cond b v w)
+either k true v w first second = first
+either k false v w first second = second
+
+deletes_its_key : (k : Key) (o : Object) (at : Option (List ℕ)) → o.key ≡ k → IsOfKey k (deleted at o)
+deletes_its_key k o None filed = filed
+deletes_its_key k o (Some at) filed = either k (is_some o.meta.deletion) _ _ tt filed
+
+pub changes_its_key : (r : Request) (current : Option Object) → IsFiled (key_named r) current → IsOfKey (key_named r) (verdict r current)
+changes_its_key (Create d) current filed = either d.object.key (is_some d.version) _ _ tt (either d.object.key (is_some current) _ _ tt refl)
+changes_its_key (Get k) current filed = tt
+changes_its_key (Update d) None filed = tt
+changes_its_key (Update d) (Some o) filed =
+    let k = d.object.key in
+    either k (conflicts d.version d.uid o) _ _ tt (either k (changes_data d o) _ _ tt (either k (same_data o.body (updated o d).body) _ _ tt refl))
+changes_its_key (UpdateStatus d) None filed = either d.object.key (has_status d.object.key.kind) _ _ tt tt
+changes_its_key (UpdateStatus d) (Some o) filed =
+    let k = d.object.key in
+    either k (has_status k.kind) _ _
+    (either k (conflicts d.version d.uid o) _ _ tt (either k (same_member (codes "status") o.body d.object.body) _ _ tt filed)) tt
+changes_its_key (Delete k uid version at) None filed = tt
+changes_its_key (Delete k uid version at) (Some o) filed = either k (conflicts version uid o) _ _ tt (deletes_its_key k o (graceful o.key.kind at) filed)

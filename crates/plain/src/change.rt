@@ -1,0 +1,124 @@
+ghost use Rattle.std.specs.Prelude.{◌≡◌, ◌≤◌, ◌<◌, ◌^◌, IfOk};
+ghost use Rattle.plain.specs.Change.{accepted, stamp, version_of};
+ghost use Rattle.plain.specs.Forms.{change_by, stored_by};
+
+use crate::form::Form;
+use crate::reply::Reply;
+use crate::version::Version;
+use objects::{Key, Meta, Object};
+use std::alloc::AllocError;
+use std::marker::Model;
+
+/// What an accepted request writes, but for the number that it draws. What it holds is ready to be stored and to be
+/// answered, so that `stamp` takes no memory.
+#[derive(Debug, Drop)]
+pub struct Change {
+    form: Form,
+    key: Key,
+    shown: Object,
+    stored: Option<Object>,
+}
+
+impl Model for Change {
+    ghost use Rattle.std.specs.Prelude.{◌≡◌};
+    ghost use Rattle.plain.specs.Change.{Change, change_coded};
+    ghost use Rattle.plain.specs.Forms.{change_by, stored_by};
+
+    ghost Value = { Change };
+
+    ghost coded = { change_coded };
+
+    ghost view = { λ c. change_by c.form c.shown };
+
+    ghost invariant = { λ c. (c.key ≡ c.shown.key) × (c.stored ≡ stored_by c.form c.shown) };
+}
+
+impl Change {
+    /// The change of that form that leaves the object, or takes it away.
+    pub(crate) fn of(form: Form, object: Object) -> Result<Change, AllocError>
+        ensures { IfOk result (λ change. change ≡ change_by form object) }
+    {
+        let key = object.key.clone()?;
+        let stored = stored_by(form, &object)?;
+        Ok(Change {
+            form,
+            key,
+            shown: object,
+            stored,
+        })
+    }
+
+    /// The change at the number that it draws: what to store, and the reply. A creation has the number as its UID too
+    /// (Kubernetes `ObjectMeta`: uid, resourceVersion, generation).
+    pub fn stamp(self, number: u64) -> (Version, Reply)
+        requires { (1 ≤ number) × (number < 2 ^ 48) }
+        ensures version { result.0 ≡ version_of self number }
+        ensures reply { result.1 ≡ accepted self (stamp self number) }
+    {
+        let Change {
+            form,
+            key,
+            shown,
+            stored,
+        } = self;
+        let state = match stored {
+            Some(object) => Some(stamped(form, object, number)),
+            None => None,
+        };
+        (
+            Version { key, state },
+            form.accepted(stamped(form, shown, number)),
+        )
+    }
+}
+
+/// A copy of the object to be stored; a removal stores none.
+fn stored_by(form: Form, object: &Object) -> Result<Option<Object>, AllocError>
+    ensures { IfOk result (λ stored. stored ≡ stored_by form object.now) }
+{
+    match form {
+        Form::Creation | Form::Update | Form::Mark => Ok(Some(object.clone()?)),
+        Form::Removal => Ok(None),
+    }
+}
+
+fn stamped(form: Form, object: Object, number: u64) -> Object
+    requires { number < 2 ^ 48 }
+    ensures { result ≡ stamp (change_by form object) number }
+{
+    let Object { key, meta, body } = object;
+    let meta = match form {
+        Form::Creation => created(number),
+        Form::Update | Form::Mark | Form::Removal => at_version(meta, number),
+    };
+    Object { key, meta, body }
+}
+
+fn created(number: u64) -> Meta
+    requires { number < 2 ^ 48 }
+    ensures { result ≡ record { uid = number; revision = number; generation = 1; deletion = None } }
+{
+    Meta {
+        uid: number,
+        revision: number,
+        generation: 1,
+        deletion: None,
+    }
+}
+
+fn at_version(meta: Meta, number: u64) -> Meta
+    ensures { result ≡ record { uid = meta.uid; revision = number; generation = meta.generation; deletion = meta.deletion } }
+{
+    let Meta {
+        uid,
+        revision: _,
+        generation,
+        deletion,
+    } = meta;
+    Meta {
+        uid,
+        revision: number,
+        generation,
+        deletion,
+    }
+}

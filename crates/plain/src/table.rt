@@ -1,0 +1,125 @@
+// The table of verdicts, in the order of its cases.
+ghost use Rattle.std.specs.Prelude.{◌≡◌, true, IfOk, option_map};
+ghost use Rattle.std.specs.Option.{option_copied};
+ghost use Rattle.plain.specs.Verdict.{is_write, on_create, on_delete, on_status, on_update, verdict};
+ghost use Rattle.plain.specs.Forms.{change_by};
+ghost use Rattle.plain.specs.declared.verdict.Verdict.TheVariants.{Write};
+
+use crate::change::Change;
+use crate::form::Form;
+use crate::outcomes::{born, marked, updated, with_status_of};
+use crate::preconditions::{
+    changes_data, conflicts, graceful, has_status, is_marked, is_same_body, is_same_status,
+};
+use crate::reply::Reason;
+use crate::request::Request;
+use crate::verdict::Verdict;
+use objects::{Draft, Memory, Object, Text};
+use std::alloc::AllocError;
+
+/// What a write request comes to, given the object that now has its key, if there is one (Kubernetes API concepts:
+/// resource versions, UIDs, and the preconditions of a write). All that a write needs memory for is made here.
+pub fn decide(current: Option<&Object>, request: &Request) -> Result<Verdict, Memory>
+    requires { is_write request.now ≡ true }
+    ensures { IfOk result (λ decided. decided ≡ verdict request.now (option_copied current.entry)) }
+{
+    Ok(judge(current, request.clone()?)?)
+}
+
+/// As `decide`, of a request that is used up, so that what it holds is moved into the change.
+pub(crate) fn judge(current: Option<&Object>, request: Request) -> Result<Verdict, AllocError>
+    requires { is_write request ≡ true }
+    ensures { IfOk result (λ decided. decided ≡ verdict request (option_copied current.entry)) }
+{
+    match request {
+        Request::Create(draft) => on_create(draft, current),
+        Request::Get(_) => unreachable!(),
+        Request::Update(draft) => on_update(draft, current),
+        Request::UpdateStatus(draft) => on_status(&draft, current),
+        Request::Delete {
+            key: _,
+            uid,
+            version,
+            at,
+        } => on_delete(version.as_ref(), uid.as_ref(), at, current),
+    }
+}
+
+fn on_create(draft: Draft, current: Option<&Object>) -> Result<Verdict, AllocError>
+    ensures { IfOk result (λ decided. decided ≡ on_create draft (option_copied current.entry)) }
+{
+    if draft.version.is_some() {
+        return Ok(Verdict::Refuse(Reason::Invalid));
+    }
+    if current.is_some() {
+        return Ok(Verdict::Refuse(Reason::AlreadyExists));
+    }
+    write(Form::Creation, born(draft.object)?)
+}
+
+fn on_update(draft: Draft, current: Option<&Object>) -> Result<Verdict, AllocError>
+    ensures { IfOk result (λ decided. decided ≡ on_update draft (option_copied current.entry)) }
+{
+    let Some(current) = current else {
+        return Ok(Verdict::Refuse(Reason::NotFound));
+    };
+    if conflicts(draft.version.as_ref(), draft.uid.as_ref(), current) {
+        return Ok(Verdict::Refuse(Reason::Conflict));
+    }
+    if changes_data(&draft, current) {
+        return Ok(Verdict::Refuse(Reason::Invalid));
+    }
+    let object = updated(draft, current)?;
+    if is_same_body(current, &object) {
+        return Ok(Verdict::Same(current.clone()?));
+    }
+    write(Form::Update, object)
+}
+
+fn on_status(draft: &Draft, current: Option<&Object>) -> Result<Verdict, AllocError>
+    ensures { IfOk result (λ decided. decided ≡ on_status draft.now (option_copied current.entry)) }
+{
+    if !has_status(draft.object.key.kind) {
+        return Ok(Verdict::Refuse(Reason::Invalid));
+    }
+    let Some(current) = current else {
+        return Ok(Verdict::Refuse(Reason::NotFound));
+    };
+    if conflicts(draft.version.as_ref(), draft.uid.as_ref(), current) {
+        return Ok(Verdict::Refuse(Reason::Conflict));
+    }
+    if is_same_status(draft, current) {
+        return Ok(Verdict::Same(current.clone()?));
+    }
+    write(Form::Update, with_status_of(draft, current)?)
+}
+
+fn on_delete(
+    version: Option<&Text>,
+    uid: Option<&Text>,
+    at: Option<Text>,
+    current: Option<&Object>,
+) -> Result<Verdict, AllocError>
+    ensures { IfOk result (λ decided. decided
+        ≡ on_delete (option_copied version.entry) (option_copied uid.entry) at (option_copied current.entry)) }
+{
+    let Some(current) = current else {
+        return Ok(Verdict::Refuse(Reason::NotFound));
+    };
+    if conflicts(version, uid, current) {
+        return Ok(Verdict::Refuse(Reason::Conflict));
+    }
+    let Some(at) = graceful(current, at) else {
+        return write(Form::Removal, current.clone()?);
+    };
+    if is_marked(current) {
+        return Ok(Verdict::Same(current.clone()?));
+    }
+    write(Form::Mark, marked(current, at)?)
+}
+
+fn write(form: Form, object: Object) -> Result<Verdict, AllocError>
+    ensures { IfOk result (λ decided. decided ≡ Write (change_by form object)) }
+{
+    Ok(Verdict::Write(Change::of(form, object)?))
+}
