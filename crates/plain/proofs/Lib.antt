@@ -1,6 +1,7 @@
 pub mod Entries
-pub mod Steps
 pub mod ChangedKeys
+pub mod Steps
+pub mod ReachedStates
 pub mod Readings
 pub mod Written
 pub mod LineCuts

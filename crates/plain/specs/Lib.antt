@@ -4,6 +4,7 @@ pub mod Verdict
 pub mod Store
 pub mod Filed
 pub mod Run
+pub mod Reached
 pub mod Requests
 pub mod Verbs
 pub mod Replies

@@ -2,6 +2,7 @@
 //! carry requests in and replies out.
 #![tactic(auto)]
 
+mod api;
 mod buffers;
 mod change;
 mod cutter;
@@ -28,6 +29,7 @@ mod tests;
 mod verdict;
 mod version;
 
+pub use api::{Api, ApiFault};
 pub use buffers::BufferSink;
 pub use change::Change;
 pub use devices::{ReadSource, WriteSink};

@@ -1,6 +1,7 @@
 ghost use Rattle.std.specs.Prelude.{◌≡◌, ◌≢◌, ◌≤◌, ◌<◌, ◌↔◌, ◌==◌, ◌+◌, true, IfOk, IfSome, OnOk, OnErr, IsErrOf};
 ghost use Rattle.std.specs.FinMap as map;
 ghost use Rattle.std.specs.Option.{option_copied};
+ghost use Rattle.plain.specs.Reached.{IsReached};
 ghost use Rattle.plain.specs.Store.{carried_out, found, opening, put_at, step};
 ghost use Rattle.plain.specs.Change.{change_object};
 ghost use Rattle.plain.specs.Verdict.{is_write};
@@ -41,6 +42,7 @@ impl Model for Plain {
     ghost use Rattle.std.specs.FinMap as map;
     ghost use Rattle.plain.specs.Store.{Store, store_coded};
     ghost use Rattle.plain.specs.Filed.{AreFiled};
+    ghost use Rattle.plain.specs.Reached.{IsReached};
     ghost use Rattle.plain.specs.declared.store.TheConstants.{MOST_REVISIONS};
 
     ghost Value = { Store };
@@ -49,7 +51,8 @@ impl Model for Plain {
 
     ghost view = { λ p. record { objects = map.from_entries p.objects.entries; counter = p.counter; capacity = p.capacity } };
 
-    ghost invariant = { λ p. (p.counter ≤ p.capacity) × (p.capacity ≤ MOST_REVISIONS) × AreFiled (map.from_entries p.objects.entries) };
+    ghost invariant = { λ p. (p.counter ≤ p.capacity) × (p.capacity ≤ MOST_REVISIONS) × AreFiled (map.from_entries p.objects.entries)
+        × IsReached (record { objects = map.from_entries p.objects.entries; counter = p.counter; capacity = p.capacity }) };
 }
 
 impl Plain {
@@ -70,9 +73,11 @@ impl Plain {
 
     /// Takes one whole request. Where memory runs out, nothing has changed.
     pub fn take(&mut self, request: Request) -> Result<Reply, Memory>
+        ensures reached { IsReached self.old }
         ensures step { IfOk result (λ reply. (self.new, reply) ≡ step self.old request) }
         ensures memory { OnErr result (self.new ≡ self.old) }
     {
+        let _ = &self.objects;
         match &request {
             Request::Get(key) => self.get(key),
             Request::Create(_)
@@ -105,6 +110,7 @@ impl Plain {
         ensures step { IfOk result (λ reply. (self.new, reply) ≡ step self.old request) }
         ensures memory { OnErr result (self.new ≡ self.old) }
     {
+        let _ = &self.objects;
         match judge(self.find(request.key()), request)? {
             Verdict::Refuse(reason) => Ok(Reply::Refused(reason)),
             Verdict::Same(object) => Ok(Reply::Unchanged(object)),
@@ -114,6 +120,7 @@ impl Plain {
 
     /// Makes the change at the next number, if there is one left.
     fn carry_out(&mut self, change: Change) -> Result<Reply, Memory>
+        requires { IsReached (carried_out self.old (change_object change).key (Write change)).0 }
         ensures step { IfOk result (λ reply. (self.new, reply) ≡ carried_out self.old (change_object change).key (Write change)) }
         ensures memory { OnErr result (self.new ≡ self.old) }
     {
@@ -129,6 +136,7 @@ impl Plain {
     fn put(&mut self, version: Version) -> Result<(), AllocError>
         requires room { self.old.counter ≢ self.old.capacity }
         requires filed { IfSome version.state (λ object. object.key ≡ version.key) }
+        requires reached { IsReached (record { objects = put_at self.old.objects version.key version.state; counter = self.old.counter + 1; capacity = self.old.capacity }) }
         ensures put { OnOk result (self.new ≡ record { objects = put_at self.old.objects version.key version.state; counter = self.old.counter + 1; capacity = self.old.capacity }) }
         ensures memory { OnErr result (self.new ≡ self.old) }
     {
@@ -145,6 +153,7 @@ impl Plain {
     fn insert(&mut self, key: Key, object: Object) -> Result<(), AllocError>
         requires room { self.old.counter ≢ self.old.capacity }
         requires filed { object.key ≡ key }
+        requires reached { IsReached (record { objects = map.insert self.old.objects key object; counter = self.old.counter + 1; capacity = self.old.capacity }) }
         ensures put { OnOk result (self.new ≡ record { objects = map.insert self.old.objects key object; counter = self.old.counter + 1; capacity = self.old.capacity }) }
         ensures memory { OnErr result (self.new ≡ self.old) }
     {
@@ -154,7 +163,8 @@ impl Plain {
     }
 
     fn remove(&mut self, key: &Key)
-        requires { self.old.counter ≢ self.old.capacity }
+        requires room { self.old.counter ≢ self.old.capacity }
+        requires reached { IsReached (record { objects = map.remove self.old.objects key.now; counter = self.old.counter + 1; capacity = self.old.capacity }) }
         ensures { self.new ≡ record { objects = map.remove self.old.objects key.now; counter = self.old.counter + 1; capacity = self.old.capacity } }
     {
         self.objects.remove(key);

@@ -1,11 +1,10 @@
-use Rattle.std.proofs.Common.{sym, ap, subst, ◌∙◌}
+use Rattle.std.proofs.Common.{sym, ap, ◌∙◌}
 use Rattle.std.proofs.lemmas.Result.{IfOk-weaker}
-use Rattle.std.specs.Option.{option_copied}
 use Rattle.plain.specs.declared.verdict.Verdict.TheVariants.{Refuse, Same, Write}
-use Rattle.plain.specs.Keys.{key_named}
-use Rattle.plain.specs.Store.{carried_out}
-use Rattle.plain.proofs.ChangedKeys.{IsOfKey, IsFiled, changes_its_key, found_is_filed}
-use Rattle.plain.proofs.Steps.{by_verdict}
+use Rattle.plain.specs.declared.reply.Reply.{Reply}
+use Rattle.plain.specs.Store.{Store, step}
+use Rattle.plain.proofs.Steps.{by_change, by_verdict}
+use Rattle.plain.proofs.ReachedStates.{reached_by_a_step, still_reached}
 use Rattle.plain.proofs.store.Plain.write.Goals as goal
 
 pub returns-in-Refuse-clause-step : goal.returns-in-Refuse-clause-step
@@ -16,13 +15,14 @@ pub returns-in-Same-clause-step : goal.returns-in-Same-clause-step
 returns-in-Same-clause-step c =
     by_verdict c.args.self.now c.args.request _ _ (Same c.in-Same.object) c.requires c.key.ensures c.find.ensures.there (sym c.in-Same.is ∙ c.in_ok-reason.ensures)
 
-pub returns-in-Write-clause-step : goal.returns-in-Write-clause-step
-returns-in-Write-clause-step c =
+pub carry_out-requires : goal.carry_out-requires
+carry_out-requires c =
     let s = c.args.self.now in
     let r = c.args.request in
-    let decided = sym c.in-Write.is ∙ c.in_ok-reason.ensures in
-    let filed = subst (λ k. IsFiled k (option_copied c.find.result)) c.key.ensures (found_is_filed _ c.find.result c.find.ensures.filed) in
-    let named = subst (IsOfKey (key_named r)) (sym decided) (changes_its_key r _ filed) in
-    IfOk-weaker c.carry_out.result _ _ (λ reply carried.
-    carried ∙ ap (λ k. carried_out s k (Write c.in-Write.change)) named
-    ∙ by_verdict s r _ _ (Write c.in-Write.change) c.requires c.key.ensures c.find.ensures.there decided) c.carry_out.ensures.step
+    let end = by_change s r _ c.find.result c.in-Write.change c.requires c.key.ensures c.find.ensures.there c.find.ensures.filed (sym c.in-Write.is ∙ c.in_ok-reason.ensures) in
+    still_reached (step s r).0 _ (ap (λ (e : Store × Reply). e.0) end) (reached_by_a_step s r (still_reached _ s (sym c.self.view_is) c.self.invariant.3))
+
+pub returns-in-Write-clause-step : goal.returns-in-Write-clause-step
+returns-in-Write-clause-step c =
+    let end = by_change c.args.self.now c.args.request _ c.find.result c.in-Write.change c.requires c.key.ensures c.find.ensures.there c.find.ensures.filed (sym c.in-Write.is ∙ c.in_ok-reason.ensures) in
+    IfOk-weaker c.carry_out.result _ _ (λ reply carried. carried ∙ end) c.carry_out.ensures.step
