@@ -27,6 +27,8 @@ mod table;
 #[cfg(test)]
 mod tests;
 mod verdict;
+#[cfg(test)]
+mod verdict_tests;
 mod version;
 
 pub use api::{Api, ApiFault};

@@ -7,6 +7,7 @@ ghost use Rattle.objects.specs.Tree.{data_of};
 ghost use Rattle.objects.specs.declared.fault.ReadError.TheVariants.{Memory as OutOfMemory};
 ghost use Rattle.plain.specs.Requests.{Answers, request_of, object_draft, deletion_in, field_text};
 ghost use Rattle.plain.specs.Keys.{key_named};
+ghost use Rattle.plain.specs.Verdict.{is_write};
 ghost use Rattle.plain.specs.Verbs.{verb_named, verb_in, request_by};
 
 use objects::{Draft, Key, Members, ReadError, Text, Tree, read_draft, read_key, read_tree};
@@ -32,6 +33,19 @@ pub enum Request {
 }
 
 impl Request {
+    /// Whether the request may change the store: a create, an update, a status request or a delete.
+    pub fn is_write(&self) -> bool
+        ensures { result ≡ is_write self.now }
+    {
+        match self {
+            Request::Create(_)
+            | Request::Update(_)
+            | Request::UpdateStatus(_)
+            | Request::Delete { .. } => true,
+            Request::Get(_) => false,
+        }
+    }
+
     /// The key that the request names.
     pub fn key(&self) -> &Key
         ensures { result.now ≡ key_named self.now }

@@ -8,13 +8,12 @@ use Rattle.plain.proofs.ReachedStates.{still_reached}
 use Rattle.plain.proofs.store.Plain.insert.Goals as goal
 
 pub invariant_of-self : goal.invariant_of-self
-invariant_of-self c =
-    (
-      c.self.invariant.0,
-      c.self.invariant.1,
-      kept_filed c.self.inside.objects.entries c.insert.new.self.entries c.in_err-insert.ensures.err c.self.invariant.2,
-      still_reached _ _ (ap (λ (es : List (Key × Object)). record { objects = from_entries es; counter = c.self.inside.counter; capacity = c.self.inside.capacity }) c.in_err-insert.ensures.err) c.self.invariant.3,
-    )
+invariant_of-self c = (
+  c.self.invariant.0,
+  c.self.invariant.1,
+  kept_filed c.self.inside.objects.entries c.insert.new.self.entries c.in_err-insert.ensures.err c.self.invariant.2,
+  still_reached _ _ (ap (λ (es : List (Key × Object)). record { objects = from_entries es; counter = c.self.inside.counter; capacity = c.self.inside.capacity }) c.in_err-insert.ensures.err) c.self.invariant.3,
+)
 
 pub invariant_of-self-2 : goal.invariant_of-self-2
 invariant_of-self-2 c =

@@ -7,12 +7,12 @@ use Rattle.plain.proofs.store.Plain.new.Goals as goal
 
 pub invariant_of-result : goal.invariant_of-result
 invariant_of-result c = (
-      omega arith,
-      omega arith,
-      empty_filed c.new.result.entries c.new.ensures.empty,
-      record {
-        capacity = c.args.capacity;
-        requests = [];
-        left = ap (λ (es : List (Key × Object)). record { objects = from_entries es; counter = 0; capacity = c.args.capacity }) c.new.ensures.empty;
-      },
-    )
+  omega arith,
+  omega arith,
+  empty_filed c.new.result.entries c.new.ensures.empty,
+  record {
+    capacity = c.args.capacity;
+    requests = [];
+    left = ap (λ (es : List (Key × Object)). record { objects = from_entries es; counter = 0; capacity = c.args.capacity }) c.new.ensures.empty;
+  },
+)
