@@ -1,11 +1,12 @@
 -- The numbers of UIDs and of resource versions, read back from their texts.
-use Rattle.std.proofs.Common.{◌≡◌, ℕ, ◌+◌, ◌*◌, ◌/◌, ◌%◌, ◌^◌, ◌<◌, List, [], ◌∷◌, ◌++◌, length, drop, true, false, ◌&&◌, nat_lt, Some, None, unwrap_or, decimal, refl, sym, ap, ◌∙◌, subst, arith, cond, length-append}
+use Rattle.std.proofs.Common.{◌≡◌, ℕ, ◌+◌, ◌*◌, ◌/◌, ◌%◌, ◌^◌, ◌<◌, List, [], ◌∷◌, ◌++◌, length, drop, Bool, true, false, ◌&&◌, nat_lt, Some, None, unwrap_or, decimal, refl, sym, ap, ◌∙◌, subst, arith, cond, length-append}
 use Rattle.std.specs.Prelude.{⊤, bytes_eq, fold, ◌==◌, slice_index}
 use Rattle.std.proofs.Math.Nat.{div-div-eq-div-mul}
 use Rattle.std.specs.Int.{w64, to_be_bytes}
 use Rattle.std.specs.Str.{all_ascii_digits}
 use Rattle.std.specs.Str.Parse.{digits_value}
-use Rattle.std.proofs.lemmas.Bool.{lt-ltb}
+use Rattle.std.proofs.lemmas.Bool.{lt-ltb, ltb-true}
+use Rattle.std.proofs.lemmas.Option.{none-some, same_Some}
 use Rattle.std.proofs.lemmas.Bool.Decides.{nat_tests}
 use Rattle.std.proofs.lemmas.Fmt.{decimal_is_IsNumeral, decimal_nonempty, first_decimal, digits_decimal}
 use Rattle.std.proofs.lemmas.Str.Parse.{numerals_by_value, tells_all_ascii_digits}
@@ -78,6 +79,23 @@ pub uid_number-uid_text : (n : ℕ) → 0 < n → n < 2 ^ 48 → uid_number (uid
 unfolding uid_number
 uid_number-uid_text n some small =
     by_value (uid_text n) (hex_value (drop 24 (uid_text n))) n (ap (λ s. hex_value (drop 24 s)) (uid_text-some n some) ∙ hex_value-twelve_digits n small) refl some small
+
+-- where a number is found, the tests say what the text is
+found_by : (low small same : Bool) (s : List ℕ) (v n : ℕ) → (low ≡ true → 0 < v) → (small ≡ true → v < 2 ^ 48) → (same ≡ true → s ≡ uid_text v)
+    → cond (low && small && same) (Some v) None ≡ Some n → (uid_text n ≡ s) × (0 < n) × (n < 2 ^ 48)
+found_by true true true s v n some fits text found =
+    let e : v ≡ n = same_Some v n found in (ap uid_text (sym e) ∙ sym (text refl), subst (λ x. 0 < x) e (some refl), subst (λ x. x < 2 ^ 48) e (fits refl))
+found_by false small same s v n some fits text found = absurd (none-some n found)
+found_by true false same s v n some fits text found = absurd (none-some n found)
+found_by true true false s v n some fits text found = absurd (none-some n found)
+
+-- a text that has a number is the text of that number
+pub uid_text-uid_number : (s : List ℕ) (n : ℕ) → uid_number s ≡ Some n → (uid_text n ≡ s) × (0 < n) × (n < 2 ^ 48)
+unfolding uid_number
+uid_text-uid_number s n found =
+    let v = hex_value (drop 24 s) in
+    found_by (nat_lt 0 v) (nat_lt v (2 ^ 48)) (bytes_eq s (uid_text v)) s v n
+    (ltb-true 0 v) (ltb-true v (2 ^ 48)) (bytes_eq-Decides s (uid_text v)).0 found
 
 -- ---- where 0 stands for none
 

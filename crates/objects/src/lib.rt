@@ -48,5 +48,5 @@ pub use read::{read_draft, read_key, read_object, read_tree};
 pub use shard::shard_of;
 pub use text::Text;
 pub use tree::{Items, Members, Tree};
-pub use uid::{is_uid_text, is_version_text, uid_number, uid_text};
+pub use uid::{is_uid_text, is_version_text, uid_number, uid_text, uid_texts_read_back};
 pub use whole::Whole;

@@ -1,4 +1,4 @@
-ghost use Rattle.std.specs.Prelude.{◌≡◌, ◌<◌, ◌^◌, ◌++◌, IfOk, IfSome, string_bytes, bytes_eq, decimal, unwrap_or, length, ◌≤◌};
+ghost use Rattle.std.specs.Prelude.{◌≡◌, ℕ, List, Some, ◌<◌, ◌^◌, ◌++◌, IfOk, IfSome, string_bytes, bytes_eq, decimal, unwrap_or, length, ◌≤◌};
 ghost use Rattle.hex.specs.Hex.{hex_digit_value};
 ghost use Rattle.objects.specs.Uid.{uid_text, uid_number, version_number, uid_prefix, twelve_digits, hex_value};
 
@@ -102,3 +102,11 @@ pub(crate) fn version_number(text: &str) -> u64
     }
     text.parse().unwrap_or(0)
 }
+
+/// The texts of UIDs and their numbers are one to one: the text of a number from 1 to 2^48 - 1 reads back as it, and a
+/// text that has a number is the text of that number. So two such numbers have two texts.
+pub fn uid_texts_read_back()
+    ensures read { (number : ℕ) → 0 < number → number < 2 ^ 48 → uid_number (uid_text number) ≡ Some number }
+    ensures only { (text : List ℕ) (number : ℕ) → uid_number text ≡ Some number
+        → (uid_text number ≡ text) × (0 < number) × (number < 2 ^ 48) }
+{}
