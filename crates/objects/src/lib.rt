@@ -45,6 +45,7 @@ pub use pod_names::{
 };
 pub use print::{print_object, write_object};
 pub use read::{read_draft, read_key, read_object, read_tree};
+pub use same::same_is_reflexive;
 pub use shard::shard_of;
 pub use text::Text;
 pub use tree::{Items, Members, Tree};

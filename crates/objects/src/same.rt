@@ -1,6 +1,8 @@
 // Whether two trees are the same JSON value.
-ghost use Rattle.std.specs.Prelude.{◌≡◌, ◌&&◌, bytes_eq};
+ghost use Rattle.std.specs.Prelude.{◌≡◌, ◌&&◌, bytes_eq, true, false};
+ghost use Rattle.serde_json.specs.Data.{Data};
 ghost use Rattle.serde_json.specs.Find.{of_integer};
+ghost use Rattle.serde_json.specs.Written.{has_float};
 ghost use Rattle.objects.specs.Tree.{data_of, items_of, members_of};
 ghost use Rattle.objects.specs.Same.{same_data, same_items, same_members};
 
@@ -75,3 +77,8 @@ fn same_entry(left: &(Text, Tree), right: &(Text, Tree)) -> bool
 {
     left.0.as_str() == right.0.as_str() && same_trees(&left.1, &right.1)
 }
+
+/// A JSON value of whole numbers is the same as itself.
+pub fn same_is_reflexive()
+    ensures { (value : Data) → has_float value ≡ false → same_data value value ≡ true }
+{}
