@@ -2,6 +2,7 @@ pub mod Lookups
 pub mod Conversion
 pub mod EntryPlaces
 pub mod SetMembers
+pub mod BodyMembers
 pub mod Chains
 pub mod Numerals
 pub mod Bodies

@@ -47,6 +47,7 @@ pub use print::{print_object, write_object};
 pub use read::{read_draft, read_key, read_object, read_tree};
 pub use same::same_is_reflexive;
 pub use shard::shard_of;
+pub use status::only_the_set_member_changes;
 pub use text::Text;
 pub use tree::{Items, Members, Tree};
 pub use uid::{is_uid_text, is_version_text, uid_number, uid_text, uid_texts_read_back};

@@ -1,4 +1,5 @@
-ghost use Rattle.std.specs.Prelude.{◌≡◌, option_map, codes, IfOk};
+ghost use Rattle.std.specs.Prelude.{◌≡◌, ◌≢◌, ℕ, List, Option, option_map, codes, IfOk};
+ghost use Rattle.serde_json.specs.Data.{Data, Members, object};
 ghost use Rattle.objects.specs.Tree.{data_of};
 ghost use Rattle.objects.specs.Status.{member_of, with_member};
 
@@ -40,3 +41,11 @@ fn with_member(body: Tree, key: &str, value: Option<Tree>) -> Result<Tree, Alloc
         other => Ok(other),
     }
 }
+
+/// A member that is set has its value, one that is taken away is none, and all others stay as they were.
+pub fn only_the_set_member_changes()
+    ensures set { (name : List ℕ) (value : Option Data) (members : Members)
+        → member_of name (with_member name value (object members)) ≡ value }
+    ensures others { (other name : List ℕ) (value : Option Data) (body : Data)
+        → other ≢ name → member_of other (with_member name value body) ≡ member_of other body }
+{}
