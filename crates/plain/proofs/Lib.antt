@@ -10,3 +10,6 @@ pub mod Servings
 pub mod RunsOfLines
 pub mod DrawnNumbers
 pub mod OneKey
+pub mod Verdicts
+pub mod KeptUids
+pub mod ToldLives

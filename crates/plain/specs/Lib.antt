@@ -14,6 +14,8 @@ pub mod Served
 pub mod ServedRun
 pub mod Drawn
 pub mod Keys
+pub mod AtKey
+pub mod Lives
 pub mod Streams
 pub mod Faults
 pub mod Serving

@@ -9,6 +9,7 @@ mod cutter;
 mod devices;
 mod failures;
 mod form;
+mod lifetimes;
 mod line;
 mod outcomes;
 mod preconditions;
@@ -35,6 +36,9 @@ pub use api::{Api, ApiFault};
 pub use buffers::BufferSink;
 pub use change::Change;
 pub use devices::{ReadSource, WriteSink};
+pub use lifetimes::{
+    names_live_once, objects_stand_under_their_keys, uids_name_one_key, uids_stay,
+};
 pub use reply::{Reason, Reply};
 pub use request::{Request, RequestError, read_request};
 pub use runs::{

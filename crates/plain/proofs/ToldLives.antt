@@ -1,0 +1,127 @@
+-- The replies tell of the objects of a key as of one life after another.
+use Rattle.std.proofs.Common.{◌≡◌, ◌+◌, ◌==◌, ℕ, Bool, true, false, cond, List, [], ◌∷◌, ◌++◌, Option, Some, None, refl, sym, ap, subst, ◌∙◌}
+use Rattle.std.specs.Prelude.{option_map, filter, flat_map}
+use Rattle.std.specs.Ordering.{eq_by_cmp}
+use Rattle.std.specs.FinMap as map
+use Rattle.std.specs.FinMap.{FinMap, get-empty, get-insert, get-remove}
+use Rattle.objects.specs.declared.key.Key.{Key}
+use Rattle.objects.specs.declared.object.Object.{Object}
+use Rattle.objects.specs.Key.{key_cmp}
+use Rattle.objects.specs.KeyOrder.{key_cmp_total}
+use Rattle.plain.specs.declared.request.Request.{Request}
+use Rattle.plain.specs.declared.reply.Reply.{Reply}
+use Rattle.plain.specs.declared.reply.Reply.TheVariants.{Refused}
+use Rattle.plain.specs.declared.reply.Reason.TheVariants.{StoreFull}
+use Rattle.plain.specs.Verdict.{Change, creates, updates, marks, removes, Verdict, refuse, same, write, stamp}
+use Rattle.plain.specs.Store.{Store, opening, step, carried_out, accepted, found}
+use Rattle.plain.specs.Run.{replies}
+use Rattle.plain.specs.AtKey.{Has}
+use Rattle.plain.specs.Filed.{AreFiled}
+use Rattle.plain.specs.Lives.{Event, begins, lasts, ends, events, events_of, is_of, AreLives}
+use Rattle.plain.proofs.Steps.{with_change}
+use Rattle.plain.proofs.Verdicts.{Replaces, Writes, by_verdict, tied}
+use Rattle.plain.proofs.KeptUids.{IsNew, IsNext, allowed, filed_after, filed_in_run}
+
+abbrev about : Key → List Event → List Event
+about q = filter (is_of q)
+
+abbrev uid_in : Option Object → Option ℕ
+uid_in o = option_map (λ (x : Object). x.meta.uid) o
+
+abbrev living : Store → Key → Option ℕ
+living s q = uid_in (map.get s.objects q)
+
+-- what a reply tells of the key goes before what is told from the store that the step leaves
+abbrev Tells : Key → Store → Store × Reply → Type 0
+Tells q s end = (later : List Event) → AreLives (living end.0 q) (about q later) → AreLives (living s q) (about q (events end.1 ++ later))
+
+lasts_by : (b : Bool) (was : Option ℕ) (o : Object) (later : List Event) → (b ≡ true → was ≡ Some o.meta.uid) → AreLives was later → AreLives was (cond b (lasts o ∷ later) later)
+lasts_by true was o later is lives = (is refl, lives)
+lasts_by false was o later is lives = lives
+
+-- under that key the object is found that has it
+uid_at : (s : Store) (q k : Key) (o p : Object) → AreFiled s.objects → Has s k o → p.key ≡ o.key → eq_by_cmp key_cmp q p.key ≡ true → living s q ≡ Some o.meta.uid
+uid_at s q k o p filed there named tie =
+    ap (living s) (tied q p.key tie ∙ named ∙ filed k o there) ∙ ap uid_in there
+
+lasts_tells : (q : Key) (s : Store) (k : Key) (o : Object) → AreFiled s.objects → Has s k o → (later : List Event)
+    → AreLives (living s q) (about q later) → AreLives (living s q) (about q (lasts o ∷ later))
+lasts_tells q s k o filed there later lives =
+    lasts_by (eq_by_cmp key_cmp q o.key) (living s q) o (about q later) (uid_at s q k o o filed there refl) lives
+
+found_tells : (q : Key) (s : Store) (k : Key) (o : Option Object) → AreFiled s.objects → map.get s.objects k ≡ o → Tells q s (s, found o)
+found_tells q s k None filed there = λ later lives. lives
+found_tells q s k (Some o) filed there = lasts_tells q s k o filed there
+
+begins_by : (b : Bool) (before now : Option Object) (p : Object) (later : List Event) → (b ≡ true → before ≡ None) → now ≡ cond b (Some p) before
+    → AreLives (uid_in now) later → AreLives (uid_in before) (cond b (begins p ∷ later) later)
+begins_by true before now p later none is lives = (ap uid_in (none refl), subst (λ x. AreLives (uid_in x) later) is lives)
+begins_by false before now p later none is lives = subst (λ x. AreLives (uid_in x) later) is lives
+
+goes_on_by : (b : Bool) (before now : Option Object) (p : Object) (later : List Event) → (b ≡ true → uid_in before ≡ Some p.meta.uid) → now ≡ cond b (Some p) before
+    → AreLives (uid_in now) later → AreLives (uid_in before) (cond b (lasts p ∷ later) later)
+goes_on_by true before now p later uid is lives =
+    (uid refl, subst (λ u. AreLives u later) (ap uid_in is ∙ sym (uid refl)) lives)
+goes_on_by false before now p later uid is lives = subst (λ x. AreLives (uid_in x) later) is lives
+
+ends_by : (b : Bool) (before now : Option Object) (p : Object) (later : List Event) → (b ≡ true → uid_in before ≡ Some p.meta.uid) → now ≡ cond b None before
+    → AreLives (uid_in now) later → AreLives (uid_in before) (cond b (ends p ∷ later) later)
+ends_by true before now p later uid is lives = (uid refl, subst (λ x. AreLives (uid_in x) later) is lives)
+ends_by false before now p later uid is lives = subst (λ x. AreLives (uid_in x) later) is lives
+
+-- what the map has at a key after an object is put there or taken away, by the key that the object has
+put_at : (m : FinMap key_cmp Object) (k q : Key) (p : Object) → p.key ≡ k → map.get (map.insert m k p) q ≡ cond (eq_by_cmp key_cmp q p.key) (Some p) (map.get m q)
+put_at m k q p named = get-insert key_cmp_total m k p q ∙ ap (λ x. cond (eq_by_cmp key_cmp q x) (Some p) (map.get m q)) (sym named)
+
+taken_at : (m : FinMap key_cmp Object) (k q : Key) (p : Object) → p.key ≡ k → map.get (map.remove m k) q ≡ cond (eq_by_cmp key_cmp q p.key) None (map.get m q)
+taken_at m k q p named = get-remove key_cmp_total m k q ∙ ap (λ x. cond (eq_by_cmp key_cmp q x) None (map.get m q)) (sym named)
+
+abbrev Writing : Store → Key → Verdict → Type 0
+Writing s k v = Writes (IsNew (s.counter + 1)) (IsNext (s.counter + 1)) (s.counter + 1) k (map.get s.objects k) v
+
+-- an object that takes the place of another
+replaced_tells : (q : Key) (s : Store) (k : Key) (p : Object) → AreFiled s.objects → Replaces (IsNext (s.counter + 1)) (map.get s.objects k) p → (later : List Event)
+    → AreLives (uid_in (map.get (map.insert s.objects k p) q)) (about q later) → AreLives (living s q) (about q (lasts p ∷ later))
+replaced_tells q s k p filed new later lives =
+    let named : p.key ≡ new.old.key = new.changed.key in
+    goes_on_by (eq_by_cmp key_cmp q p.key) (map.get s.objects q) _ p (about q later)
+    (λ tie. uid_at s q k new.old p filed new.there named tie ∙ ap Some (sym new.changed.uid))
+    (put_at s.objects k q p (named ∙ filed k new.old new.there)) lives
+
+change_tells : (q : Key) (s : Store) (k : Key) (c : Change) → AreFiled s.objects → Writing s k (write c) → Tells q s (with_change s k c, accepted c (stamp c (s.counter + 1)))
+change_tells q s k (creates o) filed writes = λ later lives.
+    let p = stamp (creates o) (s.counter + 1) in
+    let named : p.key ≡ k = writes.1.key in
+    begins_by (eq_by_cmp key_cmp q p.key) (map.get s.objects q) _ p (about q later)
+    (λ tie. ap (map.get s.objects) (tied q p.key tie ∙ named) ∙ writes.0) (put_at s.objects k q p named) lives
+change_tells q s k (updates o) filed writes = replaced_tells q s k (stamp (updates o) (s.counter + 1)) filed writes
+change_tells q s k (marks o) filed writes = replaced_tells q s k (stamp (marks o) (s.counter + 1)) filed writes
+change_tells q s k (removes o) filed writes = λ later lives.
+    let p = stamp (removes o) (s.counter + 1) in
+    ends_by (eq_by_cmp key_cmp q p.key) (map.get s.objects q) _ p (about q later)
+    (uid_at s q k o p filed writes refl) (taken_at s.objects k q p (filed k o writes)) lives
+
+write_tells : (q : Key) (s : Store) (k : Key) (c : Change) (full : Bool) → AreFiled s.objects → Writing s k (write c)
+    → Tells q s (cond full (s, Refused StoreFull) (with_change s k c, accepted c (stamp c (s.counter + 1))))
+write_tells q s k c true filed writes = λ later lives. lives
+write_tells q s k c false filed writes = change_tells q s k c filed writes
+
+verdict_tells : (q : Key) (s : Store) (k : Key) (v : Verdict) → AreFiled s.objects → Writing s k v → Tells q s (carried_out s k v)
+verdict_tells q s k (refuse reason) filed writes = λ later lives. lives
+verdict_tells q s k (same o) filed writes = lasts_tells q s k o filed writes
+verdict_tells q s k (write c) filed writes = write_tells q s k c (s.counter == s.capacity) filed writes
+
+step_tells : (q : Key) (s : Store) (r : Request) → AreFiled s.objects → Tells q s (step s r)
+step_tells q s r filed =
+    by_verdict (IsNew (s.counter + 1)) (IsNext (s.counter + 1)) s (Tells q s)
+    (λ k. found_tells q s k (map.get s.objects k) filed refl) (λ k v writes. verdict_tells q s k v filed writes) r (allowed (s.counter + 1) r)
+
+lives_from : (q : Key) (s : Store) (rs : List Request) → AreFiled s.objects → AreLives (living s q) (events_of q (replies s rs))
+lives_from q s [] filed = tt
+lives_from q s (r ∷ rs) filed = step_tells q s r filed (flat_map events (replies (step s r).0 rs)) (lives_from q (step s r).0 rs (filed_after s r filed))
+
+-- the replies of a store that was opened tell of one life after another
+pub lives_in_run : (capacity : ℕ) (rs : List Request) (q : Key) → AreLives None (events_of q (replies (opening capacity) rs))
+lives_in_run capacity rs q =
+    subst (λ u. AreLives u (events_of q (replies (opening capacity) rs))) (ap uid_in (get-empty key_cmp q))
+    (lives_from q (opening capacity) rs (filed_in_run capacity []))
