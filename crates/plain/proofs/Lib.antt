@@ -13,3 +13,6 @@ pub mod OneKey
 pub mod Verdicts
 pub mod KeptUids
 pub mod ToldLives
+pub mod StatusKept
+pub mod Generations
+pub mod StaleVersions

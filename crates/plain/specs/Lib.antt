@@ -16,6 +16,7 @@ pub mod Drawn
 pub mod Keys
 pub mod AtKey
 pub mod Lives
+pub mod StatusWrites
 pub mod Streams
 pub mod Faults
 pub mod Serving

@@ -5,6 +5,7 @@
 mod api;
 mod buffers;
 mod change;
+mod changes;
 mod cutter;
 mod devices;
 mod failures;
@@ -35,6 +36,10 @@ mod version;
 pub use api::{Api, ApiFault};
 pub use buffers::BufferSink;
 pub use change::Change;
+pub use changes::{
+    generation_rises_with_spec, only_the_status_request_changes_status,
+    updates_with_a_stale_version_change_nothing,
+};
 pub use devices::{ReadSource, WriteSink};
 pub use lifetimes::{
     names_live_once, objects_stand_under_their_keys, uids_name_one_key, uids_stay,
