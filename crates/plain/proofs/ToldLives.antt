@@ -17,7 +17,7 @@ use Rattle.plain.specs.Store.{Store, opening, step, carried_out, accepted, found
 use Rattle.plain.specs.Run.{replies}
 use Rattle.plain.specs.AtKey.{Has}
 use Rattle.plain.specs.Filed.{AreFiled}
-use Rattle.plain.specs.Lives.{Event, begins, lasts, ends, events, events_of, is_of, AreLives}
+use Rattle.plain.specs.Lives.{Event, begins, changes, lasts, ends, events, events_of, is_of, AreLives, HasUidOf}
 use Rattle.plain.proofs.Steps.{with_change}
 use Rattle.plain.proofs.Verdicts.{Replaces, Writes, by_verdict, tied}
 use Rattle.plain.proofs.KeptUids.{IsNew, IsNext, allowed, filed_after, filed_in_run}
@@ -25,49 +25,46 @@ use Rattle.plain.proofs.KeptUids.{IsNew, IsNext, allowed, filed_after, filed_in_
 abbrev about : Key → List Event → List Event
 about q = filter (is_of q)
 
-abbrev uid_in : Option Object → Option ℕ
-uid_in o = option_map (λ (x : Object). x.meta.uid) o
-
-abbrev living : Store → Key → Option ℕ
-living s q = uid_in (map.get s.objects q)
+abbrev at : Store → Key → Option Object
+at s q = map.get s.objects q
 
 -- what a reply tells of the key goes before what is told from the store that the step leaves
 abbrev Tells : Key → Store → Store × Reply → Type 0
-Tells q s end = (later : List Event) → AreLives (living end.0 q) (about q later) → AreLives (living s q) (about q (events end.1 ++ later))
+Tells q s end = (later : List Event) → AreLives (at end.0 q) (about q later) → AreLives (at s q) (about q (events end.1 ++ later))
 
-lasts_by : (b : Bool) (was : Option ℕ) (o : Object) (later : List Event) → (b ≡ true → was ≡ Some o.meta.uid) → AreLives was later → AreLives was (cond b (lasts o ∷ later) later)
-lasts_by true was o later is lives = (is refl, lives)
-lasts_by false was o later is lives = lives
-
--- under that key the object is found that has it
-uid_at : (s : Store) (q k : Key) (o p : Object) → AreFiled s.objects → Has s k o → p.key ≡ o.key → eq_by_cmp key_cmp q p.key ≡ true → living s q ≡ Some o.meta.uid
-uid_at s q k o p filed there named tie =
-    ap (living s) (tied q p.key tie ∙ named ∙ filed k o there) ∙ ap uid_in there
-
-lasts_tells : (q : Key) (s : Store) (k : Key) (o : Object) → AreFiled s.objects → Has s k o → (later : List Event)
-    → AreLives (living s q) (about q later) → AreLives (living s q) (about q (lasts o ∷ later))
-lasts_tells q s k o filed there later lives =
-    lasts_by (eq_by_cmp key_cmp q o.key) (living s q) o (about q later) (uid_at s q k o o filed there refl) lives
-
-found_tells : (q : Key) (s : Store) (k : Key) (o : Option Object) → AreFiled s.objects → map.get s.objects k ≡ o → Tells q s (s, found o)
-found_tells q s k None filed there = λ later lives. lives
-found_tells q s k (Some o) filed there = lasts_tells q s k o filed there
+-- where an object of the key is told of, by whether it is
+lasts_by : (b : Bool) (current : Option Object) (o : Object) (later : List Event) → (b ≡ true → current ≡ Some o) → AreLives current later
+    → AreLives current (cond b (lasts o ∷ later) later)
+lasts_by true current o later is lives = (is refl, lives)
+lasts_by false current o later is lives = lives
 
 begins_by : (b : Bool) (before now : Option Object) (p : Object) (later : List Event) → (b ≡ true → before ≡ None) → now ≡ cond b (Some p) before
-    → AreLives (uid_in now) later → AreLives (uid_in before) (cond b (begins p ∷ later) later)
-begins_by true before now p later none is lives = (ap uid_in (none refl), subst (λ x. AreLives (uid_in x) later) is lives)
-begins_by false before now p later none is lives = subst (λ x. AreLives (uid_in x) later) is lives
+    → AreLives now later → AreLives before (cond b (begins p ∷ later) later)
+begins_by true before now p later none is lives = (none refl, subst (λ x. AreLives x later) is lives)
+begins_by false before now p later none is lives = subst (λ x. AreLives x later) is lives
 
-goes_on_by : (b : Bool) (before now : Option Object) (p : Object) (later : List Event) → (b ≡ true → uid_in before ≡ Some p.meta.uid) → now ≡ cond b (Some p) before
-    → AreLives (uid_in now) later → AreLives (uid_in before) (cond b (lasts p ∷ later) later)
-goes_on_by true before now p later uid is lives =
-    (uid refl, subst (λ u. AreLives u later) (ap uid_in is ∙ sym (uid refl)) lives)
-goes_on_by false before now p later uid is lives = subst (λ x. AreLives (uid_in x) later) is lives
+changes_by : (b : Bool) (before now : Option Object) (p : Object) (later : List Event) → (b ≡ true → HasUidOf p before) → now ≡ cond b (Some p) before
+    → AreLives now later → AreLives before (cond b (changes p ∷ later) later)
+changes_by true before now p later uid is lives = (uid refl, subst (λ x. AreLives x later) is lives)
+changes_by false before now p later uid is lives = subst (λ x. AreLives x later) is lives
 
-ends_by : (b : Bool) (before now : Option Object) (p : Object) (later : List Event) → (b ≡ true → uid_in before ≡ Some p.meta.uid) → now ≡ cond b None before
-    → AreLives (uid_in now) later → AreLives (uid_in before) (cond b (ends p ∷ later) later)
-ends_by true before now p later uid is lives = (uid refl, subst (λ x. AreLives (uid_in x) later) is lives)
-ends_by false before now p later uid is lives = subst (λ x. AreLives (uid_in x) later) is lives
+ends_by : (b : Bool) (before now : Option Object) (p : Object) (later : List Event) → (b ≡ true → HasUidOf p before) → now ≡ cond b None before
+    → AreLives now later → AreLives before (cond b (ends p ∷ later) later)
+ends_by true before now p later uid is lives = (uid refl, subst (λ x. AreLives x later) is lives)
+ends_by false before now p later uid is lives = subst (λ x. AreLives x later) is lives
+
+-- under that key the object is found that has it
+found_at : (s : Store) (q k : Key) (o p : Object) → AreFiled s.objects → Has s k o → p.key ≡ o.key → eq_by_cmp key_cmp q p.key ≡ true → Has s q o
+found_at s q k o p filed there named tie = ap (at s) (tied q p.key tie ∙ named ∙ filed k o there) ∙ there
+
+lasts_tells : (q : Key) (s : Store) (k : Key) (o : Object) → AreFiled s.objects → Has s k o → (later : List Event)
+    → AreLives (at s q) (about q later) → AreLives (at s q) (about q (lasts o ∷ later))
+lasts_tells q s k o filed there later lives =
+    lasts_by (eq_by_cmp key_cmp q o.key) (at s q) o (about q later) (found_at s q k o o filed there refl) lives
+
+found_tells : (q : Key) (s : Store) (k : Key) (o : Option Object) → AreFiled s.objects → at s k ≡ o → Tells q s (s, found o)
+found_tells q s k None filed there = λ later lives. lives
+found_tells q s k (Some o) filed there = lasts_tells q s k o filed there
 
 -- what the map has at a key after an object is put there or taken away, by the key that the object has
 put_at : (m : FinMap key_cmp Object) (k q : Key) (p : Object) → p.key ≡ k → map.get (map.insert m k p) q ≡ cond (eq_by_cmp key_cmp q p.key) (Some p) (map.get m q)
@@ -77,29 +74,33 @@ taken_at : (m : FinMap key_cmp Object) (k q : Key) (p : Object) → p.key ≡ k 
 taken_at m k q p named = get-remove key_cmp_total m k q ∙ ap (λ x. cond (eq_by_cmp key_cmp q x) None (map.get m q)) (sym named)
 
 abbrev Writing : Store → Key → Verdict → Type 0
-Writing s k v = Writes (IsNew (s.counter + 1)) (IsNext (s.counter + 1)) (s.counter + 1) k (map.get s.objects k) v
+Writing s k v = Writes (IsNew (s.counter + 1)) (IsNext (s.counter + 1)) (s.counter + 1) k (at s k) v
+
+-- the object that has the key has the UID of the one that takes its place, or is taken away
+uid_at : (s : Store) (q : Key) (o p : Object) → Has s q o → p.meta.uid ≡ o.meta.uid → HasUidOf p (at s q)
+uid_at s q o p there uid = ap (option_map (λ (x : Object). x.meta.uid)) there ∙ ap Some (sym uid)
 
 -- an object that takes the place of another
-replaced_tells : (q : Key) (s : Store) (k : Key) (p : Object) → AreFiled s.objects → Replaces (IsNext (s.counter + 1)) (map.get s.objects k) p → (later : List Event)
-    → AreLives (uid_in (map.get (map.insert s.objects k p) q)) (about q later) → AreLives (living s q) (about q (lasts p ∷ later))
+replaced_tells : (q : Key) (s : Store) (k : Key) (p : Object) → AreFiled s.objects → Replaces (IsNext (s.counter + 1)) (at s k) p → (later : List Event)
+    → AreLives (map.get (map.insert s.objects k p) q) (about q later) → AreLives (at s q) (about q (changes p ∷ later))
 replaced_tells q s k p filed new later lives =
     let named : p.key ≡ new.old.key = new.changed.key in
-    goes_on_by (eq_by_cmp key_cmp q p.key) (map.get s.objects q) _ p (about q later)
-    (λ tie. uid_at s q k new.old p filed new.there named tie ∙ ap Some (sym new.changed.uid))
+    changes_by (eq_by_cmp key_cmp q p.key) (at s q) (map.get (map.insert s.objects k p) q) p (about q later)
+    (λ tie. uid_at s q new.old p (found_at s q k new.old p filed new.there named tie) new.changed.uid)
     (put_at s.objects k q p (named ∙ filed k new.old new.there)) lives
 
 change_tells : (q : Key) (s : Store) (k : Key) (c : Change) → AreFiled s.objects → Writing s k (write c) → Tells q s (with_change s k c, accepted c (stamp c (s.counter + 1)))
 change_tells q s k (creates o) filed writes = λ later lives.
     let p = stamp (creates o) (s.counter + 1) in
     let named : p.key ≡ k = writes.1.key in
-    begins_by (eq_by_cmp key_cmp q p.key) (map.get s.objects q) _ p (about q later)
-    (λ tie. ap (map.get s.objects) (tied q p.key tie ∙ named) ∙ writes.0) (put_at s.objects k q p named) lives
+    begins_by (eq_by_cmp key_cmp q p.key) (at s q) (map.get (map.insert s.objects k p) q) p (about q later)
+    (λ tie. ap (at s) (tied q p.key tie ∙ named) ∙ writes.0) (put_at s.objects k q p named) lives
 change_tells q s k (updates o) filed writes = replaced_tells q s k (stamp (updates o) (s.counter + 1)) filed writes
 change_tells q s k (marks o) filed writes = replaced_tells q s k (stamp (marks o) (s.counter + 1)) filed writes
 change_tells q s k (removes o) filed writes = λ later lives.
     let p = stamp (removes o) (s.counter + 1) in
-    ends_by (eq_by_cmp key_cmp q p.key) (map.get s.objects q) _ p (about q later)
-    (uid_at s q k o p filed writes refl) (taken_at s.objects k q p (filed k o writes)) lives
+    ends_by (eq_by_cmp key_cmp q p.key) (at s q) (map.get (map.remove s.objects k) q) p (about q later)
+    (λ tie. uid_at s q o p (found_at s q k o p filed writes refl tie) refl) (taken_at s.objects k q p (filed k o writes)) lives
 
 write_tells : (q : Key) (s : Store) (k : Key) (c : Change) (full : Bool) → AreFiled s.objects → Writing s k (write c)
     → Tells q s (cond full (s, Refused StoreFull) (with_change s k c, accepted c (stamp c (s.counter + 1))))
@@ -114,14 +115,13 @@ verdict_tells q s k (write c) filed writes = write_tells q s k c (s.counter == s
 step_tells : (q : Key) (s : Store) (r : Request) → AreFiled s.objects → Tells q s (step s r)
 step_tells q s r filed =
     by_verdict (IsNew (s.counter + 1)) (IsNext (s.counter + 1)) s (Tells q s)
-    (λ k. found_tells q s k (map.get s.objects k) filed refl) (λ k v writes. verdict_tells q s k v filed writes) r (allowed (s.counter + 1) r)
+    (λ k. found_tells q s k (at s k) filed refl) (λ k v writes. verdict_tells q s k v filed writes) r (allowed (s.counter + 1) r)
 
-lives_from : (q : Key) (s : Store) (rs : List Request) → AreFiled s.objects → AreLives (living s q) (events_of q (replies s rs))
+lives_from : (q : Key) (s : Store) (rs : List Request) → AreFiled s.objects → AreLives (at s q) (events_of q (replies s rs))
 lives_from q s [] filed = tt
 lives_from q s (r ∷ rs) filed = step_tells q s r filed (flat_map events (replies (step s r).0 rs)) (lives_from q (step s r).0 rs (filed_after s r filed))
 
 -- the replies of a store that was opened tell of one life after another
 pub lives_in_run : (capacity : ℕ) (rs : List Request) (q : Key) → AreLives None (events_of q (replies (opening capacity) rs))
 lives_in_run capacity rs q =
-    subst (λ u. AreLives u (events_of q (replies (opening capacity) rs))) (ap uid_in (get-empty key_cmp q))
-    (lives_from q (opening capacity) rs (filed_in_run capacity []))
+    subst (λ o. AreLives o (events_of q (replies (opening capacity) rs))) (get-empty key_cmp q) (lives_from q (opening capacity) rs (filed_in_run capacity []))
