@@ -19,7 +19,7 @@ use Rattle.plain.specs.AtKey.{Has}
 use Rattle.plain.specs.Filed.{AreFiled}
 use Rattle.plain.specs.Lives.{Event, begins, changes, lasts, ends, events, events_of, is_of, AreLives, HasUidOf}
 use Rattle.plain.proofs.Steps.{with_change}
-use Rattle.plain.proofs.Verdicts.{Replaces, Writes, by_verdict, tied}
+use Rattle.plain.proofs.Verdicts.{Reads, gets, Replaces, Writes, by_verdict, tied}
 use Rattle.plain.proofs.KeptUids.{IsNew, IsNext, allowed, filed_after, filed_in_run}
 
 abbrev about : Key → List Event → List Event
@@ -65,6 +65,9 @@ lasts_tells q s k o filed there later lives =
 found_tells : (q : Key) (s : Store) (k : Key) (o : Option Object) → AreFiled s.objects → at s k ≡ o → Tells q s (s, found o)
 found_tells q s k None filed there = λ later lives. lives
 found_tells q s k (Some o) filed there = lasts_tells q s k o filed there
+
+reads_tell : (q : Key) (s : Store) (reply : Reply) → AreFiled s.objects → Reads s reply → Tells q s (s, reply)
+reads_tell q s reply filed (gets k is) = subst (λ r. Tells q s (s, r)) (sym is) (found_tells q s k (at s k) filed refl)
 
 -- what the map has at a key after an object is put there or taken away, by the key that the object has
 put_at : (m : FinMap key_cmp Object) (k q : Key) (p : Object) → p.key ≡ k → map.get (map.insert m k p) q ≡ cond (eq_by_cmp key_cmp q p.key) (Some p) (map.get m q)
@@ -115,7 +118,7 @@ verdict_tells q s k (write c) filed writes = write_tells q s k c (s.counter == s
 step_tells : (q : Key) (s : Store) (r : Request) → AreFiled s.objects → Tells q s (step s r)
 step_tells q s r filed =
     by_verdict (IsNew (s.counter + 1)) (IsNext (s.counter + 1)) s (Tells q s)
-    (λ k. found_tells q s k (at s k) filed refl) (λ k v writes. verdict_tells q s k v filed writes) r (allowed (s.counter + 1) r)
+    (λ reply reads. reads_tell q s reply filed reads) (λ k v writes. verdict_tells q s k v filed writes) r (allowed (s.counter + 1) r)
 
 lives_from : (q : Key) (s : Store) (rs : List Request) → AreFiled s.objects → AreLives (at s q) (events_of q (replies s rs))
 lives_from q s [] filed = tt

@@ -1,6 +1,7 @@
 -- What the verdicts on requests may write, and what a step then leaves under each key. A fact of what is made, and one
--- of what is changed, are shown for each kind of request, and so hold of each step.
-use Rattle.std.proofs.Common.{◌≡◌, ◌+◌, ◌==◌, ℕ, Bool, true, false, cond, ◌⊎◌, inl, inr, List, Option, Some, None, refl, sym, subst, ◌∙◌}
+-- of what is changed, are shown for each kind of request, and so hold of each step. A new kind of request is a line of
+-- `Allows` and of `by_verdict`, and of each such fact; one that only reads is a line of `Reads` too.
+use Rattle.std.proofs.Common.{◌≡◌, ◌+◌, ◌==◌, ℕ, Bool, true, false, cond, ◌⊎◌, inl, inr, List, [], Option, Some, None, refl, sym, subst, ◌∙◌}
 use Rattle.std.specs.Prelude.{⊤, is_some}
 use Rattle.std.specs.FinMap as map
 use Rattle.std.specs.FinMap.{FinMap, get-insert, get-remove}
@@ -9,6 +10,7 @@ use Rattle.std.proofs.lemmas.Option.{none-some, same_Some}
 use Rattle.objects.specs.declared.key.Key.{Key}
 use Rattle.objects.specs.declared.object.Draft.{Draft}
 use Rattle.objects.specs.declared.object.Object.{Object}
+use Rattle.objects.specs.declared.kind.Kind.TheVariants.{Pod}
 use Rattle.objects.specs.Key.{key_cmp}
 use Rattle.objects.specs.KeyOrder.{key_cmp_total}
 use Rattle.objects.specs.Same.{same_data}
@@ -95,13 +97,17 @@ delete_writes C U n k uid version at (Some o) changed =
     either (Writes C U n k (Some o)) (conflicts version uid o) (refuse Conflict) (deleted (graceful o.key.kind at) o) tt
     (deleted_writes C U n k (graceful o.key.kind at) o (λ t. changed t o))
 
+-- a reply that says what is there and changes nothing
+pub data Reads (s : Store) (reply : Reply) : Type 0 where
+  gets : (k : Key) → reply ≡ found (map.get s.objects k) → Reads s reply
+
 -- What holds where a request reads, and of each verdict that is carried out, holds of each step.
 pub by_verdict : (C : OfMade) (U : OfChanged) (s : Store) (P : Store × Reply → Type 0)
-    → ((k : Key) → P (s, found (map.get s.objects k)))
+    → ((reply : Reply) → Reads s reply → P (s, reply))
     → ((k : Key) (v : Verdict) → Writes C U (s.counter + 1) k (map.get s.objects k) v → P (carried_out s k v))
     → (r : Request) → Allows C U (s.counter + 1) r → P (step s r)
 unfolding step
-by_verdict C U s P reads writes (Get k) allowed = reads k
+by_verdict C U s P reads writes (Get k) allowed = reads (found (map.get s.objects k)) (gets k refl)
 by_verdict C U s P reads writes (Create d) allowed = writes d.object.key _ (create_writes C U (s.counter + 1) d (map.get s.objects d.object.key) allowed)
 by_verdict C U s P reads writes (Update d) allowed = writes d.object.key _ (update_writes C U (s.counter + 1) d (map.get s.objects d.object.key) allowed)
 by_verdict C U s P reads writes (UpdateStatus d) allowed = writes d.object.key _ (status_writes C U (s.counter + 1) d (map.get s.objects d.object.key) allowed)
@@ -169,10 +175,14 @@ carried C U s k (refuse reason) writes = idle refl
 carried C U s k (same o) writes = idle refl
 carried C U s k (write c) writes = write_carried C U s k c (s.counter == s.capacity) writes
 
+-- for a step that writes under no key
+nowhere : Key
+nowhere = record { kind = Pod; namespace = []; name = [] }
+
 -- What holds of a store that stays, and of each that a step leaves, holds of each step.
 pub by_turn : (C : OfMade) (U : OfChanged) (s : Store) (P : Store → Type 0) → ((k : Key) (t : Store) → Carried C U s k t → P t)
     → (r : Request) → Allows C U (s.counter + 1) r → P (step s r).0
-by_turn C U s P holds = by_verdict C U s (λ end. P end.0) (λ k. holds k s (idle refl)) (λ k v writes. holds k _ (carried C U s k v writes))
+by_turn C U s P holds = by_verdict C U s (λ end. P end.0) (λ reply reads. holds nowhere s (idle refl)) (λ k v writes. holds k _ (carried C U s k v writes))
 
 -- ---- an object before and after
 
