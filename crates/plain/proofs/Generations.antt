@@ -40,14 +40,14 @@ generation_stays g before after whole same =
 abbrev IsFirst : Key → Object → Type 0
 IsFirst k p = p.meta.generation ≡ 1
 
-abbrev IsCounted : Object → Object → Type 0
-IsCounted o p = has_float o.body ≡ false → p.meta.generation ≡ generation_after o.meta.generation (same_member (codes "spec") o.body p.body)
+abbrev IsCounted : Key → Object → Object → Type 0
+IsCounted k o p = has_float o.body ≡ false → p.meta.generation ≡ generation_after o.meta.generation (same_member (codes "spec") o.body p.body)
 
 counts : (n : ℕ) (r : Request) → Allows IsFirst IsCounted n r
 counts n (Get k) = tt
 counts n (Create d) = refl
 counts n (Update d) = λ o whole.
-    ap (λ x. generation_after o.meta.generation (same_found (spec o.body) x)) (sym (with_other_status (has_status o.key.kind) (member_of (codes "status") o.body) d.object.body))
+    ap (λ x. generation_after o.meta.generation (same_found (spec o.body) x)) (sym (with_other_status (has_status d.object.key.kind) (member_of (codes "status") o.body) d.object.body))
 counts n (UpdateStatus d) = λ o whole.
     let status = member_of (codes "status") d.object.body in
     generation_stays o.meta.generation o.body (with_member (codes "status") status o.body) whole (with_other_status true status o.body)
@@ -57,20 +57,20 @@ pub made_first : (s : Store) (r : Request) (q : Key) (p : Object) → Makes s r 
 made_first s r q p there =
     by_turn IsFirst IsCounted s (λ t. Has t q p → IsFirst q p) (λ k t c after. (made IsFirst IsCounted s t k q p c there.0 after).2) r (counts (s.counter + 1) r) there.1
 
-counted_by : (o p : Object) (changed : Type 0) → (p ≡ o) ⊎ (changed × IsCounted o p) → IsCounted o p
-counted_by o p changed (inl e) = λ whole.
+counted_by : (q : Key) (o p : Object) (changed : Type 0) → (p ≡ o) ⊎ (changed × IsCounted q o p) → IsCounted q o p
+counted_by q o p changed (inl e) = λ whole.
     ap (λ (x : Object). x.meta.generation) e ∙ generation_stays o.meta.generation o.body p.body whole (ap (λ (x : Object). spec x.body) e)
-counted_by o p changed (inr c) = c.1
+counted_by q o p changed (inr c) = c.1
 
-pub counted : (s : Store) (r : Request) (q : Key) (o p : Object) → Leaves s r q o p → IsCounted o p
+pub counted : (s : Store) (r : Request) (q : Key) (o p : Object) → Leaves s r q o p → IsCounted q o p
 counted s r q o p there =
-    by_turn IsFirst IsCounted s (λ t. Has t q p → IsCounted o p)
-    (λ k t c after. counted_by o p (t.counter ≡ s.counter + 1) (left IsFirst IsCounted s t k q o p c there.0 after)) r (counts (s.counter + 1) r) there.1
+    by_turn IsFirst IsCounted s (λ t. Has t q p → IsCounted q o p)
+    (λ k t c after. counted_by q o p (t.counter ≡ s.counter + 1) (left IsFirst IsCounted s t k q o p c there.0 after)) r (counts (s.counter + 1) r) there.1
 
 -- ---- it never falls
 
-abbrev NeverFalls : Object → Object → Type 0
-NeverFalls o p = o.meta.generation ≤ p.meta.generation
+abbrev NeverFalls : Key → Object → Object → Type 0
+NeverFalls k o p = o.meta.generation ≤ p.meta.generation
 
 not_below : (g : ℕ) (same room : Bool) → g ≤ cond same g (cond room (g + 1) g)
 not_below g true room = omega arith
@@ -84,11 +84,11 @@ rises n (Update d) = λ o. not_below o.meta.generation (same_member (codes "spec
 rises n (UpdateStatus d) = λ o. omega arith
 rises n (Delete k uid version at) = λ t o. omega arith
 
-rises_by : (o p : Object) (changed : Type 0) → (p ≡ o) ⊎ (changed × NeverFalls o p) → NeverFalls o p
-rises_by o p changed (inl e) = let same : p.meta.generation ≡ o.meta.generation = ap (λ (x : Object). x.meta.generation) e in omega arith
-rises_by o p changed (inr c) = c.1
+rises_by : (q : Key) (o p : Object) (changed : Type 0) → (p ≡ o) ⊎ (changed × NeverFalls q o p) → NeverFalls q o p
+rises_by q o p changed (inl e) = let same : p.meta.generation ≡ o.meta.generation = ap (λ (x : Object). x.meta.generation) e in omega arith
+rises_by q o p changed (inr c) = c.1
 
 pub never_falls : (s : Store) (r : Request) (q : Key) (o p : Object) → Leaves s r q o p → o.meta.generation ≤ p.meta.generation
 never_falls s r q o p there =
-    by_turn IsFirst NeverFalls s (λ t. Has t q p → NeverFalls o p)
-    (λ k t c after. rises_by o p (t.counter ≡ s.counter + 1) (left IsFirst NeverFalls s t k q o p c there.0 after)) r (rises (s.counter + 1) r) there.1
+    by_turn IsFirst NeverFalls s (λ t. Has t q p → NeverFalls q o p)
+    (λ k t c after. rises_by q o p (t.counter ≡ s.counter + 1) (left IsFirst NeverFalls s t k q o p c there.0 after)) r (rises (s.counter + 1) r) there.1

@@ -21,17 +21,17 @@ pub record IsNew (n : ℕ) (k : Key) (p : Object) : Type 0 where
   pub revision : p.meta.revision ≡ n
 
 -- an object as the number that changes it leaves it
-pub record IsNext (n : ℕ) (o p : Object) : Type 0 where
-  pub key : p.key ≡ o.key
+pub record IsNext (n : ℕ) (k : Key) (o p : Object) : Type 0 where
+  pub key : o.key ≡ k → p.key ≡ k
   pub uid : p.meta.uid ≡ o.meta.uid
   pub revision : p.meta.revision ≡ n
 
 pub allowed : (n : ℕ) (r : Request) → Allows (IsNew n) (IsNext n) n r
 allowed n (Get k) = tt
 allowed n (Create d) = record { key = refl; uid = refl; revision = refl }
-allowed n (Update d) = λ o. record { key = refl; uid = refl; revision = refl }
-allowed n (UpdateStatus d) = λ o. record { key = refl; uid = refl; revision = refl }
-allowed n (Delete k uid version at) = λ t o. record { key = refl; uid = refl; revision = refl }
+allowed n (Update d) = λ o. record { key = λ named. refl; uid = refl; revision = refl }
+allowed n (UpdateStatus d) = λ o. record { key = λ named. named; uid = refl; revision = refl }
+allowed n (Delete k uid version at) = λ t o. record { key = λ named. named; uid = refl; revision = refl }
 
 -- a step of the store, as it is carried out
 abbrev Steps : Store → Key → Store → Type 0
@@ -42,37 +42,37 @@ steps s r P holds = by_turn (IsNew (s.counter + 1)) (IsNext (s.counter + 1)) s P
 
 -- ---- what an object keeps
 
-abbrev Kept : (s t : Store) (o p : Object) → Type 0
-Kept s t o p = (p ≡ o) ⊎ ((t.counter ≡ s.counter + 1) × IsNext (s.counter + 1) o p)
+abbrev Kept : (s t : Store) (q : Key) (o p : Object) → Type 0
+Kept s t q o p = (p ≡ o) ⊎ ((t.counter ≡ s.counter + 1) × IsNext (s.counter + 1) q o p)
 
-kept : (s : Store) (r : Request) (q : Key) (o p : Object) → Leaves s r q o p → Kept s (step s r).0 o p
+kept : (s : Store) (r : Request) (q : Key) (o p : Object) → Leaves s r q o p → Kept s (step s r).0 q o p
 kept s r q o p there =
-    steps s r (λ t. Has t q p → Kept s t o p) (λ k t c after. left (IsNew (s.counter + 1)) (IsNext (s.counter + 1)) s t k q o p c there.0 after) there.1
+    steps s r (λ t. Has t q p → Kept s t q o p) (λ k t c after. left (IsNew (s.counter + 1)) (IsNext (s.counter + 1)) s t k q o p c there.0 after) there.1
 
-key_kept : (s t : Store) (o p : Object) → Kept s t o p → p.key ≡ o.key
-key_kept s t o p (inl e) = ap (λ (x : Object). x.key) e
-key_kept s t o p (inr c) = c.1.key
+key_kept : (s t : Store) (q : Key) (o p : Object) → Kept s t q o p → o.key ≡ q → p.key ≡ q
+key_kept s t q o p (inl e) named = ap (λ (x : Object). x.key) e ∙ named
+key_kept s t q o p (inr c) named = c.1.key named
 
-uid_kept : (s t : Store) (o p : Object) → Kept s t o p → p.meta.uid ≡ o.meta.uid
-uid_kept s t o p (inl e) = ap (λ (x : Object). x.meta.uid) e
-uid_kept s t o p (inr c) = c.1.uid
+uid_kept : (s t : Store) (q : Key) (o p : Object) → Kept s t q o p → p.meta.uid ≡ o.meta.uid
+uid_kept s t q o p (inl e) = ap (λ (x : Object). x.meta.uid) e
+uid_kept s t q o p (inr c) = c.1.uid
 
 pub uid_stays : (s : Store) (r : Request) (q : Key) (o p : Object) → Leaves s r q o p → p.meta.uid ≡ o.meta.uid
-uid_stays s r q o p there = uid_kept s (step s r).0 o p (kept s r q o p there)
+uid_stays s r q o p there = uid_kept s (step s r).0 q o p (kept s r q o p there)
 
-version_by : (s t : Store) (o p : Object) → Kept s t o p → p ≢ o → p.meta.revision ≡ t.counter
-version_by s t o p (inl e) other = absurd (other e)
-version_by s t o p (inr c) other = c.1.revision ∙ sym c.0
+version_by : (s t : Store) (q : Key) (o p : Object) → Kept s t q o p → p ≢ o → p.meta.revision ≡ t.counter
+version_by s t q o p (inl e) other = absurd (other e)
+version_by s t q o p (inr c) other = c.1.revision ∙ sym c.0
 
 pub version_is_drawn : (s : Store) (r : Request) (q : Key) (o p : Object) → Leaves s r q o p → p ≢ o → p.meta.revision ≡ (step s r).0.counter
-version_is_drawn s r q o p there other = version_by s (step s r).0 o p (kept s r q o p there) other
+version_is_drawn s r q o p there other = version_by s (step s r).0 q o p (kept s r q o p there) other
 
-risen : (s t : Store) (o p : Object) → Kept s t o p → o.meta.revision ≤ s.counter → o.meta.revision ≤ p.meta.revision
-risen s t o p (inl e) low = let same : p.meta.revision ≡ o.meta.revision = ap (λ (x : Object). x.meta.revision) e in omega arith
-risen s t o p (inr c) low = let next : p.meta.revision ≡ s.counter + 1 = c.1.revision in omega arith
+risen : (s t : Store) (q : Key) (o p : Object) → Kept s t q o p → o.meta.revision ≤ s.counter → o.meta.revision ≤ p.meta.revision
+risen s t q o p (inl e) low = let same : p.meta.revision ≡ o.meta.revision = ap (λ (x : Object). x.meta.revision) e in omega arith
+risen s t q o p (inr c) low = let next : p.meta.revision ≡ s.counter + 1 = c.1.revision in omega arith
 
 pub version_rises : (s : Store) (r : Request) (q : Key) (o p : Object) → Leaves s r q o p → o.meta.revision ≤ s.counter → o.meta.revision ≤ p.meta.revision
-version_rises s r q o p there low = risen s (step s r).0 o p (kept s r q o p there) low
+version_rises s r q o p there low = risen s (step s r).0 q o p (kept s r q o p there) low
 
 pub made_by_number : (s : Store) (r : Request) (q : Key) (p : Object) → let n = (step s r).0.counter in Makes s r q p → (p.meta.uid ≡ n) × (p.meta.revision ≡ n)
 made_by_number s r q p there =
@@ -90,7 +90,7 @@ came s t k q p c there = origin (IsNew (s.counter + 1)) (IsNext (s.counter + 1))
 
 filed_by : (s t : Store) (k q : Key) (p : Object) → AreFiled s.objects → Came s t k q p → p.key ≡ q
 filed_by s t k q p filed (is_made counted here new) = new.key ∙ sym here
-filed_by s t k q p filed (was o there how) = key_kept s t o p how ∙ filed q o there
+filed_by s t k q p filed (was o there how) = key_kept s t q o p how (filed q o there)
 
 pub filed_after : (s : Store) (r : Request) → AreFiled s.objects → AreFiled (step s r).0.objects
 filed_after s r filed = steps s r (λ t. AreFiled t.objects) (λ k t c q p there. filed_by s t k q p filed (came s t k q p c there))
@@ -106,9 +106,9 @@ rising : (s : Store) (k : Key) (t : Store) → Steps s k t → s.counter ≤ t.c
 rising s k t (idle is) = let e : t.counter ≡ s.counter = ap (λ (x : Store). x.counter) is in omega arith
 rising s k t (moves counted turns) = omega arith
 
-still_drawn : (s t : Store) (o p : Object) → s.counter ≤ t.counter → IsDrawn s.counter o → Kept s t o p → IsDrawn t.counter p
-still_drawn s t o p more drawn (inl e) = subst (IsDrawn t.counter) (sym e) (drawn.0, drawn.1, let low : o.meta.revision ≤ s.counter = drawn.2 in omega arith)
-still_drawn s t o p more drawn (inr c) =
+still_drawn : (s t : Store) (q : Key) (o p : Object) → s.counter ≤ t.counter → IsDrawn s.counter o → Kept s t q o p → IsDrawn t.counter p
+still_drawn s t q o p more drawn (inl e) = subst (IsDrawn t.counter) (sym e) (drawn.0, drawn.1, let low : o.meta.revision ≤ s.counter = drawn.2 in omega arith)
+still_drawn s t q o p more drawn (inr c) =
     let counted : t.counter ≡ s.counter + 1 = c.0 in
     let uid : p.meta.uid ≡ o.meta.uid = c.1.uid in
     let revision : p.meta.revision ≡ s.counter + 1 = c.1.revision in
@@ -122,7 +122,7 @@ drawn_by s t k q p more drawn (is_made counted here new) =
     let uid : p.meta.uid ≡ s.counter + 1 = new.uid in
     let revision : p.meta.revision ≡ s.counter + 1 = new.revision in
     (omega arith, omega arith, omega arith)
-drawn_by s t k q p more drawn (was o there how) = still_drawn s t o p more (drawn q o there) how
+drawn_by s t k q p more drawn (was o there how) = still_drawn s t q o p more (drawn q o there) how
 
 drawn_after : (s : Store) (r : Request) → AreDrawn s → AreDrawn (step s r).0
 drawn_after s r drawn = steps s r AreDrawn (λ k t c q p there. drawn_by s t k q p (rising s k t c) drawn (came s t k q p c there))
@@ -132,9 +132,9 @@ abbrev AreApart : Store → Type 0
 AreApart s = (q k : Key) (o p : Object) → Has s q o → Has s k p → o.meta.uid ≡ p.meta.uid → q ≡ k
 
 -- an object that was there has a UID below the one that is drawn
-older : (s t : Store) (q : Key) (o p : Object) → AreDrawn s → Has s q o → Kept s t o p → p.meta.uid ≡ s.counter + 1 → ⊥
+older : (s t : Store) (q : Key) (o p : Object) → AreDrawn s → Has s q o → Kept s t q o p → p.meta.uid ≡ s.counter + 1 → ⊥
 older s t q o p drawn there how new =
-    let same : p.meta.uid ≡ o.meta.uid = uid_kept s t o p how in
+    let same : p.meta.uid ≡ o.meta.uid = uid_kept s t q o p how in
     let known = drawn q o there in
     let old : o.meta.uid ≤ o.meta.revision = known.1 in
     let high : o.meta.revision ≤ s.counter = known.2 in
@@ -145,7 +145,7 @@ apart_by s t k a b o p drawn apart (is_made c here new) (is_made d there other) 
 apart_by s t k a b o p drawn apart (is_made c here new) (was q there how) same = absurd (older s t b q p drawn there how (sym same ∙ new.uid))
 apart_by s t k a b o p drawn apart (was q there how) (is_made c here new) same = absurd (older s t a q o drawn there how (same ∙ new.uid))
 apart_by s t k a b o p drawn apart (was q there how) (was r beside other) same =
-    apart a b q r there beside (sym (uid_kept s t q o how) ∙ same ∙ uid_kept s t r p other)
+    apart a b q r there beside (sym (uid_kept s t a q o how) ∙ same ∙ uid_kept s t b r p other)
 
 apart_after : (s : Store) (r : Request) → AreDrawn s → AreApart s → AreApart (step s r).0
 apart_after s r drawn apart = steps s r AreApart (λ k t c a b o p here there. apart_by s t k a b o p drawn apart (came s t k a o c here) (came s t k b p c there))

@@ -9,7 +9,9 @@ use Rattle.objects.specs.Uid.{uid_text}
 use Rattle.plain.specs.declared.request.Request.TheVariants.{Update, UpdateStatus, Delete}
 use Rattle.plain.specs.declared.reply.Reply.TheVariants.{Refused}
 use Rattle.plain.specs.declared.reply.Reason.TheVariants.{Conflict, Invalid}
-use Rattle.plain.specs.Verdict.{Verdict, refuse, conflicts, deleted, differs, graceful, has_status, on_delete, on_status_of, on_update, status_unless_same}
+use Rattle.plain.specs.declared.verdict.Verdict.{Verdict}
+use Rattle.plain.specs.declared.verdict.Verdict.TheVariants.{Refuse}
+use Rattle.plain.specs.Verdict.{conflicts, deleted, differs, graceful, has_status, on_delete, on_status_of, on_update, status_unless_same}
 use Rattle.plain.specs.Store.{Store, step, carried_out}
 use Rattle.plain.specs.AtKey.{Has}
 
@@ -23,8 +25,8 @@ stale given uid version o is other =
     let unequal = no (bytes_eq version (decimal o.meta.revision)) (λ tie. other ((bytes_eq-Decides version (decimal o.meta.revision)).0 tie)) in
     ap (λ g. conflicts g uid o) is ∙ ap (λ b. not b || differs uid (uid_text o.meta.uid)) unequal
 
-refused_by : (b : Bool) (v : Verdict) → b ≡ true → cond b (refuse Conflict) v ≡ refuse Conflict
-refused_by b v is = ap (λ x. cond x (refuse Conflict) v) is
+refused_by : (b : Bool) (v : Verdict) → b ≡ true → cond b (Refuse Conflict) v ≡ Refuse Conflict
+refused_by b v is = ap (λ x. cond x (Refuse Conflict) v) is
 
 pub stale_update : (s : Store) (d : Draft) (version : List ℕ) (o : Object) → Has s d.object.key o → d.version ≡ Some version → version ≢ decimal o.meta.revision
     → step s (Update d) ≡ (s, Refused Conflict)
@@ -33,7 +35,7 @@ stale_update s d version o there is other =
     ap (λ x. carried_out s d.object.key (on_update d x)) there
     ∙ ap (carried_out s d.object.key) (refused_by (conflicts d.version d.uid o) _ (stale d.version d.uid version o is other))
 
-by_kind : (s : Store) (k : Key) (b : Bool) (v : Verdict) → v ≡ refuse Conflict → carried_out s k (cond b v (refuse Invalid)) ≡ (s, Refused (cond b Conflict Invalid))
+by_kind : (s : Store) (k : Key) (b : Bool) (v : Verdict) → v ≡ Refuse Conflict → carried_out s k (cond b v (Refuse Invalid)) ≡ (s, Refused (cond b Conflict Invalid))
 by_kind s k true v is = ap (carried_out s k) is
 by_kind s k false v is = refl
 

@@ -16,11 +16,13 @@ use Rattle.plain.specs.declared.request.Request.TheVariants.{Create, Get, Update
 use Rattle.plain.specs.declared.reply.Reply.{Reply}
 use Rattle.plain.specs.declared.reply.Reply.TheVariants.{Refused, Updated}
 use Rattle.plain.specs.declared.reply.Reason.TheVariants.{Conflict, Invalid, StoreFull}
-use Rattle.plain.specs.Verdict.{Change, creates, updates, marks, removes, Verdict, refuse, same, write, conflicts, has_status, on_status, on_status_of, same_member, stamp, status_unless_same, with_status_of}
-use Rattle.plain.specs.Store.{Store, step, carried_out, accepted}
+use Rattle.plain.specs.declared.verdict.Verdict.{Verdict}
+use Rattle.plain.specs.declared.verdict.Verdict.TheVariants.{Refuse, Same, Write}
+use Rattle.plain.specs.Change.{Change, creates, updates, marks, removes, stamp, accepted}
+use Rattle.plain.specs.Verdict.{conflicts, has_status, on_status, on_status_of, same_member, status_unless_same, with_status_of}
+use Rattle.plain.specs.Store.{Store, step, carried_out, with_change}
 use Rattle.plain.specs.AtKey.{Has, Leaves, Makes}
 use Rattle.plain.specs.StatusWrites.{DifferInStatus, HasMembers}
-use Rattle.plain.proofs.Steps.{with_change}
 use Rattle.plain.proofs.Verdicts.{Allows, by_turn, left, made}
 
 abbrev status : Data → Option Data
@@ -31,8 +33,8 @@ status = member_of (codes "status")
 abbrev HasNoStatus : Key → Object → Type 0
 HasNoStatus k p = has_status p.key.kind ≡ true → status p.body ≡ None
 
-abbrev Anything : Object → Object → Type 0
-Anything o p = ⊤
+abbrev Anything : Key → Object → Object → Type 0
+Anything k o p = ⊤
 
 dropped : (b : Bool) (body : Data) → b ≡ true → status (cond b (with_member (codes "status") None body) body) ≡ None
 dropped true body is = member_of-without (codes "status") body
@@ -52,8 +54,8 @@ made_without s r q p there =
 
 -- ---- an object that stays
 
-abbrev KeepsStatus : Object → Object → Type 0
-KeepsStatus o p = has_status o.key.kind ≡ true → status p.body ≡ status o.body
+abbrev KeepsStatus : Key → Object → Object → Type 0
+KeepsStatus k o p = has_status k.kind ≡ true → status p.body ≡ status o.body
 
 abbrev Any : Key → Object → Type 0
 Any k p = ⊤
@@ -73,33 +75,33 @@ carried_over false value body has is = cc
 keeps_status : (n : ℕ) (r : Request) → ((d : Draft) → r ≢ UpdateStatus d) → ((d : Draft) → r ≡ Update d → HasMembers d.object.body) → Allows Any KeepsStatus n r
 keeps_status n (Get k) other has = tt
 keeps_status n (Create d) other has = tt
-keeps_status n (Update d) other has = λ o. carried_over (has_status o.key.kind) (status o.body) d.object.body (has d refl)
+keeps_status n (Update d) other has = λ o. carried_over (has_status d.object.key.kind) (status o.body) d.object.body (has d refl)
 keeps_status n (UpdateStatus d) other has = absurd (other d refl)
 keeps_status n (Delete k uid version at) other has = λ t o is. refl
 
-still : (o p : Object) (changed : Type 0) → (p ≡ o) ⊎ (changed × KeepsStatus o p) → KeepsStatus o p
-still o p changed (inl e) = λ is. ap (λ (x : Object). status x.body) e
-still o p changed (inr c) = c.1
+still : (q : Key) (o p : Object) (changed : Type 0) → (p ≡ o) ⊎ (changed × KeepsStatus q o p) → KeepsStatus q o p
+still q o p changed (inl e) = λ is. ap (λ (x : Object). status x.body) e
+still q o p changed (inr c) = c.1
 
 pub status_stays : (s : Store) (r : Request) (q : Key) (o p : Object) → ((d : Draft) → r ≢ UpdateStatus d) → ((d : Draft) → r ≡ Update d → HasMembers d.object.body)
-    → Leaves s r q o p → has_status o.key.kind ≡ true → status p.body ≡ status o.body
+    → Leaves s r q o p → has_status q.kind ≡ true → status p.body ≡ status o.body
 status_stays s r q o p other has there =
-    by_turn Any KeepsStatus s (λ t. Has t q p → KeepsStatus o p)
-    (λ k t c after. still o p (t.counter ≡ s.counter + 1) (left Any KeepsStatus s t k q o p c there.0 after)) r (keeps_status (s.counter + 1) r other has) there.1
+    by_turn Any KeepsStatus s (λ t. Has t q p → KeepsStatus q o p)
+    (λ k t c after. still q o p (t.counter ≡ s.counter + 1) (left Any KeepsStatus s t k q o p c there.0 after)) r (keeps_status (s.counter + 1) r other has) there.1
 
 -- ---- a status request
 
 -- a verdict that an `Updated` answers
 record WasUpdate (s : Store) (k : Key) (v : Verdict) (t : Store) (p : Object) : Type 0 where
   new : Object
-  verdict : v ≡ write (updates new)
+  verdict : v ≡ Write (updates new)
   state : t ≡ with_change s k (updates new)
   written : p ≡ stamp (updates new) (s.counter + 1)
 
 abbrev end : Store → Key → Change → Bool → Store × Reply
 end s k c full = cond full (s, Refused StoreFull) (with_change s k c, accepted c (stamp c (s.counter + 1)))
 
-write_update : (s : Store) (k : Key) (c : Change) (full : Bool) (t : Store) (p : Object) → end s k c full ≡ (t, Updated p) → WasUpdate s k (write c) t p
+write_update : (s : Store) (k : Key) (c : Change) (full : Bool) (t : Store) (p : Object) → end s k c full ≡ (t, Updated p) → WasUpdate s k (Write c) t p
 write_update s k c true t p is = let e : Refused StoreFull ≡ Updated p = ap (λ (x : Store × Reply). x.1) is in absurd cc
 write_update s k (creates o) false t p is =
     let e : accepted (creates o) (stamp (creates o) (s.counter + 1)) ≡ Updated p = ap (λ (x : Store × Reply). x.1) is in absurd cc
@@ -112,21 +114,21 @@ write_update s k (removes o) false t p is =
     let e : accepted (removes o) (stamp (removes o) (s.counter + 1)) ≡ Updated p = ap (λ (x : Store × Reply). x.1) is in absurd cc
 
 was_update : (s : Store) (k : Key) (v : Verdict) (t : Store) (p : Object) → carried_out s k v ≡ (t, Updated p) → WasUpdate s k v t p
-was_update s k (refuse reason) t p is = let e : Refused reason ≡ Updated p = ap (λ (x : Store × Reply). x.1) is in absurd cc
-was_update s k (same o) t p is = absurd (let e = ap (λ (x : Store × Reply). x.1) is in cc)
-was_update s k (write c) t p is = write_update s k c (s.counter == s.capacity) t p is
+was_update s k (Refuse reason) t p is = let e : Refused reason ≡ Updated p = ap (λ (x : Store × Reply). x.1) is in absurd cc
+was_update s k (Same o) t p is = absurd (let e = ap (λ (x : Store × Reply). x.1) is in cc)
+was_update s k (Write c) t p is = write_update s k c (s.counter == s.capacity) t p is
 
 -- of two verdicts, the one that is no write of this object was not taken
-other_way : (b : Bool) (v w : Verdict) (new : Object) (P : Type 0) → (v ≡ write (updates new) → P) → (w ≡ write (updates new) → P) → cond b v w ≡ write (updates new) → P
+other_way : (b : Bool) (v w : Verdict) (new : Object) (P : Type 0) → (v ≡ Write (updates new) → P) → (w ≡ Write (updates new) → P) → cond b v w ≡ Write (updates new) → P
 other_way true v w new P p q is = p is
 other_way false v w new P p q is = q is
 
-no_refusal : (s : Store) (d : Draft) (o new : Object) → on_status d (Some o) ≡ write (updates new) → with_status_of o d ≡ new
+no_refusal : (s : Store) (d : Draft) (o new : Object) → on_status d (Some o) ≡ Write (updates new) → with_status_of o d ≡ new
 no_refusal s d o new is =
     let P = with_status_of o d ≡ new in
-    other_way (has_status d.object.key.kind) (on_status_of d (Some o)) (refuse Invalid) new P
-    (other_way (conflicts d.version d.uid o) (refuse Conflict) (status_unless_same o d) new P (λ e. absurd cc)
-    (other_way (same_member (codes "status") o.body d.object.body) (same o) (write (updates (with_status_of o d))) new P (λ e. absurd cc) (λ e. cc)))
+    other_way (has_status d.object.key.kind) (on_status_of d (Some o)) (Refuse Invalid) new P
+    (other_way (conflicts d.version d.uid o) (Refuse Conflict) (status_unless_same o d) new P (λ e. absurd cc)
+    (other_way (same_member (codes "status") o.body d.object.body) (Same o) (Write (updates (with_status_of o d))) new P (λ e. absurd cc) (λ e. cc)))
     (λ e. absurd cc) is
 
 found_there : (s : Store) (k : Key) (o : Object) → Has (with_change s k (updates o)) k (stamp (updates o) (s.counter + 1))

@@ -12,13 +12,14 @@ use Rattle.plain.specs.declared.request.Request.{Request}
 use Rattle.plain.specs.declared.reply.Reply.{Reply}
 use Rattle.plain.specs.declared.reply.Reply.TheVariants.{Refused}
 use Rattle.plain.specs.declared.reply.Reason.TheVariants.{StoreFull}
-use Rattle.plain.specs.Verdict.{Change, creates, updates, marks, removes, Verdict, refuse, same, write, stamp}
-use Rattle.plain.specs.Store.{Store, opening, step, carried_out, accepted, found}
+use Rattle.plain.specs.declared.verdict.Verdict.{Verdict}
+use Rattle.plain.specs.declared.verdict.Verdict.TheVariants.{Refuse, Same, Write}
+use Rattle.plain.specs.Change.{Change, creates, updates, marks, removes, stamp, accepted}
+use Rattle.plain.specs.Store.{Store, opening, step, carried_out, found, with_change}
 use Rattle.plain.specs.Run.{replies}
 use Rattle.plain.specs.AtKey.{Has}
 use Rattle.plain.specs.Filed.{AreFiled}
 use Rattle.plain.specs.Lives.{Event, begins, changes, lasts, ends, events, events_of, is_of, AreLives, HasUidOf}
-use Rattle.plain.proofs.Steps.{with_change}
 use Rattle.plain.proofs.Verdicts.{Reads, gets, Replaces, Writes, by_verdict, tied}
 use Rattle.plain.proofs.KeptUids.{IsNew, IsNext, allowed, filed_after, filed_in_run}
 
@@ -70,8 +71,8 @@ reads_tell : (q : Key) (s : Store) (reply : Reply) → AreFiled s.objects → Re
 reads_tell q s reply filed (gets k is) = subst (λ r. Tells q s (s, r)) (sym is) (found_tells q s k (at s k) filed refl)
 
 -- what the map has at a key after an object is put there or taken away, by the key that the object has
-put_at : (m : FinMap key_cmp Object) (k q : Key) (p : Object) → p.key ≡ k → map.get (map.insert m k p) q ≡ cond (eq_by_cmp key_cmp q p.key) (Some p) (map.get m q)
-put_at m k q p named = get-insert key_cmp_total m k p q ∙ ap (λ x. cond (eq_by_cmp key_cmp q x) (Some p) (map.get m q)) (sym named)
+inserted_at : (m : FinMap key_cmp Object) (k q : Key) (p : Object) → p.key ≡ k → map.get (map.insert m k p) q ≡ cond (eq_by_cmp key_cmp q p.key) (Some p) (map.get m q)
+inserted_at m k q p named = get-insert key_cmp_total m k p q ∙ ap (λ x. cond (eq_by_cmp key_cmp q x) (Some p) (map.get m q)) (sym named)
 
 taken_at : (m : FinMap key_cmp Object) (k q : Key) (p : Object) → p.key ≡ k → map.get (map.remove m k) q ≡ cond (eq_by_cmp key_cmp q p.key) None (map.get m q)
 taken_at m k q p named = get-remove key_cmp_total m k q ∙ ap (λ x. cond (eq_by_cmp key_cmp q x) None (map.get m q)) (sym named)
@@ -84,20 +85,20 @@ uid_at : (s : Store) (q : Key) (o p : Object) → Has s q o → p.meta.uid ≡ o
 uid_at s q o p there uid = ap (option_map (λ (x : Object). x.meta.uid)) there ∙ ap Some (sym uid)
 
 -- an object that takes the place of another
-replaced_tells : (q : Key) (s : Store) (k : Key) (p : Object) → AreFiled s.objects → Replaces (IsNext (s.counter + 1)) (at s k) p → (later : List Event)
+replaced_tells : (q : Key) (s : Store) (k : Key) (p : Object) → AreFiled s.objects → Replaces (IsNext (s.counter + 1)) k (at s k) p → (later : List Event)
     → AreLives (map.get (map.insert s.objects k p) q) (about q later) → AreLives (at s q) (about q (changes p ∷ later))
 replaced_tells q s k p filed new later lives =
-    let named : p.key ≡ new.old.key = new.changed.key in
+    let named : p.key ≡ k = new.changed.key (filed k new.old new.there) in
     changes_by (eq_by_cmp key_cmp q p.key) (at s q) (map.get (map.insert s.objects k p) q) p (about q later)
-    (λ tie. uid_at s q new.old p (found_at s q k new.old p filed new.there named tie) new.changed.uid)
-    (put_at s.objects k q p (named ∙ filed k new.old new.there)) lives
+    (λ tie. uid_at s q new.old p (found_at s q k new.old p filed new.there (named ∙ sym (filed k new.old new.there)) tie) new.changed.uid)
+    (inserted_at s.objects k q p named) lives
 
-change_tells : (q : Key) (s : Store) (k : Key) (c : Change) → AreFiled s.objects → Writing s k (write c) → Tells q s (with_change s k c, accepted c (stamp c (s.counter + 1)))
+change_tells : (q : Key) (s : Store) (k : Key) (c : Change) → AreFiled s.objects → Writing s k (Write c) → Tells q s (with_change s k c, accepted c (stamp c (s.counter + 1)))
 change_tells q s k (creates o) filed writes = λ later lives.
     let p = stamp (creates o) (s.counter + 1) in
     let named : p.key ≡ k = writes.1.key in
     begins_by (eq_by_cmp key_cmp q p.key) (at s q) (map.get (map.insert s.objects k p) q) p (about q later)
-    (λ tie. ap (at s) (tied q p.key tie ∙ named) ∙ writes.0) (put_at s.objects k q p named) lives
+    (λ tie. ap (at s) (tied q p.key tie ∙ named) ∙ writes.0) (inserted_at s.objects k q p named) lives
 change_tells q s k (updates o) filed writes = replaced_tells q s k (stamp (updates o) (s.counter + 1)) filed writes
 change_tells q s k (marks o) filed writes = replaced_tells q s k (stamp (marks o) (s.counter + 1)) filed writes
 change_tells q s k (removes o) filed writes = λ later lives.
@@ -105,15 +106,15 @@ change_tells q s k (removes o) filed writes = λ later lives.
     ends_by (eq_by_cmp key_cmp q p.key) (at s q) (map.get (map.remove s.objects k) q) p (about q later)
     (λ tie. uid_at s q o p (found_at s q k o p filed writes refl tie) refl) (taken_at s.objects k q p (filed k o writes)) lives
 
-write_tells : (q : Key) (s : Store) (k : Key) (c : Change) (full : Bool) → AreFiled s.objects → Writing s k (write c)
+write_tells : (q : Key) (s : Store) (k : Key) (c : Change) (full : Bool) → AreFiled s.objects → Writing s k (Write c)
     → Tells q s (cond full (s, Refused StoreFull) (with_change s k c, accepted c (stamp c (s.counter + 1))))
 write_tells q s k c true filed writes = λ later lives. lives
 write_tells q s k c false filed writes = change_tells q s k c filed writes
 
 verdict_tells : (q : Key) (s : Store) (k : Key) (v : Verdict) → AreFiled s.objects → Writing s k v → Tells q s (carried_out s k v)
-verdict_tells q s k (refuse reason) filed writes = λ later lives. lives
-verdict_tells q s k (same o) filed writes = lasts_tells q s k o filed writes
-verdict_tells q s k (write c) filed writes = write_tells q s k c (s.counter == s.capacity) filed writes
+verdict_tells q s k (Refuse reason) filed writes = λ later lives. lives
+verdict_tells q s k (Same o) filed writes = lasts_tells q s k o filed writes
+verdict_tells q s k (Write c) filed writes = write_tells q s k c (s.counter == s.capacity) filed writes
 
 step_tells : (q : Key) (s : Store) (r : Request) → AreFiled s.objects → Tells q s (step s r)
 step_tells q s r filed =

@@ -19,42 +19,44 @@ use Rattle.plain.specs.declared.request.Request.TheVariants.{Create, Get, Update
 use Rattle.plain.specs.declared.reply.Reply.{Reply}
 use Rattle.plain.specs.declared.reply.Reply.TheVariants.{Refused}
 use Rattle.plain.specs.declared.reply.Reason.TheVariants.{AlreadyExists, Conflict, Invalid, StoreFull}
-use Rattle.plain.specs.Verdict.{Change, creates, updates, marks, removes, Verdict, refuse, same, write, at_version, born, changes_data, conflicts, deleted, graceful, has_status, marked, on_create, on_delete, on_status, on_status_of, on_update, same_member, stamp, status_unless_same, unless_same, updated, with_status_of}
+use Rattle.plain.specs.declared.verdict.Verdict.{Verdict}
+use Rattle.plain.specs.declared.verdict.Verdict.TheVariants.{Refuse, Same, Write}
+use Rattle.plain.specs.Change.{Change, creates, updates, marks, removes, at_version, stamp, accepted, kept}
+use Rattle.plain.specs.Verdict.{born, changes_data, conflicts, deleted, graceful, has_status, marked, on_create, on_delete, on_status, on_status_of, on_update, same_member, status_unless_same, unless_same, updated, with_status_of}
 use Rattle.std.specs.Prelude.{codes}
-use Rattle.plain.specs.Store.{Store, step, carried_out, accepted, changed_map, found}
+use Rattle.plain.specs.Store.{Store, step, carried_out, put_at, found, with_change}
 use Rattle.plain.specs.AtKey.{Has, HasNone}
 use Rattle.plain.proofs.Entries.{equal_from, exact_keys}
-use Rattle.plain.proofs.Steps.{with_change}
 
--- a fact of an object that is made under a key, and a fact of an object and what takes its place
+-- a fact of an object that is made under a key, and a fact of a key's object and what takes its place
 abbrev pub OfMade : Type 1
 OfMade = Key → Object → Type 0
 
 abbrev pub OfChanged : Type 1
-OfChanged = Object → Object → Type 0
+OfChanged = Key → Object → Object → Type 0
 
 -- there is an object, and this one takes its place
-pub record Replaces (U : OfChanged) (current : Option Object) (new : Object) : Type 0 where
+pub record Replaces (U : OfChanged) (k : Key) (current : Option Object) (new : Object) : Type 0 where
   pub old : Object
   pub there : current ≡ Some old
-  pub changed : U old new
+  pub changed : U k old new
 
 -- what the verdict writes with the number n has the facts, given what is there
 abbrev pub Writes : OfMade → OfChanged → ℕ → Key → Option Object → Verdict → Type 0
-Writes C U n k current (refuse reason) = ⊤
-Writes C U n k current (same o) = current ≡ Some o
-Writes C U n k current (write (creates o)) = (current ≡ None) × C k (stamp (creates o) n)
-Writes C U n k current (write (updates o)) = Replaces U current (stamp (updates o) n)
-Writes C U n k current (write (marks o)) = Replaces U current (stamp (marks o) n)
-Writes C U n k current (write (removes o)) = current ≡ Some o
+Writes C U n k current (Refuse reason) = ⊤
+Writes C U n k current (Same o) = current ≡ Some o
+Writes C U n k current (Write (creates o)) = (current ≡ None) × C k (stamp (creates o) n)
+Writes C U n k current (Write (updates o)) = Replaces U k current (stamp (updates o) n)
+Writes C U n k current (Write (marks o)) = Replaces U k current (stamp (marks o) n)
+Writes C U n k current (Write (removes o)) = current ≡ Some o
 
 -- the changes that a request can come to have the facts
 abbrev pub Allows : OfMade → OfChanged → ℕ → Request → Type 0
 Allows C U n (Get k) = ⊤
 Allows C U n (Create d) = C d.object.key (stamp (creates (born d.object)) n)
-Allows C U n (Update d) = (o : Object) → U o (at_version (updated o d) n)
-Allows C U n (UpdateStatus d) = (o : Object) → U o (at_version (with_status_of o d) n)
-Allows C U n (Delete k uid version at) = (t : List ℕ) (o : Object) → U o (at_version (marked t o) n)
+Allows C U n (Update d) = (o : Object) → U d.object.key o (at_version (updated o d) n)
+Allows C U n (UpdateStatus d) = (o : Object) → U d.object.key o (at_version (with_status_of o d) n)
+Allows C U n (Delete k uid version at) = (t : List ℕ) (o : Object) → U k o (at_version (marked t o) n)
 
 either : (P : Verdict → Type 0) (b : Bool) (v w : Verdict) → P v → P w → P (cond b v w)
 either P true v w p q = p
@@ -62,39 +64,39 @@ either P false v w p q = q
 
 create_writes : (C : OfMade) (U : OfChanged) (n : ℕ) (d : Draft) (current : Option Object) → Allows C U n (Create d) → Writes C U n d.object.key current (on_create d current)
 create_writes C U n d None made =
-    either (Writes C U n d.object.key None) (is_some d.version) (refuse Invalid) (write (creates (born d.object))) tt (refl, made)
+    either (Writes C U n d.object.key None) (is_some d.version) (Refuse Invalid) (Write (creates (born d.object))) tt (refl, made)
 create_writes C U n d (Some o) made =
-    either (Writes C U n d.object.key (Some o)) (is_some d.version) (refuse Invalid) (refuse AlreadyExists) tt tt
+    either (Writes C U n d.object.key (Some o)) (is_some d.version) (Refuse Invalid) (Refuse AlreadyExists) tt tt
 
 update_writes : (C : OfMade) (U : OfChanged) (n : ℕ) (d : Draft) (current : Option Object) → Allows C U n (Update d) → Writes C U n d.object.key current (on_update d current)
 update_writes C U n d None changed = tt
 update_writes C U n d (Some o) changed =
     let P = Writes C U n d.object.key (Some o) in
-    either P (conflicts d.version d.uid o) (refuse Conflict) _ tt
-    (either P (changes_data d o) (refuse Invalid) (unless_same o d) tt
-    (either P (same_data o.body (updated o d).body) (same o) (write (updates (updated o d))) refl (record { old = o; there = refl; changed = changed o })))
+    either P (conflicts d.version d.uid o) (Refuse Conflict) _ tt
+    (either P (changes_data d o) (Refuse Invalid) (unless_same o d) tt
+    (either P (same_data o.body (updated o d).body) (Same o) (Write (updates (updated o d))) refl (record { old = o; there = refl; changed = changed o })))
 
 status_of_writes : (C : OfMade) (U : OfChanged) (n : ℕ) (d : Draft) (current : Option Object) → Allows C U n (UpdateStatus d) → Writes C U n d.object.key current (on_status_of d current)
 status_of_writes C U n d None changed = tt
 status_of_writes C U n d (Some o) changed =
     let P = Writes C U n d.object.key (Some o) in
-    either P (conflicts d.version d.uid o) (refuse Conflict) (status_unless_same o d) tt
-    (either P (same_member (codes "status") o.body d.object.body) (same o) (write (updates (with_status_of o d))) refl (record { old = o; there = refl; changed = changed o }))
+    either P (conflicts d.version d.uid o) (Refuse Conflict) (status_unless_same o d) tt
+    (either P (same_member (codes "status") o.body d.object.body) (Same o) (Write (updates (with_status_of o d))) refl (record { old = o; there = refl; changed = changed o }))
 
 status_writes : (C : OfMade) (U : OfChanged) (n : ℕ) (d : Draft) (current : Option Object) → Allows C U n (UpdateStatus d) → Writes C U n d.object.key current (on_status d current)
 status_writes C U n d current changed =
-    either (Writes C U n d.object.key current) (has_status d.object.key.kind) (on_status_of d current) (refuse Invalid) (status_of_writes C U n d current changed) tt
+    either (Writes C U n d.object.key current) (has_status d.object.key.kind) (on_status_of d current) (Refuse Invalid) (status_of_writes C U n d current changed) tt
 
-deleted_writes : (C : OfMade) (U : OfChanged) (n : ℕ) (k : Key) (time : Option (List ℕ)) (o : Object) → ((t : List ℕ) → U o (at_version (marked t o) n)) → Writes C U n k (Some o) (deleted time o)
+deleted_writes : (C : OfMade) (U : OfChanged) (n : ℕ) (k : Key) (time : Option (List ℕ)) (o : Object) → ((t : List ℕ) → U k o (at_version (marked t o) n)) → Writes C U n k (Some o) (deleted time o)
 deleted_writes C U n k None o changed = refl
 deleted_writes C U n k (Some t) o changed =
-    either (Writes C U n k (Some o)) (is_some o.meta.deletion) (same o) (write (marks (marked t o))) refl (record { old = o; there = refl; changed = changed t })
+    either (Writes C U n k (Some o)) (is_some o.meta.deletion) (Same o) (Write (marks (marked t o))) refl (record { old = o; there = refl; changed = changed t })
 
 delete_writes : (C : OfMade) (U : OfChanged) (n : ℕ) (k : Key) (uid version at : Option (List ℕ)) (current : Option Object) → Allows C U n (Delete k uid version at)
     → Writes C U n k current (on_delete version uid at current)
 delete_writes C U n k uid version at None changed = tt
 delete_writes C U n k uid version at (Some o) changed =
-    either (Writes C U n k (Some o)) (conflicts version uid o) (refuse Conflict) (deleted (graceful o.key.kind at) o) tt
+    either (Writes C U n k (Some o)) (conflicts version uid o) (Refuse Conflict) (deleted (graceful o.key.kind at) o) tt
     (deleted_writes C U n k (graceful o.key.kind at) o (λ t. changed t o))
 
 -- a reply that says what is there and changes nothing
@@ -120,7 +122,7 @@ abbrev pub Turn : OfMade → OfChanged → Key → Key → Option Object → Opt
 Turn C U k q None None = ⊤
 Turn C U k q None (Some p) = (q ≡ k) × C k p
 Turn C U k q (Some o) None = ⊤
-Turn C U k q (Some o) (Some p) = (p ≡ o) ⊎ U o p
+Turn C U k q (Some o) (Some p) = (p ≡ o) ⊎ U q o p
 
 stays : (C : OfMade) (U : OfChanged) (k q : Key) (o : Option Object) → Turn C U k q o o
 stays C U k q None = tt
@@ -134,7 +136,7 @@ goes C U k q (Some o) = tt
 comes : (C : OfMade) (U : OfChanged) (k : Key) (current : Option Object) (p : Object) → current ≡ None → C k p → Turn C U k k current (Some p)
 comes C U k current p none made = subst (λ o. Turn C U k k o (Some p)) (sym none) (refl, made)
 
-replaces : (C : OfMade) (U : OfChanged) (k : Key) (current : Option Object) (p : Object) → Replaces U current p → Turn C U k k current (Some p)
+replaces : (C : OfMade) (U : OfChanged) (k : Key) (current : Option Object) (p : Object) → Replaces U k current p → Turn C U k k current (Some p)
 replaces C U k current p new = subst (λ o. Turn C U k k o (Some p)) (sym new.there) (inr new.changed)
 
 pub tied : (q k : Key) → eq_by_cmp key_cmp q k ≡ true → q ≡ k
@@ -153,8 +155,8 @@ take_turn : (C : OfMade) (U : OfChanged) (k q : Key) (m : FinMap key_cmp Object)
 take_turn C U k q m =
     subst (Turn C U k q (map.get m q)) (sym (get-remove key_cmp_total m k q)) (placed C U (eq_by_cmp key_cmp q k) k q m None (tied q k) (goes C U k k (map.get m k)))
 
-changed_turn : (C : OfMade) (U : OfChanged) (n : ℕ) (k q : Key) (m : FinMap key_cmp Object) (c : Change) → Writes C U n k (map.get m k) (write c)
-    → Turn C U k q (map.get m q) (map.get (changed_map m k c n) q)
+changed_turn : (C : OfMade) (U : OfChanged) (n : ℕ) (k q : Key) (m : FinMap key_cmp Object) (c : Change) → Writes C U n k (map.get m k) (Write c)
+    → Turn C U k q (map.get m q) (map.get (put_at m k (kept c n)) q)
 changed_turn C U n k q m (creates o) writes = put_turn C U k q m (stamp (creates o) n) (comes C U k (map.get m k) (stamp (creates o) n) writes.0 writes.1)
 changed_turn C U n k q m (updates o) writes = put_turn C U k q m (stamp (updates o) n) (replaces C U k (map.get m k) (stamp (updates o) n) writes)
 changed_turn C U n k q m (marks o) writes = put_turn C U k q m (stamp (marks o) n) (replaces C U k (map.get m k) (stamp (marks o) n) writes)
@@ -165,15 +167,15 @@ pub data Carried (C : OfMade) (U : OfChanged) (s : Store) (k : Key) (t : Store) 
   idle : t ≡ s → Carried C U s k t
   moves : t.counter ≡ s.counter + 1 → ((q : Key) → Turn C U k q (map.get s.objects q) (map.get t.objects q)) → Carried C U s k t
 
-write_carried : (C : OfMade) (U : OfChanged) (s : Store) (k : Key) (c : Change) (full : Bool) → Writes C U (s.counter + 1) k (map.get s.objects k) (write c)
+write_carried : (C : OfMade) (U : OfChanged) (s : Store) (k : Key) (c : Change) (full : Bool) → Writes C U (s.counter + 1) k (map.get s.objects k) (Write c)
     → let end : Store × Reply = cond full (s, Refused StoreFull) (with_change s k c, accepted c (stamp c (s.counter + 1))) in Carried C U s k end.0
 write_carried C U s k c true writes = idle refl
 write_carried C U s k c false writes = moves refl (λ q. changed_turn C U (s.counter + 1) k q s.objects c writes)
 
 pub carried : (C : OfMade) (U : OfChanged) (s : Store) (k : Key) (v : Verdict) → Writes C U (s.counter + 1) k (map.get s.objects k) v → Carried C U s k (carried_out s k v).0
-carried C U s k (refuse reason) writes = idle refl
-carried C U s k (same o) writes = idle refl
-carried C U s k (write c) writes = write_carried C U s k c (s.counter == s.capacity) writes
+carried C U s k (Refuse reason) writes = idle refl
+carried C U s k (Same o) writes = idle refl
+carried C U s k (Write c) writes = write_carried C U s k c (s.counter == s.capacity) writes
 
 -- for a step that writes under no key
 nowhere : Key
@@ -186,7 +188,7 @@ by_turn C U s P holds = by_verdict C U s (λ end. P end.0) (λ reply reads. hold
 
 -- ---- an object before and after
 
-turned : (C : OfMade) (U : OfChanged) (k q : Key) (was is : Option Object) (o p : Object) → Turn C U k q was is → was ≡ Some o → is ≡ Some p → (p ≡ o) ⊎ U o p
+turned : (C : OfMade) (U : OfChanged) (k q : Key) (was is : Option Object) (o p : Object) → Turn C U k q was is → was ≡ Some o → is ≡ Some p → (p ≡ o) ⊎ U q o p
 turned C U k q was is o p turn before after =
     subst (λ x. Turn C U k q (Some o) x) after (subst (λ x. Turn C U k q x is) before turn)
 
@@ -195,7 +197,7 @@ new C U k q was is p turn before after =
     subst (λ x. Turn C U k q None x) after (subst (λ x. Turn C U k q x is) before turn)
 
 -- the object is the same, or changed by the number drawn
-pub left : (C : OfMade) (U : OfChanged) (s t : Store) (k q : Key) (o p : Object) → Carried C U s k t → Has s q o → Has t q p → (p ≡ o) ⊎ ((t.counter ≡ s.counter + 1) × U o p)
+pub left : (C : OfMade) (U : OfChanged) (s t : Store) (k q : Key) (o p : Object) → Carried C U s k t → Has s q o → Has t q p → (p ≡ o) ⊎ ((t.counter ≡ s.counter + 1) × U q o p)
 left C U s t k q o p (idle is) before after = inl (same_Some p o (sym after ∙ subst (λ (x : Store). map.get x.objects q ≡ Some o) (sym is) before))
 left C U s t k q o p (moves counted turns) before after =
     elim (turned C U k q (map.get s.objects q) (map.get t.objects q) o p (turns q) before after) [ inl e ↦ inl e | inr u ↦ inr (counted, u) ]
@@ -209,7 +211,7 @@ made C U s t k q p (moves counted turns) before after =
 -- where an object comes from that a step leaves
 pub data Origin (C : OfMade) (U : OfChanged) (s t : Store) (k q : Key) (p : Object) : Type 0 where
   is_made : t.counter ≡ s.counter + 1 → q ≡ k → C k p → Origin C U s t k q p
-  was : (o : Object) → Has s q o → (p ≡ o) ⊎ ((t.counter ≡ s.counter + 1) × U o p) → Origin C U s t k q p
+  was : (o : Object) → Has s q o → (p ≡ o) ⊎ ((t.counter ≡ s.counter + 1) × U q o p) → Origin C U s t k q p
 
 origin_by : (C : OfMade) (U : OfChanged) (s t : Store) (k q : Key) (p : Object) (before : Option Object) → Carried C U s k t → Has t q p → map.get s.objects q ≡ before → Origin C U s t k q p
 origin_by C U s t k q p None step after before = let m = made C U s t k q p step before after in is_made m.0 m.1 m.2

@@ -22,7 +22,7 @@ pub fn only_the_status_request_changes_status()
         → Makes s request key made → has_status made.key.kind ≡ true → member_of (codes "status") made.body ≡ None }
     ensures kept { (s : Store) (request : Request) (key : Key) (before after : Object)
         → ((draft : Draft) → request ≢ UpdateStatus draft) → ((draft : Draft) → request ≡ Update draft → HasMembers draft.object.body)
-        → Leaves s request key before after → has_status before.key.kind ≡ true
+        → Leaves s request key before after → has_status key.kind ≡ true
         → member_of (codes "status") after.body ≡ member_of (codes "status") before.body }
     ensures written { (s new : Store) (draft : Draft) (before after : Object)
         → Has s draft.object.key before → HasMembers before.body → step s (UpdateStatus draft) ≡ (new, Updated after)
