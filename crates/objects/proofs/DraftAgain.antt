@@ -21,7 +21,7 @@ use Rattle.objects.specs.MetadataShape.{labels_fit, owners_fit, metadata_fits}
 use Rattle.objects.specs.Object.{IsBody, is_missing_or, without_held}
 use Rattle.objects.specs.Tree.{AreAscending}
 use Rattle.objects.specs.Proper.{IsProper}
-use Rattle.objects.specs.Reading.{kind_in, key_of, stated_in, draft_in, draft_of, draft_parts, Stated, stated, meta_of, optional_text, unless_empty, generation_of}
+use Rattle.objects.specs.Reading.{kind_in, namespace_in, key_of, stated_in, draft_in, draft_of, draft_parts, Stated, stated, meta_of, optional_text, unless_empty, generation_of}
 use Rattle.objects.specs.Text.{unless_zero, whole_metadata, printed}
 use Rattle.objects.specs.Uid.{uid_text, uid_number, version_number}
 use Rattle.objects.specs.Again.{text_unless_zero, draft_again_of}
@@ -48,7 +48,7 @@ label_some (b ∷ s) h = omega arith
 
 pub key_again : (ms : Members) (key : KeyParts) → get_member (codes "namespace") ms ≡ Some (string key.namespace) → get_member (codes "name") ms ≡ Some (string key.name) → is_key key ≡ true
     → key_of key.kind ms ≡ Ok key
-unfolding key_of
+unfolding key_of namespace_in
 key_again ms key namespace name right =
     let some = lt-ltb 0 (length key.namespace) (label_some key.namespace (and_parts (is_dns_label key.namespace) (is_name key.kind key.name) right).0) in
     rw (namespace, name, some, right) refl

@@ -12,6 +12,7 @@ use Rattle.objects.specs.declared.fault.ReadError.TheVariants.{NotJson, NotWhole
 use Rattle.objects.specs.declared.object.Draft.{Draft}
 use Rattle.objects.specs.Steps.{◌>>=◌, required, guarded}
 use Rattle.objects.specs.Kind.{kind_named, api_version}
+use Rattle.objects.specs.Names.{is_dns_label}
 use Rattle.objects.specs.Key.{KeyParts, is_key}
 use Rattle.objects.specs.Meta.{MetaParts}
 use Rattle.objects.specs.MetadataShape.{metadata_fits}
@@ -55,18 +56,29 @@ abbrev pub unless_empty : Option (List ℕ) → Option (List ℕ)
 unless_empty None = None
 unless_empty (Some s) = if nat_lt 0 (length s) then Some s else None
 
--- the name and the namespace among these members; a missing namespace is `default`
+-- the namespace among these members; a missing one is `default`
+unfoldable pub namespace_in : Members → Result (List ℕ) ReadError
+namespace_in ms = optional_text BadName (get_member (codes "namespace") ms) >>= λ namespace. Ok (unwrap_or (unless_empty namespace) (codes "default"))
+
+-- the name and the namespace among these members
 unfoldable pub key_of : Kind → Members → Result KeyParts ReadError
 key_of kind ms = do
-  namespace ← optional_text BadName (get_member (codes "namespace") ms)
+  namespace ← namespace_in ms
   name ← optional_text BadName (get_member (codes "name") ms)
-  let key : KeyParts = record { kind = kind; namespace = unwrap_or (unless_empty namespace) (codes "default"); name = unwrap_or name [] } in guarded BadName (is_key key) key
+  let key : KeyParts = record { kind = kind; namespace = namespace; name = unwrap_or name [] } in guarded BadName (is_key key) key
 
 -- the key that a request names
 unfoldable pub key_in : Members → Result KeyParts ReadError
 key_in ms = do
   kind ← kind_in ms
   key_of kind ms
+
+-- the kind and the namespace that a request names
+unfoldable pub collection_in : Members → Result (Kind × List ℕ) ReadError
+collection_in ms = do
+  kind ← kind_in ms
+  namespace ← namespace_in ms
+  guarded BadName (is_dns_label namespace) (kind, namespace)
 
 -- `null` counts as missing, and a missing generation is 0
 abbrev pub generation_of : Option Data → Result ℕ ReadError

@@ -7,7 +7,7 @@ ghost use Rattle.objects.specs.Steps.{Gives, guarded};
 ghost use Rattle.objects.specs.Kind.{api_version};
 ghost use Rattle.objects.specs.MetadataShape.{metadata_fits};
 ghost use Rattle.objects.specs.Object.{is_missing_or, without_held, SaysKind};
-ghost use Rattle.objects.specs.Reading.{kind_in, key_of, key_in, optional_text, unless_empty, generation_of, stated, stated_in, draft_parts, draft_in};
+ghost use Rattle.objects.specs.Reading.{kind_in, namespace_in, key_of, key_in, optional_text, unless_empty, generation_of, stated, stated_in, draft_parts, draft_in};
 ghost use Rattle.objects.specs.declared.fault.ReadError.TheVariants.{UnknownKind};
 
 use crate::fault::ReadError;
@@ -73,18 +73,25 @@ fn copy_unless_empty(alloc: Global, text: Option<&str>) -> Result<Option<Text>, 
     }
 }
 
+/// The namespace among these members; a missing or an empty one is `default`.
+#[tactic(auto, using(crate::proofs::Chains::fails_then), unfolding(crate::specs::Reading::namespace_in))]
+pub(crate) fn namespace_of(members: &Members) -> Result<&str, ReadError>
+    ensures { Gives (λ namespace. namespace.now) result (namespace_in members.now) }
+{
+    match text_or(ReadError::BadName, members.get("namespace"))? {
+        Some(namespace) if !namespace.is_empty() => Ok(namespace),
+        _ => Ok("default"),
+    }
+}
+
 /// The name and the namespace among these members.
 #[tactic(auto, using(crate::proofs::Chains::fails_then), unfolding(crate::specs::Reading::key_of))]
 pub(crate) fn key_of(alloc: Global, kind: Kind, members: &Members) -> Result<Key, ReadError>
     ensures kind { IfOk result (λ key. key.kind ≡ kind) }
     ensures key { Gives (λ key. key) result (key_of kind members.now) }
 {
-    let namespace = text_or(ReadError::BadName, members.get("namespace"))?;
+    let namespace = namespace_of(members)?;
     let name = text_or(ReadError::BadName, members.get("name"))?;
-    let namespace = match namespace {
-        Some(namespace) if !namespace.is_empty() => namespace,
-        _ => "default",
-    };
     Key::of(alloc, kind, namespace, name.unwrap_or(""))
 }
 

@@ -44,7 +44,7 @@ pub use pod_names::{
     claim_name, claim_names_of_a_set_differ, pod_name, pod_names_differ, split_pod_name,
 };
 pub use print::{print_object, write_object};
-pub use read::{read_draft, read_key, read_object, read_tree};
+pub use read::{read_collection, read_draft, read_key, read_object, read_tree};
 pub use same::same_is_reflexive;
 pub use shard::shard_of;
 pub use status::only_the_set_member_changes;

@@ -1,15 +1,18 @@
 ghost use Rattle.std.specs.Prelude.{◌≡◌, IsTrue, ◌↔◌};
 ghost use Rattle.objects.specs.Steps.{Gives, required};
 ghost use Rattle.objects.specs.Tree.{data_of};
-ghost use Rattle.objects.specs.Reading.{reading, reading_of_data, draft_of, key_in, json_value};
+ghost use Rattle.objects.specs.Reading.{reading, reading_of_data, draft_of, key_in, collection_in, json_value};
 ghost use Rattle.objects.specs.declared.fault.ReadError.TheVariants.{NotJson};
 ghost use Rattle.serde_json.specs.View.{view};
 
 use crate::convert::tree_of;
-use crate::draft::{draft_in, key_of, kind_of};
+use crate::draft::{draft_in, key_of, kind_of, namespace_of};
 use crate::fault::ReadError;
 use crate::key::Key;
+use crate::kind::Kind;
+use crate::names::is_dns_label;
 use crate::object::Draft;
+use crate::text::Text;
 use crate::tree::{Members, Tree};
 use serde_json::Value;
 use std::alloc::Global;
@@ -70,4 +73,18 @@ pub fn read_key(alloc: Global, members: &Members) -> Result<Key, ReadError>
 {
     let kind = kind_of(members)?;
     key_of(alloc, kind, members)
+}
+
+/// The kind and the namespace that the members `kind` and `namespace` say: those of the objects that a list is asked
+/// for (Kubernetes API concepts, resource collections). It refuses with NoKind, UnknownKind or BadName alone.
+#[tactic(auto, using(crate::proofs::Chains::fails_then), unfolding(crate::specs::Reading::collection_in))]
+pub fn read_collection(alloc: Global, members: &Members) -> Result<(Kind, Text), ReadError>
+    ensures { Gives (λ collection. collection) result (collection_in members.now) }
+{
+    let kind = kind_of(members)?;
+    let namespace = namespace_of(members)?;
+    if !is_dns_label(namespace) {
+        return Err(ReadError::BadName);
+    }
+    Ok((kind, Text::copy_of(alloc, namespace)?))
 }

@@ -3,7 +3,8 @@ mod tables;
 
 use crate::{
     Draft, Items, Key, Kind, Members, ReadError, Text, Tree, Whole, is_uid_text, is_version_text,
-    print_object, read_draft, read_key, read_object, read_tree, uid_number, uid_text, write_object,
+    print_object, read_collection, read_draft, read_key, read_object, read_tree, uid_number,
+    uid_text, write_object,
 };
 use json::Writer;
 use std::alloc::{AllocError, Global};
@@ -242,6 +243,49 @@ fn keys_are_read_and_ordered(rt: HostRuntime) -> Result<(), Fail> {
     for (namespace, name) in BAD_KEYS.iter() {
         let refused = Key::of(rt.alloc(), Kind::Pod, namespace, name);
         assert!(rt; refused.is_err_and(|error| error == ReadError::BadName));
+    }
+    Ok(())
+}
+
+/// Members that name a kind and a namespace, or that are refused.
+static COLLECTIONS: [(&str, Result<(Kind, &str), ReadError>); 9] = [
+    (r#"{"kind":"Pod"}"#, Ok((Kind::Pod, "default"))),
+    (
+        r#"{"kind":"Pod","namespace":null}"#,
+        Ok((Kind::Pod, "default")),
+    ),
+    (
+        r#"{"kind":"Pod","namespace":""}"#,
+        Ok((Kind::Pod, "default")),
+    ),
+    (
+        r#"{"kind":"ControllerRevision","name":1,"namespace":"a-1"}"#,
+        Ok((Kind::ControllerRevision, "a-1")),
+    ),
+    (r#"{"namespace":"X"}"#, Err(ReadError::NoKind)),
+    (
+        r#"{"kind":"Node","namespace":"X"}"#,
+        Err(ReadError::UnknownKind),
+    ),
+    (r#"{"kind":"Pod","namespace":"X"}"#, Err(ReadError::BadName)),
+    (
+        r#"{"kind":"Pod","namespace":"a.b"}"#,
+        Err(ReadError::BadName),
+    ),
+    (r#"{"kind":"Pod","namespace":5}"#, Err(ReadError::BadName)),
+];
+
+#[test]
+fn collections_are_read(rt: HostRuntime) -> Result<(), Fail> {
+    for (text, expected) in COLLECTIONS.iter() {
+        let tree = read_tree(rt.alloc(), text.as_bytes())?;
+        let members = tree.as_map().ok_or("no map")?;
+        match read_collection(rt.alloc(), members) {
+            Ok((kind, namespace)) => {
+                assert_eq!(rt; Ok((kind, namespace.as_str())), *expected, "of {text}");
+            }
+            Err(error) => assert_eq!(rt; Err(error), *expected, "of {text}"),
+        }
     }
     Ok(())
 }

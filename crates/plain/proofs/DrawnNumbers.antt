@@ -2,6 +2,7 @@
 use Rattle.std.proofs.Common.{◌≡◌, ◌≤◌, ◌<◌, ◌+◌, ◌==◌, ℕ, Bool, true, false, cond, List, [], ◌∷◌, length, Option, Some, None, MatchOption, refl, ap, subst, arith}
 use Rattle.objects.specs.declared.key.Key.{Key}
 use Rattle.plain.specs.declared.request.Request.{Request}
+use Rattle.plain.specs.declared.request.Request.TheVariants as request
 use Rattle.plain.specs.declared.request.Request.TheVariants.{Create, Get, Update, UpdateStatus, Delete}
 use Rattle.plain.specs.declared.reply.Reply.{Reply}
 use Rattle.plain.specs.declared.reply.Reply.TheVariants.{Refused}
@@ -41,6 +42,7 @@ draws-found s (Some o) = record { version = refl; uid = omega arith }
 draws : (s : Store) (r : Request) → Draws s (step s r).0 (step s r).1
 unfolding step
 draws s (Get k) = draws-found s (map.get s.objects k)
+draws s (request.List kind namespace) = record { version = refl; uid = omega arith }
 draws s (Create d) = draws-verdict s d.object.key (on_create d (map.get s.objects d.object.key))
 draws s (Update d) = draws-verdict s d.object.key (on_update d (map.get s.objects d.object.key))
 draws s (UpdateStatus d) = draws-verdict s d.object.key (on_status d (map.get s.objects d.object.key))

@@ -7,6 +7,7 @@ use Rattle.objects.specs.declared.key.Key.{Key}
 use Rattle.objects.specs.declared.object.Object.{Object}
 use Rattle.objects.specs.Key.{key_cmp}
 use Rattle.plain.specs.declared.request.Request.{Request}
+use Rattle.plain.specs.declared.request.Request.TheVariants as request
 use Rattle.plain.specs.declared.request.Request.TheVariants.{Create, Get, Update, UpdateStatus, Delete}
 use Rattle.plain.specs.Store.{Store, opening, step}
 use Rattle.plain.specs.Run.{after}
@@ -28,6 +29,7 @@ pub record IsNext (n : ℕ) (k : Key) (o p : Object) : Type 0 where
 
 pub allowed : (n : ℕ) (r : Request) → Allows (IsNew n) (IsNext n) n r
 allowed n (Get k) = tt
+allowed n (request.List kind namespace) = tt
 allowed n (Create d) = record { key = refl; uid = refl; revision = refl }
 allowed n (Update d) = λ o. record { key = λ named. refl; uid = refl; revision = refl }
 allowed n (UpdateStatus d) = λ o. record { key = λ named. named; uid = refl; revision = refl }

@@ -1,4 +1,7 @@
 pub mod Entries
+pub mod NamedKeys
+pub mod KeyRuns
+pub mod Collections
 pub mod ChangedKeys
 pub mod Steps
 pub mod ReachedStates

@@ -10,6 +10,7 @@ use Rattle.objects.specs.Key.{key_cmp}
 use Rattle.objects.specs.KeyOrder.{key_cmp_total}
 use Rattle.objects.specs.Uid.{uid_text}
 use Rattle.plain.specs.declared.request.Request.{Request}
+use Rattle.plain.specs.declared.request.Request.TheVariants as request
 use Rattle.plain.specs.declared.request.Request.TheVariants.{Create, Get, Update, UpdateStatus, Delete}
 use Rattle.plain.specs.declared.reply.Reply.{Reply}
 use Rattle.plain.specs.declared.reply.Reply.TheVariants.{Refused}
@@ -49,13 +50,21 @@ carried_elsewhere s k q (Refuse reason) other = refl
 carried_elsewhere s k q (Same o) other = refl
 carried_elsewhere s k q (Write c) other = write_elsewhere s k q c (s.counter == s.capacity) other
 
-pub step_elsewhere : (s : Store) (r : Request) (q : Key) → (q ≡ key_named r → ⊥) → map.get (step s r).0.objects q ≡ map.get s.objects q
+-- a key that is not the one named is another one
+other_than : (q k : Key) → (Some q ≡ Some k → ⊥) → q ≡ k → ⊥
+other_than q k other is = other (ap Some is)
+
+pub step_elsewhere : (s : Store) (r : Request) (q : Key) → (Some q ≡ key_named r → ⊥) → map.get (step s r).0.objects q ≡ map.get s.objects q
 unfolding step
 step_elsewhere s (Get k) q other = refl
-step_elsewhere s (Create d) q other = carried_elsewhere s d.object.key q (on_create d (map.get s.objects d.object.key)) other
-step_elsewhere s (Update d) q other = carried_elsewhere s d.object.key q (on_update d (map.get s.objects d.object.key)) other
-step_elsewhere s (UpdateStatus d) q other = carried_elsewhere s d.object.key q (on_status d (map.get s.objects d.object.key)) other
-step_elsewhere s (Delete k uid version at) q other = carried_elsewhere s k q (on_delete version uid at (map.get s.objects k)) other
+step_elsewhere s (request.List kind namespace) q other = refl
+step_elsewhere s (Create d) q other =
+    carried_elsewhere s d.object.key q (on_create d (map.get s.objects d.object.key)) (other_than q d.object.key other)
+step_elsewhere s (Update d) q other =
+    carried_elsewhere s d.object.key q (on_update d (map.get s.objects d.object.key)) (other_than q d.object.key other)
+step_elsewhere s (UpdateStatus d) q other =
+    carried_elsewhere s d.object.key q (on_status d (map.get s.objects d.object.key)) (other_than q d.object.key other)
+step_elsewhere s (Delete k uid version at) q other = carried_elsewhere s k q (on_delete version uid at (map.get s.objects k)) (other_than q k other)
 
 -- a delete that names another UID than the object's
 pub spared : (s : Store) (k : Key) (uid : List ℕ) (version at : Option (List ℕ)) (current : Object)

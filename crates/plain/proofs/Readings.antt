@@ -6,13 +6,15 @@ use Rattle.serde_json.specs.Find.{as_object, as_str, get_member}
 use Rattle.objects.specs.declared.fault.ReadError.{ReadError}
 use Rattle.objects.specs.declared.fault.ReadError.TheVariants as read
 use Rattle.objects.specs.declared.key.Key.{Key}
+use Rattle.objects.specs.declared.kind.Kind.{Kind}
 use Rattle.objects.specs.declared.object.Draft.{Draft}
 use Rattle.objects.specs.declared.tree.Tree.{Tree}
 use Rattle.objects.specs.declared.tree.Tree.TheVariants as tree
 use Rattle.objects.specs.Tree.{data_of}
 use Rattle.objects.specs.Steps.{Fails}
-use Rattle.objects.specs.Reading.{key_in, reading_of_data}
+use Rattle.objects.specs.Reading.{key_in, collection_in, reading_of_data}
 use Rattle.plain.specs.declared.request.Request.{Request}
+use Rattle.plain.specs.declared.request.Request.TheVariants as request
 use Rattle.plain.specs.declared.request.Request.TheVariants.{Create, Get, Update, UpdateStatus, Delete}
 use Rattle.plain.specs.declared.request.RequestError.{RequestError}
 use Rattle.plain.specs.declared.request.RequestError.TheVariants as errors
@@ -50,10 +52,12 @@ by_verb name ms =
     ∙ ap (cond (bytes_eq name (codes "create")) (f (Some verb.Create)))
     (either (bytes_eq name (codes "get")) _ _ f
     ∙ ap (cond (bytes_eq name (codes "get")) (f (Some verb.Get)))
+    (either (bytes_eq name (codes "list")) _ _ f
+    ∙ ap (cond (bytes_eq name (codes "list")) (f (Some verb.List)))
     (either (bytes_eq name (codes "update")) _ _ f
     ∙ ap (cond (bytes_eq name (codes "update")) (f (Some verb.Update)))
     (either (bytes_eq name (codes "status")) _ _ f
-    ∙ ap (cond (bytes_eq name (codes "status")) (f (Some verb.Status))) (either (bytes_eq name (codes "delete")) (Some verb.Delete) None f)))))
+    ∙ ap (cond (bytes_eq name (codes "status")) (f (Some verb.Status))) (either (bytes_eq name (codes "delete")) (Some verb.Delete) None f))))))
 
 bind_bind : {A B C : Type 0} (r : Result A RequestError) (f : A → Result B RequestError) (g : B → Result C RequestError) → ((r >>= f) >>= g) ≡ (r >>= λ x. f x >>= g)
 bind_bind (Ok x) f g = refl
@@ -99,6 +103,11 @@ pub get_refused : (v : Verb) (ms : Members) (result : Result Request RequestErro
 unfolding request_by
 get_refused v ms result y e named is same h = answers_at v verb.Get ms result named (answers_lifted result y e _ (λ k. Ok (Get k)) is same h)
 
+pub list_refused : (v : Verb) (ms : Members) (result : Result Request RequestError) (y : RequestError) (e : ReadError)
+    → v ≡ verb.List → result ≡ Err y → y ≡ errors.Read e → Fails e (collection_in ms) → Answers result (request_by v ms)
+unfolding request_by
+list_refused v ms result y e named is same h = answers_at v verb.List ms result named (answers_lifted result y e _ (λ c. Ok (request.List c.0 c.1)) is same h)
+
 pub update_refused : (v : Verb) (ms : Members) (result : Result Request RequestError) (y : RequestError) (e : ReadError)
     → v ≡ verb.Update → result ≡ Err y → y ≡ errors.Read e → Fails e (object_draft (get_member (codes "object") ms)) → Answers result (request_by v ms)
 unfolding request_by
@@ -120,6 +129,10 @@ create_read v ms d is h = ap (λ x. request_by x ms) is ∙ ap (λ r. lifted r >
 pub get_read : (v : Verb) (ms : Members) (k : Key) → v ≡ verb.Get → key_in ms ≡ Ok k → request_by v ms ≡ Ok (Get k)
 unfolding request_by
 get_read v ms k is h = ap (λ x. request_by x ms) is ∙ ap (λ r. lifted r >>= λ x. Ok (Get x)) h
+
+pub list_read : (v : Verb) (ms : Members) (c : Kind × List ℕ) → v ≡ verb.List → collection_in ms ≡ Ok c → request_by v ms ≡ Ok (request.List c.0 c.1)
+unfolding request_by
+list_read v ms c is h = ap (λ x. request_by x ms) is ∙ ap (λ r. lifted r >>= λ x. Ok (request.List x.0 x.1)) h
 
 pub update_read : (v : Verb) (ms : Members) (d : Draft) → v ≡ verb.Update → object_draft (get_member (codes "object") ms) ≡ Ok d → request_by v ms ≡ Ok (Update d)
 unfolding request_by

@@ -12,6 +12,7 @@ use Rattle.objects.specs.KeyOrder.{key_cmp_total}
 use Rattle.objects.specs.Status.{member_of, with_member}
 use Rattle.objects.proofs.BodyMembers.{member_of-with_member, member_of-with_other, member_of-without}
 use Rattle.plain.specs.declared.request.Request.{Request}
+use Rattle.plain.specs.declared.request.Request.TheVariants as request
 use Rattle.plain.specs.declared.request.Request.TheVariants.{Create, Get, Update, UpdateStatus, Delete}
 use Rattle.plain.specs.declared.reply.Reply.{Reply}
 use Rattle.plain.specs.declared.reply.Reply.TheVariants.{Refused, Updated}
@@ -42,6 +43,7 @@ dropped false body is = cc
 
 without_status : (n : ℕ) (r : Request) → Allows HasNoStatus Anything n r
 without_status n (Get k) = tt
+without_status n (request.List kind namespace) = tt
 without_status n (Create d) = dropped (has_status d.object.key.kind) d.object.body
 without_status n (Update d) = λ o. tt
 without_status n (UpdateStatus d) = λ o. tt
@@ -74,6 +76,7 @@ carried_over false value body has is = cc
 
 keeps_status : (n : ℕ) (r : Request) → ((d : Draft) → r ≢ UpdateStatus d) → ((d : Draft) → r ≡ Update d → HasMembers d.object.body) → Allows Any KeepsStatus n r
 keeps_status n (Get k) other has = tt
+keeps_status n (request.List kind namespace) other has = tt
 keeps_status n (Create d) other has = tt
 keeps_status n (Update d) other has = λ o. carried_over (has_status d.object.key.kind) (status o.body) d.object.body (has d refl)
 keeps_status n (UpdateStatus d) other has = absurd (other d refl)

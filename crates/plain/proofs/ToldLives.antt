@@ -20,7 +20,7 @@ use Rattle.plain.specs.Run.{replies}
 use Rattle.plain.specs.AtKey.{Has}
 use Rattle.plain.specs.Filed.{AreFiled}
 use Rattle.plain.specs.Lives.{Event, begins, changes, lasts, ends, events, events_of, is_of, AreLives, HasUidOf}
-use Rattle.plain.proofs.Verdicts.{Reads, gets, Replaces, Writes, by_verdict, tied}
+use Rattle.plain.proofs.Verdicts.{Reads, gets, lists, Replaces, Writes, by_verdict, tied}
 use Rattle.plain.proofs.KeptUids.{IsNew, IsNext, allowed, filed_after, filed_in_run}
 
 abbrev about : Key → List Event → List Event
@@ -68,6 +68,7 @@ found_tells q s k None filed there = λ later lives. lives
 found_tells q s k (Some o) filed there = lasts_tells q s k o filed there
 
 reads_tell : (q : Key) (s : Store) (reply : Reply) → AreFiled s.objects → Reads s reply → Tells q s (s, reply)
+reads_tell q s reply filed (lists kind namespace is) = subst (λ r. Tells q s (s, r)) (sym is) (λ later lives. lives)
 reads_tell q s reply filed (gets k is) = subst (λ r. Tells q s (s, r)) (sym is) (found_tells q s k (at s k) filed refl)
 
 -- what the map has at a key after an object is put there or taken away, by the key that the object has

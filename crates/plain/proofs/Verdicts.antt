@@ -10,21 +10,23 @@ use Rattle.std.proofs.lemmas.Option.{none-some, same_Some}
 use Rattle.objects.specs.declared.key.Key.{Key}
 use Rattle.objects.specs.declared.object.Draft.{Draft}
 use Rattle.objects.specs.declared.object.Object.{Object}
+use Rattle.objects.specs.declared.kind.Kind.{Kind}
 use Rattle.objects.specs.declared.kind.Kind.TheVariants.{Pod}
 use Rattle.objects.specs.Key.{key_cmp}
 use Rattle.objects.specs.KeyOrder.{key_cmp_total}
 use Rattle.objects.specs.Same.{same_data}
 use Rattle.plain.specs.declared.request.Request.{Request}
+use Rattle.plain.specs.declared.request.Request.TheVariants as request
 use Rattle.plain.specs.declared.request.Request.TheVariants.{Create, Get, Update, UpdateStatus, Delete}
 use Rattle.plain.specs.declared.reply.Reply.{Reply}
-use Rattle.plain.specs.declared.reply.Reply.TheVariants.{Refused}
+use Rattle.plain.specs.declared.reply.Reply.TheVariants.{Listed, Refused}
 use Rattle.plain.specs.declared.reply.Reason.TheVariants.{AlreadyExists, Conflict, Invalid, StoreFull}
 use Rattle.plain.specs.declared.verdict.Verdict.{Verdict}
 use Rattle.plain.specs.declared.verdict.Verdict.TheVariants.{Refuse, Same, Write}
 use Rattle.plain.specs.Change.{Change, creates, updates, marks, removes, at_version, stamp, accepted, kept}
 use Rattle.plain.specs.Verdict.{born, changes_data, conflicts, deleted, graceful, has_status, marked, on_create, on_delete, on_status, on_status_of, on_update, same_member, status_unless_same, unless_same, updated, with_status_of}
 use Rattle.std.specs.Prelude.{codes}
-use Rattle.plain.specs.Store.{Store, step, carried_out, put_at, found, with_change}
+use Rattle.plain.specs.Store.{Store, step, carried_out, collection, put_at, found, with_change}
 use Rattle.plain.specs.AtKey.{Has, HasNone}
 use Rattle.plain.proofs.Entries.{equal_from, exact_keys}
 
@@ -53,6 +55,7 @@ Writes C U n k current (Write (removes o)) = current ≡ Some o
 -- the changes that a request can come to have the facts
 abbrev pub Allows : OfMade → OfChanged → ℕ → Request → Type 0
 Allows C U n (Get k) = ⊤
+Allows C U n (request.List kind namespace) = ⊤
 Allows C U n (Create d) = C d.object.key (stamp (creates (born d.object)) n)
 Allows C U n (Update d) = (o : Object) → U d.object.key o (at_version (updated o d) n)
 Allows C U n (UpdateStatus d) = (o : Object) → U d.object.key o (at_version (with_status_of o d) n)
@@ -102,6 +105,7 @@ delete_writes C U n k uid version at (Some o) changed =
 -- a reply that says what is there and changes nothing
 pub data Reads (s : Store) (reply : Reply) : Type 0 where
   gets : (k : Key) → reply ≡ found (map.get s.objects k) → Reads s reply
+  lists : (kind : Kind) (namespace : List ℕ) → reply ≡ Listed (collection s.objects kind namespace) s.counter → Reads s reply
 
 -- What holds where a request reads, and of each verdict that is carried out, holds of each step.
 pub by_verdict : (C : OfMade) (U : OfChanged) (s : Store) (P : Store × Reply → Type 0)
@@ -110,6 +114,7 @@ pub by_verdict : (C : OfMade) (U : OfChanged) (s : Store) (P : Store × Reply �
     → (r : Request) → Allows C U (s.counter + 1) r → P (step s r)
 unfolding step
 by_verdict C U s P reads writes (Get k) allowed = reads (found (map.get s.objects k)) (gets k refl)
+by_verdict C U s P reads writes (request.List kind namespace) allowed = reads (Listed (collection s.objects kind namespace) s.counter) (lists kind namespace refl)
 by_verdict C U s P reads writes (Create d) allowed = writes d.object.key _ (create_writes C U (s.counter + 1) d (map.get s.objects d.object.key) allowed)
 by_verdict C U s P reads writes (Update d) allowed = writes d.object.key _ (update_writes C U (s.counter + 1) d (map.get s.objects d.object.key) allowed)
 by_verdict C U s P reads writes (UpdateStatus d) allowed = writes d.object.key _ (status_writes C U (s.counter + 1) d (map.get s.objects d.object.key) allowed)

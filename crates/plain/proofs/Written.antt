@@ -3,13 +3,13 @@ use Rattle.std.proofs.Common.{◌≡◌, ℕ, List, [], ◌∷◌, ◌++◌, cod
 use Rattle.json.specs.Token.{Token}
 use Rattle.json.specs.Token as tokens
 use Rattle.json.specs.Print.{print}
-use Rattle.json.specs.Tree.{json_tokens}
+use Rattle.json.specs.Tree.{json_tokens, items_tokens}
 use Rattle.serde_json.specs.Data.{Data}
-use Rattle.serde_json.specs.Written.{outline, compact_text}
+use Rattle.serde_json.specs.Written.{outline, items_outline, compact_text}
 use Rattle.serde_json.proofs.Texts.{print-outline}
 use Rattle.objects.specs.declared.object.Object.{Object}
 use Rattle.objects.specs.Text.{printed}
-use Rattle.plain.specs.Replies.{with_object, with_reason}
+use Rattle.plain.specs.Replies.{printed_items, with_items, with_object, with_reason}
 
 then : (a b c xs ys : List Token) → b ≡ a ++ xs → c ≡ b ++ ys → c ≡ a ++ (xs ++ ys)
 then a b c xs ys p q = q ∙ ap (λ ts. ts ++ ys) p ∙ append_assoc a xs ys
@@ -43,6 +43,24 @@ object_tokens a b c d e f g code o outcome pb pc pd pe pf pg =
     let upto = then a c d second (tokens.key (codes "object") ∷ []) (then a b c first (code_tokens code) pb pc) pd in
     then a d g third (fourth ++ (last ++ tokens.end_object ∷ [])) upto
     (then d e g fourth (last ++ tokens.end_object ∷ []) pe (then e f g last (tokens.end_object ∷ []) pf pg))
+
+-- the pieces of a reply that gives the objects of a list
+pub list_tokens : (a b c d e f g h i : List Token) (os : List Object) (revision : ℕ) (version : List ℕ)
+    → b ≡ a ++ tokens.begin_object ∷ [] → c ≡ b ++ code_tokens 200 → d ≡ c ++ tokens.key (codes "items") ∷ [] → e ≡ d ++ tokens.begin_array ∷ []
+    → f ≡ e ++ items_tokens (items_outline (printed_items os)) → version ≡ decimal revision → g ≡ f ++ text_tokens (codes "resourceVersion") version
+    → h ≡ g ++ text_tokens (codes "result") (codes "Listed") → i ≡ h ++ tokens.end_object ∷ [] → i ≡ a ++ json_tokens (outline (with_items os revision))
+list_tokens a b c d e f g h i os revision version pb pc pd pe pf is pg ph pi =
+    let first = tokens.begin_object ∷ [] in
+    let second = first ++ code_tokens 200 in
+    let third = second ++ tokens.key (codes "items") ∷ [] in
+    let front = third ++ tokens.begin_array ∷ [] in
+    let items = items_tokens (items_outline (printed_items os)) in
+    let revised = text_tokens (codes "resourceVersion") (decimal revision) in
+    let last = text_tokens (codes "result") (codes "Listed") in
+    let upto = then a d e third (tokens.begin_array ∷ []) (then a c d second (tokens.key (codes "items") ∷ []) (then a b c first (code_tokens 200) pb pc) pd) pe in
+    let dated = pg ∙ ap (λ t. f ++ text_tokens (codes "resourceVersion") t) is in
+    let after = then f h i (revised ++ last) (tokens.end_object ∷ []) (then f g h revised last dated ph) pi in
+    then a e i front (items ++ ((revised ++ last) ++ tokens.end_object ∷ [])) upto (then e f i items ((revised ++ last) ++ tokens.end_object ∷ []) pf after)
 
 -- the text of a value that was written after what stood before
 pub line_of : (before : List ℕ) (ts : List Token) (d : Data) (front : List ℕ) → front ≡ before → ts ≡ [] ++ json_tokens (outline d)

@@ -1,7 +1,7 @@
 -- The numbers that the replies of a run say were drawn.
 use Rattle.std.specs.Prelude.{◌≡◌, ◌<◌, ◌+◌, ℕ, List, [], ◌∷◌, Option, Some, None, ⊤}
 use Rattle.plain.specs.declared.reply.Reply.{Reply}
-use Rattle.plain.specs.declared.reply.Reply.TheVariants.{Created, Found, Updated, Unchanged, Marked, Removed, Refused}
+use Rattle.plain.specs.declared.reply.Reply.TheVariants.{Created, Found, Listed, Updated, Unchanged, Marked, Removed, Refused}
 
 -- the resource version of what the reply says was written or taken away
 abbrev pub version_drawn : Reply → Option ℕ
@@ -10,6 +10,7 @@ version_drawn (Updated o) = Some o.meta.revision
 version_drawn (Marked o) = Some o.meta.revision
 version_drawn (Removed o) = Some o.meta.revision
 version_drawn (Found o) = None
+version_drawn (Listed os revision) = None
 version_drawn (Unchanged o) = None
 version_drawn (Refused reason) = None
 
@@ -20,6 +21,7 @@ uid_given (Updated o) = None
 uid_given (Marked o) = None
 uid_given (Removed o) = None
 uid_given (Found o) = None
+uid_given (Listed os revision) = None
 uid_given (Unchanged o) = None
 uid_given (Refused reason) = None
 

@@ -3,6 +3,8 @@ pub mod Forms
 pub mod Verdict
 pub mod Store
 pub mod Filed
+pub mod Named
+pub mod LeastKey
 pub mod Run
 pub mod Reached
 pub mod Requests

@@ -6,7 +6,7 @@ use Rattle.objects.specs.declared.key.Key.{Key}
 use Rattle.objects.specs.declared.object.Object.{Object}
 use Rattle.objects.specs.Key.{key_cmp}
 use Rattle.plain.specs.declared.reply.Reply.{Reply}
-use Rattle.plain.specs.declared.reply.Reply.TheVariants.{Created, Found, Updated, Unchanged, Marked, Removed, Refused}
+use Rattle.plain.specs.declared.reply.Reply.TheVariants.{Created, Found, Listed, Updated, Unchanged, Marked, Removed, Refused}
 
 -- what is told of an object: that its life begins with it as it is here, that it is written anew or read, that it ends
 pub data Event : Type 0 where
@@ -23,6 +23,7 @@ events (Marked o) = changes o ∷ []
 events (Found o) = lasts o ∷ []
 events (Unchanged o) = lasts o ∷ []
 events (Removed o) = ends o ∷ []
+events (Listed os revision) = []
 events (Refused reason) = []
 
 abbrev pub is_of : Key → Event → Bool

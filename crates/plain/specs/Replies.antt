@@ -1,6 +1,6 @@
 -- The line of each reply: compact JSON with keys in byte order, and the HTTP status that the API would give.
-use Rattle.std.specs.Prelude.{ℕ, List, codes}
-use Rattle.serde_json.specs.Data.{Data, number, unsigned, string, object, no_members, member}
+use Rattle.std.specs.Prelude.{ℕ, List, [], ◌∷◌, codes, decimal}
+use Rattle.serde_json.specs.Data.{Data, number, unsigned, string, array, Items, no_items, item, object, no_members, member}
 use Rattle.objects.specs.declared.object.Object.{Object}
 use Rattle.objects.specs.declared.fault.ReadError.{ReadError}
 use Rattle.objects.specs.declared.fault.ReadError.TheVariants as read
@@ -8,7 +8,7 @@ use Rattle.objects.specs.Text.{printed}
 use Rattle.plain.specs.declared.reply.Reason.{Reason}
 use Rattle.plain.specs.declared.reply.Reason.TheVariants.{NotFound, AlreadyExists, Conflict, Invalid, StoreFull}
 use Rattle.plain.specs.declared.reply.Reply.{Reply}
-use Rattle.plain.specs.declared.reply.Reply.TheVariants.{Created, Found, Updated, Unchanged, Marked, Removed, Refused}
+use Rattle.plain.specs.declared.reply.Reply.TheVariants.{Created, Found, Listed, Updated, Unchanged, Marked, Removed, Refused}
 use Rattle.plain.specs.declared.request.RequestError.{RequestError}
 use Rattle.plain.specs.declared.request.RequestError.TheVariants as errors
 
@@ -52,9 +52,19 @@ with_object code o result =
 abbrev pub with_reason : ℕ → List ℕ → Data
 with_reason code reason = object (member (codes "code") (number (unsigned code)) (member (codes "reason") (string reason) no_members))
 
+abbrev pub printed_items : List Object → Items
+printed_items [] = no_items
+printed_items (o ∷ os) = item (printed o) (printed_items os)
+
+-- `{"code":200,"items":[O,..],"resourceVersion":"V","result":"Listed"}`
+abbrev pub with_items : List Object → ℕ → Data
+with_items os revision =
+    object (member (codes "code") (number (unsigned 200)) (member (codes "items") (array (printed_items os)) (member (codes "resourceVersion") (string (decimal revision)) (member (codes "result") (string (codes "Listed")) no_members))))
+
 abbrev pub reply_data : Reply → Data
 reply_data (Created o) = with_object 201 o (codes "Created")
 reply_data (Found o) = with_object 200 o (codes "Found")
+reply_data (Listed os revision) = with_items os revision
 reply_data (Updated o) = with_object 200 o (codes "Updated")
 reply_data (Unchanged o) = with_object 200 o (codes "Unchanged")
 reply_data (Marked o) = with_object 200 o (codes "Marked")

@@ -1,13 +1,14 @@
 -- The request that a line is, or the first refusal. The tests are made in this order: TooLong, NotJson, NotWhole,
--- NoVerb, UnknownVerb, those of the object or the key, and last BadField.
+-- NoVerb, UnknownVerb, those of the object, the key or the collection, and last BadField.
 use Rattle.std.specs.Prelude.{◌≡◌, ℕ, List, codes, bytes_eq, Option, Some, None, option_and_then, Result, Ok, Err, if◌then◌else◌, ⊤}
 use Rattle.serde_json.specs.Data.{Data, null, boolean, number, string, array, object, Members}
 use Rattle.serde_json.specs.Find.{as_object, as_str, get_member}
 use Rattle.objects.specs.declared.fault.ReadError.{ReadError}
 use Rattle.objects.specs.declared.fault.ReadError.TheVariants as read
 use Rattle.objects.specs.declared.object.Draft.{Draft}
-use Rattle.objects.specs.Reading.{reading_of_data, draft_of, key_in, unless_empty}
+use Rattle.objects.specs.Reading.{reading_of_data, draft_of, key_in, collection_in, unless_empty}
 use Rattle.plain.specs.declared.request.Request.{Request}
+use Rattle.plain.specs.declared.request.Request.TheVariants as request
 use Rattle.plain.specs.declared.request.Request.TheVariants.{Create, Get, Update, UpdateStatus, Delete}
 use Rattle.plain.specs.declared.request.RequestError.{RequestError}
 use Rattle.plain.specs.declared.request.RequestError.TheVariants as errors
@@ -54,6 +55,7 @@ unfoldable pub verb_request : List ℕ → Members → Result Request RequestErr
 verb_request verb ms =
     if bytes_eq verb (codes "create") then (lifted (object_draft (get_member (codes "object") ms)) >>= λ d. Ok (Create d))
     else if bytes_eq verb (codes "get") then (lifted (key_in ms) >>= λ k. Ok (Get k))
+    else if bytes_eq verb (codes "list") then (lifted (collection_in ms) >>= λ c. Ok (request.List c.0 c.1))
     else if bytes_eq verb (codes "update") then (lifted (object_draft (get_member (codes "object") ms)) >>= λ d. Ok (Update d))
     else if bytes_eq verb (codes "status") then (lifted (object_draft (get_member (codes "object") ms)) >>= λ d. Ok (UpdateStatus d))
     else if bytes_eq verb (codes "delete") then deletion_in ms

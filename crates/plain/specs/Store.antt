@@ -1,16 +1,18 @@
 -- The plain store: a map from keys to objects, a counter and a capacity. It takes one whole request at a time.
-use Rattle.std.specs.Prelude.{ℕ, ◌+◌, ◌==◌, Option, Some, None, refl, if◌then◌else◌}
+use Rattle.std.specs.Prelude.{ℕ, ◌+◌, ◌==◌, Bool, ◌&&◌, List, bytes_eq, Option, Some, None, refl, if◌then◌else◌}
 use Rattle.std.specs.Coded.{Coded, code_by, coded×, coded_ℕ}
 use Rattle.std.specs.FinMap as map
 use Rattle.std.specs.FinMap.{FinMap}
 use Rattle.objects.specs.declared.key.Key.{Key}
+use Rattle.objects.specs.declared.kind.Kind.{Kind}
 use Rattle.objects.specs.declared.object.Object.{Object}
-use Rattle.objects.specs.Key.{key_cmp, key_coded}
+use Rattle.objects.specs.Key.{key_cmp, key_coded, kind_index}
 use Rattle.objects.specs.Object.{object_coded}
 use Rattle.plain.specs.declared.request.Request.{Request}
+use Rattle.plain.specs.declared.request.Request.TheVariants as request
 use Rattle.plain.specs.declared.request.Request.TheVariants.{Create, Get, Update, UpdateStatus, Delete}
 use Rattle.plain.specs.declared.reply.Reply.{Reply}
-use Rattle.plain.specs.declared.reply.Reply.TheVariants.{Found, Unchanged, Refused}
+use Rattle.plain.specs.declared.reply.Reply.TheVariants.{Found, Listed, Unchanged, Refused}
 use Rattle.plain.specs.declared.reply.Reason.TheVariants.{NotFound, StoreFull}
 use Rattle.plain.specs.declared.verdict.Verdict.{Verdict}
 use Rattle.plain.specs.declared.verdict.Verdict.TheVariants.{Refuse, Same, Write}
@@ -40,6 +42,14 @@ abbrev pub found : Option Object → Reply
 found None = Refused NotFound
 found (Some o) = Found o
 
+-- the key is of the kind and in the namespace
+abbrev pub is_of : Kind → List ℕ → Key → Bool
+is_of kind namespace k = kind_index k.kind == kind_index kind && bytes_eq k.namespace namespace
+
+-- the objects of a kind in a namespace, in the map's order: that of the bytes of their names
+abbrev pub collection : FinMap key_cmp Object → Kind → List ℕ → List Object
+collection m kind namespace = map.values (map.retain_keys m (is_of kind namespace))
+
 -- the store with a change made at the next number
 abbrev pub with_change : Store → Key → Change → Store
 with_change s k c = let n = s.counter + 1 in record { objects = put_at s.objects k (kept c n); counter = n; capacity = s.capacity }
@@ -57,6 +67,7 @@ written s k r = carried_out s k (verdict r (map.get s.objects k))
 -- one whole request: what the store is then, and the reply
 unfoldable pub step : Store → Request → Store × Reply
 step s (Get k) = (s, found (map.get s.objects k))
+step s (request.List kind namespace) = (s, Listed (collection s.objects kind namespace) s.counter)
 step s (Create d) = written s d.object.key (Create d)
 step s (Update d) = written s d.object.key (Update d)
 step s (UpdateStatus d) = written s d.object.key (UpdateStatus d)

@@ -2,8 +2,9 @@
 use Rattle.std.specs.Prelude.{ℕ, List, codes, bytes_eq, Option, Some, None, option_and_then, Result, Ok, if◌then◌else◌}
 use Rattle.serde_json.specs.Data.{Members}
 use Rattle.serde_json.specs.Find.{as_str, get_member}
-use Rattle.objects.specs.Reading.{key_in}
+use Rattle.objects.specs.Reading.{key_in, collection_in}
 use Rattle.plain.specs.declared.request.Request.{Request}
+use Rattle.plain.specs.declared.request.Request.TheVariants as request
 use Rattle.plain.specs.declared.request.Request.TheVariants.{Create, Get, Update, UpdateStatus}
 use Rattle.plain.specs.declared.request.RequestError.{RequestError}
 use Rattle.plain.specs.declared.request.RequestError.TheVariants as errors
@@ -16,6 +17,7 @@ abbrev pub verb_named : List ℕ → Option Verb
 verb_named s =
     if bytes_eq s (codes "create") then Some verb.Create
     else if bytes_eq s (codes "get") then Some verb.Get
+    else if bytes_eq s (codes "list") then Some verb.List
     else if bytes_eq s (codes "update") then Some verb.Update
     else if bytes_eq s (codes "status") then Some verb.Status
     else if bytes_eq s (codes "delete") then Some verb.Delete
@@ -29,6 +31,7 @@ verb_in ms = do
 unfoldable pub request_by : Verb → Members → Result Request RequestError
 request_by verb.Create ms = lifted (object_draft (get_member (codes "object") ms)) >>= λ d. Ok (Create d)
 request_by verb.Get ms = lifted (key_in ms) >>= λ k. Ok (Get k)
+request_by verb.List ms = lifted (collection_in ms) >>= λ c. Ok (request.List c.0 c.1)
 request_by verb.Update ms = lifted (object_draft (get_member (codes "object") ms)) >>= λ d. Ok (Update d)
 request_by verb.Status ms = lifted (object_draft (get_member (codes "object") ms)) >>= λ d. Ok (UpdateStatus d)
 request_by verb.Delete ms = deletion_in ms

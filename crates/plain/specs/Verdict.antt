@@ -12,6 +12,7 @@ use Rattle.objects.specs.Status.{member_of, with_member}
 use Rattle.objects.specs.Uid.{uid_text}
 use Rattle.plain.specs.declared.reply.Reason.TheVariants.{NotFound, AlreadyExists, Conflict, Invalid}
 use Rattle.plain.specs.declared.request.Request.{Request}
+use Rattle.plain.specs.declared.request.Request.TheVariants as request
 use Rattle.plain.specs.declared.request.Request.TheVariants.{Create, Get, Update, UpdateStatus, Delete}
 use Rattle.plain.specs.declared.verdict.Verdict.{Verdict}
 use Rattle.plain.specs.declared.verdict.Verdict.TheVariants.{Refuse, Same, Write}
@@ -133,6 +134,7 @@ on_delete version uid at (Some o) = if conflicts version uid o then Refuse Confl
 abbrev pub is_write : Request → Bool
 is_write (Create d) = true
 is_write (Get k) = false
+is_write (request.List kind namespace) = false
 is_write (Update d) = true
 is_write (UpdateStatus d) = true
 is_write (Delete k uid version at) = true
@@ -141,6 +143,7 @@ is_write (Delete k uid version at) = true
 abbrev pub verdict : Request → Option Object → Verdict
 verdict (Create d) current = on_create d current
 verdict (Get k) current = Refuse Invalid
+verdict (request.List kind namespace) current = Refuse Invalid
 verdict (Update d) current = on_update d current
 verdict (UpdateStatus d) current = on_status d current
 verdict (Delete k uid version at) current = on_delete version uid at current

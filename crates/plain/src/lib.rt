@@ -12,6 +12,9 @@ mod failures;
 mod form;
 mod lifetimes;
 mod line;
+mod listing;
+#[cfg(test)]
+mod listing_tests;
 mod outcomes;
 mod preconditions;
 mod reply;
@@ -44,11 +47,13 @@ pub use devices::{ReadSource, WriteSink};
 pub use lifetimes::{
     names_live_once, objects_stand_under_their_keys, uids_name_one_key, uids_stay,
 };
+pub use listing::Listing;
 pub use reply::{Reason, Reply};
 pub use request::{Request, RequestError, read_request};
 pub use runs::{
     deletes_spare_other_uids, lines_are_one_run, only_writes_change_the_store,
-    requests_touch_one_key, runs_go_on, uids_are_given_once, versions_rise_by_one,
+    reads_change_nothing, requests_touch_one_key, runs_go_on, uids_are_given_once,
+    versions_rise_by_one,
 };
 pub use server::{ServeFault, serve};
 pub use slices::SliceSource;

@@ -2,8 +2,11 @@ ghost use Rattle.std.specs.Prelude.{◌≡◌, ◌++◌, ◌∷◌, [], codes, d
 ghost use Rattle.json.specs.Token as tokens;
 ghost use Rattle.json.specs.Tree.{json_tokens};
 ghost use Rattle.serde_json.specs.Written.{outline};
-ghost use Rattle.plain.specs.Replies.{reason_code, reason_name, with_object, with_reason, reply_data};
+ghost use Rattle.serde_json.specs.Written.{items_outline};
+ghost use Rattle.json.specs.Tree.{items_tokens};
+ghost use Rattle.plain.specs.Replies.{reason_code, reason_name, printed_items, with_items, with_object, with_reason, reply_data};
 
+use crate::listing::Listing;
 use json::Writer;
 use objects::{Object, write_object};
 use std::alloc::AllocError;
@@ -57,6 +60,9 @@ pub enum Reply {
     Created(Object),
     /// 200: the object as it is.
     Found(Object),
+    /// 200: the objects of the kind in the namespace, in byte order of their names, and the resource version of the
+    /// store: that of its last write, 0 where there was none.
+    Listed { objects: Listing, revision: u64 },
     /// 200: the object as the update left it.
     Updated(Object),
     /// 200: the object as it is, which the request would not have changed.
@@ -76,6 +82,9 @@ pub(crate) fn write_reply(reply: &Reply, out: &mut Writer) -> Result<(), AllocEr
     match reply {
         Reply::Created(object) => write_with_object(201, object, "Created", out),
         Reply::Found(object) => write_with_object(200, object, "Found", out),
+        Reply::Listed { objects, revision } => {
+            write_with_items(objects.as_slice(), *revision, out)
+        }
         Reply::Updated(object) => write_with_object(200, object, "Updated", out),
         Reply::Unchanged(object) => write_with_object(200, object, "Unchanged", out),
         Reply::Marked(object) => write_with_object(200, object, "Marked", out),
@@ -99,6 +108,32 @@ fn write_with_object(
     write_object(object, out)?;
     write_text("result", outcome, out)?;
     out.end_object()
+}
+
+fn write_with_items(objects: &[Object], revision: u64, out: &mut Writer) -> Result<(), AllocError>
+    ensures tokens { OnOk result (out.new.tokens ≡ out.old.tokens ++ json_tokens (outline (with_items objects.now revision))) }
+    ensures before { out.new.before ≡ out.old.before }
+{
+    let mut buffer = itoa::Buffer::new();
+    out.begin_object()?;
+    write_code(200, out)?;
+    out.key("items")?;
+    out.begin_array()?;
+    write_items(objects, out)?;
+    write_text("resourceVersion", buffer.format(revision), out)?;
+    write_text("result", "Listed", out)?;
+    out.end_object()
+}
+
+// With the closing bracket.
+fn write_items(objects: &[Object], out: &mut Writer) -> Result<(), AllocError>
+    ensures tokens { OnOk result (out.new.tokens ≡ out.old.tokens ++ items_tokens (items_outline (printed_items objects.now))) }
+    ensures before { out.new.before ≡ out.old.before }
+{
+    for object in objects {
+        write_object(object, out)?;
+    }
+    out.end_array()
 }
 
 /// Writes the tokens of a reply that says why there is no object.

@@ -10,7 +10,10 @@ ghost use Rattle.plain.specs.Keys.{key_named};
 ghost use Rattle.plain.specs.Verdict.{is_write};
 ghost use Rattle.plain.specs.Verbs.{verb_named, verb_in, request_by};
 
-use objects::{Draft, Key, Members, ReadError, Text, Tree, read_draft, read_key, read_tree};
+use objects::{
+    Draft, Key, Kind, Members, Object, ReadError, Text, Tree, read_collection, read_draft,
+    read_key, read_tree,
+};
 use std::alloc::{AllocError, Global};
 use thiserror::Error;
 
@@ -19,6 +22,12 @@ use thiserror::Error;
 pub enum Request {
     Create(Draft),
     Get(Key),
+    /// Reads the objects of one kind in one namespace (Kubernetes API concepts, resource collections). The namespace is
+    /// a DNS label; no object is in another.
+    List {
+        kind: Kind,
+        namespace: Text,
+    },
     Update(Draft),
     /// Writes the `status` of the draft's object, and nothing else.
     UpdateStatus(Draft),
@@ -41,22 +50,47 @@ impl Request {
             Request::Create(_)
             | Request::Update(_)
             | Request::UpdateStatus(_)
-            | Request::Delete { .. } => true,
-            Request::Get(_) => false,
+            | Request::Delete {
+                key: _,
+                uid: _,
+                version: _,
+                at: _,
+            } => true,
+            Request::Get(_)
+            | Request::List {
+                kind: _,
+                namespace: _,
+            } => false,
         }
     }
 
-    /// The key that the request names.
-    pub fn key(&self) -> &Key
-        ensures { result.now ≡ key_named self.now }
+    /// The key that the request names; a list names none.
+    pub fn key(&self) -> Option<&Key>
+        ensures { option_map (λ key. key.now) result ≡ key_named self.now }
     {
         match self {
             Request::Create(draft) | Request::Update(draft) | Request::UpdateStatus(draft) => {
-                &draft.object.key
+                Some(key_of(&draft.object))
             }
-            Request::Get(key) | Request::Delete { key, .. } => key,
+            Request::Get(key)
+            | Request::Delete {
+                key,
+                uid: _,
+                version: _,
+                at: _,
+            } => Some(key),
+            Request::List {
+                kind: _,
+                namespace: _,
+            } => None,
         }
     }
+}
+
+fn key_of(object: &Object) -> &Key
+    ensures { result.now ≡ object.now.key }
+{
+    &object.key
 }
 
 impl Clone for Request {
@@ -66,6 +100,10 @@ impl Clone for Request {
         match self {
             Request::Create(draft) => Ok(Request::Create(draft.clone()?)),
             Request::Get(key) => Ok(Request::Get(key.clone()?)),
+            Request::List { kind, namespace } => Ok(Request::List {
+                kind: *kind,
+                namespace: namespace.clone()?,
+            }),
             Request::Update(draft) => Ok(Request::Update(draft.clone()?)),
             Request::UpdateStatus(draft) => Ok(Request::UpdateStatus(draft.clone()?)),
             Request::Delete {
@@ -150,6 +188,7 @@ fn read_error_name(error: ReadError) -> &'static str
 enum Verb {
     Create,
     Get,
+    List,
     Update,
     Status,
     Delete,
@@ -163,6 +202,8 @@ impl Verb {
             Some(Verb::Create)
         } else if name == "get" {
             Some(Verb::Get)
+        } else if name == "list" {
+            Some(Verb::List)
         } else if name == "update" {
             Some(Verb::Update)
         } else if name == "status" {
@@ -207,6 +248,10 @@ fn request_by(alloc: Global, verb: Verb, members: Members) -> Result<Request, Re
     match verb {
         Verb::Create => Ok(Request::Create(draft_in(alloc, members)?)),
         Verb::Get => Ok(Request::Get(read_key(alloc, &members)?)),
+        Verb::List => {
+            let (kind, namespace) = read_collection(alloc, &members)?;
+            Ok(Request::List { kind, namespace })
+        }
         Verb::Update => Ok(Request::Update(draft_in(alloc, members)?)),
         Verb::Status => Ok(Request::UpdateStatus(draft_in(alloc, members)?)),
         Verb::Delete => deletion_in(alloc, &members),

@@ -6,7 +6,7 @@ use std::process::Abort;
 use std::test::Fail;
 
 /// Lines that are no request, each with the first refusal that fits.
-static REFUSED: [(&str, RequestError); 36] = [
+static REFUSED: [(&str, RequestError); 44] = [
     ("", RequestError::Read(ReadError::NotJson)),
     ("{", RequestError::Read(ReadError::NotJson)),
     (
@@ -98,6 +98,33 @@ static REFUSED: [(&str, RequestError); 36] = [
         r#"{"do":"get","kind":"StatefulSet","name":"a.b"}"#,
         RequestError::Read(ReadError::BadName),
     ),
+    // The kind and the namespace of a list.
+    (
+        r#"{"do":"list","kind":"Node","n":1.5}"#,
+        RequestError::Read(ReadError::NotWhole),
+    ),
+    (r#"{"do":"List","kind":"Pod"}"#, RequestError::UnknownVerb),
+    (r#"{"do":"list"}"#, RequestError::Read(ReadError::NoKind)),
+    (
+        r#"{"do":"list","kind":5,"namespace":5}"#,
+        RequestError::Read(ReadError::NoKind),
+    ),
+    (
+        r#"{"do":"list","kind":"Node","namespace":"X"}"#,
+        RequestError::Read(ReadError::UnknownKind),
+    ),
+    (
+        r#"{"do":"list","kind":"Pod","namespace":"X"}"#,
+        RequestError::Read(ReadError::BadName),
+    ),
+    (
+        r#"{"do":"list","kind":"Pod","namespace":"a.b"}"#,
+        RequestError::Read(ReadError::BadName),
+    ),
+    (
+        r#"{"do":"list","kind":"Pod","namespace":5}"#,
+        RequestError::Read(ReadError::BadName),
+    ),
     // A deletion: the key first, and then each field that is no text.
     (
         r#"{"do":"delete","object":{"kind":"Pod","metadata":{"name":"x"}}}"#,
@@ -163,6 +190,16 @@ fn lines_that_are_requests(rt: HostRuntime) -> Result<(), Fail> {
             assert_eq!(rt; key.name.as_str(), "a.b");
         }
         _ => panic!(rt; "no get"),
+    }
+    match read_request(
+        rt.alloc(),
+        br#"{"name":5,"namespace":"n","kind":"StatefulSet","do":"list"}"#,
+    )? {
+        Request::List { kind, namespace } => {
+            assert_eq!(rt; kind, Kind::StatefulSet);
+            assert_eq!(rt; namespace.as_str(), "n");
+        }
+        _ => panic!(rt; "no list"),
     }
     match read_request(
         rt.alloc(),
@@ -256,6 +293,10 @@ fn outcome(reply: &Reply) -> &'static str {
     match reply {
         Reply::Created(_) => "Created",
         Reply::Found(_) => "Found",
+        Reply::Listed {
+            objects: _,
+            revision: _,
+        } => "Listed",
         Reply::Updated(_) => "Updated",
         Reply::Unchanged(_) => "Unchanged",
         Reply::Marked(_) => "Marked",
@@ -272,7 +313,11 @@ fn object_in(reply: &Reply) -> Option<&Object> {
         | Reply::Unchanged(object)
         | Reply::Marked(object)
         | Reply::Removed(object) => Some(object),
-        Reply::Refused(_) => None,
+        Reply::Listed {
+            objects: _,
+            revision: _,
+        }
+        | Reply::Refused(_) => None,
     }
 }
 

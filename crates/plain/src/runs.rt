@@ -1,10 +1,11 @@
 ghost use Rattle.std.specs.Prelude.{◌≡◌, ◌+◌, ℕ, List, ◌++◌, bytes_eq, false, length, map as list_map, Option, Some, None};
 ghost use Rattle.std.specs.FinMap as map;
 ghost use Rattle.objects.specs.declared.key.Key.{Key};
+ghost use Rattle.objects.specs.declared.kind.Kind.{Kind};
 ghost use Rattle.objects.specs.declared.object.Object.{Object};
 ghost use Rattle.objects.specs.Uid.{uid_text};
 ghost use Rattle.plain.specs.declared.request.Request.{Request};
-ghost use Rattle.plain.specs.declared.request.Request.TheVariants.{Delete};
+ghost use Rattle.plain.specs.declared.request.Request.TheVariants.{Delete, Get, List as ListRequest};
 ghost use Rattle.plain.specs.declared.reply.Reply.TheVariants.{Refused};
 ghost use Rattle.plain.specs.declared.reply.Reason.TheVariants.{Conflict};
 ghost use Rattle.plain.specs.Keys.{key_named};
@@ -45,9 +46,15 @@ pub fn only_writes_change_the_store()
     ensures { (s : Store) (request : Request) → version_drawn (step s request).1 ≡ None → (step s request).0 ≡ s }
 {}
 
-/// A request leaves the objects of all keys as they were but the one that it names.
+/// A get and a list leave the store as it was.
+pub fn reads_change_nothing()
+    ensures get { (s : Store) (key : Key) → (step s (Get key)).0 ≡ s }
+    ensures list { (s : Store) (kind : Kind) (namespace : List ℕ) → (step s (ListRequest kind namespace)).0 ≡ s }
+{}
+
+/// A request leaves the objects of all keys as they were but the one that it names. A list names none.
 pub fn requests_touch_one_key()
-    ensures { (s : Store) (request : Request) (key : Key) → (key ≡ key_named request → ⊥)
+    ensures { (s : Store) (request : Request) (key : Key) → (Some key ≡ key_named request → ⊥)
         → map.get (step s request).0.objects key ≡ map.get s.objects key }
 {}
 

@@ -72,7 +72,12 @@ static LINES: [(&str, &str); 15] = [
     ),
 ];
 
-fn joined(alloc: Global, lines: &[(&str, &str)], replies: bool) -> Result<String, AllocError> {
+/// The request lines, or the reply lines, each with its line feed.
+pub(crate) fn joined(
+    alloc: Global,
+    lines: &[(&str, &str)],
+    replies: bool,
+) -> Result<String, AllocError> {
     let mut text = String::new(alloc);
     for (line, reply) in lines {
         text.push_str(if replies { reply } else { line })?;

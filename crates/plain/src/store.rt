@@ -2,9 +2,10 @@ ghost use Rattle.std.specs.Prelude.{◌≡◌, ◌≢◌, ◌≤◌, ◌<◌, �
 ghost use Rattle.std.specs.FinMap as map;
 ghost use Rattle.std.specs.Option.{option_copied};
 ghost use Rattle.plain.specs.Reached.{IsReached};
-ghost use Rattle.plain.specs.Store.{carried_out, found, opening, put_at, step};
+ghost use Rattle.plain.specs.Store.{carried_out, collection, found, opening, put_at, step};
 ghost use Rattle.plain.specs.Change.{change_object};
 ghost use Rattle.plain.specs.Verdict.{is_write};
+ghost use Rattle.plain.specs.declared.reply.Reply.TheVariants.{Listed};
 ghost use Rattle.plain.specs.declared.verdict.Verdict.TheVariants.{Write};
 
 use crate::change::Change;
@@ -13,7 +14,8 @@ use crate::request::Request;
 use crate::table::judge;
 use crate::verdict::Verdict;
 use crate::version::Version;
-use objects::{Key, Memory, Object};
+use crate::listing::listing_of;
+use objects::{Key, Kind, Memory, Object, Text};
 use std::alloc::{AllocError, Global};
 use std::collections::BTreeMap;
 use std::marker::Model;
@@ -35,6 +37,7 @@ pub struct Plain {
     objects: BTreeMap<Key, Object>,
     counter: u64,
     capacity: u64,
+    alloc: Global,
 }
 
 impl Model for Plain {
@@ -42,6 +45,7 @@ impl Model for Plain {
     ghost use Rattle.std.specs.FinMap as map;
     ghost use Rattle.plain.specs.Store.{Store, store_coded};
     ghost use Rattle.plain.specs.Filed.{AreFiled};
+    ghost use Rattle.plain.specs.Named.{AreNamed};
     ghost use Rattle.plain.specs.Reached.{IsReached};
     ghost use Rattle.plain.specs.declared.store.TheConstants.{MOST_REVISIONS};
 
@@ -52,6 +56,7 @@ impl Model for Plain {
     ghost view = { λ p. record { objects = map.from_entries p.objects.entries; counter = p.counter; capacity = p.capacity } };
 
     ghost invariant = { λ p. (p.counter ≤ p.capacity) × (p.capacity ≤ MOST_REVISIONS) × AreFiled (map.from_entries p.objects.entries)
+        × AreNamed (map.from_entries p.objects.entries)
         × IsReached (record { objects = map.from_entries p.objects.entries; counter = p.counter; capacity = p.capacity }) };
 }
 
@@ -68,6 +73,7 @@ impl Plain {
             objects: BTreeMap::new(alloc),
             counter: 0,
             capacity,
+            alloc,
         })
     }
 
@@ -80,6 +86,7 @@ impl Plain {
         let _ = &self.objects;
         match &request {
             Request::Get(key) => self.get(key),
+            Request::List { kind, namespace } => self.list(*kind, namespace),
             Request::Create(_)
             | Request::Update(_)
             | Request::UpdateStatus(_)
@@ -104,6 +111,15 @@ impl Plain {
         }
     }
 
+    fn list(&self, kind: Kind, namespace: &Text) -> Result<Reply, Memory>
+        ensures { IfOk result (λ reply. reply ≡ Listed (collection self.now.objects kind namespace.now) self.now.counter) }
+    {
+        Ok(Reply::Listed {
+            objects: listing_of(self.alloc, &self.objects, kind, namespace)?,
+            revision: self.counter,
+        })
+    }
+
     /// Takes a write request, which goes by its verdict.
     fn write(&mut self, request: Request) -> Result<Reply, Memory>
         requires { is_write request ≡ true }
@@ -111,7 +127,10 @@ impl Plain {
         ensures memory { OnErr result (self.new ≡ self.old) }
     {
         let _ = &self.objects;
-        match judge(self.find(request.key()), request)? {
+        let Some(key) = request.key() else {
+            unreachable!();
+        };
+        match judge(self.find(key), request)? {
             Verdict::Refuse(reason) => Ok(Reply::Refused(reason)),
             Verdict::Same(object) => Ok(Reply::Unchanged(object)),
             Verdict::Write(change) => self.carry_out(change),
@@ -157,6 +176,8 @@ impl Plain {
         ensures put { OnOk result (self.new ≡ record { objects = map.insert self.old.objects key object; counter = self.old.counter + 1; capacity = self.old.capacity }) }
         ensures memory { OnErr result (self.new ≡ self.old) }
     {
+        // A key that is looked into is known to follow the rules of names.
+        let _ = &key.kind;
         self.objects.insert(key, object)?;
         self.counter += 1;
         Ok(())

@@ -33,7 +33,11 @@ pub(crate) fn judge(current: Option<&Object>, request: Request) -> Result<Verdic
 {
     match request {
         Request::Create(draft) => on_create(draft, current),
-        Request::Get(_) => unreachable!(),
+        Request::Get(_)
+        | Request::List {
+            kind: _,
+            namespace: _,
+        } => unreachable!(),
         Request::Update(draft) => on_update(draft, current),
         Request::UpdateStatus(draft) => on_status(&draft, current),
         Request::Delete {

@@ -1,5 +1,5 @@
 use Rattle.std.proofs.lemmas.Result.{err_from_is_err_and}
-use Rattle.plain.proofs.Readings.{create_refused, get_refused, update_refused, create_read, get_read, update_read, status_refused, status_read, delete_at}
+use Rattle.plain.proofs.Readings.{create_refused, get_refused, update_refused, create_read, get_read, update_read, status_refused, status_read, delete_at, list_refused, list_read}
 use Rattle.plain.proofs.request.request_by.Goals as goal
 
 pub returns-in_err-draft_in-in-Create : goal.returns-in_err-draft_in-in-Create
@@ -36,3 +36,11 @@ returns-in_err-draft_in-in-Status c =
 
 pub returns-in_ok-draft_in-in-Status : goal.returns-in_ok-draft_in-in-Status
 returns-in_ok-draft_in-in-Status c = status_read c.args.verb c.args.members _ c.in-Status.is c.in_ok-draft_in-in-Status.ensures
+
+pub returns-in_err-kind-in-List : goal.returns-in_err-kind-in-List
+returns-in_err-kind-in-List c =
+    let p = err_from_is_err_and c.from_residual-in_err-kind-in-List.result c.from_residual-in_err-kind-in-List.ensures.1 in
+    list_refused c.args.verb c.args.members _ p.0 _ c.in-List.is p.1 p.2 c.in_err-kind-in-List.ensures
+
+pub returns-in_ok-kind-in-List : goal.returns-in_ok-kind-in-List
+returns-in_ok-kind-in-List c = list_read c.args.verb c.args.members (c.in_ok-kind-in-List.kind, c.in_ok-kind-in-List.namespace) c.in-List.is c.in_ok-kind-in-List.ensures

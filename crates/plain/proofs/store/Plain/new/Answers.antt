@@ -3,6 +3,7 @@ use Rattle.std.specs.FinMap.{from_entries}
 use Rattle.objects.specs.declared.key.Key.{Key}
 use Rattle.objects.specs.declared.object.Object.{Object}
 use Rattle.plain.proofs.Entries.{empty_filed}
+use Rattle.plain.proofs.NamedKeys.{empty_named}
 use Rattle.plain.proofs.store.Plain.new.Goals as goal
 
 pub invariant_of-result : goal.invariant_of-result
@@ -10,6 +11,7 @@ invariant_of-result c = (
   omega arith,
   omega arith,
   empty_filed c.new.result.entries c.new.ensures.empty,
+  empty_named c.new.result.entries c.new.ensures.empty,
   record {
     capacity = c.args.capacity;
     requests = [];

@@ -1,6 +1,7 @@
 use Rattle.std.proofs.Common.{ap, arith}
 use Rattle.plain.specs.Store.{Store}
 use Rattle.plain.proofs.Entries.{one_drawn_away, left_filed}
+use Rattle.plain.proofs.NamedKeys.{left_named}
 use Rattle.plain.proofs.ReachedStates.{still_reached}
 use Rattle.plain.proofs.store.Plain.remove.Goals as goal
 
@@ -11,6 +12,7 @@ invariant_of-self c =
       omega (arith, counter, capacity),
       c.self.invariant.1,
       left_filed c.self.inside.objects.entries c.remove.new.self.entries c.args.key.now c.remove.ensures.updates.0 c.self.invariant.2,
+      left_named c.self.inside.objects.entries c.remove.new.self.entries c.args.key.now c.remove.ensures.updates.0 c.self.invariant.3,
       still_reached _ _ (one_drawn_away c.self.inside.objects.entries c.remove.new.self.entries _ _ c.args.key.now c.args.self.now c.self.view_is c.remove.ensures.updates.0) c.requires.reached,
     )
 

@@ -1,0 +1,82 @@
+// The objects of a list.
+ghost use Rattle.std.specs.Prelude.{◌≡◌, IfOk, option_map};
+ghost use Rattle.std.specs.FinMap as map;
+ghost use Rattle.objects.specs.Key.{key_cmp, key_parts, is_key};
+ghost use Rattle.plain.specs.Named.{AreNamed};
+ghost use Rattle.plain.specs.LeastKey.{least_key};
+ghost use Rattle.plain.specs.Store.{is_of, collection};
+
+use objects::{Key, Kind, Memory, Object, ReadError, Text};
+use std::alloc::Global;
+use std::collections::BTreeMap;
+use std::marker::Model;
+
+/// The objects of one kind in one namespace, in byte order of their names.
+#[derive(Debug, Drop)]
+pub struct Listing {
+    objects: Vec<Object>,
+}
+
+impl Model for Listing {
+    ghost use Rattle.std.specs.Prelude.{List};
+    ghost use Rattle.std.specs.Coded.{coded_list};
+    ghost use Rattle.objects.specs.declared.object.Object.{Object};
+    ghost use Rattle.objects.specs.Object.{object_coded};
+
+    ghost Value = { List Object };
+
+    ghost coded = { coded_list object_coded };
+
+    ghost view = { λ l. l.objects.items };
+}
+
+impl Listing {
+    /// The objects, in byte order of their names.
+    pub fn as_slice(&self) -> &[Object]
+        ensures { result.now ≡ self.now }
+    {
+        self.objects.as_slice()
+    }
+}
+
+/// The objects of a kind in a namespace, which share what their bodies hold with those of the map. No other object is
+/// looked at but the one behind the last.
+pub(crate) fn listing_of(
+    alloc: Global,
+    objects: &BTreeMap<Key, Object>,
+    kind: Kind,
+    namespace: &Text,
+) -> Result<Listing, Memory>
+    requires { AreNamed (map.from_entries objects.now.entries) }
+    ensures { IfOk result (λ listing. listing ≡ collection (map.from_entries objects.now.entries) kind namespace.now) }
+{
+    let mut found = Vec::new(alloc);
+    let Some(least) = least_key(alloc, kind, namespace)? else {
+        return Ok(Listing { objects: found });
+    };
+    for (key, object) in objects.range(least..) {
+        if !is_of(key, kind, namespace) {
+            break;
+        }
+        found.push(object.clone()?)?;
+    }
+    Ok(Listing { objects: found })
+}
+
+// A key that no key of the kind and the namespace is below; there is none where no object can be in the namespace.
+fn least_key(alloc: Global, kind: Kind, namespace: &Text) -> Result<Option<Key>, Memory>
+    ensures { IfOk result (λ key. key ≡ least_key kind namespace.now) }
+{
+    // A name begins with a letter or a digit, so none is below "0".
+    match Key::of(alloc, kind, namespace.as_str(), "0") {
+        Ok(key) => Ok(Some(key)),
+        Err(ReadError::BadName) => Ok(None),
+        Err(_) => Err(Memory),
+    }
+}
+
+fn is_of(key: &Key, kind: Kind, namespace: &Text) -> bool
+    ensures { result ≡ is_of kind namespace.now key.now }
+{
+    key.kind == kind && key.namespace.as_str() == namespace.as_str()
+}
