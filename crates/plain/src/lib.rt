@@ -16,6 +16,8 @@ mod listing;
 #[cfg(test)]
 mod listing_tests;
 mod outcomes;
+#[cfg(test)]
+mod pod_tests;
 mod preconditions;
 mod reply;
 mod request;

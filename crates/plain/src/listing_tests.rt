@@ -120,7 +120,11 @@ static ORDERED: [(&str, &str); 18] = [
     ),
 ];
 
-fn assert_serves(rt: &impl Abort, alloc: Global, lines: &[(&str, &str)]) -> Result<(), Fail> {
+pub(crate) fn assert_serves(
+    rt: &impl Abort,
+    alloc: Global,
+    lines: &[(&str, &str)],
+) -> Result<(), Fail> {
     let input = joined(alloc, lines, false)?;
     let expected = joined(alloc, lines, true)?;
     let mut source = SliceSource::new(input.as_bytes());
