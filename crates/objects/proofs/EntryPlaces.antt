@@ -1,7 +1,7 @@
 -- What the place of a key says of the members.
-use Rattle.std.proofs.Common.{◌≡◌, ℕ, zero, suc, ◌+◌, ◌<◌, List, [], ◌∷◌, length, get_or, Some, None, refl, sym, ap, ◌∙◌, subst, arith, add-one}
+use Rattle.std.proofs.Common.{◌≡◌, ℕ, zero, suc, ◌+◌, ◌<◌, List, [], ◌∷◌, ◌++◌, length, get_or, Some, None, refl, sym, ap, ◌∙◌, subst, arith, add-one}
 use Rattle.std.specs.Prelude.{Bool, true, false, cond, insert, remove}
-use Rattle.std.specs.Ordering.{nat_cmp, match_ordering, ordering_reverse}
+use Rattle.std.specs.Ordering.{nat_cmp, match_ordering, ordering_reverse, is_lt}
 use Rattle.std.specs.declared.cmp.Ordering.{Ordering}
 use Rattle.std.specs.declared.cmp.Ordering.TheVariants.{Less, Equal, Greater}
 use Rattle.std.specs.Cmp.Lexicographic.{slice_cmp, nat_list_cmp_total}
@@ -10,7 +10,8 @@ use Rattle.serde_json.specs.Find.{get_member}
 use Rattle.objects.specs.declared.tree.Tree.{Tree}
 use Rattle.objects.specs.Tree.{data_of, members_of, ComesBefore, AreAscending}
 use Rattle.objects.specs.Object.{is_held, without_held}
-use Rattle.objects.specs.Places.{IsAbove, IsAt, IsGap}
+use Rattle.objects.proofs.PutOrder.{above_from_below}
+use Rattle.objects.specs.Places.{IsAbove, IsAt, IsGap, goes_last}
 
 above_next : (k : List ℕ) (n : ℕ) (es : List (List ℕ × Tree)) (e : List ℕ × Tree) → IsAbove k n es → n < length es → e ≡ get_or es n e → slice_cmp nat_cmp k e.0 ≡ Greater → IsAbove k (suc n) es
 above_next k zero [] e h inside is above = absurd (omega arith)
@@ -122,3 +123,30 @@ ascending_without_at false l d ms before later = (before, later)
 pub ascending_without : (ms : Members) → AreAscending ms → AreAscending (without_held ms)
 ascending_without no_members h = tt
 ascending_without (member l d ms) h = ascending_without_at (is_held l) l d ms (before_without l ms h.0 h.1) (ascending_without ms h.1)
+
+less_is : (o : Ordering) → is_lt o ≡ true → o ≡ Less
+less_is Less h = refl
+less_is Equal h = absurd cc
+less_is Greater h = absurd cc
+
+-- a key above the last is above the first
+first_below : (k : List ℕ) (e : List ℕ × Tree) (es : List (List ℕ × Tree)) → goes_last k (e ∷ es) ≡ true → AreAscending (members_of (e ∷ es)) → slice_cmp nat_cmp e.0 k ≡ Less
+first_below k e [] last ascending = less_is (slice_cmp nat_cmp e.0 k) last
+first_below k e (f ∷ es) last ascending = nat_list_cmp_total.trans e.0 f.0 k ascending.0 (first_below k f es last ascending.1)
+
+pushed : (k : List ℕ) (t : Tree) (es : List (List ℕ × Tree)) → goes_last k es ≡ true → AreAscending (members_of es) → members_of (es ++ (k, t) ∷ []) ≡ put k (data_of t) (members_of es)
+pushed k t [] last ascending = refl
+pushed k t (e ∷ []) last ascending = rw (above_from_below k e.0 (first_below k e [] last ascending)) refl
+pushed k t (e ∷ f ∷ es) last ascending = rw (above_from_below k e.0 (first_below k e (f ∷ es) last ascending)) (ap (member e.0 (data_of e.1)) (pushed k t (f ∷ es) last ascending.1))
+
+-- an entry that is pushed behind all others is put there
+pub pushed_last : (k name : List ℕ) (t : Tree) (es new : List (List ℕ × Tree)) → goes_last k es ≡ true → AreAscending (members_of es) → name ≡ k → new ≡ es ++ (name, t) ∷ [] → members_of new ≡ put k (data_of t) (members_of es)
+pushed_last k name t es new last ascending same is = ap members_of (is ∙ ap (λ l. es ++ (l, t) ∷ []) same) ∙ pushed k t es last ascending
+
+-- the last of some entries, at the place that their count gives
+pub last_is : (k : List ℕ) (e : List ℕ × Tree) (es : List (List ℕ × Tree)) (n : ℕ) → length es ≡ suc n → e ≡ get_or es n e → goes_last k es ≡ is_lt (slice_cmp nat_cmp e.0 k)
+last_is k e [] n some is = absurd (omega arith)
+last_is k e (f ∷ []) zero some is = ap (λ x. is_lt (slice_cmp nat_cmp x.0 k)) (sym is)
+last_is k e (f ∷ []) (suc n) some is = absurd (omega arith)
+last_is k e (f ∷ g ∷ es) zero some is = absurd (omega arith)
+last_is k e (f ∷ g ∷ es) (suc n) some is = last_is k e (g ∷ es) n (omega arith) is

@@ -1,6 +1,6 @@
 -- Where a key stands among entries that ascend, or where it would go.
-use Rattle.std.specs.Prelude.{◌≡◌, ℕ, zero, suc, List, [], ◌∷◌, ⊤}
-use Rattle.std.specs.Ordering.{nat_cmp}
+use Rattle.std.specs.Prelude.{◌≡◌, ℕ, zero, suc, List, [], ◌∷◌, Bool, true, ⊤}
+use Rattle.std.specs.Ordering.{nat_cmp, is_lt}
 use Rattle.std.specs.declared.cmp.Ordering.TheVariants.{Less, Equal, Greater}
 use Rattle.std.specs.Cmp.Lexicographic.{slice_cmp}
 use Rattle.objects.specs.declared.tree.Tree.{Tree}
@@ -23,3 +23,9 @@ IsGap k zero [] = ⊤
 IsGap k zero (e ∷ es) = slice_cmp nat_cmp k e.0 ≡ Less
 IsGap k (suc n) [] = ⊥
 IsGap k (suc n) (e ∷ es) = (slice_cmp nat_cmp k e.0 ≡ Greater) × IsGap k n es
+
+-- the key is above that of the last entry, if there is one
+abbrev pub goes_last : List ℕ → List (List ℕ × Tree) → Bool
+goes_last k [] = true
+goes_last k (e ∷ []) = is_lt (slice_cmp nat_cmp e.0 k)
+goes_last k (e ∷ f ∷ es) = goes_last k (f ∷ es)

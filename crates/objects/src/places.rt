@@ -3,7 +3,7 @@ ghost use Rattle.std.specs.Prelude.{◌≡◌, ◌<◌, length, IfOk, IfErr, OnO
 ghost use Rattle.serde_json.specs.Data.{object, put};
 ghost use Rattle.serde_json.specs.Find.{get_member};
 ghost use Rattle.objects.specs.Tree.{data_of, members_of, AreAscending};
-ghost use Rattle.objects.specs.Places.{IsAt, IsGap};
+ghost use Rattle.objects.specs.Places.{IsAt, IsGap, goes_last};
 ghost use Rattle.objects.specs.Object.{is_held, without_held};
 ghost use Rattle.objects.specs.Status.{without_member};
 
@@ -11,6 +11,16 @@ use crate::text::Text;
 use crate::tree::Tree;
 use std::alloc::{AllocError, Global};
 use std::cmp::Ordering;
+
+/// Whether the key is above the last one.
+pub(crate) fn goes_last(entries: &[(Text, Tree)], key: &str) -> bool
+    ensures { result ≡ goes_last key.now entries.now }
+{
+    match entries.last() {
+        Some((last, _)) => last.as_str() < key,
+        None => true,
+    }
+}
 
 /// Where the key stands, or where it would go.
 pub(crate) fn place_of(entries: &[(Text, Tree)], key: &str) -> Result<usize, usize>
@@ -61,17 +71,16 @@ pub(crate) fn drop_held(entries: &mut Vec<(Text, Tree)>)
 
 /// Puts a value at the key: in the place of the one there, or where the key goes. An `Err` leaves the entries.
 pub(crate) fn put_entry(
-    alloc: Global,
     entries: &mut Vec<(Text, Tree)>,
-    key: &str,
+    key: Text,
     value: Tree,
 ) -> Result<(), AllocError>
-    ensures ok { OnOk result (members_of entries.new.items ≡ put key.now (data_of value) (members_of entries.old.items)) }
+    ensures ok { OnOk result (members_of entries.new.items ≡ put key (data_of value) (members_of entries.old.items)) }
     ensures err { OnErr result (entries.new.items ≡ entries.old.items) }
 {
-    match place_of(entries, key) {
+    match place_of(entries, key.as_str()) {
         Ok(at) => entries[at].1 = value,
-        Err(at) => entries.insert(at, (Text::copy_of(alloc, key)?, value))?,
+        Err(at) => entries.insert(at, (key, value))?,
     }
     Ok(())
 }

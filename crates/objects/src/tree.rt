@@ -223,7 +223,7 @@ impl Members {
         let alloc = *self.entries.allocator();
         let mut entries = self.into_entries()?;
         match value {
-            Some(value) => put_entry(alloc, &mut entries, key, value)?,
+            Some(value) => put_entry(&mut entries, Text::copy_of(alloc, key)?, value)?,
             None => remove_entry(&mut entries, key),
         }
         Members::of(alloc, entries)
