@@ -16,6 +16,7 @@ pub mod Metadata
 pub mod Status
 pub mod Steps
 pub mod Reading
+pub mod IfWhole
 pub mod Text
 pub mod KeyOrder
 pub mod Places

@@ -13,6 +13,7 @@ mod metadata;
 #[cfg(test)]
 mod metadata_tests;
 mod names;
+mod number;
 mod object;
 mod places;
 #[cfg(test)]
