@@ -1,5 +1,7 @@
 pub mod Lookups
-pub mod Conversion
+pub mod Joining
+pub mod FoundMembers
+pub mod Parsing
 pub mod EntryPlaces
 pub mod SetMembers
 pub mod BodyMembers

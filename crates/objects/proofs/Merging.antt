@@ -18,7 +18,7 @@ use Rattle.objects.specs.Text.{put_some}
 use Rattle.objects.specs.Places.{IsAbove}
 use Rattle.objects.specs.Proper.{IsProper, AreProperMembers}
 use Rattle.objects.specs.Merged.{puts, IsBelowAll, entry_tokens, some_tokens, StopsAt, WritesFront, WritesStep}
-use Rattle.objects.proofs.Conversion.{join_members}
+use Rattle.objects.proofs.Joining.{join_members}
 use Rattle.objects.proofs.EntryPlaces.{before_put}
 
 -- each entry of the front has a key below k

@@ -12,7 +12,7 @@ use Rattle.serde_json.specs.Data.{Data, Members, no_members, member, put}
 use Rattle.serde_json.specs.Find.{get_member}
 use Rattle.objects.specs.Tree.{ComesBefore, AreAscending}
 use Rattle.objects.specs.Proper.{IsProper, AreProperMembers}
-use Rattle.objects.proofs.Conversion.{join_members, join_members-none}
+use Rattle.objects.proofs.Joining.{join_members, join_members-none}
 
 -- these members, put in turn onto those found before
 abbrev pub put_all : Members → Members → Members

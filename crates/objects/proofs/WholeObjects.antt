@@ -22,7 +22,7 @@ use Rattle.objects.specs.Places.{IsAbove}
 use Rattle.objects.specs.Text.{printed, whole_metadata, unless_zero}
 use Rattle.objects.specs.Uid.{uid_text}
 use Rattle.objects.specs.Merged.{puts, entry_tokens, StopsAt, WritesFront, WritesStep}
-use Rattle.objects.proofs.Conversion.{join_members}
+use Rattle.objects.proofs.Joining.{join_members}
 use Rattle.objects.proofs.EntryPlaces.{none_before}
 use Rattle.objects.proofs.Merging.{put_past, tokens_join, front_of, members_of-split}
 

@@ -1,7 +1,8 @@
 ghost use Rattle.std.specs.Prelude.{◌≡◌};
-ghost use Rattle.objects.specs.declared.fault.ReadError.TheVariants.{Memory as OutOfMemory};
+ghost use Rattle.objects.specs.declared.fault.ReadError.TheVariants.{Memory as OutOfMemory, NotJson as NoText};
 
 use crate::memory::Memory;
+use json::Invalid;
 use std::alloc::{AllocError, AllocFailed};
 use thiserror::Error;
 
@@ -34,6 +35,14 @@ pub enum ReadError {
     /// An allocation was refused.
     #[error("out of memory")]
     Memory,
+}
+
+impl From<Invalid> for ReadError {
+    ghost from_gives = { λ _ e. e ≡ NoText };
+
+    fn from(_error: Invalid) -> ReadError {
+        ReadError::NotJson
+    }
 }
 
 impl From<Memory> for ReadError {

@@ -2,9 +2,9 @@
 //! body as a tree; read from JSON and printed as JSON. The names of a StatefulSet's pods and claims are here too.
 #![tactic(auto)]
 
-mod convert;
 mod draft;
 mod fault;
+mod found;
 mod key;
 mod kind;
 mod memory;
@@ -15,12 +15,14 @@ mod metadata_tests;
 mod names;
 mod number;
 mod object;
+mod parse;
 mod places;
 #[cfg(test)]
 mod pod_name_tests;
 mod pod_names;
 mod print;
 mod read;
+mod reader;
 mod same;
 mod shape;
 mod shard;
@@ -46,6 +48,7 @@ pub use pod_names::{
 };
 pub use print::{print_object, write_object};
 pub use read::{read_collection, read_draft, read_key, read_object, read_tree};
+pub use reader::TreeReader;
 pub use same::same_is_reflexive;
 pub use shard::shard_of;
 pub use status::only_the_set_member_changes;

@@ -1,24 +1,18 @@
-ghost use Rattle.std.specs.Prelude.{◌≡◌, IsTrue, ◌↔◌};
-ghost use Rattle.objects.specs.Steps.{Gives, required};
+ghost use Rattle.std.specs.Prelude.{◌≡◌};
+ghost use Rattle.objects.specs.Steps.{Gives};
 ghost use Rattle.objects.specs.Tree.{data_of};
-ghost use Rattle.objects.specs.Reading.{reading, reading_of_data, draft_of, key_in, collection_in, json_value};
-ghost use Rattle.objects.specs.declared.fault.ReadError.TheVariants.{NotJson};
-ghost use Rattle.serde_json.specs.View.{view};
+ghost use Rattle.objects.specs.Reading.{reading, reading_of_data, draft_of, key_in, collection_in};
 
-use crate::convert::tree_of;
 use crate::draft::{draft_in, key_of, kind_of, namespace_of};
 use crate::fault::ReadError;
 use crate::key::Key;
 use crate::kind::Kind;
 use crate::names::is_dns_label;
 use crate::object::Draft;
+use crate::reader::TreeReader;
 use crate::text::Text;
 use crate::tree::{Members, Tree};
-use serde_json::Value;
 use std::alloc::Global;
-
-/// The most bytes that an object or a line may have, without its line end.
-pub const MOST_BYTES: usize = 1_048_576;
 
 /// The object that the bytes are, or the first refusal.
 #[tactic(auto, using(crate::proofs::Chains::fails_then), unfolding(crate::specs::Reading::reading))]
@@ -30,29 +24,10 @@ pub fn read_object(alloc: Global, bytes: &[u8]) -> Result<Draft, ReadError>
 }
 
 /// The value that the bytes are. It refuses with TooLong, NotJson or NotWhole alone.
-#[tactic(auto, using(crate::proofs::Chains::fails_then), unfolding(crate::specs::Reading::reading_of_data))]
 pub fn read_tree(alloc: Global, bytes: &[u8]) -> Result<Tree, ReadError>
     ensures { Gives data_of result (reading_of_data bytes.now) }
 {
-    if bytes.len() > MOST_BYTES {
-        return Err(ReadError::TooLong);
-    }
-    let value = read_value(alloc, bytes)?;
-    tree_of(alloc, value)
-}
-
-fn read_value(alloc: Global, bytes: &[u8]) -> Result<Value, ReadError>
-    ensures { Gives view result (required NotJson (json_value bytes.now)) }
-{
-    match Value::from_slice(alloc, bytes) {
-        Ok(value) => Ok(value),
-        Err(error) => {
-            if error.is_memory() {
-                return Err(ReadError::Memory);
-            }
-            Err(ReadError::NotJson)
-        }
-    }
+    TreeReader::new(alloc).read(bytes)
 }
 
 /// The object that a value is. It refuses with NoKind, UnknownKind, BadName or BadMeta alone.

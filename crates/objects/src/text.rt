@@ -27,6 +27,13 @@ impl Text {
         })
     }
 
+    /// The text as a `String`, moved.
+    pub(crate) fn into_string(self) -> String
+        ensures { string_bytes result ≡ self }
+    {
+        self.text
+    }
+
     pub fn as_str(&self) -> &str
         ensures { result.now ≡ self.now }
     {
