@@ -16,6 +16,8 @@ mod names;
 mod number;
 mod object;
 mod parse;
+#[cfg(test)]
+mod parse_tests;
 mod places;
 #[cfg(test)]
 mod pod_name_tests;
