@@ -1,7 +1,6 @@
 // The objects of a list.
-ghost use Rattle.std.specs.Prelude.{◌≡◌, IfOk, option_map};
+ghost use Rattle.std.specs.Prelude.{◌≡◌, IfOk};
 ghost use Rattle.std.specs.FinMap as map;
-ghost use Rattle.objects.specs.Key.{key_cmp, key_parts, is_key};
 ghost use Rattle.plain.specs.Named.{AreNamed};
 ghost use Rattle.plain.specs.LeastKey.{least_key};
 ghost use Rattle.plain.specs.Store.{is_of, collection};

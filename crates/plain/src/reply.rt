@@ -1,9 +1,7 @@
 ghost use Rattle.std.specs.Prelude.{◌≡◌, ◌++◌, ◌∷◌, [], codes, decimal, OnOk};
 ghost use Rattle.json.specs.Token as tokens;
-ghost use Rattle.json.specs.Tree.{json_tokens};
-ghost use Rattle.serde_json.specs.Written.{outline};
-ghost use Rattle.serde_json.specs.Written.{items_outline};
-ghost use Rattle.json.specs.Tree.{items_tokens};
+ghost use Rattle.json.specs.Tree.{json_tokens, items_tokens};
+ghost use Rattle.serde_json.specs.Written.{outline, items_outline};
 ghost use Rattle.plain.specs.Replies.{reason_code, reason_name, printed_items, with_items, with_object, with_reason, reply_data};
 
 use crate::listing::Listing;
