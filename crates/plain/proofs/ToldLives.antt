@@ -19,12 +19,12 @@ use Rattle.plain.specs.Store.{Store, opening, step, carried_out, found, with_cha
 use Rattle.plain.specs.Run.{replies}
 use Rattle.plain.specs.AtKey.{Has}
 use Rattle.plain.specs.Filed.{AreFiled}
-use Rattle.plain.specs.Lives.{Event, begins, changes, lasts, ends, events, events_of, is_of, AreLives, HasUidOf}
+use Rattle.plain.specs.Lives.{Event, begins, changes, lasts, ends, events, events_of, tells_of, AreLives, HasUidOf}
 use Rattle.plain.proofs.Verdicts.{Reads, gets, lists, Replaces, Writes, by_verdict, tied}
 use Rattle.plain.proofs.KeptUids.{IsNew, IsNext, allowed, filed_after, filed_in_run}
 
 abbrev about : Key → List Event → List Event
-about q = filter (is_of q)
+about q = filter (tells_of q)
 
 abbrev at : Store → Key → Option Object
 at s q = map.get s.objects q

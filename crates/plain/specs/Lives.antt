@@ -26,15 +26,15 @@ events (Removed o) = ends o ∷ []
 events (Listed os revision) = []
 events (Refused reason) = []
 
-abbrev pub is_of : Key → Event → Bool
-is_of key (begins o) = eq_by_cmp key_cmp key o.key
-is_of key (changes o) = eq_by_cmp key_cmp key o.key
-is_of key (lasts o) = eq_by_cmp key_cmp key o.key
-is_of key (ends o) = eq_by_cmp key_cmp key o.key
+abbrev pub tells_of : Key → Event → Bool
+tells_of key (begins o) = eq_by_cmp key_cmp key o.key
+tells_of key (changes o) = eq_by_cmp key_cmp key o.key
+tells_of key (lasts o) = eq_by_cmp key_cmp key o.key
+tells_of key (ends o) = eq_by_cmp key_cmp key o.key
 
 -- what the replies tell of the objects of that key, in order
 abbrev pub events_of : Key → List Reply → List Event
-events_of key replies = filter (is_of key) (flat_map events replies)
+events_of key replies = filter (tells_of key) (flat_map events replies)
 
 -- there is an object, and it has this one's UID
 abbrev pub HasUidOf : Object → Option Object → Type 0
