@@ -25,7 +25,7 @@ use Rattle.plain.specs.LeastKey.{least_key}
 use Rattle.plain.proofs.Entries.{exact_keys}
 use Rattle.plain.proofs.KeyRuns.{between, bound, bounded, of_parts}
 
-abbrev Entries : Type 0
+abbrev pub Entries : Type 0
 Entries = List (KeyParts × Object)
 
 abbrev keys_of : Entries → List KeyParts

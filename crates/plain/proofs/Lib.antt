@@ -14,6 +14,7 @@ pub mod RunsOfLines
 pub mod DrawnNumbers
 pub mod OneKey
 pub mod Verdicts
+pub mod FoundEntries
 pub mod KeptUids
 pub mod ToldLives
 pub mod StatusKept

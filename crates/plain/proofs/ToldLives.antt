@@ -1,6 +1,7 @@
 -- The replies tell of the objects of a key as of one life after another.
 use Rattle.std.proofs.Common.{◌≡◌, ◌+◌, ◌==◌, ℕ, Bool, true, false, cond, List, [], ◌∷◌, ◌++◌, Option, Some, None, refl, sym, ap, subst, ◌∙◌}
 use Rattle.std.specs.Prelude.{option_map, filter, flat_map}
+use Rattle.std.specs.List.{AllByRecursion}
 use Rattle.std.specs.Ordering.{eq_by_cmp}
 use Rattle.std.specs.FinMap as map
 use Rattle.std.specs.FinMap.{FinMap, get-empty, get-insert, get-remove}
@@ -10,16 +11,18 @@ use Rattle.objects.specs.Key.{key_cmp}
 use Rattle.objects.specs.KeyOrder.{key_cmp_total}
 use Rattle.plain.specs.declared.request.Request.{Request}
 use Rattle.plain.specs.declared.reply.Reply.{Reply}
-use Rattle.plain.specs.declared.reply.Reply.TheVariants.{Refused}
+use Rattle.plain.specs.declared.reply.Reply.TheVariants.{Listed, Refused}
 use Rattle.plain.specs.declared.reply.Reason.TheVariants.{StoreFull}
 use Rattle.plain.specs.declared.verdict.Verdict.{Verdict}
 use Rattle.plain.specs.declared.verdict.Verdict.TheVariants.{Refuse, Same, Write}
 use Rattle.plain.specs.Change.{Change, creates, updates, marks, removes, stamp, accepted}
-use Rattle.plain.specs.Store.{Store, opening, step, carried_out, found, with_change}
+use Rattle.plain.specs.Store.{Store, opening, is_of, step, carried_out, found, with_change}
 use Rattle.plain.specs.Run.{replies}
 use Rattle.plain.specs.AtKey.{Has}
 use Rattle.plain.specs.Filed.{AreFiled}
 use Rattle.plain.specs.Lives.{Event, begins, changes, lasts, ends, events, events_of, tells_of, AreLives, HasUidOf}
+use Rattle.plain.proofs.Collections.{Entries, objects_of}
+use Rattle.plain.proofs.FoundEntries.{IsIn, kept_in}
 use Rattle.plain.proofs.Verdicts.{Reads, gets, lists, Replaces, Writes, by_verdict, tied}
 use Rattle.plain.proofs.KeptUids.{IsNew, IsNext, allowed, filed_after, filed_in_run}
 
@@ -67,8 +70,15 @@ found_tells : (q : Key) (s : Store) (k : Key) (o : Option Object) → AreFiled s
 found_tells q s k None filed there = λ later lives. lives
 found_tells q s k (Some o) filed there = lasts_tells q s k o filed there
 
+-- each entry is of the store's map, so the object that is listed is the one that lives
+listed_tells : (q : Key) (s : Store) (es : Entries) (n : ℕ) → AreFiled s.objects → AllByRecursion (IsIn s.objects) es → Tells q s (s, Listed (objects_of es) n)
+listed_tells q s [] n filed there = λ later lives. lives
+listed_tells q s (e ∷ es) n filed there = λ later lives.
+    lasts_tells q s e.0 e.1 filed there.0 (events (Listed (objects_of es) n) ++ later) (listed_tells q s es n filed there.1 later lives)
+
 reads_tell : (q : Key) (s : Store) (reply : Reply) → AreFiled s.objects → Reads s reply → Tells q s (s, reply)
-reads_tell q s reply filed (lists kind namespace is) = subst (λ r. Tells q s (s, r)) (sym is) (λ later lives. lives)
+reads_tell q s reply filed (lists kind namespace is) =
+    subst (λ r. Tells q s (s, r)) (sym is) (listed_tells q s (map.entries (map.retain_keys s.objects (is_of kind namespace))) s.counter filed (kept_in s.objects (is_of kind namespace)))
 reads_tell q s reply filed (gets k is) = subst (λ r. Tells q s (s, r)) (sym is) (found_tells q s k (at s k) filed refl)
 
 -- what the map has at a key after an object is put there or taken away, by the key that the object has

@@ -1,6 +1,6 @@
 -- The lives of the objects of one key, as the replies of a run tell of them (Kubernetes API concepts: a name is given to
 -- one object at a time, and a UID to one object ever).
-use Rattle.std.specs.Prelude.{◌≡◌, Bool, List, [], ◌∷◌, filter, flat_map, Option, Some, None, option_map, ⊤}
+use Rattle.std.specs.Prelude.{◌≡◌, Bool, List, [], ◌∷◌, filter, flat_map, map, Option, Some, None, option_map, ⊤}
 use Rattle.std.specs.Ordering.{eq_by_cmp}
 use Rattle.objects.specs.declared.key.Key.{Key}
 use Rattle.objects.specs.declared.object.Object.{Object}
@@ -15,7 +15,7 @@ pub data Event : Type 0 where
   lasts : Object → Event
   ends : Object → Event
 
--- what a reply tells
+-- what a reply tells: a list tells of each of its objects
 abbrev pub events : Reply → List Event
 events (Created o) = begins o ∷ []
 events (Updated o) = changes o ∷ []
@@ -23,7 +23,7 @@ events (Marked o) = changes o ∷ []
 events (Found o) = lasts o ∷ []
 events (Unchanged o) = lasts o ∷ []
 events (Removed o) = ends o ∷ []
-events (Listed os revision) = []
+events (Listed os revision) = map lasts os
 events (Refused reason) = []
 
 abbrev pub tells_of : Key → Event → Bool

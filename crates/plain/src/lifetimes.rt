@@ -10,8 +10,8 @@ ghost use Rattle.plain.specs.Run.{after, replies};
 ghost use Rattle.plain.specs.Store.{Store, opening, step};
 
 /// No two objects live under one name at a time, and what is read is what was written last: for each key, a `Created`
-/// comes only where none lives; what is found or unchanged is the object as it was written last; what is updated, marked
-/// or removed has the UID of the one that was created last; and between two `Created` stands a `Removed`.
+/// comes only where none lives; what is found, unchanged or in a list is the object as it was written last; what is
+/// updated, marked or removed has the UID of the one that was created last; and between two `Created` stands a `Removed`.
 pub fn names_live_once()
     ensures { (capacity : ℕ) (requests : List Request) (key : Key) → AreLives None (events_of key (replies (opening capacity) requests)) }
 {}
