@@ -9,12 +9,12 @@ ghost use Rattle.plain.specs.declared.reply.Reply.TheVariants.{Listed};
 ghost use Rattle.plain.specs.declared.verdict.Verdict.TheVariants.{Write};
 
 use crate::change::Change;
+use crate::listing::listing_of;
 use crate::reply::{Reason, Reply};
 use crate::request::Request;
 use crate::table::judge;
 use crate::verdict::Verdict;
 use crate::version::Version;
-use crate::listing::listing_of;
 use objects::{Key, Kind, Memory, Object, Text};
 use std::alloc::{AllocError, Global};
 use std::collections::BTreeMap;

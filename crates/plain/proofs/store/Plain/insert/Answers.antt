@@ -14,7 +14,7 @@ invariant_of-self c = (
   c.self.invariant.0,
   c.self.invariant.1,
   kept_filed c.self.inside.objects.entries c.insert.new.self.entries c.in_err-insert.ensures.err c.self.invariant.2,
-      kept_named c.self.inside.objects.entries c.insert.new.self.entries c.in_err-insert.ensures.err c.self.invariant.3,
+  kept_named c.self.inside.objects.entries c.insert.new.self.entries c.in_err-insert.ensures.err c.self.invariant.3,
   still_reached _ _ (ap (λ (es : List (Key × Object)). record { objects = from_entries es; counter = c.self.inside.counter; capacity = c.self.inside.capacity }) c.in_err-insert.ensures.err) c.self.invariant.4,
 )
 
