@@ -24,9 +24,7 @@ pub struct TreeReader {
 
 impl TreeReader {
     /// A reader that has read nothing.
-    pub fn new(alloc: Global) -> TreeReader
-        ensures { result.alloc ≡ alloc }
-    {
+    pub fn new(alloc: Global) -> TreeReader {
         TreeReader {
             alloc,
             scratch: Scratch::new(alloc),

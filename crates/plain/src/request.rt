@@ -11,8 +11,8 @@ ghost use Rattle.plain.specs.Verdict.{is_write};
 ghost use Rattle.plain.specs.Verbs.{verb_named, verb_in, request_by};
 
 use objects::{
-    Draft, Key, Kind, Members, Object, ReadError, Text, Tree, read_collection, read_draft,
-    read_key, read_tree,
+    Draft, Key, Kind, Members, Object, ReadError, Text, Tree, TreeReader, read_collection,
+    read_draft, read_key,
 };
 use std::alloc::{AllocError, Global};
 use thiserror::Error;
@@ -220,7 +220,18 @@ impl Verb {
 pub fn read_request(alloc: Global, line: &[u8]) -> Result<Request, RequestError>
     ensures { Answers result (request_of line.now) }
 {
-    let Tree::Map(members) = read_tree(alloc, line)? else {
+    next_request(alloc, &mut TreeReader::new(alloc), line)
+}
+
+/// As `read_request`, in the memory of a reader that reads one line after another.
+pub(crate) fn next_request(
+    alloc: Global,
+    reader: &mut TreeReader,
+    line: &[u8],
+) -> Result<Request, RequestError>
+    ensures { Answers result (request_of line.now) }
+{
+    let Tree::Map(members) = reader.read(line)? else {
         return Err(RequestError::NoVerb);
     };
     let verb = verb_in(&members)?;

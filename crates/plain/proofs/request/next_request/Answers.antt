@@ -1,6 +1,6 @@
 use Rattle.std.proofs.lemmas.Result.{err_from_is_err_and}
 use Rattle.plain.proofs.Readings.{line_refused, no_map, verb_refused, verb_read}
-use Rattle.plain.proofs.request.read_request.Goals as goal
+use Rattle.plain.proofs.request.next_request.Goals as goal
 
 pub returns-in_err-members : goal.returns-in_err-members
 returns-in_err-members c =
