@@ -194,20 +194,23 @@ Reaches-next p s t k kept rest later text new n m at h f before is etext estore 
 pub NoFeed-none : (k : List ℕ) → k ≡ [] → NoFeed k
 NoFeed-none k e = subst NoFeed (sym e) tt
 
--- the rest of the piece is kept
+-- the rest of the piece is kept, and nothing is left of it
 pub Reaches-end : (p : Point) (s : Store) (k kept rest text : List ℕ) (n : ℕ) →
     Reaches p (record { store = s; waiting = k ++ rest; text = text; count = n }) → NoFeed k → Nowhere (Passes (is_byte 10) rest) 0 (length rest) →
-    kept ≡ kept_with k rest → Reaches p (record { store = s; waiting = kept; text = text; count = n })
+    kept ≡ kept_with k rest → Reaches p (record { store = s; waiting = kept ++ []; text = text; count = n })
 Reaches-end p s k kept rest text n h f none e =
-    subst (λ w. Reaches p (record { store = s; waiting = w; text = text; count = n })) (sym e)
+    subst (λ w. Reaches p (record { store = s; waiting = w; text = text; count = n })) (sym (append-nil kept ∙ e))
     (Reaches-then p _ _ h (Reaches-kept s k rest text n f (NoFeed-nowhere rest none)))
 
 pub NoFeed-end : (k kept rest : List ℕ) → NoFeed k → Nowhere (Passes (is_byte 10) rest) 0 (length rest) → kept ≡ kept_with k rest → NoFeed kept
 NoFeed-end k kept rest f none e = subst NoFeed (sym e) (NoFeed-kept k rest f (NoFeed-nowhere rest none))
 
 -- each line has taken a byte at least
+pub shorter-next : (rest later : List ℕ) (at : ℕ) → at < length rest → later ≡ take (length rest - (at + 1)) (drop (at + 1) rest) → length later < length rest
+shorter-next rest later at lt e = rw e (simp length-take (omega arith))
+
 pub count-next : (k kept rest later : List ℕ) (n m at most : ℕ) → at < length rest → kept ≡ [] → m ≡ n + 1 → later ≡ take (length rest - (at + 1)) (drop (at + 1) rest) → n + length k + length rest ≤ most → m + length kept + length later ≤ most
 count-next k kept rest later n m at most lt ekept ecount elater h =
     let none : length kept ≡ 0 = ap (λ (xs : List ℕ). length xs) ekept in
-    let short : length later ≤ length rest - (at + 1) = rw elater (simp length-take (omega arith)) in
+    let short : length later < length rest = shorter-next rest later at lt elater in
     omega arith

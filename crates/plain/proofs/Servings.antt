@@ -30,6 +30,27 @@ PutsPart-replies s t bytes start kept text slice n m old new none r e p =
     (r.text [] ∙ ap (λ b. b ++ answers t (lines (kept ++ []))) (sym e))) in
     subst (λ b. PutsPart old b new) (sym all) (PutsPart-more old new slice (answers t (lines (kept ++ []))) p)
 
+-- some of the lines are answered, and then some more
+pub Answered-then : (s t u : Store) (bytes rest later : List ℕ) (n m k : ℕ) (before now after : Option (List ℕ)) →
+    Answered s bytes n before t rest m now → Answered t rest m now u later k after → Answered s bytes n before u later k after
+Answered-then s t u bytes rest later n m k before now after a b = record {
+  text = a.text ++ b.text;
+  put = Puts-then before now after a.text b.text a.put b.put;
+  reaches = record {
+    text = λ more.
+        a.reaches.text more ∙ (ap (λ x. a.text ++ x) (b.reaches.text more) ∙ sym (append_assoc a.text b.text (answers u (lines (later ++ more)))));
+    count = λ more. a.reaches.count more ∙ b.reaches.count more;
+  };
+}
+
+-- a fault after some of the lines were answered
+pub Answered-fault : (s t : Store) (bytes rest : List ℕ) (n m : ℕ) (before now then : Option (List ℕ)) →
+    Answered s bytes n before t rest m now → PutsPart now (answers t (lines rest)) then → PutsPart before (answers s (lines bytes)) then
+Answered-fault s t bytes rest n m before now then a p =
+    let all : answers s (lines bytes) ≡ a.text ++ answers t (lines rest) =
+    ap (λ b. answers s (lines b)) (sym (append-nil bytes)) ∙ (a.reaches.text [] ∙ ap (λ b. a.text ++ answers t (lines b)) (append-nil rest)) in
+    subst (λ b. PutsPart before b then) (sym all) (PutsPart-after before now then a.text (answers t (lines rest)) a.put p)
+
 pub Serving-start : (s : Store) (had before : Option (List ℕ)) (kept : List ℕ) → kept ≡ [] → Serving s had had before before s kept 0
 Serving-start s had before kept none = record {
   consumed = [];

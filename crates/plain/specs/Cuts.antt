@@ -1,10 +1,10 @@
 -- Lines are answered as their bytes come. Some bytes wait for the end of their line, and of a line that is too long only
 -- its beginning is kept.
-use Rattle.std.specs.Prelude.{◌≡◌, ◌≢◌, ℕ, ◌+◌, ◌-◌, List, [], ◌∷◌, ◌++◌, length, take}
+use Rattle.std.specs.Prelude.{◌≡◌, ◌≢◌, ◌<◌, ◌⊎◌, ℕ, ◌+◌, ◌-◌, List, [], ◌∷◌, ◌++◌, length, take}
 use Rattle.objects.specs.Reading.{most_bytes}
 use Rattle.plain.specs.Store.{Store}
 use Rattle.plain.specs.Lines.{lines}
-use Rattle.plain.specs.Served.{answers}
+use Rattle.plain.specs.Served.{answer, answers}
 
 -- there is no line feed among these bytes
 abbrev pub NoFeed : List ℕ → Type 0
@@ -39,3 +39,11 @@ pub record Reaches (p q : Point) : Type 0 where
 -- bytes that come
 abbrev pub given : Point → List ℕ → Point
 given p bytes = record p { waiting = p.waiting ++ bytes }
+
+-- after these bytes there is the reply to one line
+abbrev pub EndsInReply : List ℕ → List ℕ → Type 0
+EndsInReply first text = (s : Store) × (line : List ℕ) × (text ≡ first ++ ((answer s line).1 ++ 10 ∷ []))
+
+-- of these replies, all but the last are fewer bytes than so many
+abbrev pub FewBefore : ℕ → List ℕ → Type 0
+FewBefore most text = (first : List ℕ) × (length first < most) × ((text ≡ first) ⊎ EndsInReply first text)

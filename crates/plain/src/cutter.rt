@@ -1,7 +1,8 @@
 ghost use Rattle.std.specs.Prelude.{◌≡◌, ◌+◌, ◌<◌, ◌≤◌, ◌^◌, ◌++◌, ◌∷◌, [], length, IfOk};
 ghost use Rattle.plain.specs.Lines.{lines};
 ghost use Rattle.plain.specs.Served.{answer, answers};
-ghost use Rattle.plain.specs.Cuts.{NoFeed, kept_with, Reaches};
+ghost use Rattle.plain.specs.Cuts.{NoFeed, kept_with, Reaches, FewBefore};
+ghost use Rattle.plain.specs.declared.cutter.TheConstants.{ENOUGH};
 
 use crate::line::answer_line;
 use crate::store::Plain;
@@ -12,6 +13,9 @@ use std::alloc::Global;
 /// How many bytes of a line are kept: one more than a line may have, which shows that it is too long.
 const MOST_KEPT: usize = 1_048_577;
 
+/// How many bytes of replies are enough: as many are written before another line is answered.
+const ENOUGH: usize = 65_536;
+
 /// Where the cutting of an input into lines stands.
 #[derive(Drop)]
 pub(crate) struct Cut {
@@ -21,6 +25,14 @@ pub(crate) struct Cut {
     pub(crate) replies: Vec<u8>,
     /// How many lines were answered.
     pub(crate) lines: u64,
+}
+
+/// Where the answering of a piece has stopped.
+#[derive(Drop)]
+pub(crate) struct Stop<'a> {
+    pub(crate) cut: Cut,
+    /// What comes after the last line that was answered. It is empty once what follows the last line feed is kept.
+    pub(crate) rest: &'a [u8],
 }
 
 /// Keeps the bytes after those that are kept, but none that no answer turns on.
@@ -60,31 +72,43 @@ fn answer_end(alloc: Global, plain: &mut Plain, cut: Cut, end: &[u8]) -> Result<
     })
 }
 
-/// Answers the lines that end in the piece, and keeps what comes after them.
-pub(crate) fn answer_piece(
+/// Answers the lines that end in the piece, up to the one at which the replies in hand are enough to be written. Where
+/// no line is left, it keeps what comes after them.
+pub(crate) fn answer_piece<'a>(
     alloc: Global,
     plain: &mut Plain,
     mut cut: Cut,
-    piece: &[u8],
-) -> Result<Cut, Memory>
+    piece: &'a [u8],
+) -> Result<Stop<'a>, Memory>
     requires begun { NoFeed cut.kept.items }
     requires room { cut.lines + length cut.kept.items + length piece.now < 2 ^ 64 }
+    requires few { length cut.replies.items < ENOUGH }
     ensures reaches { IfOk result (λ v. Reaches
         (record { store = plain.old; waiting = cut.kept.items ++ piece.now; text = cut.replies.items; count = cut.lines })
-        (record { store = plain.new; waiting = v.kept.items; text = v.replies.items; count = v.lines })) }
-    ensures begun { IfOk result (λ v. NoFeed v.kept.items) }
-    ensures count { IfOk result (λ v. v.lines + length v.kept.items ≤ cut.lines + length cut.kept.items + length piece.now) }
+        (record { store = plain.new; waiting = v.cut.kept.items ++ v.rest.now; text = v.cut.replies.items; count = v.cut.lines })) }
+    ensures begun { IfOk result (λ v. NoFeed v.cut.kept.items) }
+    ensures count { IfOk result (λ v.
+        v.cut.lines + length v.cut.kept.items + length v.rest.now ≤ cut.lines + length cut.kept.items + length piece.now) }
+    ensures shorter { IfOk result (λ v. 0 < length piece.now → length v.rest.now < length piece.now) }
+    ensures few { IfOk result (λ v. FewBefore ENOUGH v.cut.replies.items) }
+    ensures enough { IfOk result (λ v. 0 < length v.rest.now → ENOUGH ≤ length v.cut.replies.items) }
 {
     let mut rest = piece;
     while let Some(at) = memchr(b'\n', rest) {
         cut = answer_end(alloc, plain, cut, &rest[..at])?;
         rest = &rest[at + 1..];
+        if cut.replies.len() >= ENOUGH {
+            return Ok(Stop { cut, rest });
+        }
     }
     let kept = keep(cut.kept, rest)?;
-    Ok(Cut {
-        kept,
-        replies: cut.replies,
-        lines: cut.lines,
+    Ok(Stop {
+        cut: Cut {
+            kept,
+            replies: cut.replies,
+            lines: cut.lines,
+        },
+        rest: &[],
     })
 }
 

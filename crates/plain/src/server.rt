@@ -9,7 +9,7 @@ ghost use Rattle.plain.specs.Faults.{CountsReads, CountsWrites, IsWriteOrMemory,
 ghost use Rattle.plain.specs.declared.store.TheConstants.{MOST_REVISIONS};
 ghost use Rattle.plain.specs.declared.server.ServeFault.TheVariants.{Memory as OutOfMemory, BadCapacity as CapacityOut};
 
-use crate::cutter::{Cut, answer_last, answer_piece};
+use crate::cutter::{Cut, Stop, answer_last, answer_piece};
 use crate::store::{Plain, PlainError};
 use crate::stream::{Sink, Source, write_all};
 use objects::Memory;
@@ -62,12 +62,40 @@ impl From<AllocError> for ServeFault {
     }
 }
 
+/// Answers lines that end in the piece, until the replies are enough, and writes these.
+fn answer_some<'a, W: Sink>(
+    alloc: Global,
+    plain: &mut Plain,
+    writer: &mut W,
+    cut: Cut,
+    piece: &'a [u8],
+) -> Result<Stop<'a>, ServeFault>
+    requires begun { NoFeed cut.kept.items }
+    requires room { cut.lines + length cut.kept.items + length piece.now < 2 ^ 64 }
+    requires written { cut.replies.items ≡ [] }
+    ensures reaches { IfOk result (λ v. Answered plain.old (cut.kept.items ++ piece.now) cut.lines (W.written writer.old)
+        plain.new (v.cut.kept.items ++ v.rest.now) v.cut.lines (W.written writer.new)) }
+    ensures begun { IfOk result (λ v. NoFeed v.cut.kept.items) }
+    ensures count { IfOk result (λ v.
+        v.cut.lines + length v.cut.kept.items + length v.rest.now ≤ cut.lines + length cut.kept.items + length piece.now) }
+    ensures shorter { IfOk result (λ v. 0 < length piece.now → length v.rest.now < length piece.now) }
+    ensures written { IfOk result (λ v. v.cut.replies.items ≡ []) }
+    ensures fault { OnErr result (PutsPart (W.written writer.old) (answers plain.old (lines (cut.kept.items ++ piece.now))) (W.written writer.new)) }
+    ensures writes { CountsWrites result (W.failures writer.old) (W.failures writer.new) }
+    ensures cause { IsWriteOrMemory result }
+{
+    let mut stop = answer_piece(alloc, plain, cut, piece)?;
+    write_all(writer, stop.cut.replies.as_slice()).ok_or(ServeFault::Write)?;
+    stop.cut.replies.clear();
+    Ok(stop)
+}
+
 /// Answers the lines that end in the piece, and writes the replies.
 fn answer_read<W: Sink>(
     alloc: Global,
     plain: &mut Plain,
     writer: &mut W,
-    cut: Cut,
+    mut cut: Cut,
     piece: &[u8],
 ) -> Result<Cut, ServeFault>
     requires begun { NoFeed cut.kept.items }
@@ -82,9 +110,12 @@ fn answer_read<W: Sink>(
     ensures writes { CountsWrites result (W.failures writer.old) (W.failures writer.new) }
     ensures cause { IsWriteOrMemory result }
 {
-    let mut cut = answer_piece(alloc, plain, cut, piece)?;
-    write_all(writer, cut.replies.as_slice()).ok_or(ServeFault::Write)?;
-    cut.replies.clear();
+    let mut rest = piece;
+    while !rest.is_empty() {
+        let stop = answer_some(alloc, plain, writer, cut, rest)?;
+        cut = stop.cut;
+        rest = stop.rest;
+    }
     Ok(cut)
 }
 
@@ -145,8 +176,9 @@ fn serve_store<R: Source, W: Sink>(
 
 /// Answers each line of the reader's bytes with a line to the writer, as the plain store with room for `capacity`
 /// revisions answers them, and says how many lines there were. The bytes are cut at line feeds, and a last line may lack
-/// its line feed. What is held at a time is one piece of a read of 64 KiB at most, its replies, and of a line that is cut
-/// by the piece's end at most 1,048,577 bytes.
+/// its line feed. Replies are written once they come to 65,536 bytes, and else before the next read. What is held at a
+/// time is one piece of a read of 64 KiB at most, of a line that is cut by the piece's end at most 1,048,577 bytes, the
+/// reply to one line, and less than 65,536 bytes of other replies.
 ///
 /// # Errors
 ///

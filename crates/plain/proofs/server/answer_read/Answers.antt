@@ -1,8 +1,16 @@
-use Rattle.plain.proofs.Servings.{on_err, PutsPart-replies}
+use Rattle.std.proofs.Common.{◌∙◌, arith}
+use Rattle.plain.proofs.Servings.{on_err, Answered-then, Answered-fault}
 use Rattle.plain.proofs.server.answer_read.Goals as goal
 
-pub returns-in_err-ok_or-clause-fault : goal.returns-in_err-ok_or-clause-fault
-returns-in_err-ok_or-clause-fault g c =
-    on_err _ c.from_residual-in_err-ok_or.result
-    (PutsPart-replies _ _ _ c.args.cut.replies.items c.in_ok-cut.cut.kept.items c.in_ok-cut.cut.replies.items c.as_slice.result.now _ _ (g.W.Sink.written c.args.writer.now) _
-    c.requires.written c.in_ok-cut.ensures.reaches c.as_slice.ensures.value c.write_all.ensures.part)
+pub returns-in_err-stop-clause-fault : goal.returns-in_err-stop-clause-fault
+returns-in_err-stop-clause-fault g c =
+    on_err _ c.from_residual.result (Answered-fault _ _ _ _ _ _ _ _ _ c.loop-rest.invariant.answered c.in_err-stop.ensures.fault)
+
+pub loop-rest-preserved : goal.loop-rest-preserved
+loop-rest-preserved g c = record {
+  answered = Answered-then _ _ _ _ _ _ _ _ _ _ _ _ c.loop-rest.invariant.answered c.in_ok-stop.ensures.reaches;
+  begun = c.in_ok-stop.ensures.begun;
+  written = c.in_ok-stop.ensures.written;
+  count = omega (arith, c.loop-rest.invariant.count, c.in_ok-stop.ensures.count);
+  writes = c.in_ok-stop.ensures.writes ∙ c.loop-rest.invariant.writes;
+}
