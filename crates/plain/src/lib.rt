@@ -17,6 +17,8 @@ mod listing;
 mod listing_tests;
 mod outcomes;
 #[cfg(test)]
+mod piece_tests;
+#[cfg(test)]
 mod pod_tests;
 mod preconditions;
 mod reply;
