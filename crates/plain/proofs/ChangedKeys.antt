@@ -1,6 +1,6 @@
 -- A request changes the object of the key that it names.
 use Rattle.std.specs.Bool.{⊤}
-use Rattle.std.proofs.Common.{◌≡◌, Bool, true, false, cond, not, codes, is_some, List, ℕ, Option, Some, None, IfSome, Bor, refl, subst}
+use Rattle.std.proofs.Common.{◌≡◌, Bool, true, false, cond, codes, is_some, List, ℕ, Option, Some, None, IfSome, Bor, refl, subst}
 use Rattle.std.specs.Option.{option_copied}
 use Rattle.std.proofs.lemmas.Option.{same_Some}
 use Rattle.objects.specs.declared.key.Key.{Key}

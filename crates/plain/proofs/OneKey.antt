@@ -17,9 +17,9 @@ use Rattle.plain.specs.declared.reply.Reply.TheVariants.{Refused}
 use Rattle.plain.specs.declared.reply.Reason.TheVariants.{Conflict, StoreFull}
 use Rattle.plain.specs.declared.verdict.Verdict.{Verdict}
 use Rattle.plain.specs.declared.verdict.Verdict.TheVariants.{Refuse, Same, Write}
-use Rattle.plain.specs.Change.{Change, accepted, creates, updates, marks, removes, kept, stamp}
+use Rattle.plain.specs.Change.{Change, accepted, kept, stamp}
 use Rattle.plain.specs.Verdict.{deleted, differs, graceful, on_create, on_update, on_status, on_delete}
-use Rattle.plain.specs.Store.{Store, step, carried_out, put_at, with_change, written}
+use Rattle.plain.specs.Store.{Store, step, carried_out, put_at, with_change}
 use Rattle.plain.specs.Keys.{key_named}
 use Rattle.plain.proofs.Entries.{equal_from, exact_keys}
 

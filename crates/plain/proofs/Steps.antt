@@ -1,5 +1,5 @@
 -- A step by a write request goes by its verdict.
-use Rattle.std.proofs.Common.{◌≡◌, true, Option, Some, None, IfSome, Bor, refl, sym, ap, subst, ◌∙◌}
+use Rattle.std.proofs.Common.{◌≡◌, true, Option, Some, None, IfSome, Bor, sym, ap, subst, ◌∙◌}
 use Rattle.std.specs.Option.{option_copied}
 use Rattle.std.specs.FinMap as map
 use Rattle.std.proofs.lemmas.Option.{same_Some}

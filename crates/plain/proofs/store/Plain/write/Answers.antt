@@ -1,6 +1,6 @@
 use Rattle.std.proofs.Common.{option_map, sym, ap, ◌∙◌}
 use Rattle.std.proofs.lemmas.Result.{IfOk-weaker}
-use Rattle.plain.specs.declared.verdict.Verdict.TheVariants.{Refuse, Same, Write}
+use Rattle.plain.specs.declared.verdict.Verdict.TheVariants.{Refuse, Same}
 use Rattle.plain.specs.declared.reply.Reply.{Reply}
 use Rattle.plain.specs.Store.{Store, step}
 use Rattle.plain.proofs.Steps.{by_change, by_verdict}
