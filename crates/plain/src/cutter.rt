@@ -7,7 +7,7 @@ ghost use Rattle.plain.specs.declared.cutter.TheConstants.{ENOUGH};
 use crate::line::answer_line;
 use crate::store::Plain;
 use memchr::memchr;
-use objects::Memory;
+use objects::{Memory, TreeReader};
 use std::alloc::Global;
 
 /// How many bytes of a line are kept: one more than a line may have, which shows that it is too long.
@@ -19,6 +19,8 @@ const ENOUGH: usize = 65_536;
 /// Where the cutting of an input into lines stands.
 #[derive(Drop)]
 pub(crate) struct Cut {
+    /// Reads each line in the memory of the lines before it. It lies apart, since it is large and a cut is moved often.
+    pub(crate) reader: Box<TreeReader>,
     /// The beginning of the line whose end has not come yet.
     pub(crate) kept: Vec<u8>,
     /// The replies that are not written yet.
@@ -53,19 +55,27 @@ fn answer_end(alloc: Global, plain: &mut Plain, cut: Cut, end: &[u8]) -> Result<
     ensures kept { IfOk result (λ v. v.kept.items ≡ []) }
     ensures count { IfOk result (λ v. v.lines ≡ cut.lines + 1) }
 {
-    let lines = cut.lines + 1;
-    if cut.kept.is_empty() {
-        let replies = answer_line(alloc, plain, end, cut.replies)?;
+    let Cut {
+        mut reader,
+        kept,
+        replies,
+        lines,
+    } = cut;
+    let lines = lines + 1;
+    if kept.is_empty() {
+        let replies = answer_line(alloc, plain, &mut reader, end, replies)?;
         return Ok(Cut {
-            kept: cut.kept,
+            reader,
+            kept,
             replies,
             lines,
         });
     }
-    let mut kept = keep(cut.kept, end)?;
-    let replies = answer_line(alloc, plain, kept.as_slice(), cut.replies)?;
+    let mut kept = keep(kept, end)?;
+    let replies = answer_line(alloc, plain, &mut reader, kept.as_slice(), replies)?;
     kept.clear();
     Ok(Cut {
+        reader,
         kept,
         replies,
         lines,
@@ -104,6 +114,7 @@ pub(crate) fn answer_piece<'a>(
     let kept = keep(cut.kept, rest)?;
     Ok(Stop {
         cut: Cut {
+            reader: cut.reader,
             kept,
             replies: cut.replies,
             lines: cut.lines,

@@ -5,23 +5,24 @@ ghost use Rattle.plain.specs.Replies.{reply_data, error_data, error_name};
 ghost use Rattle.plain.specs.Served.{answer};
 
 use crate::reply::{Reply, write_reply, write_with_reason};
-use crate::request::{RequestError, read_request};
+use crate::request::{RequestError, next_request};
 use crate::store::Plain;
 use json::Writer;
-use objects::{Memory, ReadError};
+use objects::{Memory, ReadError, TreeReader};
 use std::alloc::{AllocError, Global};
 
 /// Answers a line: the reply's text and a line feed come after what `out` holds.
 pub(crate) fn answer_line(
     alloc: Global,
     plain: &mut Plain,
+    reader: &mut TreeReader,
     line: &[u8],
     out: Vec<u8>,
 ) -> Result<Vec<u8>, Memory>
     ensures text { IfOk result (λ v. v.items ≡ out.items ++ ((answer plain.old line.now).1 ++ 10 ∷ [])) }
     ensures store { IfOk result (λ v. plain.new ≡ (answer plain.old line.now).0) }
 {
-    match read_request(alloc, line) {
+    match next_request(alloc, reader, line) {
         Ok(request) => {
             let reply = plain.take(request)?;
             Ok(reply_line(&reply, out)?)

@@ -12,7 +12,7 @@ ghost use Rattle.plain.specs.declared.server.ServeFault.TheVariants.{Memory as O
 use crate::cutter::{Cut, Stop, answer_last, answer_piece};
 use crate::store::{Plain, PlainError};
 use crate::stream::{Sink, Source, write_all};
-use objects::Memory;
+use objects::{Memory, TreeReader};
 use std::alloc::{AllocError, Global};
 use thiserror::Error;
 
@@ -160,6 +160,7 @@ fn serve_store<R: Source, W: Sink>(
     ensures cause { IsInRange result }
 {
     let mut cut = Cut {
+        reader: Box::new(alloc, TreeReader::new(alloc)).map_err(AllocError::from)?,
         kept: Vec::new(alloc),
         replies: Vec::new(alloc),
         lines: 0,

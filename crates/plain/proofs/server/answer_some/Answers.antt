@@ -1,5 +1,9 @@
+use Rattle.plain.proofs.Flows.{PutsPart-none}
 use Rattle.plain.proofs.Servings.{on_err, PutsPart-replies}
 use Rattle.plain.proofs.server.answer_some.Goals as goal
+
+pub returns-in_err-stop-clause-fault : goal.returns-in_err-stop-clause-fault
+returns-in_err-stop-clause-fault g c = on_err _ c.from_residual.result (PutsPart-none _ _)
 
 pub returns-in_err-ok_or-clause-fault : goal.returns-in_err-ok_or-clause-fault
 returns-in_err-ok_or-clause-fault g c =

@@ -8,7 +8,7 @@ pub returns-in_err-count-clause-fault : goal.returns-in_err-count-clause-fault
 returns-in_err-count-clause-fault g c =
     let none : Takes (g.R.Source.remaining c.reads.reader) [] (g.R.Source.remaining c.read.new.self) =
     if_none _ c.read.result c.in_err-count.ensures.ok_part c.read.ensures.kept in
-    on_err _ c.from_residual.result (Serving-unread _ _ _ _ _ _ _ _ _ c.reads.invariant.serving none)
+    on_err _ c.from_residual-in_err-count.result (Serving-unread _ _ _ _ _ _ _ _ _ c.reads.invariant.serving none)
 
 pub returns-in_err-cut-clause-fault : goal.returns-in_err-cut-clause-fault
 returns-in_err-cut-clause-fault g c =
