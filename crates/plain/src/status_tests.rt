@@ -4,7 +4,7 @@ use std::alloc::{AllocError, Global};
 use std::test::Fail;
 
 /// Request lines to a new store, and the reply lines.
-static LINES: [(&str, &str); 15] = [
+static LINES: [(&str, &str); 16] = [
     // A creation has no status.
     (
         r#"{"do":"create","object":{"kind":"Pod","metadata":{"name":"p"},"spec":{"x":1},"status":{"phase":"Running"}}}"#,
@@ -39,6 +39,10 @@ static LINES: [(&str, &str); 15] = [
     (
         r#"{"do":"status","object":{"kind":"Pod","metadata":{"name":"p"},"status":{"phase":"Running"}}}"#,
         r#"{"code":404,"reason":"NotFound"}"#,
+    ),
+    (
+        r#"{"do":"list","kind":"Pod"}"#,
+        r#"{"code":200,"items":[],"resourceVersion":"4","result":"Listed"}"#,
     ),
     (
         r#"{"do":"create","object":{"kind":"Pod","metadata":{"labels":{"a":1},"name":"q"}}}"#,
@@ -93,7 +97,7 @@ fn status_is_written_by_its_own_request(rt: HostRuntime) -> Result<(), Fail> {
     let mut sink = BufferSink::with_room(rt.alloc(), 10_000)?;
     let mut source = SliceSource::new(input.as_bytes());
     let lines = serve(rt.alloc(), &mut source, &mut sink, 100)?;
-    assert_eq!(rt; lines, 15);
+    assert_eq!(rt; lines, 16);
     assert_eq!(rt; sink.bytes(), expected.as_bytes());
     Ok(())
 }
