@@ -205,10 +205,11 @@ Reaches-end p s k kept rest text n h f none e =
 pub NoFeed-end : (k kept rest : List ℕ) → NoFeed k → Nowhere (Passes (is_byte 10) rest) 0 (length rest) → kept ≡ kept_with k rest → NoFeed kept
 NoFeed-end k kept rest f none e = subst NoFeed (sym e) (NoFeed-kept k rest f (NoFeed-nowhere rest none))
 
--- each line has taken a byte at least
+-- each line takes a byte at least
 pub shorter-next : (rest later : List ℕ) (at : ℕ) → at < length rest → later ≡ take (length rest - (at + 1)) (drop (at + 1) rest) → length later < length rest
 shorter-next rest later at lt e = rw e (simp length-take (omega arith))
 
+-- and counts for no more than its bytes
 pub count-next : (k kept rest later : List ℕ) (n m at most : ℕ) → at < length rest → kept ≡ [] → m ≡ n + 1 → later ≡ take (length rest - (at + 1)) (drop (at + 1) rest) → n + length k + length rest ≤ most → m + length kept + length later ≤ most
 count-next k kept rest later n m at most lt ekept ecount elater h =
     let none : length kept ≡ 0 = ap (λ (xs : List ℕ). length xs) ekept in

@@ -13,7 +13,7 @@ use std::alloc::Global;
 /// How many bytes of a line are kept: one more than a line may have, which shows that it is too long.
 const MOST_KEPT: usize = 1_048_577;
 
-/// How many bytes of replies are enough: as many are written before another line is answered.
+/// How many bytes of replies are enough to be written before another line is answered.
 const ENOUGH: usize = 65_536;
 
 /// Where the cutting of an input into lines stands.
@@ -33,7 +33,7 @@ pub(crate) struct Cut {
 #[derive(Drop)]
 pub(crate) struct Stop<'a> {
     pub(crate) cut: Cut,
-    /// What comes after the last line that was answered. It is empty once what follows the last line feed is kept.
+    /// What is left of the piece to be answered: nothing, once what follows its last line feed is kept.
     pub(crate) rest: &'a [u8],
 }
 
