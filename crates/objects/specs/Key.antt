@@ -1,5 +1,7 @@
 -- What names an object: its kind, its namespace and its name.
-use Rattle.std.specs.Prelude.{◌≡◌, ℕ, Bool, ◌&&◌, ◌==◌, List, refl, if◌then◌else◌}
+use Rattle.std.specs.Prelude.{◌≡◌, ℕ, Bool, ◌&&◌, ◌==◌, List, ◌++◌, refl, if◌then◌else◌}
+use Rattle.std.specs.Hash as fed
+use Rattle.std.specs.Hash.{HashWrites}
 use Rattle.std.specs.Ordering.{nat_cmp, then_cmp, on}
 use Rattle.std.specs.Cmp.Lexicographic.{slice_cmp}
 use Rattle.std.specs.declared.cmp.Ordering.{Ordering}
@@ -48,3 +50,7 @@ is_key k = is_dns_label k.namespace && is_name k.kind k.name
 -- by kind, then by namespace, then by name, texts in byte order
 abbrev pub key_cmp : KeyParts → KeyParts → Ordering
 key_cmp = then_cmp (on (λ k. kind_index k.kind) nat_cmp) (then_cmp (on (λ k. k.namespace) (slice_cmp nat_cmp)) (on (λ k. k.name) (slice_cmp nat_cmp)))
+
+-- what a key feeds a hasher: its kind, its namespace and its name
+abbrev pub key_fed : KeyParts → HashWrites
+key_fed k = fed.u8 (kind_index k.kind) ++ fed.str k.namespace ++ fed.str k.name

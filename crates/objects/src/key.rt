@@ -6,6 +6,7 @@ use crate::names::{is_dns_label, is_name};
 use crate::text::Text;
 use std::alloc::{AllocError, Global};
 use std::cmp::Ordering;
+use std::hash::{Hash, Hasher};
 use std::marker::Model;
 
 /// What names an object: no two objects of a store have one key.
@@ -123,5 +124,20 @@ impl PartialOrd for Key {
 
     fn partial_cmp(&self, other: &Key) -> Option<Ordering> {
         Some(self.cmp(other))
+    }
+}
+
+impl Hash for Key {
+    ghost use Rattle.objects.specs.Key.{key_fed};
+    ghost use Rattle.objects.specs.KeyOrder.{keys_fed_alike};
+
+    ghost hash_input = { key_fed };
+
+    ghost respects_eq = { keys_fed_alike };
+
+    fn hash<H: Hasher>(&self, state: &mut H) {
+        state.write_u8(self.kind as u8);
+        self.namespace.as_str().hash(state);
+        self.name.as_str().hash(state);
     }
 }
