@@ -14,22 +14,10 @@ use Rattle.std.proofs.lemmas.Option.{none-some, same_Some}
 use Rattle.objects.specs.declared.kind.Kind.{Kind}
 use Rattle.objects.specs.declared.object.Object.{Object}
 use Rattle.objects.specs.Key.{KeyParts, key_cmp, kind_index, kind_at, kind_at-kind_index}
+pub use Rattle.objects.specs.KeyOrder.{exact_keys, equal_from}
 use Rattle.objects.specs.KeyOrder.{key_cmp_total}
 use Rattle.plain.specs.Store.{Store}
 use Rattle.plain.specs.Filed.{AreFiled}
-
--- kinds that stand at one place are one
-exact_kinds : CmpEqualImpliesEq (on kind_index nat_cmp)
-exact_kinds a b tie = sym (kind_at-kind_index a) ∙ ap kind_at (exact_unsigned (kind_index a) (kind_index b) tie) ∙ kind_at-kind_index b
-
-exact_names : CmpEqualImpliesEq (then_cmp (on (λ (p : List ℕ × List ℕ). p.0) (slice_cmp nat_cmp)) (on (λ (p : List ℕ × List ℕ). p.1) (slice_cmp nat_cmp)))
-exact_names = exact_pairs (slice_cmp nat_cmp) (slice_cmp nat_cmp) exact_bytes exact_bytes
-
--- keys that compare alike are one
-pub exact_keys : CmpEqualImpliesEq key_cmp
-exact_keys a b tie =
-    ap (λ (p : Kind × (List ℕ × List ℕ)). record { kind = p.0; namespace = p.1.0; name = p.1.1 })
-    (exact_pairs (on kind_index nat_cmp) _ exact_kinds exact_names (a.kind, (a.namespace, a.name)) (b.kind, (b.namespace, b.name)) tie)
 
 -- what the entries have at a key
 abbrev pub object_at : List (KeyParts × Object) → KeyParts → Option Object
@@ -95,11 +83,6 @@ pub found_filed : (found : Option (Bor Object)) (es : List (KeyParts × Object))
     → AreFiled (from_entries {R = key_cmp} es) → option_copied found ≡ object_at es key → IfSome found (λ o. o.now.key ≡ key)
 found_filed None es key filed at = tt
 found_filed (Some o) es key filed at = filed key o.now (get_object es key ∙ sym at)
-
-pub equal_from : (r : Ordering) → is_eq r ≡ true → r ≡ Equal
-equal_from Less e = cc
-equal_from Equal e = refl
-equal_from Greater e = cc
 
 filed_by : (b : Bool) (k : KeyParts) (o w : Object) (at : Option Object) → (b ≡ true → o.key ≡ k) → (at ≡ Some w → w.key ≡ k) → cond b (Some o) at ≡ Some w → w.key ≡ k
 filed_by true k o w at here before there = ap (λ (x : Object). x.key) (sym (same_Some o w there)) ∙ here refl

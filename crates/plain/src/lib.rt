@@ -51,7 +51,7 @@ pub use devices::{ReadSource, WriteSink};
 pub use lifetimes::{
     names_live_once, objects_stand_under_their_keys, uids_name_one_key, uids_stay,
 };
-pub use listing::Listing;
+pub use listing::{Listing, is_of, least_key};
 pub use reply::{Reason, Reply};
 pub use request::{Request, RequestError, read_request};
 pub use runs::{

@@ -62,8 +62,9 @@ pub(crate) fn listing_of(
     Ok(Listing { objects: found })
 }
 
-// A key that no key of the kind and the namespace is below; there is none where no object can be in the namespace.
-fn least_key(alloc: Global, kind: Kind, namespace: &Text) -> Result<Option<Key>, Memory>
+/// A key that no key of the kind in the namespace is below, so that a walk over keys in their order begins there. There
+/// is none where no object can be in the namespace, which then is no DNS label.
+pub fn least_key(alloc: Global, kind: Kind, namespace: &Text) -> Result<Option<Key>, Memory>
     ensures { IfOk result (λ key. key ≡ least_key kind namespace.now) }
 {
     // A name begins with a letter or a digit, so none is below "0".
@@ -74,7 +75,8 @@ fn least_key(alloc: Global, kind: Kind, namespace: &Text) -> Result<Option<Key>,
     }
 }
 
-fn is_of(key: &Key, kind: Kind, namespace: &Text) -> bool
+/// Whether the key is of the kind and in the namespace. In the order of keys those that are lie side by side.
+pub fn is_of(key: &Key, kind: Kind, namespace: &Text) -> bool
     ensures { result ≡ is_of kind namespace.now key.now }
 {
     key.kind == kind && key.namespace.as_str() == namespace.as_str()
