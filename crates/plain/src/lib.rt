@@ -3,6 +3,8 @@
 #![tactic(auto)]
 
 mod api;
+#[cfg(test)]
+mod asserts;
 mod buffers;
 mod change;
 mod changes;

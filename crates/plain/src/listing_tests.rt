@@ -1,6 +1,6 @@
 //! Lists, line by line, with the replies worked out by hand.
-use crate::status_tests::joined;
-use crate::{BufferSink, Plain, Reply, Request, SliceSource, read_request, serve};
+use crate::asserts::{assert_answers, assert_serves};
+use crate::{Plain, Reply, Request, read_request};
 use objects::{Kind, Text};
 use std::alloc::Global;
 use std::process::Abort;
@@ -8,13 +8,9 @@ use std::test::Fail;
 
 #[test]
 fn a_new_store_lists_nothing(rt: HostRuntime) -> Result<(), Fail> {
-    let mut source = SliceSource::new(br#"{"do":"list","kind":"Pod"}"#);
-    let mut sink = BufferSink::with_room(rt.alloc(), 100)?;
-    let lines = serve(rt.alloc(), &mut source, &mut sink, 1)?;
+    let line = br#"{"do":"list","kind":"Pod"}"#;
     let expected = "{\"code\":200,\"items\":[],\"resourceVersion\":\"0\",\"result\":\"Listed\"}\n";
-    assert_eq!(rt; lines, 1);
-    assert_eq!(rt; sink.bytes(), expected.as_bytes());
-    Ok(())
+    Ok(assert_answers(&rt, rt.alloc(), line, 100, Ok(1), expected.as_bytes())?)
 }
 
 /// A list counts no write, and has the version of the last one: here that of a deletion.
@@ -120,29 +116,29 @@ static ORDERED: [(&str, &str); 18] = [
     ),
 ];
 
-pub(crate) fn assert_serves(
-    rt: &impl Abort,
-    alloc: Global,
-    lines: &[(&str, &str)],
-) -> Result<(), Fail> {
-    let input = joined(alloc, lines, false)?;
-    let expected = joined(alloc, lines, true)?;
-    let mut source = SliceSource::new(input.as_bytes());
-    let mut sink = BufferSink::with_room(alloc, 10_000)?;
-    let count = serve(alloc, &mut source, &mut sink, 100)?;
-    assert_eq!(rt; count, lines.len() as u64);
-    assert_eq!(rt; sink.bytes(), expected.as_bytes());
-    Ok(())
-}
-
 #[test]
 fn a_list_has_the_version_of_the_last_write(rt: HostRuntime) -> Result<(), Fail> {
-    assert_serves(&rt, rt.alloc(), DELETED.as_slice())
+    Ok(assert_serves(&rt, rt.alloc(), DELETED.as_slice())?)
 }
 
 #[test]
 fn a_list_has_the_objects_of_a_kind_in_a_namespace_by_name(rt: HostRuntime) -> Result<(), Fail> {
-    assert_serves(&rt, rt.alloc(), ORDERED.as_slice())
+    Ok(assert_serves(&rt, rt.alloc(), ORDERED.as_slice())?)
+}
+
+/// How many objects a list has, and its version.
+fn listed(reply: &Reply) -> Option<(usize, u64)> {
+    match reply {
+        Reply::Listed { objects, revision } => Some((objects.as_slice().len(), *revision)),
+        _ => None,
+    }
+}
+
+/// The reply to a list of the pods of that namespace.
+fn list(alloc: Global, plain: &mut Plain, namespace: &str) -> Result<Reply, Fail> {
+    let namespace = Text::copy_of(alloc, namespace)?;
+    let kind = Kind::Pod;
+    Ok(plain.take(Request::List { kind, namespace })?)
 }
 
 /// Asserts that the pods of that namespace are so many.
@@ -153,30 +149,33 @@ fn assert_lists(
     namespace: &str,
     expected: usize,
 ) -> Result<(), Fail> {
-    let request = Request::List {
-        kind: Kind::Pod,
-        namespace: Text::copy_of(alloc, namespace)?,
-    };
-    match plain.take(request)? {
-        Reply::Listed { objects, revision } => {
-            assert_eq!(rt; objects.as_slice().len(), expected);
-            assert_eq!(rt; revision, 1);
-        }
-        _ => panic!(rt; "no list"),
-    }
+    let reply = list(alloc, plain, namespace)?;
+    assert_eq!(rt; listed(&reply), Some((expected, 1)));
+    drop(reply);
     Ok(())
+}
+
+/// The reply to a request line.
+pub(crate) fn taken(alloc: Global, plain: &mut Plain, line: &str) -> Result<Reply, Fail> {
+    Ok(plain.take(read_request(alloc, line.as_bytes())?)?)
+}
+
+/// A new store that holds the pod `a` in the namespace `default`.
+fn with_a_pod(rt: &impl Abort, alloc: Global) -> Result<Plain, Fail> {
+    let create = r#"{"do":"create","object":{"kind":"Pod","metadata":{"name":"a"}}}"#;
+    assert_names(rt, alloc, create, Some("a"))?;
+    let mut plain = Plain::new(alloc, 1)?;
+    drop(taken(alloc, &mut plain, create)?);
+    Ok(plain)
 }
 
 #[test]
 fn a_namespace_that_no_object_can_be_in_has_none(rt: HostRuntime) -> Result<(), Fail> {
-    let create = br#"{"do":"create","object":{"kind":"Pod","metadata":{"name":"a"}}}"#;
-    let mut plain = Plain::new(rt.alloc(), 1)?;
-    let request = read_request(rt.alloc(), create)?;
-    assert!(rt; request.key().is_some_and(|key| key.name.as_str() == "a"));
-    let _ = plain.take(request)?;
-    assert_lists(&rt, rt.alloc(), &mut plain, "default", 1)?;
-    assert_lists(&rt, rt.alloc(), &mut plain, "X", 0)?;
-    assert_lists(&rt, rt.alloc(), &mut plain, "", 0)
+    let mut plain = with_a_pod(&rt, rt.alloc())?;
+    for (namespace, expected) in [("default", 1), ("X", 0), ("", 0)] {
+        assert_lists(&rt, rt.alloc(), &mut plain, namespace, expected)?;
+    }
+    Ok(())
 }
 
 /// Requests, and the names of the keys that they name.
@@ -201,6 +200,10 @@ static KEYS: [(&str, Option<&str>); 6] = [
     ),
 ];
 
+fn name_in(request: &Request) -> Option<&str> {
+    Some(request.key()?.name.as_str())
+}
+
 fn assert_names(
     rt: &impl Abort,
     alloc: Global,
@@ -208,10 +211,8 @@ fn assert_names(
     expected: Option<&str>,
 ) -> Result<(), Fail> {
     let request = read_request(alloc, line.as_bytes())?;
-    match request.key() {
-        Some(key) => assert_eq!(rt; Some(key.name.as_str()), expected, "of {line}"),
-        None => assert!(rt; expected.is_none(), "of {line}"),
-    }
+    assert_eq!(rt; name_in(&request), expected, "of {line}");
+    drop(request);
     Ok(())
 }
 

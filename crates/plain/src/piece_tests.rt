@@ -1,6 +1,8 @@
 //! Replies that are much longer than their lines.
-use crate::{BufferSink, ServeFault, Sink, SliceSource, serve};
+use crate::asserts::{assert_answers, assert_ends};
+use crate::{BufferSink, ServeFault, Sink, SliceSource};
 use std::alloc::{AllocError, Global};
+use std::process::Abort;
 use std::test::Fail;
 
 const LIST: &str = "{\"do\":\"list\",\"kind\":\"Pod\"}\n";
@@ -70,35 +72,60 @@ fn then_lists(mut first: String, other: &str) -> Result<String, AllocError> {
     Ok(first)
 }
 
-#[test]
-fn long_replies_are_written_in_order_and_do_not_pile_up(rt: HostRuntime) -> Result<(), Fail> {
-    let input = then_lists(creation(rt.alloc())?, LIST)?;
-    let reply = listed(rt.alloc())?;
-    let expected = then_lists(created(rt.alloc())?, reply.as_str())?;
+/// The line of a creation and those of the lists, or the replies to them.
+fn with_lists(alloc: Global, replies: bool) -> Result<String, AllocError> {
+    if !replies {
+        return then_lists(creation(alloc)?, LIST);
+    }
+    let reply = listed(alloc)?;
+    then_lists(created(alloc)?, reply.as_str())
+}
+
+fn assert_holds(rt: &impl Abort, sink: &Watched, expected: &[u8], reply: usize) {
+    assert_eq!(rt; sink.inner.bytes(), expected);
+    assert!(rt; sink.most >= 65_536);
+    assert!(rt; sink.most - 65_536 < reply);
+}
+
+/// Asserts that the replies are written in pieces that are shorter than one of them and 65,536 bytes.
+fn assert_pieces(
+    rt: &impl Abort,
+    alloc: Global,
+    input: &str,
+    expected: &str,
+    reply: usize,
+) -> Result<(), AllocError> {
     let mut sink = Watched {
-        inner: BufferSink::with_room(rt.alloc(), expected.len())?,
+        inner: BufferSink::with_room(alloc, expected.len())?,
         most: 0,
     };
     let mut source = SliceSource::new(input.as_bytes());
-    let lines = serve(rt.alloc(), &mut source, &mut sink, 1)?;
-    assert_eq!(rt; lines, 3_001);
-    assert_eq!(rt; sink.inner.bytes(), expected.as_bytes());
-    assert!(rt; sink.most >= 65_536);
-    assert!(rt; sink.most - 65_536 < reply.len());
+    assert_ends(rt, alloc, &mut source, &mut sink, 1, Ok(3_001));
+    assert_holds(rt, &sink, expected.as_bytes(), reply);
     Ok(())
+}
+
+fn reply_length(alloc: Global) -> Result<usize, AllocError> {
+    Ok(listed(alloc)?.len())
+}
+
+#[test]
+fn long_replies_are_written_in_order_and_do_not_pile_up(rt: HostRuntime) -> Result<(), Fail> {
+    let reply = reply_length(rt.alloc())?;
+    let input = with_lists(rt.alloc(), false)?;
+    let expected = with_lists(rt.alloc(), true)?;
+    Ok(assert_pieces(&rt, rt.alloc(), input.as_str(), expected.as_str(), reply)?)
 }
 
 #[test]
 fn a_writer_that_is_full_has_a_beginning_of_long_replies(rt: HostRuntime) -> Result<(), Fail> {
-    let input = then_lists(creation(rt.alloc())?, LIST)?;
-    let reply = listed(rt.alloc())?;
-    let expected = then_lists(created(rt.alloc())?, reply.as_str())?;
-    let mut sink = BufferSink::with_room(rt.alloc(), 100_000)?;
-    let mut source = SliceSource::new(input.as_bytes());
-    assert_eq!(rt;
-        serve(rt.alloc(), &mut source, &mut sink, 1),
-        Err(ServeFault::Write)
-    );
-    assert_eq!(rt; Some(sink.bytes()), expected.as_bytes().get(..100_000));
-    Ok(())
+    let input = with_lists(rt.alloc(), false)?;
+    let expected = with_lists(rt.alloc(), true)?;
+    let ends = Err(ServeFault::Write);
+    match expected.as_bytes().get(..100_000) {
+        Some(begun) => {
+            Ok(assert_answers(&rt, rt.alloc(), input.as_bytes(), 100_000, ends, begun)?)
+        }
+        None => panic!(rt; "the replies are short"),
+    }
 }

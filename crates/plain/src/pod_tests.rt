@@ -1,5 +1,5 @@
 //! Preconditions and deletions of a pod, line by line, with the replies worked out by hand.
-use crate::listing_tests::assert_serves;
+use crate::asserts::assert_serves;
 use std::test::Fail;
 
 /// An update by a version of the past conflicts, and one with no version does not.
@@ -38,7 +38,7 @@ static VERSIONS: [(&str, &str); 7] = [
 
 #[test]
 fn a_version_of_the_past_conflicts(rt: HostRuntime) -> Result<(), Fail> {
-    assert_serves(&rt, rt.alloc(), VERSIONS.as_slice())
+    Ok(assert_serves(&rt, rt.alloc(), VERSIONS.as_slice())?)
 }
 
 /// A pod is marked, goes, and comes again; a delete by the UID of the first spares the second.
@@ -76,5 +76,5 @@ static DELETIONS: [(&str, &str); 7] = [
 
 #[test]
 fn a_delete_by_uid_spares_the_successor(rt: HostRuntime) -> Result<(), Fail> {
-    assert_serves(&rt, rt.alloc(), DELETIONS.as_slice())
+    Ok(assert_serves(&rt, rt.alloc(), DELETIONS.as_slice())?)
 }

@@ -1,6 +1,7 @@
 //! Request lines, and the replies of a store to them.
+use crate::listing_tests::taken;
 use crate::{Plain, PlainError, Reason, Reply, Request, RequestError, read_request};
-use objects::{Kind, Object, ReadError};
+use objects::{Kind, Object, ReadError, Text};
 use std::alloc::Global;
 use std::process::Abort;
 use std::test::Fail;
@@ -156,81 +157,154 @@ static REFUSED: [(&str, RequestError); 44] = [
     ),
 ];
 
+/// Why a line is no request, where it is none.
+fn refusal(alloc: Global, line: &str) -> Option<RequestError> {
+    read_request(alloc, line.as_bytes()).err()
+}
+
 #[test]
 fn lines_that_are_no_request(rt: HostRuntime) {
     for (line, expected) in REFUSED.iter() {
-        match read_request(rt.alloc(), line.as_bytes()) {
-            Ok(_) => panic!(rt; "a request: {line}"),
-            Err(error) => assert_eq!(rt; error, *expected, "of {line}"),
-        }
+        assert_refuses(&rt, rt.alloc(), line, *expected);
     }
+}
+
+fn assert_refuses(rt: &impl Abort, alloc: Global, line: &str, expected: RequestError) {
+    assert_eq!(rt; refusal(alloc, line), Some(expected), "of {line}");
+}
+
+/// A text behind so many spaces and before another.
+fn padded(alloc: Global, count: usize, text: &str, back: &str) -> Result<String, Fail> {
+    let mut line = " ".repeat(alloc, count)?;
+    line.push_str(text)?;
+    line.push_str(back)?;
+    Ok(line)
 }
 
 #[test]
 fn lines_that_are_too_long(rt: HostRuntime) -> Result<(), Fail> {
     let get = r#"{"do":"get","kind":"Pod","name":"x"}"#;
     assert_eq!(rt; get.len(), 36);
-    let mut line = " ".repeat(rt.alloc(), 1_048_540)?;
-    line.push_str(get)?;
-    assert!(rt; read_request(rt.alloc(), line.as_bytes()).is_ok());
-    line.push_str(" ")?;
-    let refused = read_request(rt.alloc(), line.as_bytes());
-    assert!(rt; refused.is_err_and(|error| error == RequestError::Read(ReadError::TooLong)));
+    let line = padded(rt.alloc(), 1_048_540, get, "")?;
+    assert!(rt; refusal(rt.alloc(), line.as_str()).is_none());
+    drop(line);
+    let line = padded(rt.alloc(), 1_048_540, get, " ")?;
+    let refused = RequestError::Read(ReadError::TooLong);
+    assert_refuses(&rt, rt.alloc(), line.as_str(), refused);
     Ok(())
 }
 
-#[test]
-fn lines_that_are_requests(rt: HostRuntime) -> Result<(), Fail> {
-    let line =
-        br#"{"do":"get","namespace":"n","kind":"ControllerRevision","name":"a.b","other":[1]}"#;
-    match read_request(rt.alloc(), line)? {
+fn gets(request: &Request, kind: Kind, namespace: &str, name: &str) -> bool {
+    match request {
         Request::Get(key) => {
-            assert_eq!(rt; key.kind, Kind::ControllerRevision);
-            assert_eq!(rt; key.namespace.as_str(), "n");
-            assert_eq!(rt; key.name.as_str(), "a.b");
+            key.kind == kind && key.namespace.as_str() == namespace && key.name.as_str() == name
         }
-        _ => panic!(rt; "no get"),
+        _ => false,
     }
-    match read_request(
-        rt.alloc(),
-        br#"{"name":5,"namespace":"n","kind":"StatefulSet","do":"list"}"#,
-    )? {
-        Request::List { kind, namespace } => {
-            assert_eq!(rt; kind, Kind::StatefulSet);
-            assert_eq!(rt; namespace.as_str(), "n");
-        }
-        _ => panic!(rt; "no list"),
+}
+
+fn lists(request: &Request, of: Kind, within: &str) -> bool {
+    match request {
+        Request::List { kind, namespace } => *kind == of && namespace.as_str() == within,
+        _ => false,
     }
-    match read_request(
-        rt.alloc(),
-        br#"{"object":{"kind":"Pod","metadata":{"name":"x"}},"do":"create"}"#,
-    )? {
-        Request::Create(draft) => assert_eq!(rt; draft.object.key.namespace.as_str(), "default"),
-        _ => panic!(rt; "no create"),
+}
+
+fn creates_in(request: &Request, namespace: &str) -> bool {
+    match request {
+        Request::Create(draft) => draft.object.key.namespace.as_str() == namespace,
+        _ => false,
     }
-    match read_request(
-        rt.alloc(),
-        br#"{"do":"update","object":{"kind":"Pod","metadata":{"name":"x"}}}"#,
-    )? {
-        Request::Update(draft) => assert_eq!(rt; draft.object.key.name.as_str(), "x"),
-        _ => panic!(rt; "no update"),
+}
+
+fn updates(request: &Request, name: &str) -> bool {
+    match request {
+        Request::Update(draft) => draft.object.key.name.as_str() == name,
+        _ => false,
     }
-    match read_request(
-        rt.alloc(),
-        br#"{"do":"delete","kind":"Pod","name":"x","uid":"","resourceVersion":"2","at":null}"#,
-    )? {
+}
+
+/// Whether the text is there, and is the other.
+fn is_text(text: &Option<Text>, other: &str) -> bool {
+    match text {
+        Some(text) => text.as_str() == other,
+        None => false,
+    }
+}
+
+/// Whether it deletes the object of that name at that version, whatever its UID, and at once.
+fn deletes_at(request: &Request, name: &str, at_version: &str) -> bool {
+    match request {
         Request::Delete {
             key,
             uid,
             version,
             at,
         } => {
-            assert_eq!(rt; key.name.as_str(), "x");
-            assert!(rt; uid.is_none());
-            assert!(rt; version.is_some_and(|version| version.as_str() == "2"));
-            assert!(rt; at.is_none());
+            key.name.as_str() == name
+                && uid.is_none()
+                && is_text(version, at_version)
+                && at.is_none()
         }
-        _ => panic!(rt; "no delete"),
+        _ => false,
+    }
+}
+
+/// Lines, one of each verb but `status`, and what they come to.
+static READ: [(&str, Shape); 5] = [
+    (
+        r#"{"do":"get","namespace":"n","kind":"ControllerRevision","name":"a.b","other":[1]}"#,
+        Shape::Get,
+    ),
+    (
+        r#"{"name":5,"namespace":"n","kind":"StatefulSet","do":"list"}"#,
+        Shape::List,
+    ),
+    (
+        r#"{"object":{"kind":"Pod","metadata":{"name":"x"}},"do":"create"}"#,
+        Shape::Create,
+    ),
+    (
+        r#"{"do":"update","object":{"kind":"Pod","metadata":{"name":"x"}}}"#,
+        Shape::Update,
+    ),
+    (
+        r#"{"do":"delete","kind":"Pod","name":"x","uid":"","resourceVersion":"2","at":null}"#,
+        Shape::Delete,
+    ),
+];
+
+/// What a line should come to.
+#[derive(Clone, Copy)]
+enum Shape {
+    Get,
+    List,
+    Create,
+    Update,
+    Delete,
+}
+
+fn has_shape(request: &Request, shape: Shape) -> bool {
+    match shape {
+        Shape::Get => gets(request, Kind::ControllerRevision, "n", "a.b"),
+        Shape::List => lists(request, Kind::StatefulSet, "n"),
+        Shape::Create => creates_in(request, "default"),
+        Shape::Update => updates(request, "x"),
+        Shape::Delete => deletes_at(request, "x", "2"),
+    }
+}
+
+fn reads_as(alloc: Global, line: &str, shape: Shape) -> Result<bool, Fail> {
+    let request = read_request(alloc, line.as_bytes())?;
+    let is_right = has_shape(&request, shape);
+    drop(request);
+    Ok(is_right)
+}
+
+#[test]
+fn lines_that_are_requests(rt: HostRuntime) -> Result<(), Fail> {
+    for (line, shape) in READ.iter() {
+        assert!(rt; reads_as(rt.alloc(), line, *shape)?, "of {line}");
     }
     Ok(())
 }
@@ -258,14 +332,22 @@ static REASONS: [(Reason, u16, &str); 5] = [
     (Reason::StoreFull, 507, "StoreFull"),
 ];
 
+fn assert_error(rt: &impl Abort, error: RequestError, name: &str) {
+    assert_eq!(rt; error.name(), name);
+}
+
+fn assert_reason(rt: &impl Abort, reason: Reason, code: u16, name: &str) {
+    assert_eq!(rt; reason.code(), code);
+    assert_eq!(rt; reason.name(), name);
+}
+
 #[test]
 fn refusals_and_reasons_have_names(rt: HostRuntime) {
     for (error, name) in NAMES.iter() {
-        assert_eq!(rt; error.name(), *name);
+        assert_error(&rt, *error, name);
     }
     for (reason, code, name) in REASONS.iter() {
-        assert_eq!(rt; reason.code(), *code);
-        assert_eq!(rt; reason.name(), *name);
+        assert_reason(&rt, *reason, *code, name);
     }
 }
 
@@ -278,13 +360,18 @@ static CAPACITIES: [(u64, bool); 5] = [
     (u64::MAX, false),
 ];
 
+/// Whether a store may have that capacity.
+fn is_capacity(alloc: Global, capacity: u64) -> bool {
+    match Plain::new(alloc, capacity) {
+        Ok(_) => true,
+        Err(PlainError::BadCapacity) => false,
+    }
+}
+
 #[test]
 fn capacities_have_limits(rt: HostRuntime) {
     for (capacity, expected) in CAPACITIES.iter() {
-        match Plain::new(rt.alloc(), *capacity) {
-            Ok(_) => assert!(rt; *expected, "{capacity}"),
-            Err(PlainError::BadCapacity) => assert!(rt; !*expected, "{capacity}"),
-        }
+        assert_eq!(rt; is_capacity(rt.alloc(), *capacity), *expected, "{capacity}");
     }
 }
 
@@ -331,8 +418,33 @@ fn label_in(object: &Object) -> Option<&str> {
     metadata.get("labels")?.as_map()?.get("a")?.as_text()
 }
 
-/// Takes a line, and asserts what the reply comes to: its name, and the object's resource version, UID and label
-/// (none of them in a refusal).
+/// What a reply comes to: its name, and the object's resource version, UID and label (none of them in a refusal).
+fn summary(reply: &Reply) -> (&str, u64, u64, &str) {
+    match object_in(reply) {
+        Some(object) => (
+            outcome(reply),
+            object.meta.revision,
+            object.meta.uid,
+            label(object),
+        ),
+        None => (outcome(reply), 0, 0, ""),
+    }
+}
+
+/// The generation of the reply's object, or 1 where it has none.
+fn generation(reply: &Reply) -> u64 {
+    match object_in(reply) {
+        Some(object) => object.meta.generation,
+        None => 1,
+    }
+}
+
+fn assert_summary(rt: &impl Abort, reply: &Reply, line: &str, expected: (&str, u64, u64, &str)) {
+    assert_eq!(rt; generation(reply), 1, "of {line}");
+    assert_eq!(rt; summary(reply), expected, "of {line}");
+}
+
+/// Takes a line, and asserts what the reply comes to.
 fn assert_takes(
     rt: &impl Abort,
     alloc: Global,
@@ -340,18 +452,23 @@ fn assert_takes(
     line: &str,
     expected: (&str, u64, u64, &str),
 ) -> Result<(), Fail> {
-    let reply = plain.take(read_request(alloc, line.as_bytes())?)?;
-    assert_eq!(rt; outcome(&reply), expected.0, "of {line}");
-    let (revision, uid, label) = match object_in(&reply) {
-        Some(object) => {
-            assert_eq!(rt; object.meta.generation, 1, "of {line}");
-            (object.meta.revision, object.meta.uid, label(object))
-        }
-        None => (0, 0, ""),
-    };
-    assert_eq!(rt; revision, expected.1, "of {line}");
-    assert_eq!(rt; uid, expected.2, "of {line}");
-    assert_eq!(rt; label, expected.3, "of {line}");
+    let reply = taken(alloc, plain, line)?;
+    assert_summary(rt, &reply, line, expected);
+    drop(reply);
+    Ok(())
+}
+
+/// Asserts what the replies to the lines come to, by a new store of that capacity.
+fn assert_takes_all(
+    rt: &impl Abort,
+    alloc: Global,
+    capacity: u64,
+    rows: &[(&str, (&str, u64, u64, &str))],
+) -> Result<(), Fail> {
+    let mut plain = Plain::new(alloc, capacity)?;
+    for (line, expected) in rows {
+        assert_takes(rt, alloc, &mut plain, line, *expected)?;
+    }
     Ok(())
 }
 
@@ -447,11 +564,7 @@ static ROWS: [(&str, (&str, u64, u64, &str)); 24] = [
 
 #[test]
 fn requests_are_taken_in_order(rt: HostRuntime) -> Result<(), Fail> {
-    let mut plain = Plain::new(rt.alloc(), 1_048_576)?;
-    for (line, expected) in ROWS.iter() {
-        assert_takes(&rt, rt.alloc(), &mut plain, line, *expected)?;
-    }
-    Ok(())
+    assert_takes_all(&rt, rt.alloc(), 1_048_576, ROWS.as_slice())
 }
 
 /// Lines to a new store of one revision.
@@ -479,11 +592,7 @@ static ROWS_OF_ONE: [(&str, (&str, u64, u64, &str)); 8] = [
 
 #[test]
 fn a_store_is_full_at_its_capacity(rt: HostRuntime) -> Result<(), Fail> {
-    let mut plain = Plain::new(rt.alloc(), 1)?;
-    for (line, expected) in ROWS_OF_ONE.iter() {
-        assert_takes(&rt, rt.alloc(), &mut plain, line, *expected)?;
-    }
-    Ok(())
+    assert_takes_all(&rt, rt.alloc(), 1, ROWS_OF_ONE.as_slice())
 }
 
 const MARK: &str = r#"{"at":"2024-01-01T00:00:00Z","do":"delete","kind":"Pod","name":"web-0"}"#;
@@ -546,11 +655,7 @@ static ROWS_OF_DELETION: [(&str, (&str, u64, u64, &str)); 22] = [
 
 #[test]
 fn pods_are_marked_before_they_go(rt: HostRuntime) -> Result<(), Fail> {
-    let mut plain = Plain::new(rt.alloc(), 1_048_576)?;
-    for (line, expected) in ROWS_OF_DELETION.iter() {
-        assert_takes(&rt, rt.alloc(), &mut plain, line, *expected)?;
-    }
-    Ok(())
+    assert_takes_all(&rt, rt.alloc(), 1_048_576, ROWS_OF_DELETION.as_slice())
 }
 
 /// The time of the deletion that marks an object, or an empty text.
@@ -563,14 +668,36 @@ fn time_in(reply: &Reply) -> Option<&str> {
     Some(time.as_str())
 }
 
+fn assert_outcome(rt: &impl Abort, reply: &Reply, expected: (&str, &str)) {
+    assert_eq!(rt; outcome(reply), expected.0);
+    assert_eq!(rt; time(reply), expected.1);
+}
+
+/// Takes a line, and asserts the name of the reply and the time of the mark.
+fn assert_marks(
+    rt: &impl Abort,
+    alloc: Global,
+    plain: &mut Plain,
+    line: &str,
+    expected: (&str, &str),
+) -> Result<(), Fail> {
+    let reply = taken(alloc, plain, line)?;
+    assert_outcome(rt, &reply, expected);
+    drop(reply);
+    Ok(())
+}
+
 #[test]
 fn a_marked_pod_has_the_time(rt: HostRuntime) -> Result<(), Fail> {
     let mut plain = Plain::new(rt.alloc(), 2)?;
-    let created = plain.take(read_request(rt.alloc(), CREATE.as_bytes())?)?;
-    assert_eq!(rt; time(&created), "");
-    let marked = plain.take(read_request(rt.alloc(), MARK.as_bytes())?)?;
-    assert_eq!(rt; outcome(&marked), "Marked");
-    assert_eq!(rt; time(&marked), "2024-01-01T00:00:00Z");
+    assert_marks(&rt, rt.alloc(), &mut plain, CREATE, ("Created", ""))?;
+    assert_marks(
+        &rt,
+        rt.alloc(),
+        &mut plain,
+        MARK,
+        ("Marked", "2024-01-01T00:00:00Z"),
+    )?;
     // A full store still answers what changes nothing, and takes nothing away.
     assert_takes(&rt, rt.alloc(), &mut plain, MARK, ("Unchanged", 2, 1, ""))?;
     assert_takes(&rt, rt.alloc(), &mut plain, DELETE, ("StoreFull", 0, 0, ""))

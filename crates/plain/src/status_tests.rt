@@ -1,6 +1,5 @@
 //! The status and the generation of objects, line by line, with the replies worked out by hand.
-use crate::{BufferSink, SliceSource, serve};
-use std::alloc::{AllocError, Global};
+use crate::asserts::assert_serves;
 use std::test::Fail;
 
 /// Request lines to a new store, and the reply lines.
@@ -76,28 +75,7 @@ static LINES: [(&str, &str); 16] = [
     ),
 ];
 
-/// The request lines, or the reply lines, each with its line feed.
-pub(crate) fn joined(
-    alloc: Global,
-    lines: &[(&str, &str)],
-    replies: bool,
-) -> Result<String, AllocError> {
-    let mut text = String::new(alloc);
-    for (line, reply) in lines {
-        text.push_str(if replies { reply } else { line })?;
-        text.push_str("\n")?;
-    }
-    Ok(text)
-}
-
 #[test]
 fn status_is_written_by_its_own_request(rt: HostRuntime) -> Result<(), Fail> {
-    let input = joined(rt.alloc(), LINES.as_slice(), false)?;
-    let expected = joined(rt.alloc(), LINES.as_slice(), true)?;
-    let mut sink = BufferSink::with_room(rt.alloc(), 10_000)?;
-    let mut source = SliceSource::new(input.as_bytes());
-    let lines = serve(rt.alloc(), &mut source, &mut sink, 100)?;
-    assert_eq!(rt; lines, 16);
-    assert_eq!(rt; sink.bytes(), expected.as_bytes());
-    Ok(())
+    Ok(assert_serves(&rt, rt.alloc(), LINES.as_slice())?)
 }

@@ -1,13 +1,12 @@
 ghost use Rattle.std.specs.Prelude.{◌≡◌, ◌-◌, ◌^◌, ℕ, List, length, min, Some};
 ghost use Rattle.std.proofs.Common.{rules};
 
+use crate::asserts::{assert_answers, assert_ends};
 use crate::failures::Failures;
-use crate::{
-    BufferSink, ReadSource, ServeFault, Sink, SliceSource, Source, WriteSink, serve, write_all,
-};
+use crate::{BufferSink, ReadSource, ServeFault, Sink, SliceSource, Source, WriteSink, write_all};
+use std::alloc::{AllocError, Global};
+use std::process::Abort;
 use std::test::Fail;
-
-const TOO_LONG: &[u8] = b"{\"code\":400,\"reason\":\"TooLong\"}\n";
 
 const NOT_JSON: &[u8] = b"{\"code\":400,\"reason\":\"NotJson\"}\n";
 
@@ -58,74 +57,53 @@ impl Sink for Slow {
     }
 }
 
+/// Asserts whether the bytes are written, and which are written so far.
+fn assert_writes(rt: &impl Abort, sink: &mut Slow, bytes: &[u8], is_well: bool, written: &[u8]) {
+    assert!(rt; write_all(sink, bytes).is_some() == is_well);
+    assert_eq!(rt; sink.inner.bytes(), written);
+}
+
 #[test]
 fn bytes_are_written_until_the_writer_fails(rt: HostRuntime) -> Result<(), Fail> {
     let mut sink = Slow {
         inner: BufferSink::with_room(rt.alloc(), 5)?,
     };
-    assert!(rt; write_all(&mut sink, b"abc").is_some());
-    assert_eq!(rt; sink.inner.bytes(), b"abc".as_slice());
-    assert!(rt; write_all(&mut sink, b"").is_some());
-    assert!(rt; write_all(&mut sink, b"def").is_none());
-    assert_eq!(rt; sink.inner.bytes(), b"abcde".as_slice());
+    assert_writes(&rt, &mut sink, b"abc", true, b"abc");
+    assert_writes(&rt, &mut sink, b"", true, b"abc");
+    assert_writes(&rt, &mut sink, b"def", false, b"abcde");
     Ok(())
 }
 
 #[test]
 fn no_line_follows_an_empty_input(rt: HostRuntime) -> Result<(), Fail> {
-    let mut sink = BufferSink::with_room(rt.alloc(), 100)?;
-    let lines = serve(rt.alloc(), &mut SliceSource::new(b""), &mut sink, 1)?;
-    assert_eq!(rt; lines, 0);
-    assert_eq!(rt; sink.bytes().len(), 0);
-    Ok(())
+    Ok(assert_answers(&rt, rt.alloc(), b"", 100, Ok(0), b"")?)
 }
 
 #[test]
 fn each_line_has_an_answer(rt: HostRuntime) -> Result<(), Fail> {
-    let mut sink = BufferSink::with_room(rt.alloc(), 1000)?;
-    let lines = serve(rt.alloc(), &mut SliceSource::new(b"\n{}\n{}"), &mut sink, 1)?;
-    assert_eq!(rt; lines, 3);
-    let mut wanted = Vec::new(rt.alloc());
-    wanted.extend_from_slice(NOT_JSON)?;
-    wanted.extend_from_slice(NO_VERB)?;
-    wanted.extend_from_slice(NO_VERB)?;
-    assert_eq!(rt; sink.bytes(), wanted.as_slice());
-    Ok(())
+    let expected =
+        b"{\"code\":400,\"reason\":\"NotJson\"}\n{\"code\":400,\"reason\":\"NoVerb\"}\n{\"code\":400,\"reason\":\"NoVerb\"}\n";
+    Ok(assert_answers(&rt, rt.alloc(), b"\n{}\n{}", 1000, Ok(3), expected)?)
+}
+
+/// So many spaces, and the bytes behind them.
+fn spaces_before(alloc: Global, count: usize, back: &[u8]) -> Result<Vec<u8>, AllocError> {
+    let mut bytes = vec![in alloc; b' '; count]?;
+    bytes.extend_from_slice(back)?;
+    Ok(bytes)
 }
 
 #[test]
 fn a_line_over_the_limit_is_refused_over_several_reads(rt: HostRuntime) -> Result<(), Fail> {
-    let mut input = vec![in rt.alloc(); b' '; 1_048_577]?;
-    input.extend_from_slice(b"\n{}")?;
-    let mut sink = BufferSink::with_room(rt.alloc(), 1000)?;
-    let lines = serve(
-        rt.alloc(),
-        &mut SliceSource::new(input.as_slice()),
-        &mut sink,
-        1,
-    )?;
-    assert_eq!(rt; lines, 2);
-    let mut wanted = Vec::new(rt.alloc());
-    wanted.extend_from_slice(TOO_LONG)?;
-    wanted.extend_from_slice(NO_VERB)?;
-    assert_eq!(rt; sink.bytes(), wanted.as_slice());
-    Ok(())
+    let input = spaces_before(rt.alloc(), 1_048_577, b"\n{}")?;
+    let expected = b"{\"code\":400,\"reason\":\"TooLong\"}\n{\"code\":400,\"reason\":\"NoVerb\"}\n";
+    Ok(assert_answers(&rt, rt.alloc(), input.as_slice(), 1000, Ok(2), expected)?)
 }
 
 #[test]
 fn a_line_at_the_limit_is_read(rt: HostRuntime) -> Result<(), Fail> {
-    let mut input = vec![in rt.alloc(); b' '; 1_048_576]?;
-    input.extend_from_slice(b"\n")?;
-    let mut sink = BufferSink::with_room(rt.alloc(), 1000)?;
-    let lines = serve(
-        rt.alloc(),
-        &mut SliceSource::new(input.as_slice()),
-        &mut sink,
-        1,
-    )?;
-    assert_eq!(rt; lines, 1);
-    assert_eq!(rt; sink.bytes(), NOT_JSON);
-    Ok(())
+    let input = spaces_before(rt.alloc(), 1_048_576, b"\n")?;
+    Ok(assert_answers(&rt, rt.alloc(), input.as_slice(), 1000, Ok(1), NOT_JSON)?)
 }
 
 #[test]
@@ -135,9 +113,13 @@ fn what_was_read_before_a_failure_is_answered(rt: HostRuntime) -> Result<(), Fai
         left: b"{}\n",
         failures: Failures::none(),
     };
-    assert_eq!(rt;
-        serve(rt.alloc(), &mut source, &mut sink, 1),
-        Err(ServeFault::Read)
+    assert_ends(
+        &rt,
+        rt.alloc(),
+        &mut source,
+        &mut sink,
+        1,
+        Err(ServeFault::Read),
     );
     assert_eq!(rt; sink.bytes(), NO_VERB);
     Ok(())
@@ -145,31 +127,43 @@ fn what_was_read_before_a_failure_is_answered(rt: HostRuntime) -> Result<(), Fai
 
 #[test]
 fn a_full_writer_ends_the_serving(rt: HostRuntime) -> Result<(), Fail> {
-    let mut sink = BufferSink::with_room(rt.alloc(), 10)?;
-    let mut source = SliceSource::new(b"{}\n{}\n");
-    assert_eq!(rt;
-        serve(rt.alloc(), &mut source, &mut sink, 1),
-        Err(ServeFault::Write)
-    );
-    assert_eq!(rt; sink.bytes(), b"{\"code\":40".as_slice());
-    Ok(())
+    let ends = Err(ServeFault::Write);
+    Ok(assert_answers(&rt, rt.alloc(), b"{}\n{}\n", 10, ends, b"{\"code\":40")?)
+}
+
+/// Asserts how the serving by a store of that capacity ends, and what is written by then.
+fn assert_serves_by(
+    rt: &impl Abort,
+    alloc: Global,
+    streams: (&mut SliceSource, &mut BufferSink),
+    capacity: u64,
+    ends: Result<u64, ServeFault>,
+    expected: &[u8],
+) {
+    let (source, sink) = streams;
+    assert_ends(rt, alloc, source, sink, capacity, ends);
+    assert_eq!(rt; sink.bytes(), expected);
 }
 
 #[test]
 fn a_capacity_out_of_range_is_refused(rt: HostRuntime) -> Result<(), Fail> {
     let mut sink = BufferSink::with_room(rt.alloc(), 100)?;
     let mut source = SliceSource::new(b"{}\n");
-    assert_eq!(rt;
-        serve(rt.alloc(), &mut source, &mut sink, 0),
-        Err(ServeFault::BadCapacity)
-    );
-    assert_eq!(rt;
-        serve(rt.alloc(), &mut source, &mut sink, 1_048_577),
-        Err(ServeFault::BadCapacity)
-    );
-    assert_eq!(rt; sink.bytes().len(), 0);
-    assert_eq!(rt; serve(rt.alloc(), &mut source, &mut sink, 1_048_576), Ok(1));
-    assert_eq!(rt; sink.bytes(), NO_VERB);
+    let refused = Err(ServeFault::BadCapacity);
+    for (capacity, ends, expected) in [
+        (0, refused, b"".as_slice()),
+        (1_048_577, refused, b"".as_slice()),
+        (1_048_576, Ok(1), NO_VERB),
+    ] {
+        assert_serves_by(
+            &rt,
+            rt.alloc(),
+            (&mut source, &mut sink),
+            capacity,
+            ends,
+            expected,
+        );
+    }
     Ok(())
 }
 
@@ -177,13 +171,9 @@ fn a_capacity_out_of_range_is_refused(rt: HostRuntime) -> Result<(), Fail> {
 fn readers_and_writers_of_std_serve(rt: HostRuntime) -> Result<(), Fail> {
     let input: &[u8] = b"{}\n";
     let mut given = Vec::new(rt.alloc());
-    let lines = serve(
-        rt.alloc(),
-        &mut ReadSource::new(input),
-        &mut WriteSink::new(&mut given),
-        1,
-    )?;
-    assert_eq!(rt; lines, 1);
+    let mut source = ReadSource::new(input);
+    let mut sink = WriteSink::new(&mut given);
+    assert_ends(&rt, rt.alloc(), &mut source, &mut sink, 1, Ok(1));
     assert_eq!(rt; given.as_slice(), NO_VERB);
     Ok(())
 }

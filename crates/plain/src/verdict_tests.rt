@@ -49,7 +49,16 @@ fn verdict(
     if !request.is_write() {
         panic!(rt; "no write: {line}");
     }
-    Ok(decide(current, &request)?)
+    let verdict = decide(current, &request);
+    drop(request);
+    Ok(verdict?)
+}
+
+fn change_in(verdict: Verdict) -> Option<Change> {
+    match verdict {
+        Verdict::Write(change) => Some(change),
+        Verdict::Refuse(_) | Verdict::Same(_) => None,
+    }
 }
 
 /// The change that a line comes to.
@@ -59,9 +68,44 @@ fn change(
     current: Option<&Object>,
     line: &str,
 ) -> Result<Change, Fail> {
-    match verdict(rt, alloc, current, line)? {
-        Verdict::Write(change) => Ok(change),
-        _ => panic!(rt; "no change of {line}"),
+    match change_in(verdict(rt, alloc, current, line)?) {
+        Some(change) => Ok(change),
+        None => panic!(rt; "no change of {line}"),
+    }
+}
+
+/// What a change leaves at that number.
+fn version_at(change: Change, number: u64) -> Version
+    requires { (1 ≤ number) × (number < 2 ^ 48) }
+{
+    let (version, reply) = change.stamp(number);
+    drop(reply);
+    version
+}
+
+/// The answer to a change at that number.
+fn reply_at(change: Change, number: u64) -> Reply
+    requires { (1 ≤ number) × (number < 2 ^ 48) }
+{
+    let (version, reply) = change.stamp(number);
+    drop(version);
+    reply
+}
+
+fn has_name(version: &Version, name: &str) -> bool {
+    version.key.name.as_str() == name
+}
+
+fn state_of(version: Version) -> Option<Object> {
+    version.state
+}
+
+/// The object that the version of the object `x` leaves.
+fn object_of(rt: &impl Abort, version: Version) -> Object {
+    assert!(rt; has_name(&version, "x"));
+    match state_of(version) {
+        Some(object) => object,
+        None => panic!(rt; "nothing is left"),
     }
 }
 
@@ -75,60 +119,75 @@ fn written(
 ) -> Result<Object, Fail>
     requires { (1 ≤ number) × (number < 2 ^ 48) }
 {
-    let (Version { key, state }, _) = change(rt, alloc, current, line)?.stamp(number);
-    assert_eq!(rt; key.name.as_str(), "x");
-    match state {
-        Some(object) => Ok(object),
-        None => panic!(rt; "nothing is left by {line}"),
-    }
+    let version = version_at(change(rt, alloc, current, line)?, number);
+    Ok(object_of(rt, version))
 }
 
 #[test]
 fn a_creation_has_its_number_as_uid(rt: HostRuntime) -> Result<(), Fail> {
     let object = written(&rt, rt.alloc(), None, CREATE, 7)?;
     assert!(rt; numbers(&object) == (7, 7, 1));
+    drop(object);
     Ok(())
+}
+
+/// Whether the reply is to a creation of an object of these numbers, with this label `a`.
+fn tells_creation(reply: &Reply, expected: (u64, u64, u64), label: &str) -> bool {
+    match reply {
+        Reply::Created(object) => {
+            numbers(object) == expected && object.label("a") == Some(label)
+        }
+        _ => false,
+    }
 }
 
 #[test]
 fn a_creation_is_answered_as_it_is_stored(rt: HostRuntime) -> Result<(), Fail> {
-    let (_, reply) = change(&rt, rt.alloc(), None, CREATE)?.stamp(7);
-    match &reply {
-        Reply::Created(object) => {
-            assert!(rt; numbers(object) == (7, 7, 1));
-            assert!(rt; object.label("a") == Some("b"));
-        }
-        _ => panic!(rt; "not created"),
-    }
+    let reply = reply_at(change(&rt, rt.alloc(), None, CREATE)?, 7);
+    assert!(rt; tells_creation(&reply, (7, 7, 1), "b"));
+    drop(reply);
     Ok(())
 }
 
-/// What a line leaves over an object of the number 7.
-fn written_over(rt: &impl Abort, alloc: Global, line: &str) -> Result<Object, Fail> {
+/// The change that a line comes to over an object of the number 7.
+fn change_over(rt: &impl Abort, alloc: Global, line: &str) -> Result<Change, Fail> {
     let object = written(rt, alloc, None, CREATE, 7)?;
-    written(rt, alloc, Some(&object), line, 9)
+    let over = change(rt, alloc, Some(&object), line);
+    drop(object);
+    over
 }
 
 #[test]
 fn a_mark_stays_under_its_key(rt: HostRuntime) -> Result<(), Fail> {
-    let marked = written_over(&rt, rt.alloc(), MARK)?;
+    let marked = object_of(&rt, version_at(change_over(&rt, rt.alloc(), MARK)?, 9));
     assert!(rt; numbers(&marked) == (7, 9, 1));
     assert!(rt; time(&marked) == "2024-01-01T00:00:00Z");
+    drop(marked);
     Ok(())
 }
 
 /// Whether a line takes an object away.
 fn removes(rt: &impl Abort, alloc: Global, line: &str) -> Result<bool, Fail> {
-    let object = written(rt, alloc, None, CREATE, 7)?;
-    let (version, _) = change(rt, alloc, Some(&object), line)?.stamp(9);
-    Ok(version.state.is_none())
+    let version = version_at(change_over(rt, alloc, line)?, 9);
+    let is_gone = version.state.is_none();
+    drop(version);
+    Ok(is_gone)
 }
 
 #[test]
 fn a_removal_leaves_nothing(rt: HostRuntime) -> Result<(), Fail> {
-    assert!(rt; removes(&rt, rt.alloc(), DELETE)?);
-    assert!(rt; !removes(&rt, rt.alloc(), MARK)?);
+    for (line, expected) in [(DELETE, true), (MARK, false)] {
+        assert_eq!(rt; removes(&rt, rt.alloc(), line)?, expected);
+    }
     Ok(())
+}
+
+fn name_of(verdict: &Verdict) -> &'static str {
+    match verdict {
+        Verdict::Refuse(reason) => reason.name(),
+        Verdict::Same(_) => "Same",
+        Verdict::Write(_) => "Write",
+    }
 }
 
 /// The name of what a line comes to where an object is there.
@@ -138,11 +197,12 @@ fn verdict_over_an_object(
     line: &str,
 ) -> Result<&'static str, Fail> {
     let object = written(rt, alloc, None, CREATE, 7)?;
-    match verdict(rt, alloc, Some(&object), line)? {
-        Verdict::Refuse(reason) => Ok(reason.name()),
-        Verdict::Same(_) => Ok("Same"),
-        Verdict::Write(_) => Ok("Write"),
-    }
+    let verdict = verdict(rt, alloc, Some(&object), line);
+    drop(object);
+    let verdict = verdict?;
+    let name = name_of(&verdict);
+    drop(verdict);
+    Ok(name)
 }
 
 #[test]
@@ -158,23 +218,23 @@ fn what_is_there_decides(rt: HostRuntime) -> Result<(), Fail> {
     Ok(())
 }
 
-/// The resource version of the object that the line creates.
-fn created_version<A: Api>(
-    rt: &impl Abort,
-    alloc: Global,
-    api: &mut A,
-    line: &str,
-) -> Result<u64, Fail> {
-    match &api.ask(request(alloc, line)?)? {
-        Reply::Created(object) => Ok(object.meta.revision),
-        _ => panic!(rt; "not created"),
+fn created_version(reply: &Reply) -> Option<u64> {
+    match reply {
+        Reply::Created(object) => Some(object.meta.revision),
+        _ => None,
     }
+}
+
+/// The reply to a line.
+fn asked<A: Api>(alloc: Global, api: &mut A, line: &str) -> Result<Reply, Fail> {
+    Ok(api.ask(request(alloc, line)?)?)
 }
 
 #[test]
 fn a_store_is_an_api(rt: HostRuntime) -> Result<(), Fail> {
     let mut plain = Plain::new(rt.alloc(), 2)?;
-    let version = created_version(&rt, rt.alloc(), &mut plain, CREATE)?;
-    assert_eq!(rt; version, 1);
+    let reply = asked(rt.alloc(), &mut plain, CREATE)?;
+    assert_eq!(rt; created_version(&reply), Some(1));
+    drop(reply);
     Ok(())
 }
