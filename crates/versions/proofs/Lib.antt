@@ -1,0 +1,17 @@
+pub mod Found
+pub mod LastRows
+pub mod States
+pub mod Chaining
+pub mod Places
+pub mod Carried
+pub mod Walks
+pub mod Readings
+pub mod FoundRows
+pub mod Superseded
+pub mod Kept
+pub mod Compacting
+pub mod RisingRows
+pub mod Pushing
+pub mod Openings
+pub mod Dropping
+pub mod Above
