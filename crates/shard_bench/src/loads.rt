@@ -19,8 +19,8 @@ fn pods(alloc: Global, count: u64) -> Result<Vec<Key>, Fault> {
     Ok(keys)
 }
 
-/// How many records are left of so many pushes at the numbers from 1 on, which go over so many keys in turn, in whole
-/// rounds; with a compaction to each number, or with none.
+/// How many records are left of so many pushes at the numbers from 1 on, which go over so many keys in turn; with a
+/// compaction to each number, or with none.
 pub(crate) fn records_after(
     alloc: Global,
     object: &Object,
@@ -28,20 +28,12 @@ pub(crate) fn records_after(
     keys: u64,
     compacts: bool,
 ) -> Result<usize, Fault> {
-    if keys == 0 {
-        return Ok(0);
-    }
-    let rounds = pushes / keys;
     let keys = pods(alloc, keys)?;
     let mut rising = Rising::new(alloc);
-    let mut number = 0_u64;
-    for _ in 0..rounds {
-        for key in keys.as_slice() {
-            number = number.wrapping_add(1);
-            rising.push(number, key, object)?;
-            if compacts {
-                rising.compact(number);
-            }
+    for (number, key) in (1..=pushes).zip(keys.iter().cycle()) {
+        rising.push(number, key, object)?;
+        if compacts {
+            rising.compact(number);
         }
     }
     Ok(rising.shard().records())
