@@ -6,8 +6,8 @@ mod script;
 mod slow;
 
 use crate::Shard;
-use asserts::{assert_newest, assert_revision, assert_size};
-use objects::{Key, Kind, Object, Text, read_object};
+use asserts::{assert_list, assert_newest, assert_revision, assert_size, assert_text};
+use objects::{Key, Kind, Memory, Object, Text, read_object};
 use plain::{Request, Verdict, read_request};
 use rising::Rising;
 use std::alloc::Global;
@@ -89,6 +89,7 @@ fn push_record(
     pushed
 }
 
+/// Pushes these records: numbers, keys and resource versions.
 fn push_all(
     rt: &impl Abort,
     alloc: Global,
@@ -99,17 +100,6 @@ fn push_all(
         push_record(rt, alloc, rising, record)?;
     }
     Ok(())
-}
-
-/// A shard with these records: numbers, keys and resource versions.
-fn shard_of(
-    rt: &impl Abort,
-    alloc: Global,
-    records: &[(u64, (Kind, &str, &str), Option<u64>)],
-) -> Result<Rising, Fail> {
-    let mut rising = Rising::new(alloc);
-    push_all(rt, alloc, &mut rising, records)?;
-    Ok(rising)
 }
 
 /// The resource version of the object that the key had at a number.
@@ -153,55 +143,85 @@ fn assert_revisions(rt: &impl Abort, shard: &Shard, key: &Key, expected: &[(u64,
     }
 }
 
-#[test]
-fn a_key_is_what_its_last_record_says(rt: HostRuntime) -> Result<(), Fail> {
-    let a = key_of(rt.alloc(), A)?;
-    let rising = shard_of(&rt, rt.alloc(), COMES_AND_GOES.as_slice())?;
-    let shard = rising.shard();
-    assert_revisions(&rt, shard, &a, READINGS.as_slice());
-    assert_newest(&rt, shard, &a, Some((7, Some(Y))));
-    assert_size(&rt, shard, 3, 0);
-    drop(rising);
-    drop(a);
+/// Asserts the resource versions of a key's object at these numbers, and its newest record.
+fn assert_key(
+    rt: &impl Abort,
+    alloc: Global,
+    shard: &Shard,
+    parts: (Kind, &str, &str),
+    readings: &[(u64, Option<u64>)],
+    newest: Option<(u64, Option<u64>)>,
+) -> Result<(), Fail> {
+    let key = key_of(alloc, parts)?;
+    assert_revisions(rt, shard, &key, readings);
+    assert_newest(rt, shard, &key, newest);
+    drop(key);
     Ok(())
 }
 
-/// Asserts that nothing is read of a key in a shard with no records.
-fn assert_nothing(rt: &impl Abort, shard: &Shard, key: &Key) {
+fn assert_comes_and_goes(rt: &impl Abort, alloc: Global, rising: &mut Rising) -> Result<(), Fail> {
+    push_all(rt, alloc, rising, COMES_AND_GOES.as_slice())?;
+    let shard = rising.shard();
+    assert_size(rt, shard, 3, 0);
+    assert_key(rt, alloc, shard, A, READINGS.as_slice(), Some((7, Some(Y))))
+}
+
+#[test]
+fn a_key_is_what_its_last_record_says(rt: HostRuntime) -> Result<(), Fail> {
+    let mut rising = Rising::new(rt.alloc());
+    let asserted = assert_comes_and_goes(&rt, rt.alloc(), &mut rising);
+    drop(rising);
+    asserted
+}
+
+fn make_room(alloc: Global, shard: &mut Shard) -> Result<(), Fail> {
+    let key = key_of(alloc, A)?;
+    let made = shard.make_room(&key);
+    drop(key);
+    Ok(made?)
+}
+
+/// Asserts that there is nothing in a new shard, also once it has room.
+fn assert_nothing(rt: &impl Abort, alloc: Global, shard: &mut Shard) -> Result<(), Fail> {
     assert_size(rt, shard, 0, 0);
-    assert_newest(rt, shard, key, None);
-    assert_revision(rt, shard, key, 9, None);
+    // Room by itself is no record.
+    make_room(alloc, shard)?;
+    assert_size(rt, shard, 0, 0);
+    assert_key(rt, alloc, shard, A, [(9, None)].as_slice(), None)
 }
 
 #[test]
 fn a_key_with_no_record_is_not_there(rt: HostRuntime) -> Result<(), Fail> {
-    let a = key_of(rt.alloc(), A)?;
     let mut shard = Shard::new(rt.alloc());
-    assert_nothing(&rt, &shard, &a);
-    // Room by itself is no record.
-    let made = shard.make_room(&a);
-    assert_nothing(&rt, &shard, &a);
+    let asserted = assert_nothing(&rt, rt.alloc(), &mut shard);
     drop(shard);
-    drop(a);
-    Ok(made?)
+    asserted
+}
+
+fn assert_removed(rt: &impl Abort, alloc: Global, rising: &mut Rising) -> Result<(), Fail> {
+    push_all(rt, alloc, rising, &COMES_AND_GOES[..2])?;
+    assert_key(rt, alloc, rising.shard(), A, [].as_slice(), Some((5, None)))
 }
 
 #[test]
 fn the_newest_record_may_be_a_removal(rt: HostRuntime) -> Result<(), Fail> {
-    let a = key_of(rt.alloc(), A)?;
-    let rising = shard_of(&rt, rt.alloc(), &COMES_AND_GOES[..2])?;
-    assert_newest(&rt, rising.shard(), &a, Some((5, None)));
+    let mut rising = Rising::new(rt.alloc());
+    let asserted = assert_removed(&rt, rt.alloc(), &mut rising);
     drop(rising);
-    drop(a);
-    Ok(())
+    asserted
 }
 
 /// What a line of a write comes to.
-fn verdict(rt: &impl Abort, shard: &Shard, request: &Request, line: &str) -> Result<Verdict, Fail> {
+fn verdict(
+    rt: &impl Abort,
+    shard: &Shard,
+    request: &Request,
+    line: &str,
+) -> Result<Verdict, Memory> {
     if !request.is_write() {
         panic!(rt; "no write: {line}");
     }
-    Ok(shard.verdict(request)?)
+    shard.verdict(request)
 }
 
 fn name_of(verdict: &Verdict) -> &'static str {
@@ -242,21 +262,38 @@ static DECISIONS: [(usize, &str, &str); 7] = [
 fn decided_after(
     rt: &impl Abort,
     alloc: Global,
+    rising: &mut Rising,
     count: usize,
     line: &str,
 ) -> Result<&'static str, Fail> {
-    let records = COMES_AND_GOES.get(..count).ok_or("no such records")?;
-    let rising = shard_of(rt, alloc, records)?;
-    let name = decided(rt, alloc, rising.shard(), line);
+    push_all(rt, alloc, rising, records(rt, count))?;
+    decided(rt, alloc, rising.shard(), line)
+}
+
+/// The first records of the pod.
+fn records(
+    rt: &impl Abort,
+    count: usize,
+) -> &'static [(u64, (Kind, &'static str, &'static str), Option<u64>)] {
+    match COMES_AND_GOES.get(..count) {
+        Some(records) => records,
+        None => panic!(rt; "no such records"),
+    }
+}
+
+fn assert_decides(rt: &impl Abort, alloc: Global, row: &(usize, &str, &str)) -> Result<(), Fail> {
+    let (count, line, expected) = row;
+    let mut rising = Rising::new(alloc);
+    let found = decided_after(rt, alloc, &mut rising, *count, line);
     drop(rising);
-    name
+    assert_text(rt, found?, expected, line, *count as u64);
+    Ok(())
 }
 
 #[test]
 fn the_newest_record_decides(rt: HostRuntime) -> Result<(), Fail> {
-    for (count, line, expected) in DECISIONS.iter() {
-        let found = decided_after(&rt, rt.alloc(), *count, line)?;
-        assert_eq!(rt; found, *expected, "of {line} after {count} records");
+    for row in DECISIONS.iter() {
+        assert_decides(&rt, rt.alloc(), row)?;
     }
     Ok(())
 }
@@ -277,43 +314,38 @@ static COMPACTIONS: [(u64, usize, u64, u64); 3] = [
     (7, 2, 7, 7),
 ];
 
-/// Asserts how many records and which floor a shard of the two keys has, and what the first key is at the floor. What
-/// the keys are now is always the same.
-fn assert_keeps(
+/// Compacts a shard of the two keys to a number, and asserts how many records and which floor this leaves, and what the
+/// first key is at the floor. What the keys are now is always the same.
+fn assert_compacts(
     rt: &impl Abort,
-    shard: &Shard,
-    keys: (&Key, &Key),
-    sizes: (usize, u64),
-    revision: u64,
-) {
-    let (a, b) = keys;
-    let (records, floor) = sizes;
-    assert_size(rt, shard, records, floor);
-    assert_revision(rt, shard, a, floor, Some(revision));
-    assert_revision(rt, shard, a, 7, Some(7));
-    assert_newest(rt, shard, a, Some((7, Some(7))));
-    assert_newest(rt, shard, b, Some((3, None)));
+    alloc: Global,
+    rising: &mut Rising,
+    row: &(u64, usize, u64, u64),
+) -> Result<(), Fail> {
+    let (number, records, floor, revision) = row;
+    rising.compact(*number);
+    let shard = rising.shard();
+    assert_size(rt, shard, *records, *floor);
+    let readings = [(*floor, Some(*revision)), (7, Some(7))];
+    assert_key(rt, alloc, shard, A, readings.as_slice(), Some((7, Some(7))))?;
+    assert_key(rt, alloc, shard, B, [].as_slice(), Some((3, None)))
 }
 
-/// Compacts a shard of the two keys, and asserts what each compaction leaves.
-fn assert_compacts(rt: &impl Abort, rising: &mut Rising, a: &Key, b: &Key) {
+fn assert_keeps(rt: &impl Abort, alloc: Global, rising: &mut Rising) -> Result<(), Fail> {
+    push_all(rt, alloc, rising, TWO_KEYS.as_slice())?;
     assert_size(rt, rising.shard(), 4, 0);
-    for (number, records, floor, revision) in COMPACTIONS.iter() {
-        rising.compact(*number);
-        assert_keeps(rt, rising.shard(), (a, b), (*records, *floor), *revision);
+    for row in COMPACTIONS.iter() {
+        assert_compacts(rt, alloc, rising, row)?;
     }
+    Ok(())
 }
 
 #[test]
 fn a_compaction_keeps_what_is_read_from_there_on(rt: HostRuntime) -> Result<(), Fail> {
-    let a = key_of(rt.alloc(), A)?;
-    let b = key_of(rt.alloc(), B)?;
-    let mut rising = shard_of(&rt, rt.alloc(), TWO_KEYS.as_slice())?;
-    assert_compacts(&rt, &mut rising, &a, &b);
+    let mut rising = Rising::new(rt.alloc());
+    let asserted = assert_keeps(&rt, rt.alloc(), &mut rising);
     drop(rising);
-    drop(b);
-    drop(a);
-    Ok(())
+    asserted
 }
 
 /// Records of keys of several kinds and namespaces, out of the order of their names. The last is a removal.
@@ -383,23 +415,25 @@ fn listed(
     names
 }
 
-fn assert_list(rt: &impl Abort, found: &str, expected: &str, namespace: &str, number: u64) {
-    assert_eq!(rt; found, expected, "at {number} in {namespace}");
-}
-
-fn assert_lists(rt: &impl Abort, alloc: Global, shard: &Shard) -> Result<(), Fail> {
+fn assert_lists(rt: &impl Abort, alloc: Global, rising: &mut Rising) -> Result<(), Fail> {
+    push_all(rt, alloc, rising, COLLECTIONS.as_slice())?;
     for (kind, namespace, number, expected) in LISTS.iter() {
-        let found = listed(rt, alloc, shard, (*kind, namespace), *number)?;
-        assert_list(rt, found.as_str(), expected, namespace, *number);
-        drop(found);
+        assert_list(
+            rt,
+            alloc,
+            rising.shard(),
+            (*kind, namespace),
+            *number,
+            expected,
+        )?;
     }
     Ok(())
 }
 
 #[test]
 fn a_list_has_the_objects_of_a_number_by_name(rt: HostRuntime) -> Result<(), Fail> {
-    let rising = shard_of(&rt, rt.alloc(), COLLECTIONS.as_slice())?;
-    let asserted = assert_lists(&rt, rt.alloc(), rising.shard());
+    let mut rising = Rising::new(rt.alloc());
+    let asserted = assert_lists(&rt, rt.alloc(), &mut rising);
     drop(rising);
     asserted
 }

@@ -1,11 +1,11 @@
 //! A long script of pushes, compactions and readings, over a shard and a slow body beside it.
 ghost use Rattle.std.specs.Prelude.{◌<◌};
 
-use super::asserts::{assert_newest, assert_revision, assert_size};
+use super::asserts::{assert_list, assert_newest, assert_revision, assert_size};
 use super::rising::Rising;
 use super::slow::Slow;
-use super::{key_of, objects_at, push};
-use objects::{Key, Kind, Object};
+use super::{key_of, push};
+use objects::{Key, Kind};
 use std::alloc::Global;
 use std::process::Abort;
 use std::test::Fail;
@@ -81,17 +81,11 @@ fn add_keys(alloc: Global, keys: &mut Vec<Key>) -> Result<(), Fail> {
     Ok(())
 }
 
-/// The resource versions of objects.
-fn revisions(alloc: Global, objects: &[Object]) -> Result<Vec<u64>, Fail> {
-    let mut revisions = Vec::new(alloc);
-    for object in objects {
-        revisions.push(object.meta.revision)?;
+fn key_at<'a>(rt: &impl Abort, keys: &'a [Key], place: usize) -> &'a Key {
+    match keys.get(place) {
+        Some(key) => key,
+        None => panic!(rt; "no such key"),
     }
-    Ok(revisions)
-}
-
-fn assert_list(rt: &impl Abort, found: &[u64], expected: &[u64], namespace: &str, number: u64) {
-    assert_eq!(rt; found, expected, "in {namespace} at {number}");
 }
 
 impl Pair {
@@ -123,7 +117,10 @@ impl Pair {
     fn step(&mut self, rt: &impl Abort) -> Result<(), Fail> {
         match self.chance.below(64) {
             0 => self.compact(),
-            1..=16 => self.read(rt),
+            1..=16 => {
+                self.read(rt);
+                Ok(())
+            }
             17..=24 => self.list(rt),
             _ => self.push(rt),
         }
@@ -133,11 +130,7 @@ impl Pair {
     fn push(&mut self, rt: &impl Abort) -> Result<(), Fail> {
         let place = self.chance.below(12) as usize;
         let further = 1 + self.chance.below(3);
-        let number = self
-            .rising
-            .last()
-            .checked_add(further)
-            .ok_or("no more numbers")?;
+        let number = self.rising.last().saturating_add(further);
         let revision = if self.chance.below(4) == 0 {
             None
         } else {
@@ -153,7 +146,7 @@ impl Pair {
         number: u64,
         revision: Option<u64>,
     ) -> Result<(), Fail> {
-        let key = self.keys.get(place).ok_or("no such key")?;
+        let key = key_at(rt, self.keys.as_slice(), place);
         push(rt, self.alloc, &mut self.rising, number, key, revision)?;
         Ok(self.slow.push(number, place, revision)?)
     }
@@ -174,26 +167,24 @@ impl Pair {
         floor.saturating_add(self.chance.below(span))
     }
 
-    fn read(&mut self, rt: &impl Abort) -> Result<(), Fail> {
+    fn read(&mut self, rt: &impl Abort) {
         let place = self.chance.below(12) as usize;
         let number = self.number();
-        self.assert_reads(rt, place, number)
+        self.assert_reads(rt, place, number);
     }
 
     /// Asserts that the key at a place is the same in both, at that number and now.
-    fn assert_reads(&self, rt: &impl Abort, place: usize, number: u64) -> Result<(), Fail> {
+    fn assert_reads(&self, rt: &impl Abort, place: usize, number: u64) {
         let shard = self.rising.shard();
-        let key = self.keys.get(place).ok_or("no such key")?;
+        let key = key_at(rt, self.keys.as_slice(), place);
         assert_revision(rt, shard, key, number, self.slow.at(place, number));
         assert_newest(rt, shard, key, self.slow.newest(place));
-        Ok(())
     }
 
     fn list(&mut self, rt: &impl Abort) -> Result<(), Fail> {
         let place = self.chance.below(7) as usize;
         let number = self.number();
-        let collection = COLLECTIONS.get(place).ok_or("no such collection")?;
-        self.assert_lists(rt, *collection, number)
+        self.assert_lists(rt, COLLECTIONS[place], number)
     }
 
     /// Asserts that a list is the same in both, in its order.
@@ -203,42 +194,24 @@ impl Pair {
         collection: (Kind, &str),
         number: u64,
     ) -> Result<(), Fail> {
-        let found = self.list_at(rt, collection, number)?;
         let expected = self.slow_list(collection, number)?;
-        assert_list(
-            rt,
-            found.as_slice(),
-            expected.as_slice(),
-            collection.1,
-            number,
-        );
-        Ok(())
+        let shard = self.rising.shard();
+        let asserted = assert_list(rt, self.alloc, shard, collection, number, expected.as_str());
+        drop(expected);
+        asserted
     }
 
-    /// The resource versions of a list, as the shard has them.
-    fn list_at(
-        &self,
-        rt: &impl Abort,
-        collection: (Kind, &str),
-        number: u64,
-    ) -> Result<Vec<u64>, Fail> {
-        let objects = objects_at(rt, self.alloc, self.rising.shard(), collection, number)?;
-        let revisions = revisions(self.alloc, objects.as_slice());
-        drop(objects);
-        revisions
-    }
-
-    /// The resource versions of a list, as the slow body has them.
-    fn slow_list(&self, collection: (Kind, &str), number: u64) -> Result<Vec<u64>, Fail> {
-        let mut found = Vec::new(self.alloc);
-        for (place, (kind, namespace, _)) in KEYS.iter().enumerate() {
+    /// The names and resource versions of a list, as the slow body has them.
+    fn slow_list(&self, collection: (Kind, &str), number: u64) -> Result<String, Fail> {
+        let mut text = String::new(self.alloc);
+        for (place, (kind, namespace, name)) in KEYS.iter().enumerate() {
             if *kind == collection.0 && *namespace == collection.1 {
                 if let Some(revision) = self.slow.at(place, number) {
-                    found.push(revision)?;
+                    write!(text, "{name}{revision} ")?;
                 }
             }
         }
-        Ok(found)
+        Ok(text)
     }
 
     /// Asserts that all that can be read is the same in both.
@@ -252,7 +225,7 @@ impl Pair {
     /// Asserts that all that can be read at a number is the same in both.
     fn assert_same_at(&self, rt: &impl Abort, number: u64) -> Result<(), Fail> {
         for place in 0..KEYS.len() {
-            self.assert_reads(rt, place, number)?;
+            self.assert_reads(rt, place, number);
         }
         for collection in COLLECTIONS.iter() {
             self.assert_lists(rt, *collection, number)?;
