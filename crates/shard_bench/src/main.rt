@@ -1,9 +1,8 @@
 //! How long one shard takes for a million pushes, with a compaction after each and with none, and for a million readings
 //! of one key with many versions.
 //!
-//! A compaction is to cost what it drops, and not what there is: else the first would take hours. It keeps 1,000 records
-//! and the second all of them, so the second takes more memory, and a few times as long. A reading is to halve the
-//! records of its key, and not to go through them: else the third would take hours. Standard output has what was
+//! A compaction is to cost what it drops, and not a walk over all keys; the first load keeps 1,000 records, the second all
+//! of them. A reading is to halve the records of its key, and not to go through them. Standard output has what was
 //! counted, which is the same on each run; the times go to standard error. All objects share one body, so that what is
 //! measured is the shard.
 #![tactic(auto)]
