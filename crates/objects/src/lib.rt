@@ -3,9 +3,13 @@
 #![tactic(auto)]
 
 mod draft;
+#[cfg(test)]
+mod draft_tests;
 mod fault;
 mod found;
 mod key;
+#[cfg(test)]
+mod key_tests;
 mod kind;
 mod memory;
 mod meta;
@@ -35,7 +39,11 @@ mod status_tests;
 mod tests;
 mod text;
 mod tree;
+#[cfg(test)]
+mod tree_tests;
 mod uid;
+#[cfg(test)]
+mod uid_tests;
 mod whole;
 mod write;
 
