@@ -1,11 +1,14 @@
-ghost use Rattle.std.specs.Prelude.{◌≡◌, ◌++◌, ◌∷◌, [], IfOk};
+ghost use Rattle.std.specs.Prelude.{◌≡◌, ◌≢◌, ◌++◌, ◌∷◌, [], IfOk};
 ghost use Rattle.json.specs.Print.{print};
 ghost use Rattle.serde_json.specs.Written.{compact_text};
 ghost use Rattle.plain.specs.Replies.{reply_data, error_data, error_name};
 ghost use Rattle.plain.specs.Served.{answer};
+ghost use Rattle.plain.specs.Store.{step};
+ghost use Rattle.objects.specs.declared.fault.ReadError.TheVariants.{Memory as out_of_memory};
+ghost use Rattle.plain.specs.declared.request.RequestError.TheVariants.{Read};
 
 use crate::reply::{Reply, write_reply, write_with_reason};
-use crate::request::{RequestError, next_request};
+use crate::request::{Request, RequestError, next_request};
 use crate::store::Plain;
 use json::Writer;
 use objects::{Memory, ReadError, TreeReader};
@@ -23,12 +26,28 @@ pub(crate) fn answer_line(
     ensures store { IfOk result (λ v. plain.new ≡ (answer plain.old line.now).0) }
 {
     match next_request(alloc, reader, line) {
-        Ok(request) => {
-            let reply = plain.take(request)?;
-            Ok(reply_line(&reply, out)?)
-        }
-        Err(RequestError::Read(ReadError::Memory)) => Err(Memory),
-        Err(error) => Ok(refusal_line(error, out)?),
+        Ok(request) => answer_request(plain, request, out),
+        Err(error) => answer_refusal(error, out),
+    }
+}
+
+fn answer_request(plain: &mut Plain, request: Request, out: Vec<u8>) -> Result<Vec<u8>, Memory>
+    ensures text { IfOk result (λ v. v.items ≡ out.items ++ (compact_text (reply_data (step plain.old request).1) ++ 10 ∷ [])) }
+    ensures store { IfOk result (λ v. plain.new ≡ (step plain.old request).0) }
+{
+    let reply = plain.take(request)?;
+    let line = reply_line(&reply, out);
+    drop(reply);
+    Ok(line?)
+}
+
+fn answer_refusal(error: RequestError, out: Vec<u8>) -> Result<Vec<u8>, Memory>
+    ensures refused { IfOk result (λ _. error ≢ Read out_of_memory) }
+    ensures text { IfOk result (λ v. v.items ≡ out.items ++ (compact_text (error_data error) ++ 10 ∷ [])) }
+{
+    match error {
+        RequestError::Read(ReadError::Memory) => Err(Memory),
+        error => Ok(refusal_line(error, out)?),
     }
 }
 

@@ -2,7 +2,7 @@
 ghost use Rattle.std.specs.Prelude.{◌≡◌, codes, option_map, IfOk};
 ghost use Rattle.objects.specs.Tree.{data_of};
 ghost use Rattle.objects.specs.Status.{member_of};
-ghost use Rattle.plain.specs.Verdict.{body_with_status, born, marked, updated, with_status_of};
+ghost use Rattle.plain.specs.Verdict.{body_with_status, born, generation_after, marked, same_member, updated, with_status_of};
 
 use crate::preconditions::{generation_after, has_status, same_member};
 use objects::{Draft, Meta, Object, Text, Tree};
@@ -44,15 +44,39 @@ fn status_of(object: &Object) -> Result<Option<Tree>, AllocError>
 pub(crate) fn updated(draft: Draft, current: &Object) -> Result<Object, AllocError>
     ensures { IfOk result (λ object. object ≡ updated current.now draft) }
 {
-    let same_spec = same_member(current, &draft.object, "spec");
-    let meta = Meta {
+    let meta = meta_after(current, &draft.object)?;
+    let object = with_own_status(draft.object, status_of(current)?)?;
+    Ok(with_meta(object, meta))
+}
+
+/// What the store knows of the current object once an update has put this one in its place.
+fn meta_after(current: &Object, object: &Object) -> Result<Meta, AllocError>
+    ensures { IfOk result (λ meta. meta ≡ record {
+      uid = current.now.meta.uid;
+      revision = current.now.meta.revision;
+      generation = generation_after current.now.meta.generation (same_member (codes "spec") current.now.body object.now.body);
+      deletion = current.now.meta.deletion;
+    }) }
+{
+    let same_spec = same_member(current, object, "spec");
+    Ok(Meta {
         uid: current.meta.uid,
         revision: current.meta.revision,
         generation: generation_after(current.meta.generation, same_spec),
         deletion: current.meta.deletion.clone()?,
-    };
-    let Object { key, meta: _, body } = with_own_status(draft.object, status_of(current)?)?;
-    Ok(Object { key, meta, body })
+    })
+}
+
+fn with_meta(object: Object, meta: Meta) -> Object
+    ensures { result ≡ record { key = object.key; meta = meta; body = object.body } }
+{
+    let Object {
+        key,
+        meta: old,
+        body,
+    } = object;
+    drop(old);
+    Object { key, meta, body }
 }
 
 /// The current object with the status of the one that is handed in.

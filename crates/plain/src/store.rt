@@ -1,4 +1,4 @@
-ghost use Rattle.std.specs.Prelude.{◌≡◌, ◌≢◌, ◌≤◌, ◌<◌, ◌↔◌, ◌==◌, ◌+◌, true, IfOk, IfSome, OnOk, OnErr, IsErrOf};
+ghost use Rattle.std.specs.Prelude.{◌≡◌, ◌≢◌, ◌≤◌, ◌<◌, ◌↔◌, ◌==◌, ◌+◌, true, false, IfOk, IfSome, OnOk, OnErr, IsErrOf};
 ghost use Rattle.std.specs.FinMap as map;
 ghost use Rattle.std.specs.Option.{option_copied};
 ghost use Rattle.plain.specs.Reached.{IsReached};
@@ -84,13 +84,26 @@ impl Plain {
         ensures memory { OnErr result (self.new ≡ self.old) }
     {
         let _ = &self.objects;
-        match &request {
+        if request.is_write() {
+            return self.write(request);
+        }
+        let reply = self.read(&request);
+        drop(request);
+        reply
+    }
+
+    /// Answers a get or a list, which change nothing.
+    fn read(&self, request: &Request) -> Result<Reply, Memory>
+        requires { is_write request.now ≡ false }
+        ensures { IfOk result (λ reply. (self.now, reply) ≡ step self.now request.now) }
+    {
+        match request {
             Request::Get(key) => self.get(key),
             Request::List { kind, namespace } => self.list(*kind, namespace),
             Request::Create(_)
             | Request::Update(_)
             | Request::UpdateStatus(_)
-            | Request::Delete { .. } => self.write(request),
+            | Request::Delete { .. } => unreachable!(),
         }
     }
 
@@ -144,11 +157,17 @@ impl Plain {
         ensures memory { OnErr result (self.new ≡ self.old) }
     {
         if self.is_full() {
+            drop(change);
             return Ok(Reply::Refused(Reason::StoreFull));
         }
         let (version, reply) = change.stamp(self.counter + 1);
-        self.put(version)?;
-        Ok(reply)
+        match self.put(version) {
+            Ok(()) => Ok(reply),
+            Err(_) => {
+                drop(reply);
+                Err(Memory)
+            }
+        }
     }
 
     /// Draws the next number for the version, which then stands under its key.

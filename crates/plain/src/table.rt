@@ -65,16 +65,20 @@ fn on_update(draft: Draft, current: Option<&Object>) -> Result<Verdict, AllocErr
     ensures { IfOk result (λ decided. decided ≡ on_update draft (option_copied current.entry)) }
 {
     let Some(current) = current else {
+        drop(draft);
         return Ok(Verdict::Refuse(Reason::NotFound));
     };
     if conflicts(draft.version.as_ref(), draft.uid.as_ref(), current) {
+        drop(draft);
         return Ok(Verdict::Refuse(Reason::Conflict));
     }
     if changes_data(&draft, current) {
+        drop(draft);
         return Ok(Verdict::Refuse(Reason::Invalid));
     }
     let object = updated(draft, current)?;
     if is_same_body(current, &object) {
+        drop(object);
         return Ok(Verdict::Same(current.clone()?));
     }
     write(Form::Update, object)
