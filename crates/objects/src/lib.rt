@@ -3,28 +3,18 @@
 #![tactic(auto)]
 
 mod draft;
-#[cfg(test)]
-mod draft_tests;
 mod fault;
 mod found;
 mod key;
-#[cfg(test)]
-mod key_tests;
 mod kind;
 mod memory;
 mod meta;
 mod metadata;
-#[cfg(test)]
-mod metadata_tests;
 mod names;
 mod number;
 mod object;
 mod parse;
-#[cfg(test)]
-mod parse_tests;
 mod places;
-#[cfg(test)]
-mod pod_name_tests;
 mod pod_names;
 mod print;
 mod read;
@@ -33,17 +23,9 @@ mod same;
 mod shape;
 mod shard;
 mod status;
-#[cfg(test)]
-mod status_tests;
-#[cfg(test)]
-mod tests;
 mod text;
 mod tree;
-#[cfg(test)]
-mod tree_tests;
 mod uid;
-#[cfg(test)]
-mod uid_tests;
 mod whole;
 mod write;
 
@@ -66,3 +48,4 @@ pub use text::Text;
 pub use tree::{Items, Members, Tree};
 pub use uid::{is_uid_text, is_version_text, uid_number, uid_text, uid_texts_read_back};
 pub use whole::Whole;
+pub use write::write_tree;

@@ -13,9 +13,10 @@ use crate::tree::Tree;
 use json::{Token, Writer};
 use std::alloc::AllocError;
 
-/// Writes a tree in the place of a value.
+/// Writes a tree in the place of a value: with the writer's other tokens it makes compact JSON, keys in byte order.
+/// Where memory runs out, a part of its tokens may be written.
 #[cycle(write)]
-pub(crate) fn write_tree(tree: &Tree, out: &mut Writer) -> Result<(), AllocError>
+pub fn write_tree(tree: &Tree, out: &mut Writer) -> Result<(), AllocError>
     ensures tokens { OnOk result (out.new.tokens ≡ out.old.tokens ++ json_tokens (outline (data_of tree.now))) }
     ensures before { out.new.before ≡ out.old.before }
     ensures proper { OnOk result (IsProper (data_of tree.now)) }

@@ -3,8 +3,6 @@
 #![tactic(auto)]
 
 mod api;
-#[cfg(test)]
-mod asserts;
 mod buffers;
 mod change;
 mod changes;
@@ -15,31 +13,17 @@ mod form;
 mod lifetimes;
 mod line;
 mod listing;
-#[cfg(test)]
-mod listing_tests;
 mod outcomes;
-#[cfg(test)]
-mod piece_tests;
-#[cfg(test)]
-mod pod_tests;
 mod preconditions;
 mod reply;
 mod request;
-#[cfg(test)]
-mod request_tests;
 mod runs;
 mod server;
 mod slices;
-#[cfg(test)]
-mod status_tests;
 mod store;
 mod stream;
 mod table;
-#[cfg(test)]
-mod tests;
 mod verdict;
-#[cfg(test)]
-mod verdict_tests;
 mod version;
 
 pub use api::{Api, ApiFault};

@@ -2,13 +2,9 @@
 #![tactic(auto)]
 
 mod chain;
-#[cfg(test)]
-mod chain_tests;
 mod laws;
 mod place;
 mod shard;
-#[cfg(test)]
-mod tests;
 
 pub use laws::states_have_the_values;
 pub use shard::Shard;

@@ -1,0 +1,22 @@
+//! What crate `objects` answers, by tables whose values were worked out by hand. Tests are a crate of their own, so that
+//! a library is proved once, and they reach only what it makes public.
+#![tactic(auto)]
+
+#[cfg(test)]
+mod drafts;
+#[cfg(test)]
+mod keys;
+#[cfg(test)]
+mod metadata;
+#[cfg(test)]
+mod parsing;
+#[cfg(test)]
+mod pod_names;
+#[cfg(test)]
+mod status;
+#[cfg(test)]
+mod texts;
+#[cfg(test)]
+mod trees;
+#[cfg(test)]
+mod uids;

@@ -1,0 +1,20 @@
+//! What crate `plain` answers, line by line and call by call, with replies that were worked out by hand. Tests are a
+//! crate of their own, so that a library is proved once, and they reach only what it makes public.
+#![tactic(auto)]
+
+#[cfg(test)]
+mod asserts;
+#[cfg(test)]
+mod lists;
+#[cfg(test)]
+mod pieces;
+#[cfg(test)]
+mod pods;
+#[cfg(test)]
+mod requests;
+#[cfg(test)]
+mod status;
+#[cfg(test)]
+mod streams;
+#[cfg(test)]
+mod verdicts;
