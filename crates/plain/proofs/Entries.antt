@@ -1,19 +1,13 @@
 -- The entries of the map of objects, as a finite map.
 use Rattle.std.proofs.Common.{◌≡◌, ℕ, ◌+◌, List, [], ◌∷◌, true, false, Bool, cond, Option, Some, None, refl, IfSome, Bor, subst, sym, ap, ◌∙◌}
 use Rattle.std.specs.Option.{option_copied}
-use Rattle.std.specs.Ordering.{nat_cmp, on, then_cmp, is_eq}
-use Rattle.std.specs.declared.cmp.Ordering.{Ordering}
-use Rattle.std.specs.declared.cmp.Ordering.TheVariants.{Less, Equal, Greater}
 use Rattle.std.specs.Cmp.{eq_by_cmp_equiv}
-use Rattle.std.specs.Cmp.Lexicographic.{slice_cmp}
 use Rattle.std.specs.BTreeMap.{is_at}
 use Rattle.std.specs.Map.{lookup}
 use Rattle.std.specs.FinMap.{FinMap, from_entries, get, insert, remove, find, same_map, get-from_entries, get-insert, get-remove, empty}
-use Rattle.std.proofs.lemmas.Map.Lookups.{CmpEqualImpliesEq, exact_pairs, exact_unsigned, exact_bytes}
 use Rattle.std.proofs.lemmas.Option.{none-some, same_Some}
-use Rattle.objects.specs.declared.kind.Kind.{Kind}
 use Rattle.objects.specs.declared.object.Object.{Object}
-use Rattle.objects.specs.Key.{KeyParts, key_cmp, kind_index, kind_at, kind_at-kind_index}
+use Rattle.objects.specs.Key.{KeyParts, key_cmp}
 pub use Rattle.objects.specs.KeyOrder.{exact_keys, equal_from}
 use Rattle.objects.specs.KeyOrder.{key_cmp_total}
 use Rattle.plain.specs.Store.{Store}

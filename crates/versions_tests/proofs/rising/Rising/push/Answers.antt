@@ -1,5 +1,5 @@
-use Rattle.std.proofs.Common.{◌+◌, sym, subst, ap, ◌∙◌, arith}
-use Rattle.versions.specs.Records.{IsAbove, Records}
+use Rattle.std.proofs.Common.{◌+◌, sym, subst, arith}
+use Rattle.versions.specs.Records.{IsAbove}
 use Rattle.versions.specs.Shard.{Shard}
 use Rattle.versions.proofs.Above.{above_more, above_pushed}
 use Rattle.versions_tests.proofs.rising.Rising.push.Goals as goal
