@@ -55,10 +55,12 @@ impl Clone for Draft {
     ghost is_clone = { λ old new. new ≡ old };
 
     fn clone(&self) -> Result<Draft, AllocError> {
+        let uid = self.uid.clone()?;
+        let version = self.version.clone()?;
         Ok(Draft {
             object: self.object.clone()?,
-            uid: self.uid.clone()?,
-            version: self.version.clone()?,
+            uid,
+            version,
         })
     }
 }

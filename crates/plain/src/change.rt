@@ -38,14 +38,18 @@ impl Change {
     pub(crate) fn of(form: Form, object: Object) -> Result<Change, AllocError>
         ensures { IfOk result (λ change. change ≡ change_by form object) }
     {
-        let key = object.key.clone()?;
-        let stored = stored_by(form, &object)?;
-        Ok(Change {
-            form,
-            key,
-            shown: object,
-            stored,
-        })
+        match held_by(form, &object) {
+            Ok((key, stored)) => Ok(Change {
+                form,
+                key,
+                shown: object,
+                stored,
+            }),
+            Err(error) => {
+                drop(object);
+                Err(error)
+            }
+        }
     }
 
     /// The change at the number that it draws: what to store, and the reply. A creation has the number as its UID too
@@ -70,6 +74,14 @@ impl Change {
             form.accepted(stamped(form, shown, number)),
         )
     }
+}
+
+/// What a change holds beside the object: its key, and what is to be stored.
+fn held_by(form: Form, object: &Object) -> Result<(Key, Option<Object>), AllocError>
+    ensures { IfOk result (λ held. (held.0 ≡ object.now.key) × (held.1 ≡ stored_by form object.now)) }
+{
+    let key = object.key.clone()?;
+    Ok((key, stored_by(form, object)?))
 }
 
 /// A copy of the object to be stored; a removal stores none.

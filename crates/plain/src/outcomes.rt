@@ -44,12 +44,42 @@ fn status_of(object: &Object) -> Result<Option<Tree>, AllocError>
 pub(crate) fn updated(draft: Draft, current: &Object) -> Result<Object, AllocError>
     ensures { IfOk result (λ object. object ≡ updated current.now draft) }
 {
-    let meta = meta_after(current, &draft.object)?;
-    let object = with_own_status(draft.object, status_of(current)?)?;
+    match kept_of(current, &draft.object) {
+        Ok((meta, status)) => with_kept(draft.object, meta, status),
+        Err(error) => {
+            drop(draft);
+            Err(error)
+        }
+    }
+}
+
+/// What stays of the current object once an update has put this one in its place: what the store knows of it, and its
+/// status.
+fn kept_of(current: &Object, object: &Object) -> Result<(Meta, Option<Tree>), AllocError>
+    ensures meta { IfOk result (λ kept. kept.0 ≡ record {
+      uid = current.now.meta.uid;
+      revision = current.now.meta.revision;
+      generation = generation_after current.now.meta.generation (same_member (codes "spec") current.now.body object.now.body);
+      deletion = current.now.meta.deletion;
+    }) }
+    ensures status { IfOk result (λ kept. option_map data_of kept.1 ≡ member_of (codes "status") current.now.body) }
+{
+    let meta = meta_after(current, object)?;
+    Ok((meta, status_of(current)?))
+}
+
+fn with_kept(object: Object, meta: Meta, status: Option<Tree>) -> Result<Object, AllocError>
+    ensures { IfOk result (λ made. made ≡ record {
+      key = object.key;
+      meta = meta;
+      body = body_with_status object.key.kind (option_map data_of status) object.body;
+    }) }
+{
+    let object = with_own_status(object, status)?;
     Ok(with_meta(object, meta))
 }
 
-/// What the store knows of the current object once an update has put this one in its place.
+/// What the store knows of an object once an update has put this one in the place of the current one.
 fn meta_after(current: &Object, object: &Object) -> Result<Meta, AllocError>
     ensures { IfOk result (λ meta. meta ≡ record {
       uid = current.now.meta.uid;

@@ -39,7 +39,11 @@ pub(crate) fn judge(current: Option<&Object>, request: Request) -> Result<Verdic
             namespace: _,
         } => unreachable!(),
         Request::Update(draft) => on_update(draft, current),
-        Request::UpdateStatus(draft) => on_status(&draft, current),
+        Request::UpdateStatus(draft) => {
+            let decided = on_status(&draft, current);
+            drop(draft);
+            decided
+        }
         Request::Delete {
             key: _,
             uid,
@@ -53,9 +57,11 @@ fn on_create(draft: Draft, current: Option<&Object>) -> Result<Verdict, AllocErr
     ensures { IfOk result (λ decided. decided ≡ on_create draft (option_copied current.entry)) }
 {
     if draft.version.is_some() {
+        drop(draft);
         return Ok(Verdict::Refuse(Reason::Invalid));
     }
     if current.is_some() {
+        drop(draft);
         return Ok(Verdict::Refuse(Reason::AlreadyExists));
     }
     write(Form::Creation, born(draft.object)?)
