@@ -11,6 +11,8 @@ mod pieces;
 #[cfg(test)]
 mod pods;
 #[cfg(test)]
+mod replies;
+#[cfg(test)]
 mod requests;
 #[cfg(test)]
 mod status;
