@@ -22,3 +22,5 @@ pub mod WholeTokens
 pub mod ReadsAgain
 pub mod Sameness
 pub mod KeyTexts
+pub mod TextDepth
+pub mod PrintedTexts

@@ -8,6 +8,7 @@ use Rattle.json.proofs.Printed.Trees.{value-json_tokens}
 use Rattle.serde_json.specs.Data.{Data, null, boolean, number, string, array, object, Items, no_items, item, Members, no_members, member, put, depth, items_depth, members_depth}
 use Rattle.serde_json.specs.Read.{of_json, of_items, of_members, read, max_depth}
 use Rattle.serde_json.specs.Written.{outline, items_outline, members_outline}
+use Rattle.objects.specs.Reading.{read_within}
 use Rattle.objects.specs.Proper.{IsProper, AreProperItems, AreProperMembers}
 use Rattle.objects.proofs.PutOrder.{put_all, put_all-none}
 
@@ -48,7 +49,10 @@ mutual
 abbrev whole : Option (json.Json × List Token) → Option Data
 whole o = option_and_then of_json (option_and_then (λ p. json.if_last p.0 p.1) o)
 
--- a text with the tokens of a proper value reads as that value
+-- a text with the tokens of a proper value reads as that value, at each depth that it keeps to
+pub read_back_within : (most : ℕ) (d : Data) (text : List ℕ) → IsProper d → tokens text ≡ tree.json_tokens (outline d) → depth d ≤ most → read_within most text ≡ Some d
+read_back_within most d text proper same shallow =
+    ap whole (ap (json.value most) (same ∙ sym (append-nil _)) ∙ value-json_tokens (outline d) most [] (omega (arith, depth-outline d))) ∙ proper_reads d proper
+
 pub read_back : (d : Data) (text : List ℕ) → IsProper d → tokens text ≡ tree.json_tokens (outline d) → depth d ≤ max_depth → read text ≡ Some d
-read_back d text proper same shallow =
-    ap whole (ap (json.value max_depth) (same ∙ sym (append-nil _)) ∙ value-json_tokens (outline d) max_depth [] (omega (arith, depth-outline d))) ∙ proper_reads d proper
+read_back d text proper same shallow = read_back_within max_depth d text proper same shallow

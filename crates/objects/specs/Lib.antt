@@ -23,3 +23,4 @@ pub mod Places
 pub mod Proper
 pub mod Merged
 pub mod Again
+pub mod PrintedText

@@ -3,7 +3,9 @@
 use Rattle.std.specs.Prelude.{ℕ, ◌^◌, not, nat_lt, List, [], length, codes, Option, Some, None, option_map, option_and_then, unwrap_or, Result, Ok, Err, if◌then◌else◌}
 use Rattle.std.specs.Str.{is_utf8}
 use Rattle.serde_json.specs.Data.{Data, null, boolean, number, string, array, object, Members, put}
-use Rattle.serde_json.specs.Read.{read}
+use Rattle.json.specs.Json as json
+use Rattle.json.specs.Lex.{tokens}
+use Rattle.serde_json.specs.Read.{of_json, read}
 use Rattle.serde_json.specs.Written.{has_float}
 use Rattle.serde_json.specs.Find.{get_member, as_object, as_str, as_u64}
 use Rattle.objects.specs.declared.kind.Kind.{Kind}
@@ -22,6 +24,10 @@ use Rattle.objects.specs.Uid.{uid_number, version_number}
 -- the bytes of one object or line, at most
 abbrev pub most_bytes : ℕ
 most_bytes = 1048576
+
+-- the JSON value that a text is, if it nests at most so deep
+abbrev pub read_within : ℕ → List ℕ → Option Data
+read_within most text = option_and_then of_json (option_and_then (λ p. json.if_last p.0 p.1) (json.value most (tokens text)))
 
 -- the JSON value that the bytes are, if they are UTF-8 and nest at most 127 deep
 abbrev pub json_value : List ℕ → Option Data

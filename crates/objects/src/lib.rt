@@ -17,6 +17,7 @@ mod parse;
 mod places;
 mod pod_names;
 mod print;
+mod printed;
 mod read;
 mod reader;
 mod same;
@@ -39,6 +40,7 @@ pub use pod_names::{
     claim_name, claim_names_of_a_set_differ, pod_name, pod_names_differ, split_pod_name,
 };
 pub use print::{print_object, write_object};
+pub use printed::{Printed, Printer};
 pub use read::{read_collection, read_draft, read_key, read_object, read_tree};
 pub use reader::TreeReader;
 pub use same::same_is_reflexive;

@@ -4,10 +4,11 @@ ghost use Rattle.std.specs.Prelude.{◌≡◌, ◌<◌, ◌≤◌, ◌∷◌, �
 ghost use Rattle.json.specs.Token.{begin_array, begin_object};
 ghost use Rattle.json.specs.Json.{value, items, members, parse_map};
 ghost use Rattle.serde_json.specs.Data.{Members as DataMembers, no_members};
-ghost use Rattle.serde_json.specs.Read.{of_json, of_items, of_members, converted, read as read_text};
+ghost use Rattle.serde_json.specs.Read.{of_json, of_items, of_members, converted};
 ghost use Rattle.objects.specs.Tree.{data_of, items_of, members_of, AreAscending};
 ghost use Rattle.objects.specs.Steps.{Gives, required};
 ghost use Rattle.objects.specs.IfWhole.{if_whole, items_if_whole, members_if_whole, found_in, found_of};
+ghost use Rattle.objects.specs.Reading.{read_within};
 ghost use Rattle.objects.specs.declared.fault.ReadError.TheVariants.{NotJson};
 
 use crate::fault::ReadError;
@@ -20,22 +21,21 @@ use json::{Reader, Scratch, Token};
 use std::alloc::{AllocError, Global};
 use std::collections::BTreeMap;
 
-/// How deep lists and maps may nest.
-const MOST_DEPTH: usize = 127;
-
 /// In a map of fewer members a key goes to its place by steps over the others.
 const FEW: usize = 16;
 
-/// The tree of a text, or `None` where a number in it is not whole. It refuses with NotJson alone.
+/// The tree of a text whose lists and maps nest so deep at most, or `None` where a number in it is not whole. It refuses
+/// with NotJson alone.
 pub(crate) fn tree_in(
     alloc: Global,
     text: &str,
+    depth: usize,
     scratch: &mut Scratch,
 ) -> Result<Option<Tree>, ReadError>
-    ensures { Gives (option_map data_of) result (required NotJson (option_map if_whole (read_text text.now))) }
+    ensures { Gives (option_map data_of) result (required NotJson (option_map if_whole (read_within depth text.now))) }
 {
     let mut reader = Reader::new(text, scratch)?;
-    let tree = value_in(alloc, &mut reader, MOST_DEPTH)?;
+    let tree = value_in(alloc, &mut reader, depth)?;
     if reader.next().is_some() {
         return Err(ReadError::NotJson);
     }

@@ -1,5 +1,6 @@
-ghost use Rattle.std.specs.Prelude.{◌≡◌, ◌≤◌, ◌++◌, length, IfOk, OnOk, Ok, Some, codes, true, false, option_map, decimal, string_bytes};
+ghost use Rattle.std.specs.Prelude.{◌≡◌, ◌≤◌, ◌++◌, [], length, IfOk, OnOk, Ok, Some, codes, true, false, option_map, decimal, string_bytes};
 ghost use Rattle.std.specs.Option.{option_copied};
+ghost use Rattle.std.specs.Str.{IsUtf8};
 ghost use Rattle.json.specs.Tree.{json_tokens, members_tokens};
 ghost use Rattle.serde_json.specs.Data.{Members as DataMembers, object as map, string, number as number_data, unsigned, depth, put};
 ghost use Rattle.serde_json.specs.Find.{get_member};
@@ -9,6 +10,7 @@ ghost use Rattle.objects.specs.Object.{is_held, has_held, KeepsRules};
 ghost use Rattle.objects.specs.Key.{is_key};
 ghost use Rattle.objects.specs.Meta.{IsMeta};
 ghost use Rattle.objects.specs.Proper.{IsProper, AreProperMembers};
+ghost use Rattle.objects.specs.PrintedText.{IsTextOf};
 ghost use Rattle.objects.specs.Text.{text, printed, whole_metadata, unless_zero};
 ghost use Rattle.objects.specs.Uid.{uid_text, uid_prefix, twelve_digits};
 ghost use Rattle.objects.specs.Reading.{reading, most_bytes};
@@ -217,6 +219,19 @@ pub fn write_object(object: &Object, out: &mut Writer) -> Result<(), AllocError>
     write_members(object, members.entries(), out)
 }
 
+/// The bytes of the object's text, in an empty vector.
+pub(crate) fn print_into(object: &Object, out: Vec<u8>) -> Result<Vec<u8>, AllocError>
+    requires { out.items ≡ [] }
+    ensures reads_back { IfOk result (λ v. length v.items ≤ most_bytes → depth (printed object.now) ≤ max_depth
+        → reading v.items ≡ Ok (draft_again_of object.now)) }
+    ensures text { IfOk result (λ v. IsTextOf object.now v.items) }
+    ensures utf8 { IfOk result (λ v. IsUtf8 v.items) }
+{
+    let mut writer = Writer::new(out);
+    write_object(object, &mut writer)?;
+    Ok(writer.into_inner())
+}
+
 /// The object as compact JSON, its keys in byte order. `read_object` gives it back, where the text is short enough
 /// and nests at most 127 deep.
 pub fn print_object(alloc: Global, object: &Object) -> Result<String, Memory>
@@ -224,9 +239,8 @@ pub fn print_object(alloc: Global, object: &Object) -> Result<String, Memory>
     ensures reads_back { IfOk result (λ s. length (string_bytes s) ≤ most_bytes → depth (printed object.now) ≤ max_depth
         → reading (string_bytes s) ≡ Ok (draft_again_of object.now)) }
 {
-    let mut out = Writer::new(Vec::with_capacity(alloc, 256)?);
-    write_object(object, &mut out)?;
-    match String::from_utf8(out.into_inner()) {
+    let bytes = print_into(object, Vec::with_capacity(alloc, 256)?)?;
+    match String::from_utf8(bytes) {
         Ok(text) => Ok(text),
         Err(_) => unreachable!(),
     }

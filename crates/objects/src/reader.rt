@@ -1,8 +1,8 @@
-ghost use Rattle.std.specs.Prelude.{◌≡◌, option_map};
+ghost use Rattle.std.specs.Prelude.{◌≡◌, length, option_map};
 ghost use Rattle.objects.specs.Steps.{Gives, required};
 ghost use Rattle.objects.specs.Tree.{data_of};
 ghost use Rattle.objects.specs.IfWhole.{if_whole};
-ghost use Rattle.objects.specs.Reading.{reading_of_data, json_value};
+ghost use Rattle.objects.specs.Reading.{reading_of_data, json_value, read_within};
 ghost use Rattle.objects.specs.declared.fault.ReadError.TheVariants.{NotJson};
 
 use crate::fault::ReadError;
@@ -14,6 +14,9 @@ use std::alloc::Global;
 
 /// The most bytes that an object or a line may have, without its line end.
 pub const MOST_BYTES: usize = 1_048_576;
+
+/// How deep lists and maps of a line may nest.
+const MOST_DEPTH: usize = 127;
 
 /// Reads texts one after another, in memory that it keeps from text to text: a few pages, and the longest text's length.
 #[derive(Drop)]
@@ -47,8 +50,21 @@ impl TreeReader {
             (required NotJson (option_map if_whole (json_value bytes.now))) }
     {
         match from_utf8(bytes) {
-            Ok(text) => tree_in(self.alloc, text, &mut self.scratch),
+            Ok(text) => tree_in(self.alloc, text, MOST_DEPTH, &mut self.scratch),
             Err(_) => Err(ReadError::NotJson),
         }
+    }
+
+    /// The value of a text of any length and depth, or `None` where a number in it is not whole. It refuses with
+    /// NotJson alone.
+    pub(crate) fn read_any(&mut self, text: &str) -> Result<Option<Tree>, ReadError>
+        ensures { Gives (option_map data_of) result
+            (required NotJson (option_map if_whole (read_within (length text.now) text.now))) }
+    {
+        tree_in(self.alloc, text, text.len(), &mut self.scratch)
+    }
+
+    pub(crate) fn allocator(&self) -> Global {
+        self.alloc
     }
 }

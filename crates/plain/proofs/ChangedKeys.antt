@@ -1,7 +1,6 @@
 -- A request changes the object of the key that it names.
 use Rattle.std.specs.Bool.{⊤}
-use Rattle.std.proofs.Common.{◌≡◌, Bool, true, false, cond, codes, is_some, List, ℕ, Option, Some, None, IfSome, Bor, refl, subst}
-use Rattle.std.specs.Option.{option_copied}
+use Rattle.std.proofs.Common.{◌≡◌, Bool, true, false, cond, codes, is_some, List, ℕ, Option, Some, None, refl, subst}
 use Rattle.std.proofs.lemmas.Option.{same_Some}
 use Rattle.objects.specs.declared.key.Key.{Key}
 use Rattle.objects.specs.declared.object.Draft.{Draft}
@@ -26,10 +25,6 @@ abbrev pub IsOfKey : Key → Verdict → Type 0
 IsOfKey k (Refuse reason) = ⊤
 IsOfKey k (Same o) = ⊤
 IsOfKey k (Write c) = (change_object c).key ≡ k
-
-pub found_is_filed : (k : Key) (found : Option (Bor Object)) → IfSome found (λ o. o.now.key ≡ k) → IsFiled k (option_copied found)
-found_is_filed k None is = tt
-found_is_filed k (Some o) is = is
 
 either : (k : Key) (b : Bool) (v w : Verdict) → IsOfKey k v → IsOfKey k w → IsOfKey k (cond b v w)
 either k true v w first second = first

@@ -1,6 +1,5 @@
 -- A step by a write request goes by its verdict.
-use Rattle.std.proofs.Common.{◌≡◌, true, Option, Some, None, IfSome, Bor, sym, ap, subst, ◌∙◌}
-use Rattle.std.specs.Option.{option_copied}
+use Rattle.std.proofs.Common.{◌≡◌, true, Option, Some, None, refl, sym, ap, subst, ◌∙◌}
 use Rattle.std.specs.FinMap as map
 use Rattle.std.proofs.lemmas.Option.{same_Some}
 use Rattle.objects.specs.declared.key.Key.{Key}
@@ -11,10 +10,14 @@ use Rattle.plain.specs.declared.request.Request.TheVariants.{Create, Get, Update
 use Rattle.plain.specs.declared.verdict.Verdict.{Verdict}
 use Rattle.plain.specs.declared.verdict.Verdict.TheVariants.{Write}
 use Rattle.plain.specs.Change.{Change, change_object}
+use Rattle.plain.specs.declared.form.Form.{Form}
+use Rattle.plain.specs.declared.form.Form.TheVariants.{Creation, Update as Updating, Mark, Removal}
+use Rattle.plain.specs.Filed.{AreFiled}
+use Rattle.plain.specs.Forms.{change_by}
 use Rattle.plain.specs.Keys.{key_named}
 use Rattle.plain.specs.Store.{Store, carried_out, step, written}
 use Rattle.plain.specs.Verdict.{is_write, verdict}
-use Rattle.plain.proofs.ChangedKeys.{IsOfKey, changes_its_key, found_is_filed}
+use Rattle.plain.proofs.ChangedKeys.{IsFiled, IsOfKey, changes_its_key}
 
 pub names_a_key : (r : Request) → is_write r ≡ true → key_named r ≡ None → ⊥
 names_a_key (Create d) is none = cc
@@ -37,9 +40,25 @@ pub by_verdict : (s : Store) (r : Request) (k : Key) (current : Option Object) (
     → key_named r ≡ Some k → current ≡ map.get s.objects k → v ≡ verdict r current → carried_out s k v ≡ step s r
 by_verdict s r k current v is named there decided = ap (carried_out s k) (decided ∙ ap (verdict r) there) ∙ written_step s r k is named
 
-pub by_change : (s : Store) (r : Request) (k : Key) (found : Option (Bor Object)) (c : Change) → is_write r ≡ true → key_named r ≡ Some k
-    → option_copied found ≡ map.get s.objects k → IfSome found (λ o. o.now.key ≡ k) → Write c ≡ verdict r (option_copied found)
+filed_now : (s : Store) (k : Key) (current : Option Object) → AreFiled s.objects → current ≡ map.get s.objects k → IsFiled k current
+filed_now s k None filed there = tt
+filed_now s k (Some o) filed there = filed k o (sym there)
+
+pub by_change : (s : Store) (r : Request) (k : Key) (current : Option Object) (c : Change) → is_write r ≡ true → key_named r ≡ Some k
+    → current ≡ map.get s.objects k → AreFiled s.objects → Write c ≡ verdict r current
     → carried_out s (change_object c).key (Write c) ≡ step s r
-by_change s r k found c is named there filed decided =
-    let own : IsOfKey k (Write c) = subst (IsOfKey k) (sym decided) (changes_its_key r k (option_copied found) named (found_is_filed k found filed)) in
-    ap (λ q. carried_out s q (Write c)) own ∙ by_verdict s r k (option_copied found) (Write c) is named there decided
+by_change s r k current c is named there filed decided =
+    let own : IsOfKey k (Write c) = subst (IsOfKey k) (sym decided) (changes_its_key r k current named (filed_now s k current filed there)) in
+    ap (λ q. carried_out s q (Write c)) own ∙ by_verdict s r k current (Write c) is named there decided
+
+pub object_by : (form : Form) (o : Object) → change_object (change_by form o) ≡ o
+object_by Creation o = refl
+object_by Updating o = refl
+object_by Mark o = refl
+object_by Removal o = refl
+
+pub by_form : (s : Store) (r : Request) (k : Key) (current : Option Object) (form : Form) (o : Object) → is_write r ≡ true → key_named r ≡ Some k
+    → current ≡ map.get s.objects k → AreFiled s.objects → Write (change_by form o) ≡ verdict r current
+    → carried_out s o.key (Write (change_by form o)) ≡ step s r
+by_form s r k current form o is named there filed decided =
+    ap (λ (p : Object). carried_out s p.key (Write (change_by form o))) (sym (object_by form o)) ∙ by_change s r k current (change_by form o) is named there filed decided

@@ -22,3 +22,5 @@ pub mod StatusWrites
 pub mod Streams
 pub mod Faults
 pub mod Serving
+pub mod Told
+pub mod Judged

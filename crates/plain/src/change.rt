@@ -94,7 +94,8 @@ fn stored_by(form: Form, object: &Object) -> Result<Option<Object>, AllocError>
     }
 }
 
-fn stamped(form: Form, object: Object, number: u64) -> Object
+/// The object of a change of that form that draws the number.
+pub(crate) fn stamped(form: Form, object: Object, number: u64) -> Object
     requires { number < 2 ^ 48 }
     ensures { result ≡ stamp (change_by form object) number }
 {

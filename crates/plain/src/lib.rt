@@ -16,13 +16,16 @@ mod listing;
 mod outcomes;
 mod preconditions;
 mod reply;
+mod reply_line;
 mod request;
 mod runs;
+mod seen;
 mod server;
 mod slices;
 mod store;
 mod stream;
 mod table;
+mod told;
 mod verdict;
 mod version;
 

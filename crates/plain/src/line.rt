@@ -1,18 +1,17 @@
-ghost use Rattle.std.specs.Prelude.{◌≡◌, ◌≢◌, ◌++◌, ◌∷◌, [], IfOk};
-ghost use Rattle.json.specs.Print.{print};
+ghost use Rattle.std.specs.Prelude.{◌≡◌, ◌≢◌, ◌++◌, ◌∷◌, [], true, false, IfOk};
 ghost use Rattle.serde_json.specs.Written.{compact_text};
-ghost use Rattle.plain.specs.Replies.{reply_data, error_data, error_name};
+ghost use Rattle.plain.specs.Replies.{reply_data, error_data};
+ghost use Rattle.plain.specs.Verdict.{is_write};
 ghost use Rattle.plain.specs.Served.{answer};
 ghost use Rattle.plain.specs.Store.{step};
 ghost use Rattle.objects.specs.declared.fault.ReadError.TheVariants.{Memory as out_of_memory};
 ghost use Rattle.plain.specs.declared.request.RequestError.TheVariants.{Read};
 
-use crate::reply::{Reply, write_reply, write_with_reason};
+use crate::reply_line::{error_line, seen_line, told_line};
 use crate::request::{Request, RequestError, next_request};
 use crate::store::Plain;
-use json::Writer;
 use objects::{Memory, ReadError, TreeReader};
-use std::alloc::{AllocError, Global};
+use std::alloc::Global;
 
 /// Answers a line: the reply's text and a line feed come after what `out` holds.
 pub(crate) fn answer_line(
@@ -35,10 +34,39 @@ fn answer_request(plain: &mut Plain, request: Request, out: Vec<u8>) -> Result<V
     ensures text { IfOk result (λ v. v.items ≡ out.items ++ (compact_text (reply_data (step plain.old request).1) ++ 10 ∷ [])) }
     ensures store { IfOk result (λ v. plain.new ≡ (step plain.old request).0) }
 {
-    let reply = plain.take(request)?;
-    let line = reply_line(&reply, out);
-    drop(reply);
-    Ok(line?)
+    if request.is_write() {
+        answer_write(plain, request, out)
+    } else {
+        let line = answer_read(plain, &request, out);
+        drop(request);
+        line
+    }
+}
+
+fn answer_write(plain: &mut Plain, request: Request, out: Vec<u8>) -> Result<Vec<u8>, Memory>
+    requires { is_write request ≡ true }
+    ensures text { IfOk result (λ v. v.items ≡ out.items ++ (compact_text (reply_data (step plain.old request).1) ++ 10 ∷ [])) }
+    ensures store { IfOk result (λ v. plain.new ≡ (step plain.old request).0) }
+{
+    let told = plain.write(request)?;
+    let mut out = out;
+    let written = told_line(&told, &mut out);
+    drop(told);
+    written?;
+    Ok(out)
+}
+
+fn answer_read(plain: &Plain, request: &Request, out: Vec<u8>) -> Result<Vec<u8>, Memory>
+    requires { is_write request.now ≡ false }
+    ensures text { IfOk result (λ v. v.items ≡ out.items ++ (compact_text (reply_data (step plain.now request.now).1) ++ 10 ∷ [])) }
+    ensures store { IfOk result (λ _. plain.now ≡ (step plain.now request.now).0) }
+{
+    let seen = plain.see(request)?;
+    let mut out = out;
+    let written = seen_line(&seen, &mut out);
+    drop(seen);
+    written?;
+    Ok(out)
 }
 
 fn answer_refusal(error: RequestError, out: Vec<u8>) -> Result<Vec<u8>, Memory>
@@ -47,31 +75,10 @@ fn answer_refusal(error: RequestError, out: Vec<u8>) -> Result<Vec<u8>, Memory>
 {
     match error {
         RequestError::Read(ReadError::Memory) => Err(Memory),
-        error => Ok(refusal_line(error, out)?),
+        error => {
+            let mut out = out;
+            error_line(error, &mut out)?;
+            Ok(out)
+        }
     }
-}
-
-fn reply_line(reply: &Reply, out: Vec<u8>) -> Result<Vec<u8>, AllocError>
-    ensures { IfOk result (λ v. v.items ≡ out.items ++ (compact_text (reply_data reply.now) ++ 10 ∷ [])) }
-{
-    let mut writer = Writer::new(out);
-    write_reply(reply, &mut writer)?;
-    ended(writer)
-}
-
-fn refusal_line(error: RequestError, out: Vec<u8>) -> Result<Vec<u8>, AllocError>
-    ensures { IfOk result (λ v. v.items ≡ out.items ++ (compact_text (error_data error) ++ 10 ∷ [])) }
-{
-    let mut writer = Writer::new(out);
-    write_with_reason(400, error.name(), &mut writer)?;
-    ended(writer)
-}
-
-/// What was written, with a line feed.
-fn ended(writer: Writer) -> Result<Vec<u8>, AllocError>
-    ensures { IfOk result (λ v. v.items ≡ (writer.before ++ print writer.tokens) ++ 10 ∷ []) }
-{
-    let mut text = writer.into_inner();
-    text.push(b'\n')?;
-    Ok(text)
 }

@@ -5,7 +5,8 @@ ghost use Rattle.plain.specs.Named.{AreNamed};
 ghost use Rattle.plain.specs.LeastKey.{least_key};
 ghost use Rattle.plain.specs.Store.{is_of, collection};
 
-use objects::{Key, Kind, Memory, Object, ReadError, Text};
+use crate::seen::Texts;
+use objects::{Key, Kind, Memory, Object, Printed, ReadError, Text, TreeReader};
 use std::alloc::Global;
 use std::collections::BTreeMap;
 use std::marker::Model;
@@ -30,6 +31,21 @@ impl Model for Listing {
 }
 
 impl Listing {
+    /// The objects of these texts.
+    pub(crate) fn read(
+        alloc: Global,
+        reader: &mut TreeReader,
+        texts: &[Printed],
+    ) -> Result<Listing, Memory>
+        ensures { IfOk result (λ listing. listing ≡ texts.now) }
+    {
+        let mut objects = Vec::with_capacity(alloc, texts.len())?;
+        for text in texts {
+            objects.push(text.object(reader)?)?;
+        }
+        Ok(Listing { objects })
+    }
+
     /// The objects, in byte order of their names.
     pub fn as_slice(&self) -> &[Object]
         ensures { result.now ≡ self.now }
@@ -38,20 +54,20 @@ impl Listing {
     }
 }
 
-/// The objects of a kind in a namespace, which share what their bodies hold with those of the map. No other object is
-/// looked at but the one behind the last.
+/// The objects of a kind in a namespace, which share their texts with those of the map. No other object is looked at but
+/// the one behind the last.
 pub(crate) fn listing_of(
     alloc: Global,
-    objects: &BTreeMap<Key, Object>,
+    objects: &BTreeMap<Key, Printed>,
     kind: Kind,
     namespace: &Text,
-) -> Result<Listing, Memory>
+) -> Result<Texts, Memory>
     requires { AreNamed (map.from_entries objects.now.entries) }
     ensures { IfOk result (λ listing. listing ≡ collection (map.from_entries objects.now.entries) kind namespace.now) }
 {
     let mut found = Vec::new(alloc);
     let Some(least) = least_key(alloc, kind, namespace)? else {
-        return Ok(Listing { objects: found });
+        return Ok(Texts::of(found));
     };
     for (key, object) in objects.range(least..) {
         if !is_of(key, kind, namespace) {
@@ -59,7 +75,7 @@ pub(crate) fn listing_of(
         }
         found.push(object.clone()?)?;
     }
-    Ok(Listing { objects: found })
+    Ok(Texts::of(found))
 }
 
 /// A key that no key of the kind in the namespace is below, so that a walk over keys in their order begins there. There

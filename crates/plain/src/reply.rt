@@ -1,13 +1,8 @@
-ghost use Rattle.std.specs.Prelude.{◌≡◌, ◌++◌, ◌∷◌, [], codes, decimal, OnOk};
-ghost use Rattle.json.specs.Token as tokens;
-ghost use Rattle.json.specs.Tree.{json_tokens, items_tokens};
-ghost use Rattle.serde_json.specs.Written.{outline, items_outline};
-ghost use Rattle.plain.specs.Replies.{reason_code, reason_name, printed_items, with_items, with_object, with_reason, reply_data};
+ghost use Rattle.std.specs.Prelude.{◌≡◌};
+ghost use Rattle.plain.specs.Replies.{reason_code, reason_name};
 
 use crate::listing::Listing;
-use json::Writer;
-use objects::{Object, write_object};
-use std::alloc::AllocError;
+use objects::Object;
 
 /// Why a request was refused (Kubernetes API, `Status.reason`).
 #[derive(Clone, Copy, Debug, PartialEq, Eq)]
@@ -70,93 +65,4 @@ pub enum Reply {
     /// 200: the object as it last was, at the resource version of its removal.
     Removed(Object),
     Refused(Reason),
-}
-
-/// Writes the tokens of a reply, in the place of a value.
-pub(crate) fn write_reply(reply: &Reply, out: &mut Writer) -> Result<(), AllocError>
-    ensures tokens { OnOk result (out.new.tokens ≡ out.old.tokens ++ json_tokens (outline (reply_data reply.now))) }
-    ensures before { out.new.before ≡ out.old.before }
-{
-    match reply {
-        Reply::Created(object) => write_with_object(201, object, "Created", out),
-        Reply::Found(object) => write_with_object(200, object, "Found", out),
-        Reply::Listed { objects, revision } => {
-            write_with_items(objects.as_slice(), *revision, out)
-        }
-        Reply::Updated(object) => write_with_object(200, object, "Updated", out),
-        Reply::Unchanged(object) => write_with_object(200, object, "Unchanged", out),
-        Reply::Marked(object) => write_with_object(200, object, "Marked", out),
-        Reply::Removed(object) => write_with_object(200, object, "Removed", out),
-        Reply::Refused(reason) => write_with_reason(reason.code(), reason.name(), out),
-    }
-}
-
-fn write_with_object(
-    code: u16,
-    object: &Object,
-    outcome: &str,
-    out: &mut Writer,
-) -> Result<(), AllocError>
-    ensures tokens { OnOk result (out.new.tokens ≡ out.old.tokens ++ json_tokens (outline (with_object code object.now outcome.now))) }
-    ensures before { out.new.before ≡ out.old.before }
-{
-    out.begin_object()?;
-    write_code(code, out)?;
-    out.key("object")?;
-    write_object(object, out)?;
-    write_text("result", outcome, out)?;
-    out.end_object()
-}
-
-fn write_with_items(objects: &[Object], revision: u64, out: &mut Writer) -> Result<(), AllocError>
-    ensures tokens { OnOk result (out.new.tokens ≡ out.old.tokens ++ json_tokens (outline (with_items objects.now revision))) }
-    ensures before { out.new.before ≡ out.old.before }
-{
-    let mut buffer = itoa::Buffer::new();
-    out.begin_object()?;
-    write_code(200, out)?;
-    out.key("items")?;
-    out.begin_array()?;
-    write_items(objects, out)?;
-    write_text("resourceVersion", buffer.format(revision), out)?;
-    write_text("result", "Listed", out)?;
-    out.end_object()
-}
-
-// With the closing bracket.
-fn write_items(objects: &[Object], out: &mut Writer) -> Result<(), AllocError>
-    ensures tokens { OnOk result (out.new.tokens ≡ out.old.tokens ++ items_tokens (items_outline (printed_items objects.now))) }
-    ensures before { out.new.before ≡ out.old.before }
-{
-    for object in objects {
-        write_object(object, out)?;
-    }
-    out.end_array()
-}
-
-/// Writes the tokens of a reply that says why there is no object.
-pub(crate) fn write_with_reason(code: u16, reason: &str, out: &mut Writer) -> Result<(), AllocError>
-    ensures tokens { OnOk result (out.new.tokens ≡ out.old.tokens ++ json_tokens (outline (with_reason code reason.now))) }
-    ensures before { out.new.before ≡ out.old.before }
-{
-    out.begin_object()?;
-    write_code(code, out)?;
-    write_text("reason", reason, out)?;
-    out.end_object()
-}
-
-fn write_code(code: u16, out: &mut Writer) -> Result<(), AllocError>
-    ensures tokens { OnOk result (out.new.tokens ≡ out.old.tokens ++ tokens.key (codes "code") ∷ tokens.number (decimal code) ∷ []) }
-    ensures before { out.new.before ≡ out.old.before }
-{
-    out.key("code")?;
-    out.u64(u64::from(code))
-}
-
-fn write_text(name: &str, text: &str, out: &mut Writer) -> Result<(), AllocError>
-    ensures tokens { OnOk result (out.new.tokens ≡ out.old.tokens ++ tokens.key name.now ∷ tokens.string text.now ∷ []) }
-    ensures before { out.new.before ≡ out.old.before }
-{
-    out.key(name)?;
-    out.string(text)
 }

@@ -2,8 +2,7 @@
 ghost use Rattle.std.specs.Prelude.{◌≡◌, true, IfOk, option_map};
 ghost use Rattle.std.specs.Option.{option_copied};
 ghost use Rattle.plain.specs.Verdict.{is_write, on_create, on_delete, on_status, on_update, verdict};
-ghost use Rattle.plain.specs.Forms.{change_by};
-ghost use Rattle.plain.specs.declared.verdict.Verdict.TheVariants.{Write};
+ghost use Rattle.plain.specs.Judged.{verdict_of};
 
 use crate::change::Change;
 use crate::form::Form;
@@ -13,7 +12,7 @@ use crate::preconditions::{
 };
 use crate::reply::Reason;
 use crate::request::Request;
-use crate::verdict::Verdict;
+use crate::verdict::{Judged, Verdict};
 use objects::{Draft, Memory, Object, Text};
 use std::alloc::AllocError;
 
@@ -23,13 +22,17 @@ pub fn decide(current: Option<&Object>, request: &Request) -> Result<Verdict, Me
     requires { is_write request.now ≡ true }
     ensures { IfOk result (λ decided. decided ≡ verdict request.now (option_copied current.entry)) }
 {
-    Ok(judge(current, request.clone()?)?)
+    Ok(match judge(current, request.clone()?)? {
+        Judged::Refuse(reason) => Verdict::Refuse(reason),
+        Judged::Same(object) => Verdict::Same(object),
+        Judged::Write(form, object) => Verdict::Write(Change::of(form, object)?),
+    })
 }
 
 /// As `decide`, of a request that is used up, so that what it holds is moved into the change.
-pub(crate) fn judge(current: Option<&Object>, request: Request) -> Result<Verdict, AllocError>
+pub(crate) fn judge(current: Option<&Object>, request: Request) -> Result<Judged, AllocError>
     requires { is_write request ≡ true }
-    ensures { IfOk result (λ decided. decided ≡ verdict request (option_copied current.entry)) }
+    ensures { IfOk result (λ decided. verdict_of decided ≡ verdict request (option_copied current.entry)) }
 {
     match request {
         Request::Create(draft) => on_create(draft, current),
@@ -53,59 +56,59 @@ pub(crate) fn judge(current: Option<&Object>, request: Request) -> Result<Verdic
     }
 }
 
-fn on_create(draft: Draft, current: Option<&Object>) -> Result<Verdict, AllocError>
-    ensures { IfOk result (λ decided. decided ≡ on_create draft (option_copied current.entry)) }
+fn on_create(draft: Draft, current: Option<&Object>) -> Result<Judged, AllocError>
+    ensures { IfOk result (λ decided. verdict_of decided ≡ on_create draft (option_copied current.entry)) }
 {
     if draft.version.is_some() {
         drop(draft);
-        return Ok(Verdict::Refuse(Reason::Invalid));
+        return Ok(Judged::Refuse(Reason::Invalid));
     }
     if current.is_some() {
         drop(draft);
-        return Ok(Verdict::Refuse(Reason::AlreadyExists));
+        return Ok(Judged::Refuse(Reason::AlreadyExists));
     }
-    write(Form::Creation, born(draft.object)?)
+    Ok(Judged::Write(Form::Creation, born(draft.object)?))
 }
 
-fn on_update(draft: Draft, current: Option<&Object>) -> Result<Verdict, AllocError>
-    ensures { IfOk result (λ decided. decided ≡ on_update draft (option_copied current.entry)) }
+fn on_update(draft: Draft, current: Option<&Object>) -> Result<Judged, AllocError>
+    ensures { IfOk result (λ decided. verdict_of decided ≡ on_update draft (option_copied current.entry)) }
 {
     let Some(current) = current else {
         drop(draft);
-        return Ok(Verdict::Refuse(Reason::NotFound));
+        return Ok(Judged::Refuse(Reason::NotFound));
     };
     if conflicts(draft.version.as_ref(), draft.uid.as_ref(), current) {
         drop(draft);
-        return Ok(Verdict::Refuse(Reason::Conflict));
+        return Ok(Judged::Refuse(Reason::Conflict));
     }
     if changes_data(&draft, current) {
         drop(draft);
-        return Ok(Verdict::Refuse(Reason::Invalid));
+        return Ok(Judged::Refuse(Reason::Invalid));
     }
     let object = updated(draft, current)?;
     if is_same_body(current, &object) {
         drop(object);
-        return Ok(Verdict::Same(current.clone()?));
+        return Ok(Judged::Same(current.clone()?));
     }
-    write(Form::Update, object)
+    Ok(Judged::Write(Form::Update, object))
 }
 
-fn on_status(draft: &Draft, current: Option<&Object>) -> Result<Verdict, AllocError>
-    ensures { IfOk result (λ decided. decided ≡ on_status draft.now (option_copied current.entry)) }
+fn on_status(draft: &Draft, current: Option<&Object>) -> Result<Judged, AllocError>
+    ensures { IfOk result (λ decided. verdict_of decided ≡ on_status draft.now (option_copied current.entry)) }
 {
     if !has_status(draft.object.key.kind) {
-        return Ok(Verdict::Refuse(Reason::Invalid));
+        return Ok(Judged::Refuse(Reason::Invalid));
     }
     let Some(current) = current else {
-        return Ok(Verdict::Refuse(Reason::NotFound));
+        return Ok(Judged::Refuse(Reason::NotFound));
     };
     if conflicts(draft.version.as_ref(), draft.uid.as_ref(), current) {
-        return Ok(Verdict::Refuse(Reason::Conflict));
+        return Ok(Judged::Refuse(Reason::Conflict));
     }
     if is_same_status(draft, current) {
-        return Ok(Verdict::Same(current.clone()?));
+        return Ok(Judged::Same(current.clone()?));
     }
-    write(Form::Update, with_status_of(draft, current)?)
+    Ok(Judged::Write(Form::Update, with_status_of(draft, current)?))
 }
 
 fn on_delete(
@@ -113,27 +116,21 @@ fn on_delete(
     uid: Option<&Text>,
     at: Option<Text>,
     current: Option<&Object>,
-) -> Result<Verdict, AllocError>
-    ensures { IfOk result (λ decided. decided
+) -> Result<Judged, AllocError>
+    ensures { IfOk result (λ decided. verdict_of decided
         ≡ on_delete (option_copied version.entry) (option_copied uid.entry) at (option_copied current.entry)) }
 {
     let Some(current) = current else {
-        return Ok(Verdict::Refuse(Reason::NotFound));
+        return Ok(Judged::Refuse(Reason::NotFound));
     };
     if conflicts(version, uid, current) {
-        return Ok(Verdict::Refuse(Reason::Conflict));
+        return Ok(Judged::Refuse(Reason::Conflict));
     }
     let Some(at) = graceful(current, at) else {
-        return write(Form::Removal, current.clone()?);
+        return Ok(Judged::Write(Form::Removal, current.clone()?));
     };
     if is_marked(current) {
-        return Ok(Verdict::Same(current.clone()?));
+        return Ok(Judged::Same(current.clone()?));
     }
-    write(Form::Mark, marked(current, at)?)
-}
-
-fn write(form: Form, object: Object) -> Result<Verdict, AllocError>
-    ensures { IfOk result (λ decided. decided ≡ Write (change_by form object)) }
-{
-    Ok(Verdict::Write(Change::of(form, object)?))
+    Ok(Judged::Write(Form::Mark, marked(current, at)?))
 }

@@ -1,4 +1,5 @@
 use crate::change::Change;
+use crate::form::Form;
 use crate::reply::Reason;
 use objects::Object;
 
@@ -9,4 +10,12 @@ pub enum Verdict {
     /// The request would change nothing: this is the object as it is.
     Same(Object),
     Write(Change),
+}
+
+/// The same before anything is copied of what is written.
+#[derive(Drop)]
+pub(crate) enum Judged {
+    Refuse(Reason),
+    Same(Object),
+    Write(Form, Object),
 }

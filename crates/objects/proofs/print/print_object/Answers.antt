@@ -1,31 +1,15 @@
-use Rattle.std.proofs.Common.{◌≡◌, List, [], ℕ, ◌++◌, sym, ap, ◌∙◌, subst}
-use Rattle.std.specs.Str.{IsUtf8}
-use Rattle.json.specs.Token.{Token}
-use Rattle.json.specs.Lex.{tokens}
-use Rattle.json.specs.Print.{print}
-use Rattle.json.specs.Tree.{json_tokens}
-use Rattle.serde_json.specs.Written.{outline}
-use Rattle.serde_json.proofs.Texts.{print-outline}
+use Rattle.std.proofs.Common.{◌≡◌, ℕ, ◌≤◌, List, length, Ok, sym, ap, ◌∙◌, subst}
+use Rattle.serde_json.specs.Data.{depth}
+use Rattle.serde_json.specs.Read.{max_depth}
+use Rattle.objects.specs.Again.{draft_again_of}
+use Rattle.objects.specs.Reading.{reading, most_bytes}
 use Rattle.objects.specs.Text.{printed}
-use Rattle.objects.proofs.ReadsAgain.{reads_again}
 use Rattle.objects.proofs.print.print_object.Goals as goal
 
--- the bytes are what was printed
-bytes_printed : (bytes before : List ℕ) (ts : List Token) → bytes ≡ before ++ print ts → before ≡ [] → bytes ≡ print ts
-bytes_printed bytes before ts is none = is ∙ ap (λ b. b ++ print ts) none
-
 pub returns-clause-text : goal.returns-clause-text
-returns-clause-text c =
-    let written = c.in_ok-write_object.ensures.tokens ∙ ap (λ ts. ts ++ json_tokens (outline (printed c.args.object.now))) c.new-out.ensures.tokens in
-    ap (λ v. v.items) c.in-Ok.ensures.ok
-    ∙ bytes_printed _ _ _ c.into_inner.ensures.items (c.write_object.ensures.before ∙ c.new-out.ensures.before ∙ c.in_ok-with_capacity.ensures.items)
-    ∙ ap print written ∙ print-outline (printed c.args.object.now)
+returns-clause-text c = ap (λ v. v.items) c.in-Ok.ensures.ok ∙ c.in_ok-bytes.ensures.text.text
 
 pub returns-clause-reads_back : goal.returns-clause-reads_back
-returns-clause-reads_back c = λ short shallow.
-    let kept = c.in_ok-write_object.ensures.kept in
-    let written = c.in_ok-write_object.ensures.tokens ∙ ap (λ ts. ts ++ json_tokens (outline (printed c.args.object.now))) c.new-out.ensures.tokens in
-    let bytes = ap (λ v. v.items) c.in-Ok.ensures.ok
-    ∙ bytes_printed _ _ _ c.into_inner.ensures.items (c.write_object.ensures.before ∙ c.new-out.ensures.before ∙ c.in_ok-with_capacity.ensures.items) in
-    reads_again c.args.object.now kept.body kept.key kept.meta c.in_ok-write_object.ensures.proper _ (subst IsUtf8 (sym bytes) c.into_inner.ensures.utf8)
-    (ap tokens bytes ∙ c.into_inner.ensures.reads_back ∙ written) short shallow
+returns-clause-reads_back c =
+    subst (λ (t : List ℕ). length t ≤ most_bytes → depth (printed c.args.object.now) ≤ max_depth → reading t ≡ Ok (draft_again_of c.args.object.now))
+    (sym (ap (λ v. v.items) c.in-Ok.ensures.ok)) c.in_ok-bytes.ensures.reads_back

@@ -1,6 +1,6 @@
 use Rattle.std.proofs.Common.{rules}
 use Rattle.plain.specs.Store.{step}
-use Rattle.plain.proofs.store.Plain.read.Goals as goal
+use Rattle.plain.proofs.store.Plain.see.Goals as goal
 
 pub returns-in-Get : goal.returns-in-Get
 unfolding step
