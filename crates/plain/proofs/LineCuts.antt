@@ -3,7 +3,7 @@ use Rattle.std.proofs.Common.{◌≡◌, ◌≢◌, ℕ, zero, suc, ◌+◌, ◌
 use Rattle.std.proofs.lemmas.Bool.{ne_eqb, eq-eqb, cases_lt}
 use Rattle.std.proofs.lemmas.Grind.{common_steps}
 use Rattle.objects.specs.Reading.{most_bytes, reading_of_data}
-use Rattle.plain.specs.Store.{Store}
+use Rattle.plain_store.specs.Store.{Store}
 use Rattle.plain.specs.Requests.{request_of}
 use Rattle.plain.specs.Lines.{lines, onto_first}
 use Rattle.plain.specs.Served.{answered, answer, answers}

@@ -13,13 +13,13 @@ use Rattle.objects.specs.declared.tree.Tree.TheVariants as tree
 use Rattle.objects.specs.Tree.{data_of}
 use Rattle.objects.specs.Steps.{Fails}
 use Rattle.objects.specs.Reading.{key_in, collection_in, reading_of_data}
-use Rattle.plain.specs.declared.request.Request.{Request}
-use Rattle.plain.specs.declared.request.Request.TheVariants as request
-use Rattle.plain.specs.declared.request.Request.TheVariants.{Create, Get, Update, UpdateStatus, Delete}
-use Rattle.plain.specs.declared.request.RequestError.{RequestError}
-use Rattle.plain.specs.declared.request.RequestError.TheVariants as errors
-use Rattle.plain.specs.declared.request.Verb.{Verb}
-use Rattle.plain.specs.declared.request.Verb.TheVariants as verb
+use Rattle.requests.specs.declared.request.Request.{Request}
+use Rattle.requests.specs.declared.request.Request.TheVariants as request
+use Rattle.requests.specs.declared.request.Request.TheVariants.{Create, Get, Update, UpdateStatus, Delete}
+use Rattle.plain.specs.declared.lines.request_error.RequestError.{RequestError}
+use Rattle.plain.specs.declared.lines.request_error.RequestError.TheVariants as errors
+use Rattle.plain.specs.declared.lines.verb.Verb.{Verb}
+use Rattle.plain.specs.declared.lines.verb.Verb.TheVariants as verb
 use Rattle.plain.specs.Requests.{◌>>=◌, deletion_in, demanded, field_text, lifted, object_draft, verb_request, request_of, Refuses, Answers}
 use Rattle.plain.specs.Verbs.{verb_named, verb_in, request_by}
 

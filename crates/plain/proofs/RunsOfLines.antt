@@ -1,10 +1,10 @@
--- Runs of the plain store.
+-- The replies to lines are those of one run of the plain store.
 use Rattle.std.proofs.Common.{◌≡◌, ℕ, List, [], ◌∷◌, ◌++◌, map, Result, Ok, Err, refl, ap}
 use Rattle.serde_json.specs.Written.{compact_text}
-use Rattle.plain.specs.declared.request.Request.{Request}
-use Rattle.plain.specs.declared.request.RequestError.{RequestError}
-use Rattle.plain.specs.Store.{Store, step}
-use Rattle.plain.specs.Run.{after, replies}
+use Rattle.requests.specs.declared.request.Request.{Request}
+use Rattle.plain.specs.declared.lines.request_error.RequestError.{RequestError}
+use Rattle.plain_store.specs.Store.{Store, step}
+use Rattle.plain_store.specs.Run.{replies}
 use Rattle.plain.specs.Requests.{request_of}
 use Rattle.plain.specs.Replies.{reply_data, error_data}
 use Rattle.plain.specs.Served.{answered, answers}
@@ -23,7 +23,3 @@ of_reading s (Err e) rest ih = ap (λ t. compact_text (error_data e) ++ 10 ∷ t
 pub answers-of_run : (s : Store) (ls : List (List ℕ)) → answers s ls ≡ of_run s (map request_of ls)
 answers-of_run s [] = refl
 answers-of_run s (l ∷ ls) = of_reading s (request_of l) ls (λ t. answers-of_run t ls)
-
-pub replies-append : (s : Store) (rs more : List Request) → replies s (rs ++ more) ≡ replies s rs ++ replies (after s rs) more
-replies-append s [] more = refl
-replies-append s (r ∷ rs) more = ap (λ t. (step s r).1 ∷ t) (replies-append (step s r).0 rs more)

@@ -2,7 +2,7 @@
 use Rattle.std.proofs.Common.{◌≡◌, ℕ, ◌+◌, List, [], ◌++◌, length, sym, ◌∙◌, ap, subst, arith, append_assoc, append-nil, Option, Some, None, Result, Ok, Err}
 use Rattle.std.specs.Result.{OnErr, OnOk, IfOk}
 use Rattle.std.specs.Option.{IfSome}
-use Rattle.plain.specs.Store.{Store}
+use Rattle.plain_store.specs.Store.{Store}
 use Rattle.plain.specs.Lines.{lines}
 use Rattle.plain.specs.Served.{answers}
 use Rattle.plain.specs.Cuts.{Reaches}

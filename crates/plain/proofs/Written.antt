@@ -10,12 +10,13 @@ use Rattle.json.specs.Print.{escape, escape_byte}
 use Rattle.serde_json.specs.Written.{compact_text, items_text}
 use Rattle.objects.specs.declared.object.Object.{Object}
 use Rattle.objects.specs.Text.{text}
-use Rattle.plain.specs.declared.reply.Reason.{Reason}
-use Rattle.plain.specs.declared.reply.Reason.TheVariants.{NotFound, AlreadyExists, Conflict, Invalid, StoreFull}
-use Rattle.plain.specs.declared.request.RequestError.{RequestError}
-use Rattle.plain.specs.declared.request.RequestError.TheVariants as errors
+use Rattle.requests.specs.declared.reply.Reason.{Reason}
+use Rattle.requests.specs.declared.reply.Reason.TheVariants.{NotFound, AlreadyExists, Conflict, Invalid, StoreFull}
+use Rattle.plain.specs.declared.lines.request_error.RequestError.{RequestError}
+use Rattle.plain.specs.declared.lines.request_error.RequestError.TheVariants as errors
 use Rattle.objects.specs.declared.fault.ReadError.TheVariants as read
-use Rattle.plain.specs.Replies.{error_name, printed_items, reason_name, with_items, with_object, with_reason}
+use Rattle.requests.specs.Reasons.{reason_name}
+use Rattle.plain.specs.Replies.{error_name, printed_items, with_items, with_object, with_reason}
 
 -- what begins each line
 abbrev pub code_text : ℕ → List ℕ

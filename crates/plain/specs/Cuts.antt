@@ -2,7 +2,7 @@
 -- its beginning is kept.
 use Rattle.std.specs.Prelude.{◌≡◌, ◌≢◌, ◌<◌, ◌⊎◌, ℕ, ◌+◌, ◌-◌, List, [], ◌∷◌, ◌++◌, length, take}
 use Rattle.objects.specs.Reading.{most_bytes}
-use Rattle.plain.specs.Store.{Store}
+use Rattle.plain_store.specs.Store.{Store}
 use Rattle.plain.specs.Lines.{lines}
 use Rattle.plain.specs.Served.{answer, answers}
 

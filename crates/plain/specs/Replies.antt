@@ -5,26 +5,11 @@ use Rattle.objects.specs.declared.object.Object.{Object}
 use Rattle.objects.specs.declared.fault.ReadError.{ReadError}
 use Rattle.objects.specs.declared.fault.ReadError.TheVariants as read
 use Rattle.objects.specs.Text.{printed}
-use Rattle.plain.specs.declared.reply.Reason.{Reason}
-use Rattle.plain.specs.declared.reply.Reason.TheVariants.{NotFound, AlreadyExists, Conflict, Invalid, StoreFull}
-use Rattle.plain.specs.declared.reply.Reply.{Reply}
-use Rattle.plain.specs.declared.reply.Reply.TheVariants.{Created, Found, Listed, Updated, Unchanged, Marked, Removed, Refused}
-use Rattle.plain.specs.declared.request.RequestError.{RequestError}
-use Rattle.plain.specs.declared.request.RequestError.TheVariants as errors
-
-abbrev pub reason_code : Reason → ℕ
-reason_code NotFound = 404
-reason_code AlreadyExists = 409
-reason_code Conflict = 409
-reason_code Invalid = 422
-reason_code StoreFull = 507
-
-abbrev pub reason_name : Reason → List ℕ
-reason_name NotFound = codes "NotFound"
-reason_name AlreadyExists = codes "AlreadyExists"
-reason_name Conflict = codes "Conflict"
-reason_name Invalid = codes "Invalid"
-reason_name StoreFull = codes "StoreFull"
+use Rattle.requests.specs.declared.reply.Reply.{Reply}
+use Rattle.requests.specs.declared.reply.Reply.TheVariants.{Created, Found, Listed, Updated, Unchanged, Marked, Removed, Refused}
+use Rattle.requests.specs.Reasons.{reason_code, reason_name}
+use Rattle.plain.specs.declared.lines.request_error.RequestError.{RequestError}
+use Rattle.plain.specs.declared.lines.request_error.RequestError.TheVariants as errors
 
 -- the name of the refusal of a line
 abbrev pub read_error_name : ReadError → List ℕ

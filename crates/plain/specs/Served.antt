@@ -2,9 +2,9 @@
 -- is no step of the store; the others are a run of the plain store.
 use Rattle.std.specs.Prelude.{ℕ, List, [], ◌∷◌, ◌++◌, Result, Ok, Err}
 use Rattle.serde_json.specs.Written.{compact_text}
-use Rattle.plain.specs.declared.request.Request.{Request}
-use Rattle.plain.specs.declared.request.RequestError.{RequestError}
-use Rattle.plain.specs.Store.{Store, opening, step}
+use Rattle.requests.specs.declared.request.Request.{Request}
+use Rattle.plain.specs.declared.lines.request_error.RequestError.{RequestError}
+use Rattle.plain_store.specs.Store.{Store, opening, step}
 use Rattle.plain.specs.Requests.{request_of}
 use Rattle.plain.specs.Replies.{reply_data, error_data}
 use Rattle.plain.specs.Lines.{lines}

@@ -1,9 +1,9 @@
 -- The replies to lines as those of one run of the plain store.
 use Rattle.std.specs.Prelude.{ℕ, List, [], ◌∷◌, ◌++◌, Result, Ok, Err}
 use Rattle.serde_json.specs.Written.{compact_text}
-use Rattle.plain.specs.declared.request.Request.{Request}
-use Rattle.plain.specs.declared.request.RequestError.{RequestError}
-use Rattle.plain.specs.declared.reply.Reply.{Reply}
+use Rattle.requests.specs.declared.request.Request.{Request}
+use Rattle.plain.specs.declared.lines.request_error.RequestError.{RequestError}
+use Rattle.requests.specs.declared.reply.Reply.{Reply}
 use Rattle.plain.specs.Replies.{reply_data, error_data}
 
 -- the requests among what the lines are

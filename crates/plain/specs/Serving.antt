@@ -1,6 +1,6 @@
 -- A serving, from what the reader and the writer had to what they have.
 use Rattle.std.specs.Prelude.{ℕ, List, [], Option}
-use Rattle.plain.specs.Store.{Store}
+use Rattle.plain_store.specs.Store.{Store}
 use Rattle.plain.specs.Cuts.{Reaches}
 use Rattle.plain.specs.Streams.{Takes, Puts}
 

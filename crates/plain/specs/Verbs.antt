@@ -3,13 +3,13 @@ use Rattle.std.specs.Prelude.{ℕ, List, codes, bytes_eq, Option, Some, None, op
 use Rattle.serde_json.specs.Data.{Members}
 use Rattle.serde_json.specs.Find.{as_str, get_member}
 use Rattle.objects.specs.Reading.{key_in, collection_in}
-use Rattle.plain.specs.declared.request.Request.{Request}
-use Rattle.plain.specs.declared.request.Request.TheVariants as request
-use Rattle.plain.specs.declared.request.Request.TheVariants.{Create, Get, Update, UpdateStatus}
-use Rattle.plain.specs.declared.request.RequestError.{RequestError}
-use Rattle.plain.specs.declared.request.RequestError.TheVariants as errors
-use Rattle.plain.specs.declared.request.Verb.{Verb}
-use Rattle.plain.specs.declared.request.Verb.TheVariants as verb
+use Rattle.requests.specs.declared.request.Request.{Request}
+use Rattle.requests.specs.declared.request.Request.TheVariants as request
+use Rattle.requests.specs.declared.request.Request.TheVariants.{Create, Get, Update, UpdateStatus}
+use Rattle.plain.specs.declared.lines.request_error.RequestError.{RequestError}
+use Rattle.plain.specs.declared.lines.request_error.RequestError.TheVariants as errors
+use Rattle.plain.specs.declared.lines.verb.Verb.{Verb}
+use Rattle.plain.specs.declared.lines.verb.Verb.TheVariants as verb
 use Rattle.plain.specs.Requests.{◌>>=◌, demanded, lifted, object_draft, deletion_in}
 
 -- the verb of that name

@@ -1,18 +1,18 @@
 ghost use Rattle.std.specs.Prelude.{◌≡◌, ◌+◌, ◌<◌, ◌≤◌, ◌^◌, ◌++◌, [], length, IfOk, IfSome, IfNone, OnSome, OnOk, OnErr, IsErrOf, ◌↔◌, Some};
-ghost use Rattle.plain.specs.Store.{opening};
+ghost use Rattle.plain_store.specs.Store.{opening};
 ghost use Rattle.plain.specs.Lines.{lines};
 ghost use Rattle.plain.specs.Served.{served, answers};
 ghost use Rattle.plain.specs.Cuts.{NoFeed, Reaches};
 ghost use Rattle.plain.specs.Streams.{Takes, Puts, PutsPart, ServesPart};
 ghost use Rattle.plain.specs.Serving.{Answered};
 ghost use Rattle.plain.specs.Faults.{CountsReads, CountsWrites, IsWriteOrMemory, IsInRange};
-ghost use Rattle.plain.specs.declared.store.TheConstants.{MOST_REVISIONS};
+ghost use Rattle.plain_store.specs.declared.store.TheConstants.{MOST_REVISIONS};
 ghost use Rattle.plain.specs.declared.server.ServeFault.TheVariants.{Memory as OutOfMemory, BadCapacity as CapacityOut};
 
-use crate::cutter::{Cut, Stop, answer_last, answer_piece};
-use crate::store::{Plain, PlainError};
-use crate::stream::{Sink, Source, write_all};
+use crate::devices::stream::{Sink, Source, write_all};
+use crate::lines::cutter::{Cut, Stop, answer_last, answer_piece};
 use objects::{Memory, TreeReader};
+use plain_store::{Plain, PlainError};
 use std::alloc::{AllocError, Global};
 use thiserror::Error;
 

@@ -13,7 +13,7 @@ mod pods;
 #[cfg(test)]
 mod replies;
 #[cfg(test)]
-mod requests;
+mod request_lines;
 #[cfg(test)]
 mod status;
 #[cfg(test)]

@@ -3,7 +3,7 @@ ghost use Rattle.std.specs.Prelude.{◌+◌};
 ghost use Rattle.versions.specs.Records.{IsAbove};
 
 use objects::{Key, Memory, Object};
-use plain::Version;
+use requests::Version;
 use std::alloc::Global;
 use versions::Shard;
 

@@ -5,7 +5,7 @@ ghost use Rattle.clap.specs.Words.{FailsBy, app_of, kind_of};
 ghost use Rattle.clap.specs.declared.error.kind.ErrorKind.TheVariants.{OutOfMemory};
 ghost use Rattle.plain.specs.Streams.{Puts, ServesPart};
 ghost use Rattle.plain.specs.Served.{served};
-ghost use Rattle.plain.specs.declared.store.TheConstants.{MOST_REVISIONS};
+ghost use Rattle.plain.specs.TheConstants.{MOST_REVISIONS};
 ghost use Rattle.stsctl.specs.Grammar.{AsksFor, faults_of, is_mistake, is_request, stsctl_app};
 ghost use Rattle.stsctl.specs.Serving.{Serves, ServesAll, ServesSome};
 

@@ -3,7 +3,7 @@ use Rattle.std.proofs.Common.{◌≡◌, ◌<◌, ◌≤◌, ◌+◌, ℕ, Bool,
 use Rattle.std.specs.Cmp.{nat_cmp_total}
 use Rattle.std.specs.Ordering.{eq_by_cmp, nat_cmp}
 use Rattle.std.specs.FinMap.{empty, get, get-empty, get-insert, get-retain_keys, insert, nat_cmp-IsAntisymmetric}
-use Rattle.plain.specs.declared.version.Version.{Version}
+use Rattle.requests.specs.declared.version.Version.{Version}
 use Rattle.versions.specs.Compacted.{compacted, is_superseded}
 use Rattle.versions.specs.Records.{IsAbove, Records}
 use Rattle.versions.specs.Shard.{Shard, raised}

@@ -12,7 +12,7 @@ use Rattle.std.proofs.lemmas.Option.{none-some, same_Some}
 use Rattle.objects.specs.declared.key.Key.{Key}
 use Rattle.objects.specs.declared.object.Object.{Object}
 use Rattle.objects.specs.Key.{key_cmp}
-use Rattle.plain.specs.declared.version.Version.{Version}
+use Rattle.requests.specs.declared.version.Version.{Version}
 use Rattle.versions.specs.Chain.{AreBelow, Chain, IsRising, Row}
 use Rattle.versions.specs.Chains.{AllRise, AreRoomier, AreRows, Chains, GrewBy, records_in, records_of, rows_at}
 use Rattle.versions.specs.Records.{IsAbove, Records, version_at}

@@ -8,7 +8,7 @@ use Rattle.std.proofs.lemmas.Option.{none-some, same_Some}
 use Rattle.objects.specs.declared.key.Key.{Key}
 use Rattle.objects.specs.declared.object.Object.{Object}
 use Rattle.objects.specs.Key.{key_cmp}
-use Rattle.plain.specs.declared.version.Version.{Version}
+use Rattle.requests.specs.declared.version.Version.{Version}
 use Rattle.versions.specs.Chain.{IsRising, Row}
 use Rattle.versions.specs.Chains.{AllRise, AreRows, Chains, rows_at}
 use Rattle.versions.specs.Compacted.{compacted, is_superseded}

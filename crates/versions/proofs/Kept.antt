@@ -10,7 +10,7 @@ use Rattle.std.proofs.lemmas.Option.{none-some}
 use Rattle.objects.specs.declared.key.Key.{Key}
 use Rattle.objects.specs.Key.{key_cmp}
 use Rattle.objects.specs.KeyOrder.{exact_keys, key_cmp_total}
-use Rattle.plain.specs.declared.version.Version.{Version}
+use Rattle.requests.specs.declared.version.Version.{Version}
 use Rattle.versions.specs.Records.{Record, Records, last_of, newest, state_at, up_to, value}
 use Rattle.versions.specs.Compacted.{compacted, is_superseded}
 use Rattle.versions.proofs.FoundRows.{entries_kept, found_any, found_first, found_later, holds, or_rest, rest_above, rest_sorted}

@@ -12,7 +12,7 @@ use Rattle.objects.specs.declared.key.Key.{Key}
 use Rattle.objects.specs.declared.object.Object.{Object}
 use Rattle.objects.specs.Key.{key_cmp}
 use Rattle.objects.specs.KeyOrder.{equal_from, exact_keys, key_cmp_total}
-use Rattle.plain.specs.declared.version.Version.{Version}
+use Rattle.requests.specs.declared.version.Version.{Version}
 use Rattle.versions.specs.Chain.{IsRising, Row, last_row, rows_to, state_to}
 use Rattle.versions.specs.Chains.{AreRows, Chains, rows_at}
 use Rattle.versions.specs.Records.{Record, Records, current, last_of, newest, newest_record, up_to, value, version_at}

@@ -4,7 +4,7 @@ use Rattle.std.specs.Ordering.{nat_cmp}
 use Rattle.std.specs.FinMap.{len-empty}
 use Rattle.std.proofs.lemmas.Option.{none-some}
 use Rattle.objects.specs.declared.key.Key.{Key}
-use Rattle.plain.specs.declared.version.Version.{Version}
+use Rattle.requests.specs.declared.version.Version.{Version}
 use Rattle.versions.specs.declared.shard.Later.{Later}
 use Rattle.versions.specs.Chains.{Chains}
 use Rattle.versions.specs.Whole.{IsWhole}

@@ -14,7 +14,7 @@ use Rattle.objects.specs.declared.key.Key.{Key}
 use Rattle.objects.specs.declared.object.Object.{Object}
 use Rattle.objects.specs.Key.{key_cmp}
 use Rattle.objects.specs.KeyOrder.{key_cmp_total}
-use Rattle.plain.specs.declared.version.Version.{Version}
+use Rattle.requests.specs.declared.version.Version.{Version}
 use Rattle.versions.specs.declared.shard.Later.{Later}
 use Rattle.versions.specs.Chain.{AreBelow, Chain, Row}
 use Rattle.versions.specs.Chains.{AllRise, AreRows, Chains, HasRoom, key_at, records_of, rows_at}

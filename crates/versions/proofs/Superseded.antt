@@ -9,7 +9,7 @@ use Rattle.std.proofs.lemmas.Bool.{and_parts, leb-true, le-leb, lt-ltb, ltb-true
 use Rattle.objects.specs.declared.key.Key.{Key}
 use Rattle.objects.specs.Key.{key_cmp}
 use Rattle.objects.specs.KeyOrder.{exact_keys, equal_from, key_cmp_total}
-use Rattle.plain.specs.declared.version.Version.{Version}
+use Rattle.requests.specs.declared.version.Version.{Version}
 use Rattle.versions.specs.Records.{Record, Records}
 use Rattle.versions.specs.Compacted.{is_superseded}
 use Rattle.versions.proofs.FoundRows.{any_found, found_any, holds}

@@ -24,9 +24,9 @@ use Rattle.objects.specs.Key.{key_cmp, is_key}
 use Rattle.objects.specs.KeyOrder.{equal_from, exact_keys, key_cmp_total}
 use Rattle.objects.specs.Kind.{is_name}
 use Rattle.objects.specs.Names.{is_dns_label}
-use Rattle.plain.specs.Store.{is_of, collection}
-use Rattle.plain.specs.LeastKey.{least_key}
-use Rattle.plain.proofs.KeyRuns.{between, bound, bounded, of_parts}
+use Rattle.requests.specs.ObjectMap.{is_of, collection}
+use Rattle.requests.specs.LeastKey.{least_key}
+use Rattle.requests.proofs.KeyRuns.{between, bound, bounded, of_parts}
 use Rattle.versions.specs.Chain.{Chain, state_to}
 use Rattle.versions.specs.Chains.{AllRise, AreRows, Chains, records_of, rows_at}
 use Rattle.versions.specs.Listed.{AreKeys, AreListed}

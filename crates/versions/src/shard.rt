@@ -3,9 +3,9 @@ ghost use Rattle.std.specs.Option.{option_copied};
 ghost use Rattle.std.specs.FinMap as map;
 ghost use Rattle.std.specs.VecDeque.{deque_capacity, deque_len};
 ghost use Rattle.objects.specs.declared.key.Key.{Key};
-ghost use Rattle.plain.specs.Keys.{key_named};
-ghost use Rattle.plain.specs.Store.{collection};
-ghost use Rattle.plain.specs.Verdict.{is_write, verdict};
+ghost use Rattle.requests.specs.Keys.{key_named};
+ghost use Rattle.requests.specs.ObjectMap.{collection};
+ghost use Rattle.requests.specs.Verdict.{is_write, verdict};
 ghost use Rattle.versions.specs.Compacted.{compacted};
 ghost use Rattle.versions.specs.Records.{IsAbove, current, newest, state_at, value};
 ghost use Rattle.versions.specs.Shard.{opening, pushed, raised, with_room};
@@ -14,7 +14,7 @@ use crate::chain::Chain;
 use crate::place::{place_of, reserve_at};
 use indexmap::IndexMap;
 use objects::{Key, Kind, Memory, Object, Text};
-use plain::{Request, Verdict, Version, decide, is_of, least_key};
+use requests::{Request, Verdict, Version, decide, is_of, least_key};
 use std::alloc::{AllocError, Global};
 use std::collections::{BTreeSet, VecDeque};
 use std::marker::Model;
@@ -113,7 +113,7 @@ impl Shard {
         Ok(found)
     }
 
-    /// What a write request comes to, given the key's newest record (`plain::decide`).
+    /// What a write request comes to, given the key's newest record (`requests::decide`).
     pub fn verdict(&self, request: &Request) -> Result<Verdict, Memory>
         requires { is_write request.now ≡ true }
         ensures { IfOk result (λ decided. IfSome (key_named request.now) (λ key. decided ≡ verdict request.now (current self.now.records key))) }

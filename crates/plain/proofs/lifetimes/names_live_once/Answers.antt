@@ -1,5 +1,0 @@
-use Rattle.plain.proofs.ToldLives.{lives_in_run}
-use Rattle.plain.proofs.lifetimes.names_live_once.Goals as goal
-
-pub returns : goal.returns
-returns c = lives_in_run

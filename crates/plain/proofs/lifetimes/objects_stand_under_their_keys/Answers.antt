@@ -1,5 +1,0 @@
-use Rattle.plain.proofs.KeptUids.{filed_in_run}
-use Rattle.plain.proofs.lifetimes.objects_stand_under_their_keys.Goals as goal
-
-pub returns : goal.returns
-returns c = filed_in_run

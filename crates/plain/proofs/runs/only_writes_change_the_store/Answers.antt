@@ -1,5 +1,0 @@
-use Rattle.plain.proofs.DrawnNumbers.{nothing_changes}
-use Rattle.plain.proofs.runs.only_writes_change_the_store.Goals as goal
-
-pub returns : goal.returns
-returns c = nothing_changes

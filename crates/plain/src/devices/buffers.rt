@@ -1,0 +1,49 @@
+ghost use Rattle.std.specs.Prelude.{◌≡◌, ◌≤◌, ℕ, List, [], length, Some, IfOk, vec_capacity};
+
+use crate::devices::failures::Failures;
+use crate::devices::stream::Sink;
+use std::alloc::{AllocError, Global};
+
+/// Writes into a buffer whose room was made beforehand. It fails where the buffer is full.
+#[derive(Drop)]
+pub struct BufferSink {
+    bytes: Vec<u8>,
+    failures: Failures,
+}
+
+impl BufferSink {
+    /// An empty buffer with room for so many bytes.
+    pub fn with_room(alloc: Global, room: usize) -> Result<BufferSink, AllocError>
+        ensures empty { IfOk result (λ sink. ⟦<BufferSink as Sink>⟧.written sink ≡ Some []) }
+        ensures room { IfOk result (λ sink. room ≤ vec_capacity sink.bytes) }
+    {
+        Ok(BufferSink {
+            bytes: Vec::with_capacity(alloc, room)?,
+            failures: Failures::none(),
+        })
+    }
+
+    /// The bytes that were written so far.
+    pub fn bytes(&self) -> &[u8]
+        ensures written { ⟦<BufferSink as Sink>⟧.written self.now ≡ Some result.now }
+    {
+        self.bytes.as_slice()
+    }
+}
+
+impl Sink for BufferSink {
+    ghost written = { λ s. Some s.bytes.items };
+
+    ghost failures = { λ s. s.failures.count };
+
+    fn write(&mut self, bytes: &[u8]) -> Option<usize> {
+        let free = self.bytes.capacity().saturating_sub(self.bytes.len());
+        let count = bytes.len().min(free);
+        let is_full = count == 0 && !bytes.is_empty();
+        if is_full || self.bytes.extend_from_slice(&bytes[..count]).is_err() {
+            self.failures = self.failures.one_more();
+            return None;
+        }
+        Some(count)
+    }
+}

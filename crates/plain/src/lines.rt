@@ -1,0 +1,8 @@
+//! Lines: how input is cut into them, the request that one is, and the reply to it.
+
+mod answer;
+pub(crate) mod cutter;
+mod reply_line;
+pub(crate) mod request_error;
+pub(crate) mod request_line;
+mod verb;

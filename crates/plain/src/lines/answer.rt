@@ -1,0 +1,86 @@
+ghost use Rattle.std.specs.Prelude.{◌≡◌, ◌≢◌, ◌++◌, ◌∷◌, [], true, false, IfOk};
+ghost use Rattle.serde_json.specs.Written.{compact_text};
+ghost use Rattle.plain.specs.Replies.{reply_data, error_data};
+ghost use Rattle.requests.specs.Verdict.{is_write};
+ghost use Rattle.plain.specs.Served.{answer};
+ghost use Rattle.plain_store.specs.Store.{step};
+ghost use Rattle.objects.specs.declared.fault.ReadError.TheVariants.{Memory as out_of_memory};
+ghost use Rattle.plain.specs.declared.lines.request_error.RequestError.TheVariants.{Read};
+
+use crate::lines::reply_line::{error_line, printed_line, stored_line};
+use crate::lines::request_error::RequestError;
+use crate::lines::request_line::next_request;
+use objects::{Memory, ReadError, TreeReader};
+use plain_store::Plain;
+use requests::Request;
+use std::alloc::Global;
+
+/// Answers a line: the reply's text and a line feed come after what `out` holds.
+pub(crate) fn answer_line(
+    alloc: Global,
+    plain: &mut Plain,
+    reader: &mut TreeReader,
+    line: &[u8],
+    out: Vec<u8>,
+) -> Result<Vec<u8>, Memory>
+    ensures text { IfOk result (λ v. v.items ≡ out.items ++ ((answer plain.old line.now).1 ++ 10 ∷ [])) }
+    ensures store { IfOk result (λ v. plain.new ≡ (answer plain.old line.now).0) }
+{
+    match next_request(alloc, reader, line) {
+        Ok(request) => answer_request(plain, request, out),
+        Err(error) => answer_refusal(error, out),
+    }
+}
+
+fn answer_request(plain: &mut Plain, request: Request, out: Vec<u8>) -> Result<Vec<u8>, Memory>
+    ensures text { IfOk result (λ v. v.items ≡ out.items ++ (compact_text (reply_data (step plain.old request).1) ++ 10 ∷ [])) }
+    ensures store { IfOk result (λ v. plain.new ≡ (step plain.old request).0) }
+{
+    if request.is_write() {
+        answer_write(plain, request, out)
+    } else {
+        let line = answer_read(plain, &request, out);
+        drop(request);
+        line
+    }
+}
+
+fn answer_write(plain: &mut Plain, request: Request, out: Vec<u8>) -> Result<Vec<u8>, Memory>
+    requires { is_write request ≡ true }
+    ensures text { IfOk result (λ v. v.items ≡ out.items ++ (compact_text (reply_data (step plain.old request).1) ++ 10 ∷ [])) }
+    ensures store { IfOk result (λ v. plain.new ≡ (step plain.old request).0) }
+{
+    let printed = plain.write(request)?;
+    let mut out = out;
+    let written = printed_line(&printed, &mut out);
+    drop(printed);
+    written?;
+    Ok(out)
+}
+
+fn answer_read(plain: &Plain, request: &Request, out: Vec<u8>) -> Result<Vec<u8>, Memory>
+    requires { is_write request.now ≡ false }
+    ensures text { IfOk result (λ v. v.items ≡ out.items ++ (compact_text (reply_data (step plain.now request.now).1) ++ 10 ∷ [])) }
+    ensures store { IfOk result (λ _. plain.now ≡ (step plain.now request.now).0) }
+{
+    let stored = plain.read(request)?;
+    let mut out = out;
+    let written = stored_line(&stored, &mut out);
+    drop(stored);
+    written?;
+    Ok(out)
+}
+
+fn answer_refusal(error: RequestError, out: Vec<u8>) -> Result<Vec<u8>, Memory>
+    ensures refused { IfOk result (λ _. error ≢ Read out_of_memory) }
+    ensures text { IfOk result (λ v. v.items ≡ out.items ++ (compact_text (error_data error) ++ 10 ∷ [])) }
+{
+    match error {
+        RequestError::Read(ReadError::Memory) => Err(Memory),
+        error => {
+            let mut out = out;
+            error_line(error, &mut out)?;
+            Ok(out)
+        }
+    }
+}

@@ -1,0 +1,153 @@
+// The line of a reply: its text, with those of its objects copied in, and a line feed.
+ghost use Rattle.std.specs.Prelude.{◌≡◌, ◌++◌, ◌∷◌, [], Some, true, false, codes, decimal, OnOk};
+ghost use Rattle.json.specs.Print.{escape};
+ghost use Rattle.serde_json.specs.Written.{compact_text, comma_if, items_text};
+ghost use Rattle.objects.specs.Text.{text};
+ghost use Rattle.plain.specs.Replies.{error_data, printed_items, reply_data, with_items, with_object, with_reason};
+ghost use Rattle.requests.specs.Reasons.{reason_code, reason_name};
+ghost use Rattle.plain_store.specs.PrintedReplies.{reply_object, reply_stored};
+
+use crate::lines::request_error::RequestError;
+use objects::Printed;
+use plain_store::{PrintedReply, StoredReply};
+use requests::{Reason, Reply};
+use std::alloc::AllocError;
+
+/// Writes the line of what a write is answered.
+pub(crate) fn printed_line(printed: &PrintedReply, out: &mut Vec<u8>) -> Result<(), AllocError>
+    ensures { OnOk result (out.new.items ≡ out.old.items ++ (compact_text (reply_data printed.now.reply) ++ 10 ∷ [])) }
+{
+    match printed.text() {
+        Some(text) => one_line(&printed.reply, text, out),
+        None => match &printed.reply {
+            Reply::Refused(reason) => refused_line(*reason, out),
+            _ => unreachable!(),
+        },
+    }
+}
+
+/// Writes the line of what a get or a list is answered.
+pub(crate) fn stored_line(stored: &StoredReply, out: &mut Vec<u8>) -> Result<(), AllocError>
+    ensures { OnOk result (out.new.items ≡ out.old.items ++ (compact_text (reply_data (reply_stored stored.now)) ++ 10 ∷ [])) }
+{
+    match stored {
+        StoredReply::Found(text) => object_line(200, text, "Found", out),
+        StoredReply::Listed { objects, revision } => listed_line(
+            objects.as_slice(),
+            *revision,
+            out,
+        ),
+        StoredReply::Refused(reason) => refused_line(*reason, out),
+    }
+}
+
+/// Writes the line of the refusal of a line that is no request.
+pub(crate) fn error_line(error: RequestError, out: &mut Vec<u8>) -> Result<(), AllocError>
+    ensures { OnOk result (out.new.items ≡ out.old.items ++ (compact_text (error_data error) ++ 10 ∷ [])) }
+{
+    reason_line(400, error.name(), out)
+}
+
+fn one_line(reply: &Reply, text: &Printed, out: &mut Vec<u8>) -> Result<(), AllocError>
+    requires { reply_object reply.now ≡ Some text.now }
+    ensures { OnOk result (out.new.items ≡ out.old.items ++ (compact_text (reply_data reply.now) ++ 10 ∷ [])) }
+{
+    match reply {
+        Reply::Created(_) => object_line(201, text, "Created", out),
+        Reply::Found(_) => object_line(200, text, "Found", out),
+        Reply::Updated(_) => object_line(200, text, "Updated", out),
+        Reply::Unchanged(_) => object_line(200, text, "Unchanged", out),
+        Reply::Marked(_) => object_line(200, text, "Marked", out),
+        Reply::Removed(_) => object_line(200, text, "Removed", out),
+        Reply::Listed {
+            objects: _,
+            revision: _,
+        }
+        | Reply::Refused(_) => unreachable!(),
+    }
+}
+
+fn object_line(
+    code: u16,
+    object: &Printed,
+    outcome: &str,
+    out: &mut Vec<u8>,
+) -> Result<(), AllocError>
+    requires { escape outcome.now ≡ outcome.now }
+    ensures { OnOk result (out.new.items ≡ out.old.items ++ (compact_text (with_object code object.now outcome.now) ++ 10 ∷ [])) }
+{
+    put_code(code, out)?;
+    put(",\"object\":", out)?;
+    put(object.as_str(), out)?;
+    put_last(",\"result\":\"", outcome, out)
+}
+
+fn listed_line(texts: &[Printed], revision: u64, out: &mut Vec<u8>) -> Result<(), AllocError>
+    ensures { OnOk result (out.new.items ≡ out.old.items ++ (compact_text (with_items texts.now revision) ++ 10 ∷ [])) }
+{
+    let mut buffer = itoa::Buffer::new();
+    put_code(200, out)?;
+    put(",\"items\":[", out)?;
+    put_items(texts, out)?;
+    put(",\"resourceVersion\":\"", out)?;
+    put(buffer.format(revision), out)?;
+    put_last("\",\"result\":\"", "Listed", out)
+}
+
+fn refused_line(reason: Reason, out: &mut Vec<u8>) -> Result<(), AllocError>
+    ensures { OnOk result (out.new.items ≡ out.old.items ++ (compact_text (with_reason (reason_code reason) (reason_name reason)) ++ 10 ∷ [])) }
+{
+    reason_line(reason.code(), reason.name(), out)
+}
+
+fn reason_line(code: u16, reason: &str, out: &mut Vec<u8>) -> Result<(), AllocError>
+    requires { escape reason.now ≡ reason.now }
+    ensures { OnOk result (out.new.items ≡ out.old.items ++ (compact_text (with_reason code reason.now) ++ 10 ∷ [])) }
+{
+    put_code(code, out)?;
+    put_last(",\"reason\":\"", reason, out)
+}
+
+fn put_code(code: u16, out: &mut Vec<u8>) -> Result<(), AllocError>
+    ensures { OnOk result (out.new.items ≡ out.old.items ++ (codes "{\"code\":" ++ decimal code)) }
+{
+    let mut buffer = itoa::Buffer::new();
+    put("{\"code\":", out)?;
+    put(buffer.format(code), out)
+}
+
+// Writes the beginning of the last member, its text and all that ends a line.
+fn put_last(front: &str, text: &str, out: &mut Vec<u8>) -> Result<(), AllocError>
+    ensures { OnOk result (out.new.items ≡ out.old.items ++ (front.now ++ (text.now ++ codes "\"}\n"))) }
+{
+    put(front, out)?;
+    put(text, out)?;
+    put("\"}\n", out)
+}
+
+// With the closing bracket.
+fn put_items(texts: &[Printed], out: &mut Vec<u8>) -> Result<(), AllocError>
+    ensures { OnOk result (out.new.items ≡ out.old.items ++ items_text false (printed_items texts.now)) }
+{
+    let mut later = false;
+    for text in texts {
+        put_item(later, text, out)?;
+        later = true;
+    }
+    put("]", out)
+}
+
+fn put_item(later: bool, object: &Printed, out: &mut Vec<u8>) -> Result<(), AllocError>
+    ensures { OnOk result (out.new.items ≡ out.old.items ++ (comma_if later ++ text object.now)) }
+{
+    if later {
+        put(",", out)?;
+    }
+    put(object.as_str(), out)
+}
+
+fn put(text: &str, out: &mut Vec<u8>) -> Result<(), AllocError>
+    ensures { OnOk result (out.new.items ≡ out.old.items ++ text.now) }
+{
+    out.extend_from_slice(text.as_bytes())
+}

@@ -1,0 +1,89 @@
+// The request that a line is.
+ghost use Rattle.std.specs.Prelude.{codes};
+ghost use Rattle.serde_json.specs.Find.{get_member};
+ghost use Rattle.objects.specs.Steps.{Gives};
+ghost use Rattle.plain.specs.Requests.{Answers, request_of, object_draft, deletion_in, field_text};
+ghost use Rattle.plain.specs.Verbs.{request_by};
+
+use crate::lines::request_error::RequestError;
+use crate::lines::verb::{Verb, verb_in};
+use objects::{
+    Draft, Members, ReadError, Text, Tree, TreeReader, read_collection, read_draft, read_key,
+};
+use requests::Request;
+use std::alloc::Global;
+
+/// The request that a line, without its line end, is.
+pub fn read_request(alloc: Global, line: &[u8]) -> Result<Request, RequestError>
+    ensures { Answers result (request_of line.now) }
+{
+    next_request(alloc, &mut TreeReader::new(alloc), line)
+}
+
+/// As `read_request`, in the memory of a reader that reads one line after another.
+pub(crate) fn next_request(
+    alloc: Global,
+    reader: &mut TreeReader,
+    line: &[u8],
+) -> Result<Request, RequestError>
+    ensures { Answers result (request_of line.now) }
+{
+    let Tree::Map(members) = reader.read(line)? else {
+        return Err(RequestError::NoVerb);
+    };
+    let verb = verb_in(&members)?;
+    request_by(alloc, verb, members)
+}
+
+fn request_by(alloc: Global, verb: Verb, members: Members) -> Result<Request, RequestError>
+    ensures { Answers result (request_by verb members) }
+{
+    match verb {
+        Verb::Create => Ok(Request::Create(draft_in(alloc, members)?)),
+        Verb::Get => Ok(Request::Get(read_key(alloc, &members)?)),
+        Verb::List => {
+            let (kind, namespace) = read_collection(alloc, &members)?;
+            Ok(Request::List { kind, namespace })
+        }
+        Verb::Update => Ok(Request::Update(draft_in(alloc, members)?)),
+        Verb::Status => Ok(Request::UpdateStatus(draft_in(alloc, members)?)),
+        Verb::Delete => deletion_in(alloc, &members),
+    }
+}
+
+fn deletion_in(alloc: Global, members: &Members) -> Result<Request, RequestError>
+    ensures { Answers result (deletion_in members.now) }
+{
+    let key = read_key(alloc, members)?;
+    let uid = text_field(members, "uid")?;
+    let version = text_field(members, "resourceVersion")?;
+    let at = text_field(members, "at")?;
+    Ok(Request::Delete {
+        key,
+        uid,
+        version,
+        at,
+    })
+}
+
+/// The text of a member, if there is one that is not empty.
+fn text_field(members: &Members, name: &str) -> Result<Option<Text>, RequestError>
+    ensures { Answers result (field_text (get_member name.now members.now)) }
+{
+    match members.get(name) {
+        None | Some(Tree::Null) => Ok(None),
+        Some(Tree::Text(text)) if text.as_str().is_empty() => Ok(None),
+        Some(Tree::Text(text)) => Ok(Some(text.clone()?)),
+        Some(_) => Err(RequestError::BadField),
+    }
+}
+
+/// The draft that the member `object` is.
+fn draft_in(alloc: Global, members: Members) -> Result<Draft, ReadError>
+    ensures { Gives (λ draft. draft) result (object_draft (get_member (codes "object") members)) }
+{
+    match members.take("object")? {
+        Some(tree) => read_draft(alloc, tree),
+        None => Err(ReadError::NoKind),
+    }
+}

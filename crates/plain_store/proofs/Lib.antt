@@ -1,0 +1,15 @@
+pub mod Entries
+pub mod NamedKeys
+pub mod Collections
+pub mod ChangedKeys
+pub mod Steps
+pub mod Runs
+pub mod DrawnNumbers
+pub mod OneKey
+pub mod Verdicts
+pub mod FoundEntries
+pub mod KeptUids
+pub mod ToldLives
+pub mod StatusKept
+pub mod Generations
+pub mod StaleVersions

@@ -1,0 +1,77 @@
+-- A step writes or takes away under the key that its request names, and under no other.
+use Rattle.std.proofs.Common.{◌≡◌, ◌+◌, ◌==◌, ℕ, Bool, true, false, cond, not, ◌||◌, List, bytes_eq, decimal, Option, Some, None, refl, ap, ◌∙◌}
+use Rattle.std.proofs.Math.Bool.{or-true}
+use Rattle.std.specs.BTreeMap.{is_at}
+use Rattle.std.specs.FinMap as map
+use Rattle.std.specs.FinMap.{FinMap, get-insert, get-remove}
+use Rattle.objects.specs.declared.key.Key.{Key}
+use Rattle.objects.specs.declared.object.Object.{Object}
+use Rattle.objects.specs.Key.{key_cmp}
+use Rattle.objects.specs.KeyOrder.{key_cmp_total}
+use Rattle.objects.specs.Uid.{uid_text}
+use Rattle.requests.specs.declared.request.Request.{Request}
+use Rattle.requests.specs.declared.request.Request.TheVariants as request
+use Rattle.requests.specs.declared.request.Request.TheVariants.{Create, Get, Update, UpdateStatus, Delete}
+use Rattle.requests.specs.declared.reply.Reply.{Reply}
+use Rattle.requests.specs.declared.reply.Reply.TheVariants.{Refused}
+use Rattle.requests.specs.declared.reply.Reason.TheVariants.{Conflict, StoreFull}
+use Rattle.requests.specs.declared.verdict.Verdict.{Verdict}
+use Rattle.requests.specs.declared.verdict.Verdict.TheVariants.{Refuse, Same, Write}
+use Rattle.requests.specs.Change.{Change, accepted, kept, stamp}
+use Rattle.requests.specs.Verdict.{deleted, differs, graceful, on_create, on_update, on_status, on_delete}
+use Rattle.plain_store.specs.Store.{Store, step, carried_out, put_at, with_change}
+use Rattle.requests.specs.Keys.{key_named}
+use Rattle.plain_store.proofs.Entries.{equal_from, exact_keys}
+
+no : (b : Bool) → (b ≡ true → ⊥) → b ≡ false
+no true other = absurd (other refl)
+no false other = refl
+
+elsewhere : (q k : Key) → (q ≡ k → ⊥) → is_at (key_cmp q) k ≡ false
+elsewhere q k other = no (is_at (key_cmp q) k) (λ tie. other (exact_keys q k (equal_from (key_cmp q k) tie)))
+
+put_elsewhere : (m : FinMap key_cmp Object) (k q : Key) (o : Object) → (q ≡ k → ⊥) → map.get (map.insert m k o) q ≡ map.get m q
+put_elsewhere m k q o other = get-insert key_cmp_total m k o q ∙ ap (λ b. cond b (Some o) (map.get m q)) (elsewhere q k other)
+
+taken_elsewhere : (m : FinMap key_cmp Object) (k q : Key) → (q ≡ k → ⊥) → map.get (map.remove m k) q ≡ map.get m q
+taken_elsewhere m k q other = get-remove key_cmp_total m k q ∙ ap (λ b. cond b None (map.get m q)) (elsewhere q k other)
+
+put_at_elsewhere : (m : FinMap key_cmp Object) (k q : Key) (now : Option Object) → (q ≡ k → ⊥) → map.get (put_at m k now) q ≡ map.get m q
+put_at_elsewhere m k q None other = taken_elsewhere m k q other
+put_at_elsewhere m k q (Some o) other = put_elsewhere m k q o other
+
+write_elsewhere : (s : Store) (k q : Key) (c : Change) (full : Bool) → (q ≡ k → ⊥)
+    → let end : Store × Reply = cond full (s, Refused StoreFull) (with_change s k c, accepted c (stamp c (s.counter + 1))) in map.get end.0.objects q ≡ map.get s.objects q
+write_elsewhere s k q c true other = refl
+write_elsewhere s k q c false other = put_at_elsewhere s.objects k q (kept c (s.counter + 1)) other
+
+carried_elsewhere : (s : Store) (k q : Key) (v : Verdict) → (q ≡ k → ⊥) → map.get (carried_out s k v).0.objects q ≡ map.get s.objects q
+carried_elsewhere s k q (Refuse reason) other = refl
+carried_elsewhere s k q (Same o) other = refl
+carried_elsewhere s k q (Write c) other = write_elsewhere s k q c (s.counter == s.capacity) other
+
+-- a key that is not the one named is another one
+other_than : (q k : Key) → (Some q ≡ Some k → ⊥) → q ≡ k → ⊥
+other_than q k other is = other (ap Some is)
+
+pub step_elsewhere : (s : Store) (r : Request) (q : Key) → (Some q ≡ key_named r → ⊥) → map.get (step s r).0.objects q ≡ map.get s.objects q
+unfolding step
+step_elsewhere s (Get k) q other = refl
+step_elsewhere s (request.List kind namespace) q other = refl
+step_elsewhere s (Create d) q other =
+    carried_elsewhere s d.object.key q (on_create d (map.get s.objects d.object.key)) (other_than q d.object.key other)
+step_elsewhere s (Update d) q other =
+    carried_elsewhere s d.object.key q (on_update d (map.get s.objects d.object.key)) (other_than q d.object.key other)
+step_elsewhere s (UpdateStatus d) q other =
+    carried_elsewhere s d.object.key q (on_status d (map.get s.objects d.object.key)) (other_than q d.object.key other)
+step_elsewhere s (Delete k uid version at) q other = carried_elsewhere s k q (on_delete version uid at (map.get s.objects k)) (other_than q k other)
+
+-- a delete that names another UID than the object's
+pub spared : (s : Store) (k : Key) (uid : List ℕ) (version at : Option (List ℕ)) (current : Object)
+    → map.get s.objects k ≡ Some current → bytes_eq uid (uid_text current.meta.uid) ≡ false → step s (Delete k (Some uid) version at) ≡ (s, Refused Conflict)
+unfolding step
+spared s k uid version at current there other =
+    let old = differs version (decimal current.meta.revision) in
+    let then : Bool → Verdict = λ b. cond b (Refuse Conflict) (deleted (graceful current.key.kind at) current) in
+    ap (λ o. carried_out s k (on_delete version (Some uid) at o)) there
+    ∙ ap (λ b. carried_out s k (then (old || not b))) other ∙ ap (λ b. carried_out s k (then b)) (or-true old)

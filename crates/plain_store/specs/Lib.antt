@@ -1,0 +1,21 @@
+-- ---- what public clauses cite
+pub mod AtKey
+pub mod Drawn
+pub mod Filed
+pub mod Lives
+pub mod PrintedReplies
+pub mod Reached
+pub mod Run
+pub mod StatusWrites
+pub mod Store
+-- ---- what only proofs use
+pub mod Named
+-- ---- of the crate below
+pub use Rattle.requests.specs.Change
+pub use Rattle.requests.specs.Forms
+pub use Rattle.requests.specs.Judgments
+pub use Rattle.requests.specs.Keys
+pub use Rattle.requests.specs.LeastKey
+pub use Rattle.requests.specs.ObjectMap
+pub use Rattle.requests.specs.Reasons
+pub use Rattle.requests.specs.Verdict

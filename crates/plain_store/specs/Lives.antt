@@ -1,0 +1,51 @@
+-- The lives of the objects of one key, as the replies of a run tell of them (Kubernetes API concepts: a name is given to
+-- one object at a time, and a UID to one object ever).
+use Rattle.std.specs.Prelude.{◌≡◌, Bool, List, [], ◌∷◌, filter, flat_map, map, Option, Some, None, option_map, ⊤}
+use Rattle.std.specs.Ordering.{eq_by_cmp}
+use Rattle.objects.specs.declared.key.Key.{Key}
+use Rattle.objects.specs.declared.object.Object.{Object}
+use Rattle.objects.specs.Key.{key_cmp}
+use Rattle.requests.specs.declared.reply.Reply.{Reply}
+use Rattle.requests.specs.declared.reply.Reply.TheVariants.{Created, Found, Listed, Updated, Unchanged, Marked, Removed, Refused}
+
+-- what is told of an object: that its life begins with it as it is here, that it is written anew or read, that it ends
+pub data Event : Type 0 where
+  begins : Object → Event
+  changes : Object → Event
+  lasts : Object → Event
+  ends : Object → Event
+
+-- what a reply tells: a list tells of each of its objects
+abbrev pub events : Reply → List Event
+events (Created o) = begins o ∷ []
+events (Updated o) = changes o ∷ []
+events (Marked o) = changes o ∷ []
+events (Found o) = lasts o ∷ []
+events (Unchanged o) = lasts o ∷ []
+events (Removed o) = ends o ∷ []
+events (Listed os revision) = map lasts os
+events (Refused reason) = []
+
+abbrev pub tells_of : Key → Event → Bool
+tells_of key (begins o) = eq_by_cmp key_cmp key o.key
+tells_of key (changes o) = eq_by_cmp key_cmp key o.key
+tells_of key (lasts o) = eq_by_cmp key_cmp key o.key
+tells_of key (ends o) = eq_by_cmp key_cmp key o.key
+
+-- what the replies tell of the objects of that key, in order
+abbrev pub events_of : Key → List Reply → List Event
+events_of key replies = filter (tells_of key) (flat_map events replies)
+
+-- there is an object, and it has this one's UID
+abbrev pub HasUidOf : Object → Option Object → Type 0
+HasUidOf o current = option_map (λ (x : Object). x.meta.uid) current ≡ Some o.meta.uid
+
+-- One life after another, where `current` is the object that lives, if one does, as it was written last. A life begins
+-- only where there is none; what is read is what was written last; what is written anew, or ends, has the UID of the one
+-- that lives.
+abbrev pub AreLives : Option Object → List Event → Type 0
+AreLives current [] = ⊤
+AreLives current (begins o ∷ later) = (current ≡ None) × AreLives (Some o) later
+AreLives current (changes o ∷ later) = HasUidOf o current × AreLives (Some o) later
+AreLives current (lasts o ∷ later) = (current ≡ Some o) × AreLives current later
+AreLives current (ends o ∷ later) = HasUidOf o current × AreLives None later

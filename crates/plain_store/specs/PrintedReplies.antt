@@ -1,0 +1,35 @@
+-- Replies whose objects are kept as texts, as the replies that they are.
+use Rattle.std.specs.Prelude.{Bool, true, false, Option, Some, None}
+use Rattle.objects.specs.declared.object.Object.{Object}
+use Rattle.requests.specs.declared.reply.Reply.{Reply}
+use Rattle.requests.specs.declared.reply.Reply.TheVariants as reply
+use Rattle.plain_store.specs.declared.stored_reply.StoredReply.{StoredReply}
+use Rattle.plain_store.specs.declared.stored_reply.StoredReply.TheVariants as stored
+
+-- what a get or a list answers
+abbrev pub reply_stored : StoredReply → Reply
+reply_stored (stored.Found o) = reply.Found o
+reply_stored (stored.Listed os revision) = reply.Listed os revision
+reply_stored (stored.Refused reason) = reply.Refused reason
+
+-- the one object that a reply has
+abbrev pub reply_object : Reply → Option Object
+reply_object (reply.Created o) = Some o
+reply_object (reply.Found o) = Some o
+reply_object (reply.Listed os revision) = None
+reply_object (reply.Updated o) = Some o
+reply_object (reply.Unchanged o) = Some o
+reply_object (reply.Marked o) = Some o
+reply_object (reply.Removed o) = Some o
+reply_object (reply.Refused reason) = None
+
+-- the reply has no list
+abbrev pub is_single : Reply → Bool
+is_single (reply.Created o) = true
+is_single (reply.Found o) = true
+is_single (reply.Listed os revision) = false
+is_single (reply.Updated o) = true
+is_single (reply.Unchanged o) = true
+is_single (reply.Marked o) = true
+is_single (reply.Removed o) = true
+is_single (reply.Refused reason) = true

@@ -1,0 +1,25 @@
+//! The plain store: one map of objects that takes whole requests, one at a time, and the laws of its runs.
+#![tactic(auto)]
+
+mod api;
+mod collection;
+mod laws;
+mod printed_reply;
+mod store;
+mod stored_reply;
+
+pub use api::{Api, ApiFault};
+pub use laws::changes::{
+    generation_rises_with_spec, only_the_status_request_changes_status,
+    updates_with_a_stale_version_change_nothing,
+};
+pub use laws::lifetimes::{
+    names_live_once, objects_stand_under_their_keys, uids_name_one_key, uids_stay,
+};
+pub use laws::runs::{
+    deletes_spare_other_uids, only_writes_change_the_store, reads_change_nothing,
+    requests_touch_one_key, runs_go_on, uids_are_given_once, versions_rise_by_one,
+};
+pub use printed_reply::PrintedReply;
+pub use store::{MOST_REVISIONS, Plain, PlainError};
+pub use stored_reply::{StoredListing, StoredReply};

@@ -1,0 +1,9 @@
+-- ---- what public clauses cite
+pub mod Change
+pub mod Forms
+pub mod Judgments
+pub mod Keys
+pub mod LeastKey
+pub mod ObjectMap
+pub mod Reasons
+pub mod Verdict

@@ -1,0 +1,68 @@
+ghost use Rattle.std.specs.Prelude.{◌≡◌};
+ghost use Rattle.requests.specs.Reasons.{reason_code, reason_name};
+
+use crate::listing::Listing;
+use objects::Object;
+
+/// Why a request was refused (Kubernetes API, `Status.reason`).
+#[derive(Clone, Copy, Debug, PartialEq, Eq)]
+pub enum Reason {
+    /// 404: there is no object of that name.
+    NotFound,
+    /// 409: there is an object of that name.
+    AlreadyExists,
+    /// 409: the resource version or the UID that was given is not the current one.
+    Conflict,
+    /// 422: the request may not be made so.
+    Invalid,
+    /// 507: all revisions of the store are drawn.
+    StoreFull,
+}
+
+impl Reason {
+    /// The HTTP status.
+    pub fn code(self) -> u16
+        ensures { result ≡ reason_code self }
+    {
+        match self {
+            Reason::NotFound => 404,
+            Reason::AlreadyExists | Reason::Conflict => 409,
+            Reason::Invalid => 422,
+            Reason::StoreFull => 507,
+        }
+    }
+
+    /// The text of a reply's member `reason`.
+    pub fn name(self) -> &'static str
+        ensures { result.now ≡ reason_name self }
+    {
+        match self {
+            Reason::NotFound => "NotFound",
+            Reason::AlreadyExists => "AlreadyExists",
+            Reason::Conflict => "Conflict",
+            Reason::Invalid => "Invalid",
+            Reason::StoreFull => "StoreFull",
+        }
+    }
+}
+
+/// The reply to a request. A refused request has changed nothing.
+#[derive(Drop)]
+pub enum Reply {
+    /// 201: the object as it was created.
+    Created(Object),
+    /// 200: the object as it is.
+    Found(Object),
+    /// 200: the objects of the kind in the namespace, in byte order of their names, and the resource version of the
+    /// store: that of its last write, 0 where there was none.
+    Listed { objects: Listing, revision: u64 },
+    /// 200: the object as the update left it.
+    Updated(Object),
+    /// 200: the object as it is, which the request would not have changed.
+    Unchanged(Object),
+    /// 200: the pod with the time of its deletion.
+    Marked(Object),
+    /// 200: the object as it last was, at the resource version of its removal.
+    Removed(Object),
+    Refused(Reason),
+}

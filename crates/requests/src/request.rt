@@ -1,0 +1,110 @@
+ghost use Rattle.std.specs.Prelude.{◌≡◌, option_map};
+ghost use Rattle.requests.specs.Keys.{key_named};
+ghost use Rattle.requests.specs.Verdict.{is_write};
+
+use objects::{Draft, Key, Kind, Object, Text};
+use std::alloc::AllocError;
+
+/// A request to the store.
+#[derive(Drop)]
+pub enum Request {
+    Create(Draft),
+    Get(Key),
+    /// Reads the objects of one kind in one namespace (Kubernetes API concepts, resource collections). The namespace is
+    /// a DNS label; no object is in another.
+    List {
+        kind: Kind,
+        namespace: Text,
+    },
+    Update(Draft),
+    /// Writes the `status` of the draft's object, and nothing else.
+    UpdateStatus(Draft),
+    /// A UID or a resource version that is given has to be the object's. With a time `at`, a pod is marked with it and
+    /// goes by a later delete without one (graceful deletion); for the other kinds it is passed over.
+    Delete {
+        key: Key,
+        uid: Option<Text>,
+        version: Option<Text>,
+        at: Option<Text>,
+    },
+}
+
+impl Request {
+    /// Whether the request may change the store: a create, an update, a status request or a delete.
+    pub fn is_write(&self) -> bool
+        ensures { result ≡ is_write self.now }
+    {
+        match self {
+            Request::Create(_)
+            | Request::Update(_)
+            | Request::UpdateStatus(_)
+            | Request::Delete {
+                key: _,
+                uid: _,
+                version: _,
+                at: _,
+            } => true,
+            Request::Get(_)
+            | Request::List {
+                kind: _,
+                namespace: _,
+            } => false,
+        }
+    }
+
+    /// The key that the request names; a list names none.
+    pub fn key(&self) -> Option<&Key>
+        ensures { option_map (λ key. key.now) result ≡ key_named self.now }
+    {
+        match self {
+            Request::Create(draft) | Request::Update(draft) | Request::UpdateStatus(draft) => {
+                Some(key_of(&draft.object))
+            }
+            Request::Get(key)
+            | Request::Delete {
+                key,
+                uid: _,
+                version: _,
+                at: _,
+            } => Some(key),
+            Request::List {
+                kind: _,
+                namespace: _,
+            } => None,
+        }
+    }
+}
+
+fn key_of(object: &Object) -> &Key
+    ensures { result.now ≡ object.now.key }
+{
+    &object.key
+}
+
+impl Clone for Request {
+    ghost is_clone = { λ old new. new ≡ old };
+
+    fn clone(&self) -> Result<Request, AllocError> {
+        match self {
+            Request::Create(draft) => Ok(Request::Create(draft.clone()?)),
+            Request::Get(key) => Ok(Request::Get(key.clone()?)),
+            Request::List { kind, namespace } => Ok(Request::List {
+                kind: *kind,
+                namespace: namespace.clone()?,
+            }),
+            Request::Update(draft) => Ok(Request::Update(draft.clone()?)),
+            Request::UpdateStatus(draft) => Ok(Request::UpdateStatus(draft.clone()?)),
+            Request::Delete {
+                key,
+                uid,
+                version,
+                at,
+            } => Ok(Request::Delete {
+                key: key.clone()?,
+                uid: uid.clone()?,
+                version: version.clone()?,
+                at: at.clone()?,
+            }),
+        }
+    }
+}

@@ -1,0 +1,142 @@
+// The table of verdicts, in the order of its cases.
+ghost use Rattle.std.specs.Prelude.{◌≡◌, true, IfOk, option_map};
+ghost use Rattle.std.specs.Option.{option_copied};
+ghost use Rattle.requests.specs.Verdict.{is_write, on_create, on_delete, on_status, on_update, verdict};
+ghost use Rattle.requests.specs.Judgments.{verdict_of};
+
+use crate::change::Change;
+use crate::form::Form;
+use crate::outcomes::{born, marked, updated, with_status_of};
+use crate::preconditions::{
+    changes_data, conflicts, graceful, has_status, is_marked, is_same_body, is_same_status,
+};
+use crate::reply::Reason;
+use crate::request::Request;
+use crate::verdict::{Judgment, Verdict};
+use objects::{Draft, Memory, Object, Text};
+use std::alloc::AllocError;
+
+/// What a write request comes to, given the object that now has its key, if there is one (Kubernetes API concepts:
+/// resource versions, UIDs, and the preconditions of a write). All that a write needs memory for is made here.
+pub fn decide(current: Option<&Object>, request: &Request) -> Result<Verdict, Memory>
+    requires { is_write request.now ≡ true }
+    ensures { IfOk result (λ decided. decided ≡ verdict request.now (option_copied current.entry)) }
+{
+    Ok(match judge(current, request.clone()?)? {
+        Judgment::Refuse(reason) => Verdict::Refuse(reason),
+        Judgment::Same(object) => Verdict::Same(object),
+        Judgment::Write(form, object) => Verdict::Write(Change::of(form, object)?),
+    })
+}
+
+/// As `decide`, of a request that is used up, so that what it holds is moved into the change.
+pub fn judge(current: Option<&Object>, request: Request) -> Result<Judgment, AllocError>
+    requires { is_write request ≡ true }
+    ensures { IfOk result (λ decided. verdict_of decided ≡ verdict request (option_copied current.entry)) }
+{
+    match request {
+        Request::Create(draft) => on_create(draft, current),
+        Request::Get(_)
+        | Request::List {
+            kind: _,
+            namespace: _,
+        } => unreachable!(),
+        Request::Update(draft) => on_update(draft, current),
+        Request::UpdateStatus(draft) => {
+            let decided = on_status(&draft, current);
+            drop(draft);
+            decided
+        }
+        Request::Delete {
+            key,
+            uid,
+            version,
+            at,
+        } => {
+            drop(key);
+            let decided = on_delete(version.as_ref(), uid.as_ref(), at, current);
+            drop(uid);
+            drop(version);
+            decided
+        }
+    }
+}
+
+fn on_create(draft: Draft, current: Option<&Object>) -> Result<Judgment, AllocError>
+    ensures { IfOk result (λ decided. verdict_of decided ≡ on_create draft (option_copied current.entry)) }
+{
+    if draft.version.is_some() {
+        drop(draft);
+        return Ok(Judgment::Refuse(Reason::Invalid));
+    }
+    if current.is_some() {
+        drop(draft);
+        return Ok(Judgment::Refuse(Reason::AlreadyExists));
+    }
+    Ok(Judgment::Write(Form::Creation, born(draft.object)?))
+}
+
+fn on_update(draft: Draft, current: Option<&Object>) -> Result<Judgment, AllocError>
+    ensures { IfOk result (λ decided. verdict_of decided ≡ on_update draft (option_copied current.entry)) }
+{
+    let Some(current) = current else {
+        drop(draft);
+        return Ok(Judgment::Refuse(Reason::NotFound));
+    };
+    if conflicts(draft.version.as_ref(), draft.uid.as_ref(), current) {
+        drop(draft);
+        return Ok(Judgment::Refuse(Reason::Conflict));
+    }
+    if changes_data(&draft, current) {
+        drop(draft);
+        return Ok(Judgment::Refuse(Reason::Invalid));
+    }
+    let object = updated(draft, current)?;
+    if is_same_body(current, &object) {
+        drop(object);
+        return Ok(Judgment::Same(current.clone()?));
+    }
+    Ok(Judgment::Write(Form::Update, object))
+}
+
+fn on_status(draft: &Draft, current: Option<&Object>) -> Result<Judgment, AllocError>
+    ensures { IfOk result (λ decided. verdict_of decided ≡ on_status draft.now (option_copied current.entry)) }
+{
+    if !has_status(draft.object.key.kind) {
+        return Ok(Judgment::Refuse(Reason::Invalid));
+    }
+    let Some(current) = current else {
+        return Ok(Judgment::Refuse(Reason::NotFound));
+    };
+    if conflicts(draft.version.as_ref(), draft.uid.as_ref(), current) {
+        return Ok(Judgment::Refuse(Reason::Conflict));
+    }
+    if is_same_status(draft, current) {
+        return Ok(Judgment::Same(current.clone()?));
+    }
+    Ok(Judgment::Write(Form::Update, with_status_of(draft, current)?))
+}
+
+fn on_delete(
+    version: Option<&Text>,
+    uid: Option<&Text>,
+    at: Option<Text>,
+    current: Option<&Object>,
+) -> Result<Judgment, AllocError>
+    ensures { IfOk result (λ decided. verdict_of decided
+        ≡ on_delete (option_copied version.entry) (option_copied uid.entry) at (option_copied current.entry)) }
+{
+    let Some(current) = current else {
+        return Ok(Judgment::Refuse(Reason::NotFound));
+    };
+    if conflicts(version, uid, current) {
+        return Ok(Judgment::Refuse(Reason::Conflict));
+    }
+    let Some(at) = graceful(current, at) else {
+        return Ok(Judgment::Write(Form::Removal, current.clone()?));
+    };
+    if is_marked(current) {
+        return Ok(Judgment::Same(current.clone()?));
+    }
+    Ok(Judgment::Write(Form::Mark, marked(current, at)?))
+}

@@ -1,0 +1,22 @@
+use crate::change::Change;
+use crate::form::Form;
+use crate::reply::Reason;
+use objects::Object;
+
+/// What a write request comes to, given the object that now has its key.
+#[derive(Drop)]
+pub enum Verdict {
+    Refuse(Reason),
+    /// The request would change nothing: this is the object as it is.
+    Same(Object),
+    Write(Change),
+}
+
+/// A verdict of which nothing is copied yet. Of a write it has the form and the object.
+#[derive(Drop)]
+pub enum Judgment {
+    Refuse(Reason),
+    /// The request would change nothing: this is the object as it is.
+    Same(Object),
+    Write(Form, Object),
+}
