@@ -17,9 +17,6 @@ Puts-then (Some w) b c x y p q =
 abbrev pub PutsBefore : Option (List ℕ) → List ℕ → List ℕ → Option (List ℕ) → Type 0
 PutsBefore old bytes rest new = (text : List ℕ) × (bytes ≡ text ++ rest) × Puts old text new
 
-pub PutsBefore-none : (o : Option (List ℕ)) (bytes : List ℕ) → PutsBefore o bytes bytes o
-PutsBefore-none o bytes = ([], refl, Puts-none o)
-
 pub PutsBefore-next : (old now new : Option (List ℕ)) (bytes rest later : List ℕ) (n : ℕ) → PutsBefore old bytes rest now → Puts now (take n rest) new → later ≡ take (length rest - n) (drop n rest) → PutsBefore old bytes later new
 PutsBefore-next old now new bytes rest later n (text, e, p) q l =
     let whole : later ≡ drop n rest = l ∙ take_all (length rest - n) (drop n rest) (rw length-drop (omega arith)) in (
@@ -27,17 +24,6 @@ PutsBefore-next old now new bytes rest later n (text, e, p) q l =
       e ∙ (ap (λ t. text ++ t) (sym (take-append-drop n rest) ∙ ap (λ t. take n rest ++ t) (sym whole)) ∙ sym (append_assoc text (take n rest) later)),
       Puts-then old now new text (take n rest) p q,
     )
-
-pub PutsBefore-kept : (old now new : Option (List ℕ)) (bytes rest : List ℕ) → PutsBefore old bytes rest now → Puts now [] new → PutsPart old bytes new
-PutsBefore-kept old now new bytes rest (text, e, p) k =
-    (text, rest, e, subst (λ t. Puts old t new) (append-nil text) (Puts-then old now new text [] p k))
-
-pub PutsBefore-part : (old now : Option (List ℕ)) (bytes rest : List ℕ) → PutsBefore old bytes rest now → PutsPart old bytes now
-PutsBefore-part old now bytes rest (text, e, p) = (text, rest, e, p)
-
-pub PutsBefore-all : (old now : Option (List ℕ)) (bytes rest : List ℕ) → length rest ≡ 0 → PutsBefore old bytes rest now → Puts old bytes now
-PutsBefore-all old now bytes [] l (text, e, p) = subst (λ t. Puts old t now) (sym (e ∙ append-nil text)) p
-PutsBefore-all old now bytes (b ∷ bs) l h = absurd (omega arith)
 
 pub Takes-none : (o : Option (List ℕ)) → Takes o [] o
 Takes-none None = tt

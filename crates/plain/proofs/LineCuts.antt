@@ -162,10 +162,6 @@ pub count-last : (k : List ℕ) (old new : ℕ) → 0 < length k → NoFeed k �
 count-last [] old new l f h = absurd (omega arith)
 count-last (b ∷ bs) old new l f h = h ∙ ap (λ (ls : List (List ℕ)). old + length ls) (sym (lines-last b bs f))
 
-pub lines-none : (k : List ℕ) → length k ≡ 0 → lines k ≡ []
-lines-none [] e = refl
-lines-none (b ∷ bs) e = absurd (omega arith)
-
 -- one line of the rest of a piece is answered
 pub Reaches-next : (p : Point) (s t : Store) (k kept rest later text new : List ℕ) (n m at : ℕ) →
     Reaches p (record { store = s; waiting = k ++ rest; text = text; count = n }) → NoFeed k →

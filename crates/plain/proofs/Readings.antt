@@ -93,50 +93,38 @@ line_members line d h = line_request line ∙ ap (λ r. lifted r >>= data_reques
 answers_at : (v w : Verb) (ms : Members) (result : Result Request RequestError) → v ≡ w → Answers result (request_by w ms) → Answers result (request_by v ms)
 answers_at v w ms result is h = subst (λ x. Answers result (request_by x ms)) (sym is) h
 
-pub create_refused : (v : Verb) (ms : Members) (result : Result Request RequestError) (y : RequestError) (e : ReadError)
-    → v ≡ verb.Create → result ≡ Err y → y ≡ errors.Read e → Fails e (object_draft (get_member (codes "object") ms)) → Answers result (request_by v ms)
-unfolding request_by
-create_refused v ms result y e named is same h = answers_at v verb.Create ms result named (answers_lifted result y e _ (λ d. Ok (Create d)) is same h)
+-- The request of a verb is made of one part of the members, and is refused where the part is.
+abbrev pub IsMadeOf : {A : Type 0} → Verb → Members → Result A ReadError → (A → Request) → Type 0
+IsMadeOf v ms part make = request_by v ms ≡ (lifted part >>= λ x. Ok (make x))
 
-pub get_refused : (v : Verb) (ms : Members) (result : Result Request RequestError) (y : RequestError) (e : ReadError)
-    → v ≡ verb.Get → result ≡ Err y → y ≡ errors.Read e → Fails e (key_in ms) → Answers result (request_by v ms)
+pub of_create : (ms : Members) → IsMadeOf verb.Create ms (object_draft (get_member (codes "object") ms)) Create
 unfolding request_by
-get_refused v ms result y e named is same h = answers_at v verb.Get ms result named (answers_lifted result y e _ (λ k. Ok (Get k)) is same h)
+of_create ms = refl
 
-pub list_refused : (v : Verb) (ms : Members) (result : Result Request RequestError) (y : RequestError) (e : ReadError)
-    → v ≡ verb.List → result ≡ Err y → y ≡ errors.Read e → Fails e (collection_in ms) → Answers result (request_by v ms)
+pub of_get : (ms : Members) → IsMadeOf verb.Get ms (key_in ms) Get
 unfolding request_by
-list_refused v ms result y e named is same h = answers_at v verb.List ms result named (answers_lifted result y e _ (λ c. Ok (request.List c.0 c.1)) is same h)
+of_get ms = refl
 
-pub update_refused : (v : Verb) (ms : Members) (result : Result Request RequestError) (y : RequestError) (e : ReadError)
-    → v ≡ verb.Update → result ≡ Err y → y ≡ errors.Read e → Fails e (object_draft (get_member (codes "object") ms)) → Answers result (request_by v ms)
+pub of_list : (ms : Members) → IsMadeOf verb.List ms (collection_in ms) (λ c. request.List c.0 c.1)
 unfolding request_by
-update_refused v ms result y e named is same h = answers_at v verb.Update ms result named (answers_lifted result y e _ (λ d. Ok (Update d)) is same h)
+of_list ms = refl
 
-pub status_refused : (v : Verb) (ms : Members) (result : Result Request RequestError) (y : RequestError) (e : ReadError)
-    → v ≡ verb.Status → result ≡ Err y → y ≡ errors.Read e → Fails e (object_draft (get_member (codes "object") ms)) → Answers result (request_by v ms)
+pub of_update : (ms : Members) → IsMadeOf verb.Update ms (object_draft (get_member (codes "object") ms)) Update
 unfolding request_by
-status_refused v ms result y e named is same h = answers_at v verb.Status ms result named (answers_lifted result y e _ (λ d. Ok (UpdateStatus d)) is same h)
+of_update ms = refl
 
-pub status_read : (v : Verb) (ms : Members) (d : Draft) → v ≡ verb.Status → object_draft (get_member (codes "object") ms) ≡ Ok d → request_by v ms ≡ Ok (UpdateStatus d)
+pub of_status : (ms : Members) → IsMadeOf verb.Status ms (object_draft (get_member (codes "object") ms)) UpdateStatus
 unfolding request_by
-status_read v ms d is h = ap (λ x. request_by x ms) is ∙ ap (λ r. lifted r >>= λ x. Ok (UpdateStatus x)) h
+of_status ms = refl
 
-pub create_read : (v : Verb) (ms : Members) (d : Draft) → v ≡ verb.Create → object_draft (get_member (codes "object") ms) ≡ Ok d → request_by v ms ≡ Ok (Create d)
-unfolding request_by
-create_read v ms d is h = ap (λ x. request_by x ms) is ∙ ap (λ r. lifted r >>= λ x. Ok (Create x)) h
+pub part_refused : {A : Type 0} (v w : Verb) (ms : Members) (part : Result A ReadError) (make : A → Request) (result : Result Request RequestError) (y : RequestError) (e : ReadError)
+    → IsMadeOf w ms part make → v ≡ w → result ≡ Err y → y ≡ errors.Read e → Fails e part → Answers result (request_by v ms)
+part_refused v w ms part make result y e made named is same h =
+    answers_at v w ms result named (subst (Answers result) (sym made) (answers_lifted result y e part (λ x. Ok (make x)) is same h))
 
-pub get_read : (v : Verb) (ms : Members) (k : Key) → v ≡ verb.Get → key_in ms ≡ Ok k → request_by v ms ≡ Ok (Get k)
-unfolding request_by
-get_read v ms k is h = ap (λ x. request_by x ms) is ∙ ap (λ r. lifted r >>= λ x. Ok (Get x)) h
-
-pub list_read : (v : Verb) (ms : Members) (c : Kind × List ℕ) → v ≡ verb.List → collection_in ms ≡ Ok c → request_by v ms ≡ Ok (request.List c.0 c.1)
-unfolding request_by
-list_read v ms c is h = ap (λ x. request_by x ms) is ∙ ap (λ r. lifted r >>= λ x. Ok (request.List x.0 x.1)) h
-
-pub update_read : (v : Verb) (ms : Members) (d : Draft) → v ≡ verb.Update → object_draft (get_member (codes "object") ms) ≡ Ok d → request_by v ms ≡ Ok (Update d)
-unfolding request_by
-update_read v ms d is h = ap (λ x. request_by x ms) is ∙ ap (λ r. lifted r >>= λ x. Ok (Update x)) h
+pub part_read : {A : Type 0} (v w : Verb) (ms : Members) (part : Result A ReadError) (make : A → Request) (x : A)
+    → IsMadeOf w ms part make → v ≡ w → part ≡ Ok x → request_by v ms ≡ Ok (make x)
+part_read v w ms part make x made named h = ap (λ u. request_by u ms) named ∙ made ∙ ap (λ r. lifted r >>= λ z. Ok (make z)) h
 
 pub delete_at : (v : Verb) (ms : Members) (result : Result Request RequestError) → v ≡ verb.Delete → Answers result (deletion_in ms) → Answers result (request_by v ms)
 unfolding request_by

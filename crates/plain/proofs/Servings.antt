@@ -51,19 +51,6 @@ Answered-fault s t bytes rest n m before now then a p =
     ap (λ b. answers s (lines b)) (sym (append-nil bytes)) ∙ (a.reaches.text [] ∙ ap (λ b. a.text ++ answers t (lines b)) (append-nil rest)) in
     subst (λ b. PutsPart before b then) (sym all) (PutsPart-after before now then a.text (answers t (lines rest)) a.put p)
 
-pub Serving-start : (s : Store) (had before : Option (List ℕ)) (kept : List ℕ) → kept ≡ [] → Serving s had had before before s kept 0
-Serving-start s had before kept none = record {
-  consumed = [];
-  taken = Takes-none had;
-  answered = record {
-    text = [];
-    put = Puts-none before;
-    reaches =
-        subst (λ k. Reaches (record { store = s; waiting = []; text = []; count = 0 }) (record { store = s; waiting = k; text = []; count = 0 }))
-        (sym none) (Reaches-same (record { store = s; waiting = []; text = []; count = 0 }));
-  };
-}
-
 pub Serving-next : (s t u : Store) (had left later before after then : Option (List ℕ)) (kept piece next : List ℕ) (n m : ℕ) →
     Serving s had left before after t kept n → Takes left piece later → Answered t (kept ++ piece) n after u next m then → Serving s had later before then u next m
 Serving-next s t u had left later before after then kept piece next n m h taken a = record {
@@ -109,53 +96,6 @@ Serving-last (Ok x) s t had left later before after then kept piece n h taken no
 Serving-last (Err e) s t had left later before after then kept piece n h taken none p =
     Serving-fault s t had left later before after then kept [] n h (subst (λ b. Takes left b later) none taken)
     (subst (λ b. PutsPart after (answers t (lines b)) then) (sym (append-nil kept)) p)
-
--- the end of the input
-pub Serving-text : {A E : Type 0} (r : Result A E) (s t : Store) (had left before after then : Option (List ℕ)) (kept : List ℕ) (n : ℕ) →
-    Serving s had left before after t kept n → IfSome left (λ l. l ≡ []) → OnOk r (Puts after (answers t (lines kept)) then) →
-    OnOk r (IfSome had (λ input. Puts before (answers s (lines input)) then))
-Serving-text (Err e) s t had left before after then kept n h ended p = tt
-Serving-text (Ok x) s t None left before after then kept n h ended p = tt
-Serving-text (Ok x) s t (Some input) left before after then kept n h ended p =
-    let whole : answers s (lines input) ≡ h.answered.text ++ answers t (lines kept) =
-    ap (λ b. answers s (lines b)) (Takes-all input h.consumed left h.taken ended ∙ sym (append-nil h.consumed)) ∙ (h.answered.reaches.text [] ∙
-    ap (λ b. h.answered.text ++ answers t (lines b)) (append-nil kept)) in
-    subst (λ b. Puts before b then) (sym whole) (Puts-then before after then h.answered.text (answers t (lines kept)) h.answered.put p)
-
-pub Serving-count : {E : Type 0} (r : Result ℕ E) (s t : Store) (had left before after : Option (List ℕ)) (kept : List ℕ) (n : ℕ) →
-    Serving s had left before after t kept n → IfSome left (λ l. l ≡ []) → IfOk r (λ m. m ≡ n + length (lines kept)) →
-    IfOk r (λ m. IfSome had (λ input. m ≡ length (lines input)))
-Serving-count (Err e) s t had left before after kept n h ended p = tt
-Serving-count (Ok x) s t None left before after kept n h ended p = tt
-Serving-count (Ok x) s t (Some input) left before after kept n h ended p =
-    let first : length (lines input) ≡ length (lines (h.consumed ++ [])) =
-    ap (λ b. length (lines b)) (Takes-all input h.consumed left h.taken ended ∙ sym (append-nil h.consumed)) in
-    let last : n + length (lines (kept ++ [])) ≡ n + length (lines kept) = ap (λ b. n + length (lines b)) (append-nil kept) in
-    let middle : 0 + length (lines (h.consumed ++ [])) ≡ n + length (lines (kept ++ [])) = h.answered.reaches.count [] in
-    omega arith
-
-pub Serving-left : {A E : Type 0} (r : Result A E) (s t : Store) (had left later before after : Option (List ℕ)) (kept piece : List ℕ) (n : ℕ) →
-    Serving s had left before after t kept n → IfSome left (λ l. l ≡ []) → Takes left piece later → piece ≡ [] →
-    OnOk r (IfSome had (λ _. later ≡ Some []))
-Serving-left (Err e) s t had left later before after kept piece n h ended taken none = tt
-Serving-left (Ok x) s t None left later before after kept piece n h ended taken none = tt
-Serving-left (Ok x) s t (Some input) left later before after kept piece n h ended taken none =
-    Takes-nothing left later piece none (Takes-end input h.consumed left h.taken ended) taken
-
--- a fault of the writer or of memory is no failure of the reader
-pub CountsReads-other : {A : Type 0} (r : Result A ServeFault) (old now new : ℕ) → IsWriteOrMemory r → now ≡ old → new ≡ now → CountsReads r old new
-CountsReads-other (Ok x) old now new _ e f = f ∙ e
-CountsReads-other (Err Read) old now new w e f = absurd w
-CountsReads-other (Err Write) old now new _ e f = f ∙ e
-CountsReads-other (Err Memory) old now new _ e f = f ∙ e
-CountsReads-other (Err BadCapacity) old now new w e f = absurd w
-
-pub CountsWrites-from : {A : Type 0} (r : Result A ServeFault) (old now new : ℕ) → now ≡ old → CountsWrites r now new → CountsWrites r old new
-CountsWrites-from (Ok x) old now new e h = h ∙ e
-CountsWrites-from (Err Read) old now new e h = h ∙ e
-CountsWrites-from (Err Write) old now new e h = omega arith
-CountsWrites-from (Err Memory) old now new e h = h ∙ e
-CountsWrites-from (Err BadCapacity) old now new e h = h ∙ e
 
 pub in_range : {A : Type 0} (r : Result A ServeFault) → IsInRange r → r ≡ Err BadCapacity → ⊥
 in_range r h e = subst IsInRange e h

@@ -15,7 +15,7 @@ pub use laws::lines_are_one_run;
 pub use lines::request_error::RequestError;
 pub use lines::request_line::read_request;
 pub use plain_store::{
-    Api, ApiFault, MOST_REVISIONS, Plain, PlainError, PrintedReply, StoredListing, StoredReply,
+    Api, ApiFault, MOST_REVISIONS, Plain, PlainError, PrintedReply, StoredReply,
     deletes_spare_other_uids, generation_rises_with_spec, names_live_once,
     objects_stand_under_their_keys, only_the_status_request_changes_status,
     only_writes_change_the_store, reads_change_nothing, requests_touch_one_key, runs_go_on,

@@ -19,14 +19,6 @@ use Rattle.plain_store.specs.Store.{Store, carried_out, step, written}
 use Rattle.requests.specs.Verdict.{is_write, verdict}
 use Rattle.plain_store.proofs.ChangedKeys.{IsFiled, IsOfKey, changes_its_key}
 
-pub names_a_key : (r : Request) → is_write r ≡ true → key_named r ≡ None → ⊥
-names_a_key (Create d) is none = cc
-names_a_key (Get k) is none = cc
-names_a_key (request.List kind namespace) is none = cc
-names_a_key (Update d) is none = cc
-names_a_key (UpdateStatus d) is none = cc
-names_a_key (Delete k uid version at) is none = cc
-
 written_step : (s : Store) (r : Request) (k : Key) → is_write r ≡ true → key_named r ≡ Some k → written s k r ≡ step s r
 unfolding step
 written_step s (Create d) k is named = ap (λ q. written s q (Create d)) (sym (same_Some d.object.key k named))

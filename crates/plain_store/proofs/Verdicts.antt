@@ -76,7 +76,7 @@ update_writes C U n d None changed = tt
 update_writes C U n d (Some o) changed =
     let P = Writes C U n d.object.key (Some o) in
     either P (conflicts d.version d.uid o) (Refuse Conflict) _ tt
-    (either P (changes_data d o) (Refuse Invalid) (unless_same o d) tt
+    (either P (changes_data d o) (Refuse Invalid) (unless_same o (updated o d)) tt
     (either P (same_data o.body (updated o d).body) (Same o) (Write (updates (updated o d))) refl (record { old = o; there = refl; changed = changed o })))
 
 status_of_writes : (C : OfMade) (U : OfChanged) (n : ℕ) (d : Draft) (current : Option Object) → Allows C U n (UpdateStatus d) → Writes C U n d.object.key current (on_status_of d current)

@@ -9,7 +9,7 @@ use Rattle.plain_store.specs.declared.stored_reply.StoredReply.TheVariants as st
 -- what a get or a list answers
 abbrev pub reply_stored : StoredReply → Reply
 reply_stored (stored.Found o) = reply.Found o
-reply_stored (stored.Listed os revision) = reply.Listed os revision
+reply_stored (stored.Listed objects revision) = reply.Listed objects.items revision
 reply_stored (stored.Refused reason) = reply.Refused reason
 
 -- the one object that a reply has

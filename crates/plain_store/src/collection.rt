@@ -4,7 +4,6 @@ ghost use Rattle.std.specs.FinMap as map;
 ghost use Rattle.plain_store.specs.Named.{AreNamed};
 ghost use Rattle.requests.specs.ObjectMap.{collection};
 
-use crate::stored_reply::StoredListing;
 use objects::{Key, Kind, Memory, Printed, Text};
 use requests::{is_of, least_key};
 use std::alloc::Global;
@@ -17,13 +16,13 @@ pub(crate) fn collection_of(
     objects: &BTreeMap<Key, Printed>,
     kind: Kind,
     namespace: &Text,
-) -> Result<StoredListing, Memory>
+) -> Result<Vec<Printed>, Memory>
     requires { AreNamed (map.from_entries objects.now.entries) }
-    ensures { IfOk result (λ listing. listing ≡ collection (map.from_entries objects.now.entries) kind namespace.now) }
+    ensures { IfOk result (λ found. found.items ≡ collection (map.from_entries objects.now.entries) kind namespace.now) }
 {
     let mut found = Vec::new(alloc);
     let Some(least) = least_key(alloc, kind, namespace)? else {
-        return Ok(StoredListing::of(found));
+        return Ok(found);
     };
     for (key, object) in objects.range(least..) {
         if !is_of(key, kind, namespace) {
@@ -31,5 +30,5 @@ pub(crate) fn collection_of(
         }
         found.push(object.clone()?)?;
     }
-    Ok(StoredListing::of(found))
+    Ok(found)
 }

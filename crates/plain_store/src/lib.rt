@@ -22,4 +22,4 @@ pub use laws::runs::{
 };
 pub use printed_reply::PrintedReply;
 pub use store::{MOST_REVISIONS, Plain, PlainError};
-pub use stored_reply::{StoredListing, StoredReply};
+pub use stored_reply::StoredReply;

@@ -37,7 +37,7 @@ impl PrintedReply {
     }
 
     /// The reply alone.
-    pub fn into_reply(self) -> Reply
+    pub(crate) fn into_reply(self) -> Reply
         ensures { result ≡ self.reply }
     {
         let PrintedReply { reply, text } = self;

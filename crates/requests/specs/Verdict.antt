@@ -4,6 +4,7 @@ use Rattle.std.specs.Prelude.{ℕ, ◌+◌, ◌^◌, nat_lt, Bool, true, false, 
 use Rattle.std.specs.Option.{option_map_or}
 use Rattle.objects.specs.declared.kind.Kind.{Kind}
 use Rattle.objects.specs.declared.kind.Kind.TheVariants.{StatefulSet, Pod, PersistentVolumeClaim, ControllerRevision}
+use Rattle.objects.specs.declared.meta.Meta.{Meta}
 use Rattle.objects.specs.declared.object.Object.{Object}
 use Rattle.objects.specs.declared.object.Draft.{Draft}
 use Rattle.serde_json.specs.Data.{Data}
@@ -62,22 +63,26 @@ on_create d current =
     else if is_some current then Refuse AlreadyExists
     else Write (creates (born d.object))
 
+-- what the store knows of an object once an update has put the new one in its place
+abbrev pub meta_after : Object → Object → Meta
+meta_after o new = record {
+  uid = o.meta.uid;
+  revision = o.meta.revision;
+  generation = generation_after o.meta.generation (same_member (codes "spec") o.body new.body);
+  deletion = o.meta.deletion;
+}
+
 -- what an update makes of the current object: its UID, deletion and status stay, and all else is what is handed in
 abbrev pub updated : Object → Draft → Object
 updated o d = record {
   key = d.object.key;
-  meta = record {
-    uid = o.meta.uid;
-    revision = o.meta.revision;
-    generation = generation_after o.meta.generation (same_member (codes "spec") o.body d.object.body);
-    deletion = o.meta.deletion;
-  };
+  meta = meta_after o d.object;
   body = body_with_status d.object.key.kind (member_of (codes "status") o.body) d.object.body;
 }
 
 -- An update that would leave the object as it is writes nothing (an unchanged object keeps its resource version).
-abbrev pub unless_same : Object → Draft → Verdict
-unless_same o d = if same_data o.body (updated o d).body then Same o else Write (updates (updated o d))
+abbrev pub unless_same : Object → Object → Verdict
+unless_same o new = if same_data o.body new.body then Same o else Write (updates new)
 
 -- The `data` of a ControllerRevision never changes.
 abbrev pub changes_data : Draft → Object → Bool
@@ -88,7 +93,7 @@ on_update d None = Refuse NotFound
 on_update d (Some o) =
     if conflicts d.version d.uid o then Refuse Conflict
     else if changes_data d o then Refuse Invalid
-    else unless_same o d
+    else unless_same o (updated o d)
 
 -- what a status request makes of the current object: its status is the one that is handed in, a missing one takes it away
 abbrev pub with_status_of : Object → Draft → Object

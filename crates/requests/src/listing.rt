@@ -58,7 +58,8 @@ pub fn least_key(alloc: Global, kind: Kind, namespace: &Text) -> Result<Option<K
     match Key::of(alloc, kind, namespace.as_str(), "0") {
         Ok(key) => Ok(Some(key)),
         Err(ReadError::BadName) => Ok(None),
-        Err(_) => Err(Memory),
+        Err(ReadError::Memory) => Err(Memory),
+        Err(_) => unreachable!(),
     }
 }
 

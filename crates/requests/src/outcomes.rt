@@ -2,7 +2,7 @@
 ghost use Rattle.std.specs.Prelude.{◌≡◌, codes, option_map, IfOk};
 ghost use Rattle.objects.specs.Tree.{data_of};
 ghost use Rattle.objects.specs.Status.{member_of};
-ghost use Rattle.requests.specs.Verdict.{body_with_status, born, generation_after, marked, same_member, updated, with_status_of};
+ghost use Rattle.requests.specs.Verdict.{body_with_status, born, marked, meta_after, updated, with_status_of};
 
 use crate::preconditions::{generation_after, has_status, same_member};
 use objects::{Draft, Meta, Object, Text, Tree};
@@ -56,12 +56,7 @@ pub(crate) fn updated(draft: Draft, current: &Object) -> Result<Object, AllocErr
 /// What stays of the current object once an update has put this one in its place: what the store knows of it, and its
 /// status.
 fn kept_of(current: &Object, object: &Object) -> Result<(Meta, Option<Tree>), AllocError>
-    ensures meta { IfOk result (λ kept. kept.0 ≡ record {
-      uid = current.now.meta.uid;
-      revision = current.now.meta.revision;
-      generation = generation_after current.now.meta.generation (same_member (codes "spec") current.now.body object.now.body);
-      deletion = current.now.meta.deletion;
-    }) }
+    ensures meta { IfOk result (λ kept. kept.0 ≡ meta_after current.now object.now) }
     ensures status { IfOk result (λ kept. option_map data_of kept.1 ≡ member_of (codes "status") current.now.body) }
 {
     let meta = meta_after(current, object)?;
@@ -81,12 +76,7 @@ fn with_kept(object: Object, meta: Meta, status: Option<Tree>) -> Result<Object,
 
 /// What the store knows of an object once an update has put this one in the place of the current one.
 fn meta_after(current: &Object, object: &Object) -> Result<Meta, AllocError>
-    ensures { IfOk result (λ meta. meta ≡ record {
-      uid = current.now.meta.uid;
-      revision = current.now.meta.revision;
-      generation = generation_after current.now.meta.generation (same_member (codes "spec") current.now.body object.now.body);
-      deletion = current.now.meta.deletion;
-    }) }
+    ensures { IfOk result (λ meta. meta ≡ meta_after current.now object.now) }
 {
     let same_spec = same_member(current, object, "spec");
     Ok(Meta {

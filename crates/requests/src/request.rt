@@ -1,4 +1,5 @@
-ghost use Rattle.std.specs.Prelude.{◌≡◌, option_map};
+ghost use Rattle.std.specs.Prelude.{◌≡◌, IfOk, option_map};
+ghost use Rattle.requests.specs.declared.request.Request.TheVariants.{Delete};
 ghost use Rattle.requests.specs.Keys.{key_named};
 ghost use Rattle.requests.specs.Verdict.{is_write};
 
@@ -99,12 +100,45 @@ impl Clone for Request {
                 uid,
                 version,
                 at,
-            } => Ok(Request::Delete {
-                key: key.clone()?,
-                uid: uid.clone()?,
-                version: version.clone()?,
-                at: at.clone()?,
-            }),
+            } => copied_deletion(key, uid, version, at),
         }
     }
+}
+
+fn copied_deletion(
+    key: &Key,
+    uid: &Option<Text>,
+    version: &Option<Text>,
+    at: &Option<Text>,
+) -> Result<Request, AllocError>
+    ensures { IfOk result (λ copy. copy ≡ Delete key.now uid.now version.now at.now) }
+{
+    let key = key.clone()?;
+    match copied_texts(uid, version, at) {
+        Ok((uid, version, at)) => Ok(Request::Delete {
+            key,
+            uid,
+            version,
+            at,
+        }),
+        Err(error) => {
+            drop(key);
+            Err(error)
+        }
+    }
+}
+
+type Texts = (Option<Text>, Option<Text>, Option<Text>);
+
+fn copied_texts(
+    uid: &Option<Text>,
+    version: &Option<Text>,
+    at: &Option<Text>,
+) -> Result<Texts, AllocError>
+    ensures { IfOk result (λ copy. copy ≡ (uid.now, version.now, at.now)) }
+{
+    let uid = uid.clone()?;
+    let version = version.clone()?;
+    let at = at.clone()?;
+    Ok((uid, version, at))
 }

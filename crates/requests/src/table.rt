@@ -1,7 +1,7 @@
 // The table of verdicts, in the order of its cases.
 ghost use Rattle.std.specs.Prelude.{◌≡◌, true, IfOk, option_map};
 ghost use Rattle.std.specs.Option.{option_copied};
-ghost use Rattle.requests.specs.Verdict.{is_write, on_create, on_delete, on_status, on_update, verdict};
+ghost use Rattle.requests.specs.Verdict.{is_write, on_create, on_delete, on_status, on_update, unless_same, verdict};
 ghost use Rattle.requests.specs.Judgments.{verdict_of};
 
 use crate::change::Change;
@@ -91,7 +91,13 @@ fn on_update(draft: Draft, current: Option<&Object>) -> Result<Judgment, AllocEr
         drop(draft);
         return Ok(Judgment::Refuse(Reason::Invalid));
     }
-    let object = updated(draft, current)?;
+    unless_same(updated(draft, current)?, current)
+}
+
+/// An update that would leave the object as it is writes nothing.
+fn unless_same(object: Object, current: &Object) -> Result<Judgment, AllocError>
+    ensures { IfOk result (λ decided. verdict_of decided ≡ unless_same current.now object) }
+{
     if is_same_body(current, &object) {
         drop(object);
         return Ok(Judgment::Same(current.clone()?));

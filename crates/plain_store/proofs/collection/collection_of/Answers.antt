@@ -6,7 +6,7 @@ use Rattle.plain_store.proofs.collection.collection_of.Goals as goal
 
 pub returns-in_default : goal.returns-in_default
 returns-in_default c =
-    c.of.ensures ∙ none_there c.args.objects.now.entries c.args.kind c.args.namespace.now c.new-found.result.items c.requires (sym c.in_default.is ∙ c.in_ok-least.ensures) c.new-found.ensures.items
+    none_there c.args.objects.now.entries c.args.kind c.args.namespace.now c.new-found.result.items c.requires (sym c.in_default.is ∙ c.in_ok-least.ensures) c.new-found.ensures.items
 
 pub loop-key-init : goal.loop-key-init
 loop-key-init c =
