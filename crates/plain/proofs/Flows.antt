@@ -1,5 +1,5 @@
 -- What was taken from a reader and put into a writer, one part after another.
-use Rattle.std.proofs.Common.{◌≡◌, ℕ, ◌-◌, List, [], ◌∷◌, ◌++◌, length, take, drop, refl, sym, ◌∙◌, ap, subst, arith, append_assoc, append-nil, length-drop, take_all, take-append-drop, Option, Some, None}
+use Rattle.std.proofs.Common.{◌≡◌, ℕ, ◌-◌, List, [], ◌++◌, length, take, drop, refl, sym, ◌∙◌, ap, subst, arith, append_assoc, append-nil, length-drop, take_all, take-append-drop, Option, Some, None}
 use Rattle.std.specs.Option.{IfSome, IfNone}
 use Rattle.plain.specs.Streams.{Takes, Puts, PutsPart}
 

@@ -1,18 +1,16 @@
 -- Replies that were written come of the bytes that were read.
-use Rattle.std.proofs.Common.{◌≡◌, ℕ, ◌+◌, List, [], ◌++◌, length, sym, ◌∙◌, ap, subst, arith, append_assoc, append-nil, Option, Some, None, Result, Ok, Err}
-use Rattle.std.specs.Result.{OnErr, OnOk, IfOk}
-use Rattle.std.specs.Option.{IfSome}
+use Rattle.std.proofs.Common.{◌≡◌, ℕ, ◌+◌, List, [], ◌++◌, length, sym, ◌∙◌, ap, subst, append_assoc, append-nil, Option, Result, Ok, Err}
+use Rattle.std.specs.Result.{OnErr}
 use Rattle.plain_store.specs.Store.{Store}
 use Rattle.plain.specs.Lines.{lines}
 use Rattle.plain.specs.Served.{answers}
 use Rattle.plain.specs.Cuts.{Reaches}
-use Rattle.plain.specs.Streams.{Takes, Puts, PutsPart, ServesPart}
+use Rattle.plain.specs.Streams.{Takes, PutsPart, ServesPart}
 use Rattle.plain.specs.Serving.{Answered, Serving}
 use Rattle.plain.specs.declared.server.ServeFault.{ServeFault}
-use Rattle.plain.specs.declared.server.ServeFault.TheVariants.{Read, Write, Memory, BadCapacity}
-use Rattle.plain.specs.Faults.{CountsReads, CountsWrites, IsWriteOrMemory, IsInRange}
-use Rattle.plain.proofs.LineCuts.{Reaches-same}
-use Rattle.plain.proofs.Flows.{Puts-none, Puts-then, Takes-none, Takes-then, Takes-all, Takes-end, Takes-nothing, PutsPart-after, PutsPart-none}
+use Rattle.plain.specs.declared.server.ServeFault.TheVariants.{BadCapacity}
+use Rattle.plain.specs.Faults.{IsInRange}
+use Rattle.plain.proofs.Flows.{Puts-then, Takes-then, PutsPart-after, PutsPart-none}
 
 pub on_err : {A E : Type 0} (P : Type 0) (r : Result A E) → P → OnErr r P
 on_err P (Ok x) p = tt
