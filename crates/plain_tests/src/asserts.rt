@@ -28,7 +28,8 @@ pub(crate) fn assert_answers(
     assert_answers_within(rt, alloc, input, 1, room, ends, expected)
 }
 
-fn assert_answers_within(
+/// As `assert_answers`, of a store of so many revisions.
+pub(crate) fn assert_answers_within(
     rt: &impl Abort,
     alloc: Global,
     input: &[u8],

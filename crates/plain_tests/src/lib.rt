@@ -5,6 +5,8 @@
 #[cfg(test)]
 mod asserts;
 #[cfg(test)]
+mod growths;
+#[cfg(test)]
 mod lists;
 #[cfg(test)]
 mod pieces;
@@ -16,6 +18,8 @@ mod replies;
 mod request_lines;
 #[cfg(test)]
 mod status;
+#[cfg(test)]
+mod stored_texts;
 #[cfg(test)]
 mod streams;
 #[cfg(test)]

@@ -1,0 +1,258 @@
+//! Replies that copy the texts that the store keeps: as lines, as objects that are read back, and as the texts themselves.
+//! The texts were worked out by hand.
+ghost use Rattle.std.specs.Prelude.{◌≡◌, true, false};
+ghost use Rattle.plain.specs.Verdict.{is_write};
+
+use crate::asserts::assert_answers_within;
+use objects::{Memory, Object, print_object};
+use plain::{Plain, PrintedReply, Reply, Request, StoredReply, read_request};
+use std::alloc::{AllocError, Global};
+use std::process::Abort;
+use std::test::Fail;
+
+/// A line, and its reply: what stands before the texts of the objects, the texts, and what stands after them.
+pub(crate) type Row = (&'static str, &'static str, &'static str, &'static str);
+
+const GET: &str = r#"{"do":"get","kind":"Pod","name":"p"}"#;
+
+const LIST: &str = r#"{"do":"list","kind":"Pod"}"#;
+
+const STATUS: &str =
+    r#"{"do":"status","object":{"kind":"Pod","metadata":{"name":"p"},"status":{"phase":"Running"}}}"#;
+
+const CREATED: &str =
+    r#"{"kind":"Pod","metadata":{"generation":1,"labels":{"a":"1","b":"2"},"name":"p","namespace":"default","resourceVersion":"1","uid":"00000000-0000-4000-8000-000000000001"},"spec":{"a":"q\"\\\né/","b":[1,-2,null,true,{"a":{},"z":""}]}}"#;
+
+const RUNNING: &str =
+    r#"{"kind":"Pod","metadata":{"generation":1,"labels":{"a":"1","b":"2"},"name":"p","namespace":"default","resourceVersion":"2","uid":"00000000-0000-4000-8000-000000000001"},"spec":{"a":"q\"\\\né/","b":[1,-2,null,true,{"a":{},"z":""}]},"status":{"phase":"Running"}}"#;
+
+const UPDATED: &str =
+    r#"{"kind":"Pod","metadata":{"generation":2,"name":"p","namespace":"default","resourceVersion":"3","uid":"00000000-0000-4000-8000-000000000001"},"spec":{"a":0},"status":{"phase":"Running"}}"#;
+
+const MARKED: &str =
+    r#"{"kind":"Pod","metadata":{"deletionTimestamp":"2024-01-01T00:00:00Z","generation":2,"name":"p","namespace":"default","resourceVersion":"5","uid":"00000000-0000-4000-8000-000000000001"},"spec":{"a":0},"status":{"phase":"Running"}}"#;
+
+const OTHER: &str =
+    r#"{"kind":"Pod","metadata":{"generation":1,"name":"q","namespace":"default","resourceVersion":"4","uid":"00000000-0000-4000-8000-000000000004"}}"#;
+
+const CODE_200: &str = r#"{"code":200,"object":"#;
+
+const FOUND: &str = r#","result":"Found"}"#;
+
+const UNCHANGED: &str = r#","result":"Unchanged"}"#;
+
+/// Lines to a new store. The pod `p` is made, read, left as it is, given a status, changed, listed with another pod,
+/// marked and taken away.
+pub(crate) static ROWS: [Row; 16] = [
+    (
+        r#"{"do":"create","object":{"spec":{"b":[1,-2,null,true,{"z":"","a":{}}],"a":"q\"\\\n\u00e9/"},"kind":"Pod","metadata":{"labels":{"b":"2","a":"1"},"name":"p"}}}"#,
+        r#"{"code":201,"object":"#,
+        CREATED,
+        r#","result":"Created"}"#,
+    ),
+    (GET, CODE_200, CREATED, FOUND),
+    // The same object in another text.
+    (
+        r#"{"object":{"kind":"Pod","metadata":{"name":"p","labels":{"a":"1","b":"2"}},"spec":{"a":"\u0071\"\\\u000aé\/","b":[1,-2,null,true,{"a":{},"z":""}]}},"do":"update"}"#,
+        CODE_200,
+        CREATED,
+        UNCHANGED,
+    ),
+    (STATUS, CODE_200, RUNNING, r#","result":"Updated"}"#),
+    (GET, CODE_200, RUNNING, FOUND),
+    (STATUS, CODE_200, RUNNING, UNCHANGED),
+    (
+        r#"{"do":"update","object":{"kind":"Pod","metadata":{"name":"p"},"spec":{"a":0},"status":7}}"#,
+        CODE_200,
+        UPDATED,
+        r#","result":"Updated"}"#,
+    ),
+    (GET, CODE_200, UPDATED, FOUND),
+    (
+        r#"{"do":"create","object":{"kind":"Pod","metadata":{"name":"q"}}}"#,
+        r#"{"code":201,"object":"#,
+        OTHER,
+        r#","result":"Created"}"#,
+    ),
+    (
+        LIST,
+        r#"{"code":200,"items":["#,
+        r#"{"kind":"Pod","metadata":{"generation":2,"name":"p","namespace":"default","resourceVersion":"3","uid":"00000000-0000-4000-8000-000000000001"},"spec":{"a":0},"status":{"phase":"Running"}},{"kind":"Pod","metadata":{"generation":1,"name":"q","namespace":"default","resourceVersion":"4","uid":"00000000-0000-4000-8000-000000000004"}}"#,
+        r#"],"resourceVersion":"4","result":"Listed"}"#,
+    ),
+    (
+        r#"{"at":"2024-01-01T00:00:00Z","do":"delete","kind":"Pod","name":"p"}"#,
+        CODE_200,
+        MARKED,
+        r#","result":"Marked"}"#,
+    ),
+    (GET, CODE_200, MARKED, FOUND),
+    (
+        r#"{"do":"delete","kind":"Pod","name":"p","uid":"00000000-0000-4000-8000-000000000001"}"#,
+        CODE_200,
+        r#"{"kind":"Pod","metadata":{"deletionTimestamp":"2024-01-01T00:00:00Z","generation":2,"name":"p","namespace":"default","resourceVersion":"6","uid":"00000000-0000-4000-8000-000000000001"},"spec":{"a":0},"status":{"phase":"Running"}}"#,
+        r#","result":"Removed"}"#,
+    ),
+    // A list copies no object that was taken away.
+    (
+        LIST,
+        r#"{"code":200,"items":["#,
+        OTHER,
+        r#"],"resourceVersion":"6","result":"Listed"}"#,
+    ),
+    (GET, r#"{"code":404,"#, "", r#""reason":"NotFound"}"#),
+    (STATUS, r#"{"code":404,"#, "", r#""reason":"NotFound"}"#),
+];
+
+/// The lines, each with its line feed.
+pub(crate) fn input(alloc: Global) -> Result<String, AllocError> {
+    let mut text = String::new(alloc);
+    for (line, _, _, _) in ROWS.iter() {
+        text.push_str(line)?;
+        text.push_str("\n")?;
+    }
+    Ok(text)
+}
+
+/// The lines of the replies.
+pub(crate) fn output(alloc: Global) -> Result<String, AllocError> {
+    let mut text = String::new(alloc);
+    for (_, front, objects, back) in ROWS.iter() {
+        text.push_str(front)?;
+        text.push_str(objects)?;
+        text.push_str(back)?;
+        text.push_str("\n")?;
+    }
+    Ok(text)
+}
+
+#[test]
+fn lines_copy_the_texts_of_objects(rt: HostRuntime) -> Result<(), Fail> {
+    let input = input(rt.alloc())?;
+    let output = output(rt.alloc())?;
+    let (input, output) = (input.as_bytes(), output.as_bytes());
+    Ok(assert_answers_within(&rt, rt.alloc(), input, 100, 10_000, Ok(16), output)?)
+}
+
+/// The texts of some objects, with commas between them.
+fn joined_objects(alloc: Global, objects: &[Object]) -> Result<String, Memory> {
+    let mut texts = String::new(alloc);
+    for object in objects {
+        texts = with_text(texts, print_object(alloc, object)?.as_str())?;
+    }
+    Ok(texts)
+}
+
+fn with_text(mut texts: String, text: &str) -> Result<String, AllocError> {
+    if !texts.is_empty() {
+        texts.push_str(",")?;
+    }
+    texts.push_str(text)?;
+    Ok(texts)
+}
+
+/// The texts of the objects of a reply, printed anew.
+pub(crate) fn texts_in(alloc: Global, reply: &Reply) -> Result<String, Memory> {
+    match reply {
+        Reply::Created(object)
+        | Reply::Found(object)
+        | Reply::Updated(object)
+        | Reply::Unchanged(object)
+        | Reply::Marked(object)
+        | Reply::Removed(object) => print_object(alloc, object),
+        Reply::Listed {
+            objects,
+            revision: _,
+        } => joined_objects(alloc, objects.as_slice()),
+        Reply::Refused(_) => Ok(String::new(alloc)),
+    }
+}
+
+/// What a store answers to a line, as the texts of objects.
+fn answered(alloc: Global, plain: &mut Plain, line: &str) -> Result<String, Fail> {
+    let reply = plain.take(read_request(alloc, line.as_bytes())?)?;
+    let texts = texts_in(alloc, &reply);
+    drop(reply);
+    Ok(texts?)
+}
+
+#[test]
+fn objects_are_read_back_as_they_were_stored(rt: HostRuntime) -> Result<(), Fail> {
+    let mut plain = Plain::new(rt.alloc(), 100)?;
+    for (line, _, texts, _) in ROWS.iter() {
+        assert_eq!(rt;
+            answered(rt.alloc(), &mut plain, line)?.as_str(),
+            *texts,
+            "of {line}"
+        );
+    }
+    Ok(())
+}
+
+fn stored_texts(alloc: Global, stored: &StoredReply) -> Result<String, AllocError> {
+    let mut texts = String::new(alloc);
+    match stored {
+        StoredReply::Found(text) => with_text(texts, text.as_str()),
+        StoredReply::Listed {
+            objects,
+            revision: _,
+        } => {
+            for text in objects.as_slice() {
+                texts = with_text(texts, text.as_str())?;
+            }
+            Ok(texts)
+        }
+        StoredReply::Refused(_) => Ok(String::new(alloc)),
+    }
+}
+
+fn printed_text(alloc: Global, printed: &PrintedReply) -> Result<String, AllocError> {
+    let texts = String::new(alloc);
+    match printed.text() {
+        Some(text) => with_text(texts, text.as_str()),
+        None => Ok(texts),
+    }
+}
+
+/// The texts that the store answers a write with.
+fn written(alloc: Global, plain: &mut Plain, request: Request) -> Result<String, Memory>
+    requires { is_write request ≡ true }
+{
+    let printed = plain.write(request)?;
+    let texts = printed_text(alloc, &printed);
+    drop(printed);
+    Ok(texts?)
+}
+
+/// The texts that the store answers a get or a list with.
+fn read(alloc: Global, plain: &Plain, request: &Request) -> Result<String, Memory>
+    requires { is_write request.now ≡ false }
+{
+    let stored = plain.read(request)?;
+    let texts = stored_texts(alloc, &stored);
+    drop(stored);
+    Ok(texts?)
+}
+
+fn kept(alloc: Global, plain: &mut Plain, line: &str) -> Result<String, Fail> {
+    let request = read_request(alloc, line.as_bytes())?;
+    if request.is_write() {
+        return Ok(written(alloc, plain, request)?);
+    }
+    let texts = read(alloc, plain, &request);
+    drop(request);
+    Ok(texts?)
+}
+
+#[test]
+fn a_store_answers_with_the_texts_that_it_keeps(rt: HostRuntime) -> Result<(), Fail> {
+    let mut plain = Plain::new(rt.alloc(), 100)?;
+    for (line, _, texts, _) in ROWS.iter() {
+        assert_eq!(rt;
+            kept(rt.alloc(), &mut plain, line)?.as_str(),
+            *texts,
+            "of {line}"
+        );
+    }
+    Ok(())
+}
