@@ -9,13 +9,16 @@ use Rattle.serde_json.proofs.Views.{get_member-put, get_member-put_other}
 use Rattle.objects.specs.declared.kind.Kind.{Kind}
 use Rattle.objects.specs.declared.kind.Kind.TheVariants.{StatefulSet, Pod, PersistentVolumeClaim, ControllerRevision}
 use Rattle.objects.specs.declared.fault.ReadError.TheVariants.{NoKind, UnknownKind}
-use Rattle.objects.specs.declared.tree.Tree.{Tree}
-use Rattle.objects.specs.Tree.{data_of, members_of}
+use Rattle.trees.specs.declared.tree.Tree.{Tree}
+use Rattle.trees.specs.Tree.{data_of, members_of}
 use Rattle.objects.specs.Kind.{kind_name, kind_named, api_version}
 use Rattle.objects.specs.MetadataShape.{labels_fit, owners_fit, metadata_fits}
 use Rattle.objects.specs.Object.{is_held, without_held, has_held, is_missing_or, IsBody, SaysKind}
 use Rattle.objects.specs.Steps.{◌>>=◌, required, guarded}
 use Rattle.objects.specs.Reading.{kind_in}
+use Rattle.trees.specs.Members.{set_member}
+use Rattle.objects.specs.Status.{with_member}
+use Rattle.trees.proofs.SetMembers.{get_member-set_member}
 use Rattle.objects.proofs.HeldMembers.{unheld_found}
 
 held_at : (held : Bool) (e : List ℕ × Tree) (es : List (List ℕ × Tree)) (ms : Members) → members_of es ≡ ms → members_of (cond (not held) (e ∷ es) es) ≡ cond held ms (member e.0 (data_of e.1) ms)
@@ -118,3 +121,18 @@ is_object (boolean b) ms h = absurd cc
 is_object (number n) ms h = absurd cc
 is_object (string s) ms h = absurd cc
 is_object (array ds) ms h = absurd cc
+
+-- a status that is set or taken away leaves what a body has to say
+pub body_with_status : (kind : Kind) (value : Option Data) (body : Data) → IsBody kind body → IsBody kind (with_member (codes "status") value body)
+body_with_status kind value body h =
+    subst (λ b. IsBody kind (with_member (codes "status") value b)) (sym h.whole) (record {
+      members = set_member (codes "status") value h.members;
+      metadata = h.metadata;
+      whole = refl;
+      kind_said = get_member-set_member (codes "kind") (codes "status") value h.members (λ e. absurd cc) ∙ h.kind_said;
+      version_said = ap (is_missing_or (api_version kind)) (get_member-set_member (codes "apiVersion") (codes "status") value h.members (λ e. absurd cc)) ∙ h.version_said;
+      metadata_said = get_member-set_member (codes "metadata") (codes "status") value h.members (λ e. absurd cc) ∙ h.metadata_said;
+      none_held = h.none_held;
+      labels_said = h.labels_said;
+      owners_said = h.owners_said;
+    })

@@ -9,9 +9,10 @@ use Rattle.serde_json.specs.Data.{Data, null, boolean, number, string, array, ob
 use Rattle.serde_json.specs.Find.{get_member}
 use Rattle.serde_json.specs.Written.{has_float, members_have_float}
 use Rattle.serde_json.proofs.Views.{get_member-put}
-use Rattle.objects.specs.Status.{without_member, set_member, member_of, with_member}
-use Rattle.objects.proofs.Lookups.{found_later}
-use Rattle.objects.proofs.SetMembers.{get_member-set_member}
+use Rattle.trees.specs.Members.{without_member, set_member}
+use Rattle.objects.specs.Status.{member_of, with_member}
+use Rattle.trees.proofs.Lookups.{found_later}
+use Rattle.trees.proofs.SetMembers.{get_member-set_member}
 
 none_left_at : (b : Bool) (k l : List ℕ) (d : Data) (without : Members) → bytes_eq k l ≡ b → get_member k without ≡ None → get_member k (cond b without (member l d without)) ≡ None
 none_left_at true k l d without same later = later

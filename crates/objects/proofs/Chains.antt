@@ -1,26 +1,19 @@
 -- Steps of reading, one after another.
-use Rattle.std.proofs.Common.{◌≡◌, Result, Ok, Err, refl, sym, subst}
-use Rattle.std.specs.Result.{IsErrAnd}
+use Rattle.std.proofs.Common.{Result, ap}
+use Rattle.trees.specs.declared.fault.TreeError.{TreeError}
+use Rattle.trees.specs.declared.fault.TreeError.TheVariants as tree
+use Rattle.trees.specs.Steps.{Fails as TreeFails}
+use Rattle.trees.proofs.Chains.{refused_then}
 use Rattle.objects.specs.declared.fault.ReadError.{ReadError}
-use Rattle.objects.specs.declared.fault.ReadError.TheVariants as errors
-use Rattle.objects.specs.Steps.{◌>>=◌, Fails, Gives}
+use Rattle.objects.specs.Steps.{◌>>=◌, read_error, as_read, is_memory, Fails}
 
 -- a step that refuses ends the reading
 pub fails_then : {A B : Type 0} (e : ReadError) (r : Result A ReadError) (f : A → Result B ReadError) → Fails e r → Fails e (r >>= f)
-fails_then errors.Memory r f h = tt
-fails_then _ r f h = rw h refl
+fails_then e r f h = refused_then is_memory e r f h
 
--- after a step that gave a value
-pub fails_after : {A B : Type 0} (e : ReadError) (r : Result A ReadError) (x : A) (f : A → Result B ReadError) → r ≡ Ok x → Fails e (f x) → Fails e (r >>= f)
-fails_after e r x f is h = rw is h
-
-pub then_gives : {A B : Type 0} (r : Result A ReadError) (x : A) (f : A → Result B ReadError) (y : Result B ReadError) → r ≡ Ok x → f x ≡ y → (r >>= f) ≡ y
-then_gives r x f y is h = rw is h
-
--- what is handed on as it was refused
-pub gives_refusal : {A B : Type 0} (view : A → B) (result : Result A ReadError) (e : ReadError) (read : Result B ReadError) → IsErrAnd result (λ x. x ≡ e) → Fails e read → Gives view result read
-gives_refusal view (Ok x) e read is h = absurd is
-gives_refusal view (Err x) e read is h = subst (λ y. Fails y read) (sym is) h
-
-pub gives_same : {A B : Type 0} (view : A → B) (result : Result A ReadError) (read again : Result B ReadError) → again ≡ read → Gives view result read → Gives view result again
-gives_same view result read again same h = subst (Gives view result) (sym same) h
+-- what refuses as the reading of a tree refuses as a step of the reading of an object
+pub fails_as_read : {A : Type 0} (e : TreeError) (r : Result A TreeError) → TreeFails e r → Fails (read_error e) (as_read r)
+fails_as_read tree.NotJson r h = ap as_read h
+fails_as_read tree.NotWhole r h = ap as_read h
+fails_as_read tree.TooLong r h = ap as_read h
+fails_as_read tree.Memory r h = tt

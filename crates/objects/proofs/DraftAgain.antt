@@ -19,13 +19,13 @@ use Rattle.objects.specs.Key.{KeyParts, is_key}
 use Rattle.objects.specs.Meta.{MetaParts, IsMeta}
 use Rattle.objects.specs.MetadataShape.{labels_fit, owners_fit, metadata_fits}
 use Rattle.objects.specs.Object.{IsBody, is_missing_or, without_held}
-use Rattle.objects.specs.Tree.{AreAscending}
-use Rattle.objects.specs.Proper.{IsProper}
+use Rattle.trees.specs.Tree.{AreAscending}
+use Rattle.trees.specs.Proper.{IsProper}
 use Rattle.objects.specs.Reading.{kind_in, namespace_in, key_of, stated_in, draft_in, draft_of, draft_parts, Stated, stated, meta_of, optional_text, unless_empty, generation_of}
 use Rattle.objects.specs.Text.{unless_zero, whole_metadata, printed}
 use Rattle.objects.specs.Uid.{uid_text, uid_number, version_number}
 use Rattle.objects.specs.Again.{text_unless_zero, draft_again_of}
-use Rattle.objects.proofs.PutOrder.{apart, put_back}
+use Rattle.trees.proofs.PutOrder.{apart, put_back}
 use Rattle.objects.proofs.HeldMembers.{whole_without, whole_name, whole_namespace, whole_uid, whole_version, whole_generation, whole_deletion, whole_unheld}
 use Rattle.objects.proofs.UidRound.{version_number-decimal, uid_number-uid_text, length-decimal, length-uid}
 use Rattle.objects.proofs.PrintedObjects.{printed_members, printed_is, body_proper}

@@ -12,12 +12,12 @@ use Rattle.serde_json.proofs.Numbers.{number_of-decimal}
 use Rattle.objects.specs.declared.object.Object.{Object}
 use Rattle.objects.specs.Meta.{IsMeta}
 use Rattle.objects.specs.Object.{is_held, without_held, has_held}
-use Rattle.objects.specs.Tree.{AreAscending}
-use Rattle.objects.specs.Proper.{IsProper, AreProperMembers}
+use Rattle.trees.specs.Tree.{ComesBefore, AreAscending}
+use Rattle.trees.specs.Proper.{IsProper, AreProperMembers}
 use Rattle.objects.specs.Text.{put_some, unless_zero, whole_metadata}
 use Rattle.objects.specs.Uid.{uid_text}
-use Rattle.objects.proofs.EntryPlaces.{ascending_put}
-use Rattle.objects.proofs.PutOrder.{apart, equal_texts, proper_put}
+use Rattle.trees.proofs.EntryPlaces.{ascending_put}
+use Rattle.trees.proofs.PutOrder.{apart, before_next, equal_texts, proper_put}
 
 without_put_at : (o : Ordering) (k l : List ℕ) (d e : Data) (ms : Members) → slice_cmp nat_cmp k l ≡ o → is_held k ≡ true → without_held (put k d ms) ≡ without_held ms
     → without_held (match_ordering o (member k d (member l e ms)) (member l d ms) (member l e (put k d ms))) ≡ without_held (member l e ms)
@@ -71,6 +71,23 @@ kept_at false q l e ms is other later = ap (λ found. match_ordering (slice_cmp 
 pub unheld_found : (q : List ℕ) (ms : Members) → is_held q ≡ false → get_member q (without_held ms) ≡ get_member q ms
 unheld_found q no_members other = refl
 unheld_found q (member l e ms) other = kept_at (is_held l) q l e ms refl other (unheld_found q ms other)
+
+before_without_at : (held : Bool) (k l : List ℕ) (d : Data) (ms : Members) → slice_cmp nat_cmp k l ≡ Less → ComesBefore k (without_held ms) → ComesBefore k (cond held (without_held ms) (member l d (without_held ms)))
+before_without_at true k l d ms first later = later
+before_without_at false k l d ms first later = first
+
+before_without : (k : List ℕ) (ms : Members) → ComesBefore k ms → AreAscending ms → ComesBefore k (without_held ms)
+before_without k no_members h ascending = tt
+before_without k (member l d ms) h ascending = before_without_at (is_held l) k l d ms h (before_without k ms (before_next k l ms h ascending.0) ascending.1)
+
+ascending_without_at : (held : Bool) (l : List ℕ) (d : Data) (ms : Members) → ComesBefore l (without_held ms) → AreAscending (without_held ms) → AreAscending (cond held (without_held ms) (member l d (without_held ms)))
+ascending_without_at true l d ms before later = later
+ascending_without_at false l d ms before later = (before, later)
+
+-- members that are taken out leave the order
+pub ascending_without : (ms : Members) → AreAscending ms → AreAscending (without_held ms)
+ascending_without no_members h = tt
+ascending_without (member l d ms) h = ascending_without_at (is_held l) l d ms (before_without l ms h.0 h.1) (ascending_without ms h.1)
 
 -- ---- what is put only where it is there
 

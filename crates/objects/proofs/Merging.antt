@@ -11,15 +11,15 @@ use Rattle.json.specs.Token.{Token, key}
 use Rattle.json.specs.Tree.{json_tokens, members_tokens}
 use Rattle.serde_json.specs.Data.{Data, Members, no_members, member, put}
 use Rattle.serde_json.specs.Written.{outline, members_outline}
-use Rattle.objects.specs.declared.tree.Tree.{Tree}
-use Rattle.objects.specs.Tree.{data_of, members_of, ComesBefore}
+use Rattle.trees.specs.declared.tree.Tree.{Tree}
+use Rattle.trees.specs.Tree.{data_of, members_of, ComesBefore}
 use Rattle.objects.specs.Object.{is_held, has_held}
 use Rattle.objects.specs.Text.{put_some}
-use Rattle.objects.specs.Places.{IsAbove}
-use Rattle.objects.specs.Proper.{IsProper, AreProperMembers}
+use Rattle.trees.specs.Places.{IsAbove}
+use Rattle.trees.specs.Proper.{IsProper, AreProperMembers}
 use Rattle.objects.specs.Merged.{puts, IsBelowAll, entry_tokens, some_tokens, StopsAt, WritesFront, WritesStep}
-use Rattle.objects.proofs.Joining.{join_members}
-use Rattle.objects.proofs.EntryPlaces.{before_put}
+use Rattle.trees.proofs.Joining.{join_members}
+use Rattle.trees.proofs.EntryPlaces.{before_put}
 
 -- each entry of the front has a key below k
 abbrev pub IsFront : List ℕ → List (List ℕ × Tree) → Type 0

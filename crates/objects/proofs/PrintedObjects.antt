@@ -6,11 +6,11 @@ use Rattle.serde_json.specs.Find.{as_object}
 use Rattle.objects.specs.declared.object.Object.{Object}
 use Rattle.objects.specs.Meta.{IsMeta}
 use Rattle.objects.specs.Object.{IsBody, object_at}
-use Rattle.objects.specs.Tree.{AreAscending}
-use Rattle.objects.specs.Proper.{IsProper, AreProperMembers}
+use Rattle.trees.specs.Tree.{AreAscending}
+use Rattle.trees.specs.Proper.{IsProper, AreProperMembers}
 use Rattle.objects.specs.Text.{whole_metadata, printed}
-use Rattle.objects.proofs.EntryPlaces.{ascending_put}
-use Rattle.objects.proofs.PutOrder.{proper_put, proper_found}
+use Rattle.trees.proofs.EntryPlaces.{ascending_put}
+use Rattle.trees.proofs.PutOrder.{proper_put, proper_found}
 use Rattle.objects.proofs.HeldMembers.{whole_ascending, whole_proper}
 
 -- the members with the whole metadata in them

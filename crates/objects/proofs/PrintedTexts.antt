@@ -6,14 +6,14 @@ use Rattle.serde_json.specs.Data.{depth}
 use Rattle.serde_json.specs.Written.{outline, compact_text}
 use Rattle.objects.specs.declared.object.Object.{Object}
 use Rattle.objects.specs.Object.{KeepsRules}
-use Rattle.objects.specs.Proper.{IsProper}
+use Rattle.trees.specs.Proper.{IsProper}
 use Rattle.objects.specs.PrintedText.{IsTextOf, IsPrinted, object_of_text}
 use Rattle.objects.specs.Text.{text, printed}
-use Rattle.objects.proofs.ProperText.{read_back_within}
-use Rattle.objects.proofs.WholeTokens.{no_float}
+use Rattle.trees.proofs.ProperText.{read_back_within}
+use Rattle.trees.proofs.WholeTokens.{no_float}
 use Rattle.objects.proofs.PrintedObjects.{printed_proper}
 use Rattle.objects.proofs.DraftAgain.{draft_again}
-use Rattle.objects.proofs.TextDepth.{text_depth}
+use Rattle.trees.proofs.TextDepth.{text_depth}
 
 pub text_of : (o : Object) → KeepsRules o → IsProper o.body → (t : List ℕ) → t ≡ text o → tokens t ≡ json_tokens (outline (printed o)) → IsTextOf o t
 text_of o kept proper t is same =

@@ -14,16 +14,16 @@ use Rattle.serde_json.specs.Find.{get_member}
 use Rattle.serde_json.specs.Written.{outline, members_outline}
 use Rattle.objects.specs.declared.kind.Kind.{Kind}
 use Rattle.objects.specs.declared.object.Object.{Object}
-use Rattle.objects.specs.declared.tree.Tree.{Tree}
-use Rattle.objects.specs.declared.tree.Tree.TheVariants as tree
-use Rattle.objects.specs.Tree.{data_of, members_of, AreAscending}
+use Rattle.trees.specs.declared.tree.Tree.{Tree}
+use Rattle.trees.specs.declared.tree.Tree.TheVariants as tree
+use Rattle.trees.specs.Tree.{data_of, members_of, AreAscending}
 use Rattle.objects.specs.Object.{IsBody}
-use Rattle.objects.specs.Places.{IsAbove}
+use Rattle.trees.specs.Places.{IsAbove}
 use Rattle.objects.specs.Text.{printed, whole_metadata, unless_zero}
 use Rattle.objects.specs.Uid.{uid_text}
 use Rattle.objects.specs.Merged.{puts, entry_tokens, StopsAt, WritesFront, WritesStep}
-use Rattle.objects.proofs.Joining.{join_members}
-use Rattle.objects.proofs.EntryPlaces.{none_before}
+use Rattle.trees.proofs.Joining.{join_members}
+use Rattle.trees.proofs.PutOrder.{none_before}
 use Rattle.objects.proofs.Merging.{put_past, tokens_join, front_of, members_of-split}
 
 pub on_ok : {T E : Type 0} {P Q : Type 0} (r : Result T E) → (P → Q) → OnOk r P → OnOk r Q

@@ -1,26 +1,28 @@
-pub mod Codes
+-- What public clauses cite.
+pub use Rattle.trees.specs.Whole
+pub use Rattle.trees.specs.Tree
+pub use Rattle.trees.specs.declared.tree.Tree as DeclaredTree
+pub use Rattle.trees.specs.Members
+pub use Rattle.trees.specs.Places
+pub use Rattle.trees.specs.Same
+pub use Rattle.trees.specs.IfWhole
+pub use Rattle.trees.specs.Proper
 pub mod Names
 pub mod Kind
 pub mod Key
-pub mod ShardOf
+pub mod KeyOrder
 pub mod Meta
-pub mod Whole
-pub mod Tree
-pub mod Same
-pub mod TreeFalls
-pub mod Uid
-pub mod PodNames
 pub mod MetadataShape
 pub mod Object
 pub mod Metadata
 pub mod Status
 pub mod Steps
 pub mod Reading
-pub mod IfWhole
 pub mod Text
-pub mod KeyOrder
-pub mod Places
-pub mod Proper
-pub mod Merged
 pub mod Again
+pub mod PodNames
+pub mod ShardOf
+pub mod Uid
+-- What only types and proofs use.
 pub mod PrintedText
+pub mod Merged

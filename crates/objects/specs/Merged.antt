@@ -7,13 +7,13 @@ use Rattle.json.specs.Token.{Token, key}
 use Rattle.json.specs.Tree.{json_tokens, members_tokens}
 use Rattle.serde_json.specs.Data.{Data, string, number, unsigned, Members}
 use Rattle.serde_json.specs.Written.{outline, members_outline}
-use Rattle.objects.specs.declared.tree.Tree.{Tree}
+use Rattle.trees.specs.declared.tree.Tree.{Tree}
 use Rattle.objects.specs.declared.print.Held.{Held}
 use Rattle.objects.specs.declared.print.Held.TheVariants.{Text, Whole}
-use Rattle.objects.specs.Tree.{data_of, members_of}
+use Rattle.trees.specs.Tree.{data_of, members_of}
 use Rattle.objects.specs.Text.{put_some}
-use Rattle.objects.specs.Places.{IsAbove}
-use Rattle.objects.specs.Proper.{AreProperMembers}
+use Rattle.trees.specs.Places.{IsAbove}
+use Rattle.trees.specs.Proper.{AreProperMembers}
 
 abbrev pub held_data : Held → Data
 held_data (Text s) = string s.now

@@ -5,7 +5,7 @@ use Rattle.std.specs.Coded.{Coded, code_by, coded×}
 use Rattle.serde_json.specs.Data.{Data, string, object, Members, no_members, member}
 use Rattle.serde_json.specs.Find.{get_member, as_object, as_str}
 use Rattle.objects.specs.declared.kind.Kind.{Kind}
-use Rattle.objects.specs.Codes.{data_coded}
+use Rattle.trees.specs.Codes.{data_coded}
 use Rattle.objects.specs.Kind.{kind_name, api_version}
 use Rattle.objects.specs.Key.{KeyParts, key_coded, is_key}
 use Rattle.objects.specs.Meta.{MetaParts, meta_coded, IsMeta}

@@ -6,7 +6,8 @@ use Rattle.objects.specs.declared.kind.Kind.TheVariants.{StatefulSet}
 use Rattle.objects.specs.declared.fault.ReadError.{ReadError}
 use Rattle.objects.specs.declared.object.Object.{Object}
 use Rattle.objects.specs.declared.object.Draft.{Draft}
-use Rattle.objects.specs.Reading.{read_within, draft_of}
+use Rattle.trees.specs.Reading.{read_within}
+use Rattle.objects.specs.Reading.{draft_of}
 use Rattle.objects.specs.Text.{text, printed}
 use Rattle.objects.specs.Again.{draft_again_of}
 

@@ -1,18 +1,15 @@
 -- The reading of an object (RFC 8259 for the text; Kubernetes API conventions for `kind`, `apiVersion` and `metadata`).
 -- The tests are made in this order: TooLong, NotJson, NotWhole, NoKind, UnknownKind, BadName, BadMeta.
-use Rattle.std.specs.Prelude.{ℕ, ◌^◌, not, nat_lt, List, [], length, codes, Option, Some, None, option_map, option_and_then, unwrap_or, Result, Ok, Err, if◌then◌else◌}
-use Rattle.std.specs.Str.{is_utf8}
+use Rattle.std.specs.Prelude.{ℕ, ◌^◌, nat_lt, List, [], length, codes, Option, Some, None, option_map, option_and_then, unwrap_or, Result, Ok, Err, if◌then◌else◌}
 use Rattle.serde_json.specs.Data.{Data, null, boolean, number, string, array, object, Members, put}
-use Rattle.json.specs.Json as json
-use Rattle.json.specs.Lex.{tokens}
-use Rattle.serde_json.specs.Read.{of_json, read}
-use Rattle.serde_json.specs.Written.{has_float}
 use Rattle.serde_json.specs.Find.{get_member, as_object, as_str, as_u64}
 use Rattle.objects.specs.declared.kind.Kind.{Kind}
 use Rattle.objects.specs.declared.fault.ReadError.{ReadError}
-use Rattle.objects.specs.declared.fault.ReadError.TheVariants.{NotJson, NotWhole, NoKind, UnknownKind, BadName, BadMeta, TooLong}
+use Rattle.objects.specs.declared.fault.ReadError.TheVariants.{NoKind, UnknownKind, BadName, BadMeta}
 use Rattle.objects.specs.declared.object.Draft.{Draft}
-use Rattle.objects.specs.Steps.{◌>>=◌, required, guarded}
+use Rattle.trees.specs.Reading.{tree_reading}
+pub use Rattle.trees.specs.Reading.{most_bytes, read_within}
+use Rattle.objects.specs.Steps.{◌>>=◌, required, guarded, as_read}
 use Rattle.objects.specs.Kind.{kind_named, api_version}
 use Rattle.objects.specs.Names.{is_dns_label}
 use Rattle.objects.specs.Key.{KeyParts, is_key}
@@ -21,25 +18,9 @@ use Rattle.objects.specs.MetadataShape.{metadata_fits}
 use Rattle.objects.specs.Object.{without_held, is_missing_or}
 use Rattle.objects.specs.Uid.{uid_number, version_number}
 
--- the bytes of one object or line, at most
-abbrev pub most_bytes : ℕ
-most_bytes = 1048576
-
--- the JSON value that a text is, if it nests at most so deep
-abbrev pub read_within : ℕ → List ℕ → Option Data
-read_within most text = option_and_then of_json (option_and_then (λ p. json.if_last p.0 p.1) (json.value most (tokens text)))
-
--- the JSON value that the bytes are, if they are UTF-8 and nest at most 127 deep
-abbrev pub json_value : List ℕ → Option Data
-json_value bytes = if is_utf8 bytes then read bytes else None
-
--- a number that fits neither 64 bits unsigned nor signed is a float in `serde_json`'s reading
-abbrev pub whole_value : Data → Result Data ReadError
-whole_value d = guarded NotWhole (not (has_float d)) d
-
 -- the value of a text that is short enough, and whose numbers are whole
-unfoldable pub reading_of_data : List ℕ → Result Data ReadError
-reading_of_data bytes = if nat_lt most_bytes (length bytes) then Err TooLong else required NotJson (json_value bytes) >>= whole_value
+abbrev pub reading_of_data : List ℕ → Result Data ReadError
+reading_of_data bytes = as_read (tree_reading bytes)
 
 -- the kind that the member `kind` names
 unfoldable pub kind_in : Members → Result Kind ReadError

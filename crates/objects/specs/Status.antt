@@ -1,18 +1,9 @@
 -- Members of an object's body by their keys, and members that are set or taken away: `status` is written by a request
 -- of its own, and kept by all others (Kubernetes API conventions, "Spec and Status").
-use Rattle.std.specs.Prelude.{ℕ, List, bytes_eq, Option, Some, None, option_and_then, if◌then◌else◌}
-use Rattle.serde_json.specs.Data.{Data, object, Members, no_members, member, put}
+use Rattle.std.specs.Prelude.{ℕ, List, Option, option_and_then}
+use Rattle.serde_json.specs.Data.{Data, object}
 use Rattle.serde_json.specs.Find.{get_member, as_object}
-
--- the members without that key
-abbrev pub without_member : List ℕ → Members → Members
-without_member k no_members = no_members
-without_member k (member l d ms) = if bytes_eq k l then without_member k ms else member l d (without_member k ms)
-
--- the members with that value at the key, or without the key where there is none
-abbrev pub set_member : List ℕ → Option Data → Members → Members
-set_member k None ms = without_member k ms
-set_member k (Some d) ms = put k d ms
+use Rattle.trees.specs.Members.{set_member}
 
 -- the member of that key of an object's body
 abbrev pub member_of : List ℕ → Data → Option Data

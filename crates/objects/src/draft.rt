@@ -2,7 +2,7 @@
 ghost use Rattle.std.specs.Prelude.{◌≡◌, ◌<◌, ◌^◌, option_map, option_and_then, codes, Some, Ok, IfOk, true};
 ghost use Rattle.serde_json.specs.Data.{Members as DataMembers, object, string, put};
 ghost use Rattle.serde_json.specs.Find.{get_member, as_object};
-ghost use Rattle.objects.specs.Tree.{data_of, members_of};
+ghost use Rattle.trees.specs.Tree.{data_of, members_of};
 ghost use Rattle.objects.specs.Steps.{Gives, guarded};
 ghost use Rattle.objects.specs.Kind.{api_version};
 ghost use Rattle.objects.specs.MetadataShape.{metadata_fits};
@@ -10,17 +10,16 @@ ghost use Rattle.objects.specs.Object.{is_missing_or, without_held, SaysKind};
 ghost use Rattle.objects.specs.Reading.{kind_in, namespace_in, key_of, key_in, optional_text, unless_empty, generation_of, stated, stated_in, draft_parts, draft_in};
 ghost use Rattle.objects.specs.declared.fault.ReadError.TheVariants.{UnknownKind};
 
+use crate::body::body_of;
 use crate::fault::ReadError;
 use crate::key::Key;
 use crate::kind::Kind;
 use crate::meta::Meta;
 use crate::object::{Draft, Object};
-use crate::places::{drop_held, place_of};
 use crate::shape::metadata_fits;
-use crate::text::Text;
-use crate::tree::{Members, Tree};
 use crate::uid::{uid_number, version_number};
-use std::alloc::{AllocError, Global};
+use std::alloc::Global;
+use trees::{Members, Text, Tree};
 
 /// The kind that the member `kind` names.
 #[tactic(auto, unfolding(crate::specs::Reading::kind_in))]
@@ -217,34 +216,4 @@ fn finished(
         uid,
         version,
     })
-}
-
-// The members without the held ones of their metadata.
-fn body_of(alloc: Global, members: Members) -> Result<Tree, ReadError>
-    ensures { (metadata : DataMembers) → get_member (codes "metadata") members ≡ Some (object metadata)
-        → Gives data_of result (Ok (object (put (codes "metadata") (object (without_held metadata)) members))) }
-{
-    let mut entries = members.into_entries()?;
-    let Ok(at) = place_of(&entries, "metadata") else {
-        return Err(ReadError::BadName);
-    };
-    let (name, value) = entries.remove(at);
-    let metadata = stripped(alloc, value)?;
-    entries.insert(at, (name, metadata))?;
-    Ok(Tree::Map(Members::of(alloc, entries)?))
-}
-
-// A map without its held members.
-fn stripped(alloc: Global, value: Tree) -> Result<Tree, AllocError>
-    ensures { (metadata : DataMembers) → data_of value ≡ object metadata
-        → IfOk result (λ t. data_of t ≡ object (without_held metadata)) }
-{
-    match value {
-        Tree::Map(metadata) => {
-            let mut entries = metadata.into_entries()?;
-            drop_held(&mut entries);
-            Ok(Tree::Map(Members::of(alloc, entries)?))
-        }
-        other => Ok(other),
-    }
 }

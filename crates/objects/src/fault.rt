@@ -1,10 +1,10 @@
 ghost use Rattle.std.specs.Prelude.{◌≡◌};
-ghost use Rattle.objects.specs.declared.fault.ReadError.TheVariants.{Memory as OutOfMemory, NotJson as NoText};
+ghost use Rattle.objects.specs.Steps.{read_error};
+ghost use Rattle.objects.specs.declared.fault.ReadError.TheVariants.{Memory as OutOfMemory};
 
-use crate::memory::Memory;
-use json::Invalid;
 use std::alloc::{AllocError, AllocFailed};
 use thiserror::Error;
+use trees::{Memory, TreeError};
 
 /// Why bytes were refused: the first of these that fits, in the order TooLong, NotJson, NotWhole, NoKind,
 /// UnknownKind, BadName, BadMeta. `Memory` alone says nothing of the bytes.
@@ -37,11 +37,16 @@ pub enum ReadError {
     Memory,
 }
 
-impl From<Invalid> for ReadError {
-    ghost from_gives = { λ _ e. e ≡ NoText };
+impl From<TreeError> for ReadError {
+    ghost from_gives = { λ error e. e ≡ read_error error };
 
-    fn from(_error: Invalid) -> ReadError {
-        ReadError::NotJson
+    fn from(error: TreeError) -> ReadError {
+        match error {
+            TreeError::NotJson => ReadError::NotJson,
+            TreeError::NotWhole => ReadError::NotWhole,
+            TreeError::TooLong => ReadError::TooLong,
+            TreeError::Memory => ReadError::Memory,
+        }
     }
 }
 

@@ -3,17 +3,17 @@ ghost use Rattle.std.specs.Prelude.{◌≡◌, IfOk};
 use crate::fault::ReadError;
 use crate::kind::Kind;
 use crate::names::{is_dns_label, is_name};
-use crate::text::Text;
 use std::alloc::{AllocError, Global};
 use std::cmp::Ordering;
 use std::hash::{Hash, Hasher};
 use std::marker::Model;
+use trees::Text;
 
 /// What names an object: no two objects of a store have one key.
 ///
 /// The namespace is a DNS label (1 to 63 bytes of `a-z`, `0-9` and `-`, the first and the last a letter or a digit).
 /// So is a StatefulSet's name; other names have 1 to 253 bytes of the same and `.`.
-#[derive(Debug, Drop)]
+#[derive(Drop)]
 pub struct Key {
     pub kind: Kind,
     pub namespace: Text,

@@ -2,38 +2,27 @@
 //! body as a tree; read from JSON and printed as JSON. The names of a StatefulSet's pods and claims are here too.
 #![tactic(auto)]
 
+mod body;
 mod draft;
 mod fault;
-mod found;
 mod key;
 mod kind;
-mod memory;
 mod meta;
 mod metadata;
 mod names;
-mod number;
 mod object;
-mod parse;
-mod places;
 mod pod_names;
 mod print;
 mod printed;
 mod read;
-mod reader;
-mod same;
 mod shape;
 mod shard;
 mod status;
-mod text;
-mod tree;
 mod uid;
-mod whole;
-mod write;
 
 pub use fault::ReadError;
 pub use key::Key;
 pub use kind::Kind;
-pub use memory::Memory;
 pub use meta::Meta;
 pub use object::{Draft, Object};
 pub use pod_names::{
@@ -41,13 +30,11 @@ pub use pod_names::{
 };
 pub use print::{print_object, write_object};
 pub use printed::{Printed, Printer};
-pub use read::{read_collection, read_draft, read_key, read_object, read_tree};
-pub use reader::TreeReader;
-pub use same::same_is_reflexive;
+pub use read::{read_collection, read_draft, read_key, read_object};
 pub use shard::shard_of;
 pub use status::only_the_set_member_changes;
-pub use text::Text;
-pub use tree::{Items, Members, Tree};
+pub use trees::{
+    Items, Members, Memory, Text, Tree, TreeError, TreeReader, Whole, place_of, read_tree,
+    same_is_reflexive, write_entries, write_tree,
+};
 pub use uid::{is_uid_text, is_version_text, uid_number, uid_text, uid_texts_read_back};
-pub use whole::Whole;
-pub use write::write_tree;

@@ -1,11 +1,11 @@
 ghost use Rattle.std.specs.Prelude.{◌≡◌};
 
-use crate::text::Text;
 use std::alloc::AllocError;
 use std::marker::Model;
+use trees::Text;
 
 /// What the store knows of an object (Kubernetes `ObjectMeta`). 0 stands for none.
-#[derive(Debug, Drop)]
+#[derive(Drop)]
 pub struct Meta {
     /// The number of `uid`, below 2^48: the revision that created the object.
     pub uid: u64,

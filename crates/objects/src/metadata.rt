@@ -1,9 +1,9 @@
 ghost use Rattle.std.specs.Prelude.{◌≡◌, option_map};
-ghost use Rattle.objects.specs.Tree.{data_of, items_of};
+ghost use Rattle.trees.specs.Tree.{data_of, items_of};
 ghost use Rattle.objects.specs.Metadata.{metadata_of, label_of, owner_references, owners_of};
 
 use crate::object::Object;
-use crate::tree::{Items, Members, Tree};
+use trees::{Items, Members, Tree};
 
 impl Object {
     /// The value of a label: the text of that name in `metadata.labels` (Kubernetes API reference, ObjectMeta). There

@@ -2,16 +2,15 @@ ghost use Rattle.std.specs.Prelude.{◌≡◌};
 
 use crate::key::Key;
 use crate::meta::Meta;
-use crate::text::Text;
-use crate::tree::Tree;
 use std::alloc::AllocError;
 use std::marker::Model;
+use trees::{Text, Tree};
 
 /// An object. The body holds all members as they were read, `kind` among them, but the six of `metadata` that the
 /// key and the meta hold: `name`, `namespace`, `uid`, `resourceVersion`, `generation` and `deletionTimestamp`.
 /// In `metadata`, `labels` is a map of texts and `ownerReferences` is a list of maps that each have a text `uid`;
 /// either may be missing or `null`.
-#[derive(Debug, Drop)]
+#[derive(Drop)]
 pub struct Object {
     pub key: Key,
     pub meta: Meta,
@@ -19,7 +18,7 @@ pub struct Object {
 }
 
 impl Model for Object {
-    ghost use Rattle.objects.specs.Tree.{data_of};
+    ghost use Rattle.trees.specs.Tree.{data_of};
     ghost use Rattle.objects.specs.Object.{ObjectParts, object_coded, IsBody};
 
     ghost Value = { ObjectParts };
@@ -44,7 +43,7 @@ impl Clone for Object {
 }
 
 /// An object as it was read, with the texts of its UID and its resource version as they stood. An empty text is none.
-#[derive(Debug, Drop)]
+#[derive(Drop)]
 pub struct Draft {
     pub object: Object,
     pub uid: Option<Text>,

@@ -1,8 +1,8 @@
 ghost use Rattle.std.specs.Prelude.{◌≡◌, ℕ, ◌^◌, ◌<◌, List, IfOk, IfSome, IfNone, string_bytes};
 ghost use Rattle.objects.specs.PodNames.{pod_name, claim_name, IsPodName};
 
-use crate::memory::Memory;
 use std::alloc::Global;
+use trees::Memory;
 
 // The largest ordinal, since the API's integers have 32 bits with a sign.
 const MOST_ORDINAL: u32 = 2_147_483_647;

@@ -5,11 +5,11 @@ ghost use Rattle.json.specs.Tree.{json_tokens, members_tokens};
 ghost use Rattle.serde_json.specs.Data.{Members as DataMembers, object as map, string, number as number_data, unsigned, depth, put};
 ghost use Rattle.serde_json.specs.Find.{get_member};
 ghost use Rattle.serde_json.specs.Written.{outline, members_outline};
-ghost use Rattle.objects.specs.Tree.{data_of, members_of, AreAscending};
+ghost use Rattle.trees.specs.Tree.{data_of, members_of, AreAscending};
 ghost use Rattle.objects.specs.Object.{is_held, has_held, KeepsRules};
 ghost use Rattle.objects.specs.Key.{is_key};
 ghost use Rattle.objects.specs.Meta.{IsMeta};
-ghost use Rattle.objects.specs.Proper.{IsProper, AreProperMembers};
+ghost use Rattle.trees.specs.Proper.{IsProper, AreProperMembers};
 ghost use Rattle.objects.specs.PrintedText.{IsTextOf};
 ghost use Rattle.objects.specs.Text.{text, printed, whole_metadata, unless_zero};
 ghost use Rattle.objects.specs.Uid.{uid_text, uid_prefix, twelve_digits};
@@ -18,16 +18,13 @@ ghost use Rattle.objects.specs.Again.{draft_again_of};
 ghost use Rattle.serde_json.specs.Read.{max_depth};
 ghost use Rattle.objects.specs.Merged.{held_data, some_tokens, WritesFront, WritesStep};
 
-use crate::memory::Memory;
 use crate::object::Object;
-use crate::text::Text;
-use crate::tree::Tree;
 use crate::uid::uid_bytes;
-use crate::write::{write_entries, write_tree};
 use json::Writer;
 use std::alloc::{AllocError, Global};
 use std::cmp::Ordering;
 use std::str;
+use trees::{Memory, Text, Tree, write_entries, write_tree};
 
 // The value of a member that the key or the meta holds.
 #[derive(Clone, Copy, Drop)]

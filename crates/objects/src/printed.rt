@@ -3,19 +3,19 @@ ghost use Rattle.std.specs.Str.{IsUtf8};
 ghost use Rattle.objects.specs.PrintedText.{IsTextOf};
 ghost use Rattle.objects.specs.Text.{text};
 
-use crate::memory::Memory;
+use crate::fault::ReadError;
 use crate::object::Object;
 use crate::print::print_into;
 use crate::read::read_draft;
-use crate::reader::TreeReader;
 use simdutf8::basic::from_utf8;
 use std::alloc::{AllocError, Global};
 use std::marker::Model;
 use std::mem;
 use std::sync::Arc;
+use trees::{Memory, TreeReader};
 
 /// An object as its text, which a clause sees as the object. A copy shares the text.
-#[derive(Debug, Drop)]
+#[derive(Drop)]
 pub struct Printed {
     text: Arc<String>,
 }
@@ -53,14 +53,11 @@ impl Printed {
     pub fn object(&self, reader: &mut TreeReader) -> Result<Object, Memory>
         ensures { IfOk result (λ object. object ≡ self.now) }
     {
-        let alloc = reader.allocator();
-        match reader.read_any(self.text.as_str()) {
-            Ok(Some(tree)) => match read_draft(alloc, tree) {
-                Ok(draft) => Ok(draft.object),
-                Err(_) => Err(Memory),
-            },
-            Ok(None) => Err(Memory),
-            Err(_) => Err(Memory),
+        let tree = reader.read_back(self.text.as_str())?;
+        match read_draft(*self.text.allocator(), tree) {
+            Ok(draft) => Ok(draft.object),
+            Err(ReadError::Memory) => Err(Memory),
+            Err(_) => unreachable!(),
         }
     }
 }
@@ -97,15 +94,15 @@ impl Printer {
         ensures { IfOk result (λ printed. printed ≡ object.now) }
     {
         let mut bytes = print_into(object, mem::replace(&mut self.buffer, Vec::new(self.alloc)))?;
-        let printed = kept(self.alloc, object, &bytes);
+        let printed = printed_as(self.alloc, object, &bytes);
         bytes.clear();
         self.buffer = bytes;
         printed
     }
 }
 
-// The bytes of an object's text, kept.
-fn kept(alloc: Global, object: &Object, bytes: &[u8]) -> Result<Printed, Memory>
+// The object, whose text these bytes are, in no more memory than they need.
+fn printed_as(alloc: Global, object: &Object, bytes: &[u8]) -> Result<Printed, Memory>
     requires text { IsTextOf object.now bytes.now }
     requires utf8 { IsUtf8 bytes.now }
     ensures { IfOk result (λ printed. printed ≡ object.now) }

@@ -1,7 +1,7 @@
 ghost use Rattle.std.specs.Prelude.{◌≡◌};
 ghost use Rattle.objects.specs.Steps.{Gives};
-ghost use Rattle.objects.specs.Tree.{data_of};
-ghost use Rattle.objects.specs.Reading.{reading, reading_of_data, draft_of, key_in, collection_in};
+ghost use Rattle.trees.specs.Tree.{data_of};
+ghost use Rattle.objects.specs.Reading.{reading, draft_of, key_in, collection_in};
 
 use crate::draft::{draft_in, key_of, kind_of, namespace_of};
 use crate::fault::ReadError;
@@ -9,10 +9,8 @@ use crate::key::Key;
 use crate::kind::Kind;
 use crate::names::is_dns_label;
 use crate::object::Draft;
-use crate::reader::TreeReader;
-use crate::text::Text;
-use crate::tree::{Members, Tree};
 use std::alloc::Global;
+use trees::{Members, Text, Tree, read_tree};
 
 /// The object that the bytes are, or the first refusal.
 #[tactic(auto, using(crate::proofs::Chains::fails_then), unfolding(crate::specs::Reading::reading))]
@@ -21,13 +19,6 @@ pub fn read_object(alloc: Global, bytes: &[u8]) -> Result<Draft, ReadError>
 {
     let tree = read_tree(alloc, bytes)?;
     read_draft(alloc, tree)
-}
-
-/// The value that the bytes are. It refuses with TooLong, NotJson or NotWhole alone.
-pub fn read_tree(alloc: Global, bytes: &[u8]) -> Result<Tree, ReadError>
-    ensures { Gives data_of result (reading_of_data bytes.now) }
-{
-    TreeReader::new(alloc).read(bytes)
 }
 
 /// The object that a value is. It refuses with NoKind, UnknownKind, BadName or BadMeta alone.

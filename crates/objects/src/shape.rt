@@ -1,10 +1,9 @@
 // The shape of `labels` and `ownerReferences` (Kubernetes API reference, ObjectMeta).
 ghost use Rattle.std.specs.Prelude.{◌≡◌, option_map};
-ghost use Rattle.objects.specs.Tree.{data_of, items_of, members_of};
+ghost use Rattle.trees.specs.Tree.{data_of, items_of, members_of};
 ghost use Rattle.objects.specs.MetadataShape.{are_texts, is_owner, are_owners, labels_fit, owners_fit, metadata_fits};
 
-use crate::text::Text;
-use crate::tree::{Members, Tree};
+use trees::{Members, Text, Tree};
 
 /// Whether `labels` and `ownerReferences` have their shape, as in
 /// `{"labels":{"app":"web"},"ownerReferences":[{"uid":"..", ..}]}`. A missing one and `null` have it too.

@@ -1,11 +1,11 @@
 ghost use Rattle.std.specs.Prelude.{◌≡◌, ◌≢◌, ℕ, List, Option, option_map, codes, IfOk};
 ghost use Rattle.serde_json.specs.Data.{Data, Members, object};
-ghost use Rattle.objects.specs.Tree.{data_of};
+ghost use Rattle.trees.specs.Tree.{data_of};
 ghost use Rattle.objects.specs.Status.{member_of, with_member};
 
 use crate::object::Object;
-use crate::tree::Tree;
 use std::alloc::AllocError;
+use trees::Tree;
 
 impl Object {
     /// The value of a member of the object, as `spec` or `status` (Kubernetes API conventions, "Objects"). A

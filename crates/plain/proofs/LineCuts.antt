@@ -2,7 +2,8 @@
 use Rattle.std.proofs.Common.{◌≡◌, ◌≢◌, ℕ, zero, suc, ◌+◌, ◌-◌, ◌<◌, ◌≤◌, ◌⊎◌, inl, inr, List, [], ◌∷◌, ◌++◌, length, take, drop, get_or, refl, sym, ◌∙◌, ap, subst, arith, append_assoc, append-nil, length-append, length-take, length-take-le, length-drop, take_all, take-append-drop, drop-cons, get_or-take}
 use Rattle.std.proofs.lemmas.Bool.{ne_eqb, eq-eqb, cases_lt}
 use Rattle.std.proofs.lemmas.Grind.{common_steps}
-use Rattle.objects.specs.Reading.{most_bytes, reading_of_data}
+use Rattle.trees.specs.Reading.{tree_reading}
+use Rattle.objects.specs.Reading.{most_bytes}
 use Rattle.plain_store.specs.Store.{Store}
 use Rattle.plain.specs.Requests.{request_of}
 use Rattle.plain.specs.Lines.{lines, onto_first}
@@ -56,7 +57,7 @@ lines-last b bs f = ap lines (sym (append-nil (b ∷ bs))) ∙ lines-onto b bs [
 
 -- a line that is too long is refused, whatever it is
 pub request_of-too_long : (a b : List ℕ) → most_bytes < length a → most_bytes < length b → request_of a ≡ request_of b
-unfolding request_of reading_of_data
+unfolding request_of tree_reading
 request_of-too_long a b la lb = grind (arith, common_steps)
 
 -- so its beginning answers for it

@@ -6,8 +6,8 @@ use Rattle.serde_json.specs.Find.{as_object, as_str, get_member}
 use Rattle.objects.specs.declared.fault.ReadError.{ReadError}
 use Rattle.objects.specs.declared.fault.ReadError.TheVariants as read
 use Rattle.objects.specs.declared.key.Key.{Key}
-use Rattle.objects.specs.declared.tree.Tree.{Tree}
-use Rattle.objects.specs.declared.tree.Tree.TheVariants as tree
+use Rattle.trees.specs.declared.tree.Tree.{Tree}
+use Rattle.trees.specs.declared.tree.Tree.TheVariants as tree
 use Rattle.objects.specs.Tree.{data_of}
 use Rattle.objects.specs.Steps.{Fails}
 use Rattle.objects.specs.Reading.{key_in, collection_in, reading_of_data}

@@ -1,7 +1,9 @@
 // The request that a line is.
 ghost use Rattle.std.specs.Prelude.{codes};
 ghost use Rattle.serde_json.specs.Find.{get_member};
+ghost use Rattle.objects.specs.Reading.{reading_of_data};
 ghost use Rattle.objects.specs.Steps.{Gives};
+ghost use Rattle.objects.specs.Tree.{data_of};
 ghost use Rattle.plain.specs.Requests.{Answers, request_of, object_draft, deletion_in, field_text};
 ghost use Rattle.plain.specs.Verbs.{request_by};
 
@@ -28,11 +30,18 @@ pub(crate) fn next_request(
 ) -> Result<Request, RequestError>
     ensures { Answers result (request_of line.now) }
 {
-    let Tree::Map(members) = reader.read(line)? else {
+    let Tree::Map(members) = value_in(reader, line)? else {
         return Err(RequestError::NoVerb);
     };
     let verb = verb_in(&members)?;
     request_by(alloc, verb, members)
+}
+
+// The value that a line is.
+fn value_in(reader: &mut TreeReader, line: &[u8]) -> Result<Tree, ReadError>
+    ensures { Gives data_of result (reading_of_data line.now) }
+{
+    Ok(reader.read(line)?)
 }
 
 fn request_by(alloc: Global, verb: Verb, members: Members) -> Result<Request, RequestError>

@@ -1,5 +1,5 @@
 use Rattle.std.proofs.Common.{Some, sym, ap, ◌∙◌}
-use Rattle.objects.specs.Tree.{data_of}
+use Rattle.trees.specs.Tree.{data_of}
 use Rattle.objects.proofs.Bodies.{says_kind, is_object}
 use Rattle.objects.proofs.draft.draft_in.Goals as goal
 

@@ -1,6 +1,6 @@
 use Rattle.std.proofs.Common.{◌≡◌, codes, subst}
 use Rattle.serde_json.specs.Data.{object, put}
-use Rattle.objects.specs.Tree.{data_of}
+use Rattle.trees.specs.Tree.{data_of}
 use Rattle.objects.specs.Object.{IsBody, without_held}
 use Rattle.objects.proofs.Bodies.{body_said}
 use Rattle.objects.proofs.draft.finished.Goals as goal

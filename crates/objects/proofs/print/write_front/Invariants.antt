@@ -1,8 +1,8 @@
 use Rattle.std.proofs.Common.{◌≡◌, ◌++◌, take, drop}
-use Rattle.objects.specs.Tree.{members_of}
-use Rattle.objects.specs.Places.{IsAbove}
+use Rattle.trees.specs.Tree.{members_of}
+use Rattle.trees.specs.Places.{IsAbove}
 use Rattle.objects.specs.Merged.{entry_tokens}
-use Rattle.objects.specs.Proper.{AreProperMembers}
+use Rattle.trees.specs.Proper.{AreProperMembers}
 use Rattle.objects.proofs.print.write_front.Given as goal
 
 abbrev pub invariant-loop-i : goal.invariant-loop-i

@@ -6,7 +6,7 @@ use Rattle.objects.specs.Key.{KeyParts}
 use Rattle.objects.specs.Meta.{MetaParts}
 use Rattle.objects.specs.Uid.{uid_text}
 use Rattle.serde_json.specs.Written.{members_outline}
-use Rattle.objects.specs.Tree.{members_of}
+use Rattle.trees.specs.Tree.{members_of}
 use Rattle.objects.specs.Text.{unless_zero}
 use Rattle.objects.proofs.WholeObjects.{on_ok, steps_written, held_is}
 use Rattle.objects.proofs.print.write_metadata.Goals as goal

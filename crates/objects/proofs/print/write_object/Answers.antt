@@ -1,6 +1,6 @@
 use Rattle.std.proofs.Common.{codes, ap, ◌∙◌}
 use Rattle.serde_json.specs.Find.{get_member}
-use Rattle.objects.specs.Tree.{members_of}
+use Rattle.trees.specs.Tree.{members_of}
 use Rattle.objects.proofs.WholeObjects.{on_ok, same_members, object_written}
 use Rattle.objects.proofs.print.write_object.Goals as goal
 

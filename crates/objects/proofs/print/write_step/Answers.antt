@@ -1,5 +1,5 @@
 use Rattle.std.proofs.Common.{◌≡◌, false, sym, subst}
-use Rattle.objects.specs.Tree.{members_of}
+use Rattle.trees.specs.Tree.{members_of}
 use Rattle.objects.specs.Object.{has_held}
 use Rattle.objects.proofs.Merging.{writes_step, none_left}
 use Rattle.objects.proofs.print.write_step.Goals as goal

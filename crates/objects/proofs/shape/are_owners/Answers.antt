@@ -2,8 +2,8 @@ use Rattle.std.proofs.Common.{◌≡◌, List, [], ◌∷◌, ◌&&◌, refl, ap
 use Rattle.std.specs.List.{list_all}
 use Rattle.std.proofs.lemmas.Iterator.{YieldsList-from_slice}
 use Rattle.std.proofs.lemmas.Iterator.Search.{all_from_yields_List}
-use Rattle.objects.specs.declared.tree.Tree.{Tree}
-use Rattle.objects.specs.Tree.{data_of, items_of}
+use Rattle.trees.specs.declared.tree.Tree.{Tree}
+use Rattle.trees.specs.Tree.{data_of, items_of}
 use Rattle.objects.specs.MetadataShape.{is_owner, are_owners}
 use Rattle.objects.proofs.shape.are_owners.Goals as goal
 

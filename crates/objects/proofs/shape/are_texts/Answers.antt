@@ -4,8 +4,8 @@ use Rattle.std.specs.Option.{is_some}
 use Rattle.std.proofs.lemmas.Iterator.{YieldsList-from_slice}
 use Rattle.std.proofs.lemmas.Iterator.Search.{all_from_yields_List}
 use Rattle.serde_json.specs.Find.{as_str}
-use Rattle.objects.specs.declared.tree.Tree.{Tree}
-use Rattle.objects.specs.Tree.{data_of, members_of}
+use Rattle.trees.specs.declared.tree.Tree.{Tree}
+use Rattle.trees.specs.Tree.{data_of, members_of}
 use Rattle.objects.specs.MetadataShape.{are_texts}
 use Rattle.objects.proofs.shape.are_texts.Goals as goal
 

@@ -1,8 +1,8 @@
 use Rattle.std.proofs.Common.{subst, sym}
 use Rattle.std.specs.Prelude.{option_map}
-use Rattle.objects.specs.Tree.{data_of}
+use Rattle.trees.specs.Tree.{data_of}
 use Rattle.objects.specs.Object.{IsBody}
-use Rattle.objects.proofs.SetMembers.{body_with_status}
+use Rattle.objects.proofs.Bodies.{body_with_status}
 use Rattle.objects.proofs.object.Object.with_status.Goals as goal
 
 pub invariant_of-result : goal.invariant_of-result

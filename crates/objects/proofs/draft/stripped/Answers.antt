@@ -1,7 +1,0 @@
-use Rattle.std.proofs.Common.{subst, sym}
-use Rattle.objects.specs.Tree.{AreAscending, members_of}
-use Rattle.objects.proofs.EntryPlaces.{ascending_without}
-use Rattle.objects.proofs.draft.stripped.Goals as goal
-
-pub of-requires : goal.of-requires
-of-requires c = subst AreAscending (sym c.drop_held.ensures) (ascending_without (members_of c.in_ok-entries-in-Map.entries.items) c.in_ok-entries-in-Map.ensures.ascending)

@@ -1,0 +1,14 @@
+pub mod Lookups
+pub mod Joining
+pub mod FoundMembers
+pub mod Parsing
+pub mod EntryPlaces
+pub mod SetMembers
+pub mod Chains
+pub mod Printing
+pub mod PutOrder
+pub mod ProperText
+pub mod WholeTokens
+pub mod Sameness
+pub mod TextDepth
+pub mod ReadBack

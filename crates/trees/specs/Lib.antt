@@ -1,0 +1,13 @@
+-- What public clauses cite.
+pub mod Whole
+pub mod Tree
+pub mod Members
+pub mod Places
+pub mod Same
+pub mod Steps
+pub mod Reading
+pub mod IfWhole
+pub mod Proper
+-- What only types and proofs use.
+pub mod Codes
+pub mod TreeFalls

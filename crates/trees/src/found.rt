@@ -1,0 +1,45 @@
+// Members of a map by their keys, while the map is read and some value may still take the place of another.
+ghost use Rattle.std.specs.Prelude.{◌≡◌, false, IfOk, IfSome, option_map};
+ghost use Rattle.serde_json.specs.Written.{members_have_float};
+ghost use Rattle.trees.specs.Tree.{members_of, AreAscending};
+ghost use Rattle.trees.specs.IfWhole.{found_in, found_of, all_whole};
+
+use crate::memory::Memory;
+use crate::text::Text;
+use crate::tree::Tree;
+use std::alloc::{AllocError, Global};
+use std::collections::BTreeMap;
+
+/// These entries by their keys.
+pub(crate) fn by_key(
+    alloc: Global,
+    entries: Vec<(Text, Tree)>,
+) -> Result<BTreeMap<String, Option<Tree>>, Memory>
+    requires ascending { AreAscending (members_of entries.items) }
+    requires whole { members_have_float (members_of entries.items) ≡ false }
+    ensures { IfOk result (λ found. found_of found.entries ≡ found_in (members_of entries.items)) }
+{
+    let mut found = BTreeMap::new(alloc);
+    for (name, value) in entries {
+        drop(found.insert(name.into_string(), Some(value))?);
+    }
+    Ok(found)
+}
+
+/// The entries of these members, or `None` where a value is not whole.
+pub(crate) fn whole_entries(
+    alloc: Global,
+    found: BTreeMap<String, Option<Tree>>,
+) -> Result<Option<Vec<(Text, Tree)>>, AllocError>
+    ensures entries { IfOk result (λ v. option_map (λ es. members_of es.items) v ≡ all_whole (found_of found.entries)) }
+    ensures ascending { IfOk result (λ v. IfSome v (λ es. AreAscending (members_of es.items))) }
+{
+    let mut entries = Vec::with_capacity(alloc, found.len())?;
+    for (key, value) in found {
+        match value {
+            Some(value) => entries.push((Text::from(key), value))?,
+            None => return Ok(None),
+        }
+    }
+    Ok(Some(entries))
+}

@@ -1,0 +1,65 @@
+// Trees as JSON tokens, with no copy.
+ghost use Rattle.std.specs.Prelude.{◌≡◌, ◌++◌, ◌∷◌, [], Some, OnOk};
+ghost use Rattle.json.specs.Token.{number as number_token};
+ghost use Rattle.json.specs.Tree.{json_tokens, items_tokens, members_tokens};
+ghost use Rattle.serde_json.specs.Find.{of_integer};
+ghost use Rattle.serde_json.specs.Read.{number_of};
+ghost use Rattle.serde_json.specs.Written.{number_text, outline, items_outline, members_outline};
+ghost use Rattle.trees.specs.Tree.{data_of, items_of, members_of};
+ghost use Rattle.trees.specs.Proper.{IsProper, AreProperItems, AreProperMembers};
+
+use crate::text::Text;
+use crate::tree::Tree;
+use json::{Token, Writer};
+use std::alloc::AllocError;
+
+/// Writes a tree in the place of a value: with the writer's other tokens it makes compact JSON, keys in byte order.
+/// Where memory runs out, a part of its tokens may be written.
+#[cycle(write)]
+pub fn write_tree(tree: &Tree, out: &mut Writer) -> Result<(), AllocError>
+    ensures tokens { OnOk result (out.new.tokens ≡ out.old.tokens ++ json_tokens (outline (data_of tree.now))) }
+    ensures before { out.new.before ≡ out.old.before }
+    ensures proper { OnOk result (IsProper (data_of tree.now)) }
+{
+    match tree {
+        Tree::Null => out.token(Token::Null),
+        Tree::Truth(truth) => out.token(Token::Bool(*truth)),
+        Tree::Whole(number) => number.write(out),
+        Tree::Text(text) => out.string(text.as_str()),
+        Tree::List(items) => {
+            out.begin_array()?;
+            write_items(items.as_slice(), out)
+        }
+        Tree::Map(members) => {
+            out.begin_object()?;
+            write_entries(members.entries(), out)
+        }
+    }
+}
+
+// With the closing bracket.
+#[cycle(write)]
+fn write_items(items: &[Tree], out: &mut Writer) -> Result<(), AllocError>
+    ensures tokens { OnOk result (out.new.tokens ≡ out.old.tokens ++ items_tokens (items_outline (items_of items.now))) }
+    ensures before { out.new.before ≡ out.old.before }
+    ensures proper { OnOk result (AreProperItems (items_of items.now)) }
+{
+    for item in items {
+        write_tree(item, out)?;
+    }
+    out.end_array()
+}
+
+/// Writes the members of a map that has begun, and its closing brace, as `write_tree` does.
+#[cycle(write)]
+pub fn write_entries(entries: &[(Text, Tree)], out: &mut Writer) -> Result<(), AllocError>
+    ensures tokens { OnOk result (out.new.tokens ≡ out.old.tokens ++ members_tokens (members_outline (members_of entries.now))) }
+    ensures before { out.new.before ≡ out.old.before }
+    ensures proper { OnOk result (AreProperMembers (members_of entries.now)) }
+{
+    for (name, value) in entries {
+        out.key(name.as_str())?;
+        write_tree(value, out)?;
+    }
+    out.end_object()
+}
