@@ -1,7 +1,6 @@
 -- An object that is printed reads back as itself.
-use Rattle.std.proofs.Common.{◌≡◌, ℕ, ◌<◌, ◌^◌, List, [], ◌∷◌, length, Bool, true, false, Option, Some, None, option_map, Result, Ok, decimal, refl, sym, ap, ◌∙◌, cond, arith, lt-ltb}
+use Rattle.std.proofs.Common.{◌≡◌, ℕ, ◌<◌, ◌^◌, List, [], ◌∷◌, length, Bool, true, false, Option, Some, None, option_map, Ok, decimal, refl, sym, ap, ◌∙◌, cond, arith, lt-ltb}
 use Rattle.std.specs.Prelude.{codes, ◌==◌, option_and_then, unwrap_or}
-use Rattle.std.specs.Result.{result_unwrap_or}
 use Rattle.std.proofs.lemmas.Bool.{and_parts, eqb-true}
 use Rattle.std.proofs.lemmas.Bool.Decides.{nat_tests}
 use Rattle.serde_json.specs.Data.{Data, unsigned, number, string, object, Members, put}
@@ -162,11 +161,4 @@ members_again o b right meta ascending =
 -- an object that is printed reads back as itself, with the texts of its UID and its resource version
 pub draft_again : (o : Object) → IsBody o.key.kind o.body → is_key o.key ≡ true → IsMeta o.meta → IsProper o.body → draft_of (printed o) ≡ Ok (draft_again_of o)
 unfolding draft_of
-draft_again o b right meta proper = ap draft_of (printed_is o b) ∙ members_again o b right meta (body_proper o b proper).0
-
--- two objects that are printed alike are one
-pub printed_injective : (o p : Object) → IsBody o.key.kind o.body → is_key o.key ≡ true → IsMeta o.meta → IsProper o.body
-    → IsBody p.key.kind p.body → is_key p.key ≡ true → IsMeta p.meta → IsProper p.body → printed o ≡ printed p → o ≡ p
-printed_injective o p o_body o_key o_meta o_proper p_body p_key p_meta p_proper same =
-    ap (λ (r : Result Draft ReadError). (result_unwrap_or r (draft_again_of o)).object)
-    (sym (draft_again o o_body o_key o_meta o_proper) ∙ ap draft_of same ∙ draft_again p p_body p_key p_meta p_proper)
+draft_again o b right meta proper = ap draft_of (printed_is o.key.kind o b) ∙ members_again o b right meta (body_proper o b proper).0

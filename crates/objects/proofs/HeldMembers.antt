@@ -1,10 +1,11 @@
 -- The metadata with the members that the key and the meta hold.
-use Rattle.std.proofs.Common.{◌≡◌, ℕ, ◌<◌, ◌^◌, List, Option, Some, None, option_map, decimal, refl, sym, ap, ◌∙◌, subst, cond, Bool, true, false, ◌||◌, arith}
+use Rattle.std.proofs.Common.{◌≡◌, ℕ, ◌<◌, ◌^◌, List, Option, Some, None, option_map, decimal, refl, sym, ap, ◌∙◌, subst, cond, Bool, true, false, arith}
 use Rattle.std.specs.Prelude.{⊤, codes, ◌==◌}
 use Rattle.std.specs.Ordering.{nat_cmp, match_ordering}
 use Rattle.std.specs.declared.cmp.Ordering.{Ordering}
 use Rattle.std.specs.declared.cmp.Ordering.TheVariants.{Less, Equal, Greater}
 use Rattle.std.specs.Cmp.Lexicographic.{slice_cmp}
+use Rattle.std.proofs.lemmas.Bool.{or_parts}
 use Rattle.serde_json.specs.Data.{Data, unsigned, number, string, Members, no_members, member, put}
 use Rattle.serde_json.specs.Find.{get_member}
 use Rattle.serde_json.proofs.Views.{get_member-put, get_member-put_other}
@@ -32,15 +33,11 @@ pub without_put : (k : List ℕ) (d : Data) (ms : Members) → is_held k ≡ tru
 without_put k d no_members held = ap (λ h. cond h no_members (member k d no_members)) held
 without_put k d (member l e ms) held = without_put_at (slice_cmp nat_cmp k l) k l d e ms refl held (without_put k d ms held)
 
-pub neither : (a b : Bool) → (a || b) ≡ false → (a ≡ false) × (b ≡ false)
-neither true b h = absurd cc
-neither false b h = (refl, h)
-
 -- where none is held, none is taken out
 pub without_none : (ms : Members) → has_held ms ≡ false → without_held ms ≡ ms
 without_none no_members h = refl
 without_none (member k d ms) h =
-    let both = neither (is_held k) (has_held ms) h in
+    let both = or_parts (is_held k) (has_held ms) h in
     ap (λ b. cond b (without_held ms) (member k d (without_held ms))) both.0 ∙ ap (member k d) (without_none ms both.1)
 
 held_missing_at : (o : Ordering) (q l : List ℕ) (e : Data) (ms : Members) → slice_cmp nat_cmp q l ≡ o → is_held q ≡ true → is_held l ≡ false → get_member q ms ≡ None
@@ -53,7 +50,7 @@ held_missing_at Greater q l e ms is held other later = later
 pub held_missing : (q : List ℕ) (ms : Members) → is_held q ≡ true → has_held ms ≡ false → get_member q ms ≡ None
 held_missing q no_members held h = refl
 held_missing q (member l e ms) held h =
-    let both = neither (is_held l) (has_held ms) h in
+    let both = or_parts (is_held l) (has_held ms) h in
     held_missing_at (slice_cmp nat_cmp q l) q l e ms refl held both.0 (held_missing q ms held both.1)
 
 kept_past : (o : Ordering) (q l : List ℕ) (e : Data) (ms : Members) → slice_cmp nat_cmp q l ≡ o → is_held q ≡ false → is_held l ≡ true → get_member q (without_held ms) ≡ get_member q ms

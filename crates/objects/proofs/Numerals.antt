@@ -10,14 +10,10 @@ use Rattle.std.proofs.lemmas.Str.Parse.{parse_plain, numerals_by_value, tells_al
 use Rattle.std.proofs.lemmas.Slice.Eq.{bytes_eq-Decides}
 use Rattle.std.specs.Prelude.{◌==◌}
 use Rattle.std.proofs.lemmas.Bool.Decides.{nat_tests}
-use Rattle.std.proofs.lemmas.Bool.{ltb-true, lt-ltb}
+use Rattle.std.proofs.lemmas.Bool.{and_parts, ltb-true, lt-ltb}
 use Rattle.hex.proofs.HexLemmas.{length-encode_with, IsAscii-encode_with}
 use Rattle.hex.specs.Hex.{lower_digits}
 use Rattle.objects.specs.Uid.{uid_text, uid_number, uid_prefix, twelve_digits, hex_value, version_number}
-
-and_true : (a b : Bool) → (a && b) ≡ true → (a ≡ true) × (b ≡ true)
-and_true true b h = (refl, h)
-and_true false b h = absurd cc
 
 nonempty : (s : List ℕ) → 48 < get_or s 0 0 → 0 < length s
 nonempty [] h = absurd (omega arith)
@@ -58,7 +54,7 @@ uid_number-short s other = short_by s (hex_value (drop 24 s)) _ (nat_lt (hex_val
 
 ascii_by : (bs : List ℕ) → list_all (λ b. nat_lt b 128) bs ≡ true → IsAscii bs
 ascii_by [] h = IsAscii-nil
-ascii_by (b ∷ bs) h = let both = and_true (nat_lt b 128) _ h in IsAscii-cons b bs (ltb-true b 128 both.0) (ascii_by bs both.1)
+ascii_by (b ∷ bs) h = let both = and_parts (nat_lt b 128) _ h in IsAscii-cons b bs (ltb-true b 128 both.0) (ascii_by bs both.1)
 
 pub IsUtf8-uid : (n : ℕ) → IsUtf8 (uid_prefix ++ twelve_digits n)
 IsUtf8-uid n = IsUtf8-from_ascii _ (IsAscii-append uid_prefix (twelve_digits n) (ascii_by uid_prefix refl) (IsAscii-encode_with lower_digits _ (ascii_by lower_digits refl)))

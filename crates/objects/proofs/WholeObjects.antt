@@ -24,6 +24,7 @@ use Rattle.objects.specs.Uid.{uid_text}
 use Rattle.objects.specs.Merged.{puts, entry_tokens, StopsAt, WritesFront, WritesStep}
 use Rattle.trees.proofs.Joining.{join_members}
 use Rattle.trees.proofs.PutOrder.{none_before}
+use Rattle.objects.proofs.PrintedObjects.{printed_is}
 use Rattle.objects.proofs.Merging.{put_past, tokens_join, front_of, members_of-split}
 
 pub on_ok : {T E : Type 0} {P Q : Type 0} (r : Result T E) → (P → Q) → OnOk r P → OnOk r Q
@@ -134,11 +135,6 @@ members_written k w es rest after e old t1 t2 t3 t4 new front is equal q r s t =
     ∙ put_past k (object w) first (members_of (e ∷ after)) (front_of k front.count es front.above) ∙ ap (join_members (members_of first)) here in
     grouped old (entry_tokens first) (members_tokens (members_outline w)) (members_tokens (members_outline (members_of after))) t1 t2 t3 t4 new (key k) begin_object front.tokens q r s t
     ∙ ap (λ ts. old ++ ts) (sym (ap (λ ms. members_tokens (members_outline ms)) placed ∙ tokens_join first (member k (object w) (members_of after))))
-
--- an object as JSON, by what its body says
-pub printed_is : (kind : Kind) (o : Object) (b : IsBody kind o.body) → printed o ≡ object (put (codes "metadata") (object (whole_metadata o b.metadata)) b.members)
-unfolding printed
-printed_is kind o b = rw (b.whole, b.metadata_said) refl
 
 -- the tokens of an object
 pub object_written : (kind : Kind) (v o : Object) (b : IsBody kind v.body) (ms : Members) (old t1 new : List Token) → v ≡ o → ms ≡ b.members → t1 ≡ old ++ begin_object ∷ []

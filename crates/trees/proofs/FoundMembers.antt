@@ -5,6 +5,7 @@ use Rattle.std.specs.BTreeMap.{insert_entry}
 use Rattle.std.specs.Cmp.Lexicographic.{slice_cmp}
 use Rattle.std.specs.List.Sorted.{IsStrictlySortedBy}
 use Rattle.std.specs.Ordering.{match_ordering}
+use Rattle.std.proofs.lemmas.Bool.{or_parts}
 use Rattle.serde_json.specs.Data.{Data, Members, no_members, member, put}
 use Rattle.serde_json.specs.Written.{has_float, members_have_float}
 use Rattle.trees.specs.declared.tree.Tree.{Tree}
@@ -72,10 +73,6 @@ ascending_found (e ∷ f ∷ es) ms h is =
 
 -- ---- entries that go into a map
 
-pub first_and_others : (b c : Bool) → (b || c) ≡ false → (b ≡ false) × (c ≡ false)
-first_and_others true c e = absurd cc
-first_and_others false c e = (refl, e)
-
 pub first_is_whole : {A : Type 0} (b : Bool) (x : A) → b ≡ false → cond b None (Some x) ≡ Some x
 first_is_whole true x e = absurd cc
 first_is_whole false x e = refl
@@ -91,29 +88,18 @@ by_key_none all left es same none ascending whole =
 pub by_key_more : (all left rest : List (List ℕ × Tree)) (es new : List Entry) (k : List ℕ) (t : Tree) (name : String Global) → left ≡ (k, t) ∷ rest → string_bytes name ≡ k → new ≡ insert_entry string_cmp es name (Some t)
     → IsByKey all es left → IsByKey all new rest
 by_key_more all left rest es new k t name taken named is (done, joined, same, whole) =
-    let both = first_and_others (has_float (data_of t)) (members_have_float (members_of rest)) (ap (λ xs. members_have_float (members_of xs)) (sym taken) ∙ whole) in (
+    let both = or_parts (has_float (data_of t)) (members_have_float (members_of rest)) (ap (λ xs. members_have_float (members_of xs)) (sym taken) ∙ whole) in (
       put k (data_of t) done,
       ap (λ xs. put_all (members_of xs) done) (sym taken) ∙ joined,
       found_more es new name (Some t) k (data_of t) done is named (first_is_whole (has_float (data_of t)) (data_of t) both.0) same,
       both.1,
     )
 
-pub by_key_all : (all left : List (List ℕ × Tree)) (es : List Entry) → left ≡ [] → IsByKey all es left → found_of es ≡ found_in (members_of all)
-by_key_all all left es none (done, joined, same, whole) = sym same ∙ ap found_in (ap (λ xs. put_all (members_of xs) done) (sym none) ∙ joined)
-
 -- ---- entries that come out of a map
-
-join_none : (o : Option Members) → o ≡ option_map (join_members no_members) o
-join_none None = refl
-join_none (Some ms) = refl
 
 -- the members so far, and then those that are left
 abbrev pub IsTaken : List Entry → List (List ℕ × Tree) → List Entry → Type 0
 IsTaken all es left = all_whole (found_of all) ≡ option_map (join_members (members_of es)) (all_whole (found_of left))
-
-pub taken_none : (all left : List Entry) (es : List (List ℕ × Tree)) → left ≡ all → es ≡ [] → IsTaken all es left
-taken_none all left es same none =
-    join_none (all_whole (found_of all)) ∙ ap (λ xs. option_map (join_members no_members) (all_whole (found_of xs))) (sym same) ∙ ap (λ xs. option_map (join_members (members_of xs)) (all_whole (found_of left))) (sym none)
 
 join_more : (es : List (List ℕ × Tree)) (k : List ℕ) (t : Tree) (o : Option Members) → option_map (join_members (members_of es)) (option_map (member k (data_of t)) o) ≡ option_map (join_members (members_of (es ++ (k, t) ∷ []))) o
 join_more es k t None = refl
@@ -129,7 +115,3 @@ taken_more all left rest es new name k v t taken whole named is joined =
 pub taken_all : (all left : List Entry) (es : List (List ℕ × Tree)) → left ≡ [] → IsTaken all es left → Some (members_of es) ≡ all_whole (found_of all)
 taken_all all left es none joined =
     sym (joined ∙ ap (λ xs. option_map (join_members (members_of es)) (all_whole (found_of xs))) none ∙ ap Some (join_members-none (members_of es)))
-
-pub taken_no_more : (all left rest : List Entry) (es : List (List ℕ × Tree)) (name : String Global) (v : Option Tree) → left ≡ (name, v) ∷ rest → v ≡ None → IsTaken all es left → None ≡ all_whole (found_of all)
-taken_no_more all left rest es name v taken none joined =
-    sym (joined ∙ ap (λ xs. option_map (join_members (members_of es)) (all_whole (found_of xs))) (taken ∙ ap (λ w. (name, w) ∷ rest) none))

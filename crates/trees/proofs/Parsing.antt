@@ -4,6 +4,7 @@ use Rattle.std.specs.Ordering.{nat_cmp, match_ordering}
 use Rattle.std.specs.declared.cmp.Ordering.{Ordering}
 use Rattle.std.specs.declared.cmp.Ordering.TheVariants.{Less, Equal, Greater}
 use Rattle.std.specs.Cmp.Lexicographic.{slice_cmp}
+use Rattle.std.proofs.lemmas.Bool.{or_parts}
 use Rattle.json.specs.Token.{Token}
 use Rattle.json.specs.Json as json
 use Rattle.json.specs.Json.{Parse, parse_map, value, after_end_array, read_key, items_step, items, members, if_last}
@@ -19,7 +20,7 @@ use Rattle.trees.specs.declared.tree.Tree.{Tree}
 use Rattle.trees.specs.Steps.{Fails, required}
 use Rattle.trees.specs.Tree.{data_of, items_of, members_of}
 use Rattle.trees.specs.IfWhole.{number_if_whole, if_whole, items_if_whole, members_if_whole}
-use Rattle.trees.proofs.FoundMembers.{first_and_others}
+use Rattle.trees.proofs.WholeTokens.{either_no}
 use Rattle.trees.proofs.Joining.{join_items, join_items-none, join_items-one, items_of-push}
 
 -- ---- what was read, and what was refused
@@ -278,21 +279,17 @@ whole_is_by : (b : Bool) (d e : Data) → cond b None (Some d) ≡ Some e → (b
 whole_is_by true d e is = absurd cc
 whole_is_by false d e is = (refl, cc)
 
-neither : (b c : Bool) → b ≡ false → c ≡ false → (b || c) ≡ false
-neither true c h k = absurd cc
-neither false c h k = k
-
 whole_put_at : (o : Ordering) (k l : List ℕ) (d e : Data) (ms : Members) → has_float d ≡ false → members_have_float (member l e ms) ≡ false → members_have_float (put k d ms) ≡ false → has_float e ≡ false
     → members_have_float (match_ordering o (member k d (member l e ms)) (member l d ms) (member l e (put k d ms))) ≡ false
-whole_put_at Less k l d e ms one all later first = neither (has_float d) (members_have_float (member l e ms)) one all
-whole_put_at Equal k l d e ms one all later first = neither (has_float d) (members_have_float ms) one (ap (λ b. b || members_have_float ms) (sym first) ∙ all)
-whole_put_at Greater k l d e ms one all later first = neither (has_float e) (members_have_float (put k d ms)) first later
+whole_put_at Less k l d e ms one all later first = either_no (has_float d) (members_have_float (member l e ms)) one all
+whole_put_at Equal k l d e ms one all later first = either_no (has_float d) (members_have_float ms) one (ap (λ b. b || members_have_float ms) (sym first) ∙ all)
+whole_put_at Greater k l d e ms one all later first = either_no (has_float e) (members_have_float (put k d ms)) first later
 
 -- a whole value that is put leaves the members whole
 whole_put : (k : List ℕ) (d : Data) (ms : Members) → has_float d ≡ false → members_have_float ms ≡ false → members_have_float (put k d ms) ≡ false
-whole_put k d no_members one all = neither (has_float d) false one refl
+whole_put k d no_members one all = either_no (has_float d) false one refl
 whole_put k d (member l e ms) one all =
-    let both = first_and_others (has_float e) (members_have_float ms) all in
+    let both = or_parts (has_float e) (members_have_float ms) all in
     whole_put_at (slice_cmp nat_cmp k l) k l d e ms one all (whole_put k d ms one both.1) both.0
 
 -- one more entry was read, and put to its place

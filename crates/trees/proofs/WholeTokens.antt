@@ -19,7 +19,7 @@ no_float_number (unsigned n) h = refl
 no_float_number (negative z) h = refl
 no_float_number (float x) h = absurd (not_number h)
 
-either_no : (a b : Bool) → a ≡ false → b ≡ false → (a || b) ≡ false
+pub either_no : (a b : Bool) → a ≡ false → b ≡ false → (a || b) ≡ false
 either_no a b p q = rw (p, q) refl
 
 mutual
