@@ -16,14 +16,14 @@ use Rattle.objects.proofs.DraftAgain.{draft_again}
 use Rattle.trees.proofs.TextDepth.{text_depth}
 
 pub text_of : (o : Object) → KeepsRules o → IsProper o.body → (t : List ℕ) → t ≡ text o → tokens t ≡ json_tokens (outline (printed o)) → IsTextOf o t
-text_of o kept proper t is same =
-    let whole = printed_proper o kept.body proper kept.meta in
+text_of o rules proper t is same =
+    let whole = printed_proper o rules.body proper rules.meta in
     let deep : depth (printed o) ≤ length (compact_text (printed o)) = text_depth (printed o) in
     record {
       text = is;
       value = read_back_within (length t) (printed o) t whole same (subst (λ u. depth (printed o) ≤ length u) (sym is) deep);
       whole = no_float (printed o) t same;
-      draft = draft_again o kept.body kept.key kept.meta proper;
+      draft = draft_again o rules.body rules.key rules.meta proper;
     }
 
 -- it reads as that object

@@ -1,4 +1,4 @@
--- The text of an object, as what an object is kept as.
+-- The text that a printed object holds in place of the object.
 use Rattle.std.specs.Prelude.{◌≡◌, ℕ, List, [], false, length, Option, Some, None, Result, Ok, Err}
 use Rattle.serde_json.specs.Data.{Data, null}
 use Rattle.serde_json.specs.Written.{has_float}
@@ -18,7 +18,7 @@ pub record IsTextOf (o : Object) (t : List ℕ) : Type 0 where
   pub whole : has_float (printed o) ≡ false
   pub draft : draft_of (printed o) ≡ Ok (draft_again_of o)
 
--- no text reads as it
+-- what a text that is no object stands for; no printed object has such a text
 abbrev no_object : Object
 no_object = record {
   key = record { kind = StatefulSet; namespace = []; name = [] };

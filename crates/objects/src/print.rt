@@ -147,7 +147,7 @@ fn write_metadata(
     ensures tokens { OnOk result (out.new.tokens ≡ out.old.tokens ++ members_tokens (members_outline (whole_metadata object.now (members_of entries.now)))) }
     ensures before { out.new.before ≡ out.old.before }
     ensures proper { OnOk result (AreProperMembers (members_of entries.now)) }
-    ensures kept { OnOk result ((is_key object.now.key ≡ true) × IsMeta object.now.meta) }
+    ensures rules { OnOk result ((is_key object.now.key ≡ true) × IsMeta object.now.meta) }
 {
     let meta = &object.meta;
     let key = &object.key;
@@ -187,7 +187,7 @@ fn write_members(
         → OnOk result (out.new.tokens ≡ out.old.tokens ++ members_tokens (members_outline (put (codes "metadata") (map (whole_metadata object.now metadata)) (members_of entries.now)))) }
     ensures before { out.new.before ≡ out.old.before }
     ensures proper { OnOk result (AreProperMembers (members_of entries.now)) }
-    ensures kept { OnOk result ((is_key object.now.key ≡ true) × IsMeta object.now.meta) }
+    ensures rules { OnOk result ((is_key object.now.key ≡ true) × IsMeta object.now.meta) }
 {
     let rest = write_front(entries, "metadata", out)?;
     let Some((entry, after)) = rest.split_first() else {
@@ -207,7 +207,7 @@ pub fn write_object(object: &Object, out: &mut Writer) -> Result<(), AllocError>
     ensures tokens { OnOk result (out.new.tokens ≡ out.old.tokens ++ json_tokens (outline (printed object.now))) }
     ensures before { out.new.before ≡ out.old.before }
     ensures proper { OnOk result (IsProper object.now.body) }
-    ensures kept { OnOk result (KeepsRules object.now) }
+    ensures rules { OnOk result (KeepsRules object.now) }
 {
     let Tree::Map(members) = &object.body else {
         unreachable!();
