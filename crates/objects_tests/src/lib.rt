@@ -5,6 +5,8 @@
 #[cfg(test)]
 mod drafts;
 #[cfg(test)]
+mod growths;
+#[cfg(test)]
 mod keys;
 #[cfg(test)]
 mod metadata;
@@ -13,10 +15,12 @@ mod parsing;
 #[cfg(test)]
 mod pod_names;
 #[cfg(test)]
+mod printed;
+#[cfg(test)]
 mod status;
 #[cfg(test)]
 mod texts;
 #[cfg(test)]
-mod trees;
+mod tree_parts;
 #[cfg(test)]
 mod uids;

@@ -1,0 +1,79 @@
+//! Refused growths. `rt try --test --fail-alloc N` refuses the Nth allocation of each test. From 1 on, up to an N that no
+//! test of this file comes to, each has to pass: one call may want memory, and the same call after it is ample.
+use objects::{Printed, Printer, ReadError, TreeReader, print_object, read_object};
+use std::alloc::Global;
+use std::process::Abort;
+
+/// A pod with each kind of value, and a map of more members than go to their places by steps.
+static TEXT: &str =
+    r#"{"kind":"Pod","spec":{"r":"\n","q":1,"p":1,"o":1,"n":1,"m":1,"l":1,"k":1,"j":1,"i":1,"h":[[1],[2,3]],"g":"","f":true,"e":null,"d":{},"c":[],"b":-2,"a":1},"metadata":{"uid":"00000000-0000-4000-8000-0000000000ff","resourceVersion":"7","deletionTimestamp":"d","generation":3,"labels":{"tier":"\u00e9","app":"web"},"name":"a","ownerReferences":[{"uid":"x"}]},"status":[1,{"x":"y"}],"apiVersion":"v1"}"#;
+
+/// The same as it is printed.
+static PRINTED: &str =
+    r#"{"apiVersion":"v1","kind":"Pod","metadata":{"deletionTimestamp":"d","generation":3,"labels":{"app":"web","tier":"é"},"name":"a","namespace":"default","ownerReferences":[{"uid":"x"}],"resourceVersion":"7","uid":"00000000-0000-4000-8000-0000000000ff"},"spec":{"a":1,"b":-2,"c":[],"d":{},"e":null,"f":true,"g":"","h":[[1],[2,3]],"i":1,"j":1,"k":1,"l":1,"m":1,"n":1,"o":1,"p":1,"q":1,"r":"\n"},"status":[1,{"x":"y"}]}"#;
+
+/// Asserts that the answer is `PRINTED`, or that memory ran out; whether it is `PRINTED`.
+fn is_ample(rt: &impl Abort, answer: Result<String, ReadError>) -> bool {
+    match answer {
+        Ok(found) => {
+            assert_eq!(rt; found.as_str(), PRINTED);
+            true
+        }
+        Err(error) => {
+            assert_eq!(rt; error, ReadError::Memory);
+            false
+        }
+    }
+}
+
+fn read_and_printed(alloc: Global) -> Result<String, ReadError> {
+    let draft = read_object(alloc, TEXT.as_bytes())?;
+    Ok(print_object(alloc, &draft.object)?)
+}
+
+#[test]
+fn objects_are_read_and_printed(rt: HostRuntime) {
+    let first = is_ample(&rt, read_and_printed(rt.alloc()));
+    let second = is_ample(&rt, read_and_printed(rt.alloc()));
+    assert!(rt; first || second);
+}
+
+/// The text of the object that is read back from a printed object, which is a copy.
+fn read_back(
+    alloc: Global,
+    reader: &mut TreeReader,
+    printed: &Printed,
+) -> Result<String, ReadError> {
+    let object = printed.clone()?.object(reader)?;
+    Ok(print_object(alloc, &object)?)
+}
+
+fn printed_and_read_back(
+    alloc: Global,
+    reader: &mut TreeReader,
+    printer: &mut Printer,
+) -> Result<String, ReadError> {
+    let draft = read_object(alloc, TEXT.as_bytes())?;
+    let first = read_back(alloc, reader, &printer.print(&draft.object)?)?;
+    let second = read_back(alloc, reader, &Printed::of(alloc, &draft.object)?)?;
+    if first.as_str() == second.as_str() {
+        Ok(first)
+    } else {
+        Err(ReadError::NoKind)
+    }
+}
+
+#[test]
+fn printed_objects_are_read_back(rt: HostRuntime) {
+    let mut reader = TreeReader::new(rt.alloc());
+    let mut printer = Printer::new(rt.alloc());
+    let first = is_ample(
+        &rt,
+        printed_and_read_back(rt.alloc(), &mut reader, &mut printer),
+    );
+    let second = is_ample(
+        &rt,
+        printed_and_read_back(rt.alloc(), &mut reader, &mut printer),
+    );
+    assert!(rt; first || second);
+}
