@@ -7,7 +7,7 @@ use Rattle.objects.specs.declared.kind.Kind.{Kind}
 use Rattle.objects.specs.declared.fault.ReadError.{ReadError}
 use Rattle.objects.specs.declared.fault.ReadError.TheVariants.{NoKind, UnknownKind, BadName, BadMeta}
 use Rattle.objects.specs.declared.object.Draft.{Draft}
-use Rattle.trees.specs.Reading.{tree_reading}
+unfoldable pub use Rattle.trees.specs.Reading.{tree_reading}
 pub use Rattle.trees.specs.Reading.{most_bytes, read_within}
 use Rattle.objects.specs.Steps.{◌>>=◌, required, guarded, as_read}
 use Rattle.objects.specs.Kind.{kind_named, api_version}
