@@ -1,5 +1,5 @@
 -- What a parse by the grammar says of the words.
-use Rattle.std.proofs.Common.{◌≡◌, Bool, true, ◌||◌, List, [], ◌∷◌, inl, inr, refl, ap, sym, subst, ◌∙◌}
+use Rattle.std.proofs.Common.{◌≡◌, Bool, true, false, ◌||◌, List, [], ◌∷◌, inl, inr, refl, ap, sym, subst, ◌∙◌}
 use Rattle.std.proofs.Math.Bool.{true-or, or-true}
 use Rattle.std.specs.List.{list_any}
 use Rattle.clap.specs.Kinds.{HasKind, IsAmong, Kinds}
@@ -9,6 +9,7 @@ use Rattle.clap.specs.declared.error.kind.ErrorKind.{ErrorKind}
 use Rattle.clap.specs.declared.error.kind.ErrorKind.TheVariants.{OutOfMemory}
 use Rattle.clap.proofs.OnLiterals.{clap_on_literals}
 use Rattle.stsctl.specs.Grammar.{faults_of, stsctl_app}
+use Rattle.stsctl.proofs.Serving.{false-true}
 
 -- a kind that passes the test is among the kinds
 pub list_any-among : (test : ErrorKind → Bool) (kind : ErrorKind) (kinds : Kinds) → IsAmong kind kinds → test kind ≡ true
@@ -25,6 +26,15 @@ pub list_any-kind : (test : ErrorKind → Bool) (error : Error) (kinds : Kinds) 
     → test (kind_of error) ≡ true → list_any test kinds ≡ true
 list_any-kind test error kinds not_memory (inl memory) holds = absurd (not_memory (sym (ap test memory) ∙ holds))
 list_any-kind test error kinds not_memory (inr among) holds = list_any-among test (kind_of error) kinds among holds
+
+-- the kind of an error does not pass a test that none of the words' kinds passes, and want of memory neither
+pub no_kind : (test : ErrorKind → Bool) (error : Error) (kinds : Kinds) → (test OutOfMemory ≡ true → ⊥) → HasKind kinds error
+    → list_any test kinds ≡ false → test (kind_of error) ≡ false
+no_kind test error kinds not_memory has none = go (test (kind_of error)) refl
+  where
+    go : (b : Bool) → test (kind_of error) ≡ b → b ≡ false
+    go false is = refl
+    go true is = absurd (false-true (sym none ∙ list_any-kind test error kinds not_memory has is))
 
 stsctl-is_free : is_simple_and_free stsctl_app ≡ true
 unfolding clap_on_literals

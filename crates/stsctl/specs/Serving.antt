@@ -1,10 +1,10 @@
 -- What a run of the program that was asked to serve has done, where the devices tell.
-use Rattle.std.specs.Prelude.{◌≡◌, ◌≤◌, ℕ, List, [], Option, Some}
+use Rattle.std.specs.Prelude.{◌≡◌, ◌≤◌, ◌<◌, ℕ, List, [], Option, Some}
 use Rattle.std.specs.Option.{IfSome}
 use Rattle.clap.specs.Words.{Text}
 use Rattle.plain.specs.Served.{served}
 use Rattle.plain.specs.Streams.{Puts, ServesPart}
-use Rattle.stsctl.specs.Grammar.{AsksFor}
+use Rattle.stsctl.specs.Grammar.{AsksFor, faults_of}
 
 -- All of the reader's bytes were read, and what a plain store with this capacity answers to them was written.
 abbrev pub ServesAll : ℕ → Option (List ℕ) → Option (List ℕ) → Option (List ℕ) → Option (List ℕ) → Type 0
@@ -19,3 +19,11 @@ Serves words had left before after =
 abbrev pub ServesSome : List Text → Option (List ℕ) → Option (List ℕ) → Option (List ℕ) → Option (List ℕ) → Type 0
 ServesSome words had left before after =
     (capacity : ℕ) × AsksFor words capacity × ServesPart (served capacity) had left before after
+
+-- no store has room for so many revisions
+abbrev pub IsOutOfRange : ℕ → Type 0
+IsOutOfRange capacity = 1 ≤ capacity → 1048576 < capacity
+
+-- the words ask for a store that cannot be, though they have no fault
+abbrev pub AsksOutOfRange : List Text → Type 0
+AsksOutOfRange words = (faults_of words ≡ []) × ((capacity : ℕ) × AsksFor words capacity × IsOutOfRange capacity)

@@ -1,5 +1,5 @@
 //! The command line: what the words ask for, and the exit status that it comes to.
-ghost use Rattle.std.specs.Prelude.{◌≡◌, ◌≢◌, ◌≤◌, ◌<◌, ◌⊎◌, [], map, true, IfOk};
+ghost use Rattle.std.specs.Prelude.{◌≡◌, ◌≢◌, ◌≤◌, ◌<◌, ◌⊎◌, [], map, true, false, IfOk};
 ghost use Rattle.std.specs.List.{list_any};
 ghost use Rattle.clap.specs.Words.{FailsBy, app_of, kind_of};
 ghost use Rattle.clap.specs.declared.error.kind.ErrorKind.TheVariants.{OutOfMemory};
@@ -7,11 +7,11 @@ ghost use Rattle.plain.specs.Streams.{Puts, ServesPart};
 ghost use Rattle.plain.specs.Served.{served};
 ghost use Rattle.plain.specs.TheConstants.{MOST_REVISIONS};
 ghost use Rattle.stsctl.specs.Grammar.{AsksFor, faults_of, is_mistake, is_request, stsctl_app};
-ghost use Rattle.stsctl.specs.Serving.{Serves, ServesAll, ServesSome};
+ghost use Rattle.stsctl.specs.Serving.{AsksOutOfRange, IsOutOfRange, Serves, ServesAll, ServesSome};
 
 use clap::error::ErrorKind;
 use clap::{Arg, Command, Error, value_parser};
-use plain::{MOST_REVISIONS, Sink, Source, write_all};
+use plain::{MOST_REVISIONS, ServeFault, Sink, Source, write_all};
 use std::alloc::{AllocError, Global};
 use std::convert::AsStr;
 
@@ -23,6 +23,25 @@ const FAILURE: u8 = 1;
 
 /// The exit status where the words ask for nothing that the program does.
 const BAD_WORDS: u8 = 2;
+
+/// What a run allocates from, and whether it was refused an allocation. The second tells an exit status of 1 for want of
+/// memory from one that nothing called for.
+#[derive(Drop)]
+pub(crate) struct Heap {
+    pub(crate) alloc: Global,
+    pub(crate) refused: bool,
+}
+
+impl Heap {
+    pub(crate) fn new(alloc: Global) -> Heap
+        ensures { result.refused ≡ false }
+    {
+        Heap {
+            alloc,
+            refused: false,
+        }
+    }
+}
 
 /// What the program takes: `serve [--capacity N]`, and what `clap` adds for help and the version.
 fn grammar<'a>(alloc: Global) -> Result<Command<'a>, AllocError>
@@ -58,15 +77,20 @@ fn capacity_asked<S: AsStr>(alloc: Global, words: &[S]) -> Result<u64, Error>
 }
 
 /// Serves the lines of the reader.
-fn served<R: Source, W: Sink>(alloc: Global, reader: &mut R, writer: &mut W, capacity: u64) -> u8
+fn served<R: Source, W: Sink>(heap: &mut Heap, reader: &mut R, writer: &mut W, capacity: u64) -> u8
     ensures status { result < BAD_WORDS }
     ensures range { result ≡ SUCCESS → (1 ≤ capacity) × (capacity ≤ MOST_REVISIONS) }
     ensures all { result ≡ SUCCESS → ServesAll capacity (R.remaining reader.old) (R.remaining reader.new)
         (W.written writer.old) (W.written writer.new) }
     ensures part { result ≢ SUCCESS → ServesPart (served capacity) (R.remaining reader.old) (R.remaining reader.new)
         (W.written writer.old) (W.written writer.new) }
+    ensures cause { result ≢ SUCCESS → (R.failures reader.old < R.failures reader.new) ⊎ ((W.failures writer.old < W.failures writer.new)
+        ⊎ ((heap.new.refused ≡ true) ⊎ IsOutOfRange capacity)) }
+    ensures memory { result ≡ SUCCESS → heap.new.refused ≡ heap.old.refused }
 {
-    match plain::serve(alloc, reader, writer, capacity) {
+    let ended = plain::serve(heap.alloc, reader, writer, capacity);
+    heap.refused |= matches!(ended, Err(ServeFault::Memory));
+    match ended {
         Ok(_) => SUCCESS,
         Err(_) => FAILURE,
     }
@@ -84,6 +108,14 @@ fn shown<W: Sink>(writer: &mut W, text: &[u8]) -> u8
     }
 }
 
+/// Writes what is wrong with the words. The status already says that they are bad, so nothing is lost where this fails.
+fn told<F: Sink>(faults: &mut F, text: &[u8]) -> u8
+    ensures { result ≡ BAD_WORDS }
+{
+    let _ = write_all(faults, text);
+    BAD_WORDS
+}
+
 /// Whether the words ask for help or for the version.
 fn is_request(kind: ErrorKind) -> bool
     ensures { result ≡ is_request kind }
@@ -99,34 +131,32 @@ fn is_mistake(kind: ErrorKind) -> bool
 }
 
 /// Says why nothing is served: help and the version on `writer`, a mistake in the words on `faults`.
-fn explained<W: Sink, F: Sink>(alloc: Global, error: &Error, writer: &mut W, faults: &mut F) -> u8
+fn explained<W: Sink, F: Sink>(heap: &mut Heap, error: &Error, writer: &mut W, faults: &mut F) -> u8
     ensures status { result ≤ BAD_WORDS }
     ensures success { result ≡ SUCCESS → is_request (kind_of error.now) ≡ true }
     ensures refused { result ≡ BAD_WORDS → is_mistake (kind_of error.now) ≡ true }
+    ensures mistake { is_request (kind_of error.now) ≡ false → (result ≡ BAD_WORDS) ⊎ (heap.new.refused ≡ true) }
+    ensures cause { result ≡ FAILURE → (W.failures writer.old < W.failures writer.new) ⊎ (heap.new.refused ≡ true) }
+    ensures memory { result ≢ FAILURE → heap.new.refused ≡ heap.old.refused }
     ensures quiet { result ≢ BAD_WORDS → faults.new ≡ faults.old }
-    ensures untouched { result ≡ BAD_WORDS → writer.new ≡ writer.old }
-    ensures silent { kind_of error.now ≡ OutOfMemory → writer.new ≡ writer.old }
+    ensures untouched { is_request (kind_of error.now) ≡ false → writer.new ≡ writer.old }
 {
-    let Ok(text) = format!(in alloc; "{error}") else {
-        return FAILURE;
-    };
     let kind = error.kind();
-    if is_request(kind) {
-        return shown(writer, text.as_bytes());
+    match format!(in heap.alloc; "{error}") {
+        Ok(text) if is_request(kind) => shown(writer, text.as_bytes()),
+        Ok(text) if is_mistake(kind) => told(faults, text.as_bytes()),
+        _ => {
+            heap.refused = true;
+            FAILURE
+        }
     }
-    if is_mistake(kind) {
-        // The status already says that the words are bad, so nothing is lost where this fails.
-        let _ = write_all(faults, text.as_bytes());
-        return BAD_WORDS;
-    }
-    FAILURE
 }
 
 /// The whole program: does what the words ask for, the program's name first, and answers the exit status. It is 0 on
 /// success and for help and the version, which go to `writer`; 1, with nothing more said, where reading or writing fails
 /// or memory runs out; and 2 where the words are bad, for which the reason goes to `faults`.
 pub(crate) fn command<S: AsStr, R: Source, W: Sink, F: Sink>(
-    alloc: Global,
+    heap: &mut Heap,
     words: &[S],
     reader: &mut R,
     writer: &mut W,
@@ -142,12 +172,20 @@ pub(crate) fn command<S: AsStr, R: Source, W: Sink, F: Sink>(
         result ≡ FAILURE → (faults_of texts ≡ []) → ServesSome texts (R.remaining reader.old) (R.remaining reader.new)
         (W.written writer.old) (W.written writer.new) }
     ensures refused { result ≡ BAD_WORDS → list_any is_mistake (faults_of (map S.text words.now)) ≡ true }
+    ensures mistakes { let kinds = faults_of (map S.text words.now) in
+        kinds ≢ [] → list_any is_request kinds ≡ false → (result ≡ BAD_WORDS) ⊎ (heap.new.refused ≡ true) }
+    ensures cause { let texts = map S.text words.now in
+        result ≡ FAILURE → (R.failures reader.old < R.failures reader.new) ⊎ ((W.failures writer.old < W.failures writer.new)
+        ⊎ ((heap.new.refused ≡ true) ⊎ AsksOutOfRange texts)) }
+    ensures memory { result ≢ FAILURE → heap.new.refused ≡ heap.old.refused }
     ensures quiet { result ≢ BAD_WORDS → faults.new ≡ faults.old }
-    ensures reads_nothing { result ≡ BAD_WORDS → reader.new ≡ reader.old }
+    ensures reads_nothing { faults_of (map S.text words.now) ≢ [] → reader.new ≡ reader.old }
     ensures writes_nothing { result ≡ BAD_WORDS → writer.new ≡ writer.old }
+    ensures silent { let kinds = faults_of (map S.text words.now) in
+        kinds ≢ [] → list_any is_request kinds ≡ false → writer.new ≡ writer.old }
 {
-    match capacity_asked(alloc, words) {
-        Ok(capacity) => served(alloc, reader, writer, capacity),
-        Err(error) => explained(alloc, &error, writer, faults),
+    match capacity_asked(heap.alloc, words) {
+        Ok(capacity) => served(heap, reader, writer, capacity),
+        Err(error) => explained(heap, &error, writer, faults),
     }
 }

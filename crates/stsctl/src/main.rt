@@ -5,6 +5,7 @@ mod command;
 #[cfg(test)]
 mod tests;
 
+use command::Heap;
 use plain::{ReadSource, WriteSink};
 use std::process::ExitCode;
 use std::{env, io};
@@ -22,8 +23,9 @@ fn main(rt: HostRuntime) -> ExitCode {
     let mut reader = ReadSource::new(rt.stdin());
     let mut writer = WriteSink::new(rt.stdout());
     let mut faults = WriteSink::new(rt.stderr());
+    let mut heap = Heap::new(rt.alloc());
     let status = command::command(
-        rt.alloc(),
+        &mut heap,
         words.as_slice(),
         &mut reader,
         &mut writer,

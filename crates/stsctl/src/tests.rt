@@ -1,5 +1,5 @@
 //! The exit statuses and the texts, over readers and writers in memory.
-use crate::command::command;
+use crate::command::{Heap, command};
 use plain::{ReadSource, WriteSink};
 use std::alloc::Global;
 use std::io;
@@ -74,7 +74,7 @@ where
     let mut written = Vec::new(alloc);
     let mut faults = Vec::new(alloc);
     let status = command(
-        alloc,
+        &mut Heap::new(alloc),
         words,
         &mut ReadSource::new(input),
         &mut WriteSink::new(&mut written),
@@ -122,7 +122,7 @@ fn bad_words_read_and_write_nothing(rt: HostRuntime) {
 fn bad_words_need_no_place_for_their_reason(rt: HostRuntime) {
     let mut written = Vec::new(rt.alloc());
     let status = command(
-        rt.alloc(),
+        &mut Heap::new(rt.alloc()),
         &["stsctl", "serve", "--capacity", "x"],
         &mut ReadSource::new(GET.as_bytes()),
         &mut WriteSink::new(&mut written),
@@ -153,7 +153,7 @@ fn help_names_the_subcommand_and_its_option(rt: HostRuntime) {
 fn help_that_nobody_takes_is_a_failure(rt: HostRuntime) {
     let mut faults = Vec::new(rt.alloc());
     let status = command(
-        rt.alloc(),
+        &mut Heap::new(rt.alloc()),
         &["stsctl", "--help"],
         &mut ReadSource::new(GET.as_bytes()),
         &mut WriteSink::new(Shut),
@@ -208,7 +208,7 @@ fn a_writer_that_fails_ends_the_run(rt: HostRuntime) {
     let mut faults = Vec::new(rt.alloc());
     // A slice takes bytes until it is full.
     let status = command(
-        rt.alloc(),
+        &mut Heap::new(rt.alloc()),
         &["stsctl", "serve"],
         &mut ReadSource::new(CREATE.as_bytes()),
         &mut WriteSink::new(room.as_mut_slice()),

@@ -1,8 +1,17 @@
-use Rattle.std.proofs.Common.{rules, map, inr, refl, ap}
+use Rattle.std.proofs.Common.{rules, map, inl, inr, refl, ap}
 use Rattle.stsctl.specs.Grammar.{faults_of, is_mistake, is_request}
-use Rattle.stsctl.proofs.Asked.{list_any-kind, only_memory}
+use Rattle.stsctl.proofs.Asked.{list_any-kind, no_kind, only_memory}
 use Rattle.stsctl.proofs.Serving.{serves_nothing}
 use Rattle.stsctl.proofs.command.command.Goals as goal
+
+pub returns-in-Ok-clause-cause : goal.returns-in-Ok-clause-cause
+returns-in-Ok-clause-cause g c = λ is.
+    elim (c.served.ensures.cause (search (rules, is))) [
+      | inl read ↦ inl read
+      | inr (inl wrote) ↦ inr (inl wrote)
+      | inr (inr (inl memory)) ↦ inr (inr (inl memory))
+      | inr (inr (inr out)) ↦ inr (inr (inr (c.in-Ok.ensures.faults, (c.in-Ok.capacity, c.in-Ok.ensures.capacity, out))))
+    ]
 
 pub returns-in-Err-clause-success : goal.returns-in-Err-clause-success
 returns-in-Err-clause-success g c = λ same.
@@ -18,4 +27,14 @@ pub returns-in-Err-clause-part : goal.returns-in-Err-clause-part
 returns-in-Err-clause-part g c = λ is none.
     let words = map g.S.AsStr.text c.args.words.now in
     let memory = only_memory c.in-Err.error words c.in-Err.ensures.faults none in
-    serves_nothing words _ _ _ _ refl (ap g.W.Sink.written (c.explained.ensures.silent memory))
+    serves_nothing words _ _ _ _ refl (ap g.W.Sink.written (c.explained.ensures.untouched (ap is_request memory)))
+
+pub returns-in-Err-clause-mistakes : goal.returns-in-Err-clause-mistakes
+returns-in-Err-clause-mistakes g c = λ some none.
+    c.explained.ensures.mistake
+    (no_kind is_request c.in-Err.error (faults_of (map g.S.AsStr.text c.args.words.now)) (search rules) c.in-Err.ensures.faults none)
+
+pub returns-in-Err-clause-silent : goal.returns-in-Err-clause-silent
+returns-in-Err-clause-silent g c = λ some none.
+    c.explained.ensures.untouched
+    (no_kind is_request c.in-Err.error (faults_of (map g.S.AsStr.text c.args.words.now)) (search rules) c.in-Err.ensures.faults none)
