@@ -1,7 +1,11 @@
 //! The exit statuses and the texts, over readers and writers in memory.
+mod asserts;
+mod requests;
+mod words;
+
 use crate::command::{Heap, command};
+use crate::tests::asserts::{outcome_of, outcome_over};
 use plain::{ReadSource, WriteSink};
-use std::alloc::Global;
 use std::io;
 use std::io::{Read, Write};
 use std::test::Fail;
@@ -56,39 +60,6 @@ impl Write for Shut {
     fn flush(&mut self) -> io::Result<()> {
         Ok(())
     }
-}
-
-/// What a run came to.
-#[derive(Drop)]
-struct Outcome {
-    status: u8,
-    written: Vec<u8>,
-    faults: Vec<u8>,
-}
-
-/// Runs the program on what a reader gives, with writers that take everything.
-fn outcome_over<R: Read>(alloc: Global, words: &[&str], input: R) -> Outcome
-where
-    R: Drop,
-{
-    let mut written = Vec::new(alloc);
-    let mut faults = Vec::new(alloc);
-    let status = command(
-        &mut Heap::new(alloc),
-        words,
-        &mut ReadSource::new(input),
-        &mut WriteSink::new(&mut written),
-        &mut WriteSink::new(&mut faults),
-    );
-    Outcome {
-        status,
-        written,
-        faults,
-    }
-}
-
-fn outcome_of(alloc: Global, words: &[&str], input: &str) -> Outcome {
-    outcome_over(alloc, words, input.as_bytes())
 }
 
 fn contains(text: &[u8], part: &str) -> bool {
