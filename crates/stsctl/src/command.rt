@@ -2,7 +2,6 @@
 ghost use Rattle.std.specs.Prelude.{◌≡◌, ◌≢◌, ◌≤◌, ◌<◌, ◌⊎◌, [], map, true, false, IfOk};
 ghost use Rattle.std.specs.List.{list_any};
 ghost use Rattle.clap.specs.Words.{FailsBy, app_of, kind_of};
-ghost use Rattle.clap.specs.declared.error.kind.ErrorKind.TheVariants.{OutOfMemory};
 ghost use Rattle.plain.specs.Streams.{Puts, ServesPart};
 ghost use Rattle.plain.specs.Served.{served};
 ghost use Rattle.plain.specs.TheConstants.{MOST_REVISIONS};
@@ -110,7 +109,8 @@ fn shown<W: Sink>(writer: &mut W, text: &[u8]) -> u8
 
 /// Writes what is wrong with the words. The status already says that they are bad, so nothing is lost where this fails.
 fn told<F: Sink>(faults: &mut F, text: &[u8]) -> u8
-    ensures { result ≡ BAD_WORDS }
+    ensures status { result ≡ BAD_WORDS }
+    ensures all { (Puts (F.written faults.old) text.now (F.written faults.new)) ⊎ (F.failures faults.old < F.failures faults.new) }
 {
     let _ = write_all(faults, text);
     BAD_WORDS
