@@ -1,6 +1,6 @@
 //! The exit statuses and the texts, over readers and writers in memory.
+mod answered;
 mod asserts;
-mod requests;
 mod words;
 
 use crate::command::{Heap, command};
