@@ -1,0 +1,4 @@
+pub mod View
+pub mod Rule
+pub mod Steps
+pub mod Seat

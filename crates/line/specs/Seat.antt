@@ -1,0 +1,41 @@
+-- What contracts see of a line and of its seats.
+use Rattle.std.specs.Prelude.{◌≡◌, ℕ, ◌+◌, ◌<◌, List, [], Bool, false, Option, None}
+use Rattle.atomic_table.specs.Seated.{TableId}
+use Rattle.line.specs.declared.view.View.{View}
+
+-- what names a line
+abbrev pub LineName : Type 0
+LineName = TableId
+
+-- the name of no line
+abbrev pub no_line : LineName
+no_line = record { words = 0; slots = 0; views_name = 0; atom = 0; block = 0; offset = 0; slot_names = [] }
+
+-- a line with the numbers from 1 to the capacity
+pub record Line : Type 0 where
+  pub name : LineName
+  pub capacity : ℕ
+
+-- a shard's seat: the numbers that it filled in the order of its draws, its open number, and whether it found all numbers drawn
+pub record ShardSeat : Type 0 where
+  pub line : LineName
+  pub filled : List ℕ
+  pub pending : Option ℕ
+  pub spent : Bool
+
+-- a caller's seat: the highest frontier that it knows of, how often it loaded the frontier, and the numbers whose marks it looked at, each with whether the mark was set
+pub record CallerSeat : Type 0 where
+  pub line : LineName
+  pub seen : ℕ
+  pub loads : ℕ
+  pub tries : List (ℕ × Bool)
+
+abbrev pub new_shard_seat : LineName → ShardSeat
+new_shard_seat line = record { line = line; filled = []; pending = None; spent = false }
+
+abbrev pub new_caller_seat : LineName → ℕ → CallerSeat
+new_caller_seat line seen = record { line = line; seen = seen; loads = 0; tries = [] }
+
+-- a seat at that table, with that view, is one of the line's
+abbrev pub IsOf : LineName → TableId → View → Type 0
+IsOf line table v = (table ≡ line) × (line.words ≡ v.capacity + 2) × (0 < v.capacity)
