@@ -1,4 +1,6 @@
-ghost use Rattle.std.specs.Prelude.{◌≡◌, ◌+◌, ◌<◌, ◌≤◌, ◌++◌, ◌∷◌, [], ◌↔◌, nat_lt, Ok, Some, None, true, false, min, All, IfSome, IfNone, IfOk, IsErrOf, vec_len};
+ghost use Rattle.std.specs.Prelude.{◌≡◌, ◌+◌, ◌<◌, ◌≤◌, ◌++◌, ◌∷◌, [], ◌↔◌, nat_lt, Ok, Some, None, true, false, All, IfSome, IfNone, IfOk, IsErrOf, vec_len};
+ghost use Rattle.std.specs.Slots.{slots_items, slots_len, IsFull};
+ghost use Rattle.line.specs.Rule.{drawn_of, frontier_of};
 ghost use Rattle.line.specs.Seat.{IsOf, new_caller_seat, new_shard_seat};
 ghost use Rattle.line.specs.View.{first_view, one_fewer};
 
@@ -153,11 +155,7 @@ impl Line {
         ensures { (result.frontier ≤ result.drawn) × (result.drawn ≤ self.capacity) }
     {
         let Line { table, capacity } = self;
-        let words = table.close();
-        let frontier = words.word(FRONTIER);
-        let count = words.word(COUNT);
-        words.free();
-        summed_up(frontier, count, capacity)
+        summed_up(table.close(), capacity)
     }
 
     /// The same, by a caller that gives up its seat: the frontier is at least what it has seen.
@@ -168,17 +166,19 @@ impl Line {
     {
         let Line { table, capacity } = self;
         let CallerSeat { place, seen: _ } = seat;
-        let words = table.close_with(place);
-        let frontier = words.word(FRONTIER);
-        let count = words.word(COUNT);
-        words.free();
-        summed_up(frontier, count, capacity)
+        summed_up(table.close_with(place), capacity)
     }
 }
 
-fn summed_up(frontier: u64, count: u64, capacity: u64) -> Closed
-    ensures { (result.frontier ≡ frontier) × (result.drawn ≡ min count capacity) }
+// What the words of a closed table say.
+fn summed_up(words: atomic_table::Closed<(), Global>, capacity: u64) -> Closed
+    requires { IsFull words.words × (slots_len words.words ≡ capacity + 2) × (slots_len words.slots ≡ 0) }
+    ensures frontier { result.frontier ≡ frontier_of (slots_items words.words) }
+    ensures drawn { result.drawn ≡ drawn_of capacity (slots_items words.words) }
 {
+    let frontier = words.word(FRONTIER);
+    let count = words.word(COUNT);
+    words.free();
     Closed {
         drawn: count.min(capacity),
         frontier,
