@@ -44,3 +44,7 @@ pub record Rule (capacity : ℕ) (words : List ℕ) (views : List View) : Type 0
   -- all numbers up to the frontier are marked
   pub passed : (n : ℕ) → 0 < n → n ≤ frontier_of words → 0 < mark_of words n
   pub each_seat : (j : ℕ) (v : View) → get_elem? views j ≡ some v → Fits capacity words v
+
+-- some words that keep the rule have so many numbers drawn, and that frontier
+abbrev pub KeepsRule : ℕ → ℕ → ℕ → Type 0
+KeepsRule capacity drawn frontier = (words : List ℕ) × (views : List View) × Rule capacity words views × (drawn ≡ drawn_of capacity words) × (frontier ≡ frontier_of words)

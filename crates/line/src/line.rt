@@ -1,6 +1,6 @@
 ghost use Rattle.std.specs.Prelude.{◌≡◌, ◌+◌, ◌<◌, ◌≤◌, ◌++◌, ◌∷◌, [], ◌↔◌, nat_lt, Ok, Some, None, true, false, All, IfSome, IfNone, IfOk, IsErrOf, vec_len};
 ghost use Rattle.std.specs.Slots.{slots_items, slots_len, IsFull};
-ghost use Rattle.line.specs.Rule.{drawn_of, frontier_of};
+ghost use Rattle.line.specs.Rule.{KeepsRule, drawn_of, frontier_of};
 ghost use Rattle.line.specs.Seat.{IsOf, new_caller_seat, new_shard_seat};
 ghost use Rattle.line.specs.View.{first_view, one_fewer};
 
@@ -20,8 +20,8 @@ pub const MOST_SHARDS: usize = 64;
 /// The numbers from 1 to a capacity, which shards draw and fill in any order, and a frontier up to which all of them are
 /// filled.
 ///
-/// Threads share a line by `&`, each with a seat of its own. A call makes one or two atomic steps on the line's words; it
-/// takes no lock, no memory, and waits for nobody.
+/// Threads share a line by `&`, each with a seat of its own. A call by a seat makes at most two atomic steps on the line's
+/// words, takes no lock and no memory, and waits for nobody.
 #[derive(Drop)]
 pub struct Line {
     pub(crate) table: Words,
@@ -100,6 +100,7 @@ impl Line {
         ensures some { IfSome result (λ n. seat.new ≡ record seat.old { pending = Some n }) }
         ensures next { IfSome result (λ n. (0 < n) × (n ≤ self.now.capacity) × All (λ x. x < n) seat.old.filled) }
         ensures none { IfNone result (seat.new ≡ record seat.old { spent = true }) }
+        ensures spent { seat.old.spent ≡ true → result ≡ None }
     {
         if seat.spent {
             return None;
@@ -152,7 +153,8 @@ impl Line {
 
     /// How many numbers were drawn, and the frontier.
     pub fn close(self) -> Closed
-        ensures { (result.frontier ≤ result.drawn) × (result.drawn ≤ self.capacity) }
+        ensures kept { KeepsRule self.capacity result.drawn result.frontier }
+        ensures within { (result.frontier ≤ result.drawn) × (result.drawn ≤ self.capacity) }
     {
         let Line { table, capacity } = self;
         summed_up(table.close(), capacity)
