@@ -1,5 +1,5 @@
 -- What contracts see of a line and of its seats.
-use Rattle.std.specs.Prelude.{◌≡◌, ℕ, ◌+◌, ◌<◌, List, [], Bool, false, Option, None}
+use Rattle.std.specs.Prelude.{◌≡◌, ℕ, ◌+◌, ◌<◌, nat_lt, List, [], ◌∷◌, ◌++◌, Bool, false, Option, None}
 use Rattle.atomic_table.specs.Seated.{TableId}
 use Rattle.line.specs.declared.view.View.{View}
 
@@ -35,6 +35,18 @@ new_shard_seat line = record { line = line; filled = []; pending = None; spent =
 
 abbrev pub new_caller_seat : LineName → ℕ → CallerSeat
 new_caller_seat line seen = record { line = line; seen = seen; loads = 0; tries = [] }
+
+-- after its open number n was filled
+abbrev pub after_fill : ShardSeat → ℕ → ShardSeat
+after_fill s n = record s { filled = s.filled ++ n ∷ []; pending = None }
+
+-- after one load of the frontier, which found f
+abbrev pub after_load : CallerSeat → ℕ → CallerSeat
+after_load s f = record s { seen = f; loads = s.loads + 1 }
+
+-- after a look at the mark of the number after what it had seen, where it then knows of the frontier f: the mark was set exactly where f is higher than that
+abbrev pub after_try : CallerSeat → ℕ → CallerSeat
+after_try s f = record s { seen = f; tries = s.tries ++ (s.seen + 1, nat_lt s.seen f) ∷ [] }
 
 -- a seat at that table, with that view, is one of the line's
 abbrev pub IsOf : LineName → TableId → View → Type 0

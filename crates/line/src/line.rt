@@ -1,7 +1,7 @@
-ghost use Rattle.std.specs.Prelude.{◌≡◌, ◌+◌, ◌<◌, ◌≤◌, ◌++◌, ◌∷◌, [], ◌↔◌, nat_lt, Ok, Some, None, true, false, All, IfSome, IfNone, IfOk, IsErrOf, vec_len};
+ghost use Rattle.std.specs.Prelude.{◌≡◌, ◌+◌, ◌<◌, ◌≤◌, [], ◌↔◌, Ok, Some, None, true, false, All, IfSome, IfNone, IfOk, IsErrOf, vec_len};
 ghost use Rattle.std.specs.Slots.{slots_items, slots_len, IsFull};
 ghost use Rattle.line.specs.Rule.{KeepsRule, drawn_of, frontier_of};
-ghost use Rattle.line.specs.Seat.{IsOf, new_caller_seat, new_shard_seat};
+ghost use Rattle.line.specs.Seat.{IsOf, after_fill, after_load, after_try, new_caller_seat, new_shard_seat};
 ghost use Rattle.line.specs.View.{first_view, one_fewer};
 
 use crate::error::LineError;
@@ -60,10 +60,12 @@ impl Line {
     /// A line with the numbers from 1 to `capacity`, none of them drawn.
     pub fn new(alloc: Global, capacity: u64, shards: usize) -> Result<Ends, LineError>
         ensures line { IfOk result (λ e. e.line.capacity ≡ capacity) }
-        ensures shards { IfOk result (λ e. (vec_len e.shards ≡ shards) × All (λ s. s ≡ new_shard_seat e.line.name) e.shards.items) }
+        ensures shards { IfOk result (λ e. (vec_len e.shards ≡ shards)
+            × All (λ s. s ≡ new_shard_seat e.line.name) e.shards.items) }
         ensures caller { IfOk result (λ e. e.caller ≡ new_caller_seat e.line.name 0) }
         ensures bad_capacity { IsErrOf result LineError.BadCapacity ↔ ((1 ≤ capacity → MOST_NUMBERS < capacity)) }
-        ensures bad_shards { IsErrOf result LineError.BadShards ↔ ((1 ≤ capacity) × (capacity ≤ MOST_NUMBERS) × (1 ≤ shards → MOST_SHARDS < shards)) }
+        ensures bad_shards { IsErrOf result LineError.BadShards
+            ↔ ((1 ≤ capacity) × (capacity ≤ MOST_NUMBERS) × (1 ≤ shards → MOST_SHARDS < shards)) }
     {
         if capacity == 0 || capacity > MOST_NUMBERS {
             return Err(LineError::BadCapacity);
@@ -117,7 +119,7 @@ impl Line {
     pub fn fill(&self, seat: &mut ShardSeat, drawn: Drawn)
         requires line { seat.old.line ≡ self.now.name }
         requires pending { seat.old.pending ≡ Some drawn }
-        ensures { seat.new ≡ record seat.old { filled = seat.old.filled ++ drawn ∷ []; pending = None } }
+        ensures { seat.new ≡ after_fill seat.old drawn }
     {
         let Drawn { number } = drawn;
         self.set_mark(&mut seat.place, number);
@@ -126,7 +128,7 @@ impl Line {
     /// The frontier, loaded once, which the seat has then seen.
     pub fn frontier(&self, seat: &mut CallerSeat) -> u64
         requires { seat.old.line ≡ self.now.name }
-        ensures loaded { seat.new ≡ record seat.old { seen = result; loads = seat.old.loads + 1 } }
+        ensures loaded { seat.new ≡ after_load seat.old result }
         ensures risen { (seat.old.seen ≤ result) × (result ≤ self.now.capacity) }
     {
         seat.seen = self.load_frontier(&mut seat.place);
@@ -137,7 +139,7 @@ impl Line {
     /// already, the seat only learns it.
     pub fn raise(&self, seat: &mut CallerSeat) -> u64
         requires { seat.old.line ≡ self.now.name }
-        ensures tried { seat.old.seen < self.now.capacity → seat.new ≡ record seat.old { seen = result; tries = seat.old.tries ++ (seat.old.seen + 1, nat_lt seat.old.seen result) ∷ [] } }
+        ensures tried { seat.old.seen < self.now.capacity → seat.new ≡ after_try seat.old result }
         ensures whole { seat.old.seen ≡ self.now.capacity → seat.new ≡ seat.old }
         ensures risen { (seat.new.seen ≡ result) × (seat.old.seen ≤ result) × (result ≤ self.now.capacity) }
     {
