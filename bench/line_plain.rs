@@ -130,6 +130,8 @@ fn measure<W: Words>(name: &str, threads: usize, words: W) {
 
 fn main() {
     let length = NUMBERS as usize + 2;
+    // What a process does first takes longer.
+    draw_all(&Atomics((0..length).map(|_| AtomicU64::new(0)).collect()));
     for threads in [1, 2, 4, 8] {
         measure("acquire and release", threads, Atomics((0..length).map(|_| AtomicU64::new(0)).collect()));
         measure("sequentially consistent", threads, Ordered((0..length).map(|_| AtomicU64::new(0)).collect()));
