@@ -8,6 +8,7 @@ use crate::error::LineError;
 use crate::rule::{ForCaller, ForShard, Place, Words};
 use crate::seat::{CallerSeat, Drawn, ShardSeat};
 use crate::steps::{COUNT, FRONTIER};
+use memory::Memory;
 use std::alloc::{AllocError, Global};
 use std::marker::Model;
 
@@ -84,7 +85,7 @@ impl Line {
     }
 
     /// Another caller's seat, which has seen what this one has. No memory is taken, so that none is ever refused.
-    pub fn split(&self, seat: &mut CallerSeat) -> Result<CallerSeat, AllocError>
+    pub fn split(&self, seat: &mut CallerSeat) -> Result<CallerSeat, Memory>
         requires line { seat.old.line ≡ self.now.name }
         ensures old { seat.new ≡ seat.old }
         ensures new { result ≡ Ok (new_caller_seat seat.old.line seat.old.seen) }

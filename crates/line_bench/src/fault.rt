@@ -1,4 +1,5 @@
 use line::LineError;
+use memory::Memory;
 use std::alloc::AllocError;
 use std::io;
 
@@ -26,6 +27,12 @@ impl From<LineError> for Fault {
 
 impl From<AllocError> for Fault {
     fn from(_error: AllocError) -> Fault {
+        Fault::Memory
+    }
+}
+
+impl From<Memory> for Fault {
+    fn from(_error: Memory) -> Fault {
         Fault::Memory
     }
 }

@@ -5,6 +5,7 @@ ghost use Rattle.line.specs.Seat.{new_caller_seat, new_shard_seat};
 use crate::fault::Fault;
 use crate::worker::{draw_all, raise_all};
 use line::{CallerSeat, Line, ShardSeat};
+use memory::Memory;
 use std::alloc::{AllocError, Global};
 use std::thread;
 use std::thread::Threads;
@@ -32,7 +33,7 @@ pub(crate) fn callers(
     line: &Line,
     first: &mut CallerSeat,
     count: usize,
-) -> Result<Vec<CallerSeat>, AllocError>
+) -> Result<Vec<CallerSeat>, Memory>
     requires { first.old ≡ new_caller_seat line.now.name 0 }
     ensures { IfOk result (λ v. All (λ s. s ≡ new_caller_seat line.now.name 0) v.items) }
 {

@@ -1,8 +1,8 @@
 ghost use Rattle.std.specs.Prelude.{◌≡◌};
 ghost use Rattle.trees.specs.declared.fault.TreeError.TheVariants.{Memory as OutOfMemory, NotJson as NoText};
 
-use crate::memory::Memory;
 use json::Invalid;
+use memory::Memory;
 use std::alloc::{AllocError, AllocFailed};
 use thiserror::Error;
 

@@ -4,9 +4,9 @@ ghost use Rattle.serde_json.specs.Written.{members_have_float};
 ghost use Rattle.trees.specs.Tree.{members_of, AreAscending};
 ghost use Rattle.trees.specs.IfWhole.{found_in, found_of, all_whole};
 
-use crate::memory::Memory;
 use crate::text::Text;
 use crate::tree::Tree;
+use memory::Memory;
 use std::alloc::{AllocError, Global};
 use std::collections::BTreeMap;
 

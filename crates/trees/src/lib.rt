@@ -4,7 +4,6 @@
 
 mod fault;
 mod found;
-mod memory;
 mod number;
 mod parse;
 mod places;

@@ -8,10 +8,10 @@ ghost use Rattle.trees.specs.Reading.{tree_reading, json_value, read_within};
 ghost use Rattle.trees.specs.declared.fault.TreeError.TheVariants.{NotJson};
 
 use crate::fault::TreeError;
-use crate::memory::Memory;
 use crate::parse::tree_in;
 use crate::tree::Tree;
 use json::Scratch;
+use memory::Memory;
 use simdutf8::basic::from_utf8;
 use std::alloc::Global;
 

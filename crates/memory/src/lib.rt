@@ -1,3 +1,6 @@
+//! Want of memory, which every call that takes memory may answer, as one type for all crates.
+#![tactic(auto)]
+
 ghost use Rattle.std.specs.Prelude.{⊤};
 
 use std::alloc::{AllocError, AllocFailed};
