@@ -1,0 +1,9 @@
+pub mod KeyRuns
+pub mod Entries
+pub mod Collections
+pub mod Rows
+pub mod Records
+pub mod Chains
+pub mod Placing
+pub mod Steps
+pub mod Lists

@@ -1,0 +1,6 @@
+pub mod Keys
+pub mod Keyed
+pub mod Rows
+pub mod Records
+pub mod Versions
+pub mod Whole

@@ -1,0 +1,12 @@
+//! An ordered map from keys to their versions: what each key was, at each number that somebody may still read.
+#![tactic(auto)]
+
+mod chain;
+mod laws;
+mod least;
+mod map;
+mod places;
+
+pub use laws::states_have_the_values;
+pub use least::{is_of, least_key};
+pub use map::VersionMap;

@@ -1,0 +1,263 @@
+ghost use Rattle.std.specs.Prelude.{◌≡◌, ◌≤◌, ◌<◌, ◌++◌, ◌∷◌, [], ℕ, true, false, Some, IsTrue, IfOk, IfSome, IsSome, OnOk, OnErr, option_map, length, map, if◌then◌else◌};
+ghost use Rattle.std.specs.Option.{option_copied};
+ghost use Rattle.std.specs.VecDeque.{deque_capacity, deque_len};
+ghost use Rattle.std.specs.FinMap as finite;
+ghost use Rattle.objects.specs.declared.key.Key.{Key};
+ghost use Rattle.version_map.specs.Rows.{state_to};
+ghost use Rattle.version_map.specs.Whole.{ArePlaced, AreStill, is_roomy, rows_there, values_in};
+ghost use Rattle.version_map.specs.Keyed.{collection, put_at};
+ghost use Rattle.version_map.specs.Versions.{IsAbove, compacted, count, newest, opening, pushed, raised, state_at, value, with_room};
+
+use crate::chain::Chain;
+use crate::places::Places;
+use objects::{Key, Kind, Memory, Text};
+use std::alloc::{AllocError, Global};
+use std::collections::VecDeque;
+use std::marker::Model;
+
+/// A version that follows another one of its key, which can go once nobody reads below the number.
+#[derive(Drop)]
+struct Superseding {
+    number: u64,
+    place: usize,
+}
+
+/// For each of its keys, what it was at each number from the floor on.
+///
+/// A version is what a key is from its number on: a value, or none after a removal. Whoever reads at a number is answered
+/// by the version with the largest number up to that one. Numbers below the floor are read no more, so that versions which
+/// only they need can be dropped.
+#[derive(Drop)]
+pub struct VersionMap<V> {
+    places: Places,
+    chains: Vec<Chain<V>>,
+    superseding: VecDeque<Superseding>,
+    count: usize,
+    floor: u64,
+    // The place of the key that a push has room for.
+    room: Option<usize>,
+    alloc: Global,
+}
+
+impl<V> Model for VersionMap<V> {
+    ghost use Rattle.std.specs.Prelude.{◌<◌, ◌+◌, ◌^◌, IfSome, IsSome, option_and_then};
+    ghost use Rattle.std.specs.VecDeque.{deque_capacity, deque_len};
+    ghost use Rattle.version_map.specs.Versions.{Versions, versions_coded};
+    ghost use Rattle.version_map.specs.Whole.{HasRoom, IsWhole, by_key, key_at};
+
+    ghost Value = { Versions V };
+
+    ghost coded = { versions_coded V.code };
+
+    ghost view = { λ s. record { rows = by_key s.places s.chains.items; floor = s.floor; room = option_and_then (key_at s.places) s.room } };
+
+    ghost invariant = { λ s. IsWhole s.places s.chains.items s.superseding.items s.count
+        × IfSome s.room (HasRoom s.places s.chains.items)
+        × (IsSome s.room → (deque_len s.superseding < deque_capacity s.superseding) × (s.count + 1 < 2 ^ 64)) };
+}
+
+impl<V: Drop> VersionMap<V> {
+    /// No versions, and the floor 0.
+    pub fn new(alloc: Global) -> VersionMap<V>
+        ensures { result ≡ opening }
+    {
+        VersionMap {
+            places: Places::new(alloc),
+            chains: Vec::new(alloc),
+            superseding: VecDeque::new(alloc),
+            count: 0,
+            floor: 0,
+            room: None,
+            alloc,
+        }
+    }
+
+    /// The number of the key's newest version, and the value; a removal has none.
+    pub fn newest(&self, key: &Key) -> Option<(u64, Option<&V>)>
+        ensures { option_map (λ p. (p.0, option_copied p.1)) result ≡ newest self.now.rows key.now }
+    {
+        let place = self.places.get(key)?;
+        self.chains[place].newest()
+    }
+
+    /// What the key was at a number, from the floor on.
+    pub fn at(&self, key: &Key, number: u64) -> Option<&V>
+        requires { self.now.floor ≤ number }
+        ensures { option_copied result ≡ value self.now.rows number key.now }
+    {
+        let place = self.places.get(key)?;
+        self.chains[place].at(number)
+    }
+
+    /// The values of a kind in a namespace at a number, from the floor on, in byte order of their names.
+    pub fn list_at(&self, kind: Kind, namespace: &Text, number: u64) -> Result<Vec<&V>, Memory>
+        requires { self.now.floor ≤ number }
+        ensures { IfOk result (λ values. map (λ v. v.now) values.items ≡ collection (state_at self.now.rows number) kind namespace.now) }
+    {
+        let places = self.places.of(self.alloc, kind, namespace)?;
+        Ok(values_at(self.alloc, &self.chains, places, number)?)
+    }
+
+    /// Makes room for one push of that key, in place of any room that was made before. All readings stay, and where memory
+    /// runs out the room too.
+    pub fn make_room(&mut self, key: &Key) -> Result<(), Memory>
+        ensures made { OnOk result (self.new ≡ with_room self.old key.now) }
+        ensures memory { OnErr result (self.new ≡ self.old) }
+    {
+        if self.count == usize::MAX {
+            return Err(Memory);
+        }
+        self.superseding.reserve(1)?;
+        let place = reserve_for(self.alloc, &mut self.places, &mut self.chains, key)?;
+        self.room = Some(place);
+        Ok(())
+    }
+
+    /// Adds a version of the key that room was made for. It takes no memory.
+    pub fn push(&mut self, number: u64, state: Option<V>)
+        requires room { IsSome self.old.room }
+        requires above { IsAbove self.old.rows number }
+        ensures pushed { IfSome self.old.room (λ key. self.new ≡ pushed self.old number key state) }
+        ensures written { IfSome self.old.room (λ key. state_at self.new.rows number ≡ put_at (state_at self.old.rows number) key state) }
+    {
+        let Some(place) = self.room.take() else {
+            unreachable!();
+        };
+        let chain = &mut self.chains[place];
+        let is_first = chain.is_empty();
+        chain.push(number, state);
+        enqueue(&mut self.superseding, is_first, Superseding { number, place });
+        self.count += 1;
+    }
+
+    /// Raises the floor to a number, and drops what is read no more: of each key's versions up to it, all but the last.
+    /// A number below the floor changes nothing. What each key is now stays, and so do all readings from the floor on.
+    /// It takes no memory, and its time is that of the versions dropped and of those that have come up to the floor, each
+    /// of which is looked at once.
+    pub fn compact(&mut self, number: u64)
+        ensures raised { self.new ≡ raised self.old number }
+        ensures newest { (key : Key) → newest self.new.rows key ≡ newest self.old.rows key }
+        ensures readings { (m : ℕ) → self.new.floor ≤ m → state_at self.new.rows m ≡ state_at self.old.rows m }
+        ensures values { (m : ℕ) (key : Key) → self.new.floor ≤ m → value self.new.rows m key ≡ value self.old.rows m key }
+    {
+        if number < self.floor {
+            return;
+        }
+        while self.drop_next(number) {}
+        self.floor = number;
+    }
+
+    /// Drops the version before the next one that follows another of its key, if the number of that next one is at most
+    /// this one. Answers whether there was one.
+    fn drop_next(&mut self, number: u64) -> bool
+        ensures left { compacted self.new.rows number ≡ compacted self.old.rows number }
+        ensures others { (self.new.floor ≡ self.old.floor) × (self.new.room ≡ self.old.room) }
+        ensures fewer { IsTrue result → count self.new.rows < count self.old.rows }
+        ensures none { result ≡ false → (self.new ≡ self.old) × (compacted self.old.rows number ≡ self.old.rows) }
+    {
+        let Some(next) = self.superseding.front() else {
+            return false;
+        };
+        if number < next.number {
+            return false;
+        }
+        let Some(next) = self.superseding.pop_front() else {
+            unreachable!();
+        };
+        let chain = &mut self.chains[next.place];
+        chain.drop_first();
+        self.count -= 1;
+        true
+    }
+
+    /// The number from which on the versions can be read.
+    pub fn floor(&self) -> u64
+        ensures { result ≡ self.now.floor }
+    {
+        self.floor
+    }
+
+    /// How many versions there are.
+    pub fn records(&self) -> usize
+        ensures { result ≡ count self.now.rows }
+    {
+        self.count
+    }
+}
+
+/// What the chains at the places say at a number; nothing where nothing was there.
+fn values_at<V: Drop>(
+    alloc: Global,
+    chains: &[Chain<V>],
+    places: Vec<usize>,
+    number: u64,
+) -> Result<Vec<&V>, AllocError>
+    ensures { IfOk result (λ values. map (λ v. v.now) values.items ≡ values_in number chains.now places.items) }
+{
+    let mut found = Vec::new(alloc);
+    for place in places {
+        if let Some(value) = version_at(chains, place, number) {
+            found.push(value)?;
+        }
+    }
+    Ok(found)
+}
+
+/// What the chain at the place says at a number.
+fn version_at<V: Drop>(chains: &[Chain<V>], place: usize, number: u64) -> Option<&V>
+    ensures { option_copied result ≡ state_to number (rows_there chains.now place) }
+{
+    chains.get(place)?.at(number)
+}
+
+/// Puts a version into the queue, unless it is the first of its key.
+fn enqueue(superseding: &mut VecDeque<Superseding>, is_first: bool, next: Superseding)
+    requires { deque_len superseding.old < deque_capacity superseding.old }
+    ensures { superseding.new.items ≡ (if is_first then superseding.old.items else superseding.old.items ++ next ∷ []) }
+{
+    if !is_first {
+        superseding.push_back_reserved(next);
+    }
+}
+
+/// Makes room for one more version of the key, and answers its place. A new key is put in with no versions.
+fn reserve_for<V: Drop>(
+    alloc: Global,
+    places: &mut Places,
+    chains: &mut Vec<Chain<V>>,
+    key: &Key,
+) -> Result<usize, AllocError>
+    requires { ArePlaced places.old chains.old.items }
+    ensures placed { ArePlaced places.new chains.new.items }
+    ensures still { AreStill places.old chains.old.items places.new chains.new.items }
+    ensures room { IfOk result (λ place. (finite.get places.new key.now ≡ Some place) × (is_roomy chains.new.items place ≡ true)) }
+{
+    let place = place_of(alloc, places, chains, key)?;
+    let chain = &mut chains[place];
+    chain.reserve()?;
+    Ok(place)
+}
+
+/// The place of the key, which is put in with no versions if it is new.
+fn place_of<V: Drop>(
+    alloc: Global,
+    places: &mut Places,
+    chains: &mut Vec<Chain<V>>,
+    key: &Key,
+) -> Result<usize, AllocError>
+    requires { ArePlaced places.old chains.old.items }
+    ensures placed { ArePlaced places.new chains.new.items }
+    ensures still { AreStill places.old chains.old.items places.new chains.new.items }
+    ensures place { IfOk result (λ place. finite.get places.new key.now ≡ Some place) }
+{
+    match places.get(key) {
+        Some(place) => Ok(place),
+        None => {
+            chains.reserve(1)?;
+            let place = chains.len();
+            places.insert(key, place)?;
+            chains.push_reserved(Chain::new(alloc));
+            Ok(place)
+        }
+    }
+}
