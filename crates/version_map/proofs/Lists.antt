@@ -1,26 +1,24 @@
 -- What is there at a number of a kind in a namespace: what the chains of those keys say, in the order of the keys.
-use Rattle.std.proofs.Common.{◌≡◌, ℕ, ◌<◌, ◌≤◌, arith, nat_le, IfSome, Bool, true, false, cond, T, List, [], ◌∷◌, ◌++◌, map, Option, Some, None, option_map, option_and_then, refl, sym, ap, subst, ◌∙◌}
-use Rattle.std.specs.List.{AllByRecursion, flat_map}
+use Rattle.std.proofs.Common.{◌≡◌, ℕ, ◌≤◌, arith, nat_le, IfSome, Bool, true, false, cond, T, List, [], ◌∷◌, ◌++◌, map, Option, Some, None, option_map, option_and_then, refl, sym, ap, subst, ◌∙◌}
 use Rattle.std.specs.Option.{option_map_or, option_to_list, unwrap_or}
 use Rattle.std.specs.Ordering.{eq_by_cmp, is_lt}
 use Rattle.std.specs.declared.cmp.Ordering.TheVariants.{Equal}
-use Rattle.std.specs.FinMap.{FinMap, entries, entries-from_sorted, entries_sorted, find, from_sorted, get, get-entries, get-from_entries, get-from_sorted, get-insert, get-remove, get-retain_keys, insert, is_sorted, retain_keys, same_map, values}
+use Rattle.std.specs.FinMap.{FinMap, entries, entries-from_sorted, entries_sorted, find, from_sorted, get, get-entries, get-from_entries, get-from_sorted, get-insert, get-remove, get-retain_keys, insert, is_sorted, retain_keys, same_map}
 use Rattle.std.specs.FinMap.Entries.{below_all, find-where_key, is_sorted-where_key, where_key}
 use Rattle.std.proofs.lemmas.Bool.{and_parts}
 use Rattle.std.proofs.lemmas.Bool.Decides.{nat_tests}
 use Rattle.std.proofs.lemmas.List.Concat.{flat_map-cons}
-use Rattle.std.proofs.lemmas.Option.{none-some, same_Some}
 use Rattle.objects.specs.declared.key.Key.{Key}
 use Rattle.objects.specs.declared.kind.Kind.{Kind}
 use Rattle.objects.specs.Key.{key_cmp}
 use Rattle.objects.specs.KeyOrder.{exact_keys, key_cmp_total}
 use Rattle.version_map.specs.Keys.{is_of}
 use Rattle.version_map.specs.Keyed.{collection, put_at}
-use Rattle.version_map.specs.Rows.{AreBelow, Row, state_to}
+use Rattle.version_map.specs.Rows.{Row, state_to}
 use Rattle.version_map.specs.Versions.{IsAbove, RowsByKey, Versions, compacted, rows_at, state_at, states_to, value, with_state}
-use Rattle.version_map.specs.Whole.{Chains, Places, by_key, key_at, rows_in, rows_there, values_in}
+use Rattle.version_map.specs.Whole.{Chains, Places, by_key, key_at, rows_there, values_in}
 use Rattle.version_map.proofs.Chains.{below_none, is_held, rows_are, same_key}
-use Rattle.version_map.proofs.Rows.{row_beyond, row_here}
+use Rattle.version_map.proofs.Rows.{row_here}
 use Rattle.version_map.proofs.Steps.{room_key, seen, value_left}
 
 holds : (b : Bool) → b ≡ true → T b

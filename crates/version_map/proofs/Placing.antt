@@ -1,5 +1,5 @@
 -- The places of keys and the chains that stand there: another chain at a place, and a chain more.
-use Rattle.std.proofs.Common.{◌≡◌, ◌≢◌, ℕ, zero, suc, ◌+◌, ◌<◌, ◌≤◌, ◌==◌, nat_le, Bool, true, false, cond, T, List, [], ◌∷◌, ◌++◌, length, get_or, Option, Some, None, IfSome, option_map, option_and_then, get_or-set_same, get_or-set_other, refl, sym, ap, subst, ◌∙◌, arith, length-append}
+use Rattle.std.proofs.Common.{◌≡◌, ◌≢◌, ℕ, zero, suc, ◌+◌, ◌<◌, ◌≤◌, ◌==◌, nat_le, Bool, true, false, cond, List, [], ◌∷◌, ◌++◌, length, get_or, Option, Some, None, option_map, get_or-set_same, get_or-set_other, refl, sym, ap, subst, ◌∙◌, arith, length-append}
 use Rattle.std.proofs.Math.ListN.{set, get_or-append, length-set}
 use Rattle.std.proofs.Math.Seq.{get_or-append_seam}
 use Rattle.std.specs.List.{find}
@@ -14,9 +14,9 @@ use Rattle.std.proofs.lemmas.Option.{none-some, same_Some}
 use Rattle.objects.specs.declared.key.Key.{Key}
 use Rattle.objects.specs.Key.{key_cmp}
 use Rattle.objects.specs.KeyOrder.{key_cmp_total}
-use Rattle.version_map.specs.Rows.{Chain, Row}
-use Rattle.version_map.specs.Whole.{AreStill, ArePlaced, Chains, HasRoom, IsOwned, Places, chain_there, is_roomy, key_at, no_chain, rows_in, rows_there}
-use Rattle.version_map.proofs.Chains.{below_none, is_held, own_key, same_key, swap}
+use Rattle.version_map.specs.Rows.{Chain}
+use Rattle.version_map.specs.Whole.{AreStill, ArePlaced, Chains, HasRoom, Places, chain_there, is_roomy, key_at, no_chain, rows_in, rows_there}
+use Rattle.version_map.proofs.Chains.{below_none, is_held, own_key, same_key}
 
 -- ---- the key at a place
 

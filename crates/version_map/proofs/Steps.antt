@@ -1,5 +1,5 @@
 -- What the parts of a map of versions are after one more row, and after the first row of a key.
-use Rattle.std.proofs.Common.{◌≡◌, ℕ, zero, suc, ◌+◌, ◌<◌, ◌≤◌, ◌-◌, ◌==◌, Bool, true, false, cond, List, [], ◌∷◌, ◌++◌, append-nil, length, drop, get_or, Option, Some, None, option_and_then, IfSome, IsSome, Result, Ok, Err, OnErr, slice_index_or, refl, sym, ap, subst, ◌∙◌, arith, length-append}
+use Rattle.std.proofs.Common.{◌≡◌, ℕ, ◌+◌, ◌<◌, ◌≤◌, ◌-◌, ◌==◌, Bool, true, false, cond, List, [], ◌∷◌, ◌++◌, append-nil, length, drop, get_or, Option, Some, None, option_and_then, IfSome, Result, Ok, Err, OnErr, slice_index_or, refl, sym, ap, subst, ◌∙◌, arith, length-append}
 use Rattle.std.specs.Prelude.{if◌then◌else◌}
 use Rattle.std.proofs.Math.ListN.{set}
 use Rattle.std.specs.List.{AllByRecursion}
@@ -9,7 +9,7 @@ use Rattle.std.specs.FinMap as map
 use Rattle.std.specs.FinMap.{entries, get, get-empty, len-empty, len-entries}
 use Rattle.std.proofs.lemmas.Bool.{eqb-true}
 use Rattle.std.proofs.lemmas.Bool.Decides.{nat_tests}
-use Rattle.std.proofs.lemmas.Option.{none-some, same_Some}
+use Rattle.std.proofs.lemmas.Option.{none-some}
 use Rattle.objects.specs.declared.key.Key.{Key}
 use Rattle.objects.specs.Key.{key_cmp}
 use Rattle.version_map.specs.declared.map.Superseding.{Superseding}
@@ -17,7 +17,7 @@ use Rattle.version_map.specs.Rows.{AreBelow, Chain, Row, kept, last_row, state_t
 use Rattle.version_map.specs.Versions.{IsAbove, RowsByKey, Versions, compacted, count, count_in, newest, opening, pushed, rows_at, value, with_room}
 use Rattle.version_map.specs.Whole.{ArePlaced, AreStill, Chains, HasRoom, IsInOrder, IsOwned, IsWhole, Places, by_key, chain_there, is_roomy, key_at, numbers, rows_by, rows_in, rows_there, waiting}
 use Rattle.version_map.proofs.Rows.{SecondIs, all_kept, all_more, all_weaker, kept_second, last_kept, numbers_more, row_kept, second_is}
-use Rattle.version_map.proofs.Chains.{count_written, none_compacted, own_key, rows_are, rows_compacted, same_compacted, same_key, same_rows, some_rows, swap, written_rows}
+use Rattle.version_map.proofs.Chains.{count_written, none_compacted, own_key, rows_are, rows_compacted, same_compacted, same_key, same_rows, some_rows, written_rows}
 use Rattle.version_map.proofs.Placing.{as_many, chain_elsewhere, chain_found, chain_here, each_chain, key_of, still_owned}
 
 -- ---- the queue
@@ -302,8 +302,11 @@ module _ {X : Type 0} where
 
       pub room_dropped : (c.roomy ≡ true → d.roomy ≡ true) → (room : Option ℕ) → IfSome room (HasRoom ps cs) → IfSome room (HasRoom ps (set cs t.place d))
       room_dropped still None has = tt
-      room_dropped still (Some p) has = (has.0, each_chain cs (set cs t.place d) t.place d place_within refl (λ q (x : Chain X). is_roomy cs q ≡ true → x.roomy ≡ true)
-          (λ was. still (ap (λ (x : Chain X). x.roomy) chain_dropped ∙ was)) (λ q other was. was) p has.1)
+      room_dropped still (Some p) has = (
+        has.0,
+        each_chain cs (set cs t.place d) t.place d place_within refl (λ q (x : Chain X). is_roomy cs q ≡ true → x.roomy ≡ true)
+            (λ was. still (ap (λ (x : Chain X). x.roomy) chain_dropped ∙ was)) (λ q other was. was) p has.1,
+      )
 
   -- ---- the same rows in other chains
 

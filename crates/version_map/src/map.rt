@@ -126,7 +126,11 @@ impl<V: Drop> VersionMap<V> {
         let chain = &mut self.chains[place];
         let is_first = chain.is_empty();
         chain.push(number, state);
-        enqueue(&mut self.superseding, is_first, Superseding { number, place });
+        enqueue(
+            &mut self.superseding,
+            is_first,
+            Superseding { number, place },
+        );
         self.count += 1;
     }
 

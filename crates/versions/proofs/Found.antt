@@ -1,5 +1,8 @@
 -- What is found by its number in a list of numbered values: after a filter, a change of each value, or with a list behind it.
-use Rattle.std.proofs.Common.{◌≡◌, ℕ, Bool, true, false, cond, ◌&&◌, T, List, [], ◌∷◌, ◌++◌, map, filter, Option, Some, None, option_map, refl, sym, ap, ◌∙◌}
+use Rattle.std.proofs.Common.{◌≡◌, ℕ, Bool, true, false, cond, ◌&&◌, T, List, [], ◌∷◌, ◌++◌, map, filter, Option, Some, None, option_map, refl, sym, ap, ◌∙◌, ◌<◌, arith}
+use Rattle.std.specs.List.{AllByRecursion}
+use Rattle.std.specs.Cmp.{nat_cmp_total, tied_itself}
+use Rattle.std.proofs.lemmas.Cmp.{ranked}
 use Rattle.std.specs.Option.{option_or}
 use Rattle.std.specs.Ordering.{nat_cmp, eq_by_cmp, is_eq, is_lt}
 use Rattle.std.specs.declared.cmp.Ordering.{Ordering}
@@ -8,6 +11,7 @@ use Rattle.std.specs.FinMap.{find, is_sorted, nat_cmp-IsAntisymmetric}
 use Rattle.std.specs.FinMap.Entries.{below_all}
 use Rattle.std.proofs.lemmas.Bool.{and_parts}
 use Rattle.std.proofs.lemmas.Map.Entries.{option_filter}
+use Rattle.std.proofs.lemmas.Option.{none-some}
 use Rattle.objects.specs.KeyOrder.{equal_from}
 
 -- numbers that tie are one
@@ -107,3 +111,57 @@ find-append n (e ∷ es) fs =
       | true ↦ refl
       | false ↦ find-append n es fs
     ]
+
+-- ---- in order
+
+less_by : (n : ℕ) (m : ℕ) → is_lt (nat_cmp n m) ≡ true → n < m
+less_by n m h = ranked n m Less (sym (only_less (nat_cmp n m) h))
+  where
+    only_less : (r : Ordering) → is_lt r ≡ true → r ≡ Less
+    only_less Less h = refl
+    only_less Equal h = cc
+    only_less Greater h = cc
+
+below_less : {X : Type 0} (n : ℕ) (es : List (ℕ × X)) → below_all nat_cmp n es ≡ true → AllByRecursion (λ e. n < e.0) es
+below_less n [] below = tt
+below_less n (e ∷ es) below = let parts = and_parts (is_lt (nat_cmp n e.0)) (below_all nat_cmp n es) below in (less_by n e.0 parts.0, below_less n es parts.1)
+
+-- the first is below all others
+pub less_all : {X : Type 0} (e : ℕ × X) (es : List (ℕ × X)) → is_sorted nat_cmp (e ∷ es) ≡ true → AllByRecursion (λ f. e.0 < f.0) es
+less_all e es sorted = below_less e.0 es (and_parts (below_all nat_cmp e.0 es) (is_sorted nat_cmp es) sorted).0
+
+found_past : {X : Type 0} (n : ℕ) (e : ℕ × X) (es : List (ℕ × X)) → e.0 < n → find nat_cmp n (e ∷ es) ≡ find nat_cmp n es
+found_past n e es less = by (eq_by_cmp nat_cmp n e.0) refl
+  where
+    by : (b : Bool) → eq_by_cmp nat_cmp n e.0 ≡ b → cond b (Some e.1) (find nat_cmp n es) ≡ find nat_cmp n es
+    by true tie = let same = equal_numbers n e.0 tie in absurd (omega arith)
+    by false tie = refl
+
+-- each is found where it stands
+pub found_here : {X : Type 0} (fs : List (ℕ × X)) (e : ℕ × X) (es : List (ℕ × X)) → is_sorted nat_cmp (fs ++ e ∷ es) ≡ true → find nat_cmp e.0 (fs ++ e ∷ es) ≡ Some e.1
+found_here [] e es sorted = ap (λ b. cond b (Some e.1) (find nat_cmp e.0 es)) (ap is_eq (tied_itself nat_cmp_total e.0))
+found_here (f ∷ fs) e es sorted =
+    found_past e.0 f (fs ++ e ∷ es) (within (λ (x : ℕ × _). f.0 < x.0) fs e es (less_all f (fs ++ e ∷ es) sorted))
+    ∙ found_here fs e es (and_parts (below_all nat_cmp f.0 (fs ++ e ∷ es)) (is_sorted nat_cmp (fs ++ e ∷ es)) sorted).1
+  where
+    within : {A : Type 0} (P : A → Type 0) (xs : List A) (y : A) (ys : List A) → AllByRecursion P (xs ++ y ∷ ys) → P y
+    within P [] y ys h = h.0
+    within P (x ∷ xs) y ys h = within P xs y ys h.1
+
+-- what is found among the rest is found in the whole list
+found_later : {X : Type 0} (e : ℕ × X) (es : List (ℕ × X)) → is_sorted nat_cmp (e ∷ es) ≡ true → (n : ℕ) (x : X) → find nat_cmp n es ≡ Some x → find nat_cmp n (e ∷ es) ≡ Some x
+found_later e es sorted n x found = by (eq_by_cmp nat_cmp n e.0) refl
+  where
+    by : (b : Bool) → eq_by_cmp nat_cmp n e.0 ≡ b → find nat_cmp n (e ∷ es) ≡ Some x
+    by true tie =
+        let none = none_below e.0 es (and_parts (below_all nat_cmp e.0 es) (is_sorted nat_cmp es) sorted).0 in
+        absurd (none-some x (sym none ∙ ap (λ m. find nat_cmp m es) (sym (equal_numbers n e.0 tie)) ∙ found))
+    by false tie = ap (λ b. cond b (Some e.1) (find nat_cmp n es)) tie ∙ found
+
+-- what holds of all that is found holds of all
+pub all_found : {X : Type 0} (P : ℕ × X → Type 0) (es : List (ℕ × X)) → is_sorted nat_cmp es ≡ true → ((n : ℕ) (x : X) → find nat_cmp n es ≡ Some x → P (n, x)) → AllByRecursion P es
+all_found P [] sorted each = tt
+all_found P (e ∷ es) sorted each = (
+  each e.0 e.1 (found_here [] e es sorted),
+  all_found P es (and_parts (below_all nat_cmp e.0 es) (is_sorted nat_cmp es) sorted).1 (λ n x found. each n x (found_later e es sorted n x found)),
+)

@@ -1,157 +1,153 @@
--- What compaction keeps: the newest record of each key, and all that can be read from the number on.
-use Rattle.std.proofs.Common.{◌≡◌, ℕ, ◌≤◌, Bool, true, false, not, ◌&&◌, cond, List, [], ◌∷◌, Option, Some, None, is_some, option_map, option_and_then, refl, sym, ap, ◌∙◌, arith, nat_lt, nat_le}
-use Rattle.std.specs.List.{filter, list_any}
-use Rattle.std.specs.Option.{option_or}
+-- What compaction leaves of the records of a key is what it leaves of the rows.
+use Rattle.std.proofs.Common.{◌≡◌, ℕ, ◌<◌, ◌≤◌, Bool, true, false, not, ◌&&◌, ◌||◌, cond, List, [], ◌∷◌, ◌++◌, Option, Some, None, refl, sym, ap, ◌∙◌, subst, arith, nat_lt, nat_le, append_assoc}
+use Rattle.std.specs.List.{AllByRecursion, list_any}
+use Rattle.std.specs.Option.{option_map_or}
 use Rattle.std.specs.Ordering.{nat_cmp, eq_by_cmp}
-use Rattle.std.specs.FinMap.{entries, entries_sorted, find, get, get-entries, is_sorted, nat_cmp-IsAntisymmetric, same_map}
-use Rattle.std.specs.FinMap.Entries.{find-where_key, is_sorted-where_key, where_key}
-use Rattle.std.proofs.lemmas.Bool.{and_parts, le-leb, le-ltb, lt-ltb}
-use Rattle.std.proofs.lemmas.Option.{none-some}
+use Rattle.std.specs.declared.cmp.Ordering.TheVariants.{Equal}
+use Rattle.std.specs.FinMap.{entries, entries-from_sorted, entries_sorted, find, from_sorted, get, get-entries, get-from_sorted, get-retain_keys, is_sorted, nat_cmp-IsAntisymmetric, retain_keys, same_map}
+use Rattle.std.specs.Cmp.{nat_cmp_total}
+use Rattle.std.specs.FinMap.Entries.{below_all, find-where_key, is_sorted-where_key, where_key}
+use Rattle.std.proofs.lemmas.Bool.{and_parts}
+use Rattle.std.proofs.lemmas.Bool.Decides.{nat_tests}
 use Rattle.objects.specs.declared.key.Key.{Key}
 use Rattle.objects.specs.Key.{key_cmp}
-use Rattle.objects.specs.KeyOrder.{exact_keys, key_cmp_total}
 use Rattle.requests.specs.declared.version.Version.{Version}
-use Rattle.versions.specs.Records.{Record, Records, last_of, newest, state_at, up_to, value}
+use Rattle.version_map.specs.Rows.{begins_to, kept}
+use Rattle.version_map.proofs.Chains.{same_key}
 use Rattle.versions.specs.Compacted.{compacted, is_superseded}
-use Rattle.versions.proofs.FoundRows.{entries_kept, found_any, found_first, found_later, holds, or_rest, rest_above, rest_sorted}
-use Rattle.versions.proofs.Superseded.{key_tied, same_key, superseder}
-use Rattle.versions.proofs.States.{state_is_value}
+use Rattle.versions.specs.Held.{rows_of}
+use Rattle.versions.specs.Records.{Record, Records}
+use Rattle.versions.proofs.Found.{found_here, is_held, less_all}
+use Rattle.versions.proofs.OfKeys.{row_at, rows_cons}
 
--- ---- dropping records that are followed by another of their key
+-- some later one of the key is up to n
+abbrev later : ℕ → Key → List Record → Bool
+later n k es = list_any (λ r. nat_le r.0 n && eq_by_cmp key_cmp k r.1.key) es
 
--- a record with a larger number and the same key
-abbrev follows : ℕ → Version → Record → Bool
-follows m v r = nat_lt m r.0 && eq_by_cmp key_cmp v.key r.1.key
+-- those that have no later one of their key up to n
+abbrev keep : ℕ → List Record → List Record
+keep n [] = []
+keep n (e ∷ es) = cond (later n e.1.key es) (keep n es) (e ∷ keep n es)
 
--- each record that the test drops is followed by another of its key
-abbrev AreFollowed : (ℕ → Bool) → List Record → Type 0
-AreFollowed keep rs = (m : ℕ) (v : Version) → find nat_cmp m rs ≡ Some v → keep m ≡ false → list_any (follows m v) rs ≡ true
+-- ---- by the rows of a key
 
-there_or : (o : Option Record) (b : Bool) (r : Record) → is_some o ≡ true → is_some (option_or o (cond b (Some r) None)) ≡ true
-there_or None b r is = cc
-there_or (Some x) b r is = refl
+none_later : (n : ℕ) (k : Key) (e : Record) (fs : List Record) → nat_le e.0 n ≡ false → AllByRecursion (λ (r : Record). e.0 < r.0) fs → later n k fs ≡ false
+none_later n k e [] past above = refl
+none_later n k e (f ∷ fs) past above =
+    let up = above.0 in
+    let one : nat_le f.0 n ≡ false = grind (arith, nat_tests) in
+    rw one (none_later n k e fs past above.1)
 
-there_if : (o : Option Record) (b : Bool) (r : Record) → b ≡ true → is_some (option_or o (cond b (Some r) None)) ≡ true
-there_if None true r is = refl
-there_if (Some x) true r is = refl
-there_if o false r is = cc
-
--- a key that has a record in the list has a last one
-last_there : (k : Key) (m : ℕ) (v : Version) (rs : List Record) → k ≡ v.key → list_any (follows m v) rs ≡ true → is_some (last_of k rs) ≡ true
-last_there k m v [] same any = absurd cc
-last_there k m v (r ∷ rs) same any = by_test (λ more. last_there k m v rs same more) (follows m v r) refl
+-- in the order of numbers the first row is the least
+pub later_rows : (n : ℕ) (k : Key) (es : List Record) → is_sorted nat_cmp es ≡ true → begins_to n (rows_of k es) ≡ later n k es
+later_rows n k [] sorted = refl
+later_rows n k (e ∷ es) sorted = ap (begins_to n) (rows_cons k e es) ∙ by (later_rows n k es (and_parts (below_all nat_cmp e.0 es) (is_sorted nat_cmp es) sorted).1) (nat_le e.0 n) refl (eq_by_cmp key_cmp k e.1.key)
   where
-    by_test : (list_any (follows m v) rs ≡ true → is_some (last_of k rs) ≡ true) → (b : Bool) → follows m v r ≡ b → is_some (last_of k (r ∷ rs)) ≡ true
-    by_test rest true is =
-        let key = (and_parts (nat_lt m r.0) (eq_by_cmp key_cmp v.key r.1.key) is).1 in
-        there_if (last_of k rs) (eq_by_cmp key_cmp k r.1.key) r (ap (λ q. eq_by_cmp key_cmp q r.1.key) same ∙ key)
-    by_test rest false is = there_or (last_of k rs) (eq_by_cmp key_cmp k r.1.key) r (rest (or_rest (follows m v r) (list_any (follows m v) rs) is any))
+    by : begins_to n (rows_of k es) ≡ later n k es → (a : Bool) → nat_le e.0 n ≡ a → (b : Bool) → begins_to n (cond b (row_at e ∷ rows_of k es) (rows_of k es)) ≡ ((nat_le e.0 n && b) || later n k es)
+    by rest true le true = rw le refl
+    by rest true le false = rw le rest
+    by rest false le true = rw le (sym (none_later n k e es le (less_all e es sorted)))
+    by rest false le false = rw le rest
 
-first_kept : (o : Option Record) (b : Bool) (r : Record) → (b ≡ true → is_some o ≡ true) → option_or o (cond b (Some r) None) ≡ o
-first_kept (Some x) b r there = refl
-first_kept None false r there = refl
-first_kept None true r there = absurd (let e = there refl in cc)
-
-not_and : (a b : Bool) → a ≡ false → (a && b) ≡ false
-not_and true b is = cc
-not_and false b is = refl
-
--- a record that stands behind none of larger number follows nothing there
-behind : (m : ℕ) (v : Version) (r : Record) (rs : List Record) → r.0 ≤ m → list_any (follows m v) (r ∷ rs) ≡ true → list_any (follows m v) rs ≡ true
-behind m v r rs below any =
-    or_rest (follows m v r) (list_any (follows m v) rs) (not_and (nat_lt m r.0) (eq_by_cmp key_cmp v.key r.1.key) (le-ltb m r.0 below)) any
-
-rest_followed : (keep : ℕ → Bool) (r : Record) (rs : List Record) → is_sorted nat_cmp (r ∷ rs) ≡ true → AreFollowed keep (r ∷ rs) → AreFollowed keep rs
-rest_followed keep r rs sorted followed m v found drops =
-    let above = rest_above r rs sorted m v found in
-    behind m v r rs (omega arith) (followed m v (found_later r rs sorted m v found) drops)
-
--- then the last of each key stays
-last_kept : (keep : ℕ → Bool) (k : Key) (rs : List Record) → is_sorted nat_cmp rs ≡ true → AreFollowed keep rs
-    → last_of k (where_key nat_cmp keep rs) ≡ last_of k rs
-last_kept keep k [] sorted followed = refl
-last_kept keep k (r ∷ rs) sorted followed = by_keep (last_kept keep k rs (rest_sorted r rs sorted) (rest_followed keep r rs sorted followed)) (keep r.0) refl
+-- none of them goes where the first is past n
+none_kept : (n : ℕ) (k : Key) (es : List Record) → is_sorted nat_cmp es ≡ true → later n k es ≡ false → kept n (rows_of k es) ≡ rows_of k es
+none_kept n k [] sorted none = refl
+none_kept n k (e ∷ es) sorted none = ap (kept n) (rows_cons k e es) ∙ by (λ more. none_kept n k es rest more) (eq_by_cmp key_cmp k e.1.key) (nat_le e.0 n && eq_by_cmp key_cmp k e.1.key) none ∙ sym (rows_cons k e es)
   where
-    by_keep : last_of k (where_key nat_cmp keep rs) ≡ last_of k rs → (b : Bool) → keep r.0 ≡ b
-        → last_of k (where_key nat_cmp keep (r ∷ rs)) ≡ last_of k (r ∷ rs)
-    by_keep rest true is =
-        ap (λ b. last_of k (cond b (r ∷ where_key nat_cmp keep rs) (where_key nat_cmp keep rs))) is
-        ∙ ap (λ o. option_or o (cond (eq_by_cmp key_cmp k r.1.key) (Some r) None)) rest
-    by_keep rest false is =
-        ap (λ b. last_of k (cond b (r ∷ where_key nat_cmp keep rs) (where_key nat_cmp keep rs))) is ∙ rest
-        ∙ sym (first_kept (last_of k rs) (eq_by_cmp key_cmp k r.1.key) r (λ tie.
-        last_there k r.0 r.1 rs (same_key k r.1.key tie) (behind r.0 r.1 r rs (omega arith) (followed r.0 r.1 (found_first r rs) is))))
+    rest : is_sorted nat_cmp es ≡ true
+    rest = (and_parts (below_all nat_cmp e.0 es) (is_sorted nat_cmp es) sorted).1
 
--- ---- two tests of a list
+    other : (a : Bool) → (a || later n k es) ≡ false → later n k es ≡ false
+    other true h = cc
+    other false h = h
 
-swapped_by : (p q : Record → Bool) (r : Record) (rs : List Record) (a b : Bool) → p r ≡ a → q r ≡ b → filter p (filter q rs) ≡ filter q (filter p rs)
-    → filter p (filter q (r ∷ rs)) ≡ filter q (filter p (r ∷ rs))
-swapped_by p q r rs true true is also rest = rw (is, also) (rw is (ap (λ xs. r ∷ xs) rest))
-swapped_by p q r rs true false is also rest = rw (is, also) rest
-swapped_by p q r rs false true is also rest = rw (is, also) (rw is rest)
-swapped_by p q r rs false false is also rest = rw (is, also) rest
+    by : (later n k es ≡ false → kept n (rows_of k es) ≡ rows_of k es) → (b a : Bool) → (a || later n k es) ≡ false → kept n (cond b (row_at e ∷ rows_of k es) (rows_of k es)) ≡ cond b (row_at e ∷ rows_of k es) (rows_of k es)
+    by none_more true a h = let begins = later_rows n k es rest ∙ other a h in rw begins refl
+    by none_more false a h = none_more (other a h)
 
-swapped : (p q : Record → Bool) (rs : List Record) → filter p (filter q rs) ≡ filter q (filter p rs)
-swapped p q [] = refl
-swapped p q (r ∷ rs) = swapped_by p q r rs (p r) (q r) refl refl (swapped p q rs)
+pub rows_kept : (n : ℕ) (k : Key) (es : List Record) → is_sorted nat_cmp es ≡ true → rows_of k (keep n es) ≡ kept n (rows_of k es)
+rows_kept n k [] sorted = refl
+rows_kept n k (e ∷ es) sorted = by (later n e.1.key es) refl (eq_by_cmp key_cmp k e.1.key) refl (rows_kept n k es rest) ∙ ap (kept n) (sym (rows_cons k e es))
+  where
+    rest : is_sorted nat_cmp es ≡ true
+    rest = (and_parts (below_all nat_cmp e.0 es) (is_sorted nat_cmp es) sorted).1
 
--- ---- compaction
+    by : (a : Bool) → later n e.1.key es ≡ a → (b : Bool) → eq_by_cmp key_cmp k e.1.key ≡ b → rows_of k (keep n es) ≡ kept n (rows_of k es)
+        → rows_of k (cond (later n e.1.key es) (keep n es) (e ∷ keep n es)) ≡ kept n (cond (eq_by_cmp key_cmp k e.1.key) (row_at e ∷ rows_of k es) (rows_of k es))
+    by true is true tie more =
+        let begins : begins_to n (rows_of k es) ≡ true = later_rows n k es rest ∙ ap (λ q. later n q es) (same_key k e.1.key tie) ∙ is in
+        rw (is, tie) (rw begins more)
+    by true is false tie more = rw (is, tie) more
+    by false is true tie more =
+        let none : later n k es ≡ false = ap (λ q. later n q es) (same_key k e.1.key tie) ∙ is in
+        let begins : begins_to n (rows_of k es) ≡ false = later_rows n k es rest ∙ none in
+        rw is (rows_cons k e (keep n es) ∙ rw tie (rw begins (ap (λ rs. row_at e ∷ rs) (more ∙ none_kept n k es rest none))))
+    by false is false tie more = rw is (rows_cons k e (keep n es) ∙ rw tie more)
 
-abbrev is_kept : Records → ℕ → ℕ → Bool
-is_kept rs n m = not (is_superseded rs n m)
+-- ---- by the definition
 
-dropped_so : (b : Bool) → not b ≡ false → b ≡ true
-dropped_so true is = refl
-dropped_so false is = cc
+entries_kept : (m : Records) (p : ℕ → Bool) → entries (retain_keys m p) ≡ where_key nat_cmp p (entries m)
+entries_kept m p =
+    let es = entries m in
+    let sorted = is_sorted-where_key nat_cmp p es (entries_sorted m) in
+    let alike : (q x : ℕ) → nat_cmp q x ≡ Equal → p x ≡ p q = λ q x tie. ap p (sym (nat_cmp-IsAntisymmetric q x tie)) in
+    ap entries (same_map nat_cmp_total nat_cmp-IsAntisymmetric (retain_keys m p) (from_sorted (where_key nat_cmp p es)) (λ q.
+    get-retain_keys m p q (alike q) ∙ ap (λ o. cond (p q) o None) (get-entries m q)
+    ∙ sym (get-from_sorted nat_cmp (where_key nat_cmp p es) q sorted ∙ find-where_key nat_cmp p q (alike q) es)))
+    ∙ entries-from_sorted nat_cmp (where_key nat_cmp p es) sorted
 
-both_hold : (a b : Bool) → a ≡ true → b ≡ true → (a && b) ≡ true
-both_hold a b p q = rw (p, q) refl
+abbrev supersedes : ℕ → ℕ → Key → Record → Bool
+supersedes n m k r = nat_lt m r.0 && nat_le r.0 n && eq_by_cmp key_cmp k r.1.key
 
--- what follows a record that compaction drops, in a list that has each record up to n
-followed_in : (rs : Records) (n : ℕ) (es : List Record) → ((m : ℕ) (v : Version) → find nat_cmp m es ≡ Some v → get rs m ≡ Some v)
-    → ((m : ℕ) (v : Version) → m ≤ n → get rs m ≡ Some v → find nat_cmp m es ≡ Some v) → AreFollowed (is_kept rs n) es
-followed_in rs n es from upto m v found drops =
-    let s = superseder rs n m v (from m v found) (dropped_so (is_superseded rs n m) drops) in
-    found_any (follows m v) es s.number s.version (upto s.number s.version s.upto s.found)
-    (both_hold (nat_lt m s.number) (eq_by_cmp key_cmp v.key s.version.key) (lt-ltb m s.number s.above) (key_tied v.key s.version.key s.same))
+past_none : (n m : ℕ) (k : Key) (fs es : List Record) → AllByRecursion (λ (r : Record). r.0 ≤ m) fs → list_any (supersedes n m k) (fs ++ es) ≡ list_any (supersedes n m k) es
+past_none n m k [] es upto = refl
+past_none n m k (f ∷ fs) es upto = let le = upto.0 in let no : nat_lt m f.0 ≡ false = grind (arith, nat_tests) in rw no (past_none n m k fs es upto.1)
 
-sorted_entries : (rs : Records) → is_sorted nat_cmp (entries rs) ≡ true
-sorted_entries rs = holds (is_sorted nat_cmp (entries rs)) (entries_sorted rs)
+all_later : (n m : ℕ) (k : Key) (es : List Record) → AllByRecursion (λ (r : Record). m < r.0) es → list_any (supersedes n m k) es ≡ later n k es
+all_later n m k [] above = refl
+all_later n m k (e ∷ es) above = let less = above.0 in let yes : nat_lt m e.0 ≡ true = grind (arith, nat_tests) in rw yes (ap (λ b. (nat_le e.0 n && eq_by_cmp key_cmp k e.1.key) || b) (all_later n m k es above.1))
 
--- the newest record of each key is kept
-pub newest_kept : (rs : Records) (n : ℕ) (k : Key) → newest (compacted rs n) k ≡ newest rs k
-newest_kept rs n k =
-    let followed = followed_in rs n (entries rs) (λ m v found. get-entries rs m ∙ found) (λ m v upto found. sym (get-entries rs m) ∙ found) in
-    ap (option_map (λ (r : Record). (r.0, r.1.state)))
-    (ap (last_of k) (entries_kept rs (is_kept rs n)) ∙ last_kept (is_kept rs n) k (entries rs) (sorted_entries rs) followed)
+upto_all : (m n : ℕ) (fs : List Record) → m ≤ n → AllByRecursion (λ (r : Record). r.0 ≤ m) fs → AllByRecursion (λ (r : Record). r.0 ≤ n) fs
+upto_all m n [] le h = tt
+upto_all m n (f ∷ fs) le h = (let here = h.0 in omega arith, upto_all m n fs le h.1)
 
-abbrev is_upto : ℕ → ℕ → Bool
-is_upto m x = nat_le x m
+upto_more : (fs : List Record) (e : Record) → AllByRecursion (λ (r : Record). r.0 ≤ e.0) fs → AllByRecursion (λ (r : Record). r.0 ≤ e.0) (fs ++ e ∷ [])
+upto_more [] e h = (omega arith, tt)
+upto_more (f ∷ fs) e h = (h.0, upto_more fs e h.1)
 
-find_upto : (rs : Records) (m x : ℕ) → find nat_cmp x (up_to rs m) ≡ cond (nat_le x m) (get rs x) None
-find_upto rs m x =
-    find-where_key nat_cmp (is_upto m) x (λ y tie. ap (is_upto m) (sym (nat_cmp-IsAntisymmetric x y tie))) (entries rs)
-    ∙ ap (λ o. cond (nat_le x m) o None) (sym (get-entries rs x))
+-- the records that are left, in a part of all of them
+left_of : (rs : Records) (n : ℕ) (fs es : List Record) → entries rs ≡ fs ++ es → is_sorted nat_cmp es ≡ true → ((e : Record) (gs : List Record) → es ≡ e ∷ gs → AllByRecursion (λ (r : Record). r.0 ≤ e.0) fs)
+    → where_key nat_cmp (λ m. not (is_superseded rs n m)) es ≡ keep n es
+left_of rs n fs [] all sorted upto = refl
+left_of rs n fs (e ∷ es) all sorted upto =
+    rw superseded_is (ap (λ gs. cond (not (later n e.1.key es)) (e ∷ gs) gs) (left_of rs n (fs ++ e ∷ []) es (all ∙ sym (append_assoc fs (e ∷ []) es)) rest behind) ∙ by (later n e.1.key es))
+  where
+    rest : is_sorted nat_cmp es ≡ true
+    rest = (and_parts (below_all nat_cmp e.0 es) (is_sorted nat_cmp es) sorted).1
 
-passed : (b : Bool) (o : Option Version) (v : Version) → cond b o None ≡ Some v → o ≡ Some v
-passed true o v is = is
-passed false o v is = absurd (none-some v is)
+    here : AllByRecursion (λ (r : Record). r.0 ≤ e.0) fs
+    here = upto e es refl
 
--- the last record of each key up to a number from n on is kept
-last_upto : (rs : Records) (n m : ℕ) (k : Key) → n ≤ m → last_of k (up_to (compacted rs n) m) ≡ last_of k (up_to rs m)
-last_upto rs n m k from =
-    let sorted = holds (is_sorted nat_cmp (up_to rs m)) (is_sorted-where_key nat_cmp (is_upto m) (entries rs) (entries_sorted rs)) in
-    let followed = followed_in rs n (up_to rs m)
-    (λ x v found. passed (nat_le x m) (get rs x) v (sym (find_upto rs m x) ∙ found))
-    (λ x v upto found. find_upto rs m x ∙ ap (λ b. cond b (get rs x) None) (le-leb x m (omega arith)) ∙ found) in
-    ap (last_of k) (ap (where_key nat_cmp (is_upto m)) (entries_kept rs (is_kept rs n)) ∙ swapped (λ r. is_upto m r.0) (λ r. is_kept rs n r.0) (entries rs))
-    ∙ last_kept (is_kept rs n) k (up_to rs m) sorted followed
+    behind : (f : Record) (gs : List Record) → es ≡ f ∷ gs → AllByRecursion (λ (r : Record). r.0 ≤ f.0) (fs ++ e ∷ [])
+    behind f gs is =
+        let less = (subst (AllByRecursion (λ (r : Record). e.0 < r.0)) is (less_all e es sorted)).0 in
+        upto_all e.0 f.0 (fs ++ e ∷ []) (omega arith) (upto_more fs e here)
 
--- and so is what each key was at each number from n on
-pub value_kept : (rs : Records) (n m : ℕ) (k : Key) → n ≤ m → value (compacted rs n) m k ≡ value rs m k
-value_kept rs n m k from = ap (option_and_then (λ (r : Record). r.1.state)) (last_upto rs n m k from)
+    there : get rs e.0 ≡ Some e.1
+    there = get-entries rs e.0 ∙ ap (find nat_cmp e.0) all ∙ found_here fs e es (subst (λ gs. is_sorted nat_cmp gs ≡ true) all (is_held (is_sorted nat_cmp (entries rs)) (entries_sorted rs)))
 
--- and all that was there
-pub state_kept : (rs : Records) (n m : ℕ) → n ≤ m → state_at (compacted rs n) m ≡ state_at rs m
-state_kept rs n m from = same_map key_cmp_total exact_keys (state_at (compacted rs n) m) (state_at rs m) (λ k.
-    state_is_value (compacted rs n) m k ∙ value_kept rs n m k from ∙ sym (state_is_value rs m k))
+    superseded_is : is_superseded rs n e.0 ≡ later n e.1.key es
+    superseded_is =
+        ap (λ (o : Option Version). option_map_or (λ v. list_any (supersedes n e.0 v.key) (entries rs)) o false) there
+        ∙ ap (list_any (supersedes n e.0 e.1.key)) all ∙ past_none n e.0 e.1.key fs (e ∷ es) here
+        ∙ (let self : nat_lt e.0 e.0 ≡ false = grind (arith, nat_tests) in rw self (all_later n e.0 e.1.key es (less_all e es sorted)))
+
+    by : (b : Bool) → cond (not b) (e ∷ keep n es) (keep n es) ≡ cond b (keep n es) (e ∷ keep n es)
+    by true = refl
+    by false = refl
+
+-- what compaction leaves of a key's rows
+pub rows_left : (rs : Records) (n : ℕ) (k : Key) → rows_of k (entries (compacted rs n)) ≡ kept n (rows_of k (entries rs))
+rows_left rs n k =
+    let sorted = is_held (is_sorted nat_cmp (entries rs)) (entries_sorted rs) in
+    ap (rows_of k) (entries_kept rs (λ m. not (is_superseded rs n m)) ∙ left_of rs n [] (entries rs) refl sorted (λ e gs is. tt)) ∙ rows_kept n k (entries rs) sorted

@@ -1,9 +1,4 @@
 pub mod Records
 pub mod Compacted
 pub mod Shard
-pub mod Chain
-pub mod Rows
-pub mod Chains
-pub mod Later
-pub mod Listed
-pub mod Whole
+pub mod Held

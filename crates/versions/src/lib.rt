@@ -1,9 +1,7 @@
 //! One shard of versions: what its keys were, at each number that somebody may still read.
 #![tactic(auto)]
 
-mod chain;
 mod laws;
-mod place;
 mod shard;
 
 pub use laws::states_have_the_values;

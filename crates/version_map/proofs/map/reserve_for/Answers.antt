@@ -9,6 +9,9 @@ returns g c =
           c.reserve.ensures.rows c.reserve.ensures.kept;
       still = still_all c.place_of.ensures.still (still_read ps cs c.args.key.now c.in_ok-place.place c.index_mut-chain.result.now c.reserve.new.self c.place_of.ensures.placed c.in_ok-place.ensures.place
           c.index_mut-chain.ensures.value c.reserve.ensures.rows c.reserve.ensures.kept);
-      room = (c.in_ok-place.ensures.place, room_read ps cs c.args.key.now c.in_ok-place.place c.index_mut-chain.result.now c.reserve.new.self c.place_of.ensures.placed c.in_ok-place.ensures.place
-          c.index_mut-chain.ensures.value c.reserve.ensures.rows c.reserve.ensures.kept c.in_ok-reserve.ensures.room);
+      room = (
+        c.in_ok-place.ensures.place,
+        room_read ps cs c.args.key.now c.in_ok-place.place c.index_mut-chain.result.now c.reserve.new.self c.place_of.ensures.placed c.in_ok-place.ensures.place
+            c.index_mut-chain.ensures.value c.reserve.ensures.rows c.reserve.ensures.kept c.in_ok-reserve.ensures.room,
+      );
     }

@@ -1,4 +1,4 @@
-use Rattle.std.proofs.Common.{◌≤◌, refl, sym, ap, subst, ◌∙◌, arith}
+use Rattle.std.proofs.Common.{◌≤◌, refl, ap, subst, ◌∙◌, arith}
 use Rattle.version_map.specs.Versions.{compacted, count}
 use Rattle.version_map.proofs.Steps.{all_wait, count_dropped, front_is, left_dropped, no_front, none_waits, place_within, room_dropped, same_front, two_read, whole_dropped}
 use Rattle.version_map.proofs.map.VersionMap.drop_next.Goals as goal

@@ -1,4 +1,4 @@
-use Rattle.std.proofs.Common.{sym, ap, ◌∙◌}
+use Rattle.std.proofs.Common.{ap, ◌∙◌}
 use Rattle.version_map.specs.Whole.{values_in}
 use Rattle.version_map.proofs.Lists.{collection_is}
 use Rattle.version_map.proofs.map.VersionMap.list_at.Goals as goal

@@ -1,4 +1,4 @@
-use Rattle.std.proofs.Common.{true≢false, sym, ap, ◌∙◌}
+use Rattle.std.proofs.Common.{true≢false, sym}
 use Rattle.version_map.proofs.Steps.{empty_view, none_whole}
 use Rattle.version_map.proofs.map.VersionMap.new.Goals as goal
 

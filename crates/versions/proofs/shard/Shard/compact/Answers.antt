@@ -1,23 +1,26 @@
 use Rattle.std.proofs.Common.{sym, ap, ◌∙◌}
-use Rattle.versions.specs.Records.{Records, newest, state_at, value}
-use Rattle.versions.specs.Shard.{Shard}
-use Rattle.versions.proofs.Kept.{newest_kept, state_kept, value_kept}
+use Rattle.versions.specs.Records.{newest, state_at, value}
+use Rattle.versions.specs.Shard.{raised}
+use Rattle.versions.proofs.Held.{newest_is, raised_are, raised_is, state_is, value_is}
 use Rattle.versions.proofs.shard.Shard.compact.Goals as goal
+
+pub invariant_of-self : goal.invariant_of-self
+invariant_of-self c = raised_are c.self.inside.versions c.self.invariant c.args.number c.compact.new.self c.compact.ensures.raised
+
+pub returns-clause-raised : goal.returns-clause-raised
+returns-clause-raised c = raised_is c.self.inside.versions c.self.invariant c.args.number c.compact.new.self c.compact.ensures.raised ∙ ap (λ s. raised s c.args.number) c.self.view_is
 
 pub returns-clause-newest : goal.returns-clause-newest
 returns-clause-newest c key =
-    let none = c.drop_next.ensures.none c.loop-test.false in
-    let left = ap (λ (s : Shard). s.records) (c.self-2.view_is ∙ none.0) ∙ sym none.1 ∙ c.loop.invariant.2 in
-    ap (λ (rs : Records). newest rs key) left ∙ newest_kept c.args.self.now.records c.args.number key
+    newest_is c.compact.new.self.rows _ key (raised_are c.self.inside.versions c.self.invariant c.args.number c.compact.new.self c.compact.ensures.raised) ∙ c.compact.ensures.newest key
+    ∙ sym (newest_is c.self.inside.versions.rows _ key c.self.invariant) ∙ ap (λ s. newest s.records key) c.self.view_is
 
 pub returns-clause-readings : goal.returns-clause-readings
 returns-clause-readings c m from =
-    let none = c.drop_next.ensures.none c.loop-test.false in
-    let left = ap (λ (s : Shard). s.records) (c.self-2.view_is ∙ none.0) ∙ sym none.1 ∙ c.loop.invariant.2 in
-    ap (λ (rs : Records). state_at rs m) left ∙ state_kept c.args.self.now.records c.args.number m from
+    state_is c.compact.new.self.rows _ m (raised_are c.self.inside.versions c.self.invariant c.args.number c.compact.new.self c.compact.ensures.raised) ∙ c.compact.ensures.readings m from
+    ∙ sym (state_is c.self.inside.versions.rows _ m c.self.invariant) ∙ ap (λ s. state_at s.records m) c.self.view_is
 
 pub returns-clause-values : goal.returns-clause-values
 returns-clause-values c m key from =
-    let none = c.drop_next.ensures.none c.loop-test.false in
-    let left = ap (λ (s : Shard). s.records) (c.self-2.view_is ∙ none.0) ∙ sym none.1 ∙ c.loop.invariant.2 in
-    ap (λ (rs : Records). value rs m key) left ∙ value_kept c.args.self.now.records c.args.number m key from
+    value_is c.compact.new.self.rows _ m key (raised_are c.self.inside.versions c.self.invariant c.args.number c.compact.new.self c.compact.ensures.raised) ∙ c.compact.ensures.values m key from
+    ∙ sym (value_is c.self.inside.versions.rows _ m key c.self.invariant) ∙ ap (λ s. value s.records m key) c.self.view_is

@@ -1,7 +1,6 @@
-use Rattle.versions.specs.Records.{state_at}
-use Rattle.versions.proofs.Walks.{IsWalked}
+use Rattle.std.proofs.Common.{◌≡◌, map}
 use Rattle.versions.proofs.shard.Shard.list_at.Given as goal
 
--- what is found, and what is there at those keys that are left and match, make the collection
-abbrev pub invariant-loop-key : goal.invariant-loop-key
-invariant-loop-key l = IsWalked (state_at l.self.records l.number) l.kind l.namespace l.found.items l.key-iterator
+-- the objects so far are copied
+abbrev pub invariant-loop-object : goal.invariant-loop-object
+invariant-loop-object l = l.found.items ≡ map (λ o. o.now) l.yielded
