@@ -23,7 +23,7 @@ pub use plain_store::{
     versions_rise_by_one,
 };
 pub use requests::{
-    Change, Form, Judgment, Listing, Reason, Reply, Request, Verdict, Version, decide, is_of,
-    judge, least_key,
+    Change, Form, Judgment, Listing, Reason, Reply, Request, Verdict, Version, decide, judge,
 };
 pub use server::{ServeFault, serve};
+pub use version_map::{is_of, least_key};

@@ -20,10 +20,10 @@ use Rattle.objects.specs.KeyOrder.{key_cmp_total}
 use Rattle.objects.specs.Kind.{is_name}
 use Rattle.objects.specs.Names.{is_dns_label}
 use Rattle.plain_store.specs.Named.{AreNamed}
-use Rattle.requests.specs.ObjectMap.{collection, is_of}
-use Rattle.requests.specs.LeastKey.{least_key}
+use Rattle.version_map.specs.Keyed.{collection}
+use Rattle.version_map.specs.Keys.{is_of, least_key}
 use Rattle.plain_store.proofs.Entries.{exact_keys}
-use Rattle.requests.proofs.KeyRuns.{between, bound, bounded, of_parts}
+use Rattle.version_map.proofs.KeyRuns.{between, bound, bounded, of_parts}
 
 abbrev pub Entries : Type 0
 Entries = List (KeyParts × Object)

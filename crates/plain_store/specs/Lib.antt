@@ -15,7 +15,7 @@ pub use Rattle.requests.specs.Change
 pub use Rattle.requests.specs.Forms
 pub use Rattle.requests.specs.Judgments
 pub use Rattle.requests.specs.Keys
-pub use Rattle.requests.specs.LeastKey
-pub use Rattle.requests.specs.ObjectMap
 pub use Rattle.requests.specs.Reasons
 pub use Rattle.requests.specs.Verdict
+pub use Rattle.version_map.specs.Keyed
+pub use Rattle.version_map.specs.Keys as KeyRuns

@@ -17,7 +17,8 @@ use Rattle.requests.specs.declared.verdict.Verdict.{Verdict}
 use Rattle.requests.specs.declared.verdict.Verdict.TheVariants.{Refuse, Same, Write}
 use Rattle.requests.specs.Change.{Change, accepted, kept, stamp}
 use Rattle.requests.specs.Verdict.{verdict}
-pub use Rattle.requests.specs.ObjectMap.{collection, is_of, put_at}
+pub use Rattle.version_map.specs.Keyed.{collection, put_at}
+pub use Rattle.version_map.specs.Keys.{is_of}
 
 pub record Store : Type 0 where
   pub objects : FinMap key_cmp Object

@@ -2,12 +2,12 @@
 ghost use Rattle.std.specs.Prelude.{◌≡◌, IfOk};
 ghost use Rattle.std.specs.FinMap as map;
 ghost use Rattle.plain_store.specs.Named.{AreNamed};
-ghost use Rattle.requests.specs.ObjectMap.{collection};
+ghost use Rattle.version_map.specs.Keyed.{collection};
 
 use objects::{Key, Kind, Memory, Printed, Text};
-use requests::{is_of, least_key};
 use std::alloc::Global;
 use std::collections::BTreeMap;
+use version_map::{is_of, least_key};
 
 /// The objects of a kind in a namespace, which share their texts with those of the map. No other object is looked at but
 /// the one behind the last.

@@ -3,7 +3,7 @@ ghost use Rattle.std.specs.FinMap as map;
 ghost use Rattle.std.specs.Option.{option_copied};
 ghost use Rattle.plain_store.specs.Reached.{IsReached};
 ghost use Rattle.plain_store.specs.Store.{carried_out, found, opening, step};
-ghost use Rattle.requests.specs.ObjectMap.{collection, put_at};
+ghost use Rattle.version_map.specs.Keyed.{collection, put_at};
 ghost use Rattle.requests.specs.Change.{accepted, stamp};
 ghost use Rattle.requests.specs.Forms.{change_by, stored_by};
 ghost use Rattle.requests.specs.Judgments.{verdict_of};

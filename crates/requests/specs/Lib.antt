@@ -3,7 +3,5 @@ pub mod Change
 pub mod Forms
 pub mod Judgments
 pub mod Keys
-pub mod LeastKey
-pub mod ObjectMap
 pub mod Reasons
 pub mod Verdict

@@ -14,7 +14,7 @@ mod version;
 
 pub use change::Change;
 pub use form::Form;
-pub use listing::{Listing, is_of, least_key};
+pub use listing::Listing;
 pub use reply::{Reason, Reply};
 pub use request::Request;
 pub use table::{decide, judge};

@@ -1,8 +1,6 @@
 ghost use Rattle.std.specs.Prelude.{◌≡◌, IfOk};
-ghost use Rattle.requests.specs.LeastKey.{least_key};
-ghost use Rattle.requests.specs.ObjectMap.{is_of};
 
-use objects::{Key, Kind, Memory, Object, Printed, ReadError, Text, TreeReader};
+use objects::{Memory, Object, Printed, TreeReader};
 use std::alloc::Global;
 use std::marker::Model;
 
@@ -47,25 +45,4 @@ impl Listing {
     {
         self.objects.as_slice()
     }
-}
-
-/// A key that no key of the kind in the namespace is below, so that a walk over keys in their order begins there. There
-/// is none where no object can be in the namespace, which then is no DNS label.
-pub fn least_key(alloc: Global, kind: Kind, namespace: &Text) -> Result<Option<Key>, Memory>
-    ensures { IfOk result (λ key. key ≡ least_key kind namespace.now) }
-{
-    // A name begins with a letter or a digit, so none is below "0".
-    match Key::of(alloc, kind, namespace.as_str(), "0") {
-        Ok(key) => Ok(Some(key)),
-        Err(ReadError::BadName) => Ok(None),
-        Err(ReadError::Memory) => Err(Memory),
-        Err(_) => unreachable!(),
-    }
-}
-
-/// Whether the key is of the kind and in the namespace. In the order of keys those that are lie side by side.
-pub fn is_of(key: &Key, kind: Kind, namespace: &Text) -> bool
-    ensures { result ≡ is_of kind namespace.now key.now }
-{
-    key.kind == kind && key.namespace.as_str() == namespace.as_str()
 }

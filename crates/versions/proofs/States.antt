@@ -8,7 +8,7 @@ use Rattle.objects.specs.declared.key.Key.{Key}
 use Rattle.objects.specs.declared.object.Object.{Object}
 use Rattle.objects.specs.Key.{key_cmp}
 use Rattle.objects.specs.KeyOrder.{key_cmp_total}
-use Rattle.requests.specs.ObjectMap.{put_at}
+use Rattle.version_map.specs.Keyed.{put_at}
 use Rattle.versions.specs.Records.{Record, Records, last_of, state_at, up_to, value}
 
 -- what a record says, and where there is none what was there before

@@ -11,7 +11,7 @@ use Rattle.objects.specs.declared.object.Object.{Object}
 use Rattle.objects.specs.Key.{key_cmp, key_coded}
 use Rattle.objects.specs.Object.{object_coded}
 use Rattle.requests.specs.declared.version.Version.{Version}
-use Rattle.requests.specs.ObjectMap.{put_at}
+use Rattle.version_map.specs.Keyed.{put_at}
 
 -- A set of records: each has a number of its own, a key, and an object or, after a removal, none.
 abbrev pub Records : Type 0

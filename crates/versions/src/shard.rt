@@ -3,7 +3,7 @@ ghost use Rattle.std.specs.Option.{option_copied};
 ghost use Rattle.std.specs.FinMap as map;
 ghost use Rattle.objects.specs.declared.key.Key.{Key};
 ghost use Rattle.requests.specs.Keys.{key_named};
-ghost use Rattle.requests.specs.ObjectMap.{collection};
+ghost use Rattle.version_map.specs.Keyed.{collection};
 ghost use Rattle.requests.specs.Verdict.{is_write, verdict};
 ghost use Rattle.versions.specs.Records.{IsAbove, current, newest, state_at, value};
 ghost use Rattle.versions.specs.Shard.{opening, pushed, raised, with_room};

@@ -1,7 +1,7 @@
 use Rattle.std.proofs.Common.{◌≡◌, ◌++◌}
 use Rattle.std.specs.FinMap as map
 use Rattle.std.specs.List.{take_while}
-use Rattle.requests.specs.ObjectMap.{collection}
+use Rattle.version_map.specs.Keyed.{collection}
 use Rattle.plain_store.proofs.Collections.{matches, objects_of}
 use Rattle.plain_store.proofs.collection.collection_of.Given as goal
 

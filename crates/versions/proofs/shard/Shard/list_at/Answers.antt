@@ -2,7 +2,7 @@ use Rattle.std.proofs.Common.{sym, ap, map, ◌∙◌}
 use Rattle.std.proofs.lemmas.List.{map-id}
 use Rattle.std.proofs.lemmas.Iterator.Adapters.{YieldsList-from_vec}
 use Rattle.std.proofs.lemmas.Iterator.Consumers.{YieldsList-end}
-use Rattle.requests.specs.ObjectMap.{collection}
+use Rattle.version_map.specs.Keyed.{collection}
 use Rattle.versions.specs.Records.{state_at}
 use Rattle.versions.proofs.Held.{state_is}
 use Rattle.versions.proofs.shard.Shard.list_at.Goals as goal
