@@ -1,0 +1,7 @@
+pub mod Steps
+pub mod Values
+pub mod Policies
+pub mod Claims
+pub mod Set
+pub mod Stated
+pub mod SetReading
