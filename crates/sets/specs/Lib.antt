@@ -5,3 +5,7 @@ pub mod Claims
 pub mod Set
 pub mod Stated
 pub mod SetReading
+pub mod Readiness
+pub mod Owners
+pub mod Pod
+pub mod Words

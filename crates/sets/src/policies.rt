@@ -1,10 +1,9 @@
 // The words of a set's `spec` that choose how its pods are treated.
 ghost use Rattle.std.specs.Prelude.{◌≡◌, option_map};
 ghost use Rattle.objects.specs.Tree.{data_of};
-ghost use Rattle.objects.specs.Object.{is_text};
 ghost use Rattle.sets.specs.Policies.{policy_of, retention_of, strategy_named, strategy_of};
 
-use crate::values::{count_or, inside, present};
+use crate::values::{count_or, inside, is_word, present};
 use objects::Tree;
 
 /// How pods are scaled (Kubernetes, "StatefulSets": "Pod Management Policies").
@@ -30,12 +29,6 @@ pub enum Strategy {
 pub enum Retention {
     Retain,
     Delete,
-}
-
-fn is_word(value: &Tree, word: &str) -> bool
-    ensures { result ≡ is_text word.now (data_of value.now) }
-{
-    value.as_text() == Some(word)
 }
 
 /// The value of `podManagementPolicy`, OrderedReady where there is none. Another word is none.

@@ -1,6 +1,7 @@
 // Values among the members of an object, as the API server reads them: `null` counts as missing.
 ghost use Rattle.std.specs.Prelude.{◌≡◌, ◌<◌, ◌^◌, option_map, option_and_then, IfSome};
 ghost use Rattle.serde_json.specs.Find.{as_str};
+ghost use Rattle.objects.specs.Object.{is_text};
 ghost use Rattle.objects.specs.Tree.{data_of};
 ghost use Rattle.sets.specs.Values.{present, inside, count_of, count_or};
 
@@ -56,4 +57,11 @@ pub(crate) fn count_or(default: u32, found: Option<&Tree>) -> Option<u32>
         None => Some(default),
         Some(value) => count_of(value),
     }
+}
+
+/// Whether the value is this text.
+pub(crate) fn is_word(value: &Tree, word: &str) -> bool
+    ensures { result ≡ is_text word.now (data_of value.now) }
+{
+    value.as_text() == Some(word)
 }

@@ -3,6 +3,8 @@
 #![tactic(auto)]
 
 #[cfg(test)]
+mod pods;
+#[cfg(test)]
 mod refusals;
 #[cfg(test)]
 mod sets;
