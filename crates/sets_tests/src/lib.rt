@@ -7,4 +7,4 @@ mod pods;
 #[cfg(test)]
 mod refusals;
 #[cfg(test)]
-mod sets;
+mod set_readings;
