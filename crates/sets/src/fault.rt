@@ -3,11 +3,12 @@ ghost use Rattle.sets.specs.declared.fault.PlanError.TheVariants.{Memory as OutO
 
 use objects::{Memory, Text};
 use std::alloc::{AllocError, AllocFailed};
+use std::fmt;
 use thiserror::Error;
 
 /// Why there is no plan: the first of these that fits, in the order BadSpec, OrdinalTooLarge, NameTooLong, Foreign,
 /// NoRevisionName. `Memory` alone says nothing of the set.
-#[derive(Debug, Drop, Error)]
+#[derive(Drop, Error)]
 pub enum PlanError {
     /// The name of the last pod in range, or that of a revision to be made, has more than 63 bytes.
     #[error("a name has more than 63 bytes")]
@@ -28,6 +29,12 @@ pub enum PlanError {
     /// An allocation was refused.
     #[error("out of memory")]
     Memory,
+}
+
+impl fmt::Debug for PlanError {
+    fn fmt<W: fmt::Write>(&self, f: &mut fmt::Formatter<W>) -> fmt::Result {
+        fmt::Display::fmt(self, f)
+    }
 }
 
 impl From<Memory> for PlanError {

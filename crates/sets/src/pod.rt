@@ -6,7 +6,7 @@ use crate::readiness::{Readiness, readiness_of};
 use objects::{Object, Tree, split_pod_name};
 
 /// A pod as a plan sees it: what was read of it once. It borrows the pod's texts.
-#[derive(Clone, Copy, Debug)]
+#[derive(Clone, Copy)]
 pub struct PodView<'a> {
     pub name: &'a str,
     /// The set and the ordinal that the name is made of, if it is the name of a set's pod.

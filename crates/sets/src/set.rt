@@ -4,7 +4,7 @@ use crate::policies::{Policy, Retention, Strategy};
 use objects::{Members, Object, Text};
 
 /// A StatefulSet as a plan needs it: what was read of it once.
-#[derive(Debug, Drop)]
+#[derive(Drop)]
 pub struct Set {
     /// The StatefulSet itself.
     pub object: Object,
