@@ -14,7 +14,7 @@ use Rattle.objects.specs.Uid.{uid_text}
 use Rattle.requests.specs.declared.reply.Reason.TheVariants.{NotFound, AlreadyExists, Conflict, Invalid}
 use Rattle.requests.specs.declared.request.Request.{Request}
 use Rattle.requests.specs.declared.request.Request.TheVariants as request
-use Rattle.requests.specs.declared.request.Request.TheVariants.{Create, Get, Update, UpdateStatus, Delete}
+use Rattle.requests.specs.declared.request.Request.TheVariants.{Create, Get, Update, UpdateStatus, Delete, Compact}
 use Rattle.requests.specs.declared.verdict.Verdict.{Verdict}
 use Rattle.requests.specs.declared.verdict.Verdict.TheVariants.{Refuse, Same, Write}
 use Rattle.requests.specs.Change.{creates, updates, marks, removes}
@@ -135,20 +135,22 @@ abbrev pub on_delete : Option (List ℕ) → Option (List ℕ) → Option (List 
 on_delete version uid at None = Refuse NotFound
 on_delete version uid at (Some o) = if conflicts version uid o then Refuse Conflict else deleted (graceful o.key.kind at) o
 
--- Reads have no verdict: they answer what there is.
+-- Reads and compactions have no verdict: they draw no resource version.
 abbrev pub is_write : Request → Bool
 is_write (Create d) = true
 is_write (Get k) = false
-is_write (request.List kind namespace) = false
+is_write (request.List kind namespace exact) = false
 is_write (Update d) = true
 is_write (UpdateStatus d) = true
 is_write (Delete k uid version at) = true
+is_write (Compact to) = false
 
--- The table: what a request comes to, given the object that now has its key. A read is never asked.
+-- The table: what a request comes to, given the object that now has its key. Reads and compactions are never asked.
 abbrev pub verdict : Request → Option Object → Verdict
 verdict (Create d) current = on_create d current
 verdict (Get k) current = Refuse Invalid
-verdict (request.List kind namespace) current = Refuse Invalid
+verdict (request.List kind namespace exact) current = Refuse Invalid
 verdict (Update d) current = on_update d current
 verdict (UpdateStatus d) current = on_status d current
 verdict (Delete k uid version at) current = on_delete version uid at current
+verdict (Compact to) current = Refuse Invalid

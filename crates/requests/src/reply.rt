@@ -17,6 +17,10 @@ pub enum Reason {
     Invalid,
     /// 507: all revisions of the store are drawn.
     StoreFull,
+    /// 410: the resource version has been compacted away (`metav1.StatusReasonExpired`). List anew without one.
+    Expired,
+    /// 504: the store has not reached that resource version (the cause `ResourceVersionTooLarge` of the API server).
+    TooLarge,
 }
 
 impl Reason {
@@ -29,6 +33,8 @@ impl Reason {
             Reason::AlreadyExists | Reason::Conflict => 409,
             Reason::Invalid => 422,
             Reason::StoreFull => 507,
+            Reason::Expired => 410,
+            Reason::TooLarge => 504,
         }
     }
 
@@ -42,6 +48,8 @@ impl Reason {
             Reason::Conflict => "Conflict",
             Reason::Invalid => "Invalid",
             Reason::StoreFull => "StoreFull",
+            Reason::Expired => "Expired",
+            Reason::TooLarge => "TooLarge",
         }
     }
 }
@@ -54,7 +62,8 @@ pub enum Reply {
     /// 200: the object as it is.
     Found(Object),
     /// 200: the objects of the kind in the namespace, in byte order of their names, and the resource version of the
-    /// store: that of its last write, 0 where there was none.
+    /// store at which they were read: the exact one that was asked for, else that of the last write, 0 where there was
+    /// none.
     Listed { objects: Listing, revision: u64 },
     /// 200: the object as the update left it.
     Updated(Object),
@@ -64,5 +73,7 @@ pub enum Reply {
     Marked(Object),
     /// 200: the object as it last was, at the resource version of its removal.
     Removed(Object),
+    /// 200: the store no longer reads at resource versions below this one.
+    Compacted { revision: u64 },
     Refused(Reason),
 }

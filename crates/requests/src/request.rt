@@ -12,10 +12,12 @@ pub enum Request {
     Create(Draft),
     Get(Key),
     /// Reads the objects of one kind in one namespace (Kubernetes API concepts, resource collections). The namespace is
-    /// a DNS label; no object is in another.
+    /// a DNS label; no object is in another. With `exact` they are read as they were at that resource version of the
+    /// store (`resourceVersionMatch=Exact`), with 0 as they are now.
     List {
         kind: Kind,
         namespace: Text,
+        exact: u64,
     },
     Update(Draft),
     /// Writes the `status` of the draft's object, and nothing else.
@@ -28,10 +30,16 @@ pub enum Request {
         version: Option<Text>,
         at: Option<Text>,
     },
+    /// Gives up the past below the resource version `to` (etcd's compaction): no later list reads there, and what lists
+    /// read from `to` on stays as it is.
+    Compact {
+        to: u64,
+    },
 }
 
 impl Request {
-    /// Whether the request may change the store: a create, an update, a status request or a delete.
+    /// Whether the request goes by a verdict, and draws a resource version where it is accepted: a create, an update, a
+    /// status request or a delete.
     pub fn is_write(&self) -> bool
         ensures { result ≡ is_write self.now }
     {
@@ -49,11 +57,13 @@ impl Request {
             | Request::List {
                 kind: _,
                 namespace: _,
-            } => false,
+                exact: _,
+            }
+            | Request::Compact { to: _ } => false,
         }
     }
 
-    /// The key that the request names; a list names none.
+    /// The key that the request names; a list and a compaction name none.
     pub fn key(&self) -> Option<&Key>
         ensures { option_map (λ key. key.now) result ≡ key_named self.now }
     {
@@ -71,7 +81,9 @@ impl Request {
             Request::List {
                 kind: _,
                 namespace: _,
-            } => None,
+                exact: _,
+            }
+            | Request::Compact { to: _ } => None,
         }
     }
 }
@@ -89,9 +101,14 @@ impl Clone for Request {
         match self {
             Request::Create(draft) => Ok(Request::Create(draft.clone()?)),
             Request::Get(key) => Ok(Request::Get(key.clone()?)),
-            Request::List { kind, namespace } => Ok(Request::List {
+            Request::List {
+                kind,
+                namespace,
+                exact,
+            } => Ok(Request::List {
                 kind: *kind,
                 namespace: namespace.clone()?,
+                exact: *exact,
             }),
             Request::Update(draft) => Ok(Request::Update(draft.clone()?)),
             Request::UpdateStatus(draft) => Ok(Request::UpdateStatus(draft.clone()?)),
@@ -101,6 +118,7 @@ impl Clone for Request {
                 version,
                 at,
             } => copied_deletion(key, uid, version, at),
+            Request::Compact { to } => Ok(Request::Compact { to: *to }),
         }
     }
 }

@@ -40,7 +40,9 @@ pub fn judge(current: Option<&Object>, request: Request) -> Result<Judgment, All
         | Request::List {
             kind: _,
             namespace: _,
-        } => unreachable!(),
+            exact: _,
+        }
+        | Request::Compact { to: _ } => unreachable!(),
         Request::Update(draft) => on_update(draft, current),
         Request::UpdateStatus(draft) => {
             let decided = on_status(&draft, current);
