@@ -37,4 +37,6 @@ pub use trees::{
     Items, Members, Memory, Text, Tree, TreeError, TreeReader, Whole, place_of, read_tree,
     same_is_reflexive, write_entries, write_tree,
 };
-pub use uid::{is_uid_text, is_version_text, uid_number, uid_text, uid_texts_read_back};
+pub use uid::{
+    is_uid_text, is_version_text, uid_number, uid_text, uid_texts_read_back, version_number,
+};

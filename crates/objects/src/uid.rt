@@ -91,9 +91,10 @@ fn digit_value(digit: u8) -> u8
     }
 }
 
-/// The number of a resource version, or 0 where the text has another form.
+/// The number of a resource version, or 0 where the text has another form: a decimal from 1 to
+/// 18,446,744,073,709,551,615 without leading zeros is one.
 #[tactic(auto, unfolding(crate::specs::Uid::version_number))]
-pub(crate) fn version_number(text: &str) -> u64
+pub fn version_number(text: &str) -> u64
     ensures { result ≡ version_number text.now }
 {
     let bytes = text.as_bytes();
