@@ -1,7 +1,7 @@
 -- Values are the same as themselves, and lists and maps of trees where their parts are, one after another.
-use Rattle.std.proofs.Common.{◌≡◌, ℕ, suc, Bool, true, false, ◌&&◌, bytes_eq, List, [], ◌∷◌, length, refl, ap, ◌∙◌}
+use Rattle.std.proofs.Common.{◌≡◌, ℕ, suc, Bool, true, false, ◌&&◌, bytes_eq, List, [], ◌∷◌, length, refl, ap, sym, ◌∙◌}
 use Rattle.std.proofs.Math.Bool.{and-false}
-use Rattle.std.proofs.lemmas.Bool.{or_parts}
+use Rattle.std.proofs.lemmas.Bool.{or_parts, and_parts}
 use Rattle.std.proofs.lemmas.Bool.Decides.{Decides-eqb, Decides-int_eq}
 use Rattle.std.proofs.lemmas.Slice.Eq.{bytes_eq-Decides}
 use Rattle.serde_json.specs.Data.{Num, unsigned, negative, float, Data, null, boolean, number, string, array, object, Items, no_items, item, Members, no_members, member}
@@ -9,6 +9,7 @@ use Rattle.serde_json.specs.Find.{is_float}
 use Rattle.serde_json.specs.Written.{has_float, items_have_float, members_have_float}
 use Rattle.trees.specs.declared.tree.Tree.{Tree}
 use Rattle.trees.specs.Tree.{data_of, items_of, members_of}
+use Rattle.std.specs.Bool.{beq}
 use Rattle.trees.specs.Same.{same_numbers, same_data, same_items, same_members}
 
 abbrev pub same_lists : List Tree → List Tree → Bool
@@ -62,3 +63,41 @@ mutual
   members-itself (member k d ms) whole =
       let parts = or_parts (has_float d) (members_have_float ms) whole in
       rw ((bytes_eq-Decides k k).1 refl, same-itself d parts.0, members-itself ms parts.1) refl
+
+number-equal : (m n : Num) → same_numbers m n ≡ true → m ≡ n
+number-equal (unsigned m) (unsigned n) same = ap unsigned ((Decides-eqb m n).0 same)
+number-equal (negative y) (negative z) same = ap negative ((Decides-int_eq y z).0 same)
+number-equal m n same = cc
+
+truth-equal : (a b : Bool) → beq a b ≡ true → a ≡ b
+truth-equal true true same = refl
+truth-equal false false same = refl
+truth-equal a b same = cc
+
+-- values that are the same are one value
+mutual
+  pub same-equal : (d e : Data) → same_data d e ≡ true → d ≡ e
+  same-equal null null same = refl
+  same-equal (boolean a) (boolean b) same = ap boolean (truth-equal a b same)
+  same-equal (number m) (number n) same = ap number (number-equal m n same)
+  same-equal (string s) (string t) same = ap string ((bytes_eq-Decides s t).0 same)
+  same-equal (array ds) (array es) same = ap array (items-equal ds es same)
+  same-equal (object ms) (object ns) same = ap object (members-equal ms ns same)
+  same-equal d e same = cc
+
+  items-equal : (ds es : Items) → same_items ds es ≡ true → ds ≡ es
+  items-equal no_items no_items same = refl
+  items-equal no_items (item e es) same = cc
+  items-equal (item d ds) no_items same = cc
+  items-equal (item d ds) (item e es) same =
+      let parts = and_parts (same_data d e) (same_items ds es) same in
+      ap (λ x. item x ds) (same-equal d e parts.0) ∙ ap (item e) (items-equal ds es parts.1)
+
+  members-equal : (ms ns : Members) → same_members ms ns ≡ true → ms ≡ ns
+  members-equal no_members no_members same = refl
+  members-equal no_members (member l e ns) same = cc
+  members-equal (member k d ms) no_members same = cc
+  members-equal (member k d ms) (member l e ns) same =
+      let parts = and_parts (bytes_eq k l && same_data d e) (same_members ms ns) same in
+      let first = and_parts (bytes_eq k l) (same_data d e) parts.0 in
+      ap (λ x. member x d ms) ((bytes_eq-Decides k l).0 first.0) ∙ ap (λ x. member l x ms) (same-equal d e first.1) ∙ ap (member l e) (members-equal ms ns parts.1)

@@ -18,7 +18,7 @@ pub use fault::TreeError;
 pub use memory::Memory;
 pub use places::place_of;
 pub use reader::{TreeReader, read_tree};
-pub use same::same_is_reflexive;
+pub use same::{same_is_reflexive, same_values_are_equal};
 pub use text::Text;
 pub use tree::{Items, Members, Tree};
 pub use whole::Whole;

@@ -82,3 +82,8 @@ fn same_entry(left: &(Text, Tree), right: &(Text, Tree)) -> bool
 pub fn same_is_reflexive()
     ensures { (value : Data) → has_float value ≡ false → same_data value value ≡ true }
 {}
+
+/// JSON values that are the same are one value.
+pub fn same_values_are_equal()
+    ensures { (left right : Data) → same_data left right ≡ true → left ≡ right }
+{}
