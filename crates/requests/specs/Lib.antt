@@ -4,4 +4,5 @@ pub mod Forms
 pub mod Judgments
 pub mod Keys
 pub mod Reasons
+pub mod Same
 pub mod Verdict

@@ -8,6 +8,7 @@ mod outcomes;
 mod preconditions;
 mod reply;
 mod request;
+mod same;
 mod table;
 mod verdict;
 mod version;

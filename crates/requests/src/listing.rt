@@ -1,7 +1,7 @@
 ghost use Rattle.std.specs.Prelude.{◌≡◌, IfOk};
 
 use objects::{Memory, Object, Printed, TreeReader};
-use std::alloc::Global;
+use std::alloc::{AllocError, Global};
 use std::marker::Model;
 
 /// The objects of one kind in one namespace, in byte order of their names.
@@ -21,6 +21,25 @@ impl Model for Listing {
     ghost coded = { coded_list object_coded };
 
     ghost view = { λ l. l.objects.items };
+}
+
+impl From<Vec<Object>> for Listing {
+    ghost from_gives = { λ objects listing. listing ≡ objects.items };
+
+    /// A list of these objects, which are in byte order of their names.
+    fn from(objects: Vec<Object>) -> Listing {
+        Listing { objects }
+    }
+}
+
+impl Clone for Listing {
+    ghost is_clone = { λ old new. new ≡ old };
+
+    fn clone(&self) -> Result<Listing, AllocError> {
+        Ok(Listing {
+            objects: self.objects.clone()?,
+        })
+    }
 }
 
 impl Listing {

@@ -3,6 +3,7 @@ ghost use Rattle.requests.specs.Reasons.{reason_code, reason_name};
 
 use crate::listing::Listing;
 use objects::Object;
+use std::alloc::AllocError;
 
 /// Why a request was refused (Kubernetes API, `Status.reason`).
 #[derive(Clone, Copy, Debug, PartialEq, Eq)]
@@ -76,4 +77,27 @@ pub enum Reply {
     /// 200: the store no longer reads at resource versions below this one.
     Compacted { revision: u64 },
     Refused(Reason),
+}
+
+impl Clone for Reply {
+    ghost is_clone = { λ old new. new ≡ old };
+
+    fn clone(&self) -> Result<Reply, AllocError> {
+        Ok(match self {
+            Reply::Created(object) => Reply::Created(object.clone()?),
+            Reply::Found(object) => Reply::Found(object.clone()?),
+            Reply::Listed { objects, revision } => Reply::Listed {
+                objects: objects.clone()?,
+                revision: *revision,
+            },
+            Reply::Updated(object) => Reply::Updated(object.clone()?),
+            Reply::Unchanged(object) => Reply::Unchanged(object.clone()?),
+            Reply::Marked(object) => Reply::Marked(object.clone()?),
+            Reply::Removed(object) => Reply::Removed(object.clone()?),
+            Reply::Compacted { revision } => Reply::Compacted {
+                revision: *revision,
+            },
+            Reply::Refused(reason) => Reply::Refused(*reason),
+        })
+    }
 }
