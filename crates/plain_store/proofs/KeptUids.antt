@@ -8,11 +8,12 @@ use Rattle.objects.specs.declared.object.Object.{Object}
 use Rattle.objects.specs.Key.{key_cmp}
 use Rattle.requests.specs.declared.request.Request.{Request}
 use Rattle.requests.specs.declared.request.Request.TheVariants as request
-use Rattle.requests.specs.declared.request.Request.TheVariants.{Create, Get, Update, UpdateStatus, Delete}
+use Rattle.requests.specs.declared.request.Request.TheVariants.{Create, Get, Update, UpdateStatus, Delete, Compact}
 use Rattle.plain_store.specs.Store.{Store, opening, step}
 use Rattle.plain_store.specs.Run.{after}
 use Rattle.plain_store.specs.AtKey.{Has, Leaves, Makes}
 use Rattle.plain_store.specs.Filed.{AreFiled}
+use Rattle.plain_store.specs.Reached.{IsReached}
 use Rattle.plain_store.proofs.Verdicts.{Allows, Carried, idle, moves, Origin, is_made, was, by_turn, left, made, origin}
 
 -- an object as the number that makes it leaves it
@@ -29,7 +30,8 @@ pub record IsNext (n : ℕ) (k : Key) (o p : Object) : Type 0 where
 
 pub allowed : (n : ℕ) (r : Request) → Allows (IsNew n) (IsNext n) n r
 allowed n (Get k) = tt
-allowed n (request.List kind namespace) = tt
+allowed n (request.List kind namespace exact) = tt
+allowed n (Compact to) = tt
 allowed n (Create d) = record { key = refl; uid = refl; revision = refl }
 allowed n (Update d) = λ o. record { key = λ named. refl; uid = refl; revision = refl }
 allowed n (UpdateStatus d) = λ o. record { key = λ named. named; uid = refl; revision = refl }
@@ -105,7 +107,7 @@ abbrev AreDrawn : Store → Type 0
 AreDrawn s = (q : Key) (o : Object) → Has s q o → IsDrawn s.counter o
 
 rising : (s : Store) (k : Key) (t : Store) → Steps s k t → s.counter ≤ t.counter
-rising s k t (idle is) = let e : t.counter ≡ s.counter = ap (λ (x : Store). x.counter) is in omega arith
+rising s k t (idle is counted) = omega arith
 rising s k t (moves counted turns) = omega arith
 
 still_drawn : (s t : Store) (q : Key) (o p : Object) → s.counter ≤ t.counter → IsDrawn s.counter o → Kept s t q o p → IsDrawn t.counter p
@@ -180,6 +182,9 @@ sound capacity rs = sound_run (opening capacity) rs (opening_sound capacity)
 
 pub filed_in_run : (capacity : ℕ) (rs : List Request) → AreFiled (after (opening capacity) rs).objects
 filed_in_run capacity rs = (sound capacity rs).filed
+
+pub filed_when_reached : (s : Store) → IsReached s → AreFiled s.objects
+filed_when_reached s is = subst (λ (t : Store). AreFiled t.objects) (sym is.left) (filed_in_run is.capacity is.requests)
 
 pub drawn_in_run : (capacity : ℕ) (rs : List Request) (q : Key) (o : Object) → Has (after (opening capacity) rs) q o → IsDrawn (after (opening capacity) rs).counter o
 drawn_in_run capacity rs = (sound capacity rs).drawn

@@ -1,6 +1,6 @@
-pub mod Entries
-pub mod NamedKeys
-pub mod Collections
+pub mod Held
+pub mod Routes
+pub mod Denials
 pub mod ChangedKeys
 pub mod Steps
 pub mod Runs

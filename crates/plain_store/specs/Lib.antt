@@ -5,11 +5,12 @@ pub mod Filed
 pub mod Lives
 pub mod PrintedReplies
 pub mod Reached
+pub mod Route
 pub mod Run
 pub mod StatusWrites
 pub mod Store
 -- ---- what only proofs use
-pub mod Named
+pub mod Held
 -- ---- of the crate below
 pub use Rattle.requests.specs.Change
 pub use Rattle.requests.specs.Forms

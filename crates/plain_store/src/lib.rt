@@ -2,7 +2,6 @@
 #![tactic(auto)]
 
 mod api;
-mod collection;
 mod laws;
 mod printed_reply;
 mod store;
@@ -17,7 +16,7 @@ pub use laws::lifetimes::{
     names_live_once, objects_stand_under_their_keys, uids_name_one_key, uids_stay,
 };
 pub use laws::runs::{
-    deletes_spare_other_uids, only_writes_change_the_store, reads_change_nothing,
+    deletes_spare_other_uids, only_writes_and_compactions_change_the_store, reads_change_nothing,
     requests_touch_one_key, runs_go_on, uids_are_given_once, versions_rise_by_one,
 };
 pub use printed_reply::PrintedReply;
