@@ -1,8 +1,7 @@
 -- Which numbers can be asked for.
-use Rattle.std.proofs.Common.{◌≡◌, ◌≤◌, ◌<◌, ℕ, Bool, true, false, cond, Option, Some, None, refl, sym, ap, ◌∙◌, arith}
+use Rattle.std.proofs.Common.{◌≡◌, ◌≤◌, ◌<◌, ℕ, Bool, true, false, cond, Some, None, refl, arith}
 use Rattle.std.specs.Prelude.{nat_lt}
 use Rattle.std.proofs.lemmas.Bool.Decides.{nat_tests}
-use Rattle.requests.specs.declared.reply.Reason.{Reason}
 use Rattle.requests.specs.declared.reply.Reason.TheVariants.{Expired, TooLarge}
 use Rattle.plain_store.specs.Store.{denied}
 
@@ -36,3 +35,21 @@ readable floor counter n none =
     let drawn = both.0 in
     let kept = both.1 in
     (grind (arith, nat_tests), grind (arith, nat_tests))
+
+large_by : (a b : Bool) → cond a (Some TooLarge) (cond b (Some Expired) None) ≡ Some TooLarge → a ≡ true
+large_by true b is = refl
+large_by false true is = absurd cc
+large_by false false is = absurd cc
+
+expired_by : (a b : Bool) → cond a (Some TooLarge) (cond b (Some Expired) None) ≡ Some Expired → b ≡ true
+expired_by true b is = absurd cc
+expired_by false true is = refl
+expired_by false false is = absurd cc
+
+pub above_when_large : (floor counter n : ℕ) → denied floor counter n ≡ Some TooLarge → counter < n
+unfolding denied
+above_when_large floor counter n is = let above = large_by (nat_lt counter n) (nat_lt n floor) is in grind (arith, nat_tests)
+
+pub below_when_expired : (floor counter n : ℕ) → denied floor counter n ≡ Some Expired → n < floor
+unfolding denied
+below_when_expired floor counter n is = let below = expired_by (nat_lt counter n) (nat_lt n floor) is in grind (arith, nat_tests)

@@ -1,5 +1,5 @@
 -- Each step draws one number, which it writes, or none, and then changes nothing.
-use Rattle.std.proofs.Common.{◌≡◌, ◌≢◌, ◌≤◌, ◌<◌, ◌+◌, ◌==◌, ℕ, Bool, true, false, cond, List, [], ◌∷◌, length, Option, Some, None, MatchOption, refl, ap, subst, arith}
+use Rattle.std.proofs.Common.{◌≡◌, ◌≢◌, ◌≤◌, ◌<◌, ◌+◌, ◌==◌, ℕ, Bool, true, false, cond, List, [], ◌∷◌, length, Option, Some, None, MatchOption, refl, subst, arith}
 use Rattle.objects.specs.declared.key.Key.{Key}
 use Rattle.requests.specs.declared.request.Request.{Request}
 use Rattle.requests.specs.declared.request.Request.TheVariants.{Compact}
@@ -59,13 +59,6 @@ draws s r = by (route r)
     by (writes k) = draws-verdict s k (verdict r (map.get s.objects k))
     by (lists_at kind namespace n) = draws-listed_at s (collection (map_at s n) kind namespace) n (denied s.floor s.counter n)
     by (compacts n) = draws-compaction s n (denied s.floor s.counter n)
-
-pub counter_rises : (s : Store) (r : Request) → s.counter ≤ (step s r).0.counter
-counter_rises s r = by (version_drawn (step s r).1) (draws s r).version
-  where
-    by : (drawn : Option ℕ) → MatchOption drawn ((step s r).0.counter ≡ s.counter) (λ v. (v ≡ s.counter + 1) × ((step s r).0.counter ≡ v)) → s.counter ≤ (step s r).0.counter
-    by None same = omega (arith, same)
-    by (Some v) drawn = let number = drawn.0 in let counted = drawn.1 in omega (arith, number, counted)
 
 stays-write : (s : Store) (k : Key) (c : Change) (full : Bool) →
     let end : Store × Reply = cond full (s, Refused StoreFull) (with_change s k c, accepted c (stamp c (s.counter + 1))) in version_drawn end.1 ≡ None → end.0 ≡ s

@@ -1,7 +1,7 @@
 -- The entries of a map of objects are what it has at their keys.
 use Rattle.std.proofs.Common.{◌≡◌, Bool, true, false, cond, List, [], ◌∷◌, Option, Some, None, refl, sym, ap, ◌∙◌}
 use Rattle.std.specs.List.{AllByRecursion}
-use Rattle.std.specs.Ordering.{eq_by_cmp, is_eq, is_lt}
+use Rattle.std.specs.Ordering.{eq_by_cmp, is_eq}
 use Rattle.std.specs.Cmp.{tied_itself}
 use Rattle.std.specs.FinMap.{FinMap, entries, entries_sorted, find, get, get-entries, get-retain_keys, is_sorted, retain_keys}
 use Rattle.std.specs.FinMap.Entries.{below_all}
@@ -31,7 +31,7 @@ abbrev pub IsIn : FinMap key_cmp Object → Key × Object → Type 0
 IsIn m e = get m e.0 ≡ Some e.1
 
 -- entries in order are in each map that has what is found among them
-all_in : (m : FinMap key_cmp Object) (es : List (Key × Object)) → is_sorted key_cmp es ≡ true → ((k : Key) (o : Object) → find key_cmp k es ≡ Some o → get m k ≡ Some o)
+pub all_in : (m : FinMap key_cmp Object) (es : List (Key × Object)) → is_sorted key_cmp es ≡ true → ((k : Key) (o : Object) → find key_cmp k es ≡ Some o → get m k ≡ Some o)
     → AllByRecursion (IsIn m) es
 all_in m [] sorted has = tt
 all_in m (e ∷ es) sorted has =

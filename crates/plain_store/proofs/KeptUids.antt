@@ -14,6 +14,8 @@ use Rattle.plain_store.specs.Run.{after}
 use Rattle.plain_store.specs.AtKey.{Has, Leaves, Makes}
 use Rattle.plain_store.specs.Filed.{AreFiled}
 use Rattle.plain_store.specs.Reached.{IsReached}
+use Rattle.plain_store.specs.Since.{IsUidSince, IsVersionSince}
+use Rattle.plain_store.proofs.Past.{counter_step}
 use Rattle.plain_store.proofs.Verdicts.{Allows, Carried, idle, moves, Origin, is_made, was, by_turn, left, made, origin}
 
 -- an object as the number that makes it leaves it
@@ -191,3 +193,35 @@ drawn_in_run capacity rs = (sound capacity rs).drawn
 
 pub apart_in_run : (capacity : ℕ) (rs : List Request) → AreApart (after (opening capacity) rs)
 apart_in_run capacity rs = (sound capacity rs).apart
+
+-- ---- what was there before a run
+
+version_from : (s t : Store) (k q : Key) (p : Object) → Came s t k q p → IsVersionSince s q p
+version_from s t k q p (is_made counted here new) = inl (let drawn : p.meta.revision ≡ s.counter + 1 = new.revision in omega arith)
+version_from s t k q p (was o there (inl e)) = inr (there ∙ ap Some (sym e))
+version_from s t k q p (was o there (inr c)) = inl (let drawn : p.meta.revision ≡ s.counter + 1 = c.1.revision in omega arith)
+
+uid_from : (s t : Store) (k q : Key) (p : Object) → Came s t k q p → IsUidSince s q p
+uid_from s t k q p (is_made counted here new) = inl (let drawn : p.meta.uid ≡ s.counter + 1 = new.uid in omega arith)
+uid_from s t k q p (was o there how) = inr (o, there, sym (uid_kept s t q o p how))
+
+version_by_step : (s : Store) (r : Request) (q : Key) (o : Object) → IsVersionSince (step s r).0 q o → IsVersionSince s q o
+version_by_step s r q o (inl more) = inl (let g = (counter_step s r).0 in omega arith)
+version_by_step s r q o (inr there) = steps s r (λ t. Has t q o → IsVersionSince s q o) (λ k t c h. version_from s t k q o (came s t k q o c h)) there
+
+pub version_since : (s : Store) (rs : List Request) (q : Key) (o : Object) → Has (after s rs) q o → IsVersionSince s q o
+version_since s [] q o there = inr there
+version_since s (r ∷ rs) q o there = version_by_step s r q o (version_since (step s r).0 rs q o there)
+
+same_uid : (s : Store) (q : Key) (p o : Object) → p.meta.uid ≡ o.meta.uid → IsUidSince s q p → IsUidSince s q o
+same_uid s q p o same (inl more) = inl (omega arith)
+same_uid s q p o same (inr old) = inr (old.0, old.1, old.2 ∙ same)
+
+uid_by_step : (s : Store) (r : Request) (q : Key) (o : Object) → IsUidSince (step s r).0 q o → IsUidSince s q o
+uid_by_step s r q o (inl more) = inl (let g = (counter_step s r).0 in omega arith)
+uid_by_step s r q o (inr old) =
+    same_uid s q old.0 o old.2 (steps s r (λ t. Has t q old.0 → IsUidSince s q old.0) (λ k t c h. uid_from s t k q old.0 (came s t k q old.0 c h)) old.1)
+
+pub uid_since : (s : Store) (rs : List Request) (q : Key) (o : Object) → Has (after s rs) q o → IsUidSince s q o
+uid_since s [] q o there = inr (o, there, refl)
+uid_since s (r ∷ rs) q o there = uid_by_step s r q o (uid_since (step s r).0 rs q o there)

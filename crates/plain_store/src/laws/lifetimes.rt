@@ -7,6 +7,7 @@ ghost use Rattle.plain_store.specs.AtKey.{Has, Leaves, Makes};
 ghost use Rattle.plain_store.specs.Filed.{AreFiled};
 ghost use Rattle.plain_store.specs.Lives.{AreLives, events_of};
 ghost use Rattle.plain_store.specs.Run.{after, exchanges};
+ghost use Rattle.plain_store.specs.Since.{IsUidSince, IsVersionSince};
 ghost use Rattle.plain_store.specs.Store.{Store, opening, step};
 
 /// No two objects live under one name at a time, and what is read is what was written last: for each key, a `Created`
@@ -41,4 +42,11 @@ pub fn uids_stay()
         → Leaves s request key before after → before.meta.revision ≤ s.counter → before.meta.revision ≤ after.meta.revision }
     ensures made { (s : Store) (request : Request) (key : Key) (made : Object) → let n = (step s request).0.counter in
         Makes s request key made → (made.meta.uid ≡ n) × (made.meta.revision ≡ n) }
+{}
+
+/// What is there after any further requests was made since, or was there before them under the same key; and it was
+/// written since, or was there as it is.
+pub fn old_objects_were_there()
+    ensures uid { (s : Store) (requests : List Request) (key : Key) (o : Object) → Has (after s requests) key o → IsUidSince s key o }
+    ensures version { (s : Store) (requests : List Request) (key : Key) (o : Object) → Has (after s requests) key o → IsVersionSince s key o }
 {}

@@ -1,5 +1,5 @@
 //! Laws of the plain store about whole runs: the numbers that they draw, and what they leave alone.
-ghost use Rattle.std.specs.Prelude.{◌≡◌, ◌≢◌, ◌+◌, ℕ, List, ◌++◌, bytes_eq, true, false, length, Option, Some, None};
+ghost use Rattle.std.specs.Prelude.{◌≡◌, ◌≢◌, ◌≤◌, ◌+◌, ℕ, List, ◌++◌, bytes_eq, true, false, length, Option, Some, None};
 ghost use Rattle.std.specs.FinMap as map;
 ghost use Rattle.objects.specs.declared.key.Key.{Key};
 ghost use Rattle.objects.specs.declared.object.Object.{Object};
@@ -9,7 +9,9 @@ ghost use Rattle.requests.specs.declared.request.Request.TheVariants.{Compact, D
 ghost use Rattle.requests.specs.declared.reply.Reply.TheVariants.{Refused};
 ghost use Rattle.requests.specs.declared.reply.Reason.TheVariants.{Conflict};
 ghost use Rattle.requests.specs.Keys.{key_named};
+ghost use Rattle.plain_store.specs.Reached.{IsReached};
 ghost use Rattle.plain_store.specs.Route.{is_read};
+ghost use Rattle.plain_store.specs.Taken.{Takes, taken};
 ghost use Rattle.plain_store.specs.Store.{Store, step};
 ghost use Rattle.plain_store.specs.Run.{after, replies};
 ghost use Rattle.plain_store.specs.Drawn.{AreNext, AreRising, uids_given, version_drawn, versions_drawn};
@@ -54,4 +56,16 @@ pub fn deletes_spare_other_uids()
     ensures { (s : Store) (key : Key) (uid : List ℕ) (version at : Option (List ℕ)) (current : Object)
         → map.get s.objects key ≡ Some current → bytes_eq uid (uid_text current.meta.uid) ≡ false
         → step s (Delete key (Some uid) version at) ≡ (s, Refused Conflict) }
+{}
+
+/// A delete that is accepted marks or takes away the object that is under its key, with the UID and the resource version
+/// that were given.
+pub fn deletes_take_what_is_there()
+    ensures { (s : Store) (key : Key) (uid version at : Option (List ℕ)) (o : Object) → taken (step s (Delete key uid version at)).1 ≡ Some o
+        → Takes s key uid version o }
+{}
+
+/// A store that an `Api` may stand on has a capacity from 1 to 1,048,576, and neither its counter nor its floor passes it.
+pub fn capacity_bounds_the_counter()
+    ensures { (s : Store) → IsReached s → (1 ≤ s.capacity) × (s.capacity ≤ 1048576) × (s.counter ≤ s.capacity) × (s.floor ≤ s.counter) }
 {}
