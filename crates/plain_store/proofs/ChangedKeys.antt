@@ -7,7 +7,7 @@ use Rattle.objects.specs.declared.object.Draft.{Draft}
 use Rattle.objects.specs.declared.object.Object.{Object}
 use Rattle.requests.specs.declared.request.Request.{Request}
 use Rattle.requests.specs.declared.request.Request.TheVariants as request
-use Rattle.requests.specs.declared.request.Request.TheVariants.{Create, Get, Update, UpdateStatus, Delete}
+use Rattle.requests.specs.declared.request.Request.TheVariants.{Create, Get, Update, UpdateStatus, Delete, Compact}
 use Rattle.requests.specs.declared.verdict.Verdict.{Verdict}
 use Rattle.requests.specs.declared.verdict.Verdict.TheVariants.{Refuse, Same, Write}
 use Rattle.requests.specs.Change.{change_object}
@@ -60,7 +60,8 @@ named_so v current own k named holds = subst (λ q. IsFiled q current → IsOfKe
 pub changes_its_key : (r : Request) (k : Key) (current : Option Object) → key_named r ≡ Some k → IsFiled k current → IsOfKey k (verdict r current)
 changes_its_key (Create d) k current named = named_so (on_create d current) current d.object.key k named (λ filed. create_key d current)
 changes_its_key (Get q) k current named = λ filed. tt
-changes_its_key (request.List kind namespace) k current named = λ filed. tt
+changes_its_key (request.List kind namespace exact) k current named = λ filed. tt
 changes_its_key (Update d) k current named = named_so (on_update d current) current d.object.key k named (λ filed. update_key d current)
 changes_its_key (UpdateStatus d) k current named = named_so (on_status d current) current d.object.key k named (status_key d current)
 changes_its_key (Delete q uid version at) k current named = named_so (on_delete version uid at current) current q k named (delete_key q uid version at current)
+changes_its_key (Compact to) k current named = λ filed. tt

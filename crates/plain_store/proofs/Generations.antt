@@ -9,7 +9,7 @@ use Rattle.objects.proofs.BodyMembers.{member_of-whole, member_of-with_other}
 use Rattle.objects.proofs.Sameness.{same-itself}
 use Rattle.requests.specs.declared.request.Request.{Request}
 use Rattle.requests.specs.declared.request.Request.TheVariants as request
-use Rattle.requests.specs.declared.request.Request.TheVariants.{Create, Get, Update, UpdateStatus, Delete}
+use Rattle.requests.specs.declared.request.Request.TheVariants.{Create, Get, Update, UpdateStatus, Delete, Compact}
 use Rattle.requests.specs.Verdict.{generation_after, has_status, same_found, same_member}
 use Rattle.plain_store.specs.Store.{Store}
 use Rattle.plain_store.specs.AtKey.{Has, Leaves, Makes}
@@ -46,7 +46,8 @@ IsCounted k o p = has_float o.body ≡ false → p.meta.generation ≡ generatio
 
 counts : (n : ℕ) (r : Request) → Allows IsFirst IsCounted n r
 counts n (Get k) = tt
-counts n (request.List kind namespace) = tt
+counts n (request.List kind namespace exact) = tt
+counts n (Compact to) = tt
 counts n (Create d) = refl
 counts n (Update d) = λ o whole.
     ap (λ x. generation_after o.meta.generation (same_found (spec o.body) x)) (sym (with_other_status (has_status d.object.key.kind) (member_of (codes "status") o.body) d.object.body))
@@ -81,7 +82,8 @@ not_below g false false = omega arith
 
 rises : (n : ℕ) (r : Request) → Allows IsFirst NeverFalls n r
 rises n (Get k) = tt
-rises n (request.List kind namespace) = tt
+rises n (request.List kind namespace exact) = tt
+rises n (Compact to) = tt
 rises n (Create d) = refl
 rises n (Update d) = λ o. not_below o.meta.generation (same_member (codes "spec") o.body d.object.body) (nat_lt (o.meta.generation + 1) (2 ^ 63))
 rises n (UpdateStatus d) = λ o. omega arith

@@ -8,11 +8,14 @@ use Rattle.objects.specs.declared.object.Object.{Object}
 use Rattle.objects.specs.Key.{key_cmp}
 use Rattle.requests.specs.declared.request.Request.{Request}
 use Rattle.requests.specs.declared.request.Request.TheVariants as request
-use Rattle.requests.specs.declared.request.Request.TheVariants.{Create, Get, Update, UpdateStatus, Delete}
+use Rattle.requests.specs.declared.request.Request.TheVariants.{Create, Get, Update, UpdateStatus, Delete, Compact}
 use Rattle.plain_store.specs.Store.{Store, opening, step}
 use Rattle.plain_store.specs.Run.{after}
 use Rattle.plain_store.specs.AtKey.{Has, Leaves, Makes}
 use Rattle.plain_store.specs.Filed.{AreFiled}
+use Rattle.plain_store.specs.Reached.{IsReached}
+use Rattle.plain_store.specs.Since.{IsUidSince, IsVersionSince}
+use Rattle.plain_store.proofs.Past.{counter_step}
 use Rattle.plain_store.proofs.Verdicts.{Allows, Carried, idle, moves, Origin, is_made, was, by_turn, left, made, origin}
 
 -- an object as the number that makes it leaves it
@@ -29,7 +32,8 @@ pub record IsNext (n : ℕ) (k : Key) (o p : Object) : Type 0 where
 
 pub allowed : (n : ℕ) (r : Request) → Allows (IsNew n) (IsNext n) n r
 allowed n (Get k) = tt
-allowed n (request.List kind namespace) = tt
+allowed n (request.List kind namespace exact) = tt
+allowed n (Compact to) = tt
 allowed n (Create d) = record { key = refl; uid = refl; revision = refl }
 allowed n (Update d) = λ o. record { key = λ named. refl; uid = refl; revision = refl }
 allowed n (UpdateStatus d) = λ o. record { key = λ named. named; uid = refl; revision = refl }
@@ -105,7 +109,7 @@ abbrev AreDrawn : Store → Type 0
 AreDrawn s = (q : Key) (o : Object) → Has s q o → IsDrawn s.counter o
 
 rising : (s : Store) (k : Key) (t : Store) → Steps s k t → s.counter ≤ t.counter
-rising s k t (idle is) = let e : t.counter ≡ s.counter = ap (λ (x : Store). x.counter) is in omega arith
+rising s k t (idle is counted) = omega arith
 rising s k t (moves counted turns) = omega arith
 
 still_drawn : (s t : Store) (q : Key) (o p : Object) → s.counter ≤ t.counter → IsDrawn s.counter o → Kept s t q o p → IsDrawn t.counter p
@@ -181,8 +185,43 @@ sound capacity rs = sound_run (opening capacity) rs (opening_sound capacity)
 pub filed_in_run : (capacity : ℕ) (rs : List Request) → AreFiled (after (opening capacity) rs).objects
 filed_in_run capacity rs = (sound capacity rs).filed
 
+pub filed_when_reached : (s : Store) → IsReached s → AreFiled s.objects
+filed_when_reached s is = subst (λ (t : Store). AreFiled t.objects) (sym is.left) (filed_in_run is.capacity is.requests)
+
 pub drawn_in_run : (capacity : ℕ) (rs : List Request) (q : Key) (o : Object) → Has (after (opening capacity) rs) q o → IsDrawn (after (opening capacity) rs).counter o
 drawn_in_run capacity rs = (sound capacity rs).drawn
 
 pub apart_in_run : (capacity : ℕ) (rs : List Request) → AreApart (after (opening capacity) rs)
 apart_in_run capacity rs = (sound capacity rs).apart
+
+-- ---- what was there before a run
+
+version_from : (s t : Store) (k q : Key) (p : Object) → Came s t k q p → IsVersionSince s q p
+version_from s t k q p (is_made counted here new) = inl (let drawn : p.meta.revision ≡ s.counter + 1 = new.revision in omega arith)
+version_from s t k q p (was o there (inl e)) = inr (there ∙ ap Some (sym e))
+version_from s t k q p (was o there (inr c)) = inl (let drawn : p.meta.revision ≡ s.counter + 1 = c.1.revision in omega arith)
+
+uid_from : (s t : Store) (k q : Key) (p : Object) → Came s t k q p → IsUidSince s q p
+uid_from s t k q p (is_made counted here new) = inl (let drawn : p.meta.uid ≡ s.counter + 1 = new.uid in omega arith)
+uid_from s t k q p (was o there how) = inr (o, there, sym (uid_kept s t q o p how))
+
+version_by_step : (s : Store) (r : Request) (q : Key) (o : Object) → IsVersionSince (step s r).0 q o → IsVersionSince s q o
+version_by_step s r q o (inl more) = inl (let g = (counter_step s r).0 in omega arith)
+version_by_step s r q o (inr there) = steps s r (λ t. Has t q o → IsVersionSince s q o) (λ k t c h. version_from s t k q o (came s t k q o c h)) there
+
+pub version_since : (s : Store) (rs : List Request) (q : Key) (o : Object) → Has (after s rs) q o → IsVersionSince s q o
+version_since s [] q o there = inr there
+version_since s (r ∷ rs) q o there = version_by_step s r q o (version_since (step s r).0 rs q o there)
+
+same_uid : (s : Store) (q : Key) (p o : Object) → p.meta.uid ≡ o.meta.uid → IsUidSince s q p → IsUidSince s q o
+same_uid s q p o same (inl more) = inl (omega arith)
+same_uid s q p o same (inr old) = inr (old.0, old.1, old.2 ∙ same)
+
+uid_by_step : (s : Store) (r : Request) (q : Key) (o : Object) → IsUidSince (step s r).0 q o → IsUidSince s q o
+uid_by_step s r q o (inl more) = inl (let g = (counter_step s r).0 in omega arith)
+uid_by_step s r q o (inr old) =
+    same_uid s q old.0 o old.2 (steps s r (λ t. Has t q old.0 → IsUidSince s q old.0) (λ k t c h. uid_from s t k q old.0 (came s t k q old.0 c h)) old.1)
+
+pub uid_since : (s : Store) (rs : List Request) (q : Key) (o : Object) → Has (after s rs) q o → IsUidSince s q o
+uid_since s [] q o there = inr (o, there, refl)
+uid_since s (r ∷ rs) q o there = uid_by_step s r q o (uid_since (step s r).0 rs q o there)

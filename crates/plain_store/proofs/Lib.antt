@@ -1,9 +1,12 @@
-pub mod Entries
-pub mod NamedKeys
-pub mod Collections
+pub mod Held
+pub mod Routes
+pub mod Denials
 pub mod ChangedKeys
 pub mod Steps
 pub mod Runs
+pub mod Moves
+pub mod Past
+pub mod PastReplies
 pub mod DrawnNumbers
 pub mod OneKey
 pub mod Verdicts
@@ -13,3 +16,5 @@ pub mod ToldLives
 pub mod StatusKept
 pub mod Generations
 pub mod StaleVersions
+pub mod TakenObjects
+pub mod WholeLists

@@ -1,5 +1,5 @@
 -- A step writes or takes away under the key that its request names, and under no other.
-use Rattle.std.proofs.Common.{◌≡◌, ◌+◌, ◌==◌, ℕ, Bool, true, false, cond, not, ◌||◌, List, bytes_eq, decimal, Option, Some, None, refl, ap, ◌∙◌}
+use Rattle.std.proofs.Common.{◌≡◌, ◌+◌, ◌==◌, ℕ, Bool, true, false, cond, not, ◌||◌, List, bytes_eq, decimal, Option, Some, None, refl, sym, ap, ◌∙◌}
 use Rattle.std.proofs.Math.Bool.{or-true}
 use Rattle.std.specs.BTreeMap.{is_at}
 use Rattle.std.specs.FinMap as map
@@ -7,21 +7,21 @@ use Rattle.std.specs.FinMap.{FinMap, get-insert, get-remove}
 use Rattle.objects.specs.declared.key.Key.{Key}
 use Rattle.objects.specs.declared.object.Object.{Object}
 use Rattle.objects.specs.Key.{key_cmp}
-use Rattle.objects.specs.KeyOrder.{key_cmp_total}
+use Rattle.objects.specs.KeyOrder.{equal_from, exact_keys, key_cmp_total}
 use Rattle.objects.specs.Uid.{uid_text}
 use Rattle.requests.specs.declared.request.Request.{Request}
-use Rattle.requests.specs.declared.request.Request.TheVariants as request
-use Rattle.requests.specs.declared.request.Request.TheVariants.{Create, Get, Update, UpdateStatus, Delete}
+use Rattle.requests.specs.declared.request.Request.TheVariants.{Delete}
 use Rattle.requests.specs.declared.reply.Reply.{Reply}
 use Rattle.requests.specs.declared.reply.Reply.TheVariants.{Refused}
 use Rattle.requests.specs.declared.reply.Reason.TheVariants.{Conflict, StoreFull}
 use Rattle.requests.specs.declared.verdict.Verdict.{Verdict}
 use Rattle.requests.specs.declared.verdict.Verdict.TheVariants.{Refuse, Same, Write}
 use Rattle.requests.specs.Change.{Change, accepted, kept, stamp}
-use Rattle.requests.specs.Verdict.{deleted, differs, graceful, on_create, on_update, on_status, on_delete}
-use Rattle.plain_store.specs.Store.{Store, step, carried_out, put_at, with_change}
+use Rattle.requests.specs.Verdict.{deleted, differs, graceful, on_delete, verdict}
+use Rattle.plain_store.specs.Store.{Store, step, carried_out, denied, put_at, routed, with_change}
 use Rattle.requests.specs.Keys.{key_named}
-use Rattle.plain_store.proofs.Entries.{equal_from, exact_keys}
+use Rattle.plain_store.specs.Route.{Route, compacts, gets, lists, lists_at, route, writes}
+use Rattle.plain_store.proofs.Routes.{names_its_key, objects_stay}
 
 no : (b : Bool) → (b ≡ true → ⊥) → b ≡ false
 no true other = absurd (other refl)
@@ -50,26 +50,21 @@ carried_elsewhere s k q (Refuse reason) other = refl
 carried_elsewhere s k q (Same o) other = refl
 carried_elsewhere s k q (Write c) other = write_elsewhere s k q c (s.counter == s.capacity) other
 
--- a key that is not the one named is another one
-other_than : (q k : Key) → (Some q ≡ Some k → ⊥) → q ≡ k → ⊥
-other_than q k other is = other (ap Some is)
-
 pub step_elsewhere : (s : Store) (r : Request) (q : Key) → (Some q ≡ key_named r → ⊥) → map.get (step s r).0.objects q ≡ map.get s.objects q
 unfolding step
-step_elsewhere s (Get k) q other = refl
-step_elsewhere s (request.List kind namespace) q other = refl
-step_elsewhere s (Create d) q other =
-    carried_elsewhere s d.object.key q (on_create d (map.get s.objects d.object.key)) (other_than q d.object.key other)
-step_elsewhere s (Update d) q other =
-    carried_elsewhere s d.object.key q (on_update d (map.get s.objects d.object.key)) (other_than q d.object.key other)
-step_elsewhere s (UpdateStatus d) q other =
-    carried_elsewhere s d.object.key q (on_status d (map.get s.objects d.object.key)) (other_than q d.object.key other)
-step_elsewhere s (Delete k uid version at) q other = carried_elsewhere s k q (on_delete version uid at (map.get s.objects k)) (other_than q k other)
+step_elsewhere s r q other = by (route r) refl
+  where
+    by : (x : Route) → route r ≡ x → map.get (routed s r x).0.objects q ≡ map.get s.objects q
+    by (gets k) is = refl
+    by (lists kind namespace) is = refl
+    by (writes k) is = carried_elsewhere s k q (verdict r (map.get s.objects k)) (λ same. other (ap Some same ∙ sym (names_its_key r k is)))
+    by (lists_at kind namespace n) is = refl
+    by (compacts n) is = ap (λ m. map.get m q) (objects_stay s n (denied s.floor s.counter n))
 
 -- a delete that names another UID than the object's
 pub spared : (s : Store) (k : Key) (uid : List ℕ) (version at : Option (List ℕ)) (current : Object)
     → map.get s.objects k ≡ Some current → bytes_eq uid (uid_text current.meta.uid) ≡ false → step s (Delete k (Some uid) version at) ≡ (s, Refused Conflict)
-unfolding step
+unfolding step route
 spared s k uid version at current there other =
     let old = differs version (decimal current.meta.revision) in
     let then : Bool → Verdict = λ b. cond b (Refuse Conflict) (deleted (graceful current.key.kind at) current) in

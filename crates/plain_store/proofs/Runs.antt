@@ -16,6 +16,8 @@ after_one_more s (q ∷ rs) r = after_one_more (step s q).0 rs r
 pub reached_by_a_step : (s : Store) (r : Request) → IsReached s → IsReached (step s r).0
 reached_by_a_step s r is = record {
   capacity = is.capacity;
+  least = is.least;
+  most = is.most;
   requests = is.requests ++ r ∷ [];
   left = ap (λ t. (step t r).0) is.left ∙ sym (after_one_more (opening is.capacity) is.requests r);
 }

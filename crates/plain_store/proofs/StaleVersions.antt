@@ -12,6 +12,7 @@ use Rattle.requests.specs.declared.reply.Reason.TheVariants.{Conflict, Invalid}
 use Rattle.requests.specs.declared.verdict.Verdict.{Verdict}
 use Rattle.requests.specs.declared.verdict.Verdict.TheVariants.{Refuse}
 use Rattle.requests.specs.Verdict.{conflicts, deleted, differs, graceful, has_status, on_delete, on_status_of, on_update, status_unless_same}
+use Rattle.plain_store.specs.Route.{route}
 use Rattle.plain_store.specs.Store.{Store, step, carried_out}
 use Rattle.plain_store.specs.AtKey.{Has}
 
@@ -30,7 +31,7 @@ refused_by b v is = ap (λ x. cond x (Refuse Conflict) v) is
 
 pub stale_update : (s : Store) (d : Draft) (version : List ℕ) (o : Object) → Has s d.object.key o → d.version ≡ Some version → version ≢ decimal o.meta.revision
     → step s (Update d) ≡ (s, Refused Conflict)
-unfolding step
+unfolding step route
 stale_update s d version o there is other =
     ap (λ x. carried_out s d.object.key (on_update d x)) there
     ∙ ap (carried_out s d.object.key) (refused_by (conflicts d.version d.uid o) _ (stale d.version d.uid version o is other))
@@ -41,14 +42,14 @@ by_kind s k false v is = refl
 
 pub stale_status : (s : Store) (d : Draft) (version : List ℕ) (o : Object) → Has s d.object.key o → d.version ≡ Some version → version ≢ decimal o.meta.revision
     → step s (UpdateStatus d) ≡ (s, Refused (cond (has_status d.object.key.kind) Conflict Invalid))
-unfolding step
+unfolding step route
 stale_status s d version o there is other =
     by_kind s d.object.key (has_status d.object.key.kind) (on_status_of d (map.get s.objects d.object.key))
     (ap (on_status_of d) there ∙ refused_by (conflicts d.version d.uid o) (status_unless_same o d) (stale d.version d.uid version o is other))
 
 pub stale_delete : (s : Store) (k : Key) (uid at : Option (List ℕ)) (version : List ℕ) (o : Object) → Has s k o → version ≢ decimal o.meta.revision
     → step s (Delete k uid (Some version) at) ≡ (s, Refused Conflict)
-unfolding step
+unfolding step route
 stale_delete s k uid at version o there other =
     ap (λ x. carried_out s k (on_delete (Some version) uid at x)) there
     ∙ ap (carried_out s k) (refused_by (conflicts (Some version) uid o) (deleted (graceful o.key.kind at) o) (stale (Some version) uid version o refl other))

@@ -13,7 +13,7 @@ use Rattle.objects.specs.Status.{member_of, with_member}
 use Rattle.objects.proofs.BodyMembers.{member_of-with_member, member_of-with_other, member_of-without}
 use Rattle.requests.specs.declared.request.Request.{Request}
 use Rattle.requests.specs.declared.request.Request.TheVariants as request
-use Rattle.requests.specs.declared.request.Request.TheVariants.{Create, Get, Update, UpdateStatus, Delete}
+use Rattle.requests.specs.declared.request.Request.TheVariants.{Create, Get, Update, UpdateStatus, Delete, Compact}
 use Rattle.requests.specs.declared.reply.Reply.{Reply}
 use Rattle.requests.specs.declared.reply.Reply.TheVariants.{Refused, Updated}
 use Rattle.requests.specs.declared.reply.Reason.TheVariants.{Conflict, Invalid, StoreFull}
@@ -21,6 +21,7 @@ use Rattle.requests.specs.declared.verdict.Verdict.{Verdict}
 use Rattle.requests.specs.declared.verdict.Verdict.TheVariants.{Refuse, Same, Write}
 use Rattle.requests.specs.Change.{Change, creates, updates, marks, removes, stamp, accepted}
 use Rattle.requests.specs.Verdict.{conflicts, has_status, on_status, on_status_of, same_member, status_unless_same, with_status_of}
+use Rattle.plain_store.specs.Route.{route}
 use Rattle.plain_store.specs.Store.{Store, step, carried_out, with_change}
 use Rattle.plain_store.specs.AtKey.{Has, Leaves, Makes}
 use Rattle.plain_store.specs.StatusWrites.{DifferInStatus, HasMembers}
@@ -43,7 +44,8 @@ dropped false body is = cc
 
 without_status : (n : ℕ) (r : Request) → Allows HasNoStatus Anything n r
 without_status n (Get k) = tt
-without_status n (request.List kind namespace) = tt
+without_status n (request.List kind namespace exact) = tt
+without_status n (Compact to) = tt
 without_status n (Create d) = dropped (has_status d.object.key.kind) d.object.body
 without_status n (Update d) = λ o. tt
 without_status n (UpdateStatus d) = λ o. tt
@@ -76,7 +78,8 @@ carried_over false value body has is = cc
 
 keeps_status : (n : ℕ) (r : Request) → ((d : Draft) → r ≢ UpdateStatus d) → ((d : Draft) → r ≡ Update d → HasMembers d.object.body) → Allows Any KeepsStatus n r
 keeps_status n (Get k) other has = tt
-keeps_status n (request.List kind namespace) other has = tt
+keeps_status n (request.List kind namespace exact) other has = tt
+keeps_status n (Compact to) other has = tt
 keeps_status n (Create d) other has = tt
 keeps_status n (Update d) other has = λ o. carried_over (has_status d.object.key.kind) (status o.body) d.object.body (has d refl)
 keeps_status n (UpdateStatus d) other has = absurd (other d refl)
@@ -150,7 +153,7 @@ differ_in_status o d n = record {
 
 pub status_written : (s t : Store) (d : Draft) (o p : Object) → Has s d.object.key o → HasMembers o.body → step s (UpdateStatus d) ≡ (t, Updated p)
     → Has t d.object.key p × DifferInStatus o p × (status p.body ≡ status d.object.body)
-unfolding step
+unfolding step route
 status_written s t d o p there has is =
     let k = d.object.key in
     let w = was_update s k (on_status d (map.get s.objects k)) t p is in

@@ -1,12 +1,15 @@
--- A step by a write request goes by its verdict.
-use Rattle.std.proofs.Common.{◌≡◌, true, Option, Some, None, refl, sym, ap, subst, ◌∙◌}
+-- A step by a write request goes by its verdict, and the others by what they are about.
+use Rattle.std.proofs.Common.{◌≡◌, ◌==◌, ℕ, List, true, false, cond, Option, Some, None, refl, sym, ap, subst, ◌∙◌, arith}
 use Rattle.std.specs.FinMap as map
-use Rattle.std.proofs.lemmas.Option.{same_Some}
+use Rattle.std.proofs.lemmas.Bool.Decides.{nat_tests}
 use Rattle.objects.specs.declared.key.Key.{Key}
 use Rattle.objects.specs.declared.object.Object.{Object}
+use Rattle.objects.specs.declared.kind.Kind.{Kind}
 use Rattle.requests.specs.declared.request.Request.{Request}
 use Rattle.requests.specs.declared.request.Request.TheVariants as request
-use Rattle.requests.specs.declared.request.Request.TheVariants.{Create, Get, Update, UpdateStatus, Delete}
+use Rattle.requests.specs.declared.request.Request.TheVariants.{Compact}
+use Rattle.requests.specs.declared.reply.Reason.{Reason}
+use Rattle.requests.specs.declared.reply.Reply.TheVariants.{Listed}
 use Rattle.requests.specs.declared.verdict.Verdict.{Verdict}
 use Rattle.requests.specs.declared.verdict.Verdict.TheVariants.{Write}
 use Rattle.requests.specs.Change.{Change, change_object}
@@ -15,18 +18,15 @@ use Rattle.requests.specs.declared.form.Form.TheVariants.{Creation, Update as Up
 use Rattle.plain_store.specs.Filed.{AreFiled}
 use Rattle.requests.specs.Forms.{change_by}
 use Rattle.requests.specs.Keys.{key_named}
-use Rattle.plain_store.specs.Store.{Store, carried_out, step, written}
+use Rattle.plain_store.specs.Route.{lists, lists_at, route}
+use Rattle.plain_store.specs.Store.{Store, carried_out, collection, compacted_to, denied, listed_at, map_at, routed, step, written}
 use Rattle.requests.specs.Verdict.{is_write, verdict}
 use Rattle.plain_store.proofs.ChangedKeys.{IsFiled, IsOfKey, changes_its_key}
+use Rattle.plain_store.proofs.Routes.{routes_to_its_key}
 
 written_step : (s : Store) (r : Request) (k : Key) → is_write r ≡ true → key_named r ≡ Some k → written s k r ≡ step s r
 unfolding step
-written_step s (Create d) k is named = ap (λ q. written s q (Create d)) (sym (same_Some d.object.key k named))
-written_step s (Get q) k is named = cc
-written_step s (request.List kind namespace) k is named = cc
-written_step s (Update d) k is named = ap (λ q. written s q (Update d)) (sym (same_Some d.object.key k named))
-written_step s (UpdateStatus d) k is named = ap (λ q. written s q (UpdateStatus d)) (sym (same_Some d.object.key k named))
-written_step s (Delete q uid version at) k is named = ap (λ x. written s x (Delete q uid version at)) (sym (same_Some q k named))
+written_step s r k is named = ap (routed s r) (sym (routes_to_its_key r k is named))
 
 pub by_verdict : (s : Store) (r : Request) (k : Key) (current : Option Object) (v : Verdict) → is_write r ≡ true
     → key_named r ≡ Some k → current ≡ map.get s.objects k → v ≡ verdict r current → carried_out s k v ≡ step s r
@@ -54,3 +54,20 @@ pub by_form : (s : Store) (r : Request) (k : Key) (current : Option Object) (for
     → carried_out s o.key (Write (change_by form o)) ≡ step s r
 by_form s r k current form o is named there filed decided =
     ap (λ (p : Object). carried_out s p.key (Write (change_by form o))) (sym (object_by form o)) ∙ by_change s r k current (change_by form o) is named there filed decided
+
+-- ---- the other steps
+
+pub list_step : (s : Store) (kind : Kind) (namespace : List ℕ) (exact : ℕ) → exact ≡ 0 → (s, Listed (collection s.objects kind namespace) s.counter) ≡ step s (request.List kind namespace exact)
+unfolding step route
+list_step s kind namespace exact none = ap (λ n. step s (request.List kind namespace n)) (sym none)
+
+pub list_at_step : (s : Store) (kind : Kind) (namespace : List ℕ) (exact : ℕ) → (exact ≡ 0 → ⊥)
+    → (s, listed_at exact (collection (map_at s exact) kind namespace) (denied s.floor s.counter exact)) ≡ step s (request.List kind namespace exact)
+unfolding step route
+list_at_step s kind namespace exact some =
+    let not_now : (exact == 0) ≡ false = grind (arith, nat_tests) in
+    sym (ap (λ b. routed s (request.List kind namespace exact) (cond b (lists kind namespace) (lists_at kind namespace exact))) not_now)
+
+pub compaction_step : (s : Store) (n : ℕ) (denial : Option Reason) → denial ≡ denied s.floor s.counter n → compacted_to s n denial ≡ step s (Compact n)
+unfolding step route
+compaction_step s n denial is = ap (compacted_to s n) is

@@ -1,7 +1,7 @@
 -- What the verdicts on requests may write, and what a step then leaves under each key. A fact of what is made, and one
 -- of what is changed, are shown for each kind of request, and so hold of each step. A new kind of request is a line of
--- `Allows` and of `by_verdict`, and of each such fact; one that only reads is a line of `Reads` too.
-use Rattle.std.proofs.Common.{◌≡◌, ◌+◌, ◌==◌, ℕ, Bool, true, false, cond, ◌⊎◌, inl, inr, List, [], Option, Some, None, refl, sym, subst, ◌∙◌}
+-- `Allows` and of `writing`, and of each such fact.
+use Rattle.std.proofs.Common.{◌≡◌, ◌+◌, ◌==◌, ℕ, Bool, true, false, cond, ◌⊎◌, inl, inr, List, [], Option, Some, None, refl, sym, ap, subst, ◌∙◌}
 use Rattle.std.specs.Prelude.{⊤, is_some}
 use Rattle.std.specs.FinMap as map
 use Rattle.std.specs.FinMap.{FinMap, get-insert, get-remove}
@@ -10,25 +10,27 @@ use Rattle.std.proofs.lemmas.Option.{none-some, same_Some}
 use Rattle.objects.specs.declared.key.Key.{Key}
 use Rattle.objects.specs.declared.object.Draft.{Draft}
 use Rattle.objects.specs.declared.object.Object.{Object}
-use Rattle.objects.specs.declared.kind.Kind.{Kind}
 use Rattle.objects.specs.declared.kind.Kind.TheVariants.{Pod}
 use Rattle.objects.specs.Key.{key_cmp}
-use Rattle.objects.specs.KeyOrder.{key_cmp_total}
+use Rattle.objects.specs.KeyOrder.{equal_from, exact_keys, key_cmp_total}
 use Rattle.objects.specs.Same.{same_data}
 use Rattle.requests.specs.declared.request.Request.{Request}
 use Rattle.requests.specs.declared.request.Request.TheVariants as request
-use Rattle.requests.specs.declared.request.Request.TheVariants.{Create, Get, Update, UpdateStatus, Delete}
+use Rattle.requests.specs.declared.request.Request.TheVariants.{Create, Get, Update, UpdateStatus, Delete, Compact}
 use Rattle.requests.specs.declared.reply.Reply.{Reply}
-use Rattle.requests.specs.declared.reply.Reply.TheVariants.{Listed, Refused}
+use Rattle.requests.specs.declared.reply.Reply.TheVariants.{Refused}
+use Rattle.requests.specs.declared.reply.Reason.{Reason}
 use Rattle.requests.specs.declared.reply.Reason.TheVariants.{AlreadyExists, Conflict, Invalid, StoreFull}
 use Rattle.requests.specs.declared.verdict.Verdict.{Verdict}
 use Rattle.requests.specs.declared.verdict.Verdict.TheVariants.{Refuse, Same, Write}
 use Rattle.requests.specs.Change.{Change, creates, updates, marks, removes, at_version, stamp, accepted, kept}
-use Rattle.requests.specs.Verdict.{born, changes_data, conflicts, deleted, graceful, has_status, marked, on_create, on_delete, on_status, on_status_of, on_update, same_member, status_unless_same, unless_same, updated, with_status_of}
+use Rattle.requests.specs.Verdict.{born, changes_data, conflicts, deleted, graceful, has_status, marked, on_create, on_delete, on_status, on_status_of, on_update, same_member, status_unless_same, unless_same, updated, verdict, with_status_of}
+use Rattle.requests.specs.Keys.{key_named}
 use Rattle.std.specs.Prelude.{codes}
-use Rattle.plain_store.specs.Store.{Store, step, carried_out, collection, put_at, found, with_change}
+use Rattle.plain_store.specs.Store.{Store, step, carried_out, compacted_to, denied, put_at, routed, with_change}
+use Rattle.plain_store.specs.Route.{Route, compacts, gets, lists, lists_at, route, writes}
 use Rattle.plain_store.specs.AtKey.{Has, HasNone}
-use Rattle.plain_store.proofs.Entries.{equal_from, exact_keys}
+use Rattle.plain_store.proofs.Routes.{counter_stays, names_its_key, objects_stay}
 
 -- a fact of an object that is made under a key, and a fact of a key's object and what takes its place
 abbrev pub OfMade : Type 1
@@ -55,11 +57,12 @@ Writes C U n k current (Write (removes o)) = current ≡ Some o
 -- the changes that a request can come to have the facts
 abbrev pub Allows : OfMade → OfChanged → ℕ → Request → Type 0
 Allows C U n (Get k) = ⊤
-Allows C U n (request.List kind namespace) = ⊤
+Allows C U n (request.List kind namespace exact) = ⊤
 Allows C U n (Create d) = C d.object.key (stamp (creates (born d.object)) n)
 Allows C U n (Update d) = (o : Object) → U d.object.key o (at_version (updated o d) n)
 Allows C U n (UpdateStatus d) = (o : Object) → U d.object.key o (at_version (with_status_of o d) n)
 Allows C U n (Delete k uid version at) = (t : List ℕ) (o : Object) → U k o (at_version (marked t o) n)
+Allows C U n (Compact to) = ⊤
 
 either : (P : Verdict → Type 0) (b : Bool) (v w : Verdict) → P v → P w → P (cond b v w)
 either P true v w p q = p
@@ -102,23 +105,20 @@ delete_writes C U n k uid version at (Some o) changed =
     either (Writes C U n k (Some o)) (conflicts version uid o) (Refuse Conflict) (deleted (graceful o.key.kind at) o) tt
     (deleted_writes C U n k (graceful o.key.kind at) o (λ t. changed t o))
 
--- a reply that says what is there and changes nothing
-pub data Reads (s : Store) (reply : Reply) : Type 0 where
-  gets : (k : Key) → reply ≡ found (map.get s.objects k) → Reads s reply
-  lists : (kind : Kind) (namespace : List ℕ) → reply ≡ Listed (collection s.objects kind namespace) s.counter → Reads s reply
+named : {A : Type 0} (P : Key → A → Type 0) (q k : Key) (a : A) → Some q ≡ Some k → P q a → P k a
+named P q k a same holds = subst (λ x. P x a) (same_Some q k same) holds
 
--- What holds where a request reads, and of each verdict that is carried out, holds of each step.
-pub by_verdict : (C : OfMade) (U : OfChanged) (s : Store) (P : Store × Reply → Type 0)
-    → ((reply : Reply) → Reads s reply → P (s, reply))
-    → ((k : Key) (v : Verdict) → Writes C U (s.counter + 1) k (map.get s.objects k) v → P (carried_out s k v))
-    → (r : Request) → Allows C U (s.counter + 1) r → P (step s r)
-unfolding step
-by_verdict C U s P reads writes (Get k) allowed = reads (found (map.get s.objects k)) (gets k refl)
-by_verdict C U s P reads writes (request.List kind namespace) allowed = reads (Listed (collection s.objects kind namespace) s.counter) (lists kind namespace refl)
-by_verdict C U s P reads writes (Create d) allowed = writes d.object.key _ (create_writes C U (s.counter + 1) d (map.get s.objects d.object.key) allowed)
-by_verdict C U s P reads writes (Update d) allowed = writes d.object.key _ (update_writes C U (s.counter + 1) d (map.get s.objects d.object.key) allowed)
-by_verdict C U s P reads writes (UpdateStatus d) allowed = writes d.object.key _ (status_writes C U (s.counter + 1) d (map.get s.objects d.object.key) allowed)
-by_verdict C U s P reads writes (Delete k uid version at) allowed = writes k _ (delete_writes C U (s.counter + 1) k uid version at (map.get s.objects k) allowed)
+-- what the verdict on a write request writes has the facts
+pub writing : (C : OfMade) (U : OfChanged) (n : ℕ) (r : Request) (k : Key) (current : Option Object) → key_named r ≡ Some k → Allows C U n r
+    → Writes C U n k current (verdict r current)
+writing C U n (Get q) k current is allowed = tt
+writing C U n (request.List kind namespace exact) k current is allowed = tt
+writing C U n (Create d) k current is allowed = named (λ q v. Writes C U n q current v) d.object.key k (on_create d current) is (create_writes C U n d current allowed)
+writing C U n (Update d) k current is allowed = named (λ q v. Writes C U n q current v) d.object.key k (on_update d current) is (update_writes C U n d current allowed)
+writing C U n (UpdateStatus d) k current is allowed = named (λ q v. Writes C U n q current v) d.object.key k (on_status d current) is (status_writes C U n d current allowed)
+writing C U n (Delete q uid version at) k current is allowed =
+    named (λ x v. Writes C U n x current v) q k (on_delete version uid at current) is (delete_writes C U n q uid version at current allowed)
+writing C U n (Compact to) k current is allowed = tt
 
 -- ---- what is left under each key
 
@@ -162,34 +162,45 @@ take_turn C U k q m =
 
 changed_turn : (C : OfMade) (U : OfChanged) (n : ℕ) (k q : Key) (m : FinMap key_cmp Object) (c : Change) → Writes C U n k (map.get m k) (Write c)
     → Turn C U k q (map.get m q) (map.get (put_at m k (kept c n)) q)
-changed_turn C U n k q m (creates o) writes = put_turn C U k q m (stamp (creates o) n) (comes C U k (map.get m k) (stamp (creates o) n) writes.0 writes.1)
-changed_turn C U n k q m (updates o) writes = put_turn C U k q m (stamp (updates o) n) (replaces C U k (map.get m k) (stamp (updates o) n) writes)
-changed_turn C U n k q m (marks o) writes = put_turn C U k q m (stamp (marks o) n) (replaces C U k (map.get m k) (stamp (marks o) n) writes)
-changed_turn C U n k q m (removes o) writes = take_turn C U k q m
+changed_turn C U n k q m (creates o) wrote = put_turn C U k q m (stamp (creates o) n) (comes C U k (map.get m k) (stamp (creates o) n) wrote.0 wrote.1)
+changed_turn C U n k q m (updates o) wrote = put_turn C U k q m (stamp (updates o) n) (replaces C U k (map.get m k) (stamp (updates o) n) wrote)
+changed_turn C U n k q m (marks o) wrote = put_turn C U k q m (stamp (marks o) n) (replaces C U k (map.get m k) (stamp (marks o) n) wrote)
+changed_turn C U n k q m (removes o) wrote = take_turn C U k q m
 
 -- a step that leaves all objects as they were, or draws the next number for what it changes
 pub data Carried (C : OfMade) (U : OfChanged) (s : Store) (k : Key) (t : Store) : Type 0 where
-  idle : t ≡ s → Carried C U s k t
+  idle : t.objects ≡ s.objects → t.counter ≡ s.counter → Carried C U s k t
   moves : t.counter ≡ s.counter + 1 → ((q : Key) → Turn C U k q (map.get s.objects q) (map.get t.objects q)) → Carried C U s k t
 
 write_carried : (C : OfMade) (U : OfChanged) (s : Store) (k : Key) (c : Change) (full : Bool) → Writes C U (s.counter + 1) k (map.get s.objects k) (Write c)
     → let end : Store × Reply = cond full (s, Refused StoreFull) (with_change s k c, accepted c (stamp c (s.counter + 1))) in Carried C U s k end.0
-write_carried C U s k c true writes = idle refl
-write_carried C U s k c false writes = moves refl (λ q. changed_turn C U (s.counter + 1) k q s.objects c writes)
+write_carried C U s k c true wrote = idle refl refl
+write_carried C U s k c false wrote = moves refl (λ q. changed_turn C U (s.counter + 1) k q s.objects c wrote)
 
 pub carried : (C : OfMade) (U : OfChanged) (s : Store) (k : Key) (v : Verdict) → Writes C U (s.counter + 1) k (map.get s.objects k) v → Carried C U s k (carried_out s k v).0
-carried C U s k (Refuse reason) writes = idle refl
-carried C U s k (Same o) writes = idle refl
-carried C U s k (Write c) writes = write_carried C U s k c (s.counter == s.capacity) writes
+carried C U s k (Refuse reason) wrote = idle refl refl
+carried C U s k (Same o) wrote = idle refl refl
+carried C U s k (Write c) wrote = write_carried C U s k c (s.counter == s.capacity) wrote
 
--- for a step that writes under no key
+-- for a step that wrote under no key
 nowhere : Key
 nowhere = record { kind = Pod; namespace = []; name = [] }
 
--- What holds of a store that stays, and of each that a step leaves, holds of each step.
+compacted : (C : OfMade) (U : OfChanged) (s : Store) (n : ℕ) (denial : Option Reason) → Carried C U s nowhere (compacted_to s n denial).0
+compacted C U s n denial = idle (objects_stay s n denial) (counter_stays s n denial)
+
+-- What holds of a store that keeps its objects, and of each that a write leaves, holds of each step.
 pub by_turn : (C : OfMade) (U : OfChanged) (s : Store) (P : Store → Type 0) → ((k : Key) (t : Store) → Carried C U s k t → P t)
     → (r : Request) → Allows C U (s.counter + 1) r → P (step s r).0
-by_turn C U s P holds = by_verdict C U s (λ end. P end.0) (λ reply reads. holds nowhere s (idle refl)) (λ k v writes. holds k _ (carried C U s k v writes))
+unfolding step
+by_turn C U s P holds r allowed = by (route r) refl
+  where
+    by : (x : Route) → route r ≡ x → P (routed s r x).0
+    by (gets k) is = holds nowhere s (idle refl refl)
+    by (lists kind namespace) is = holds nowhere s (idle refl refl)
+    by (writes k) is = holds k _ (carried C U s k (verdict r (map.get s.objects k)) (writing C U (s.counter + 1) r k (map.get s.objects k) (names_its_key r k is) allowed))
+    by (lists_at kind namespace n) is = holds nowhere s (idle refl refl)
+    by (compacts n) is = holds nowhere _ (compacted C U s n (denied s.floor s.counter n))
 
 -- ---- an object before and after
 
@@ -203,13 +214,13 @@ new C U k q was is p turn before after =
 
 -- the object is the same, or changed by the number drawn
 pub left : (C : OfMade) (U : OfChanged) (s t : Store) (k q : Key) (o p : Object) → Carried C U s k t → Has s q o → Has t q p → (p ≡ o) ⊎ ((t.counter ≡ s.counter + 1) × U q o p)
-left C U s t k q o p (idle is) before after = inl (same_Some p o (sym after ∙ subst (λ (x : Store). map.get x.objects q ≡ Some o) (sym is) before))
+left C U s t k q o p (idle is counted) before after = inl (same_Some p o (sym after ∙ ap (λ m. map.get m q) is ∙ before))
 left C U s t k q o p (moves counted turns) before after =
     elim (turned C U k q (map.get s.objects q) (map.get t.objects q) o p (turns q) before after) [ inl e ↦ inl e | inr u ↦ inr (counted, u) ]
 
 -- the object is made by the number drawn, under the key that was written
 pub made : (C : OfMade) (U : OfChanged) (s t : Store) (k q : Key) (p : Object) → Carried C U s k t → HasNone s q → Has t q p → (t.counter ≡ s.counter + 1) × (q ≡ k) × C k p
-made C U s t k q p (idle is) before after = absurd (none-some p (sym before ∙ subst (λ (x : Store). map.get x.objects q ≡ Some p) is after))
+made C U s t k q p (idle is counted) before after = absurd (none-some p (sym before ∙ ap (λ m. map.get m q) (sym is) ∙ after))
 made C U s t k q p (moves counted turns) before after =
     let n = new C U k q (map.get s.objects q) (map.get t.objects q) p (turns q) before after in (counted, n.0, n.1)
 

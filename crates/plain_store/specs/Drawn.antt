@@ -1,7 +1,7 @@
 -- The numbers that the replies of a run say were drawn.
 use Rattle.std.specs.Prelude.{◌≡◌, ◌<◌, ◌+◌, ℕ, List, [], ◌∷◌, Option, Some, None, ⊤}
 use Rattle.requests.specs.declared.reply.Reply.{Reply}
-use Rattle.requests.specs.declared.reply.Reply.TheVariants.{Created, Found, Listed, Updated, Unchanged, Marked, Removed, Refused}
+use Rattle.requests.specs.declared.reply.Reply.TheVariants.{Created, Found, Listed, Updated, Unchanged, Marked, Removed, Compacted, Refused}
 
 -- the resource version of what the reply says was written or taken away
 abbrev pub version_drawn : Reply → Option ℕ
@@ -12,6 +12,7 @@ version_drawn (Removed o) = Some o.meta.revision
 version_drawn (Found o) = None
 version_drawn (Listed os revision) = None
 version_drawn (Unchanged o) = None
+version_drawn (Compacted revision) = None
 version_drawn (Refused reason) = None
 
 -- the UID of what the reply says was created
@@ -23,6 +24,7 @@ uid_given (Removed o) = None
 uid_given (Found o) = None
 uid_given (Listed os revision) = None
 uid_given (Unchanged o) = None
+uid_given (Compacted revision) = None
 uid_given (Refused reason) = None
 
 abbrev pub among : Option ℕ → List ℕ → List ℕ

@@ -3,13 +3,17 @@ pub mod AtKey
 pub mod Drawn
 pub mod Filed
 pub mod Lives
+pub mod Past
 pub mod PrintedReplies
 pub mod Reached
+pub mod Route
 pub mod Run
+pub mod Since
 pub mod StatusWrites
 pub mod Store
+pub mod Taken
 -- ---- what only proofs use
-pub mod Named
+pub mod Held
 -- ---- of the crate below
 pub use Rattle.requests.specs.Change
 pub use Rattle.requests.specs.Forms

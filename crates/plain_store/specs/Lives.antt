@@ -1,12 +1,14 @@
--- The lives of the objects of one key, as the replies of a run tell of them (Kubernetes API concepts: a name is given to
--- one object at a time, and a UID to one object ever).
+-- The lives of the objects of one key, as a run's requests and their replies tell of them (Kubernetes API concepts: a name
+-- is given to one object at a time, and a UID to one object ever).
 use Rattle.std.specs.Prelude.{◌≡◌, Bool, List, [], ◌∷◌, filter, flat_map, map, Option, Some, None, option_map, ⊤}
 use Rattle.std.specs.Ordering.{eq_by_cmp}
 use Rattle.objects.specs.declared.key.Key.{Key}
 use Rattle.objects.specs.declared.object.Object.{Object}
 use Rattle.objects.specs.Key.{key_cmp}
+use Rattle.requests.specs.declared.request.Request.{Request}
 use Rattle.requests.specs.declared.reply.Reply.{Reply}
-use Rattle.requests.specs.declared.reply.Reply.TheVariants.{Created, Found, Listed, Updated, Unchanged, Marked, Removed, Refused}
+use Rattle.requests.specs.declared.reply.Reply.TheVariants.{Created, Found, Listed, Updated, Unchanged, Marked, Removed, Compacted, Refused}
+use Rattle.plain_store.specs.Route.{Route, compacts, gets, lists, lists_at, route, writes}
 
 -- what is told of an object: that its life begins with it as it is here, that it is written anew or read, that it ends
 pub data Event : Type 0 where
@@ -15,16 +17,28 @@ pub data Event : Type 0 where
   lasts : Object → Event
   ends : Object → Event
 
--- what a reply tells: a list tells of each of its objects
-abbrev pub events : Reply → List Event
-events (Created o) = begins o ∷ []
-events (Updated o) = changes o ∷ []
-events (Marked o) = changes o ∷ []
-events (Found o) = lasts o ∷ []
-events (Unchanged o) = lasts o ∷ []
-events (Removed o) = ends o ∷ []
-events (Listed os revision) = map lasts os
-events (Refused reason) = []
+-- what a reply of now tells: a list tells of each of its objects
+abbrev pub said : Reply → List Event
+said (Created o) = begins o ∷ []
+said (Updated o) = changes o ∷ []
+said (Marked o) = changes o ∷ []
+said (Found o) = lasts o ∷ []
+said (Unchanged o) = lasts o ∷ []
+said (Removed o) = ends o ∷ []
+said (Listed os revision) = map lasts os
+said (Compacted revision) = []
+said (Refused reason) = []
+
+abbrev pub events_by : Route → Reply → List Event
+events_by (gets key) reply = said reply
+events_by (lists kind namespace) reply = said reply
+events_by (writes key) reply = said reply
+events_by (lists_at kind namespace number) reply = []
+events_by (compacts to) reply = []
+
+-- what a request and its reply tell: a list at an exact resource version is no witness of now
+abbrev pub events : Request × Reply → List Event
+events e = events_by (route e.0) e.1
 
 abbrev pub tells_of : Key → Event → Bool
 tells_of key (begins o) = eq_by_cmp key_cmp key o.key
@@ -32,9 +46,9 @@ tells_of key (changes o) = eq_by_cmp key_cmp key o.key
 tells_of key (lasts o) = eq_by_cmp key_cmp key o.key
 tells_of key (ends o) = eq_by_cmp key_cmp key o.key
 
--- what the replies tell of the objects of that key, in order
-abbrev pub events_of : Key → List Reply → List Event
-events_of key replies = filter (tells_of key) (flat_map events replies)
+-- what they tell of the objects of that key, in order
+abbrev pub events_of : Key → List (Request × Reply) → List Event
+events_of key es = filter (tells_of key) (flat_map events es)
 
 -- there is an object, and it has this one's UID
 abbrev pub HasUidOf : Object → Option Object → Type 0

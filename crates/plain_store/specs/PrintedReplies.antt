@@ -6,10 +6,11 @@ use Rattle.requests.specs.declared.reply.Reply.TheVariants as reply
 use Rattle.plain_store.specs.declared.stored_reply.StoredReply.{StoredReply}
 use Rattle.plain_store.specs.declared.stored_reply.StoredReply.TheVariants as stored
 
--- what a get or a list answers
+-- what is answered to a request that is no write
 abbrev pub reply_stored : StoredReply → Reply
 reply_stored (stored.Found o) = reply.Found o
 reply_stored (stored.Listed objects revision) = reply.Listed objects.items revision
+reply_stored (stored.Compacted revision) = reply.Compacted revision
 reply_stored (stored.Refused reason) = reply.Refused reason
 
 -- the one object that a reply has
@@ -21,9 +22,10 @@ reply_object (reply.Updated o) = Some o
 reply_object (reply.Unchanged o) = Some o
 reply_object (reply.Marked o) = Some o
 reply_object (reply.Removed o) = Some o
+reply_object (reply.Compacted revision) = None
 reply_object (reply.Refused reason) = None
 
--- the reply has no list
+-- the reply is one to a write: it has no list, and no number but that of its object
 abbrev pub is_single : Reply → Bool
 is_single (reply.Created o) = true
 is_single (reply.Found o) = true
@@ -32,4 +34,5 @@ is_single (reply.Updated o) = true
 is_single (reply.Unchanged o) = true
 is_single (reply.Marked o) = true
 is_single (reply.Removed o) = true
+is_single (reply.Compacted revision) = false
 is_single (reply.Refused reason) = true

@@ -13,3 +13,8 @@ after s (r ∷ rs) = after (step s r).0 rs
 abbrev pub replies : Store → List Request → List Reply
 replies s [] = []
 replies s (r ∷ rs) = (step s r).1 ∷ replies (step s r).0 rs
+
+-- the requests, each with its reply
+abbrev pub exchanges : Store → List Request → List (Request × Reply)
+exchanges s [] = []
+exchanges s (r ∷ rs) = (r, (step s r).1) ∷ exchanges (step s r).0 rs

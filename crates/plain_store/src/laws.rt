@@ -2,4 +2,6 @@
 
 pub(crate) mod changes;
 pub(crate) mod lifetimes;
+pub(crate) mod lists;
+pub(crate) mod past;
 pub(crate) mod runs;

@@ -2,7 +2,6 @@
 #![tactic(auto)]
 
 mod api;
-mod collection;
 mod laws;
 mod printed_reply;
 mod store;
@@ -14,11 +13,18 @@ pub use laws::changes::{
     updates_with_a_stale_version_change_nothing,
 };
 pub use laws::lifetimes::{
-    names_live_once, objects_stand_under_their_keys, uids_name_one_key, uids_stay,
+    names_live_once, objects_stand_under_their_keys, old_objects_were_there, uids_name_one_key,
+    uids_stay,
+};
+pub use laws::lists::lists_are_whole;
+pub use laws::past::{
+    compactions_give_up_the_past_alone, lists_of_one_version_are_equal,
+    only_what_was_compacted_expires, past_stays,
 };
 pub use laws::runs::{
-    deletes_spare_other_uids, only_writes_change_the_store, reads_change_nothing,
-    requests_touch_one_key, runs_go_on, uids_are_given_once, versions_rise_by_one,
+    capacity_bounds_the_counter, deletes_spare_other_uids, deletes_take_what_is_there,
+    only_writes_and_compactions_change_the_store, reads_change_nothing, requests_touch_one_key,
+    runs_go_on, uids_are_given_once, versions_rise_by_one,
 };
 pub use printed_reply::PrintedReply;
 pub use store::{MOST_REVISIONS, Plain, PlainError};

@@ -1,8 +1,8 @@
-ghost use Rattle.std.specs.Prelude.{◌≡◌, true, IfOk};
+ghost use Rattle.std.specs.Prelude.{◌≡◌, true, IfOk, option_map};
 ghost use Rattle.std.specs.Option.{option_copied};
 ghost use Rattle.plain_store.specs.PrintedReplies.{reply_object, is_single};
 
-use objects::{Memory, Object, Printed, Printer};
+use objects::{Key, Memory, Object, Printed, Printer};
 use requests::Reply;
 
 /// What a write is answered: a reply, and the text of the object that it has, if it has one.
@@ -34,6 +34,13 @@ impl PrintedReply {
         ensures { option_copied result ≡ reply_object self.now.reply }
     {
         self.text.as_ref()
+    }
+
+    /// The key of the object, if the reply has one.
+    pub(crate) fn key(&self) -> Option<&Key>
+        ensures { option_map (λ key. key.now) result ≡ option_map (λ o. o.key) (reply_object self.now.reply) }
+    {
+        Some(&object_of(&self.reply)?.key)
     }
 
     /// The reply alone.
@@ -69,6 +76,7 @@ fn object_of(reply: &Reply) -> Option<&Object>
             objects: _,
             revision: _,
         }
+        | Reply::Compacted { revision: _ }
         | Reply::Refused(_) => None,
     }
 }

@@ -1,26 +1,27 @@
-ghost use Rattle.std.specs.Prelude.{◌≡◌, ◌≢◌, ◌≤◌, ◌<◌, ◌↔◌, ◌==◌, ◌+◌, true, false, IfOk, IfSome, OnOk, OnErr, IsErrOf};
-ghost use Rattle.std.specs.FinMap as map;
+ghost use Rattle.std.specs.Prelude.{◌≡◌, ◌≢◌, ◌≤◌, ◌<◌, ◌↔◌, ◌==◌, ◌+◌, true, false, IfOk, IfSome, OnOk, OnErr, IsErrOf, map, option_map};
+ghost use Rattle.std.specs.FinMap as finite;
 ghost use Rattle.std.specs.Option.{option_copied};
 ghost use Rattle.plain_store.specs.Reached.{IsReached};
-ghost use Rattle.plain_store.specs.Store.{carried_out, found, opening, step};
-ghost use Rattle.version_map.specs.Keyed.{collection, put_at};
+ghost use Rattle.plain_store.specs.Route.{is_read};
+ghost use Rattle.plain_store.specs.Store.{carried_out, compacted_to, denied, found, listed_at, map_at, opening, step, with_next};
+ghost use Rattle.version_map.specs.Keyed.{collection};
 ghost use Rattle.requests.specs.Change.{accepted, stamp};
 ghost use Rattle.requests.specs.Forms.{change_by, stored_by};
 ghost use Rattle.requests.specs.Judgments.{verdict_of};
-ghost use Rattle.plain_store.specs.PrintedReplies.{is_single, reply_stored};
+ghost use Rattle.plain_store.specs.PrintedReplies.{is_single, reply_object, reply_stored};
 ghost use Rattle.requests.specs.Verdict.{is_write, verdict};
 ghost use Rattle.requests.specs.declared.reply.Reply.TheVariants.{Listed};
+ghost use Rattle.requests.specs.declared.request.Request.TheVariants.{Compact};
 ghost use Rattle.requests.specs.declared.verdict.Verdict.TheVariants.{Write};
 
-use crate::collection::collection_of;
 use crate::printed_reply::PrintedReply;
 use crate::stored_reply::StoredReply;
 use objects::{Key, Kind, Memory, Object, Printed, Printer, Text, TreeReader};
 use requests::{Form, Judgment, Reason, Reply, Request, judge};
 use std::alloc::{AllocError, Global};
-use std::collections::BTreeMap;
 use std::marker::Model;
 use thiserror::Error;
+use version_map::VersionMap;
 
 /// The most revisions that a store may draw.
 pub const MOST_REVISIONS: u64 = 1_048_576;
@@ -32,11 +33,11 @@ pub enum PlainError {
     BadCapacity,
 }
 
-/// The plain store: a map from keys to objects, each as its text, a counter of the revisions drawn, and a capacity for
-/// them.
+/// The plain store: what each key was at each number from a floor on, each object as its text; a counter of the revisions
+/// drawn, and a capacity for them.
 #[derive(Drop)]
 pub struct Plain {
-    objects: BTreeMap<Key, Printed>,
+    versions: VersionMap<Printed>,
     counter: u64,
     capacity: u64,
     alloc: Global,
@@ -46,10 +47,8 @@ pub struct Plain {
 
 impl Model for Plain {
     ghost use Rattle.std.specs.Prelude.{◌≤◌};
-    ghost use Rattle.std.specs.FinMap as map;
     ghost use Rattle.plain_store.specs.Store.{Store, store_coded};
-    ghost use Rattle.plain_store.specs.Filed.{AreFiled};
-    ghost use Rattle.plain_store.specs.Named.{AreNamed};
+    ghost use Rattle.plain_store.specs.Held.{IsUpTo, store_of};
     ghost use Rattle.plain_store.specs.Reached.{IsReached};
     ghost use Rattle.plain_store.specs.declared.store.TheConstants.{MOST_REVISIONS};
 
@@ -57,15 +56,14 @@ impl Model for Plain {
 
     ghost coded = { store_coded };
 
-    ghost view = { λ p. record { objects = map.from_entries p.objects.entries; counter = p.counter; capacity = p.capacity } };
+    ghost view = { λ p. store_of p.versions p.counter p.capacity };
 
-    ghost invariant = { λ p. (p.counter ≤ p.capacity) × (p.capacity ≤ MOST_REVISIONS) × AreFiled (map.from_entries p.objects.entries)
-        × AreNamed (map.from_entries p.objects.entries)
-        × IsReached (record { objects = map.from_entries p.objects.entries; counter = p.counter; capacity = p.capacity }) };
+    ghost invariant = { λ p. (p.counter ≤ p.capacity) × (p.capacity ≤ MOST_REVISIONS) × IsUpTo p.versions p.counter
+        × IsReached (store_of p.versions p.counter p.capacity) };
 }
 
 impl Plain {
-    /// A store with nothing in it.
+    /// A store with nothing in it, whose floor is 0.
     pub fn new(alloc: Global, capacity: u64) -> Result<Plain, PlainError>
         ensures opened { IfOk result (λ plain. plain ≡ opening capacity) }
         ensures refused { IsErrOf result PlainError.BadCapacity ↔ ((1 ≤ capacity → MOST_REVISIONS < capacity)) }
@@ -74,7 +72,7 @@ impl Plain {
             return Err(PlainError::BadCapacity);
         }
         Ok(Plain {
-            objects: BTreeMap::new(alloc),
+            versions: VersionMap::new(alloc),
             counter: 0,
             capacity,
             alloc,
@@ -89,40 +87,88 @@ impl Plain {
         ensures step { IfOk result (λ reply. (self.new, reply) ≡ step self.old request) }
         ensures memory { OnErr result (self.new ≡ self.old) }
     {
-        let _ = &self.objects;
+        let _ = &self.versions;
         if request.is_write() {
             return Ok(self.write(request)?.into_reply());
         }
-        let stored = self.read(&request);
+        let reply = self.answer(&request);
         drop(request);
-        stored?.reply(self.alloc)
+        reply
     }
 
-    /// Answers a get or a list, which change nothing, with the texts that the store keeps.
-    pub fn read(&self, request: &Request) -> Result<StoredReply, Memory>
+    /// Answers a request that is no write.
+    fn answer(&mut self, request: &Request) -> Result<Reply, Memory>
         requires { is_write request.now ≡ false }
+        ensures step { IfOk result (λ reply. (self.new, reply) ≡ step self.old request.now) }
+        ensures memory { OnErr result (self.new ≡ self.old) }
+    {
+        match request {
+            Request::Compact { to } => match self.raise_floor(*to) {
+                Some(reason) => Ok(Reply::Refused(reason)),
+                None => Ok(Reply::Compacted { revision: *to }),
+            },
+            Request::Get(_)
+            | Request::List {
+                kind: _,
+                namespace: _,
+                exact: _,
+            } => {
+                let stored = self.read(request)?;
+                stored.reply(self.alloc)
+            }
+            Request::Create(_)
+            | Request::Update(_)
+            | Request::UpdateStatus(_)
+            | Request::Delete {
+                key: _,
+                uid: _,
+                version: _,
+                at: _,
+            } => unreachable!(),
+        }
+    }
+
+    /// Answers a get or a list, which change nothing, with the texts that the store keeps. A list at an exact resource
+    /// version is refused as TooLarge above the counter, and as Expired below the floor.
+    pub fn read(&self, request: &Request) -> Result<StoredReply, Memory>
+        requires { is_read request.now ≡ true }
         ensures { IfOk result (λ stored. (self.now, reply_stored stored) ≡ step self.now request.now) }
     {
         match request {
             Request::Get(key) => self.get(key),
-            Request::List { kind, namespace } => self.list(*kind, namespace),
+            Request::List {
+                kind,
+                namespace,
+                exact,
+            } => {
+                if *exact == 0 {
+                    self.list_at(*kind, namespace, self.counter)
+                } else {
+                    self.list_exactly(*kind, namespace, *exact)
+                }
+            }
             Request::Create(_)
             | Request::Update(_)
             | Request::UpdateStatus(_)
-            | Request::Delete { .. } => unreachable!(),
+            | Request::Delete {
+                key: _,
+                uid: _,
+                version: _,
+                at: _,
+            }
+            | Request::Compact { to: _ } => unreachable!(),
         }
     }
 
     /// The object of that key.
     fn find(&self, key: &Key) -> Option<&Printed>
-        ensures there { option_copied result ≡ map.get self.now.objects key.now }
-        ensures filed { IfSome result (λ object. object.now.key ≡ key.now) }
+        ensures { option_copied result ≡ finite.get self.now.objects key.now }
     {
-        self.objects.get(key)
+        self.versions.at(key, self.counter)
     }
 
     fn get(&self, key: &Key) -> Result<StoredReply, Memory>
-        ensures { IfOk result (λ stored. reply_stored stored ≡ found (map.get self.now.objects key.now)) }
+        ensures { IfOk result (λ stored. reply_stored stored ≡ found (finite.get self.now.objects key.now)) }
     {
         match self.find(key) {
             Some(object) => Ok(StoredReply::Found(object.clone()?)),
@@ -130,13 +176,65 @@ impl Plain {
         }
     }
 
-    fn list(&self, kind: Kind, namespace: &Text) -> Result<StoredReply, Memory>
-        ensures { IfOk result (λ stored. reply_stored stored ≡ Listed (collection self.now.objects kind namespace.now) self.now.counter) }
+    /// A list at a number, unless it is denied.
+    fn list_exactly(&self, kind: Kind, namespace: &Text, number: u64) -> Result<StoredReply, Memory>
+        ensures { IfOk result (λ stored. reply_stored stored ≡ listed_at number (collection (map_at self.now number) kind namespace.now) (denied self.now.floor self.now.counter number)) }
     {
+        match self.denied(number) {
+            Some(reason) => Ok(StoredReply::Refused(reason)),
+            None => self.list_at(kind, namespace, number),
+        }
+    }
+
+    /// The objects of the kind in the namespace as they were at a number that can be read.
+    fn list_at(&self, kind: Kind, namespace: &Text, number: u64) -> Result<StoredReply, Memory>
+        requires { (self.now.floor ≤ number) × (number ≤ self.now.counter) }
+        ensures { IfOk result (λ stored. reply_stored stored ≡ Listed (collection (map_at self.now number) kind namespace.now) number) }
+    {
+        let listed = self.versions.list_at(kind, namespace, number)?;
+        let objects = shared(self.alloc, listed)?;
         Ok(StoredReply::Listed {
-            objects: collection_of(self.alloc, &self.objects, kind, namespace)?,
-            revision: self.counter,
+            objects,
+            revision: number,
         })
+    }
+
+    /// Why a number can't be asked for: it is not drawn yet, or else it is below the floor.
+    fn denied(&self, number: u64) -> Option<Reason>
+        ensures { result ≡ denied self.now.floor self.now.counter number }
+    {
+        if self.counter < number {
+            Some(Reason::TooLarge)
+        } else if number < self.versions.floor() {
+            Some(Reason::Expired)
+        } else {
+            None
+        }
+    }
+
+    /// Gives up the past below a number, and drops what only it needs: no later list reads there. It takes no memory, and
+    /// its time is that of the versions dropped and of those that have come up to the floor, each of which is looked at
+    /// once. A number above the counter is TooLarge, and one below the floor Expired; then nothing changes.
+    pub fn compact(&mut self, to: u64) -> StoredReply
+        ensures { (self.new, reply_stored result) ≡ step self.old (Compact to) }
+    {
+        match self.raise_floor(to) {
+            Some(reason) => StoredReply::Refused(reason),
+            None => StoredReply::Compacted { revision: to },
+        }
+    }
+
+    /// Raises the floor to a number, or answers why it can't be asked for.
+    fn raise_floor(&mut self, to: u64) -> Option<Reason>
+        ensures denied { result ≡ denied self.old.floor self.old.counter to }
+        ensures raised { self.new ≡ (compacted_to self.old to result).0 }
+    {
+        let _ = &self.versions;
+        if let Some(reason) = self.denied(to) {
+            return Some(reason);
+        }
+        self.versions.compact(to);
+        None
     }
 
     /// Takes a write request, and answers it with the text of the object that it is about. Where memory runs out, nothing
@@ -146,7 +244,7 @@ impl Plain {
         ensures step { IfOk result (λ printed. (self.new, printed.reply) ≡ step self.old request) }
         ensures memory { OnErr result (self.new ≡ self.old) }
     {
-        let _ = &self.objects;
+        let _ = &self.versions;
         let Some(key) = request.key() else {
             unreachable!();
         };
@@ -169,10 +267,10 @@ impl Plain {
 
     /// The object of that key, read back from its text.
     fn current(&mut self, key: &Key) -> Result<Option<Object>, Memory>
-        ensures there { IfOk result (λ current. current ≡ map.get self.old.objects key.now) }
+        ensures there { IfOk result (λ current. current ≡ finite.get self.old.objects key.now) }
         ensures same { self.new ≡ self.old }
     {
-        read_back(self.objects.get(key), &mut self.reader)
+        read_back(self.versions.at(key, self.counter), &mut self.reader)
     }
 
     /// Makes the change at the next number, if there is one left.
@@ -185,81 +283,42 @@ impl Plain {
             drop(object);
             return self.print(Reply::Refused(Reason::StoreFull));
         }
-        let (key, printed) = self.ready(form, object)?;
-        let Some(text) = printed.text() else {
+        let printed = self.ready(form, object)?;
+        let (Some(key), Some(text)) = (printed.key(), printed.text()) else {
             unreachable!();
         };
         match self.put(form, key, text) {
             Ok(()) => Ok(printed),
-            Err(_) => {
-                drop(printed);
-                Err(Memory)
-            }
-        }
-    }
-
-    /// What a change takes at the next number: its key, and the reply with its text.
-    fn ready(&mut self, form: Form, object: Object) -> Result<(Key, PrintedReply), Memory>
-        requires { self.old.counter ≢ self.old.capacity }
-        ensures key { IfOk result (λ ready. ready.0 ≡ object.key) }
-        ensures reply { IfOk result (λ ready. ready.1.reply ≡ accepted (change_by form object) (stamp (change_by form object) (self.old.counter + 1))) }
-        ensures same { self.new ≡ self.old }
-    {
-        let key = match object.key.clone() {
-            Ok(key) => key,
-            Err(_) => {
-                drop(object);
-                return Err(Memory);
-            }
-        };
-        let object = form.stamped(object, self.counter + 1);
-        match self.print(form.accepted(object)) {
-            Ok(printed) => Ok((key, printed)),
             Err(error) => {
-                drop(key);
+                drop(printed);
                 Err(error)
             }
         }
     }
 
-    /// Draws the next number for a change of that form, which leaves this text under its key, or nothing.
-    fn put(&mut self, form: Form, key: Key, text: &Printed) -> Result<(), AllocError>
-        requires room { self.old.counter ≢ self.old.capacity }
-        requires filed { text.now.key ≡ key }
-        requires reached { IsReached (record { objects = put_at self.old.objects key (stored_by form text.now); counter = self.old.counter + 1; capacity = self.old.capacity }) }
-        ensures put { OnOk result (self.new ≡ record { objects = put_at self.old.objects key (stored_by form text.now); counter = self.old.counter + 1; capacity = self.old.capacity }) }
-        ensures memory { OnErr result (self.new ≡ self.old) }
+    /// What a change answers at the next number.
+    fn ready(&mut self, form: Form, object: Object) -> Result<PrintedReply, Memory>
+        requires { self.old.counter ≢ self.old.capacity }
+        ensures reply { IfOk result (λ printed. printed.reply ≡ accepted (change_by form object) (stamp (change_by form object) (self.old.counter + 1))) }
+        ensures same { self.new ≡ self.old }
     {
-        match form {
-            Form::Creation | Form::Update | Form::Mark => self.insert(key, text.clone()?),
-            Form::Removal => {
-                self.remove(&key);
-                Ok(())
-            }
-        }
+        let object = form.stamped(object, self.counter + 1);
+        self.print(form.accepted(object))
     }
 
-    fn insert(&mut self, key: Key, object: Printed) -> Result<(), AllocError>
+    /// Draws the next number for a change of that form, which leaves this text under its key, or nothing. All that may be
+    /// refused memory comes before it.
+    fn put(&mut self, form: Form, key: &Key, text: &Printed) -> Result<(), Memory>
         requires room { self.old.counter ≢ self.old.capacity }
-        requires filed { object.key ≡ key }
-        requires reached { IsReached (record { objects = map.insert self.old.objects key object; counter = self.old.counter + 1; capacity = self.old.capacity }) }
-        ensures put { OnOk result (self.new ≡ record { objects = map.insert self.old.objects key object; counter = self.old.counter + 1; capacity = self.old.capacity }) }
+        requires reached { IsReached (with_next self.old key.now (stored_by form text.now)) }
+        ensures put { OnOk result (self.new ≡ with_next self.old key.now (stored_by form text.now)) }
         ensures memory { OnErr result (self.new ≡ self.old) }
     {
-        // A key that is looked into is known to follow the rules of names.
-        let _ = &key.kind;
-        self.objects.insert(key, object)?;
+        let state = stored(form, text)?;
+        self.versions.make_room(key)?;
+        self.versions.push(self.counter + 1, state);
         self.counter += 1;
         Ok(())
-    }
-
-    fn remove(&mut self, key: &Key)
-        requires room { self.old.counter ≢ self.old.capacity }
-        requires reached { IsReached (record { objects = map.remove self.old.objects key.now; counter = self.old.counter + 1; capacity = self.old.capacity }) }
-        ensures { self.new ≡ record { objects = map.remove self.old.objects key.now; counter = self.old.counter + 1; capacity = self.old.capacity } }
-    {
-        self.objects.remove(key);
-        self.counter += 1;
     }
 
     /// Whether all revisions are drawn.
@@ -287,4 +346,26 @@ fn verdict_on(current: Option<Object>, request: Request) -> Result<Judgment, Mem
     let decided = judge(current.as_ref(), request);
     drop(current);
     Ok(decided?)
+}
+
+/// What a change of that form leaves of the text of its object.
+fn stored(form: Form, text: &Printed) -> Result<Option<Printed>, AllocError>
+    ensures { IfOk result (λ state. state ≡ stored_by form text.now) }
+{
+    match form {
+        Form::Creation | Form::Update | Form::Mark => Ok(Some(text.clone()?)),
+        Form::Removal => Ok(None),
+    }
+}
+
+/// The texts, shared.
+fn shared(alloc: Global, texts: Vec<&Printed>) -> Result<Vec<Printed>, AllocError>
+    ensures { IfOk result (λ copies. copies.items ≡ map (λ t. t.now) texts.entry.items) }
+{
+    let mut copies = Vec::new(alloc);
+    copies.reserve(texts.len())?;
+    for text in texts {
+        copies.push(text.clone()?)?;
+    }
+    Ok(copies)
 }

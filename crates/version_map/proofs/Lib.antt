@@ -7,3 +7,4 @@ pub mod Chains
 pub mod Placing
 pub mod Steps
 pub mod Lists
+pub mod Readings

@@ -96,7 +96,7 @@ module _ {X : Type 0} where
   get_put_at m k (Some x) q = get-insert key_cmp_total m k x q
 
   -- one more row past all others puts what it says
-  state_more : (m : RowsByKey X) (k : Key) (n : ℕ) (s : Option X) → IsAbove m n → state_at (insert m k (rows_at m k ++ (n, s) ∷ [])) n ≡ put_at (state_at m n) k s
+  pub state_more : (m : RowsByKey X) (k : Key) (n : ℕ) (s : Option X) → IsAbove m n → state_at (insert m k (rows_at m k ++ (n, s) ∷ [])) n ≡ put_at (state_at m n) k s
   state_more m k n s above = same_map key_cmp_total exact_keys _ _ (λ q.
       get_state (insert m k (rows_at m k ++ (n, s) ∷ [])) n q
       ∙ ap (λ o. state_to n (unwrap_or o [])) (get-insert key_cmp_total m k (rows_at m k ++ (n, s) ∷ []) q)

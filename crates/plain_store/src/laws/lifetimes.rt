@@ -6,14 +6,15 @@ ghost use Rattle.requests.specs.declared.request.Request.{Request};
 ghost use Rattle.plain_store.specs.AtKey.{Has, Leaves, Makes};
 ghost use Rattle.plain_store.specs.Filed.{AreFiled};
 ghost use Rattle.plain_store.specs.Lives.{AreLives, events_of};
-ghost use Rattle.plain_store.specs.Run.{after, replies};
+ghost use Rattle.plain_store.specs.Run.{after, exchanges};
+ghost use Rattle.plain_store.specs.Since.{IsUidSince, IsVersionSince};
 ghost use Rattle.plain_store.specs.Store.{Store, opening, step};
 
 /// No two objects live under one name at a time, and what is read is what was written last: for each key, a `Created`
-/// comes only where none lives; what is found, unchanged or in a list is the object as it was written last; what is
+/// comes only where none lives; what is found, unchanged or in a list of now is the object as it was written last; what is
 /// updated, marked or removed has the UID of the one that was created last; and between two `Created` stands a `Removed`.
 pub fn names_live_once()
-    ensures { (capacity : ℕ) (requests : List Request) (key : Key) → AreLives None (events_of key (replies (opening capacity) requests)) }
+    ensures { (capacity : ℕ) (requests : List Request) (key : Key) → AreLives None (events_of key (exchanges (opening capacity) requests)) }
 {}
 
 /// The objects of a store that was opened stand under their own keys.
@@ -41,4 +42,11 @@ pub fn uids_stay()
         → Leaves s request key before after → before.meta.revision ≤ s.counter → before.meta.revision ≤ after.meta.revision }
     ensures made { (s : Store) (request : Request) (key : Key) (made : Object) → let n = (step s request).0.counter in
         Makes s request key made → (made.meta.uid ≡ n) × (made.meta.revision ≡ n) }
+{}
+
+/// What is there after any further requests was made since, or was there before them under the same key; and it was
+/// written since, or was there as it is.
+pub fn old_objects_were_there()
+    ensures uid { (s : Store) (requests : List Request) (key : Key) (o : Object) → Has (after s requests) key o → IsUidSince s key o }
+    ensures version { (s : Store) (requests : List Request) (key : Key) (o : Object) → Has (after s requests) key o → IsVersionSince s key o }
 {}

@@ -1,15 +1,17 @@
 //! Laws of the plain store about whole runs: the numbers that they draw, and what they leave alone.
-ghost use Rattle.std.specs.Prelude.{◌≡◌, ◌+◌, ℕ, List, ◌++◌, bytes_eq, false, length, Option, Some, None};
+ghost use Rattle.std.specs.Prelude.{◌≡◌, ◌≢◌, ◌≤◌, ◌+◌, ℕ, List, ◌++◌, bytes_eq, true, false, length, Option, Some, None};
 ghost use Rattle.std.specs.FinMap as map;
 ghost use Rattle.objects.specs.declared.key.Key.{Key};
-ghost use Rattle.objects.specs.declared.kind.Kind.{Kind};
 ghost use Rattle.objects.specs.declared.object.Object.{Object};
 ghost use Rattle.objects.specs.Uid.{uid_text};
 ghost use Rattle.requests.specs.declared.request.Request.{Request};
-ghost use Rattle.requests.specs.declared.request.Request.TheVariants.{Delete, Get, List as ListRequest};
+ghost use Rattle.requests.specs.declared.request.Request.TheVariants.{Compact, Delete};
 ghost use Rattle.requests.specs.declared.reply.Reply.TheVariants.{Refused};
 ghost use Rattle.requests.specs.declared.reply.Reason.TheVariants.{Conflict};
 ghost use Rattle.requests.specs.Keys.{key_named};
+ghost use Rattle.plain_store.specs.Reached.{IsReached};
+ghost use Rattle.plain_store.specs.Route.{is_read};
+ghost use Rattle.plain_store.specs.Taken.{Takes, taken};
 ghost use Rattle.plain_store.specs.Store.{Store, step};
 ghost use Rattle.plain_store.specs.Run.{after, replies};
 ghost use Rattle.plain_store.specs.Drawn.{AreNext, AreRising, uids_given, version_drawn, versions_drawn};
@@ -32,18 +34,18 @@ pub fn uids_are_given_once()
     ensures { (s : Store) (requests : List Request) → AreRising s.counter (uids_given (replies s requests)) }
 {}
 
-/// A request that draws no number leaves the store as it was: one that is refused, reads, or would change nothing.
-pub fn only_writes_change_the_store()
-    ensures { (s : Store) (request : Request) → version_drawn (step s request).1 ≡ None → (step s request).0 ≡ s }
+/// A request that draws no number leaves the store as it was, unless it is a compaction: one that is refused, reads, or
+/// would change nothing.
+pub fn only_writes_and_compactions_change_the_store()
+    ensures { (s : Store) (request : Request) → ((to : ℕ) → request ≢ Compact to) → version_drawn (step s request).1 ≡ None → (step s request).0 ≡ s }
 {}
 
 /// A get and a list leave the store as it was.
 pub fn reads_change_nothing()
-    ensures get { (s : Store) (key : Key) → (step s (Get key)).0 ≡ s }
-    ensures list { (s : Store) (kind : Kind) (namespace : List ℕ) → (step s (ListRequest kind namespace)).0 ≡ s }
+    ensures { (s : Store) (request : Request) → is_read request ≡ true → (step s request).0 ≡ s }
 {}
 
-/// A request leaves the objects of all keys as they were but the one that it names. A list names none.
+/// A request leaves the objects of all keys as they were but the one that it names. A list and a compaction name none.
 pub fn requests_touch_one_key()
     ensures { (s : Store) (request : Request) (key : Key) → (Some key ≡ key_named request → ⊥)
         → map.get (step s request).0.objects key ≡ map.get s.objects key }
@@ -54,4 +56,16 @@ pub fn deletes_spare_other_uids()
     ensures { (s : Store) (key : Key) (uid : List ℕ) (version at : Option (List ℕ)) (current : Object)
         → map.get s.objects key ≡ Some current → bytes_eq uid (uid_text current.meta.uid) ≡ false
         → step s (Delete key (Some uid) version at) ≡ (s, Refused Conflict) }
+{}
+
+/// A delete that is accepted marks or takes away the object that is under its key, with the UID and the resource version
+/// that were given.
+pub fn deletes_take_what_is_there()
+    ensures { (s : Store) (key : Key) (uid version at : Option (List ℕ)) (o : Object) → taken (step s (Delete key uid version at)).1 ≡ Some o
+        → Takes s key uid version o }
+{}
+
+/// A store that an `Api` may stand on has a capacity from 1 to 1,048,576, and neither its counter nor its floor passes it.
+pub fn capacity_bounds_the_counter()
+    ensures { (s : Store) → IsReached s → (1 ≤ s.capacity) × (s.capacity ≤ 1048576) × (s.counter ≤ s.capacity) × (s.floor ≤ s.counter) }
 {}
