@@ -15,12 +15,15 @@ pub use Rattle.plain_store.specs.AtKey
 pub use Rattle.plain_store.specs.Drawn
 pub use Rattle.plain_store.specs.Filed
 pub use Rattle.plain_store.specs.Lives
-pub use Rattle.plain_store.specs.Named
+pub use Rattle.plain_store.specs.Past
 pub use Rattle.plain_store.specs.PrintedReplies
 pub use Rattle.plain_store.specs.Reached
+pub use Rattle.plain_store.specs.Route
 pub use Rattle.plain_store.specs.Run
+pub use Rattle.plain_store.specs.Since
 pub use Rattle.plain_store.specs.StatusWrites
 pub use Rattle.plain_store.specs.Store
+pub use Rattle.plain_store.specs.Taken
 pub use Rattle.plain_store.specs.declared.store.TheConstants
 pub use Rattle.requests.specs.Change
 pub use Rattle.requests.specs.Forms

@@ -16,10 +16,13 @@ pub use lines::request_error::RequestError;
 pub use lines::request_line::read_request;
 pub use plain_store::{
     Api, ApiFault, MOST_REVISIONS, Plain, PlainError, PrintedReply, StoredReply,
-    deletes_spare_other_uids, generation_rises_with_spec, names_live_once,
-    objects_stand_under_their_keys, only_the_status_request_changes_status,
-    only_writes_change_the_store, reads_change_nothing, requests_touch_one_key, runs_go_on,
-    uids_are_given_once, uids_name_one_key, uids_stay, updates_with_a_stale_version_change_nothing,
+    capacity_bounds_the_counter, compactions_give_up_the_past_alone, deletes_spare_other_uids,
+    deletes_take_what_is_there, generation_rises_with_spec, lists_are_whole,
+    lists_of_one_version_are_equal, names_live_once, objects_stand_under_their_keys,
+    old_objects_were_there, only_the_status_request_changes_status,
+    only_what_was_compacted_expires, only_writes_and_compactions_change_the_store, past_stays,
+    reads_change_nothing, requests_touch_one_key, runs_go_on, uids_are_given_once,
+    uids_name_one_key, uids_stay, updates_with_a_stale_version_change_nothing,
     versions_rise_by_one,
 };
 pub use requests::{
