@@ -6,6 +6,7 @@ use Rattle.serde_json.specs.Find.{as_object, as_str, get_member}
 use Rattle.objects.specs.declared.fault.ReadError.{ReadError}
 use Rattle.objects.specs.declared.fault.ReadError.TheVariants as read
 use Rattle.objects.specs.declared.key.Key.{Key}
+use Rattle.objects.specs.declared.kind.Kind.{Kind}
 use Rattle.trees.specs.declared.tree.Tree.{Tree}
 use Rattle.trees.specs.declared.tree.Tree.TheVariants as tree
 use Rattle.objects.specs.Tree.{data_of}
@@ -13,12 +14,12 @@ use Rattle.objects.specs.Steps.{Fails}
 use Rattle.objects.specs.Reading.{key_in, collection_in, reading_of_data}
 use Rattle.requests.specs.declared.request.Request.{Request}
 use Rattle.requests.specs.declared.request.Request.TheVariants as request
-use Rattle.requests.specs.declared.request.Request.TheVariants.{Create, Get, Update, UpdateStatus, Delete}
+use Rattle.requests.specs.declared.request.Request.TheVariants.{Create, Get, Update, UpdateStatus, Delete, Compact}
 use Rattle.plain.specs.declared.lines.request_error.RequestError.{RequestError}
 use Rattle.plain.specs.declared.lines.request_error.RequestError.TheVariants as errors
 use Rattle.plain.specs.declared.lines.verb.Verb.{Verb}
 use Rattle.plain.specs.declared.lines.verb.Verb.TheVariants as verb
-use Rattle.plain.specs.Requests.{◌>>=◌, deletion_in, demanded, field_text, lifted, object_draft, verb_request, request_of, Refuses, Answers}
+use Rattle.plain.specs.Requests.{◌>>=◌, compaction_in, deletion_in, demanded, exact_in, field_text, lifted, list_in, named_in, object_draft, verb_request, request_of, Refuses, Answers}
 use Rattle.plain.specs.Verbs.{verb_named, verb_in, request_by}
 
 -- what a step of reading objects refuses, the reading of a request refuses
@@ -55,7 +56,9 @@ by_verb name ms =
     (either (bytes_eq name (codes "update")) _ _ f
     ∙ ap (cond (bytes_eq name (codes "update")) (f (Some verb.Update)))
     (either (bytes_eq name (codes "status")) _ _ f
-    ∙ ap (cond (bytes_eq name (codes "status")) (f (Some verb.Status))) (either (bytes_eq name (codes "delete")) (Some verb.Delete) None f))))))
+    ∙ ap (cond (bytes_eq name (codes "status")) (f (Some verb.Status)))
+    (either (bytes_eq name (codes "delete")) _ _ f
+    ∙ ap (cond (bytes_eq name (codes "delete")) (f (Some verb.Delete))) (either (bytes_eq name (codes "compact")) (Some verb.Compact) None f)))))))
 
 bind_bind : {A B C : Type 0} (r : Result A RequestError) (f : A → Result B RequestError) (g : B → Result C RequestError) → ((r >>= f) >>= g) ≡ (r >>= λ x. f x >>= g)
 bind_bind (Ok x) f g = refl
@@ -103,10 +106,6 @@ pub of_get : (ms : Members) → IsMadeOf verb.Get ms (key_in ms) Get
 unfolding request_by
 of_get ms = refl
 
-pub of_list : (ms : Members) → IsMadeOf verb.List ms (collection_in ms) (λ c. request.List c.0 c.1)
-unfolding request_by
-of_list ms = refl
-
 pub of_update : (ms : Members) → IsMadeOf verb.Update ms (object_draft (get_member (codes "object") ms)) Update
 unfolding request_by
 of_update ms = refl
@@ -127,6 +126,65 @@ part_read v w ms part make x made named h = ap (λ u. request_by u ms) named ∙
 pub delete_at : (v : Verb) (ms : Members) (result : Result Request RequestError) → v ≡ verb.Delete → Answers result (deletion_in ms) → Answers result (request_by v ms)
 unfolding request_by
 delete_at v ms result named h = answers_at v verb.Delete ms result named h
+
+pub list_at : (v : Verb) (ms : Members) (result : Result Request RequestError) → v ≡ verb.List → Answers result (list_in ms) → Answers result (request_by v ms)
+unfolding request_by
+list_at v ms result named h = answers_at v verb.List ms result named h
+
+-- a refusal that is not the memory's
+pub refused_so : (result : Result Request RequestError) (y : RequestError) (reading : Result Request RequestError)
+    → result ≡ Err y → reading ≡ Err y → Answers result reading
+refused_so result y reading is h = subst (λ x. Answers x reading) (sym is) (go y h)
+  where
+    go : (z : RequestError) → reading ≡ Err z → Refuses z reading
+    go (errors.Read read.NotJson) e = e
+    go (errors.Read read.NotWhole) e = e
+    go (errors.Read read.NoKind) e = e
+    go (errors.Read read.UnknownKind) e = e
+    go (errors.Read read.BadName) e = e
+    go (errors.Read read.BadMeta) e = e
+    go (errors.Read read.TooLong) e = e
+    go (errors.Read read.Memory) e = tt
+    go errors.NoVerb e = e
+    go errors.UnknownVerb e = e
+    go errors.BadField e = e
+
+-- ---- a list, part by part
+
+abbrev pub exact_part : Members → Kind × List ℕ → Result Request RequestError
+exact_part ms collection = exact_in ms >>= λ exact. Ok (request.List collection.0 collection.1 exact)
+
+pub list_collection_refused : (ms : Members) (result : Result Request RequestError) (y : RequestError) (e : ReadError)
+    → result ≡ Err y → y ≡ errors.Read e → Fails e (collection_in ms) → Answers result (list_in ms)
+unfolding list_in
+list_collection_refused ms result y e is same h = answers_lifted result y e (collection_in ms) (exact_part ms) is same h
+
+list_of : (ms : Members) (collection : Kind × List ℕ) → collection_in ms ≡ Ok collection → list_in ms ≡ exact_part ms collection
+unfolding list_in
+list_of ms collection h = ap (λ r. lifted r >>= exact_part ms) h
+
+pub list_read : (ms : Members) (collection : Kind × List ℕ) (exact : ℕ) → collection_in ms ≡ Ok collection → Ok exact ≡ exact_in ms
+    → list_in ms ≡ Ok (request.List collection.0 collection.1 exact)
+list_read ms collection exact h is = list_of ms collection h ∙ ap (λ r. r >>= λ n. Ok (request.List collection.0 collection.1 n)) (sym is)
+
+pub list_version_refused : (ms : Members) (collection : Kind × List ℕ) (result : Result Request RequestError) (y e : RequestError) → collection_in ms ≡ Ok collection
+    → Err e ≡ exact_in ms → result ≡ Err y → y ≡ e → Answers result (list_in ms)
+list_version_refused ms collection result y e h is at same =
+    refused_so result y (list_in ms) at (list_of ms collection h ∙ ap (λ r. r >>= λ n. Ok (request.List collection.0 collection.1 n)) (sym is) ∙ ap Err (sym same))
+
+-- ---- a compaction
+
+pub compact_at : (v : Verb) (ms : Members) (result : Result Request RequestError) → v ≡ verb.Compact → Answers result (compaction_in ms) → Answers result (request_by v ms)
+unfolding request_by
+compact_at v ms result named h = answers_at v verb.Compact ms result named h
+
+pub compaction_refused : (ms : Members) (result : Result Request RequestError) (y e : RequestError) → Err e ≡ named_in ms → result ≡ Err y → y ≡ e → Answers result (compaction_in ms)
+unfolding compaction_in
+compaction_refused ms result y e is at same = refused_so result y (compaction_in ms) at (ap (λ r. r >>= λ n. Ok (Compact n)) (sym is) ∙ ap Err (sym same))
+
+pub compaction_read : (ms : Members) (to : ℕ) → Ok to ≡ named_in ms → compaction_in ms ≡ Ok (Compact to)
+unfolding compaction_in
+compaction_read ms to is = ap (λ r. r >>= λ n. Ok (Compact n)) (sym is)
 
 -- ---- a deletion, part by part
 
@@ -204,24 +262,6 @@ deletion_read ms key uid version at named uid_is version_is is =
 pub line_refused : (line : List ℕ) (result : Result Request RequestError) (y : RequestError) (e : ReadError)
     → result ≡ Err y → y ≡ errors.Read e → Fails e (reading_of_data line) → Answers result (request_of line)
 line_refused line result y e is same h = subst (Answers result) (sym (line_request line)) (answers_lifted result y e _ data_request is same h)
-
--- a refusal that is not the memory's
-pub refused_so : (result : Result Request RequestError) (y : RequestError) (reading : Result Request RequestError)
-    → result ≡ Err y → reading ≡ Err y → Answers result reading
-refused_so result y reading is h = subst (λ x. Answers x reading) (sym is) (go y h)
-  where
-    go : (z : RequestError) → reading ≡ Err z → Refuses z reading
-    go (errors.Read read.NotJson) e = e
-    go (errors.Read read.NotWhole) e = e
-    go (errors.Read read.NoKind) e = e
-    go (errors.Read read.UnknownKind) e = e
-    go (errors.Read read.BadName) e = e
-    go (errors.Read read.BadMeta) e = e
-    go (errors.Read read.TooLong) e = e
-    go (errors.Read read.Memory) e = tt
-    go errors.NoVerb e = e
-    go errors.UnknownVerb e = e
-    go errors.BadField e = e
 
 -- ---- the verb
 

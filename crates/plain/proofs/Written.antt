@@ -11,12 +11,12 @@ use Rattle.serde_json.specs.Written.{compact_text, items_text}
 use Rattle.objects.specs.declared.object.Object.{Object}
 use Rattle.objects.specs.Text.{text}
 use Rattle.requests.specs.declared.reply.Reason.{Reason}
-use Rattle.requests.specs.declared.reply.Reason.TheVariants.{NotFound, AlreadyExists, Conflict, Invalid, StoreFull}
+use Rattle.requests.specs.declared.reply.Reason.TheVariants.{NotFound, AlreadyExists, Conflict, Invalid, StoreFull, Expired, TooLarge}
 use Rattle.plain.specs.declared.lines.request_error.RequestError.{RequestError}
 use Rattle.plain.specs.declared.lines.request_error.RequestError.TheVariants as errors
 use Rattle.objects.specs.declared.fault.ReadError.TheVariants as read
 use Rattle.requests.specs.Reasons.{reason_name}
-use Rattle.plain.specs.Replies.{error_name, printed_items, with_items, with_object, with_reason}
+use Rattle.plain.specs.Replies.{error_name, printed_items, with_items, with_object, with_reason, with_revision}
 
 -- what begins each line
 abbrev pub code_text : ℕ → List ℕ
@@ -73,6 +73,14 @@ list_text os revision small =
     (ap (λ x. codes ",\"items\":[" ++ x) (feed_last (items_text false (printed_items os)) _ version
     (ap (λ x. codes ",\"resourceVersion\":\"" ++ x) (quoted_last (decimal revision) (codes ",\"result\":\"Listed\"}") (plain_decimal revision small))))))
 
+pub revision_text : (revision : ℕ) → revision < 2 ^ 64
+    → code_text 200 ++ (codes ",\"resourceVersion\":\"" ++ (decimal revision ++ last_text (codes "\",\"result\":\"") (codes "Compacted"))) ≡ compact_text (with_revision revision) ++ 10 ∷ []
+unfolding escape_byte
+revision_text revision small =
+    let version = codes ",\"resourceVersion\":\"" ++ ((escape (decimal revision) ++ 34 ∷ []) ++ codes ",\"result\":\"Compacted\"}") in
+    ap (λ x. codes "{\"code\":" ++ x) (feed_last (decimal 200) _ version
+    (ap (λ x. codes ",\"resourceVersion\":\"" ++ x) (quoted_last (decimal revision) (codes ",\"result\":\"Compacted\"}") (plain_decimal revision small))))
+
 -- ---- pieces, one after another
 
 then : (a b c xs ys : List ℕ) → b ≡ a ++ xs → c ≡ b ++ ys → c ≡ a ++ (xs ++ ys)
@@ -97,6 +105,8 @@ plain_reason AlreadyExists = refl
 plain_reason Conflict = refl
 plain_reason Invalid = refl
 plain_reason StoreFull = refl
+plain_reason Expired = refl
+plain_reason TooLarge = refl
 
 pub plain_error : (e : RequestError) → escape (error_name e) ≡ error_name e
 unfolding escape_byte

@@ -6,7 +6,7 @@ use Rattle.objects.specs.declared.fault.ReadError.{ReadError}
 use Rattle.objects.specs.declared.fault.ReadError.TheVariants as read
 use Rattle.objects.specs.Text.{printed}
 use Rattle.requests.specs.declared.reply.Reply.{Reply}
-use Rattle.requests.specs.declared.reply.Reply.TheVariants.{Created, Found, Listed, Updated, Unchanged, Marked, Removed, Refused}
+use Rattle.requests.specs.declared.reply.Reply.TheVariants.{Created, Found, Listed, Updated, Unchanged, Marked, Removed, Compacted, Refused}
 use Rattle.requests.specs.Reasons.{reason_code, reason_name}
 use Rattle.plain.specs.declared.lines.request_error.RequestError.{RequestError}
 use Rattle.plain.specs.declared.lines.request_error.RequestError.TheVariants as errors
@@ -46,6 +46,11 @@ abbrev pub with_items : List Object → ℕ → Data
 with_items os revision =
     object (member (codes "code") (number (unsigned 200)) (member (codes "items") (array (printed_items os)) (member (codes "resourceVersion") (string (decimal revision)) (member (codes "result") (string (codes "Listed")) no_members))))
 
+-- `{"code":200,"resourceVersion":"V","result":"Compacted"}`
+abbrev pub with_revision : ℕ → Data
+with_revision revision =
+    object (member (codes "code") (number (unsigned 200)) (member (codes "resourceVersion") (string (decimal revision)) (member (codes "result") (string (codes "Compacted")) no_members)))
+
 abbrev pub reply_data : Reply → Data
 reply_data (Created o) = with_object 201 o (codes "Created")
 reply_data (Found o) = with_object 200 o (codes "Found")
@@ -54,6 +59,7 @@ reply_data (Updated o) = with_object 200 o (codes "Updated")
 reply_data (Unchanged o) = with_object 200 o (codes "Unchanged")
 reply_data (Marked o) = with_object 200 o (codes "Marked")
 reply_data (Removed o) = with_object 200 o (codes "Removed")
+reply_data (Compacted revision) = with_revision revision
 reply_data (Refused reason) = with_reason (reason_code reason) (reason_name reason)
 
 -- a line that is no request

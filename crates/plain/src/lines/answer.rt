@@ -3,6 +3,7 @@ ghost use Rattle.serde_json.specs.Written.{compact_text};
 ghost use Rattle.plain.specs.Replies.{reply_data, error_data};
 ghost use Rattle.requests.specs.Verdict.{is_write};
 ghost use Rattle.plain.specs.Served.{answer};
+ghost use Rattle.plain_store.specs.PrintedReplies.{reply_stored};
 ghost use Rattle.plain_store.specs.Store.{step};
 ghost use Rattle.objects.specs.declared.fault.ReadError.TheVariants.{Memory as out_of_memory};
 ghost use Rattle.plain.specs.declared.lines.request_error.RequestError.TheVariants.{Read};
@@ -11,7 +12,7 @@ use crate::lines::reply_line::{error_line, printed_line, stored_line};
 use crate::lines::request_error::RequestError;
 use crate::lines::request_line::next_request;
 use objects::{Memory, ReadError, TreeReader};
-use plain_store::Plain;
+use plain_store::{Plain, StoredReply};
 use requests::Request;
 use std::alloc::Global;
 
@@ -39,7 +40,7 @@ fn answer_request(plain: &mut Plain, request: Request, out: Vec<u8>) -> Result<V
     if request.is_write() {
         answer_write(plain, request, out)
     } else {
-        let line = answer_read(plain, &request, out);
+        let line = answer_other(plain, &request, out);
         drop(request);
         line
     }
@@ -58,17 +59,42 @@ fn answer_write(plain: &mut Plain, request: Request, out: Vec<u8>) -> Result<Vec
     Ok(out)
 }
 
-fn answer_read(plain: &Plain, request: &Request, out: Vec<u8>) -> Result<Vec<u8>, Memory>
+fn answer_other(plain: &mut Plain, request: &Request, out: Vec<u8>) -> Result<Vec<u8>, Memory>
     requires { is_write request.now ≡ false }
-    ensures text { IfOk result (λ v. v.items ≡ out.items ++ (compact_text (reply_data (step plain.now request.now).1) ++ 10 ∷ [])) }
-    ensures store { IfOk result (λ _. plain.now ≡ (step plain.now request.now).0) }
+    ensures text { IfOk result (λ v. v.items ≡ out.items ++ (compact_text (reply_data (step plain.old request.now).1) ++ 10 ∷ [])) }
+    ensures store { IfOk result (λ _. plain.new ≡ (step plain.old request.now).0) }
 {
-    let stored = plain.read(request)?;
+    let stored = stored_reply(plain, request)?;
     let mut out = out;
     let written = stored_line(&stored, &mut out);
     drop(stored);
     written?;
     Ok(out)
+}
+
+/// The reply to a get, a list or a compaction.
+fn stored_reply(plain: &mut Plain, request: &Request) -> Result<StoredReply, Memory>
+    requires { is_write request.now ≡ false }
+    ensures { IfOk result (λ stored. (plain.new, reply_stored stored) ≡ step plain.old request.now) }
+{
+    match request {
+        Request::Get(_)
+        | Request::List {
+            kind: _,
+            namespace: _,
+            exact: _,
+        } => plain.read(request),
+        Request::Compact { to } => Ok(plain.compact(*to)),
+        Request::Create(_)
+        | Request::Update(_)
+        | Request::UpdateStatus(_)
+        | Request::Delete {
+            key: _,
+            uid: _,
+            version: _,
+            at: _,
+        } => unreachable!(),
+    }
 }
 
 fn answer_refusal(error: RequestError, out: Vec<u8>) -> Result<Vec<u8>, Memory>

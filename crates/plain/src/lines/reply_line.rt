@@ -3,7 +3,7 @@ ghost use Rattle.std.specs.Prelude.{◌≡◌, ◌++◌, ◌∷◌, [], Some, tr
 ghost use Rattle.json.specs.Print.{escape};
 ghost use Rattle.serde_json.specs.Written.{compact_text, comma_if, items_text};
 ghost use Rattle.objects.specs.Text.{text};
-ghost use Rattle.plain.specs.Replies.{error_data, printed_items, reply_data, with_items, with_object, with_reason};
+ghost use Rattle.plain.specs.Replies.{error_data, printed_items, reply_data, with_items, with_object, with_reason, with_revision};
 ghost use Rattle.requests.specs.Reasons.{reason_code, reason_name};
 ghost use Rattle.plain_store.specs.PrintedReplies.{reply_object, reply_stored};
 
@@ -26,7 +26,7 @@ pub(crate) fn printed_line(printed: &PrintedReply, out: &mut Vec<u8>) -> Result<
     }
 }
 
-/// Writes the line of what a get or a list is answered.
+/// Writes the line of what a request that is no write is answered.
 pub(crate) fn stored_line(stored: &StoredReply, out: &mut Vec<u8>) -> Result<(), AllocError>
     ensures { OnOk result (out.new.items ≡ out.old.items ++ (compact_text (reply_data (reply_stored stored.now)) ++ 10 ∷ [])) }
 {
@@ -37,6 +37,7 @@ pub(crate) fn stored_line(stored: &StoredReply, out: &mut Vec<u8>) -> Result<(),
             *revision,
             out,
         ),
+        StoredReply::Compacted { revision } => compacted_line(*revision, out),
         StoredReply::Refused(reason) => refused_line(*reason, out),
     }
 }
@@ -63,6 +64,7 @@ fn one_line(reply: &Reply, text: &Printed, out: &mut Vec<u8>) -> Result<(), Allo
             objects: _,
             revision: _,
         }
+        | Reply::Compacted { revision: _ }
         | Reply::Refused(_) => unreachable!(),
     }
 }
@@ -92,6 +94,16 @@ fn listed_line(texts: &[Printed], revision: u64, out: &mut Vec<u8>) -> Result<()
     put(",\"resourceVersion\":\"", out)?;
     put(buffer.format(revision), out)?;
     put_last("\",\"result\":\"", "Listed", out)
+}
+
+fn compacted_line(revision: u64, out: &mut Vec<u8>) -> Result<(), AllocError>
+    ensures { OnOk result (out.new.items ≡ out.old.items ++ (compact_text (with_revision revision) ++ 10 ∷ [])) }
+{
+    let mut buffer = itoa::Buffer::new();
+    put_code(200, out)?;
+    put(",\"resourceVersion\":\"", out)?;
+    put(buffer.format(revision), out)?;
+    put_last("\",\"result\":\"", "Compacted", out)
 }
 
 fn refused_line(reason: Reason, out: &mut Vec<u8>) -> Result<(), AllocError>

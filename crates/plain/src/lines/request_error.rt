@@ -19,8 +19,9 @@ pub enum RequestError {
     NoVerb,
     #[error("the verb is not known")]
     UnknownVerb,
-    /// The `uid`, the `resourceVersion` or the `at` of a delete is not a text.
-    #[error("a member of the request is not a text")]
+    /// The `uid`, the `resourceVersion` or the `at` of a delete is not a text; or the `resourceVersion` of a list or of a
+    /// compaction is none of the store's.
+    #[error("a member of the request is not of its form")]
     BadField,
 }
 

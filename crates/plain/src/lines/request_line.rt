@@ -1,16 +1,17 @@
 // The request that a line is.
-ghost use Rattle.std.specs.Prelude.{codes};
+ghost use Rattle.std.specs.Prelude.{◌≡◌, codes};
 ghost use Rattle.serde_json.specs.Find.{get_member};
 ghost use Rattle.objects.specs.Reading.{reading_of_data};
 ghost use Rattle.objects.specs.Steps.{Gives};
 ghost use Rattle.objects.specs.Tree.{data_of};
-ghost use Rattle.plain.specs.Requests.{Answers, request_of, object_draft, deletion_in, field_text};
+ghost use Rattle.plain.specs.Requests.{Answers, request_of, object_draft, list_in, exact_in, deletion_in, compaction_in, named_in, field_text, stored_number};
 ghost use Rattle.plain.specs.Verbs.{request_by};
 
 use crate::lines::request_error::RequestError;
 use crate::lines::verb::{Verb, verb_in};
 use objects::{
     Draft, Members, ReadError, Text, Tree, TreeReader, read_collection, read_draft, read_key,
+    version_number,
 };
 use requests::Request;
 use std::alloc::Global;
@@ -50,14 +51,63 @@ fn request_by(alloc: Global, verb: Verb, members: Members) -> Result<Request, Re
     match verb {
         Verb::Create => Ok(Request::Create(draft_in(alloc, members)?)),
         Verb::Get => Ok(Request::Get(read_key(alloc, &members)?)),
-        Verb::List => {
-            let (kind, namespace) = read_collection(alloc, &members)?;
-            Ok(Request::List { kind, namespace })
-        }
+        Verb::List => list_in(alloc, &members),
         Verb::Update => Ok(Request::Update(draft_in(alloc, members)?)),
         Verb::Status => Ok(Request::UpdateStatus(draft_in(alloc, members)?)),
         Verb::Delete => deletion_in(alloc, &members),
+        Verb::Compact => compaction_in(&members),
     }
+}
+
+fn list_in(alloc: Global, members: &Members) -> Result<Request, RequestError>
+    ensures { Answers result (list_in members.now) }
+{
+    let (kind, namespace) = read_collection(alloc, members)?;
+    let exact = exact_in(members)?;
+    Ok(Request::List {
+        kind,
+        namespace,
+        exact,
+    })
+}
+
+/// The resource version at which a list is to be read, or 0 for the newest.
+fn exact_in(members: &Members) -> Result<u64, RequestError>
+    ensures { result ≡ exact_in members.now }
+{
+    match members.get("resourceVersion") {
+        None | Some(Tree::Null) => Ok(0),
+        Some(Tree::Text(text)) if text.as_str().is_empty() || text.as_str() == "0" => Ok(0),
+        Some(Tree::Text(text)) => stored_number(text.as_str()),
+        Some(_) => Err(RequestError::BadField),
+    }
+}
+
+fn compaction_in(members: &Members) -> Result<Request, RequestError>
+    ensures { Answers result (compaction_in members.now) }
+{
+    let to = named_in(members)?;
+    Ok(Request::Compact { to })
+}
+
+/// The resource version that a compaction names.
+fn named_in(members: &Members) -> Result<u64, RequestError>
+    ensures { result ≡ named_in members.now }
+{
+    match members.get("resourceVersion") {
+        Some(Tree::Text(text)) if !text.as_str().is_empty() => stored_number(text.as_str()),
+        _ => Err(RequestError::BadField),
+    }
+}
+
+fn stored_number(text: &str) -> Result<u64, RequestError>
+    ensures { result ≡ stored_number text.now }
+{
+    let number = version_number(text);
+    if number == 0 {
+        return Err(RequestError::BadField);
+    }
+    Ok(number)
 }
 
 fn deletion_in(alloc: Global, members: &Members) -> Result<Request, RequestError>

@@ -14,6 +14,7 @@ pub(crate) enum Verb {
     Update,
     Status,
     Delete,
+    Compact,
 }
 
 impl Verb {
@@ -32,6 +33,8 @@ impl Verb {
             Some(Verb::Status)
         } else if name == "delete" {
             Some(Verb::Delete)
+        } else if name == "compact" {
+            Some(Verb::Compact)
         } else {
             None
         }

@@ -1,7 +1,7 @@
 use Rattle.std.proofs.lemmas.Result.{err_from_is_err_and}
 use Rattle.requests.specs.declared.request.Request.TheVariants as request
 use Rattle.plain.specs.declared.lines.verb.Verb.TheVariants as verb
-use Rattle.plain.proofs.Readings.{delete_at, of_create, of_get, of_list, of_status, of_update, part_read, part_refused}
+use Rattle.plain.proofs.Readings.{compact_at, delete_at, list_at, of_create, of_get, of_status, of_update, part_read, part_refused}
 use Rattle.plain.proofs.lines.request_line.request_by.Goals as goal
 
 pub returns-in_err-draft_in-in-Create : goal.returns-in_err-draft_in-in-Create
@@ -20,13 +20,8 @@ returns-in_err-read_key-in-Get c =
 pub returns-in_ok-read_key-in-Get : goal.returns-in_ok-read_key-in-Get
 returns-in_ok-read_key-in-Get c = part_read c.args.verb verb.Get c.args.members _ request.Get _ (of_get c.args.members) c.in-Get.is c.in_ok-read_key-in-Get.ensures
 
-pub returns-in_err-kind-in-List : goal.returns-in_err-kind-in-List
-returns-in_err-kind-in-List c =
-    let p = err_from_is_err_and c.from_residual-in_err-kind-in-List.result c.from_residual-in_err-kind-in-List.ensures.1 in
-    part_refused c.args.verb verb.List c.args.members _ (λ d. request.List d.0 d.1) _ p.0 _ (of_list c.args.members) c.in-List.is p.1 p.2 c.in_err-kind-in-List.ensures
-
-pub returns-in_ok-kind-in-List : goal.returns-in_ok-kind-in-List
-returns-in_ok-kind-in-List c = part_read c.args.verb verb.List c.args.members _ (λ d. request.List d.0 d.1) (c.in_ok-kind-in-List.kind, c.in_ok-kind-in-List.namespace) (of_list c.args.members) c.in-List.is c.in_ok-kind-in-List.ensures
+pub returns-in-List : goal.returns-in-List
+returns-in-List c = list_at c.args.verb c.args.members c.list_in.result c.in-List.is c.list_in.ensures
 
 pub returns-in_err-draft_in-in-Update : goal.returns-in_err-draft_in-in-Update
 returns-in_err-draft_in-in-Update c =
@@ -46,3 +41,6 @@ returns-in_ok-draft_in-in-Status c = part_read c.args.verb verb.Status c.args.me
 
 pub returns-in-Delete : goal.returns-in-Delete
 returns-in-Delete c = delete_at c.args.verb c.args.members c.deletion_in.result c.in-Delete.is c.deletion_in.ensures
+
+pub returns-in-Compact : goal.returns-in-Compact
+returns-in-Compact c = compact_at c.args.verb c.args.members c.compaction_in.result c.in-Compact.is c.compaction_in.ensures
