@@ -6,7 +6,7 @@ use Rattle.trees.specs.Reading.{tree_reading}
 use Rattle.objects.specs.Reading.{most_bytes}
 use Rattle.plain_store.specs.Store.{Store}
 use Rattle.plain.specs.Requests.{request_of}
-use Rattle.plain.specs.Lines.{lines, onto_first}
+use Rattle.plain.specs.Lines.{ended_lines, lines, onto_ended, onto_first}
 use Rattle.plain.specs.Served.{answered, answer, answers}
 use Rattle.memchr.specs.Find.{Nowhere, NoneBefore, Passes, is_byte}
 use Rattle.plain.specs.Cuts.{NoFeed, kept_with, Point, Reaches}
@@ -51,6 +51,42 @@ pub lines-feed : (l rest : List ℕ) → NoFeed l → lines (l ++ 10 ∷ rest) �
 lines-feed [] rest _ = refl
 lines-feed (b ∷ bs) rest f = lines-onto b bs (10 ∷ rest) f ∙ ap (λ h. h ∷ lines rest) (append-nil (b ∷ bs))
 
+-- ---- the lines that end
+
+-- they go on from a line that has begun, if it ends
+abbrev onto_next : List ℕ → List (List ℕ) → List (List ℕ)
+onto_next h [] = []
+onto_next h (l ∷ ls) = (h ++ l) ∷ ls
+
+onto_ended-onto : (b : ℕ) (h : List ℕ) (ls : List (List ℕ)) → onto_ended b (onto_next h ls) ≡ onto_next (b ∷ h) ls
+onto_ended-onto b h [] = refl
+onto_ended-onto b h (l ∷ ls) = refl
+
+onto_ended-one : (b : ℕ) (ls : List (List ℕ)) → onto_ended b ls ≡ onto_next (b ∷ []) ls
+onto_ended-one b [] = refl
+onto_ended-one b (l ∷ ls) = refl
+
+ended-other : (b : ℕ) (bs : List ℕ) → b ≢ 10 → ended_lines (b ∷ bs) ≡ onto_ended b (ended_lines bs)
+ended-other b bs ne = rw (ne_eqb b 10 ne)
+
+ended-onto : (b : ℕ) (bs more : List ℕ) → NoFeed (b ∷ bs) → ended_lines ((b ∷ bs) ++ more) ≡ onto_next (b ∷ bs) (ended_lines more)
+ended-onto b [] more f = ended-other b more f.0 ∙ onto_ended-one b (ended_lines more)
+ended-onto b (c ∷ cs) more f =
+    ended-other b ((c ∷ cs) ++ more) f.0 ∙ (ap (onto_ended b) (ended-onto c cs more f.1) ∙ onto_ended-onto b (c ∷ cs) (ended_lines more))
+
+ended-feed : (l rest : List ℕ) → NoFeed l → ended_lines (l ++ 10 ∷ rest) ≡ l ∷ ended_lines rest
+ended-feed [] rest _ = refl
+ended-feed (b ∷ bs) rest f = ended-onto b bs (10 ∷ rest) f ∙ ap (λ h. h ∷ ended_lines rest) (append-nil (b ∷ bs))
+
+ended-begun : (h more : List ℕ) → 0 < length h → NoFeed h → ended_lines (h ++ more) ≡ onto_next h (ended_lines more)
+ended-begun [] more l f = absurd (omega arith)
+ended-begun (b ∷ bs) more l f = ended-onto b bs more f
+
+-- none ends without a line feed
+pub ended-none : (h : List ℕ) → NoFeed h → ended_lines h ≡ []
+ended-none [] f = refl
+ended-none (b ∷ bs) f = ap ended_lines (sym (append-nil (b ∷ bs))) ∙ ended-onto b bs [] f
+
 -- a last line
 pub lines-last : (b : ℕ) (bs : List ℕ) → NoFeed (b ∷ bs) → lines (b ∷ bs) ≡ (b ∷ bs) ∷ []
 lines-last b bs f = ap lines (sym (append-nil (b ∷ bs))) ∙ lines-onto b bs [] f
@@ -80,6 +116,10 @@ answers-onto s n k b (l ∷ ls) e lt =
     request_of-too_long ((k ++ take n b) ++ l) ((k ++ b) ++ l) (simp (length-append, length-take) (omega arith)) (simp length-append (omega arith)) in
     ap (λ r. (answered s r).1 ++ 10 ∷ answers (answered s r).0 ls) same
 
+answers-onto_next : (s : Store) (n : ℕ) (k b : List ℕ) (ls : List (List ℕ)) → n ≡ most_bytes + 1 - length k → n < length b → answers s (onto_next (k ++ take n b) ls) ≡ answers s (onto_next (k ++ b) ls)
+answers-onto_next s n k b [] e lt = refl
+answers-onto_next s n k b (l ∷ ls) e lt = answers-onto s n k b (l ∷ ls) e lt
+
 count-onto : (h g : List ℕ) (ls : List (List ℕ)) → length (onto h ls) ≡ length (onto g ls)
 count-onto h g [] = refl
 count-onto h g (l ∷ ls) = refl
@@ -90,10 +130,10 @@ lines-begun (b ∷ bs) more l f = lines-onto b bs more f
 
 -- a point stands for itself
 pub Reaches-same : (p : Point) → Reaches p p
-Reaches-same p = record { text = λ _. refl; count = λ _. refl }
+Reaches-same p = record { text = λ _. refl; ended = λ _. refl; count = λ _. refl }
 
 pub Reaches-then : (p q r : Point) → Reaches p q → Reaches q r → Reaches p r
-Reaches-then p q r f g = record { text = λ more. f.text more ∙ g.text more; count = λ more. f.count more ∙ g.count more }
+Reaches-then p q r f g = record { text = λ more. f.text more ∙ g.text more; ended = λ more. f.ended more ∙ g.ended more; count = λ more. f.count more ∙ g.count more }
 
 -- the rest of a piece is kept
 pub Reaches-kept : (s : Store) (k b text : List ℕ) (n : ℕ) → NoFeed k → NoFeed b →
@@ -104,14 +144,18 @@ Reaches-kept s k b text n fk fb =
       | inl lt ↦
           let whole = λ (more : List ℕ). lines-begun (k ++ b) more (simp length-append (omega arith)) (NoFeed-append k b fk fb) in
           let cut = λ (more : List ℕ). lines-begun (kept_with k b) more (simp (length-append, length-take) (omega arith)) (NoFeed-append k (take most b) fk (NoFeed-take most b fb)) in
+          let ended = λ (more : List ℕ). ended-begun (k ++ b) more (simp length-append (omega arith)) (NoFeed-append k b fk fb) in
+          let ended_cut = λ (more : List ℕ). ended-begun (kept_with k b) more (simp (length-append, length-take) (omega arith)) (NoFeed-append k (take most b) fk (NoFeed-take most b fb)) in
           record {
             text = λ more. ap (λ ls. text ++ answers s ls) (whole more) ∙ (ap (λ t. text ++ t) (sym (answers-onto s most k b (lines more) refl lt)) ∙ ap (λ ls. text ++ answers s ls) (sym (cut more)));
+            ended = λ more. ap (λ ls. text ++ answers s ls) (ended more) ∙ (ap (λ t. text ++ t) (sym (answers-onto_next s most k b (ended_lines more) refl lt)) ∙ ap (λ ls. text ++ answers s ls) (sym (ended_cut more)));
             count = λ more. ap (λ ls. n + length ls) (whole more) ∙ (ap (λ t. n + t) (count-onto (k ++ b) (kept_with k b) (lines more)) ∙ ap (λ ls. n + length ls) (sym (cut more)));
           }
       | inr le ↦
           let e : k ++ b ≡ kept_with k b = ap (λ t. k ++ t) (sym (take_all most b le)) in
           record {
             text = λ more. ap (λ w. text ++ answers s (lines (w ++ more))) e;
+            ended = λ more. ap (λ w. text ++ answers s (ended_lines (w ++ more))) e;
             count = λ more. ap (λ w. n + length (lines (w ++ more))) e;
           }
     ]
@@ -125,8 +169,10 @@ pub Reaches-line : (s : Store) (l rest text : List ℕ) (n : ℕ) → NoFeed l �
     (record { store = (answer s l).0; waiting = rest; text = text ++ ((answer s l).1 ++ 10 ∷ []); count = n + 1 })
 Reaches-line s l rest text n f =
     let e = λ (more : List ℕ). ap lines (append_assoc l (10 ∷ rest) more) ∙ lines-feed l (rest ++ more) f in
+    let ended = λ (more : List ℕ). ap ended_lines (append_assoc l (10 ∷ rest) more) ∙ ended-feed l (rest ++ more) f in
     record {
       text = λ more. ap (λ ls. text ++ answers s ls) (e more) ∙ simp append_assoc;
+      ended = λ more. ap (λ ls. text ++ answers s ls) (ended more) ∙ simp append_assoc;
       count = λ more. ap (λ ls. n + length ls) (e more) ∙ omega arith;
     }
 

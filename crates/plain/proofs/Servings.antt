@@ -1,16 +1,18 @@
 -- Replies that were written come of the bytes that were read.
-use Rattle.std.proofs.Common.{◌≡◌, ℕ, ◌+◌, List, [], ◌++◌, length, sym, ◌∙◌, ap, subst, append_assoc, append-nil, Option, Result, Ok, Err}
+use Rattle.std.proofs.Common.{◌≡◌, ℕ, ◌+◌, inl, inr, List, [], ◌++◌, length, refl, sym, ◌∙◌, ap, subst, append_assoc, append-nil, Option, Some, None, Result, Ok, Err}
+use Rattle.std.specs.Option.{IfSome}
 use Rattle.std.specs.Result.{OnErr}
 use Rattle.plain_store.specs.Store.{Store}
-use Rattle.plain.specs.Lines.{lines}
+use Rattle.plain.specs.Lines.{ended_lines, lines}
 use Rattle.plain.specs.Served.{answers}
-use Rattle.plain.specs.Cuts.{Reaches}
-use Rattle.plain.specs.Streams.{Takes, PutsPart, ServesPart}
+use Rattle.plain.specs.Cuts.{NoFeed, Reaches}
+use Rattle.plain.proofs.LineCuts.{ended-none}
+use Rattle.plain.specs.Streams.{Takes, Puts, PutsPart, ServesEnded, ServesPart}
 use Rattle.plain.specs.Serving.{Answered, Serving}
 use Rattle.plain.specs.declared.server.ServeFault.{ServeFault}
 use Rattle.plain.specs.declared.server.ServeFault.TheVariants.{BadCapacity}
 use Rattle.plain.specs.Faults.{IsInRange}
-use Rattle.plain.proofs.Flows.{Puts-then, Takes-then, PutsPart-after, PutsPart-none}
+use Rattle.plain.proofs.Flows.{Puts-then, Takes-then, Takes-end, Takes-nothing, PutsPart-after, PutsPart-none}
 
 pub on_err : {A E : Type 0} (P : Type 0) (r : Result A E) → P → OnErr r P
 on_err P (Ok x) p = tt
@@ -21,12 +23,12 @@ pub PutsPart-more : (old new : Option (List ℕ)) (bytes more : List ℕ) → Pu
 PutsPart-more old new bytes more (text, rest, e, p) = (text, rest ++ more, ap (λ b. b ++ more) e ∙ append_assoc text rest more, p)
 
 -- where a part of the replies was written
-pub PutsPart-replies : (s t : Store) (bytes start kept text slice : List ℕ) (n m : ℕ) (old new : Option (List ℕ)) → start ≡ [] → Reaches (record { store = s; waiting = bytes; text = start; count = n }) (record { store = t; waiting = kept; text = text; count = m }) → slice ≡ text → PutsPart old slice new → PutsPart old (answers s (lines bytes)) new
+pub PutsPart-replies : (s t : Store) (bytes start kept text slice : List ℕ) (n m : ℕ) (old new : Option (List ℕ)) → start ≡ [] → Reaches (record { store = s; waiting = bytes; text = start; count = n }) (record { store = t; waiting = kept; text = text; count = m }) → slice ≡ text → PutsPart old slice new → PutsPart old (answers s (ended_lines bytes)) new
 PutsPart-replies s t bytes start kept text slice n m old new none r e p =
-    let all : answers s (lines bytes) ≡ slice ++ answers t (lines (kept ++ [])) =
-    ap (λ b. answers s (lines b)) (sym (append-nil bytes)) ∙ (ap (λ b. b ++ answers s (lines (bytes ++ []))) (sym none) ∙
-    (r.text [] ∙ ap (λ b. b ++ answers t (lines (kept ++ []))) (sym e))) in
-    subst (λ b. PutsPart old b new) (sym all) (PutsPart-more old new slice (answers t (lines (kept ++ []))) p)
+    let all : answers s (ended_lines bytes) ≡ slice ++ answers t (ended_lines (kept ++ [])) =
+    ap (λ b. answers s (ended_lines b)) (sym (append-nil bytes)) ∙ (ap (λ b. b ++ answers s (ended_lines (bytes ++ []))) (sym none) ∙
+    (r.ended [] ∙ ap (λ b. b ++ answers t (ended_lines (kept ++ []))) (sym e))) in
+    subst (λ b. PutsPart old b new) (sym all) (PutsPart-more old new slice (answers t (ended_lines (kept ++ []))) p)
 
 -- some of the lines are answered, and then some more
 pub Answered-then : (s t u : Store) (bytes rest later : List ℕ) (n m k : ℕ) (before now after : Option (List ℕ)) →
@@ -37,17 +39,19 @@ Answered-then s t u bytes rest later n m k before now after a b = record {
   reaches = record {
     text = λ more.
         a.reaches.text more ∙ (ap (λ x. a.text ++ x) (b.reaches.text more) ∙ sym (append_assoc a.text b.text (answers u (lines (later ++ more)))));
+    ended = λ more.
+        a.reaches.ended more ∙ (ap (λ x. a.text ++ x) (b.reaches.ended more) ∙ sym (append_assoc a.text b.text (answers u (ended_lines (later ++ more)))));
     count = λ more. a.reaches.count more ∙ b.reaches.count more;
   };
 }
 
 -- a fault after some of the lines were answered
 pub Answered-fault : (s t : Store) (bytes rest : List ℕ) (n m : ℕ) (before now then : Option (List ℕ)) →
-    Answered s bytes n before t rest m now → PutsPart now (answers t (lines rest)) then → PutsPart before (answers s (lines bytes)) then
+    Answered s bytes n before t rest m now → PutsPart now (answers t (ended_lines rest)) then → PutsPart before (answers s (ended_lines bytes)) then
 Answered-fault s t bytes rest n m before now then a p =
-    let all : answers s (lines bytes) ≡ a.text ++ answers t (lines rest) =
-    ap (λ b. answers s (lines b)) (sym (append-nil bytes)) ∙ (a.reaches.text [] ∙ ap (λ b. a.text ++ answers t (lines b)) (append-nil rest)) in
-    subst (λ b. PutsPart before b then) (sym all) (PutsPart-after before now then a.text (answers t (lines rest)) a.put p)
+    let all : answers s (ended_lines bytes) ≡ a.text ++ answers t (ended_lines rest) =
+    ap (λ b. answers s (ended_lines b)) (sym (append-nil bytes)) ∙ (a.reaches.ended [] ∙ ap (λ b. a.text ++ answers t (ended_lines b)) (append-nil rest)) in
+    subst (λ b. PutsPart before b then) (sym all) (PutsPart-after before now then a.text (answers t (ended_lines rest)) a.put p)
 
 pub Serving-next : (s t u : Store) (had left later before after then : Option (List ℕ)) (kept piece next : List ℕ) (n m : ℕ) →
     Serving s had left before after t kept n → Takes left piece later → Answered t (kept ++ piece) n after u next m then → Serving s had later before then u next m
@@ -62,6 +66,10 @@ Serving-next s t u had left later before after then kept piece next n m h taken 
           ap (λ b. answers s (lines b)) (append_assoc h.consumed piece more) ∙ (h.answered.reaches.text (piece ++ more) ∙
           (ap (λ b. h.answered.text ++ answers t (lines b)) (sym (append_assoc kept piece more)) ∙ (ap (λ b. h.answered.text ++ b) (a.reaches.text more) ∙
           sym (append_assoc h.answered.text a.text (answers u (lines (next ++ more)))))));
+      ended = λ more.
+          ap (λ b. answers s (ended_lines b)) (append_assoc h.consumed piece more) ∙ (h.answered.reaches.ended (piece ++ more) ∙
+          (ap (λ b. h.answered.text ++ answers t (ended_lines b)) (sym (append_assoc kept piece more)) ∙ (ap (λ b. h.answered.text ++ b) (a.reaches.ended more) ∙
+          sym (append_assoc h.answered.text a.text (answers u (ended_lines (next ++ more)))))));
       count = λ more.
           ap (λ b. 0 + length (lines b)) (append_assoc h.consumed piece more) ∙ (h.answered.reaches.count (piece ++ more) ∙
           (ap (λ b. n + length (lines b)) (sym (append_assoc kept piece more)) ∙ a.reaches.count more));
@@ -71,29 +79,51 @@ Serving-next s t u had left later before after then kept piece next n m h taken 
 
 -- a fault after one more piece was read
 pub Serving-fault : (s t : Store) (had left later before after then : Option (List ℕ)) (kept piece : List ℕ) (n : ℕ) →
-    Serving s had left before after t kept n → Takes left piece later → PutsPart after (answers t (lines (kept ++ piece))) then →
-    ServesPart (λ input. answers s (lines input)) had later before then
+    Serving s had left before after t kept n → Takes left piece later → PutsPart after (answers t (ended_lines (kept ++ piece))) then →
+    ServesPart (λ input. answers s (ended_lines input)) (λ input. answers s (lines input)) had later before then
 Serving-fault s t had left later before after then kept piece n h taken p = (
   h.consumed ++ piece,
   Takes-then had left later h.consumed piece h.taken taken,
-  subst (λ b. PutsPart before b then) (sym (h.answered.reaches.text piece))
-      (PutsPart-after before after then h.answered.text (answers t (lines (kept ++ piece))) h.answered.put p),
+  inl (subst (λ b. PutsPart before b then) (sym (h.answered.reaches.ended piece))
+      (PutsPart-after before after then h.answered.text (answers t (ended_lines (kept ++ piece))) h.answered.put p)),
 )
 
 -- a failed read
 pub Serving-unread : (s t : Store) (had left later before after : Option (List ℕ)) (kept : List ℕ) (n : ℕ) → Serving s had left before after t kept n →
-    Takes left [] later → ServesPart (λ input. answers s (lines input)) had later before after
+    Takes left [] later → ServesPart (λ input. answers s (ended_lines input)) (λ input. answers s (lines input)) had later before after
 Serving-unread s t had left later before after kept n h none =
-    Serving-fault s t had left later before after after kept [] n h none (PutsPart-none after (answers t (lines (kept ++ []))))
+    Serving-fault s t had left later before after after kept [] n h none (PutsPart-none after (answers t (ended_lines (kept ++ []))))
+
+-- all lines that ended are answered by then
+pub Serving-ended : (s t : Store) (had left later before after : Option (List ℕ)) (kept : List ℕ) (n : ℕ) → Serving s had left before after t kept n →
+    NoFeed kept → Takes left [] later → ServesEnded (λ input. answers s (ended_lines input)) had later before after
+Serving-ended s t had left later before after kept n h begun none =
+    let all : answers s (ended_lines (h.consumed ++ [])) ≡ h.answered.text =
+    h.answered.reaches.ended [] ∙ (ap (λ b. h.answered.text ++ answers t (ended_lines b)) (append-nil kept) ∙
+    (ap (λ ls. h.answered.text ++ answers t ls) (ended-none kept begun) ∙ append-nil h.answered.text)) in (
+      h.consumed ++ [],
+      Takes-then had left later h.consumed [] h.taken none,
+      subst (λ b. Puts before b after) (sym all) h.answered.put,
+    )
+
+-- where nothing was left, nothing is
+over_still : (had left later : Option (List ℕ)) (consumed : List ℕ) → Takes had consumed left → IfSome left (λ l. l ≡ []) → Takes left [] later → IfSome had (λ _. later ≡ Some [])
+over_still None left later consumed taken over none = tt
+over_still (Some input) left later consumed taken over none = Takes-nothing left later [] refl (Takes-end input consumed left taken over) none
 
 -- a fault at the last line
 pub Serving-last : {A E : Type 0} (r : Result A E) (s t : Store) (had left later before after then : Option (List ℕ)) (kept piece : List ℕ) (n : ℕ) →
-    Serving s had left before after t kept n → Takes left piece later → piece ≡ [] → OnErr r (PutsPart after (answers t (lines kept)) then) →
-    OnErr r (ServesPart (λ input. answers s (lines input)) had later before then)
-Serving-last (Ok x) s t had left later before after then kept piece n h taken none p = tt
-Serving-last (Err e) s t had left later before after then kept piece n h taken none p =
-    Serving-fault s t had left later before after then kept [] n h (subst (λ b. Takes left b later) none taken)
-    (subst (λ b. PutsPart after (answers t (lines b)) then) (sym (append-nil kept)) p)
+    Serving s had left before after t kept n → Takes left piece later → piece ≡ [] → IfSome left (λ l. l ≡ []) → OnErr r (PutsPart after (answers t (lines kept)) then) →
+    OnErr r (ServesPart (λ input. answers s (ended_lines input)) (λ input. answers s (lines input)) had later before then)
+Serving-last (Ok x) s t had left later before after then kept piece n h taken none over p = tt
+Serving-last (Err e) s t had left later before after then kept piece n h taken none over p =
+    let nothing : Takes left [] later = subst (λ b. Takes left b later) none taken in
+    let all : answers s (lines (h.consumed ++ [])) ≡ h.answered.text ++ answers t (lines kept) =
+    h.answered.reaches.text [] ∙ ap (λ b. h.answered.text ++ answers t (lines b)) (append-nil kept) in (
+      h.consumed ++ [],
+      Takes-then had left later h.consumed [] h.taken nothing,
+      inr (over_still had left later h.consumed h.taken over nothing, subst (λ b. PutsPart before b then) (sym all) (PutsPart-after before after then h.answered.text (answers t (lines kept)) h.answered.put p)),
+    )
 
 pub in_range : {A : Type 0} (r : Result A ServeFault) → IsInRange r → r ≡ Err BadCapacity → ⊥
 in_range r h e = subst IsInRange e h

@@ -3,7 +3,7 @@
 use Rattle.std.specs.Prelude.{◌≡◌, ◌≢◌, ◌<◌, ◌⊎◌, ℕ, ◌+◌, ◌-◌, List, [], ◌∷◌, ◌++◌, length, take}
 use Rattle.objects.specs.Reading.{most_bytes}
 use Rattle.plain_store.specs.Store.{Store}
-use Rattle.plain.specs.Lines.{lines}
+use Rattle.plain.specs.Lines.{ended_lines, lines}
 use Rattle.plain.specs.Served.{answer, answers}
 
 -- there is no line feed among these bytes
@@ -27,13 +27,18 @@ pub record Point : Type 0 where
 abbrev pub text_with : Point → List ℕ → List ℕ
 text_with p more = p.text ++ answers p.store (lines (p.waiting ++ more))
 
+-- the text of the replies to the lines that end, if these bytes follow
+abbrev pub ended_with : Point → List ℕ → List ℕ
+ended_with p more = p.text ++ answers p.store (ended_lines (p.waiting ++ more))
+
 -- the number of all lines, if these bytes and no more follow
 abbrev pub count_with : Point → List ℕ → ℕ
 count_with p more = p.count + length (lines (p.waiting ++ more))
 
--- both come to the same, whatever follows
+-- all come to the same, whatever follows
 pub record Reaches (p q : Point) : Type 0 where
   pub text : (more : List ℕ) → text_with p more ≡ text_with q more
+  pub ended : (more : List ℕ) → ended_with p more ≡ ended_with q more
   pub count : (more : List ℕ) → count_with p more ≡ count_with q more
 
 -- bytes that come

@@ -9,3 +9,13 @@ onto_first b (l ∷ ls) = (b ∷ l) ∷ ls
 abbrev pub lines : List ℕ → List (List ℕ)
 lines [] = []
 lines (b ∷ bs) = if b == 10 then [] ∷ lines bs else onto_first b (lines bs)
+
+-- the byte goes onto the first line that ends
+abbrev pub onto_ended : ℕ → List (List ℕ) → List (List ℕ)
+onto_ended b [] = []
+onto_ended b (l ∷ ls) = (b ∷ l) ∷ ls
+
+-- the lines that end: a last line without its line feed may go on
+abbrev pub ended_lines : List ℕ → List (List ℕ)
+ended_lines [] = []
+ended_lines (b ∷ bs) = if b == 10 then [] ∷ ended_lines bs else onto_ended b (ended_lines bs)

@@ -7,7 +7,7 @@ use Rattle.plain.specs.declared.lines.request_error.RequestError.{RequestError}
 use Rattle.plain_store.specs.Store.{Store, opening, step}
 use Rattle.plain.specs.Requests.{request_of}
 use Rattle.plain.specs.Replies.{reply_data, error_data}
-use Rattle.plain.specs.Lines.{lines}
+use Rattle.plain.specs.Lines.{ended_lines, lines}
 
 -- what the store is after a line, and the text of the reply without its line feed
 abbrev pub answered : Store → Result Request RequestError → Store × List ℕ
@@ -24,3 +24,7 @@ answers s (line ∷ rest) = (answer s line).1 ++ 10 ∷ answers (answer s line).
 
 abbrev pub served : ℕ → List ℕ → List ℕ
 served capacity input = answers (opening capacity) (lines input)
+
+-- what it writes while the input may go on
+abbrev pub served_so_far : ℕ → List ℕ → List ℕ
+served_so_far capacity input = answers (opening capacity) (ended_lines input)

@@ -1,5 +1,6 @@
 -- What a reader has left and what a writer was given, where the device tells.
-use Rattle.std.specs.Prelude.{◌≡◌, ℕ, List, ◌++◌, Option, Some, None, ⊤}
+use Rattle.std.specs.Prelude.{◌≡◌, ◌⊎◌, ℕ, List, [], ◌++◌, Option, Some, None, ⊤}
+use Rattle.std.specs.Option.{IfSome}
 
 -- these bytes were taken from the front of what was left
 abbrev pub Takes : Option (List ℕ) → List ℕ → Option (List ℕ) → Type 0
@@ -15,7 +16,13 @@ Puts (Some written) put new = new ≡ Some (written ++ put)
 abbrev pub PutsPart : Option (List ℕ) → List ℕ → Option (List ℕ) → Type 0
 PutsPart old bytes new = (text : List ℕ) × (more : List ℕ) × (bytes ≡ text ++ more) × Puts old text new
 
--- A serving that ended early, from what the reader had and has left and what the writer had and has: of the bytes that
--- were read, a beginning of the replies' text was written.
-abbrev pub ServesPart : (List ℕ → List ℕ) → Option (List ℕ) → Option (List ℕ) → Option (List ℕ) → Option (List ℕ) → Type 0
-ServesPart text had left before after = (consumed : List ℕ) × Takes had consumed left × PutsPart before (text consumed) after
+-- A serving that ended early, from what the reader had and has left and what the writer had and has. Of the bytes that
+-- were read a beginning of the replies was written: of those to the lines that ended, or of those to all lines where the
+-- reader has come to its end.
+abbrev pub ServesPart : (ended all : List ℕ → List ℕ) → Option (List ℕ) → Option (List ℕ) → Option (List ℕ) → Option (List ℕ) → Type 0
+ServesPart ended all had left before after =
+    (consumed : List ℕ) × Takes had consumed left × (PutsPart before (ended consumed) after ⊎ (IfSome had (λ _. left ≡ Some []) × PutsPart before (all consumed) after))
+
+-- the same where all lines that ended are answered, and nothing else
+abbrev pub ServesEnded : (List ℕ → List ℕ) → Option (List ℕ) → Option (List ℕ) → Option (List ℕ) → Option (List ℕ) → Type 0
+ServesEnded ended had left before after = (consumed : List ℕ) × Takes had consumed left × Puts before (ended consumed) after

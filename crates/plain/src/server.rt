@@ -1,9 +1,9 @@
 ghost use Rattle.std.specs.Prelude.{◌≡◌, ◌+◌, ◌<◌, ◌≤◌, ◌^◌, ◌++◌, [], length, IfOk, IfSome, IfNone, OnSome, OnOk, OnErr, IsErrOf, ◌↔◌, Some};
 ghost use Rattle.plain_store.specs.Store.{opening};
-ghost use Rattle.plain.specs.Lines.{lines};
-ghost use Rattle.plain.specs.Served.{served, answers};
+ghost use Rattle.plain.specs.Lines.{ended_lines, lines};
+ghost use Rattle.plain.specs.Served.{served, served_so_far, answers};
 ghost use Rattle.plain.specs.Cuts.{NoFeed, Reaches};
-ghost use Rattle.plain.specs.Streams.{Takes, Puts, PutsPart, ServesPart};
+ghost use Rattle.plain.specs.Streams.{Takes, Puts, PutsPart, ServesEnded, ServesPart};
 ghost use Rattle.plain.specs.Serving.{Answered};
 ghost use Rattle.plain.specs.Faults.{CountsReads, CountsWrites, IsWriteOrMemory, IsInRange};
 ghost use Rattle.plain_store.specs.declared.store.TheConstants.{MOST_REVISIONS};
@@ -80,7 +80,7 @@ fn answer_some<'a, W: Sink>(
         v.cut.lines + length v.cut.kept.items + length v.rest.now ≤ cut.lines + length cut.kept.items + length piece.now) }
     ensures shorter { IfOk result (λ v. 0 < length piece.now → length v.rest.now < length piece.now) }
     ensures written { IfOk result (λ v. v.cut.replies.items ≡ []) }
-    ensures fault { OnErr result (PutsPart (W.written writer.old) (answers plain.old (lines (cut.kept.items ++ piece.now))) (W.written writer.new)) }
+    ensures fault { OnErr result (PutsPart (W.written writer.old) (answers plain.old (ended_lines (cut.kept.items ++ piece.now))) (W.written writer.new)) }
     ensures writes { CountsWrites result (W.failures writer.old) (W.failures writer.new) }
     ensures cause { IsWriteOrMemory result }
 {
@@ -106,7 +106,7 @@ fn answer_read<W: Sink>(
     ensures begun { IfOk result (λ v. NoFeed v.kept.items) }
     ensures count { IfOk result (λ v. v.lines + length v.kept.items ≤ cut.lines + length cut.kept.items + length piece.now) }
     ensures written { IfOk result (λ v. v.replies.items ≡ []) }
-    ensures fault { OnErr result (PutsPart (W.written writer.old) (answers plain.old (lines (cut.kept.items ++ piece.now))) (W.written writer.new)) }
+    ensures fault { OnErr result (PutsPart (W.written writer.old) (answers plain.old (ended_lines (cut.kept.items ++ piece.now))) (W.written writer.new)) }
     ensures writes { CountsWrites result (W.failures writer.old) (W.failures writer.new) }
     ensures cause { IsWriteOrMemory result }
 {
@@ -153,8 +153,10 @@ fn serve_store<R: Source, W: Sink>(
     ensures left { OnOk result (IfSome (R.remaining reader.old) (λ _. R.remaining reader.new ≡ Some [])) }
     ensures text { OnOk result (IfSome (R.remaining reader.old) (λ input.
         Puts (W.written writer.old) (answers plain.old (lines input)) (W.written writer.new))) }
-    ensures fault { OnErr result (ServesPart (λ input. answers plain.old (lines input))
+    ensures fault { OnErr result (ServesPart (λ input. answers plain.old (ended_lines input)) (λ input. answers plain.old (lines input))
         (R.remaining reader.old) (R.remaining reader.new) (W.written writer.old) (W.written writer.new)) }
+    ensures unread { IsErrOf result ServeFault.Read → ServesEnded (λ input. answers plain.old (ended_lines input))
+        (R.remaining reader.old) (R.remaining reader.new) (W.written writer.old) (W.written writer.new) }
     ensures reads { CountsReads result (R.failures reader.old) (R.failures reader.new) }
     ensures writes { CountsWrites result (W.failures writer.old) (W.failures writer.new) }
     ensures cause { IsInRange result }
@@ -183,8 +185,9 @@ fn serve_store<R: Source, W: Sink>(
 ///
 /// # Errors
 ///
-/// Where the capacity is out of range, nothing was read or written. At any other fault what was written is a beginning
-/// of the replies to what was read.
+/// Where the capacity is out of range, nothing was read or written. Where the reader failed, the lines that had ended by
+/// then are answered, and a line that was cut off is not. Where the writer failed or memory ran out, what was written is a
+/// beginning of these replies, or of those to all lines once the input has ended.
 pub fn serve<R: Source, W: Sink>(
     alloc: Global,
     reader: &mut R,
@@ -195,8 +198,10 @@ pub fn serve<R: Source, W: Sink>(
     ensures left { OnOk result (IfSome (R.remaining reader.old) (λ _. R.remaining reader.new ≡ Some [])) }
     ensures text { OnOk result (IfSome (R.remaining reader.old) (λ input.
         Puts (W.written writer.old) (served capacity input) (W.written writer.new))) }
-    ensures fault { OnErr result (ServesPart (served capacity)
+    ensures fault { OnErr result (ServesPart (served_so_far capacity) (served capacity)
         (R.remaining reader.old) (R.remaining reader.new) (W.written writer.old) (W.written writer.new)) }
+    ensures unread { IsErrOf result ServeFault.Read → ServesEnded (served_so_far capacity)
+        (R.remaining reader.old) (R.remaining reader.new) (W.written writer.old) (W.written writer.new) }
     ensures reads { CountsReads result (R.failures reader.old) (R.failures reader.new) }
     ensures writes { CountsWrites result (W.failures writer.old) (W.failures writer.new) }
     ensures capacity { IsErrOf result ServeFault.BadCapacity ↔ (1 ≤ capacity → MOST_REVISIONS < capacity) }

@@ -1,9 +1,9 @@
 use Rattle.std.proofs.Common.{subst}
 use Rattle.std.specs.Option.{IfSome}
 use Rattle.std.specs.Result.{OnOk, OnErr}
-use Rattle.plain.specs.Lines.{lines}
+use Rattle.plain.specs.Lines.{ended_lines, lines}
 use Rattle.plain.specs.Served.{answers}
-use Rattle.plain.specs.Streams.{Puts, ServesPart}
+use Rattle.plain.specs.Streams.{Puts, ServesEnded, ServesPart}
 use Rattle.plain.proofs.Servings.{in_range}
 use Rattle.plain.proofs.server.serve.Goals as goal
 
@@ -18,9 +18,16 @@ pub returns-clause-fault : goal.returns-clause-fault
 returns-clause-fault g c =
     subst
     (λ s. OnErr c.serve_store.result
-    (ServesPart (λ input. answers s (lines input)) (g.R.Source.remaining c.args.reader.now) (g.R.Source.remaining c.serve_store.new.reader) (g.W.Sink.written c.args.writer.now)
+    (ServesPart (λ input. answers s (ended_lines input)) (λ input. answers s (lines input)) (g.R.Source.remaining c.args.reader.now) (g.R.Source.remaining c.serve_store.new.reader) (g.W.Sink.written c.args.writer.now)
     (g.W.Sink.written c.serve_store.new.writer)))
     c.in_ok-plain.ensures.opened c.serve_store.ensures.fault
+
+pub returns-clause-unread : goal.returns-clause-unread
+returns-clause-unread g c = λ is.
+    subst
+    (λ s. ServesEnded (λ input. answers s (ended_lines input)) (g.R.Source.remaining c.args.reader.now) (g.R.Source.remaining c.serve_store.new.reader) (g.W.Sink.written c.args.writer.now)
+    (g.W.Sink.written c.serve_store.new.writer))
+    c.in_ok-plain.ensures.opened (c.serve_store.ensures.unread is)
 
 pub returns-clause-capacity : goal.returns-clause-capacity
 returns-clause-capacity g c = (

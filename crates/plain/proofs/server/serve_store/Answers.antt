@@ -1,7 +1,8 @@
-use Rattle.std.proofs.Common.{◌≡◌, ◌+◌, ◌≤◌, [], take, ap, arith, length-take, ◌∙◌}
+use Rattle.std.proofs.Common.{◌≡◌, ◌+◌, ◌≤◌, ◌<◌, [], length, take, ap, arith, length-take, ◌∙◌}
+use Rattle.std.specs.Option.{IfSome}
 use Rattle.plain.specs.Streams.{Takes}
 use Rattle.plain.proofs.Flows.{if_none, if_some}
-use Rattle.plain.proofs.Servings.{on_err, Serving-next, Serving-fault, Serving-unread, Serving-last}
+use Rattle.plain.proofs.Servings.{on_err, Serving-next, Serving-fault, Serving-unread, Serving-ended, Serving-last}
 use Rattle.plain.proofs.server.serve_store.Goals as goal
 
 pub returns-in_err-count-clause-fault : goal.returns-in_err-count-clause-fault
@@ -41,5 +42,15 @@ returns-clause-fault g c =
     let taken : Takes (g.R.Source.remaining c.reads.reader) (take c.in_ok-count.count c.read.new.room) (g.R.Source.remaining c.read.new.self) =
     if_some (λ n. Takes (g.R.Source.remaining c.reads.reader) (take n c.read.new.room) (g.R.Source.remaining c.read.new.self)) c.read.result c.in_ok-count.count
     c.in_ok-count.ensures.ok_part c.read.ensures.taken in
+    let over : IfSome (g.R.Source.remaining c.reads.reader) (λ l. l ≡ []) =
+    if_some (λ n. n ≡ 0 → 0 < length c.reads.room → IfSome (g.R.Source.remaining c.reads.reader) (λ l. l ≡ [])) c.read.result c.in_ok-count.count
+    c.in_ok-count.ensures.ok_part c.read.ensures.ended c.if-count-eq0.true (omega (arith, c.requires, c.reads.auto.room)) in
     Serving-last c.answer_rest.result _ _ _ _ _ _ _ _ _ _ _ c.reads.invariant.serving taken (ap (λ n. take n c.read.new.room) c.if-count-eq0.true)
+    over
     c.answer_rest.ensures.fault
+
+pub returns-in_err-count-clause-unread : goal.returns-in_err-count-clause-unread
+returns-in_err-count-clause-unread g c = λ is.
+    let none : Takes (g.R.Source.remaining c.reads.reader) [] (g.R.Source.remaining c.read.new.self) =
+    if_none _ c.read.result c.in_err-count.ensures.ok_part c.read.ensures.kept in
+    Serving-ended _ _ _ _ _ _ _ _ _ c.reads.invariant.serving c.reads.invariant.begun none
