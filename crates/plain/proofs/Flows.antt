@@ -1,6 +1,6 @@
 -- What was taken from a reader and put into a writer, one part after another.
 use Rattle.std.proofs.Common.{◌≡◌, ℕ, ◌-◌, List, [], ◌++◌, length, take, drop, refl, sym, ◌∙◌, ap, subst, arith, append_assoc, append-nil, length-drop, take_all, take-append-drop, Option, Some, None}
-use Rattle.std.specs.Option.{IfSome, IfNone}
+use Rattle.std.specs.Option.{IfSome}
 use Rattle.plain.specs.Streams.{Takes, Puts, PutsPart}
 
 pub Puts-none : (o : Option (List ℕ)) → Puts o [] o
@@ -59,9 +59,3 @@ pub Takes-nothing : (a b : Option (List ℕ)) (piece : List ℕ) → piece ≡ [
 Takes-nothing a b piece none e h =
     let r : Takes (Some []) [] b = subst (λ o. Takes o [] b) e (subst (λ t. Takes a t b) none h) in
     r.2 ∙ ap Some (sym r.1)
-
-pub if_none : (P : Type 0) (o : Option ℕ) → o ≡ None → IfNone o P → P
-if_none P o e h = subst (λ r. IfNone r P) e h
-
-pub if_some : (P : ℕ → Type 0) (o : Option ℕ) (n : ℕ) → o ≡ Some n → IfSome o P → P n
-if_some P o n e h = subst (λ r. IfSome r P) e h

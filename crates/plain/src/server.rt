@@ -168,7 +168,10 @@ fn serve_store<R: Source, W: Sink>(
         lines: 0,
     };
     'reads: loop {
-        let count = reader.read(room).ok_or(ServeFault::Read)?;
+        let Some(count) = reader.read(room) else {
+            drop(cut);
+            return Err(ServeFault::Read);
+        };
         if count == 0 {
             break;
         }

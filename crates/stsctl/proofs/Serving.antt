@@ -1,5 +1,5 @@
 -- What `clap` found for `serve` is what the words ask for.
-use Rattle.std.proofs.Common.{◌≡◌, ℕ, Bool, true, false, List, [], Option, Some, None, Result, Ok, Err, codes, refl, sym, ap, subst, ◌∙◌, MatchBool, MatchOption}
+use Rattle.std.proofs.Common.{◌≡◌, ℕ, inl, Bool, true, false, List, [], Option, Some, None, Result, Ok, Err, codes, refl, sym, ap, subst, ◌∙◌, MatchBool, MatchOption}
 use Rattle.std.specs.Prelude.{Box, option_map, unwrap_or, if◌then◌else◌}
 use Rattle.std.specs.Box.{box_value}
 use Rattle.std.specs.Str.{bytes_eq}
@@ -12,7 +12,7 @@ use Rattle.clap.specs.declared.parser.matches.ArgMatches.TheViews.{out-ArgMatche
 use Rattle.clap.specs.declared.parser.matches.SubCommand.{SubCommand}
 use Rattle.clap.proofs.OnLiterals.{clap_on_literals}
 use Rattle.clap.proofs.WalkLemmas.{one_text-rows}
-use Rattle.plain.specs.Served.{served}
+use Rattle.plain.specs.Served.{served_so_far}
 use Rattle.plain.specs.Streams.{PutsPart, Takes}
 use Rattle.plain.proofs.Flows.{PutsPart-none, Takes-none}
 use Rattle.stsctl.specs.Serving.{ServesSome}
@@ -99,8 +99,8 @@ asked-some (Some text) = (_, λ numeral low. refl)
 pub serves_nothing : (words : List Text) (had left before after : Option (List ℕ)) → left ≡ had → after ≡ before → ServesSome words had left before after
 serves_nothing words had left before after same_left same_after =
     let asked = asked-some (capacity_text words) in
-    let text : List ℕ = served asked.0 [] in (
+    let text : List ℕ = served_so_far asked.0 [] in (
       asked.0,
       asked.1,
-      ([], subst (λ o. Takes had [] o) (sym same_left) (Takes-none had), subst (λ o. PutsPart before text o) (sym same_after) (PutsPart-none before text)),
+      ([], subst (λ o. Takes had [] o) (sym same_left) (Takes-none had), inl (subst (λ o. PutsPart before text o) (sym same_after) (PutsPart-none before text))),
     )

@@ -2,7 +2,7 @@
 use Rattle.std.specs.Prelude.{◌≡◌, ◌≤◌, ◌<◌, ℕ, List, [], Option, Some}
 use Rattle.std.specs.Option.{IfSome}
 use Rattle.clap.specs.Words.{Text}
-use Rattle.plain.specs.Served.{served}
+use Rattle.plain.specs.Served.{served, served_so_far}
 use Rattle.plain.specs.Streams.{Puts, ServesPart}
 use Rattle.stsctl.specs.Grammar.{AsksFor, faults_of}
 
@@ -15,10 +15,11 @@ abbrev pub Serves : List Text → Option (List ℕ) → Option (List ℕ) → Op
 Serves words had left before after =
     (capacity : ℕ) × AsksFor words capacity × (1 ≤ capacity) × (capacity ≤ 1048576) × ServesAll capacity had left before after
 
--- Some of the reader's bytes were read, and a beginning of what that store answers to them was written.
+-- Some of the reader's bytes were read, and a beginning of what that store answers to the lines that ended was written, or
+-- of what it answers to all lines where the reader came to its end.
 abbrev pub ServesSome : List Text → Option (List ℕ) → Option (List ℕ) → Option (List ℕ) → Option (List ℕ) → Type 0
 ServesSome words had left before after =
-    (capacity : ℕ) × AsksFor words capacity × ServesPart (served capacity) had left before after
+    (capacity : ℕ) × AsksFor words capacity × ServesPart (served_so_far capacity) (served capacity) had left before after
 
 -- no store has room for so many revisions
 abbrev pub IsOutOfRange : ℕ → Type 0

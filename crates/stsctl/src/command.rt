@@ -3,7 +3,7 @@ ghost use Rattle.std.specs.Prelude.{◌≡◌, ◌≢◌, ◌≤◌, ◌<◌, �
 ghost use Rattle.std.specs.List.{list_any};
 ghost use Rattle.clap.specs.Words.{FailsBy, app_of, kind_of};
 ghost use Rattle.plain.specs.Streams.{Puts, ServesPart};
-ghost use Rattle.plain.specs.Served.{served};
+ghost use Rattle.plain.specs.Served.{served, served_so_far};
 ghost use Rattle.plain.specs.TheConstants.{MOST_REVISIONS};
 ghost use Rattle.stsctl.specs.Grammar.{AsksFor, faults_of, is_mistake, is_request, stsctl_app};
 ghost use Rattle.stsctl.specs.Serving.{AsksOutOfRange, IsOutOfRange, Serves, ServesAll, ServesSome};
@@ -81,8 +81,8 @@ fn served<R: Source, W: Sink>(heap: &mut Heap, reader: &mut R, writer: &mut W, c
     ensures range { result ≡ SUCCESS → (1 ≤ capacity) × (capacity ≤ MOST_REVISIONS) }
     ensures all { result ≡ SUCCESS → ServesAll capacity (R.remaining reader.old) (R.remaining reader.new)
         (W.written writer.old) (W.written writer.new) }
-    ensures part { result ≢ SUCCESS → ServesPart (served capacity) (R.remaining reader.old) (R.remaining reader.new)
-        (W.written writer.old) (W.written writer.new) }
+    ensures part { result ≢ SUCCESS → ServesPart (served_so_far capacity) (served capacity)
+        (R.remaining reader.old) (R.remaining reader.new) (W.written writer.old) (W.written writer.new) }
     ensures cause { result ≢ SUCCESS → (R.failures reader.old < R.failures reader.new) ⊎ ((W.failures writer.old < W.failures writer.new)
         ⊎ ((heap.new.refused ≡ true) ⊎ IsOutOfRange capacity)) }
     ensures memory { result ≡ SUCCESS → heap.new.refused ≡ heap.old.refused }
