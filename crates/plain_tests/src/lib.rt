@@ -5,9 +5,13 @@
 #[cfg(test)]
 mod asserts;
 #[cfg(test)]
+mod beside;
+#[cfg(test)]
 mod growths;
 #[cfg(test)]
 mod lists;
+#[cfg(test)]
+mod past;
 #[cfg(test)]
 mod pieces;
 #[cfg(test)]

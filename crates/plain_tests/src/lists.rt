@@ -82,7 +82,7 @@ static ORDERED: [(&str, &str); 18] = [
     ),
     // Other members are passed over, a name too.
     (
-        r#"{"do":"list","kind":"Pod","name":"b","namespace":"default-a","resourceVersion":1}"#,
+        r#"{"do":"list","kind":"Pod","name":"b","namespace":"default-a","uid":1}"#,
         r#"{"code":200,"items":[{"kind":"Pod","metadata":{"generation":1,"name":"a","namespace":"default-a","resourceVersion":"8","uid":"00000000-0000-4000-8000-000000000008"}}],"resourceVersion":"9","result":"Listed"}"#,
     ),
     (
@@ -138,7 +138,12 @@ fn listed(reply: &Reply) -> Option<(usize, u64)> {
 fn list(alloc: Global, plain: &mut Plain, namespace: &str) -> Result<Reply, Fail> {
     let namespace = Text::copy_of(alloc, namespace)?;
     let kind = Kind::Pod;
-    Ok(plain.take(Request::List { kind, namespace })?)
+    let exact = 0;
+    Ok(plain.take(Request::List {
+        kind,
+        namespace,
+        exact,
+    })?)
 }
 
 /// Asserts that the pods of that namespace are so many.
@@ -179,13 +184,17 @@ fn a_namespace_that_no_object_can_be_in_has_none(rt: HostRuntime) -> Result<(), 
 }
 
 /// Requests, and the names of the keys that they name.
-static KEYS: [(&str, Option<&str>); 6] = [
+static KEYS: [(&str, Option<&str>); 7] = [
     (
         r#"{"do":"create","object":{"kind":"Pod","metadata":{"name":"a"}}}"#,
         Some("a"),
     ),
     (r#"{"do":"get","kind":"Pod","name":"b"}"#, Some("b")),
     (r#"{"do":"list","kind":"Pod","name":"b"}"#, None),
+    (
+        r#"{"do":"compact","kind":"Pod","name":"b","resourceVersion":"1"}"#,
+        None,
+    ),
     (
         r#"{"do":"update","object":{"kind":"Pod","metadata":{"name":"c"}}}"#,
         Some("c"),
@@ -217,7 +226,7 @@ fn assert_names(
 }
 
 #[test]
-fn a_list_names_no_key(rt: HostRuntime) -> Result<(), Fail> {
+fn lists_and_compactions_name_no_key(rt: HostRuntime) -> Result<(), Fail> {
     for (line, expected) in KEYS.iter() {
         assert_names(&rt, rt.alloc(), line, *expected)?;
     }

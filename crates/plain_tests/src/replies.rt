@@ -19,6 +19,7 @@ fn outcome(reply: &Reply) -> &'static str {
         Reply::Unchanged(_) => "Unchanged",
         Reply::Marked(_) => "Marked",
         Reply::Removed(_) => "Removed",
+        Reply::Compacted { revision: _ } => "Compacted",
         Reply::Refused(reason) => reason.name(),
     }
 }
@@ -35,6 +36,7 @@ fn object_in(reply: &Reply) -> Option<&Object> {
             objects: _,
             revision: _,
         }
+        | Reply::Compacted { revision: _ }
         | Reply::Refused(_) => None,
     }
 }
@@ -94,7 +96,7 @@ fn assert_takes_all(
     rt: &impl Abort,
     alloc: Global,
     capacity: u64,
-    rows: &[(&str, (&str, u64, u64, &str))],
+    rows: &[Row],
 ) -> Result<(), Fail> {
     let mut plain = Plain::new(alloc, capacity)?;
     for (line, expected) in rows {
@@ -112,9 +114,12 @@ const UPDATE: &str =
 
 const CREATE_OTHER: &str = r#"{"do":"create","object":{"kind":"Pod","metadata":{"name":"y"}}}"#;
 
-/// Lines to a new store of much room, with the name of each reply, and the resource version, the number of the UID and
-/// the label of its object (0, 0 and nothing in a refusal).
-static ROWS: [(&str, (&str, u64, u64, &str)); 24] = [
+/// A line, the name of its reply, and the resource version, the number of the UID and the label of the reply's object
+/// (0, 0 and nothing in a refusal).
+type Row = (&'static str, (&'static str, u64, u64, &'static str));
+
+/// A pod is looked for, made, made again, read and changed.
+static MADE_AND_CHANGED: [Row; 7] = [
     (GET, ("NotFound", 0, 0, "")),
     (UPDATE, ("NotFound", 0, 0, "")),
     (CREATE, ("Created", 1, 1, "")),
@@ -122,7 +127,17 @@ static ROWS: [(&str, (&str, u64, u64, &str)); 24] = [
     (GET, ("Found", 1, 1, "")),
     (UPDATE, ("Updated", 2, 1, "b")),
     (GET, ("Found", 2, 1, "b")),
-    // Nothing would change, so no number is drawn: the members' order does not count, nor does what the store sets.
+];
+
+#[test]
+fn a_pod_is_made_and_changed(rt: HostRuntime) -> Result<(), Fail> {
+    assert_takes_all(&rt, rt.alloc(), 1_048_576, MADE_AND_CHANGED.as_slice())
+}
+
+/// The members' order does not count, nor does what the store sets.
+static UNCHANGED: [Row; 4] = [
+    (CREATE, ("Created", 1, 1, "")),
+    (UPDATE, ("Updated", 2, 1, "b")),
     (
         r#"{"do":"update","object":{"kind":"Pod","metadata":{"labels":{"a":"b"},"name":"web-0","resourceVersion":""}}}"#,
         ("Unchanged", 2, 1, "b"),
@@ -131,18 +146,37 @@ static ROWS: [(&str, (&str, u64, u64, &str)); 24] = [
         r#"{"do":"update","object":{"metadata":{"generation":9,"resourceVersion":"2","name":"web-0","labels":{"a":"b"}},"kind":"Pod"}}"#,
         ("Unchanged", 2, 1, "b"),
     ),
-    // The version that it names is no longer current.
-    (UPDATE, ("Conflict", 0, 0, "")),
-    // A version that is given is refused before the name is looked up.
+];
+
+#[test]
+fn what_changes_nothing_draws_no_number(rt: HostRuntime) -> Result<(), Fail> {
+    assert_takes_all(&rt, rt.alloc(), 1_048_576, UNCHANGED.as_slice())
+}
+
+/// A version that is given to a creation is refused before the name is looked up.
+static CREATED_AT: [Row; 3] = [
+    (CREATE, ("Created", 1, 1, "")),
     (
-        r#"{"do":"create","object":{"kind":"Pod","metadata":{"name":"web-0","resourceVersion":"2"}}}"#,
+        r#"{"do":"create","object":{"kind":"Pod","metadata":{"name":"web-0","resourceVersion":"1"}}}"#,
         ("Invalid", 0, 0, ""),
     ),
     (
         r#"{"do":"create","object":{"kind":"Pod","metadata":{"name":"web-1","resourceVersion":"x"}}}"#,
         ("Invalid", 0, 0, ""),
     ),
-    // Versions and UIDs are compared as texts.
+];
+
+#[test]
+fn a_creation_names_no_version(rt: HostRuntime) -> Result<(), Fail> {
+    assert_takes_all(&rt, rt.alloc(), 1_048_576, CREATED_AT.as_slice())
+}
+
+/// Versions and UIDs are compared as texts, and a refusal changes nothing. With no version and no UID an update is
+/// unconditional, and an empty text is none.
+static PRECONDITIONS: [Row; 10] = [
+    (CREATE, ("Created", 1, 1, "")),
+    (UPDATE, ("Updated", 2, 1, "b")),
+    (UPDATE, ("Conflict", 0, 0, "")),
     (
         r#"{"do":"update","object":{"kind":"Pod","metadata":{"name":"web-0","resourceVersion":"02"}}}"#,
         ("Conflict", 0, 0, ""),
@@ -155,13 +189,11 @@ static ROWS: [(&str, (&str, u64, u64, &str)); 24] = [
         r#"{"do":"update","object":{"kind":"Pod","metadata":{"name":"web-0","resourceVersion":"2","uid":"1"}}}"#,
         ("Conflict", 0, 0, ""),
     ),
-    // Nothing that was refused has changed anything.
     (GET, ("Found", 2, 1, "b")),
     (
         r#"{"do":"update","object":{"kind":"Pod","metadata":{"labels":{"a":"c"},"name":"web-0","resourceVersion":"2","uid":"00000000-0000-4000-8000-000000000001","generation":7}}}"#,
         ("Updated", 3, 1, "c"),
     ),
-    // With no version and no UID an update is unconditional, and an empty text is none.
     (
         r#"{"do":"update","object":{"kind":"Pod","metadata":{"name":"web-0","resourceVersion":"","uid":null}}}"#,
         ("Updated", 4, 1, ""),
@@ -170,7 +202,16 @@ static ROWS: [(&str, (&str, u64, u64, &str)); 24] = [
         r#"{"do":"update","object":{"kind":"Pod","metadata":{"name":"web-0"}}}"#,
         ("Unchanged", 4, 1, ""),
     ),
-    // Other keys: by namespace, by kind, by name. A UID that is handed in does not count.
+];
+
+#[test]
+fn an_update_may_name_a_version_and_a_uid(rt: HostRuntime) -> Result<(), Fail> {
+    assert_takes_all(&rt, rt.alloc(), 1_048_576, PRECONDITIONS.as_slice())
+}
+
+/// Keys differ by namespace, by kind and by name. A UID that is handed in with a creation does not count.
+static OTHER_KEYS: [Row; 6] = [
+    (CREATE, ("Created", 1, 1, "")),
     (
         r#"{"do":"get","kind":"Pod","name":"web-0","namespace":"other"}"#,
         ("NotFound", 0, 0, ""),
@@ -181,25 +222,25 @@ static ROWS: [(&str, (&str, u64, u64, &str)); 24] = [
     ),
     (
         r#"{"do":"create","object":{"kind":"Pod","metadata":{"name":"web-0","namespace":"other","uid":"x"}}}"#,
-        ("Created", 5, 5, ""),
+        ("Created", 2, 2, ""),
     ),
     (
         r#"{"do":"get","kind":"Pod","name":"web-0","namespace":"other"}"#,
-        ("Found", 5, 5, ""),
+        ("Found", 2, 2, ""),
     ),
     (
         r#"{"do":"get","kind":"Pod","name":"web-0","namespace":"default"}"#,
-        ("Found", 4, 1, ""),
+        ("Found", 1, 1, ""),
     ),
 ];
 
 #[test]
-fn requests_are_taken_in_order(rt: HostRuntime) -> Result<(), Fail> {
-    assert_takes_all(&rt, rt.alloc(), 1_048_576, ROWS.as_slice())
+fn a_name_in_another_namespace_is_another_pod(rt: HostRuntime) -> Result<(), Fail> {
+    assert_takes_all(&rt, rt.alloc(), 1_048_576, OTHER_KEYS.as_slice())
 }
 
 /// Lines to a new store of one revision.
-static ROWS_OF_ONE: [(&str, (&str, u64, u64, &str)); 8] = [
+static FULL: [Row; 8] = [
     (CREATE, ("Created", 1, 1, "")),
     // A request that would be refused anyway has its own reason.
     (CREATE, ("AlreadyExists", 0, 0, "")),
@@ -223,7 +264,7 @@ static ROWS_OF_ONE: [(&str, (&str, u64, u64, &str)); 8] = [
 
 #[test]
 fn a_store_is_full_at_its_capacity(rt: HostRuntime) -> Result<(), Fail> {
-    assert_takes_all(&rt, rt.alloc(), 1, ROWS_OF_ONE.as_slice())
+    assert_takes_all(&rt, rt.alloc(), 1, FULL.as_slice())
 }
 
 const MARK: &str = r#"{"at":"2024-01-01T00:00:00Z","do":"delete","kind":"Pod","name":"web-0"}"#;
@@ -231,7 +272,7 @@ const MARK: &str = r#"{"at":"2024-01-01T00:00:00Z","do":"delete","kind":"Pod","n
 const DELETE: &str = r#"{"do":"delete","kind":"Pod","name":"web-0"}"#;
 
 /// Lines to a new store of much room, as above: a pod is marked, goes, and comes again.
-static ROWS_OF_DELETION: [(&str, (&str, u64, u64, &str)); 22] = [
+static DELETIONS: [Row; 22] = [
     (DELETE, ("NotFound", 0, 0, "")),
     (CREATE, ("Created", 1, 1, "")),
     (MARK, ("Marked", 2, 1, "")),
@@ -286,7 +327,7 @@ static ROWS_OF_DELETION: [(&str, (&str, u64, u64, &str)); 22] = [
 
 #[test]
 fn pods_are_marked_before_they_go(rt: HostRuntime) -> Result<(), Fail> {
-    assert_takes_all(&rt, rt.alloc(), 1_048_576, ROWS_OF_DELETION.as_slice())
+    assert_takes_all(&rt, rt.alloc(), 1_048_576, DELETIONS.as_slice())
 }
 
 /// The time of the deletion that marks an object, or an empty text.

@@ -6,7 +6,7 @@ use std::process::Abort;
 use std::test::Fail;
 
 /// Lines that are no request, each with the first refusal that fits.
-static REFUSED: [(&str, RequestError); 44] = [
+static REFUSED: [(&str, RequestError); 69] = [
     ("", RequestError::Read(ReadError::NotJson)),
     ("{", RequestError::Read(ReadError::NotJson)),
     (
@@ -125,6 +125,102 @@ static REFUSED: [(&str, RequestError); 44] = [
         r#"{"do":"list","kind":"Pod","namespace":5}"#,
         RequestError::Read(ReadError::BadName),
     ),
+    // A resource version of a list that is none of the store's; it is tested last.
+    (
+        r#"{"do":"list","kind":"Pod","resourceVersion":1}"#,
+        RequestError::BadField,
+    ),
+    (
+        r#"{"do":"list","kind":"Pod","resourceVersion":true}"#,
+        RequestError::BadField,
+    ),
+    (
+        r#"{"do":"list","kind":"Pod","resourceVersion":[]}"#,
+        RequestError::BadField,
+    ),
+    (
+        r#"{"do":"list","kind":"Pod","resourceVersion":{}}"#,
+        RequestError::BadField,
+    ),
+    (
+        r#"{"do":"list","kind":"Pod","resourceVersion":"01"}"#,
+        RequestError::BadField,
+    ),
+    (
+        r#"{"do":"list","kind":"Pod","resourceVersion":"00"}"#,
+        RequestError::BadField,
+    ),
+    (
+        r#"{"do":"list","kind":"Pod","resourceVersion":"+1"}"#,
+        RequestError::BadField,
+    ),
+    (
+        r#"{"do":"list","kind":"Pod","resourceVersion":"-1"}"#,
+        RequestError::BadField,
+    ),
+    (
+        r#"{"do":"list","kind":"Pod","resourceVersion":" 1"}"#,
+        RequestError::BadField,
+    ),
+    (
+        r#"{"do":"list","kind":"Pod","resourceVersion":"1 "}"#,
+        RequestError::BadField,
+    ),
+    (
+        r#"{"do":"list","kind":"Pod","resourceVersion":"1.0"}"#,
+        RequestError::BadField,
+    ),
+    (
+        r#"{"do":"list","kind":"Pod","resourceVersion":"x"}"#,
+        RequestError::BadField,
+    ),
+    (
+        r#"{"do":"list","kind":"Pod","resourceVersion":"18446744073709551616"}"#,
+        RequestError::BadField,
+    ),
+    (
+        r#"{"do":"list","resourceVersion":1}"#,
+        RequestError::Read(ReadError::NoKind),
+    ),
+    (
+        r#"{"do":"list","kind":"Node","resourceVersion":1}"#,
+        RequestError::Read(ReadError::UnknownKind),
+    ),
+    (
+        r#"{"do":"list","kind":"Pod","namespace":"X","resourceVersion":"x"}"#,
+        RequestError::Read(ReadError::BadName),
+    ),
+    // A compaction has to name a resource version of the store's.
+    (r#"{"do":"compact"}"#, RequestError::BadField),
+    (
+        r#"{"do":"compact","resourceVersion":null}"#,
+        RequestError::BadField,
+    ),
+    (
+        r#"{"do":"compact","resourceVersion":""}"#,
+        RequestError::BadField,
+    ),
+    (
+        r#"{"do":"compact","resourceVersion":"0"}"#,
+        RequestError::BadField,
+    ),
+    (
+        r#"{"do":"compact","resourceVersion":"02"}"#,
+        RequestError::BadField,
+    ),
+    (
+        r#"{"do":"compact","resourceVersion":2}"#,
+        RequestError::BadField,
+    ),
+    (
+        r#"{"do":"compact","resourceVersion":"18446744073709551616"}"#,
+        RequestError::BadField,
+    ),
+    (r#"{"do":"compact","to":"2"}"#, RequestError::BadField),
+    (
+        r#"{"do":"Compact","resourceVersion":"2"}"#,
+        RequestError::UnknownVerb,
+    ),
     // A deletion: the key first, and then each field that is no text.
     (
         r#"{"do":"delete","object":{"kind":"Pod","metadata":{"name":"x"}}}"#,
@@ -204,7 +300,11 @@ fn gets(request: &Request, kind: Kind, namespace: &str, name: &str) -> bool {
 
 fn lists(request: &Request, of: Kind, within: &str) -> bool {
     match request {
-        Request::List { kind, namespace } => *kind == of && namespace.as_str() == within,
+        Request::List {
+            kind,
+            namespace,
+            exact,
+        } => *kind == of && namespace.as_str() == within && *exact == 0,
         _ => false,
     }
 }
@@ -308,6 +408,59 @@ fn lines_that_are_requests(rt: HostRuntime) -> Result<(), Fail> {
     Ok(())
 }
 
+/// Lines of lists and of compactions, and the numbers that they name.
+static NUMBERS: [(&str, u64); 11] = [
+    (r#"{"do":"list","kind":"Pod"}"#, 0),
+    (r#"{"do":"list","kind":"Pod","resourceVersion":null}"#, 0),
+    (r#"{"do":"list","kind":"Pod","resourceVersion":""}"#, 0),
+    (r#"{"do":"list","kind":"Pod","resourceVersion":"0"}"#, 0),
+    (r#"{"do":"list","kind":"Pod","resourceVersion":"1"}"#, 1),
+    (r#"{"do":"list","kind":"Pod","resourceVersion":"10"}"#, 10),
+    (
+        r#"{"do":"list","kind":"Pod","resourceVersion":"18446744073709551615"}"#,
+        u64::MAX,
+    ),
+    (r#"{"do":"compact","resourceVersion":"1"}"#, 1),
+    (r#"{"do":"compact","resourceVersion":"907"}"#, 907),
+    (
+        r#"{"do":"compact","kind":5,"resourceVersion":"18446744073709551615"}"#,
+        u64::MAX,
+    ),
+    // What such a line names is no key, and its other members are passed over.
+    (
+        r#"{"name":"X","resourceVersion":"2","do":"list","kind":"Pod"}"#,
+        2,
+    ),
+];
+
+/// The number that a list or a compaction names.
+fn number_in(request: &Request) -> Option<u64> {
+    match request {
+        Request::List {
+            kind: _,
+            namespace: _,
+            exact,
+        } => Some(*exact),
+        Request::Compact { to } => Some(*to),
+        _ => None,
+    }
+}
+
+fn number_of(alloc: Global, line: &str) -> Result<Option<u64>, Fail> {
+    let request = read_request(alloc, line.as_bytes())?;
+    let number = number_in(&request);
+    drop(request);
+    Ok(number)
+}
+
+#[test]
+fn lists_and_compactions_name_numbers(rt: HostRuntime) -> Result<(), Fail> {
+    for (line, expected) in NUMBERS.iter() {
+        assert_eq!(rt; number_of(rt.alloc(), line)?, Some(*expected), "of {line}");
+    }
+    Ok(())
+}
+
 /// The names of refusals.
 static NAMES: [(RequestError, &str); 10] = [
     (RequestError::NoVerb, "NoVerb"),
@@ -323,12 +476,14 @@ static NAMES: [(RequestError, &str); 10] = [
 ];
 
 /// The codes and the names of reasons.
-static REASONS: [(Reason, u16, &str); 5] = [
+static REASONS: [(Reason, u16, &str); 7] = [
     (Reason::NotFound, 404, "NotFound"),
     (Reason::AlreadyExists, 409, "AlreadyExists"),
     (Reason::Conflict, 409, "Conflict"),
     (Reason::Invalid, 422, "Invalid"),
     (Reason::StoreFull, 507, "StoreFull"),
+    (Reason::Expired, 410, "Expired"),
+    (Reason::TooLarge, 504, "TooLarge"),
 ];
 
 fn assert_error(rt: &impl Abort, error: RequestError, name: &str) {

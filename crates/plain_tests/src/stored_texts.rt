@@ -1,6 +1,7 @@
 //! Replies that copy the texts that the store keeps: as lines, as objects that are read back, and as the texts themselves.
 //! The texts were worked out by hand.
-ghost use Rattle.std.specs.Prelude.{◌≡◌, true, false};
+ghost use Rattle.std.specs.Prelude.{◌≡◌, true};
+ghost use Rattle.plain.specs.Route.{is_read};
 ghost use Rattle.plain.specs.Verdict.{is_write};
 
 use crate::asserts::assert_answers_within;
@@ -164,7 +165,7 @@ pub(crate) fn texts_in(alloc: Global, reply: &Reply) -> Result<String, Memory> {
             objects,
             revision: _,
         } => joined_objects(alloc, objects.as_slice()),
-        Reply::Refused(_) => Ok(String::new(alloc)),
+        Reply::Compacted { revision: _ } | Reply::Refused(_) => Ok(String::new(alloc)),
     }
 }
 
@@ -202,7 +203,7 @@ fn stored_texts(alloc: Global, stored: &StoredReply) -> Result<String, AllocErro
             }
             Ok(texts)
         }
-        StoredReply::Refused(_) => Ok(String::new(alloc)),
+        StoredReply::Compacted { revision: _ } | StoredReply::Refused(_) => Ok(texts),
     }
 }
 
@@ -226,7 +227,7 @@ fn written(alloc: Global, plain: &mut Plain, request: Request) -> Result<String,
 
 /// The texts that the store answers a get or a list with.
 fn read(alloc: Global, plain: &Plain, request: &Request) -> Result<String, Memory>
-    requires { is_write request.now ≡ false }
+    requires { is_read request.now ≡ true }
 {
     let stored = plain.read(request)?;
     let texts = stored_texts(alloc, &stored);
@@ -234,12 +235,25 @@ fn read(alloc: Global, plain: &Plain, request: &Request) -> Result<String, Memor
     Ok(texts?)
 }
 
+/// The texts that the store answers a request with that is no write.
+fn unwritten(alloc: Global, plain: &mut Plain, request: &Request) -> Result<String, Memory> {
+    match request {
+        Request::Get(_)
+        | Request::List {
+            kind: _,
+            namespace: _,
+            exact: _,
+        } => read(alloc, plain, request),
+        _ => Ok(String::new(alloc)),
+    }
+}
+
 fn kept(alloc: Global, plain: &mut Plain, line: &str) -> Result<String, Fail> {
     let request = read_request(alloc, line.as_bytes())?;
     if request.is_write() {
         return Ok(written(alloc, plain, request)?);
     }
-    let texts = read(alloc, plain, &request);
+    let texts = unwritten(alloc, plain, &request);
     drop(request);
     Ok(texts?)
 }

@@ -90,19 +90,32 @@ fn a_line_at_the_limit_is_read(rt: HostRuntime) -> Result<(), Fail> {
     Ok(assert_answers(&rt, rt.alloc(), input.as_slice(), 1000, Ok(1), NOT_JSON)?)
 }
 
+/// Asserts what is answered to these bytes where the reader fails behind them.
+fn assert_torn(
+    rt: &impl Abort,
+    alloc: Global,
+    bytes: &[u8],
+    expected: &[u8],
+) -> Result<(), AllocError> {
+    let mut sink = BufferSink::with_room(alloc, 100)?;
+    let mut source = ReadSource::new(Torn { left: bytes });
+    let ends = Err(ServeFault::Read);
+    assert_ends(rt, alloc, &mut source, &mut sink, 1, ends);
+    assert_eq!(rt; sink.bytes(), expected);
+    Ok(())
+}
+
 #[test]
-fn what_was_read_before_a_failure_is_answered(rt: HostRuntime) -> Result<(), Fail> {
-    let mut sink = BufferSink::with_room(rt.alloc(), 100)?;
-    let mut source = ReadSource::new(Torn { left: b"{}\n" });
-    assert_ends(
-        &rt,
-        rt.alloc(),
-        &mut source,
-        &mut sink,
-        1,
-        Err(ServeFault::Read),
-    );
-    assert_eq!(rt; sink.bytes(), NO_VERB);
+fn lines_that_ended_before_a_failure_are_answered(rt: HostRuntime) -> Result<(), Fail> {
+    for (bytes, expected) in [
+        (b"{}\n".as_slice(), NO_VERB),
+        // A line that is cut off is not.
+        (b"{}\n{}".as_slice(), NO_VERB),
+        (b"{}".as_slice(), b"".as_slice()),
+        (b"".as_slice(), b"".as_slice()),
+    ] {
+        assert_torn(&rt, rt.alloc(), bytes, expected)?;
+    }
     Ok(())
 }
 
