@@ -1,0 +1,37 @@
+-- The words of a plan (Kubernetes, "StatefulSets": "Pod Identity", "Deployment and Scaling Guarantees").
+use Rattle.std.specs.Prelude.{ℕ, ◌+◌, Bool, true, false, not, ◌&&◌, nat_le, nat_lt, bytes_eq, Option, Some, None, option_and_then, if◌then◌else◌}
+use Rattle.std.specs.Option.{option_map_or}
+use Rattle.set_views.specs.declared.readiness.Readiness.{Readiness}
+use Rattle.set_views.specs.declared.readiness.Readiness.TheVariants.{Failed, Ready, NotReady}
+use Rattle.set_views.specs.Owners.{is_controlled}
+use Rattle.set_views.specs.Pod.{PodParts}
+use Rattle.set_views.specs.Set.{SetParts}
+
+-- the ordinals from `start` on, as many as there are replicas
+abbrev pub in_range : SetParts → ℕ → Bool
+in_range set i = nat_le set.start i && nat_lt i (set.start + set.replicas)
+
+-- the ordinal of a pod with a name of the set
+abbrev pub ordinal_in : SetParts → PodParts → Option ℕ
+ordinal_in set pod = option_and_then (λ s. if bytes_eq s.0 set.object.key.name then Some s.1 else None) pod.place
+
+-- the set controls the pod
+abbrev pub is_owned : SetParts → PodParts → Bool
+is_owned set pod = is_controlled set.object.meta.uid pod.owners
+
+-- an owned pod with the name of an ordinal in range
+abbrev pub is_target : SetParts → PodParts → Bool
+is_target set pod = is_owned set pod && option_map_or (in_range set) (ordinal_in set pod) false
+
+-- an owned pod with the name of another ordinal
+abbrev pub is_condemned : SetParts → PodParts → Bool
+is_condemned set pod = is_owned set pod && option_map_or (λ i. not (in_range set i)) (ordinal_in set pod) false
+
+abbrev pub is_ready : Readiness → Bool
+is_ready Ready = true
+is_ready NotReady = false
+is_ready Failed = false
+
+-- running and ready, and not on its way out
+abbrev pub is_healthy : PodParts → Bool
+is_healthy pod = is_ready pod.readiness && not pod.terminating

@@ -1,0 +1,20 @@
+//! A StatefulSet and its pods as a plan sees them: what is read of them, and the words that they are judged by.
+#![tactic(auto)]
+
+mod claims;
+mod fault;
+mod owners;
+mod pod;
+mod policies;
+mod readiness;
+mod reading;
+mod set;
+mod values;
+mod words;
+
+pub use fault::PlanError;
+pub use pod::{PodView, read_pod};
+pub use policies::{Policy, Retention, Strategy};
+pub use readiness::Readiness;
+pub use reading::read_set;
+pub use set::Set;
