@@ -1,7 +1,7 @@
 -- What was taken from a reader and put into a writer, one part after another.
-use Rattle.std.proofs.Common.{◌≡◌, ℕ, ◌-◌, List, [], ◌++◌, length, take, drop, refl, sym, ◌∙◌, ap, subst, arith, append_assoc, append-nil, length-drop, take_all, take-append-drop, Option, Some, None}
+use Rattle.std.proofs.Common.{◌≡◌, ℕ, ◌+◌, ◌-◌, ◌≤◌, List, [], ◌++◌, length, take, drop, refl, sym, ◌∙◌, ap, subst, arith, append_assoc, append-nil, length-drop, length-take-le, length-append, take_all, take-append-drop, Option, Some, None}
 use Rattle.std.specs.Option.{IfSome}
-use Rattle.plain.specs.Streams.{Takes, Puts, PutsPart}
+use Rattle.plain.specs.Streams.{Takes, Puts, PutsPart, UsesRoom}
 
 pub Puts-none : (o : Option (List ℕ)) → Puts o [] o
 Puts-none None = tt
@@ -23,6 +23,32 @@ PutsBefore-next old now new bytes rest later n (text, e, p) q l =
       text ++ take n rest,
       e ∙ (ap (λ t. text ++ t) (sym (take-append-drop n rest) ∙ ap (λ t. take n rest ++ t) (sym whole)) ∙ sym (append_assoc text (take n rest) later)),
       Puts-then old now new text (take n rest) p q,
+    )
+
+pub UsesRoom-none : (o : Option ℕ) → UsesRoom o 0 o
+UsesRoom-none None = tt
+UsesRoom-none (Some r) = omega arith
+
+pub UsesRoom-then : (a b c : Option ℕ) (m n : ℕ) → UsesRoom a m b → UsesRoom b n c → UsesRoom a (m + n) c
+UsesRoom-then None b c m n p q = tt
+UsesRoom-then (Some r) None c m n p q = elim p [ ]
+UsesRoom-then (Some r) (Some s) None m n p q = elim q [ ]
+UsesRoom-then (Some r) (Some s) (Some t) m n p q = omega arith
+
+-- what stands before the rest used this much of the room
+abbrev pub RoomBefore : Option ℕ → List ℕ → List ℕ → Option ℕ → Type 0
+RoomBefore old bytes rest new = (text : List ℕ) × (bytes ≡ text ++ rest) × UsesRoom old (length text) new
+
+pub RoomBefore-none : (o : Option ℕ) (bytes : List ℕ) → RoomBefore o bytes bytes o
+RoomBefore-none o bytes = ([], refl, UsesRoom-none o)
+
+pub RoomBefore-next : (old now new : Option ℕ) (bytes rest later : List ℕ) (n : ℕ) → RoomBefore old bytes rest now → UsesRoom now n new → n ≤ length rest → later ≡ take (length rest - n) (drop n rest) → RoomBefore old bytes later new
+RoomBefore-next old now new bytes rest later n (text, e, p) q fits l =
+    let whole : later ≡ drop n rest = l ∙ take_all (length rest - n) (drop n rest) (rw length-drop (omega arith)) in
+    let used : length (text ++ take n rest) ≡ length text + n = length-append text (take n rest) ∙ ap (λ k. length text + k) (length-take-le n rest fits) in (
+      text ++ take n rest,
+      e ∙ (ap (λ t. text ++ t) (sym (take-append-drop n rest) ∙ ap (λ t. take n rest ++ t) (sym whole)) ∙ sym (append_assoc text (take n rest) later)),
+      subst (λ k. UsesRoom old k new) (sym used) (UsesRoom-then old now new (length text) n p q),
     )
 
 pub Takes-none : (o : Option (List ℕ)) → Takes o [] o

@@ -1,5 +1,5 @@
 -- What a reader has left and what a writer was given, where the device tells.
-use Rattle.std.specs.Prelude.{◌≡◌, ◌⊎◌, ℕ, List, [], ◌++◌, Option, Some, None, ⊤}
+use Rattle.std.specs.Prelude.{◌≡◌, ◌≤◌, ◌<◌, ◌+◌, ◌⊎◌, ℕ, List, [], ◌++◌, length, Option, Some, None, ⊤}
 use Rattle.std.specs.Option.{IfSome}
 
 -- these bytes were taken from the front of what was left
@@ -15,6 +15,22 @@ Puts (Some written) put new = new ≡ Some (written ++ put)
 -- a beginning of these bytes was put after what was there
 abbrev pub PutsPart : Option (List ℕ) → List ℕ → Option (List ℕ) → Type 0
 PutsPart old bytes new = (text : List ℕ) × (more : List ℕ) × (bytes ≡ text ++ more) × Puts old text new
+
+-- of the room that there was, so many bytes were used, at most
+abbrev pub UsesRoom : Option ℕ → ℕ → Option ℕ → Type 0
+UsesRoom None used new = ⊤
+UsesRoom (Some room) used None = ⊥
+UsesRoom (Some room) used (Some left) = room ≤ left + used
+
+-- the room is too little for these bytes
+abbrev pub LacksRoom : Option ℕ → List ℕ → Type 0
+LacksRoom None bytes = ⊤
+LacksRoom (Some room) bytes = room < length bytes
+
+-- there is no room left, and there are bytes
+abbrev pub IsFull : Option ℕ → List ℕ → Type 0
+IsFull None bytes = ⊤
+IsFull (Some room) bytes = (room ≡ 0) × (0 < length bytes)
 
 -- A serving that ended early, from what the reader had and has left and what the writer had and has. Of the bytes that
 -- were read a beginning of the replies was written: of those to the lines that ended, or of those to all lines where the

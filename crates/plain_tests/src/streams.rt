@@ -59,6 +59,14 @@ fn bytes_are_written_until_the_writer_fails(rt: HostRuntime) -> Result<(), Fail>
 }
 
 #[test]
+fn a_full_buffer_takes_no_bytes_but_none_of_them(rt: HostRuntime) -> Result<(), Fail> {
+    let mut sink = BufferSink::with_room(rt.alloc(), 0)?;
+    assert_eq!(rt; sink.write(b""), Some(0));
+    assert_eq!(rt; sink.write(b"a"), None);
+    Ok(())
+}
+
+#[test]
 fn no_line_follows_an_empty_input(rt: HostRuntime) -> Result<(), Fail> {
     Ok(assert_answers(&rt, rt.alloc(), b"", 100, Ok(0), b"")?)
 }

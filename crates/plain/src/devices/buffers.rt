@@ -1,10 +1,10 @@
-ghost use Rattle.std.specs.Prelude.{◌≡◌, ◌≤◌, ℕ, List, [], length, Some, IfOk, vec_capacity};
+ghost use Rattle.std.specs.Prelude.{◌≡◌, ◌≤◌, ◌-◌, ℕ, List, [], length, Some, IfOk, IfSome, vec_capacity, vec_len};
 
 use crate::devices::failures::Failures;
 use crate::devices::stream::Sink;
 use std::alloc::{AllocError, Global};
 
-/// Writes into a buffer whose room was made beforehand. It fails where the buffer is full.
+/// Writes into a buffer whose room was made beforehand. It fails exactly where it is full and there is a byte to write.
 #[derive(Drop)]
 pub struct BufferSink {
     bytes: Vec<u8>,
@@ -15,7 +15,7 @@ impl BufferSink {
     /// An empty buffer with room for so many bytes.
     pub fn with_room(alloc: Global, room: usize) -> Result<BufferSink, AllocError>
         ensures empty { IfOk result (λ sink. ⟦<BufferSink as Sink>⟧.written sink ≡ Some []) }
-        ensures room { IfOk result (λ sink. room ≤ vec_capacity sink.bytes) }
+        ensures room { IfOk result (λ sink. IfSome (⟦<BufferSink as Sink>⟧.room sink) (λ free. room ≤ free)) }
     {
         Ok(BufferSink {
             bytes: Vec::with_capacity(alloc, room)?,
@@ -35,6 +35,8 @@ impl Sink for BufferSink {
     ghost written = { λ s. Some s.bytes.items };
 
     ghost failures = { λ s. s.failures.count };
+
+    ghost room = { λ s. Some (vec_capacity s.bytes - vec_len s.bytes) };
 
     fn write(&mut self, bytes: &[u8]) -> Option<usize> {
         let free = self.bytes.capacity().saturating_sub(self.bytes.len());

@@ -1,5 +1,5 @@
-ghost use Rattle.std.specs.Prelude.{◌≡◌, ◌≤◌, ◌<◌, ◌+◌, ◌^◌, ℕ, List, [], length, take, Option, IfSome, IfNone, OnSome};
-ghost use Rattle.plain.specs.Streams.{Takes, Puts, PutsPart};
+ghost use Rattle.std.specs.Prelude.{◌≡◌, ◌≤◌, ◌<◌, ◌+◌, ◌^◌, ℕ, List, [], length, take, Option, None, IfSome, IfNone, OnSome};
+ghost use Rattle.plain.specs.Streams.{Takes, Puts, PutsPart, UsesRoom, LacksRoom, IsFull};
 
 /// Where bytes come from.
 pub trait Source {
@@ -35,6 +35,9 @@ pub trait Sink {
     /// How often it has failed.
     ghost failures: { Self → ℕ };
 
+    /// How many bytes it still takes before it may fail, where the device tells.
+    ghost room: { Self → Option ℕ } = { λ _. None };
+
     /// Takes some of the bytes from the front, at least one if there is one, and answers how many. `None` is a failure.
     fn write(&mut self, bytes: &[u8]) -> Option<usize>
         ensures fits { IfSome result (λ n. n ≤ length bytes.now) }
@@ -42,7 +45,9 @@ pub trait Sink {
         ensures put { IfSome result (λ n. Puts (written self.old) (take n bytes.now) (written self.new)) }
         ensures well { OnSome result (failures self.new ≡ failures self.old) }
         ensures failed { IfNone result (failures self.old < failures self.new) }
-        ensures kept { IfNone result (Puts (written self.old) [] (written self.new)) };
+        ensures kept { IfNone result (Puts (written self.old) [] (written self.new)) }
+        ensures full { IfNone result (IsFull (room self.old) bytes.now) }
+        ensures used { IfSome result (λ n. UsesRoom (room self.old) n (room self.new)) };
 }
 
 /// Writes all of the bytes, in as many writes as it takes. After a failure some of them may be written.
@@ -51,6 +56,7 @@ pub fn write_all<W: Sink>(writer: &mut W, bytes: &[u8]) -> Option<()>
     ensures part { PutsPart (W.written writer.old) bytes.now (W.written writer.new) }
     ensures well { OnSome result (W.failures writer.new ≡ W.failures writer.old) }
     ensures failed { IfNone result (W.failures writer.old < W.failures writer.new) }
+    ensures full { IfNone result (LacksRoom (W.room writer.old) bytes.now) }
 {
     let mut rest = bytes;
     while !rest.is_empty() {
