@@ -2,6 +2,7 @@
 use Rattle.std.proofs.Common.{◌≡◌, ◌+◌, ◌==◌, ℕ, Bool, true, false, cond, not, ◌||◌, List, bytes_eq, decimal, Option, Some, None, refl, sym, ap, ◌∙◌}
 use Rattle.std.proofs.Math.Bool.{or-true}
 use Rattle.std.specs.BTreeMap.{is_at}
+use Rattle.std.specs.Option.{option_map_or}
 use Rattle.std.specs.FinMap as map
 use Rattle.std.specs.FinMap.{FinMap, get-insert, get-remove}
 use Rattle.objects.specs.declared.key.Key.{Key}
@@ -17,7 +18,7 @@ use Rattle.requests.specs.declared.reply.Reason.TheVariants.{Conflict, StoreFull
 use Rattle.requests.specs.declared.verdict.Verdict.{Verdict}
 use Rattle.requests.specs.declared.verdict.Verdict.TheVariants.{Refuse, Same, Write}
 use Rattle.requests.specs.Change.{Change, accepted, kept, stamp}
-use Rattle.requests.specs.Verdict.{deleted, differs, graceful, on_delete, verdict}
+use Rattle.requests.specs.Verdict.{deleted, differs, graceful, on_delete, stated, verdict}
 use Rattle.plain_store.specs.Store.{Store, step, carried_out, denied, put_at, routed, with_change}
 use Rattle.requests.specs.Keys.{key_named}
 use Rattle.plain_store.specs.Route.{Route, compacts, gets, lists, lists_at, route, writes}
@@ -62,11 +63,12 @@ step_elsewhere s r q other = by (route r) refl
     by (compacts n) is = ap (λ m. map.get m q) (objects_stay s n (denied s.floor s.counter n))
 
 -- a delete that names another UID than the object's
-pub spared : (s : Store) (k : Key) (uid : List ℕ) (version at : Option (List ℕ)) (current : Object)
-    → map.get s.objects k ≡ Some current → bytes_eq uid (uid_text current.meta.uid) ≡ false → step s (Delete k (Some uid) version at) ≡ (s, Refused Conflict)
+pub spared : (s : Store) (k : Key) (given version at : Option (List ℕ)) (uid : List ℕ) (current : Object)
+    → map.get s.objects k ≡ Some current → stated given ≡ Some uid → bytes_eq uid (uid_text current.meta.uid) ≡ false → step s (Delete k given version at) ≡ (s, Refused Conflict)
 unfolding step route
-spared s k uid version at current there other =
+spared s k given version at uid current there is other =
     let old = differs version (decimal current.meta.revision) in
     let then : Bool → Verdict = λ b. cond b (Refuse Conflict) (deleted (graceful current.key.kind at) current) in
-    ap (λ o. carried_out s k (on_delete version (Some uid) at o)) there
+    ap (λ o. carried_out s k (on_delete version given at o)) there
+    ∙ ap (λ g. carried_out s k (then (old || option_map_or (λ t. not (bytes_eq t (uid_text current.meta.uid))) g false))) is
     ∙ ap (λ b. carried_out s k (then (old || not b))) other ∙ ap (λ b. carried_out s k (then b)) (or-true old)

@@ -1,6 +1,6 @@
 -- What a request comes to, given the object that now has its key (Kubernetes API concepts: resource versions,
 -- UIDs, and the preconditions of a write).
-use Rattle.std.specs.Prelude.{ℕ, ◌+◌, ◌^◌, nat_lt, Bool, true, false, not, ◌||◌, ◌&&◌, List, bytes_eq, codes, decimal, Option, Some, None, is_some, if◌then◌else◌}
+use Rattle.std.specs.Prelude.{ℕ, ◌+◌, ◌^◌, nat_lt, Bool, true, false, not, ◌||◌, ◌&&◌, List, [], ◌∷◌, bytes_eq, codes, decimal, Option, Some, None, is_some, if◌then◌else◌}
 use Rattle.std.specs.Option.{option_map_or}
 use Rattle.objects.specs.declared.kind.Kind.{Kind}
 use Rattle.objects.specs.declared.kind.Kind.TheVariants.{StatefulSet, Pod, PersistentVolumeClaim, ControllerRevision}
@@ -19,9 +19,15 @@ use Rattle.requests.specs.declared.verdict.Verdict.{Verdict}
 use Rattle.requests.specs.declared.verdict.Verdict.TheVariants.{Refuse, Same, Write}
 use Rattle.requests.specs.Change.{creates, updates, marks, removes}
 
+-- an empty text counts as none
+abbrev pub stated : Option (List ℕ) → Option (List ℕ)
+stated None = None
+stated (Some []) = None
+stated (Some (c ∷ cs)) = Some (c ∷ cs)
+
 -- a text was given, and it is another one
 abbrev pub differs : Option (List ℕ) → List ℕ → Bool
-differs given current = option_map_or (λ t. not (bytes_eq t current)) given false
+differs given current = option_map_or (λ t. not (bytes_eq t current)) (stated given) false
 
 -- the resource version or the UID that was given is not that of the current object
 abbrev pub conflicts : Option (List ℕ) → Option (List ℕ) → Object → Bool
@@ -59,7 +65,7 @@ generation_after g same_spec = if same_spec then g else if nat_lt (g + 1) (2 ^ 6
 -- A create may not name a resource version, and its name has to be free.
 abbrev pub on_create : Draft → Option Object → Verdict
 on_create d current =
-    if is_some d.version then Refuse Invalid
+    if is_some (stated d.version) then Refuse Invalid
     else if is_some current then Refuse AlreadyExists
     else Write (creates (born d.object))
 
@@ -121,7 +127,7 @@ marked at o = record {
 -- Only a pod is deleted gracefully; for the other kinds a time is passed over.
 abbrev pub graceful : Kind → Option (List ℕ) → Option (List ℕ)
 graceful StatefulSet at = None
-graceful Pod at = at
+graceful Pod at = stated at
 graceful PersistentVolumeClaim at = None
 graceful ControllerRevision at = None
 

@@ -1,12 +1,20 @@
 // What the verdicts turn on: the preconditions of a request, and whether it would change anything.
 ghost use Rattle.std.specs.Prelude.{◌≡◌, List, ℕ, Option, codes, is_some, option_map, decimal, ◌<◌, ◌^◌};
 ghost use Rattle.std.specs.Option.{option_copied};
-ghost use Rattle.requests.specs.Verdict.{changes_data, conflicts, differs, generation_after, graceful, has_status, same_found, same_member};
+ghost use Rattle.requests.specs.Verdict.{changes_data, conflicts, differs, generation_after, graceful, has_status, same_found, same_member, stated};
 ghost use Rattle.objects.specs.Tree.{data_of};
 ghost use Rattle.objects.specs.Same.{same_data};
 ghost use Rattle.objects.specs.Uid.{uid_text};
 
 use objects::{Draft, Kind, Object, Text, Tree, is_uid_text, is_version_text};
+
+/// The text that was given. An empty one counts as none, as it does in a request line.
+pub(crate) fn stated(given: Option<&Text>) -> Option<&str>
+    ensures { option_map (λ s. s.now) result ≡ stated (option_copied given.entry) }
+{
+    let text = given?.as_str();
+    if text.is_empty() { None } else { Some(text) }
+}
 
 /// Whether a resource version or a UID is given that is not the object's.
 pub(crate) fn conflicts(version: Option<&Text>, uid: Option<&Text>, current: &Object) -> bool
@@ -19,8 +27,8 @@ pub(crate) fn conflicts(version: Option<&Text>, uid: Option<&Text>, current: &Ob
 fn differs_in_version(given: Option<&Text>, revision: u64) -> bool
     ensures { result ≡ differs (option_copied given.entry) (decimal revision) }
 {
-    match given {
-        Some(version) => !is_version_text(version.as_str(), revision),
+    match stated(given) {
+        Some(version) => !is_version_text(version, revision),
         None => false,
     }
 }
@@ -29,8 +37,8 @@ fn differs_in_uid(given: Option<&Text>, number: u64) -> bool
     requires { number < 2 ^ 48 }
     ensures { result ≡ differs (option_copied given.entry) (uid_text number) }
 {
-    match given {
-        Some(uid) => !is_uid_text(uid.as_str(), number),
+    match stated(given) {
+        Some(uid) => !is_uid_text(uid, number),
         None => false,
     }
 }
@@ -98,12 +106,21 @@ pub(crate) fn generation_after(generation: u64, same_spec: bool) -> u64
     }
 }
 
+fn stated_time(at: Option<Text>) -> Option<Text>
+    ensures { result ≡ stated at }
+{
+    match stated(at.as_ref()) {
+        Some(_) => at,
+        None => None,
+    }
+}
+
 /// The time of a graceful deletion, which only a pod has.
 pub(crate) fn graceful(current: &Object, at: Option<Text>) -> Option<Text>
     ensures { result ≡ graceful current.now.key.kind at }
 {
     match current.key.kind {
-        Kind::Pod => at,
+        Kind::Pod => stated_time(at),
         Kind::StatefulSet | Kind::PersistentVolumeClaim | Kind::ControllerRevision => None,
     }
 }

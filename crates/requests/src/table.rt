@@ -8,7 +8,7 @@ use crate::change::Change;
 use crate::form::Form;
 use crate::outcomes::{born, marked, updated, with_status_of};
 use crate::preconditions::{
-    changes_data, conflicts, graceful, has_status, is_marked, is_same_body, is_same_status,
+    changes_data, conflicts, graceful, has_status, is_marked, is_same_body, is_same_status, stated,
 };
 use crate::reply::Reason;
 use crate::request::Request;
@@ -67,7 +67,7 @@ pub fn judge(current: Option<&Object>, request: Request) -> Result<Judgment, All
 fn on_create(draft: Draft, current: Option<&Object>) -> Result<Judgment, AllocError>
     ensures { IfOk result (λ decided. verdict_of decided ≡ on_create draft (option_copied current.entry)) }
 {
-    if draft.version.is_some() {
+    if stated(draft.version.as_ref()).is_some() {
         drop(draft);
         return Ok(Judgment::Refuse(Reason::Invalid));
     }
