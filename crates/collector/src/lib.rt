@@ -1,0 +1,9 @@
+//! The collector of claims: which PersistentVolumeClaims nobody owns any more, and the requests that delete them.
+#![tactic(auto)]
+
+mod deletes;
+mod laws;
+mod listed;
+
+pub use deletes::collect;
+pub use laws::{collected_claims_are_collectable, owned_claims_stay};

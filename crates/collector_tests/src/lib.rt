@@ -1,0 +1,10 @@
+//! What crate `collector` answers, by tables whose values were worked out by hand. Tests are a crate of their own, so that
+//! a library is proved once, and they reach only what it makes public.
+#![tactic(auto)]
+
+#[cfg(test)]
+mod collections;
+#[cfg(test)]
+mod growths;
+#[cfg(test)]
+mod texts;
