@@ -6,15 +6,15 @@ use Rattle.requests.specs.declared.request.Request.{Request}
 use Rattle.collector.specs.Collectable.{is_collectable, is_listed, deletion, collected, Among}
 
 pub collected-first : (claim : Object) (rest : List Object) (owners : List (List Object)) (at : ℕ) (b : Bool) → b ≡ is_collectable at (is_listed owners) claim
-  → collected (claim ∷ rest) owners at ≡ cond b (deletion claim ∷ collected rest owners at) (collected rest owners at)
+    → collected (claim ∷ rest) owners at ≡ cond b (deletion claim ∷ collected rest owners at) (collected rest owners at)
 collected-first claim rest owners at true e =
     ap (λ b. map deletion (cond b (claim ∷ filter (is_collectable at (is_listed owners)) rest) (filter (is_collectable at (is_listed owners)) rest))) (sym e)
 collected-first claim rest owners at false e =
     ap (λ b. map deletion (cond b (claim ∷ filter (is_collectable at (is_listed owners)) rest) (filter (is_collectable at (is_listed owners)) rest))) (sym e)
 
 pub collected-next : (claims : List Object) (i : ℕ) (claim : Object) (owners : List (List Object)) (at : ℕ) (b : Bool) → i < length claims → claim ≡ get_or claims i claim
-  → b ≡ is_collectable at (is_listed owners) claim
-  → collected (drop i claims) owners at ≡ cond b (deletion claim ∷ collected (drop (i + 1) claims) owners at) (collected (drop (i + 1) claims) owners at)
+    → b ≡ is_collectable at (is_listed owners) claim
+    → collected (drop i claims) owners at ≡ cond b (deletion claim ∷ collected (drop (i + 1) claims) owners at) (collected (drop (i + 1) claims) owners at)
 collected-next claims i claim owners at b lt is e =
     at_drop_more (λ cs. collected cs owners at) claims i claim lt
     ∙ (ap (λ c. collected (c ∷ drop (i + 1) claims) owners at) (sym is) ∙ collected-first claim (drop (i + 1) claims) owners at b e)
@@ -23,21 +23,21 @@ pub put-next : (put whole rest later : List Request) (request : Request) → put
 put-next put whole rest later request e r = append_assoc put (request ∷ []) later ∙ (ap (λ t. put ++ t) (sym r) ∙ e)
 
 later : (claim : Object) (rest : List Object) (owners : List (List Object)) (at : ℕ) (request : Request)
-  → ((found : Object) × (Among found rest × ((is_collectable at (is_listed owners) found ≡ true) × (request ≡ deletion found))))
-  → (found : Object) × (Among found (claim ∷ rest) × ((is_collectable at (is_listed owners) found ≡ true) × (request ≡ deletion found)))
+    → ((found : Object) × (Among found rest × ((is_collectable at (is_listed owners) found ≡ true) × (request ≡ deletion found))))
+    → (found : Object) × (Among found (claim ∷ rest) × ((is_collectable at (is_listed owners) found ≡ true) × (request ≡ deletion found)))
 later claim rest owners at request (found, (among, is)) = (found, (inr among, is))
 
 first : (claim : Object) (rest : List Object) (owners : List (List Object)) (at : ℕ) (request : Request) (b : Bool) → is_collectable at (is_listed owners) claim ≡ b
-  → (Among request (collected rest owners at) → (found : Object) × (Among found rest × ((is_collectable at (is_listed owners) found ≡ true) × (request ≡ deletion found))))
-  → Among request (cond b (deletion claim ∷ collected rest owners at) (collected rest owners at))
-  → (found : Object) × (Among found (claim ∷ rest) × ((is_collectable at (is_listed owners) found ≡ true) × (request ≡ deletion found)))
+    → (Among request (collected rest owners at) → (found : Object) × (Among found rest × ((is_collectable at (is_listed owners) found ≡ true) × (request ≡ deletion found))))
+    → Among request (cond b (deletion claim ∷ collected rest owners at) (collected rest owners at))
+    → (found : Object) × (Among found (claim ∷ rest) × ((is_collectable at (is_listed owners) found ≡ true) × (request ≡ deletion found)))
 first claim rest owners at request true e go (inl is) = (claim, (inl refl, (e, is)))
 first claim rest owners at request true e go (inr h) = later claim rest owners at request (go h)
 first claim rest owners at request false e go h = later claim rest owners at request (go h)
 
 -- the claim of a request that is collected
 pub claim_of : (claims : List Object) (owners : List (List Object)) (at : ℕ) (request : Request) → Among request (collected claims owners at)
-  → (claim : Object) × (Among claim claims × ((is_collectable at (is_listed owners) claim ≡ true) × (request ≡ deletion claim)))
+    → (claim : Object) × (Among claim claims × ((is_collectable at (is_listed owners) claim ≡ true) × (request ≡ deletion claim)))
 claim_of [] owners at request h = elim h [ ]
 claim_of (claim ∷ rest) owners at request h =
     let b = is_collectable at (is_listed owners) claim in
