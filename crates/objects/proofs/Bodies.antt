@@ -1,6 +1,6 @@
 -- The body of an object: its metadata without the held members.
-use Rattle.std.proofs.Common.{◌≡◌, ℕ, List, [], ◌∷◌, Bool, true, false, not, filter, cond, Option, Some, None, Ok, refl, sym, ap, ◌∙◌, subst}
-use Rattle.std.specs.Prelude.{codes, bytes_eq, option_and_then}
+use Rattle.std.proofs.Common.{◌≡◌, ◌≢◌, ℕ, List, [], ◌∷◌, Bool, true, false, not, filter, cond, Option, Some, None, Ok, refl, sym, ap, ◌∙◌, subst}
+use Rattle.std.specs.Prelude.{codes, bytes_eq, option_and_then, ◌||◌}
 use Rattle.std.proofs.lemmas.Bool.{and_parts}
 use Rattle.std.proofs.lemmas.Slice.Eq.{bytes_eq-Decides}
 use Rattle.serde_json.specs.Data.{Data, null, boolean, number, string, array, object, Members, no_members, member, put}
@@ -17,7 +17,8 @@ use Rattle.objects.specs.Object.{is_held, without_held, has_held, is_missing_or,
 use Rattle.objects.specs.Steps.{◌>>=◌, required, guarded}
 use Rattle.objects.specs.Reading.{kind_in}
 use Rattle.trees.specs.Members.{set_member}
-use Rattle.objects.specs.Status.{with_member}
+use Rattle.objects.specs.Status.{with_member, is_identity}
+use Rattle.objects.specs.New.{new_body}
 use Rattle.trees.proofs.SetMembers.{get_member-set_member}
 use Rattle.objects.proofs.HeldMembers.{unheld_found}
 
@@ -122,17 +123,62 @@ is_object (number n) ms h = absurd cc
 is_object (string s) ms h = absurd cc
 is_object (array ds) ms h = absurd cc
 
--- a status that is set or taken away leaves what a body has to say
-pub body_with_status : (kind : Kind) (value : Option Data) (body : Data) → IsBody kind body → IsBody kind (with_member (codes "status") value body)
-body_with_status kind value body h =
-    subst (λ b. IsBody kind (with_member (codes "status") value b)) (sym h.whole) (record {
-      members = set_member (codes "status") value h.members;
+-- a member that is set or taken away leaves what a body has to say, unless it says that
+body_with : (k : List ℕ) (kind : Kind) (value : Option Data) (body : Data) → codes "kind" ≢ k → codes "apiVersion" ≢ k → codes "metadata" ≢ k → IsBody kind body → IsBody kind (with_member k value body)
+body_with k kind value body not_kind not_version not_metadata h =
+    subst (λ b. IsBody kind (with_member k value b)) (sym h.whole) (record {
+      members = set_member k value h.members;
       metadata = h.metadata;
       whole = refl;
-      kind_said = get_member-set_member (codes "kind") (codes "status") value h.members (λ e. absurd cc) ∙ h.kind_said;
-      version_said = ap (is_missing_or (api_version kind)) (get_member-set_member (codes "apiVersion") (codes "status") value h.members (λ e. absurd cc)) ∙ h.version_said;
-      metadata_said = get_member-set_member (codes "metadata") (codes "status") value h.members (λ e. absurd cc) ∙ h.metadata_said;
+      kind_said = get_member-set_member (codes "kind") k value h.members not_kind ∙ h.kind_said;
+      version_said = ap (is_missing_or (api_version kind)) (get_member-set_member (codes "apiVersion") k value h.members not_version) ∙ h.version_said;
+      metadata_said = get_member-set_member (codes "metadata") k value h.members not_metadata ∙ h.metadata_said;
       none_held = h.none_held;
       labels_said = h.labels_said;
       owners_said = h.owners_said;
     })
+
+pub body_with_status : (kind : Kind) (value : Option Data) (body : Data) → IsBody kind body → IsBody kind (with_member (codes "status") value body)
+body_with_status kind value body h = body_with (codes "status") kind value body (λ e. absurd cc) (λ e. absurd cc) (λ e. absurd cc) h
+
+-- a key that is none of these is none of them
+other_by : (a b c : Bool) → (a || b || c) ≡ false → (a ≡ false) × (b ≡ false) × (c ≡ false)
+other_by true b c h = absurd cc
+other_by false true c h = absurd cc
+other_by false false true h = absurd cc
+other_by false false false h = (refl, refl, refl)
+
+differs : (k word : List ℕ) → bytes_eq k word ≡ false → word ≢ k
+differs k word h e = let same : bytes_eq k word ≡ true = (bytes_eq-Decides k word).1 (sym e) in cc
+
+pub body_with_member : (k : List ℕ) (kind : Kind) (value : Option Data) (body : Data) → is_identity k ≡ false → IsBody kind body → IsBody kind (with_member k value body)
+body_with_member k kind value body other h =
+    let parts = other_by (bytes_eq k (codes "apiVersion")) (bytes_eq k (codes "kind")) (bytes_eq k (codes "metadata")) other in
+    body_with k kind value body (differs k (codes "kind") parts.1) (differs k (codes "apiVersion") parts.0) (differs k (codes "metadata") parts.2) h
+
+-- what a new body says
+pub new_body_said : (kind : Kind) (metadata ms : Members) → has_held metadata ≡ false → metadata_fits metadata ≡ true → IsBody kind (new_body kind metadata ms)
+new_body_said kind metadata ms unheld fits =
+    let parts = fits_parts metadata fits in
+    let versioned = put (codes "apiVersion") (string (api_version kind)) ms in
+    let named = put (codes "kind") (string (kind_name kind)) versioned in
+    let version : get_member (codes "apiVersion") (put (codes "metadata") (object metadata) named) ≡ Some (string (api_version kind)) =
+        get_member-put_other (codes "apiVersion") (codes "metadata") (object metadata) named (λ e. absurd cc)
+        ∙ (get_member-put_other (codes "apiVersion") (codes "kind") (string (kind_name kind)) versioned (λ e. absurd cc) ∙ get_member-put (codes "apiVersion") (string (api_version kind)) ms) in
+    record {
+      members = put (codes "metadata") (object metadata) named;
+      metadata = metadata;
+      whole = refl;
+      kind_said = get_member-put_other (codes "kind") (codes "metadata") (object metadata) named (λ e. absurd cc) ∙ get_member-put (codes "kind") (string (kind_name kind)) versioned;
+      version_said = ap (is_missing_or (api_version kind)) version ∙ (bytes_eq-Decides (api_version kind) (api_version kind)).1 refl;
+      metadata_said = get_member-put (codes "metadata") (object metadata) named;
+      none_held = unheld;
+      labels_said = parts.0;
+      owners_said = parts.1;
+    }
+
+-- a new body, member by member
+pub new_body_is : (kind : Kind) (metadata ms versioned named whole : Members) (version name : List ℕ) → version ≡ api_version kind → name ≡ kind_name kind
+    → versioned ≡ put (codes "apiVersion") (string version) ms → named ≡ put (codes "kind") (string name) versioned → whole ≡ put (codes "metadata") (object metadata) named
+    → new_body kind metadata ms ≡ object whole
+new_body_is kind metadata ms versioned named whole version name version_is name_is versioned_is named_is whole_is = rw (whole_is, named_is, versioned_is, version_is, name_is) refl

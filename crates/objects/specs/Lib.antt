@@ -14,6 +14,7 @@ pub mod KeyOrder
 pub mod Meta
 pub mod MetadataShape
 pub mod Object
+pub mod New
 pub mod Metadata
 pub mod Status
 pub mod Steps

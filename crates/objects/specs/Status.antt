@@ -1,6 +1,6 @@
 -- Members of an object's body by their keys, and members that are set or taken away: `status` is written by a request
 -- of its own, and kept by all others (Kubernetes API conventions, "Spec and Status").
-use Rattle.std.specs.Prelude.{ℕ, List, Option, option_and_then}
+use Rattle.std.specs.Prelude.{ℕ, Bool, ◌||◌, List, codes, bytes_eq, Option, option_and_then}
 use Rattle.serde_json.specs.Data.{Data, object}
 use Rattle.serde_json.specs.Find.{get_member, as_object}
 use Rattle.trees.specs.Members.{set_member}
@@ -13,3 +13,7 @@ member_of k body = option_and_then (get_member k) (as_object body)
 abbrev pub with_member : List ℕ → Option Data → Data → Data
 with_member k value (object ms) = object (set_member k value ms)
 with_member k value d = d
+
+-- the members that say what an object is, and name it
+abbrev pub is_identity : List ℕ → Bool
+is_identity k = bytes_eq k (codes "apiVersion") || bytes_eq k (codes "kind") || bytes_eq k (codes "metadata")

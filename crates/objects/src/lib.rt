@@ -35,7 +35,7 @@ pub use shard::shard_of;
 pub use status::only_the_set_member_changes;
 pub use trees::{
     Items, Members, Memory, Text, Tree, TreeError, TreeReader, Whole, place_of, read_tree,
-    same_is_reflexive, same_values_are_equal, write_entries, write_tree,
+    same_is_reflexive, same_values_are_equal, tree_text, write_entries, write_tree,
 };
 pub use uid::{
     is_uid_text, is_version_text, uid_number, uid_text, uid_texts_read_back, version_number,

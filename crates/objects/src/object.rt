@@ -1,10 +1,13 @@
-ghost use Rattle.std.specs.Prelude.{◌≡◌};
+ghost use Rattle.std.specs.Prelude.{◌≡◌, IfOk, false, true};
+ghost use Rattle.objects.specs.MetadataShape.{metadata_fits};
+ghost use Rattle.objects.specs.New.{new_object};
+ghost use Rattle.objects.specs.Object.{has_held};
 
 use crate::key::Key;
 use crate::meta::Meta;
-use std::alloc::AllocError;
+use std::alloc::{AllocError, Global};
 use std::marker::Model;
-use trees::{Text, Tree};
+use trees::{Members, Text, Tree};
 
 /// An object. The body holds all members as they were read, `kind` among them, but the six of `metadata` that the
 /// key and the meta hold: `name`, `namespace`, `uid`, `resourceVersion`, `generation` and `deletionTimestamp`.
@@ -28,6 +31,37 @@ impl Model for Object {
     ghost view = { λ o. record { key = o.key; meta = o.meta; body = data_of o.body } };
 
     ghost invariant = { λ o. IsBody o.key.kind (data_of o.body) };
+}
+
+impl Object {
+    /// An object that is to be made: the store knows nothing of it yet. `metadata` has what the key does not say, and
+    /// `members` are the object's other members, as `spec`; its kind and API version are those of the key.
+    pub fn of(
+        alloc: Global,
+        key: Key,
+        metadata: Members,
+        members: Members,
+    ) -> Result<Object, AllocError>
+        requires unheld { has_held metadata ≡ false }
+        requires fits { metadata_fits metadata ≡ true }
+        ensures { IfOk result (λ object. object ≡ new_object key metadata members) }
+    {
+        let version = Text::copy_of(alloc, key.kind.api_version())?;
+        let kind = Text::copy_of(alloc, key.kind.name())?;
+        let versioned = members.with("apiVersion", Some(Tree::Text(version)))?;
+        let named = versioned.with("kind", Some(Tree::Text(kind)))?;
+        let whole = named.with("metadata", Some(Tree::Map(metadata)))?;
+        Ok(Object {
+            key,
+            meta: Meta {
+                uid: 0,
+                revision: 0,
+                generation: 0,
+                deletion: None,
+            },
+            body: Tree::Map(whole),
+        })
+    }
 }
 
 impl Clone for Object {

@@ -1,7 +1,7 @@
-ghost use Rattle.std.specs.Prelude.{◌≡◌, ◌≢◌, ℕ, List, Option, option_map, codes, IfOk};
+ghost use Rattle.std.specs.Prelude.{◌≡◌, ◌≢◌, ℕ, List, Option, option_map, codes, IfOk, false};
 ghost use Rattle.serde_json.specs.Data.{Data, Members, object};
 ghost use Rattle.trees.specs.Tree.{data_of};
-ghost use Rattle.objects.specs.Status.{member_of, with_member};
+ghost use Rattle.objects.specs.Status.{is_identity, member_of, with_member};
 
 use crate::object::Object;
 use std::alloc::AllocError;
@@ -29,6 +29,22 @@ impl Object {
             key,
             meta,
             body: with_member(body, "status", status)?,
+        })
+    }
+
+    /// The object with that value of a member, or without the member where there is no value. It is no member that says
+    /// what the object is: `apiVersion`, `kind` and `metadata` stay.
+    pub fn with_member(self, name: &str, value: Option<Tree>) -> Result<Object, AllocError>
+        requires { is_identity name.now ≡ false }
+        ensures key { IfOk result (λ object. object.key ≡ self.key) }
+        ensures meta { IfOk result (λ object. object.meta ≡ self.meta) }
+        ensures body { IfOk result (λ object. object.body ≡ with_member name.now (option_map data_of value) self.body) }
+    {
+        let Object { key, meta, body } = self;
+        Ok(Object {
+            key,
+            meta,
+            body: with_member(body, name, value)?,
         })
     }
 }

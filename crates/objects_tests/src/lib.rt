@@ -9,6 +9,8 @@ mod growths;
 #[cfg(test)]
 mod keys;
 #[cfg(test)]
+mod made;
+#[cfg(test)]
 mod metadata;
 #[cfg(test)]
 mod parsing;

@@ -22,4 +22,4 @@ pub use same::{same_is_reflexive, same_values_are_equal};
 pub use text::Text;
 pub use tree::{Items, Members, Tree};
 pub use whole::Whole;
-pub use write::{write_entries, write_tree};
+pub use write::{tree_text, write_entries, write_tree};

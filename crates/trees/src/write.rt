@@ -1,17 +1,17 @@
 // Trees as JSON tokens, with no copy.
-ghost use Rattle.std.specs.Prelude.{◌≡◌, ◌++◌, ◌∷◌, [], Some, OnOk};
+ghost use Rattle.std.specs.Prelude.{◌≡◌, ◌++◌, ◌∷◌, [], Some, IfOk, OnOk};
 ghost use Rattle.json.specs.Token.{number as number_token};
 ghost use Rattle.json.specs.Tree.{json_tokens, items_tokens, members_tokens};
 ghost use Rattle.serde_json.specs.Find.{of_integer};
 ghost use Rattle.serde_json.specs.Read.{number_of};
-ghost use Rattle.serde_json.specs.Written.{number_text, outline, items_outline, members_outline};
+ghost use Rattle.serde_json.specs.Written.{compact_text, number_text, outline, items_outline, members_outline};
 ghost use Rattle.trees.specs.Tree.{data_of, items_of, members_of};
 ghost use Rattle.trees.specs.Proper.{IsProper, AreProperItems, AreProperMembers};
 
 use crate::text::Text;
 use crate::tree::Tree;
 use json::{Token, Writer};
-use std::alloc::AllocError;
+use std::alloc::{AllocError, Global};
 
 /// Writes a tree in the place of a value: with the writer's other tokens it makes compact JSON, keys in byte order.
 /// Where memory runs out, a part of its tokens may be written.
@@ -62,4 +62,13 @@ pub fn write_entries(entries: &[(Text, Tree)], out: &mut Writer) -> Result<(), A
         write_tree(value, out)?;
     }
     out.end_object()
+}
+
+/// The tree as compact JSON, its keys in byte order: the bytes that `write_tree` makes.
+pub fn tree_text(alloc: Global, tree: &Tree) -> Result<Vec<u8>, AllocError>
+    ensures { IfOk result (λ text. text.items ≡ compact_text (data_of tree.now)) }
+{
+    let mut writer = Writer::new(Vec::with_capacity(alloc, 256)?);
+    write_tree(tree, &mut writer)?;
+    Ok(writer.into_inner())
 }

@@ -1,0 +1,62 @@
+//! Objects that are to be made, members that are set, and texts of trees.
+use objects::{
+    Key, Kind, Members, Object, ReadError, Tree, print_object, read_object, read_tree, tree_text,
+};
+use std::alloc::{AllocError, Global};
+use std::test::Fail;
+
+fn members(alloc: Global) -> Result<Members, AllocError> {
+    Members::of(alloc, Vec::new(alloc))
+}
+
+#[tactic(auto, unfolding(objects::specs::MetadataShape::metadata_fits))]
+fn made(alloc: Global, spec: Tree) -> Result<Object, ReadError> {
+    let key = Key::of(alloc, Kind::PersistentVolumeClaim, "shop", "data-web-0")?;
+    let labels = Tree::Map(members(alloc)?);
+    let metadata = members(alloc)?.with("labels", Some(labels))?;
+    let others = members(alloc)?.with("spec", Some(spec))?;
+    Ok(Object::of(alloc, key, metadata, others)?)
+}
+
+#[test]
+fn an_object_is_made(rt: HostRuntime) -> Result<(), Fail> {
+    let object = made(rt.alloc(), Tree::Truth(true))?;
+    assert_eq!(rt;
+        print_object(rt.alloc(), &object)?.as_str(),
+        r#"{"apiVersion":"v1","kind":"PersistentVolumeClaim","metadata":{"labels":{},"name":"data-web-0","namespace":"shop"},"spec":true}"#
+    );
+    Ok(())
+}
+
+/// What is printed of the object with that `revision`.
+fn with_revision(alloc: Global, text: &str, revision: Option<Tree>) -> Result<String, ReadError> {
+    let draft = read_object(alloc, text.as_bytes())?;
+    let changed = draft.object.with_member("revision", revision)?;
+    Ok(print_object(alloc, &changed)?)
+}
+
+const NUMBERED: &str =
+    r#"{"apiVersion":"apps/v1","data":1,"kind":"ControllerRevision","metadata":{"name":"a","namespace":"b","resourceVersion":"7"},"revision":2}"#;
+
+#[test]
+fn members_are_set_and_taken_away(rt: HostRuntime) -> Result<(), Fail> {
+    assert_eq!(rt;
+        with_revision(rt.alloc(), NUMBERED, Some(Tree::Null))?.as_str(),
+        r#"{"apiVersion":"apps/v1","data":1,"kind":"ControllerRevision","metadata":{"name":"a","namespace":"b","resourceVersion":"7"},"revision":null}"#
+    );
+    assert_eq!(rt;
+        with_revision(rt.alloc(), NUMBERED, None)?.as_str(),
+        r#"{"apiVersion":"apps/v1","data":1,"kind":"ControllerRevision","metadata":{"name":"a","namespace":"b","resourceVersion":"7"}}"#
+    );
+    Ok(())
+}
+
+#[test]
+fn trees_have_texts(rt: HostRuntime) -> Result<(), Fail> {
+    let tree = read_tree(rt.alloc(), b" { \"b\" : [1, -2], \"a\" : {} } ")?;
+    assert_eq!(rt;
+        tree_text(rt.alloc(), &tree)?.as_slice(),
+        r#"{"a":{},"b":[1,-2]}"#.as_bytes()
+    );
+    Ok(())
+}
