@@ -1,5 +1,7 @@
 // The words of a plan.
 ghost use Rattle.std.specs.Prelude.{◌≡◌};
+ghost use Rattle.objects.specs.Metadata.{owners_of};
+ghost use Rattle.set_views.specs.Owners.{is_controlled};
 ghost use Rattle.set_views.specs.Pod.{pod_parts};
 ghost use Rattle.set_views.specs.Set.{set_parts};
 ghost use Rattle.set_views.specs.Words.{in_range, is_condemned, is_healthy, is_owned, is_target, ordinal_in};
@@ -8,6 +10,7 @@ use crate::owners::is_controlled;
 use crate::pod::PodView;
 use crate::readiness::Readiness;
 use crate::set::Set;
+use objects::Object;
 
 impl Set {
     /// Whether a pod of that ordinal is to be there.
@@ -15,6 +18,14 @@ impl Set {
         ensures { result ≡ in_range (set_parts self.now) ordinal }
     {
         self.start <= ordinal && ordinal < self.start + self.replicas
+    }
+
+    /// Whether the set is the object's controller: an entry of `metadata.ownerReferences` has its UID, and `controller`
+    /// true (Kubernetes API reference, OwnerReference).
+    pub fn controls(&self, object: &Object) -> bool
+        ensures { result ≡ is_controlled self.now.object.meta.uid (owners_of object.now.body) }
+    {
+        is_controlled(object.owners(), self.object.meta.uid)
     }
 }
 

@@ -173,7 +173,7 @@ static ROLES: [(&str, &str, bool, bool, bool); 12] = [
 fn roles_of(pod: &Object, set: &Set) -> (bool, bool, bool) {
     let view = read_pod(pod);
     (
-        view.is_owned_by(set),
+        view.is_owned_by(set) && set.controls(pod),
         view.is_target_of(set),
         view.is_condemned_by(set),
     )
