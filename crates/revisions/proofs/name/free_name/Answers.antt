@@ -1,0 +1,29 @@
+use Rattle.std.proofs.Common.{◌≡◌, ℕ, ◌+◌, ◌-◌, ◌<◌, suc, List, true, false, Some, refl, sym, ap, ◌∙◌, arith}
+use Rattle.set_views.specs.Steps.{required}
+use Rattle.set_views.specs.declared.fault.PlanError.TheVariants.{NoRevisionName}
+use Rattle.set_views.proofs.NameSets.{contains_is}
+use Rattle.revisions.specs.Listing.{has_name}
+use Rattle.revisions.specs.Name.{most_tries, revision_name}
+use Rattle.revisions.proofs.FreeNames.{free_none, free_found, free_step}
+use Rattle.revisions.proofs.name.free_name.Goals as goal
+
+pub returns-then-not-contains-clause-free : goal.returns-then-not-contains-clause-free
+returns-then-not-contains-clause-free c =
+    let name = c.as_str.ensures.value ∙ c.in_ok-name.ensures in
+    let free = sym (ap (λ s. has_name s c.args.names.now.keys) name) ∙ (sym (contains_is c.as_str.result c.args.names.now.keys) ∙ (sym c.contains.ensures ∙ c.if-not-contains.true)) in
+    ap (required NoRevisionName) (c.loop-count.invariant.0 ∙ (free_found (λ q. has_name q c.args.names.now.keys) (revision_name c.args.set.now c.args.text.now c.args.digits) c.loop-count.count
+    (c.args.from + most_tries - c.loop-count.count) (c.args.from + most_tries - (c.loop-count.count + 1)) (omega arith) free ∙ ap Some (sym c.in_ok-name.ensures)))
+
+pub loop-count-preserved : goal.loop-count-preserved
+loop-count-preserved c =
+    let name = c.as_str.ensures.value ∙ c.in_ok-name.ensures in
+    let taken = sym (ap (λ s. has_name s c.args.names.now.keys) name) ∙ (sym (contains_is c.as_str.result c.args.names.now.keys) ∙ (sym c.contains.ensures ∙ c.if-not-contains.false)) in (
+      c.loop-count.invariant.0 ∙ free_step (λ q. has_name q c.args.names.now.keys) (revision_name c.args.set.now c.args.text.now c.args.digits) c.loop-count.count
+          (c.args.from + most_tries - c.loop-count.count) (c.args.from + most_tries - (c.loop-count.count + 1)) (omega arith) taken,
+      c.loop-count.invariant.1,
+    )
+
+pub returns-clause-free : goal.returns-clause-free
+returns-clause-free c =
+    ap (required NoRevisionName) (c.loop-count.invariant.0 ∙ free_none (λ q. has_name q c.args.names.now.keys) (revision_name c.args.set.now c.args.text.now c.args.digits) c.loop-count.count
+    (c.args.from + most_tries - c.loop-count.count) (omega arith))

@@ -1,0 +1,60 @@
+-- The plan of a set's revisions: what is written before any pod is looked at, or the revisions that pods are made from.
+use Rattle.std.specs.Prelude.{◌≡◌, ℕ, ◌+◌, Bool, true, ◌&&◌, nat_le, nat_lt, List, length, map, Option, unwrap_or, Result, Ok, Err, ⊤}
+use Rattle.std.specs.Option.{is_some, option_map_or}
+use Rattle.serde_json.specs.Written.{compact_text}
+use Rattle.objects.specs.declared.object.Object.{Object}
+use Rattle.set_views.specs.declared.fault.PlanError.{PlanError}
+use Rattle.set_views.specs.declared.fault.PlanError.TheVariants.{BadSpec, NameTooLong, NoRevisionName}
+use Rattle.set_views.specs.declared.fault.PlanError.TheVariants as errors
+use Rattle.set_views.specs.Set.{SetParts}
+use Rattle.set_views.specs.Steps.{◌>>=◌, required, guarded, Gives}
+use Rattle.revisions.specs.declared.view.RevisionView.{RevisionView}
+use Rattle.revisions.specs.declared.plan.RevisionPlan.{RevisionPlan}
+use Rattle.revisions.specs.declared.plan.RevisionPlan.TheVariants.{Create, Renumber, Settled}
+use Rattle.revisions.specs.Built.{new_revision, with_number}
+use Rattle.revisions.specs.Choice.{Choice, in_place, to_renumber, to_create, choice_of, data_with, greatest, most_number, named_current, template_of}
+use Rattle.revisions.specs.Name.{first_free, most_name, most_tries, revision_name}
+use Rattle.revisions.specs.Revision.{AreOwned, is_held, listed}
+
+pub data Planned : Type 0 where
+  -- this revision is to be made
+  created : Object → Planned
+  -- this one is to be written, with its new number
+  renumbered : Object → Planned
+  -- nothing is to be written: the owned ones in order, the current one, and the update revision
+  settled : List Object → Object → Object → Planned
+
+abbrev pub objects_of : List RevisionView → List Object
+objects_of views = map (λ r. r.object.now) views
+
+abbrev pub planned_of : RevisionPlan → Planned
+planned_of (Create o) = created o
+planned_of (Renumber o) = renumbered o
+planned_of (Settled revisions) = settled (objects_of revisions.owned.items) revisions.current.object.now revisions.update.object.now
+
+-- a new revision with that number
+unfoldable pub creation : SetParts → (List ℕ → Bool) → ℕ → ℕ → Result Object PlanError
+creation set held digits n = do
+  name ← guarded NameTooLong (nat_le (length set.object.key.name + 1 + digits) most_name) set.object.key.name
+  free ← required NoRevisionName (first_free held (revision_name name (compact_text (data_with set.template)) digits) set.collisions most_tries)
+  Ok (new_revision set free n)
+
+abbrev pub plan_by : SetParts → (List ℕ → Bool) → ℕ → List Object → Choice → Result Planned PlanError
+plan_by set held digits owned (in_place update) = Ok (settled owned (unwrap_or (named_current set owned) update) update)
+plan_by set held digits owned (to_renumber o) = Ok (renumbered (with_number o (greatest owned + 1)))
+plan_by set held digits owned to_create = creation set held digits (greatest owned + 1) >>= λ o. Ok (created o)
+
+-- the next number is one of the API, and pods can be made from the current revision
+abbrev pub are_sound : SetParts → List Object → Bool
+are_sound set owned = nat_lt (greatest owned) most_number && option_map_or (λ o. is_some (template_of o)) (named_current set owned) true
+
+-- of the owned revisions in order, where those names are held
+unfoldable pub plan_of : SetParts → (List ℕ → Bool) → ℕ → List Object → Result Planned PlanError
+plan_of set held digits owned = do
+  sound ← guarded BadSpec (are_sound set owned) owned
+  plan_by set held digits sound (choice_of (data_with set.template) sound)
+
+-- what is planned of the revisions among these objects; nothing is said where memory ran out
+abbrev pub IsPlan : SetParts → List Object → ℕ → Result RevisionPlan PlanError → Type 0
+IsPlan set os digits (Err errors.Memory) = ⊤
+IsPlan set os digits result = (owned : List Object) × AreOwned set os owned × Gives planned_of result (plan_of set (is_held (listed set os)) digits owned)

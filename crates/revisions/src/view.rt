@@ -1,0 +1,47 @@
+ghost use Rattle.std.specs.Prelude.{◌≡◌, option_map};
+ghost use Rattle.objects.specs.Tree.{data_of};
+ghost use Rattle.revisions.specs.Revision.{data_in, number_of};
+
+use objects::{Object, Tree};
+
+/// A ControllerRevision as a plan sees it: what was read of it once. It borrows the object.
+#[derive(Clone, Copy)]
+pub struct RevisionView<'a> {
+    pub name: &'a str,
+    /// `revision`: of a set's revisions the greatest is the newest. What is no whole number from 0 up counts as 0.
+    pub number: u64,
+    /// The ControllerRevision itself, with its UID and version.
+    pub object: &'a Object,
+    ghost named: { name.now ≡ object.now.key.name },
+    ghost numbered: { number ≡ number_of object.now },
+}
+
+/// Reads what a plan needs of a ControllerRevision (Kubernetes API reference, apps/v1, ControllerRevision). It takes no
+/// memory.
+pub fn read_revision(revision: &Object) -> RevisionView<'_>
+    ensures { result.object.now ≡ revision.now }
+{
+    RevisionView {
+        name: revision.key.name.as_str(),
+        number: number_of(revision),
+        object: revision,
+    }
+}
+
+impl<'a> RevisionView<'a> {
+    /// `data`, which never changes: what pods are made from.
+    pub fn data(&self) -> Option<&'a Tree>
+        ensures { option_map (λ t. data_of t.now) result ≡ data_in self.now.object.now }
+    {
+        self.object.member("data")
+    }
+}
+
+fn number_of(revision: &Object) -> u64
+    ensures { result ≡ number_of revision.now }
+{
+    match revision.member("revision") {
+        Some(Tree::Whole(number)) => number.as_u64().unwrap_or(0),
+        _ => 0,
+    }
+}
