@@ -1,0 +1,34 @@
+use requests::Request;
+
+/// One atomic step of one caller, or of the frontier. An event that is not enabled where its caller stands changes
+/// nothing.
+///
+/// A write goes by `Call`, `Check`, `Reserve`, `Publish`, `Reply`; a get or a list of now by `Call`, `Read`, a `Part`
+/// for each shard that it reads, `Reply`; a list at a resource version by `ReadAt` in the place of `Read`; a compaction
+/// by `Call`, `Compact`, `Reply`.
+#[derive(Drop)]
+pub enum Event {
+    /// An idle caller calls a request.
+    Call(u64, Request),
+    /// A write is judged over the newest object of its key, unless the key's shard is held. An accepted one holds the
+    /// shard; the others wait for the frontier to reach what they saw.
+    Check(u64),
+    /// The caller that holds a shard draws the next number, or is told that the store is full.
+    Reserve(u64),
+    /// The write of the drawn number is put into its shard, the number is filled, and the shard is free.
+    Publish(u64),
+    /// The frontier goes up by one where the next number is filled.
+    Raise,
+    /// A get or a list begins, at the frontier.
+    Read(u64),
+    /// A list at a resource version begins, unless the version is below the floor or above the frontier.
+    ReadAt(u64),
+    /// A compaction sets the floor, unless its number is below the floor or above the frontier.
+    Compact(u64),
+    /// The next shard of a read answers.
+    Part(u64),
+    /// The reply is given, once the frontier has reached what it rests on.
+    Reply(u64),
+    /// The caller is gone. A write that has drawn a number stays to be published; any other request is dropped.
+    Crash(u64),
+}

@@ -1,0 +1,11 @@
+//! The interleaved core: callers that race, without a leader, over the shards of one store, and what every run of them
+//! keeps. One event is one atomic step.
+#![tactic(auto)]
+
+mod event;
+mod examples;
+mod trace;
+
+pub use event::Event;
+pub use examples::{short_orders, short_runs};
+pub use trace::{Item, Run, Trace};
