@@ -1,0 +1,15 @@
+pub mod Basics
+pub mod Values
+pub mod Plainly
+pub mod Lists
+pub mod Jobs
+pub mod Invariant
+pub mod Orders
+pub mod Collected
+pub mod Arranged
+pub mod Frames
+pub mod Quiets
+pub mod Writes
+pub mod Raises
+pub mod Forward
+pub mod Runs

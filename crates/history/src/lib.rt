@@ -4,8 +4,10 @@
 
 mod event;
 mod examples;
+mod laws;
 mod trace;
 
 pub use event::Event;
 pub use examples::{short_orders, short_runs};
+pub use laws::{built_orders_are_legal, callers_keep_their_order, runs_are_linearizable};
 pub use trace::{Item, Run, Trace};

@@ -1,0 +1,29 @@
+ghost use Rattle.std.specs.Prelude.{ℕ, ◌<◌, List};
+ghost use Rattle.requests.specs.declared.request.Request.{Request};
+ghost use Rattle.history.specs.declared.event.Event.{Event};
+ghost use Rattle.history.specs.declared.trace.Item.{Item};
+ghost use Rattle.history.specs.declared.trace.Item.TheVariants.{Call};
+ghost use Rattle.history.specs.World.{Size};
+ghost use Rattle.history.specs.Linearizable.{IsLinearizable};
+ghost use Rattle.history.specs.Linearization.{Before, Has, IsHistory, IsLegal};
+ghost use Rattle.history.specs.Order.{order};
+ghost use Rattle.history.specs.Trace.{trace};
+
+/// Every run is linearizable (Herlihy and Wing 1990): for each list of events, whatever the callers and however their
+/// steps and crashes are mixed, there is an order of the requests in which one plain store, taking them whole and one at
+/// a time, gives exactly the replies of the run, and which puts a request before each one called after its reply.
+pub fn runs_are_linearizable()
+    ensures { (size : Size) (events : List Event) → 0 < size.shards → IsLinearizable size events }
+{}
+
+/// The order that a run builds as it goes is such an order.
+pub fn built_orders_are_legal()
+    ensures { (size : Size) (events : List Event) → 0 < size.shards → IsLegal size.capacity (trace size events) (order size events) }
+{}
+
+/// In a legal order the requests of one caller stand as they were called.
+pub fn callers_keep_their_order()
+    ensures { (capacity : ℕ) (items : List Item) (places : List ℕ) → IsHistory items → IsLegal capacity items places
+        → (p q caller : ℕ) (r s : Request) → Has (Call p caller r) items → Has (Call q caller s) items → p < q
+        → Has q places → Before p q places }
+{}
