@@ -1,0 +1,12 @@
+pub mod Cuts
+pub mod Walks
+pub mod Backward
+pub mod Found
+pub mod Entries
+pub mod InOrder
+pub mod AtOnce
+pub mod Causes
+pub mod Firsts
+pub mod ListedPlans
+pub mod ViewLists
+pub mod Same

@@ -1,0 +1,32 @@
+-- The pods of a set's namespace, and what is read of them.
+use Rattle.std.specs.Prelude.{◌≡◌, ℕ, Bool, true, false, ◌&&◌, bytes_eq, List, [], ◌∷◌, IfSome, IfNone, ⊤}
+use Rattle.objects.specs.declared.kind.Kind.{Kind}
+use Rattle.objects.specs.declared.kind.Kind.TheVariants as kinds
+use Rattle.objects.specs.declared.object.Object.{Object}
+use Rattle.objects.specs.PodNames.{IsPodName}
+use Rattle.set_views.specs.declared.pod.PodView.{PodView}
+use Rattle.set_views.specs.Pod.{place_of, pod_parts, pod_with}
+use Rattle.set_views.specs.Set.{SetParts}
+
+abbrev pub is_pod : Kind → Bool
+is_pod kinds.StatefulSet = false
+is_pod kinds.Pod = true
+is_pod kinds.PersistentVolumeClaim = false
+is_pod kinds.ControllerRevision = false
+
+-- a pod of the set's namespace
+abbrev pub is_near : SetParts → Object → Bool
+is_near set o = is_pod o.key.kind && bytes_eq o.key.namespace set.object.key.namespace
+
+-- what is read of a pod; its place is the set and the ordinal that its name is made of, if there are any
+pub record IsViewOf (o : Object) (view : PodView) : Type 0 where
+  pub parts : pod_parts view ≡ pod_with (place_of view) o
+  pub placed : IfSome view.place (λ split. IsPodName o.key.name split.0.now split.1)
+  pub unplaced : IfNone view.place ((set : List ℕ) (ordinal : ℕ) → IsPodName o.key.name set ordinal → ⊥)
+
+-- each object's view, in their order
+abbrev pub AreViews : List Object → List PodView → Type 0
+AreViews [] [] = ⊤
+AreViews [] (view ∷ views) = ⊥
+AreViews (o ∷ os) [] = ⊥
+AreViews (o ∷ os) (view ∷ views) = IsViewOf o view × AreViews os views

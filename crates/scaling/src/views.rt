@@ -1,0 +1,34 @@
+// The pods of a set's namespace.
+ghost use Rattle.std.specs.Prelude.{◌≡◌, filter, IfOk};
+ghost use Rattle.set_views.specs.Set.{set_parts};
+ghost use Rattle.scaling.specs.Views.{AreViews, is_near};
+
+use objects::{Kind, Object};
+use set_views::{PodView, Set, read_pod};
+use std::alloc::{AllocError, Global};
+
+/// Whether the object is a pod of the set's namespace.
+fn is_near(set: &Set, object: &Object) -> bool
+    ensures { result ≡ is_near (set_parts set.now) object.now }
+{
+    matches!(object.key.kind, Kind::Pod)
+        && object.key.namespace.as_str() == set.object.key.namespace.as_str()
+}
+
+/// Reads the pods of the set's namespace, in the order of the list. Objects of other kinds and namespaces are passed
+/// over.
+pub fn views_of<'a>(
+    alloc: Global,
+    set: &Set,
+    objects: &'a [Object],
+) -> Result<Vec<PodView<'a>>, AllocError>
+    ensures { IfOk result (λ views. AreViews (filter (is_near (set_parts set.now)) objects.now) views.items) }
+{
+    let mut views = Vec::new(alloc);
+    for object in objects {
+        if is_near(set, object) {
+            views.push(read_pod(object))?;
+        }
+    }
+    Ok(views)
+}
