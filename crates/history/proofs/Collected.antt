@@ -9,8 +9,8 @@ use Rattle.requests.specs.declared.request.Request.{Request}
 use Rattle.requests.specs.declared.reply.Reply.{Reply}
 use Rattle.requests.specs.declared.reply.Reply.TheVariants.{Listed}
 use Rattle.requests.specs.declared.reply.Reason.{Reason}
-use Rattle.history.specs.Route.{Route, compacts, gets, lists, lists_at, route, writes}
-use Rattle.history.specs.Store.{Objects, Store, collection, compacted_to, denied, found, is_of, listed_at, routed, step}
+use Rattle.plain_store.specs.Route.{Route, compacts, gets, lists, lists_at, route, writes}
+use Rattle.plain_store.specs.Store.{Objects, Store, collection, compacted_to, denied, found, is_of, listed_at, routed, step}
 use Rattle.history.specs.Log.{Log, state_at, value}
 use Rattle.history.specs.World.{Size}
 use Rattle.history.specs.Step.{only, reads}

@@ -4,8 +4,8 @@ use Rattle.requests.specs.declared.request.Request.{Request}
 use Rattle.requests.specs.declared.reply.Reply.{Reply}
 use Rattle.history.specs.declared.trace.Item.{Item}
 use Rattle.history.specs.declared.trace.Item.TheVariants as item
-use Rattle.history.specs.Store.{Store, opening, step}
-use Rattle.history.specs.Run.{after, replies}
+use Rattle.plain_store.specs.Store.{Store, opening, step}
+use Rattle.plain_store.specs.Run.{after, replies}
 use Rattle.history.specs.World.{Size}
 use Rattle.history.specs.Linearization.{Answers, AreCalled, AreOnce, Before, Has, IsLegal}
 use Rattle.history.proofs.Lists.{has_back, has_cases, has_front}

@@ -6,7 +6,7 @@ use Rattle.requests.specs.declared.request.Request.{Request}
 use Rattle.requests.specs.declared.reply.Reply.{Reply}
 use Rattle.requests.specs.Verdict.{verdict}
 use Rattle.history.specs.declared.trace.Item.{Item}
-use Rattle.history.specs.Store.{Objects, step}
+use Rattle.plain_store.specs.Store.{Objects, step}
 use Rattle.history.specs.Log.{Writing, state_at, value}
 use Rattle.history.specs.World.{Phase, Idle, Called, Holding, Drawn, Waiting, Reading, Gone, Size, World, changed, shard}
 use Rattle.history.specs.Order.{Parked}

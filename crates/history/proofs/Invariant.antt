@@ -7,8 +7,8 @@ use Rattle.requests.specs.declared.reply.Reply.{Reply}
 use Rattle.requests.specs.Verdict.{verdict}
 use Rattle.history.specs.declared.trace.Item.{Item}
 use Rattle.history.specs.declared.trace.Item.TheVariants as item
-use Rattle.history.specs.Route.{route, writes}
-use Rattle.history.specs.Store.{Objects, step}
+use Rattle.plain_store.specs.Route.{route, writes}
+use Rattle.plain_store.specs.Store.{Objects, step}
 use Rattle.history.specs.Log.{Log, Writing, state_at, value}
 use Rattle.history.specs.World.{Phase, Idle, Called, Holding, Drawn, Waiting, Reading, Gone, Size, World, shard}
 use Rattle.history.specs.Order.{Parked}

@@ -3,7 +3,7 @@ use Rattle.std.specs.Prelude.{◌≡◌, ◌≢◌, ℕ, ◌<◌, ◌⊎◌, Lis
 use Rattle.requests.specs.declared.request.Request.{Request}
 use Rattle.requests.specs.declared.reply.Reply.{Reply}
 use Rattle.history.specs.declared.trace.Item.{Item}
-use Rattle.history.specs.Store.{Store, opening, step}
+use Rattle.plain_store.specs.Store.{Store, opening, step}
 use Rattle.history.specs.World.{Size}
 use Rattle.history.specs.Linearization.{Answers, Has}
 

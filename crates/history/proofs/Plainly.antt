@@ -11,8 +11,8 @@ use Rattle.requests.specs.declared.verdict.Verdict.{Verdict}
 use Rattle.requests.specs.declared.verdict.Verdict.TheVariants.{Refuse, Same, Write}
 use Rattle.requests.specs.Change.{Change, accepted, kept, stamp}
 use Rattle.requests.specs.Verdict.{verdict}
-use Rattle.history.specs.Route.{Route, compacts, route, writes}
-use Rattle.history.specs.Store.{Objects, Store, carried_out, compacted_to, denied, map_at, put_at, routed, step, with_change}
+use Rattle.plain_store.specs.Route.{Route, compacts, route, writes}
+use Rattle.plain_store.specs.Store.{Objects, Store, carried_out, compacted_to, denied, map_at, put_at, routed, step, with_change}
 use Rattle.history.specs.Log.{Log, Writing, state_at, value, with_writing}
 use Rattle.history.specs.World.{Size, changed}
 use Rattle.history.specs.Step.{told}

@@ -16,8 +16,8 @@ use Rattle.requests.specs.declared.verdict.Verdict.{Verdict}
 use Rattle.requests.specs.declared.verdict.Verdict.TheVariants.{Refuse, Same, Write}
 use Rattle.requests.specs.Verdict.{verdict}
 use Rattle.history.specs.declared.trace.Item.TheVariants as item
-use Rattle.history.specs.Route.{Route, compacts, gets, lists, lists_at, route, writes}
-use Rattle.history.specs.Store.{Objects, Store, collection, compacted_to, denied, listed_at, map_at, routed, step}
+use Rattle.plain_store.specs.Route.{Route, compacts, gets, lists, lists_at, route, writes}
+use Rattle.plain_store.specs.Store.{Objects, Store, collection, compacted_to, denied, listed_at, map_at, routed, step}
 use Rattle.history.specs.Log.{Writing, last_write, state_at, value}
 use Rattle.history.specs.World.{Phase, Idle, Called, Holding, Drawn, Waiting, Reading, Gone, Size, World, changed, shard}
 use Rattle.history.specs.Order.{Arrangement, Parked, last_or_parked, moved, with_last, without}

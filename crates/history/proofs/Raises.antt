@@ -3,7 +3,7 @@ use Rattle.std.proofs.Common.{◌≡◌, ◌≢◌, ℕ, suc, ◌<◌, ◌≤◌
 use Rattle.requests.specs.declared.request.Request.{Request}
 use Rattle.requests.specs.declared.reply.Reply.{Reply}
 use Rattle.history.specs.declared.trace.Item.{Item}
-use Rattle.history.specs.Store.{Store, step}
+use Rattle.plain_store.specs.Store.{Store, step}
 use Rattle.history.specs.Log.{Writing, value}
 use Rattle.history.specs.World.{Size, World, changed}
 use Rattle.history.specs.Order.{Arrangement, Parked, passed, places_at, rest}

@@ -7,7 +7,7 @@ use Rattle.objects.specs.declared.object.Object.{Object}
 use Rattle.objects.specs.Key.{key_cmp}
 use Rattle.objects.specs.KeyOrder.{exact_keys, key_cmp_total}
 use Rattle.requests.specs.Change.{kept}
-use Rattle.history.specs.Store.{Objects, put_at}
+use Rattle.plain_store.specs.Store.{Objects, put_at}
 use Rattle.history.specs.Log.{Log, Writing, last_write, newer, newer_number, state_at, value, with_writing}
 use Rattle.history.specs.World.{changed}
 use Rattle.history.specs.Step.{insert_all}

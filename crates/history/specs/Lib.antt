@@ -7,7 +7,3 @@ pub mod Order
 pub mod Step
 pub mod Trace
 pub mod World
--- ---- of the plain store
-pub mod Route
-pub mod Run
-pub mod Store

@@ -6,8 +6,8 @@ use Rattle.requests.specs.declared.request.Request.{Request}
 use Rattle.requests.specs.declared.reply.Reply.{Reply}
 use Rattle.history.specs.declared.trace.Item.{Item}
 use Rattle.history.specs.declared.trace.Item.TheVariants as item
-use Rattle.history.specs.Store.{opening}
-use Rattle.history.specs.Run.{replies}
+use Rattle.plain_store.specs.Store.{opening}
+use Rattle.plain_store.specs.Run.{replies}
 
 abbrev pub Has : {A : Type 0} → A → List A → Type 0
 Has x [] = ⊥

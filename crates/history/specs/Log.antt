@@ -6,7 +6,7 @@ use Rattle.objects.specs.declared.key.Key.{Key}
 use Rattle.objects.specs.declared.object.Object.{Object}
 use Rattle.objects.specs.Key.{key_cmp}
 use Rattle.requests.specs.Change.{Change, kept}
-use Rattle.history.specs.Store.{Objects, put_at}
+use Rattle.plain_store.specs.Store.{Objects, put_at}
 
 -- a write that its check accepted: the place of its call, its key, and what it changes there
 pub record Writing : Type 0 where

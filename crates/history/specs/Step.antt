@@ -20,9 +20,9 @@ use Rattle.history.specs.declared.event.Event.TheVariants.{Call, Check, Reserve,
 use Rattle.history.specs.declared.event.Event.TheVariants as event
 use Rattle.history.specs.declared.trace.Item.TheVariants as item
 use Rattle.history.specs.Log.{Log, Writing, last_write, state_at, value}
-use Rattle.history.specs.Route.{Route, compacts, gets, lists, lists_at, route, writes}
-use Rattle.history.specs.Store.{Objects, Store, denied, is_of}
-use Rattle.history.specs.Store as store
+use Rattle.plain_store.specs.Route.{Route, compacts, gets, lists, lists_at, route, writes}
+use Rattle.plain_store.specs.Store.{Objects, Store, denied, is_of}
+use Rattle.plain_store.specs.Store as store
 use Rattle.history.specs.World.{Draw, Phase, Idle, Called, Holding, Drawn, Waiting, Reading, Gone, Size, World, changed, shard}
 
 -- ---- the caller's next phase

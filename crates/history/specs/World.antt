@@ -7,7 +7,7 @@ use Rattle.requests.specs.declared.request.Request.{Request}
 use Rattle.requests.specs.declared.reply.Reply.{Reply}
 use Rattle.history.specs.declared.trace.Item.{Item}
 use Rattle.history.specs.Log.{Log, Writing}
-use Rattle.history.specs.Store.{Objects}
+use Rattle.plain_store.specs.Store.{Objects}
 
 -- how many numbers the store may draw, and how many shards it has
 pub record Size : Type 0 where

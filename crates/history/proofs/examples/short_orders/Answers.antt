@@ -1,6 +1,6 @@
 use Rattle.std.proofs.Common.{refl}
-use Rattle.history.specs.Route.{route}
-use Rattle.history.specs.Store.{denied}
+use Rattle.plain_store.specs.Route.{route}
+use Rattle.plain_store.specs.Store.{denied}
 use Rattle.history.specs.World.{changed, shard}
 use Rattle.history.proofs.examples.short_orders.Goals as goal
 

@@ -1,6 +1,6 @@
 use Rattle.std.proofs.Common.{refl}
-use Rattle.history.specs.Route.{route}
-use Rattle.history.specs.Store.{denied, step}
+use Rattle.plain_store.specs.Route.{route}
+use Rattle.plain_store.specs.Store.{denied, step}
 use Rattle.history.specs.Step.{told, with_part}
 use Rattle.history.specs.World.{changed, shard}
 use Rattle.history.proofs.examples.short_runs.Goals as goal
