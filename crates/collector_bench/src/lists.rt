@@ -19,7 +19,9 @@ fn claim(alloc: Global, first: u64) -> Result<Object, Fault> {
         uid_text(alloc, number + 1)?,
         uid_text(alloc, number + 2)?,
     ];
-    let text = format!(in alloc; "{{\"kind\":\"PersistentVolumeClaim\",\"metadata\":{{\"name\":\"data-{number}\",\"ownerReferences\":[{{\"uid\":\"{a}\"}},{{\"uid\":\"{b}\"}},{{\"uid\":\"{c}\"}}]}}}}")?;
+    let text = format!(in alloc;
+        "{{\"kind\":\"PersistentVolumeClaim\",\"metadata\":{{\"name\":\"data-{number}\",\"ownerReferences\":[{{\"uid\":\"{a}\"}},{{\"uid\":\"{b}\"}},{{\"uid\":\"{c}\"}}]}}}}"
+    )?;
     object(alloc, text.as_str())
 }
 
@@ -35,7 +37,9 @@ pub(crate) fn claims(alloc: Global, count: u32) -> Result<Vec<Object>, Fault> {
 
 fn owner(alloc: Global, number: u64) -> Result<Object, Fault> {
     let uid = uid_text(alloc, number & 0xffff_ffff)?;
-    let text = format!(in alloc; "{{\"kind\":\"Pod\",\"metadata\":{{\"name\":\"web\",\"uid\":\"{uid}\"}}}}")?;
+    let text = format!(in alloc;
+        "{{\"kind\":\"Pod\",\"metadata\":{{\"name\":\"web\",\"uid\":\"{uid}\"}}}}"
+    )?;
     object(alloc, text.as_str())
 }
 

@@ -19,7 +19,12 @@ fn collection(rt: &HostRuntime, count: u32) -> Result<(), Fault> {
     let claims = claims(rt.alloc(), count)?;
     let owners = owners(rt.alloc(), count)?;
     let start = Instant::now(rt)?;
-    let collected = collect(rt.alloc(), claims.as_slice(), &[owners.as_slice()], u64::MAX)?;
+    let collected = collect(
+        rt.alloc(),
+        claims.as_slice(),
+        &[owners.as_slice()],
+        u64::MAX,
+    )?;
     let elapsed = start.elapsed(rt)?;
     println!(rt; "collected of {count} claims: {}", collected.len())?;
     eprintln!(rt; "{count} claims: {elapsed:?}")?;

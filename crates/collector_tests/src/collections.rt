@@ -15,40 +15,16 @@ static CLAIMS: [(&str, bool); 17] = [
     // A UID that the store does not give.
     (r#"[{"uid":"abc"}]"#, true),
     (r#"[{"uid":""}]"#, true),
-    (
-        r#"[{"uid":"00000000-0000-4000-8000-000000000000"}]"#,
-        true,
-    ),
-    (
-        r#"[{"uid":"00000000-0000-4000-8000-00000000000A"}]"#,
-        true,
-    ),
+    (r#"[{"uid":"00000000-0000-4000-8000-000000000000"}]"#, true),
+    (r#"[{"uid":"00000000-0000-4000-8000-00000000000A"}]"#, true),
     // One owner, listed or not.
-    (
-        r#"[{"uid":"00000000-0000-4000-8000-000000000003"}]"#,
-        true,
-    ),
-    (
-        r#"[{"uid":"00000000-0000-4000-8000-000000000005"}]"#,
-        false,
-    ),
-    (
-        r#"[{"uid":"00000000-0000-4000-8000-000000000006"}]"#,
-        false,
-    ),
+    (r#"[{"uid":"00000000-0000-4000-8000-000000000003"}]"#, true),
+    (r#"[{"uid":"00000000-0000-4000-8000-000000000005"}]"#, false),
+    (r#"[{"uid":"00000000-0000-4000-8000-000000000006"}]"#, false),
     // By the time of the lists, and after it.
-    (
-        r#"[{"uid":"00000000-0000-4000-8000-000000000009"}]"#,
-        true,
-    ),
-    (
-        r#"[{"uid":"00000000-0000-4000-8000-00000000000a"}]"#,
-        false,
-    ),
-    (
-        r#"[{"uid":"00000000-0000-4000-8000-0000000000ff"}]"#,
-        false,
-    ),
+    (r#"[{"uid":"00000000-0000-4000-8000-000000000009"}]"#, true),
+    (r#"[{"uid":"00000000-0000-4000-8000-00000000000a"}]"#, false),
+    (r#"[{"uid":"00000000-0000-4000-8000-0000000000ff"}]"#, false),
     // Several owners: each has to be gone.
     (
         r#"[{"uid":"00000000-0000-4000-8000-000000000003"},{"uid":"00000000-0000-4000-8000-000000000004"}]"#,
@@ -84,7 +60,9 @@ static PODS: [&str; 2] = [
 ];
 
 fn claim(alloc: Global, owners: &str) -> Result<Object, ReadError> {
-    let text = format!(in alloc; "{{\"kind\":\"PersistentVolumeClaim\",\"metadata\":{{\"name\":\"data\",\"ownerReferences\":{owners},\"resourceVersion\":\"8\",\"uid\":\"00000000-0000-4000-8000-000000000002\"}}}}")?;
+    let text = format!(in alloc;
+        "{{\"kind\":\"PersistentVolumeClaim\",\"metadata\":{{\"name\":\"data\",\"ownerReferences\":{owners},\"resourceVersion\":\"8\",\"uid\":\"00000000-0000-4000-8000-000000000002\"}}}}"
+    )?;
     object(alloc, text.as_str())
 }
 
@@ -107,7 +85,10 @@ fn is_collected(alloc: Global, owners: &str) -> Result<bool, ReadError> {
 #[test]
 fn claims_go_once_every_owner_is_gone(rt: HostRuntime) -> Result<(), Fail> {
     for (owners, expected) in CLAIMS.iter() {
-        assert!(rt; is_collected(rt.alloc(), owners)? == *expected, "of {owners}");
+        assert!(rt;
+            is_collected(rt.alloc(), owners)? == *expected,
+            "of {owners}"
+        );
     }
     Ok(())
 }

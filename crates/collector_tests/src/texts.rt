@@ -31,7 +31,13 @@ pub(crate) fn words_of(alloc: Global, request: &Request) -> Result<String, Alloc
             uid,
             version,
             at,
-        } => format!(in alloc; "{} {} {} {}", key.name.as_str(), text_of(uid), text_of(version), text_of(at)),
+        } => format!(in alloc;
+            "{} {} {} {}",
+            key.name.as_str(),
+            text_of(uid),
+            text_of(version),
+            text_of(at)
+        ),
         _ => Ok(String::new(alloc)),
     }
 }

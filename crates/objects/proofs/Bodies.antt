@@ -163,8 +163,8 @@ new_body_said kind metadata ms unheld fits =
     let versioned = put (codes "apiVersion") (string (api_version kind)) ms in
     let named = put (codes "kind") (string (kind_name kind)) versioned in
     let version : get_member (codes "apiVersion") (put (codes "metadata") (object metadata) named) ≡ Some (string (api_version kind)) =
-        get_member-put_other (codes "apiVersion") (codes "metadata") (object metadata) named (λ e. absurd cc)
-        ∙ (get_member-put_other (codes "apiVersion") (codes "kind") (string (kind_name kind)) versioned (λ e. absurd cc) ∙ get_member-put (codes "apiVersion") (string (api_version kind)) ms) in
+    get_member-put_other (codes "apiVersion") (codes "metadata") (object metadata) named (λ e. absurd cc)
+    ∙ (get_member-put_other (codes "apiVersion") (codes "kind") (string (kind_name kind)) versioned (λ e. absurd cc) ∙ get_member-put (codes "apiVersion") (string (api_version kind)) ms) in
     record {
       members = put (codes "metadata") (object metadata) named;
       metadata = metadata;

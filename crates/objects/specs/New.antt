@@ -1,5 +1,5 @@
 -- An object that is to be made: the store knows nothing of it yet (Kubernetes API conventions, "Objects").
-use Rattle.std.specs.Prelude.{ℕ, List, codes, None}
+use Rattle.std.specs.Prelude.{codes, None}
 use Rattle.serde_json.specs.Data.{Data, string, object, Members, put}
 use Rattle.objects.specs.declared.kind.Kind.{Kind}
 use Rattle.objects.specs.declared.object.Object.{Object}

@@ -1,5 +1,5 @@
 -- A search from the last view to the first.
-use Rattle.std.proofs.Common.{◌≡◌, ℕ, List, [], ◌∷◌, ◌++◌, Bool, true, false, cond, Some, None, Option, map, reverse, find, refl, ap, ◌∙◌}
+use Rattle.std.proofs.Common.{◌≡◌, List, [], ◌∷◌, ◌++◌, Bool, true, false, cond, Some, reverse, find, ap, ◌∙◌}
 use Rattle.std.proofs.lemmas.List.{map-append, reverse-append}
 use Rattle.objects.specs.declared.object.Object.{Object}
 use Rattle.revisions.specs.declared.view.RevisionView.{RevisionView}

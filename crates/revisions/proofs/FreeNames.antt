@@ -1,5 +1,5 @@
 -- The first free name, one count after another.
-use Rattle.std.proofs.Common.{◌≡◌, ℕ, zero, suc, ◌+◌, List, Bool, true, false, not, cond, Option, Some, None, map, find, refl, ap, ◌∙◌}
+use Rattle.std.proofs.Common.{◌≡◌, ℕ, suc, ◌+◌, List, Bool, true, false, not, cond, Some, None, map, find, ap, ◌∙◌}
 use Rattle.std.specs.List.{range_with_len}
 use Rattle.revisions.specs.Name.{first_free}
 

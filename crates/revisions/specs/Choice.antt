@@ -1,7 +1,7 @@
 -- Which revision a set's pods are to come to (Kubernetes, "StatefulSets": "Rolling Updates"; API reference, apps/v1,
 -- ControllerRevision: `data` never changes, and the greatest `revision` is the newest). Lists of revisions are in order,
 -- the newest last.
-use Rattle.std.specs.Prelude.{ℕ, Bool, false, List, [], ◌∷◌, codes, bytes_eq, reverse, Option, Some, None, option_and_then, if◌then◌else◌}
+use Rattle.std.specs.Prelude.{ℕ, Bool, false, List, [], ◌∷◌, codes, bytes_eq, reverse, Option, option_and_then, if◌then◌else◌}
 use Rattle.std.specs.List.{find}
 use Rattle.std.specs.Option.{option_map_or}
 use Rattle.serde_json.specs.Data.{Data, object, Members, no_members, member}

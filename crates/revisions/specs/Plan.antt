@@ -1,5 +1,5 @@
 -- The plan of a set's revisions: what is written before any pod is looked at, or the revisions that pods are made from.
-use Rattle.std.specs.Prelude.{◌≡◌, ℕ, ◌+◌, Bool, true, ◌&&◌, nat_le, nat_lt, List, length, map, Option, unwrap_or, Result, Ok, Err, ⊤}
+use Rattle.std.specs.Prelude.{ℕ, ◌+◌, Bool, true, ◌&&◌, nat_le, nat_lt, List, length, map, unwrap_or, Result, Ok, Err, ⊤}
 use Rattle.std.specs.Option.{is_some, option_map_or}
 use Rattle.serde_json.specs.Written.{compact_text}
 use Rattle.objects.specs.declared.object.Object.{Object}

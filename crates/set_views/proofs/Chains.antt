@@ -1,5 +1,5 @@
 -- Steps of a plan, one after another.
-use Rattle.std.proofs.Common.{◌≡◌, Result, Ok, Err, refl}
+use Rattle.std.proofs.Common.{Result, refl}
 use Rattle.set_views.specs.declared.fault.PlanError.{PlanError}
 use Rattle.set_views.specs.declared.fault.PlanError.TheVariants as errors
 use Rattle.set_views.specs.Steps.{◌>>=◌, Fails}

@@ -1,15 +1,14 @@
 -- Names of claim templates: which are DNS labels, and whether one stands twice.
-use Rattle.std.proofs.Common.{◌≡◌, ℕ, List, [], ◌∷◌, ◌++◌, Bool, true, false, cond, Option, Some, None, Ok, Err, map, refl, sym, ap, ◌∙◌, subst, append_assoc}
-use Rattle.std.specs.Prelude.{◌&&◌, ◌||◌, not, codes, bytes_eq, option_map, option_and_then}
+use Rattle.std.proofs.Common.{◌≡◌, ℕ, List, [], ◌∷◌, ◌++◌, Bool, true, false, Err, refl, sym, ap, ◌∙◌, append_assoc}
+use Rattle.std.specs.Prelude.{◌&&◌, not, codes, bytes_eq}
 use Rattle.std.specs.List.{list_any}
-use Rattle.serde_json.specs.Data.{Data, Items, no_items, item}
 use Rattle.objects.specs.declared.fault.ReadError.{ReadError}
 use Rattle.objects.specs.declared.fault.ReadError.TheVariants as read
 use Rattle.objects.specs.declared.kind.Kind.TheVariants.{StatefulSet}
-use Rattle.objects.specs.Key.{KeyParts, is_key, key_parts}
+use Rattle.objects.specs.Key.{is_key, key_parts}
 use Rattle.objects.specs.Names.{is_dns_label}
 use Rattle.objects.specs.Steps.{Fails, guarded}
-use Rattle.set_views.specs.Claims.{Claim, are_distinct, claim_of, claims_of, names_of}
+use Rattle.set_views.specs.Claims.{Claim, are_distinct, names_of}
 
 refused_at : {A : Type 0} (b : Bool) (e : ReadError) (x : A) → guarded read.BadName b x ≡ Err e → b ≡ false
 refused_at true e x h = absurd cc

@@ -1,5 +1,5 @@
 -- The reading of a StatefulSet.
-use Rattle.std.specs.Prelude.{ℕ, ◌+◌, ◌-◌, ◌==◌, ◌||◌, Bool, nat_le, List, codes, Option, option_and_then, Result}
+use Rattle.std.specs.Prelude.{◌+◌, ◌-◌, ◌==◌, ◌||◌, Bool, nat_le, List, codes, option_and_then, Result}
 use Rattle.serde_json.specs.Find.{get_member, as_str}
 use Rattle.objects.specs.declared.object.Object.{Object}
 use Rattle.objects.specs.PodNames.{most_ordinal}

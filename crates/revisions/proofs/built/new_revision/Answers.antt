@@ -1,4 +1,4 @@
-use Rattle.std.proofs.Common.{◌≡◌, true, ap, ◌∙◌}
+use Rattle.std.proofs.Common.{ap, ◌∙◌}
 use Rattle.objects.specs.MetadataShape.{metadata_fits}
 use Rattle.set_views.specs.Set.{set_parts}
 use Rattle.revisions.proofs.NewNames.{owned_fits}

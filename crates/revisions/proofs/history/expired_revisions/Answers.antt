@@ -1,4 +1,4 @@
-use Rattle.std.proofs.Common.{◌≡◌, not, map, filter, ap, ◌∙◌, arith}
+use Rattle.std.proofs.Common.{not, map, filter, ap, ◌∙◌, arith}
 use Rattle.set_views.specs.Pod.{pod_parts}
 use Rattle.set_views.specs.Set.{set_parts}
 use Rattle.revisions.specs.History.{is_live}

@@ -1,4 +1,4 @@
-use Rattle.std.proofs.Common.{◌≡◌, ◌<◌, false, length, map, ap, ◌∙◌, arith}
+use Rattle.std.proofs.Common.{◌<◌, false, length, ap, ◌∙◌, arith}
 use Rattle.std.specs.Prelude.{◌&&◌, ◌||◌, bytes_eq}
 use Rattle.std.specs.Option.{option_map_or}
 use Rattle.set_views.specs.Pod.{pod_parts}

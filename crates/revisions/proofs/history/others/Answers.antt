@@ -1,4 +1,4 @@
-use Rattle.std.proofs.Common.{◌≡◌, ◌<◌, true, false, not, length, sym, ap, ◌∙◌, arith}
+use Rattle.std.proofs.Common.{◌<◌, not, length, sym, ap, ◌∙◌, arith}
 use Rattle.set_views.proofs.NameSets.{contains_is}
 use Rattle.revisions.specs.Listing.{has_name}
 use Rattle.revisions.proofs.Histories.{others_kept, others_passed}

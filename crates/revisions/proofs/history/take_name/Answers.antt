@@ -1,4 +1,4 @@
-use Rattle.std.proofs.Common.{◌≡◌, sym, ap, ◌∙◌}
+use Rattle.std.proofs.Common.{sym, ◌∙◌}
 use Rattle.set_views.specs.Pod.{pod_parts}
 use Rattle.set_views.specs.Set.{set_parts}
 use Rattle.set_views.specs.Words.{is_owned}

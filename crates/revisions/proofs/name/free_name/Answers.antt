@@ -1,4 +1,4 @@
-use Rattle.std.proofs.Common.{◌≡◌, ℕ, ◌+◌, ◌-◌, ◌<◌, suc, List, true, false, Some, refl, sym, ap, ◌∙◌, arith}
+use Rattle.std.proofs.Common.{◌+◌, ◌-◌, Some, sym, ap, ◌∙◌, arith}
 use Rattle.set_views.specs.Steps.{required}
 use Rattle.set_views.specs.declared.fault.PlanError.TheVariants.{NoRevisionName}
 use Rattle.set_views.proofs.NameSets.{contains_is}

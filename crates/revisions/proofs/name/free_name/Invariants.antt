@@ -1,4 +1,4 @@
-use Rattle.std.proofs.Common.{◌≡◌, ℕ, ◌+◌, ◌-◌, List}
+use Rattle.std.proofs.Common.{◌≡◌, ◌+◌, ◌-◌}
 use Rattle.revisions.specs.Listing.{has_name}
 use Rattle.revisions.specs.Name.{first_free, most_tries, revision_name}
 use Rattle.revisions.proofs.name.free_name.Given as goal

@@ -1,4 +1,4 @@
-use Rattle.std.proofs.Common.{◌≡◌, ap, ◌∙◌, subst, sym, length, arith}
+use Rattle.std.proofs.Common.{ap, ◌∙◌, subst, sym, length, arith}
 use Rattle.std.specs.Str.{IsAscii}
 use Rattle.hex.proofs.HexLemmas.{length-encode_with, IsAscii-encode_with}
 use Rattle.hex.specs.Hex.{lower_digits}

@@ -1,9 +1,7 @@
-use Rattle.std.proofs.Common.{◌≡◌, ℕ, List, ◌∷◌, [], ◌++◌, Bool, true, false, refl, sym, ap, ◌∙◌, append_assoc}
-use Rattle.std.specs.Prelude.{bytes_eq, not, ◌||◌, ◌&&◌}
+use Rattle.std.proofs.Common.{◌≡◌, ◌∷◌, [], ◌++◌, true, false, sym, ap, ◌∙◌, append_assoc}
+use Rattle.std.specs.Prelude.{bytes_eq, not, ◌||◌}
 use Rattle.std.specs.Iterator.Adapters.{rev_source}
-use Rattle.std.specs.List.{list_any}
 use Rattle.std.specs.Slice.Iter.{iter_rest}
-use Rattle.set_views.specs.Claims.{are_distinct, names_of}
 use Rattle.set_views.proofs.ClaimNames.{stands_twice, distinct_more}
 use Rattle.set_views.proofs.NameSets.{has_name, contains_is, has_name-insert_key, was_there, was_new}
 use Rattle.set_views.proofs.claims.are_distinct.Goals as goal

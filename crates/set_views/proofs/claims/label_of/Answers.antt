@@ -1,5 +1,4 @@
-use Rattle.std.proofs.Common.{sym, subst, ap}
-use Rattle.objects.specs.Key.{is_key}
+use Rattle.std.proofs.Common.{ap}
 use Rattle.set_views.specs.Steps.{guarded}
 use Rattle.set_views.specs.declared.fault.PlanError.TheVariants.{BadSpec}
 use Rattle.set_views.proofs.ClaimNames.{no_label}

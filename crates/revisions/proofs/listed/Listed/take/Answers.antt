@@ -1,5 +1,4 @@
-use Rattle.std.proofs.Common.{◌≡◌, Bool, true, false, not, refl, sym, ap, ◌∙◌}
-use Rattle.std.specs.Prelude.{◌&&◌, ◌||◌, bytes_eq}
+use Rattle.std.proofs.Common.{not, sym, ap, ◌∙◌}
 use Rattle.objects.specs.declared.object.Object.{Object}
 use Rattle.set_views.specs.Set.{set_parts}
 use Rattle.set_views.proofs.NameSets.{contains_is, was_there, was_new}
