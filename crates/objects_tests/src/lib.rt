@@ -9,7 +9,7 @@ mod growths;
 #[cfg(test)]
 mod keys;
 #[cfg(test)]
-mod made;
+mod members;
 #[cfg(test)]
 mod metadata;
 #[cfg(test)]

@@ -1,32 +1,7 @@
-//! Objects that are to be made, members that are set, and texts of trees.
-use objects::{
-    Key, Kind, Members, Object, ReadError, Tree, print_object, read_object, read_tree, tree_text,
-};
-use std::alloc::{AllocError, Global};
+//! Members that are set, and texts of trees.
+use objects::{ReadError, Tree, print_object, read_object, read_tree, tree_text};
+use std::alloc::Global;
 use std::test::Fail;
-
-fn members(alloc: Global) -> Result<Members, AllocError> {
-    Members::of(alloc, Vec::new(alloc))
-}
-
-#[tactic(auto, unfolding(objects::specs::MetadataShape::metadata_fits))]
-fn made(alloc: Global, spec: Tree) -> Result<Object, ReadError> {
-    let key = Key::of(alloc, Kind::PersistentVolumeClaim, "shop", "data-web-0")?;
-    let labels = Tree::Map(members(alloc)?);
-    let metadata = members(alloc)?.with("labels", Some(labels))?;
-    let others = members(alloc)?.with("spec", Some(spec))?;
-    Ok(Object::of(alloc, key, metadata, others)?)
-}
-
-#[test]
-fn an_object_is_made(rt: HostRuntime) -> Result<(), Fail> {
-    let object = made(rt.alloc(), Tree::Truth(true))?;
-    assert_eq!(rt;
-        print_object(rt.alloc(), &object)?.as_str(),
-        r#"{"apiVersion":"v1","kind":"PersistentVolumeClaim","metadata":{"labels":{},"name":"data-web-0","namespace":"shop"},"spec":true}"#
-    );
-    Ok(())
-}
 
 /// What is printed of the object with that `revision`.
 fn with_revision(alloc: Global, text: &str, revision: Option<Tree>) -> Result<String, ReadError> {
