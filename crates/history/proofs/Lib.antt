@@ -4,6 +4,7 @@ pub mod Plainly
 pub mod Lists
 pub mod Jobs
 pub mod Invariant
+pub mod Histories
 pub mod Orders
 pub mod Collected
 pub mod Arranged
@@ -13,3 +14,5 @@ pub mod Writes
 pub mod Raises
 pub mod Forward
 pub mod Runs
+pub mod Followed
+pub mod Paired

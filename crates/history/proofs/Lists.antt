@@ -1,6 +1,6 @@
 -- What stands in a list.
-use Rattle.std.proofs.Common.{◌≡◌, ℕ, zero, suc, ◌+◌, ◌<◌, ◌≤◌, ◌⊎◌, List, [], ◌∷◌, ◌++◌, inl, inr, arith}
-use Rattle.std.specs.List.{range_with_len}
+use Rattle.std.proofs.Common.{◌≡◌, ℕ, zero, suc, ◌+◌, ◌<◌, ◌≤◌, ◌⊎◌, List, [], ◌∷◌, ◌++◌, Some, inl, inr, arith}
+use Rattle.std.specs.List.{range_with_len, slice_get}
 use Rattle.history.specs.Linearization.{Has}
 use Rattle.history.proofs.Basics.{Compared, same, other, compare}
 
@@ -30,6 +30,11 @@ has_last x y xs h = go (has_cases x xs (y ∷ []) h)
     go (inl m) = inl m
     go (inr (inl e)) = inr e
     go (inr (inr e)) = absurd e
+
+pub has_at : {A : Type 0} (xs : List A) (i : ℕ) (x : A) → slice_get xs i ≡ Some x → Has x xs
+has_at [] i x e = absurd cc
+has_at (y ∷ ys) zero x e = inl cc
+has_at (y ∷ ys) (suc i) x e = inr (has_at ys i x e)
 
 pub has_range : (a n m : ℕ) → a ≤ m → m < a + n → Has m (range_with_len a n)
 has_range a zero m low high = absurd (omega arith)

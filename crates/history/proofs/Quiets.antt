@@ -28,7 +28,8 @@ use Rattle.history.proofs.Values.{get_part, last_bound, last_le, part_of_none, p
 use Rattle.history.proofs.Plainly.{by_verdict, compacts_there, denied_none, denied_self, judge, judge_full, judge_stays, plainly, plainly_map_at, stays, stays_there, step_routed}
 use Rattle.history.proofs.Lists.{has_range}
 use Rattle.history.proofs.Jobs.{Job, Tells}
-use Rattle.history.proofs.Orders.{all_answered, asked, called_last, emit, fate_other, later_on, live-placed, now_new, opens_more, refate, replied_now}
+use Rattle.history.proofs.Histories.{all_answered, called_last}
+use Rattle.history.proofs.Orders.{asked, emit, fate_other, later_on, live-placed, now_new, opens_more, refate, replied_now}
 use Rattle.history.proofs.Collected.{same_answer}
 use Rattle.history.proofs.Invariant.{Apart, Aside, Fate, Ghost, HoldingFacts, Invariant, IsLastCall, Known, Live, New, Opens, ParkedFacts, PhaseFacts, Placed, ReadingFacts, StaysFacts, is_aside}
 use Rattle.history.proofs.Arranged.{Holds, Moves, Shows, backwards_without, moved_same}
@@ -183,7 +184,7 @@ module _ (z : Size) (w : World) (g : Ghost) (iv : Invariant z w g) (a : Arrangem
           asides = λ p m. inl m;
           apart = iv.apart;
           calls = opens_more w.trace w.now iv.good.dated (item.Call w.now c q) refl;
-          call_mine = called_last z w.trace w.now g.jobs g.fate iv.good c q;
+          call_mine = called_last w.trace w.now iv.good.dated iv.good.history c q;
           mine = changed-same g.fate w.now (Known q (Live c));
         }),
         record { order = sh.order; parked = sh.parked },
@@ -443,7 +444,7 @@ module _ (z : Size) (w : World) (g : Ghost) (iv : Invariant z w g) (a : Arrangem
         asides = λ p m. inl m;
         apart = iv.apart;
         calls = opens_more w.trace w.now iv.good.dated (item.Reply w.now c r) refl;
-        call_mine = all_answered z w.trace w.now g.jobs g.fate iv.good c j r op;
+        call_mine = all_answered w.trace w.now iv.good.dated iv.good.history c j r op;
         mine = tt;
       }),
       record { order = sh.order; parked = sh.parked },

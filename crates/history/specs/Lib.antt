@@ -7,3 +7,7 @@ pub mod Order
 pub mod Step
 pub mod Trace
 pub mod World
+-- ---- what only proofs use
+pub mod Following
+pub mod Marks
+pub mod Pairing

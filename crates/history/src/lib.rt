@@ -2,11 +2,15 @@
 //! keeps. One event is one atomic step.
 #![tactic(auto)]
 
+mod check;
 mod event;
 mod examples;
 mod laws;
+mod pairs;
 mod trace;
+mod walk;
 
+pub use check::check_order;
 pub use event::Event;
 pub use examples::{short_orders, short_runs};
 pub use laws::{built_orders_are_legal, callers_keep_their_order, runs_are_linearizable};
