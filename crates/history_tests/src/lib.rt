@@ -1,0 +1,12 @@
+//! What the check of an order answers, by traces that were worked out by hand. Tests are a crate of their own, so that a
+//! library is proved once, and they reach only what it makes public.
+#![tactic(auto)]
+
+#[cfg(test)]
+mod growths;
+#[cfg(test)]
+mod orders;
+#[cfg(test)]
+mod strangers;
+#[cfg(test)]
+mod traces;

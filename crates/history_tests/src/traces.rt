@@ -1,0 +1,130 @@
+// Traces from rows of texts.
+use history::{Item, Trace, check_order};
+use objects::read_object;
+use plain::{Reason, Reply, RequestError, read_request};
+use std::alloc::{AllocError, Global};
+use std::process::Abort;
+use std::test::Fail;
+
+/// What stands at a place: a call, as its request line, or a reply, with its object as a text.
+pub(crate) enum Said {
+    Call(&'static str),
+    Created(&'static str),
+    Found(&'static str),
+    Refused(Reason),
+}
+
+/// A place, a caller, and what is said there.
+pub(crate) type Row = (u64, u64, Said);
+
+pub(crate) const GET: &str = r#"{"do":"get","kind":"Pod","name":"b"}"#;
+
+/// An update of `b` at the resource version 1 has come upon another one, which drew the resource version 3 while the
+/// creation of `a` holds 2. A get finds the resource version 1 meanwhile, and then the first update is told of its
+/// conflict.
+pub(crate) static EARLY_CONFLICT: [Row; 8] = [
+    (
+        0,
+        1,
+        Said::Call(r#"{"do":"create","object":{"kind":"Pod","metadata":{"name":"b"}}}"#),
+    ),
+    (
+        5,
+        1,
+        Said::Created(
+            r#"{"kind":"Pod","metadata":{"generation":1,"name":"b","namespace":"default","resourceVersion":"1","uid":"00000000-0000-4000-8000-000000000001"}}"#,
+        ),
+    ),
+    (
+        6,
+        2,
+        Said::Call(r#"{"do":"create","object":{"kind":"Pod","metadata":{"name":"a"}}}"#),
+    ),
+    (
+        9,
+        1,
+        Said::Call(
+            r#"{"do":"update","object":{"kind":"Pod","metadata":{"labels":{"x":"y"},"name":"b","resourceVersion":"1"}}}"#,
+        ),
+    ),
+    (
+        13,
+        3,
+        Said::Call(
+            r#"{"do":"update","object":{"kind":"Pod","metadata":{"name":"b","resourceVersion":"1"}}}"#,
+        ),
+    ),
+    (16, 4, Said::Call(GET)),
+    (
+        19,
+        4,
+        Said::Found(
+            r#"{"kind":"Pod","metadata":{"generation":1,"name":"b","namespace":"default","resourceVersion":"1","uid":"00000000-0000-4000-8000-000000000001"}}"#,
+        ),
+    ),
+    (23, 3, Said::Refused(Reason::Conflict)),
+];
+
+fn reply(place: u64, caller: u64, reply: Reply) -> Item {
+    Item::Reply {
+        place,
+        caller,
+        reply,
+    }
+}
+
+fn item(alloc: Global, row: &Row) -> Result<Item, RequestError> {
+    let (place, caller, said) = row;
+    Ok(match said {
+        Said::Call(line) => Item::Call {
+            place: *place,
+            caller: *caller,
+            request: read_request(alloc, line.as_bytes())?,
+        },
+        Said::Created(text) => {
+            let draft = read_object(alloc, text.as_bytes())?;
+            reply(*place, *caller, Reply::Created(draft.object))
+        }
+        Said::Found(text) => {
+            let draft = read_object(alloc, text.as_bytes())?;
+            reply(*place, *caller, Reply::Found(draft.object))
+        }
+        Said::Refused(reason) => reply(*place, *caller, Reply::Refused(*reason)),
+    })
+}
+
+/// The trace of these rows, of a store of so many revisions.
+pub(crate) fn trace(alloc: Global, capacity: u64, rows: &[Row]) -> Result<Trace, RequestError> {
+    let mut items = Vec::new(alloc);
+    for row in rows {
+        items.push(item(alloc, row)?).map_err(AllocError::from)?;
+    }
+    Ok(Trace { capacity, items })
+}
+
+/// Asserts what is answered of an order.
+pub(crate) fn assert_checks(
+    rt: &impl Abort,
+    alloc: Global,
+    trace: &Trace,
+    order: &[u64],
+    expected: bool,
+) -> Result<(), Fail> {
+    assert_eq!(rt; check_order(alloc, trace, order)?, expected, "of {order:?}");
+    Ok(())
+}
+
+/// Asserts what is answered of one order of the rows.
+pub(crate) fn assert_row(
+    rt: &impl Abort,
+    alloc: Global,
+    capacity: u64,
+    rows: &[Row],
+    order: &[u64],
+    expected: bool,
+) -> Result<(), Fail> {
+    let trace = trace(alloc, capacity, rows)?;
+    let asserted = assert_checks(rt, alloc, &trace, order, expected);
+    drop(trace);
+    asserted
+}
