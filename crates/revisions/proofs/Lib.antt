@@ -3,6 +3,7 @@ pub mod Firsts
 pub mod Backward
 pub mod Hexadecimal
 pub mod FreeNames
+pub mod JoinedNames
 pub mod NewNames
 pub mod Plans
 pub mod Histories

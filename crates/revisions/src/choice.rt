@@ -9,7 +9,7 @@ ghost use Rattle.revisions.specs.Choice.{choice_of, greatest, has_data, named_am
 ghost use Rattle.revisions.specs.Plan.{are_sound, objects_of};
 
 use crate::view::RevisionView;
-use objects::{Members, Tree};
+use objects::Tree;
 use set_views::Set;
 
 /// The largest number that the API's integers of 64 bits with a sign hold.
@@ -94,19 +94,11 @@ pub(crate) fn named_current<'a>(set: &Set, owned: &[RevisionView<'a>]) -> Option
     }
 }
 
-/// What the pods of a revision are made from: its `data.spec.template`, if it is a map.
-fn template_of<'a>(revision: &RevisionView<'a>) -> Option<&'a Members>
-    ensures { option_map (λ m. m.now) result ≡ template_of revision.now.object.now }
-{
-    let spec = revision.data()?.as_map()?.get("spec")?;
-    spec.as_map()?.get("template")?.as_map()
-}
-
 fn has_template(current: Option<RevisionView<'_>>) -> bool
     ensures { result ≡ option_map_or (λ r. is_some (template_of r.object.now)) current.entry true }
 {
     match current {
-        Some(revision) => template_of(&revision).is_some(),
+        Some(revision) => revision.template().is_some(),
         None => true,
     }
 }

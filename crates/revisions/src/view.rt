@@ -1,8 +1,9 @@
 ghost use Rattle.std.specs.Prelude.{◌≡◌, option_map};
 ghost use Rattle.objects.specs.Tree.{data_of};
+ghost use Rattle.revisions.specs.Choice.{template_of};
 ghost use Rattle.revisions.specs.Revision.{data_in, number_of};
 
-use objects::{Object, Tree};
+use objects::{Members, Object, Tree};
 
 /// A ControllerRevision as a plan sees it: what was read of it once. It borrows the object.
 #[derive(Clone, Copy)]
@@ -34,6 +35,14 @@ impl<'a> RevisionView<'a> {
         ensures { option_map (λ t. data_of t.now) result ≡ data_in self.now.object.now }
     {
         self.object.member("data")
+    }
+
+    /// `data.spec.template`: the pod template (Kubernetes API reference, PodTemplateSpec), if it is a map.
+    pub fn template(&self) -> Option<&'a Members>
+        ensures { option_map (λ m. m.now) result ≡ template_of self.now.object.now }
+    {
+        let spec = self.data()?.as_map()?.get("spec")?;
+        spec.as_map()?.get("template")?.as_map()
     }
 }
 

@@ -348,6 +348,18 @@ fn a_revision_is_read(rt: HostRuntime) -> Result<(), Fail> {
     assert_eq!(rt; view.name, "web-x");
     assert_eq!(rt; view.number, 12);
     assert!(rt; view.data().is_some());
+    assert!(rt; view.template().is_none());
+    Ok(())
+}
+
+const OF_A_TEMPLATE: &str =
+    r#"{"data":{"spec":{"template":{"spec":{},"metadata":{}}}},"kind":"ControllerRevision","metadata":{"name":"web-x"}}"#;
+
+#[test]
+fn the_template_of_a_revision_is_read(rt: HostRuntime) -> Result<(), Fail> {
+    let revision = object(rt.alloc(), OF_A_TEMPLATE)?;
+    let template = read_revision(&revision).template();
+    assert_eq!(rt; template.map_or(0, |found| found.entries().len()), 2);
     Ok(())
 }
 
