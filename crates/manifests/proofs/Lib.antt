@@ -1,0 +1,2 @@
+pub mod PodKeys
+pub mod PodMetadata

@@ -1,0 +1,43 @@
+-- The StatefulSet with its new status (Kubernetes API reference, apps/v1: StatefulSetStatus).
+use Rattle.std.specs.Prelude.{ℕ, Bool, true, not, List, codes, Option, Some, None, option_and_then, unwrap_or, if◌then◌else◌}
+use Rattle.std.specs.Option.{option_map_or}
+use Rattle.serde_json.specs.Data.{Data, number, unsigned, string, object, Members, no_members, put}
+use Rattle.serde_json.specs.Find.{as_object}
+use Rattle.objects.specs.declared.object.Object.{Object}
+use Rattle.objects.specs.Same.{same_data}
+use Rattle.objects.specs.Status.{member_of, with_member}
+use Rattle.set_views.specs.Set.{SetParts}
+use Rattle.manifests.specs.declared.status.Status.{Status}
+
+abbrev pub put_number : List ℕ → ℕ → Members → Members
+put_number k n ms = put k (number (unsigned n)) ms
+
+-- what was counted and named, put over the members of the old status
+abbrev pub new_status : SetParts → Status → Members → Members
+new_status set s old =
+    put_number (codes "collisionCount") set.collisions
+    (put_number (codes "currentReplicas") s.current_replicas
+    (put (codes "currentRevision") (string s.current_revision.now)
+    (put_number (codes "observedGeneration") set.object.meta.generation
+    (put_number (codes "readyReplicas") s.ready_replicas
+    (put_number (codes "replicas") s.replicas
+    (put (codes "updateRevision") (string s.update_revision.now)
+    (put_number (codes "updatedReplicas") s.updated_replicas old)))))))
+
+abbrev pub status_in : SetParts → Option Data
+status_in set = member_of (codes "status") set.object.body
+
+-- what is no object counts as missing
+abbrev pub old_status : SetParts → Members
+old_status set = unwrap_or (option_and_then as_object (status_in set)) no_members
+
+abbrev pub set_with : SetParts → Data → Object
+set_with set status = record { key = set.object.key; meta = set.object.meta; body = with_member (codes "status") (Some status) set.object.body }
+
+-- it has no status, or another one
+abbrev pub differs : SetParts → Data → Bool
+differs set status = option_map_or (λ old. not (same_data status old)) (status_in set) true
+
+-- the set with its new status, where that differs from the old one
+unfoldable pub built_status : SetParts → Status → Option Object
+built_status set s = let status = object (new_status set s (old_status set)) in if differs set status then Some (set_with set status) else None

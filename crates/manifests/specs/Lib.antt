@@ -1,0 +1,3 @@
+pub mod Template
+pub mod BuiltPod
+pub mod BuiltStatus

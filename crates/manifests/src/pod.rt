@@ -1,0 +1,169 @@
+// The pods that a plan creates.
+ghost use Rattle.std.specs.Prelude.{◌≡◌, codes, true, option_map, IfOk};
+ghost use Rattle.serde_json.specs.Data.{string, object};
+ghost use Rattle.objects.specs.declared.kind.Kind.TheVariants.{Pod};
+ghost use Rattle.objects.specs.Key.{is_key, key_parts};
+ghost use Rattle.objects.specs.Object.{object_at};
+ghost use Rattle.objects.specs.PodNames.{pod_name};
+ghost use Rattle.objects.specs.Text.{put_some};
+ghost use Rattle.objects.specs.Tree.{data_of};
+ghost use Rattle.set_views.specs.Set.{set_parts};
+ghost use Rattle.set_views.specs.Steps.{Gives};
+ghost use Rattle.manifests.specs.BuiltPod.{built_pod, named_pod, pod_labels, pod_members, pod_metadata, pod_spec};
+
+use crate::members::{map_at, none, part, with_some, with_text};
+use crate::template::{labels_in, template_of};
+use objects::{Key, Kind, Members, Object, ReadError, Tree, pod_name};
+use revisions::{RevisionView, owned_metadata};
+use set_views::{PlanError, Set};
+use std::alloc::{AllocError, Global};
+
+/// The most bytes of a pod's name, which is the value of a label, and its hostname.
+const MOST_NAME: usize = 63;
+
+/// These labels, with those of a set's pods over them.
+fn pod_labels(
+    alloc: Global,
+    name: &str,
+    revision: &str,
+    ordinal: u32,
+    labels: Members,
+) -> Result<Members, AllocError>
+    ensures { IfOk result (λ all. all ≡ pod_labels name.now revision.now ordinal labels) }
+{
+    let named = with_text(alloc, labels, "statefulset.kubernetes.io/pod-name", name)?;
+    let versioned = with_text(alloc, named, "controller-revision-hash", revision)?;
+    let mut buffer = itoa::Buffer::new();
+    let index = buffer.format(ordinal);
+    let all = with_text(alloc, versioned, "apps.kubernetes.io/pod-index", index)?;
+    Ok(all)
+}
+
+/// The annotations of a template's metadata, if they are a map.
+fn annotations_in(metadata: &Members) -> Result<Option<Tree>, AllocError>
+    ensures { IfOk result (λ found. option_map data_of found ≡ option_map object (object_at (codes "annotations") metadata.now)) }
+{
+    match map_at(metadata, "annotations") {
+        Some(annotations) => Ok(Some(Tree::Map(annotations.clone()?))),
+        None => Ok(None),
+    }
+}
+
+/// The metadata of a pod, beside its name and namespace, over that of the template.
+fn pod_metadata(
+    alloc: Global,
+    set: &Set,
+    name: &str,
+    revision: &str,
+    ordinal: u32,
+    metadata: &Members,
+) -> Result<Members, AllocError>
+    ensures { IfOk result (λ ms. ms ≡ pod_metadata (set_parts set.now) name.now revision.now ordinal metadata.now) }
+{
+    let own = labels_in(alloc, metadata)?;
+    let labels = pod_labels(alloc, name, revision, ordinal, own)?;
+    let annotations = annotations_in(metadata)?;
+    let owned = owned_metadata(alloc, set)?;
+    let annotated = with_some(owned, "annotations", annotations)?;
+    let whole = annotated.with("labels", Some(Tree::Map(labels)))?;
+    Ok(whole)
+}
+
+/// The set's service as the pod's subdomain, if it has one.
+fn subdomain_of(set: &Set) -> Result<Option<Tree>, AllocError>
+    ensures { IfOk result (λ found. option_map data_of found ≡ option_map string (set_parts set.now).service) }
+{
+    match &set.service {
+        Some(service) => Ok(Some(Tree::Text(service.clone()?))),
+        None => Ok(None),
+    }
+}
+
+/// The spec of a pod, over that of the template.
+fn pod_spec(alloc: Global, set: &Set, name: &str, spec: Members) -> Result<Members, AllocError>
+    ensures { IfOk result (λ ms. ms ≡ pod_spec (set_parts set.now) name.now spec) }
+{
+    let named = with_text(alloc, spec, "hostname", name)?;
+    with_some(named, "subdomain", subdomain_of(set)?)
+}
+
+/// The members of a pod beside its metadata.
+fn pod_members(
+    alloc: Global,
+    set: &Set,
+    name: &str,
+    template: &Members,
+) -> Result<Members, AllocError>
+    ensures { IfOk result (λ ms. ms ≡ pod_members (set_parts set.now) name.now template.now) }
+{
+    let given = part(alloc, template, "spec")?;
+    let spec = pod_spec(alloc, set, name, given)?;
+    let members = none(alloc)?.with("spec", Some(Tree::Map(spec)))?;
+    Ok(members)
+}
+
+fn pod_key(alloc: Global, set: &Set, name: &str) -> Result<Key, AllocError>
+    requires { is_key (key_parts Pod set.now.object.key.namespace name.now) ≡ true }
+    ensures { IfOk result (λ key. key ≡ key_parts Pod set.now.object.key.namespace name.now) }
+{
+    match Key::of(alloc, Kind::Pod, set.object.key.namespace.as_str(), name) {
+        Ok(key) => Ok(key),
+        Err(ReadError::Memory) => Err(AllocError),
+        Err(_) => unreachable!(),
+    }
+}
+
+/// The pod of that name, from this template.
+fn named_pod(
+    alloc: Global,
+    set: &Set,
+    template: &Members,
+    revision: &str,
+    ordinal: u32,
+    name: &str,
+) -> Result<Object, AllocError>
+    requires { is_key (key_parts Pod set.now.object.key.namespace name.now) ≡ true }
+    ensures { IfOk result (λ pod. pod ≡ named_pod (set_parts set.now) template.now revision.now ordinal name.now) }
+{
+    let given = part(alloc, template, "metadata")?;
+    let metadata = pod_metadata(alloc, set, name, revision, ordinal, &given)?;
+    drop(given);
+    let members = pod_members(alloc, set, name, template)?;
+    let key = pod_key(alloc, set, name)?;
+    let pod = Object::of(alloc, key, metadata, members)?;
+    Ok(pod)
+}
+
+/// The set's name, which its pods' begin with.
+fn name_of(set: &Set) -> &str
+    ensures name { result.now ≡ set.now.object.key.name }
+    ensures valid { is_key set.now.object.key ≡ true }
+{
+    set.object.key.name.as_str()
+}
+
+/// The Pod of the set's ordinal, as it is to be created from the template of that revision (Kubernetes, "StatefulSets":
+/// "Pod Identity"). Over the template's own labels it has `apps.kubernetes.io/pod-index`, `controller-revision-hash` and
+/// `statefulset.kubernetes.io/pod-name`, and over the template's own spec the pod's name as `hostname` and the set's
+/// service, if it has one, as `subdomain`; the set is its one owner. A part of the template that is of the wrong type
+/// counts as missing: `metadata`, `annotations` and `spec` are maps, and `labels` is a map of texts.
+///
+/// It is NameTooLong where the name, which is a hostname and the value of a label, has more than 63 bytes.
+#[tactic(auto, unfolding(crate::specs::BuiltPod::built_pod))]
+pub fn pod_of(
+    alloc: Global,
+    set: &Set,
+    revision: &RevisionView<'_>,
+    ordinal: u32,
+) -> Result<Object, PlanError>
+    ensures { Gives (λ pod. pod) result (built_pod (set_parts set.now) revision.now.object.now ordinal) }
+{
+    let name = pod_name(alloc, name_of(set), ordinal)?;
+    if MOST_NAME < name.as_str().len() {
+        drop(name);
+        return Err(PlanError::NameTooLong);
+    }
+    let template = template_of(alloc, revision)?;
+    let pod = named_pod(alloc, set, &template, revision.name, ordinal, name.as_str())?;
+    Ok(pod)
+}
