@@ -88,23 +88,28 @@ pub fits_parts : (ms : Members) → metadata_fits ms ≡ true → (labels_fit (g
 unfolding metadata_fits
 fits_parts ms fits = and_parts (labels_fit (get_member (codes "labels") ms)) (owners_fit (get_member (codes "ownerReferences") ms)) fits
 
--- what a body has to say, said by the members that were read
-pub body_said : (kind : Kind) (ms metadata : Members) → get_member (codes "kind") ms ≡ Some (string (kind_name kind)) → is_missing_or (api_version kind) (get_member (codes "apiVersion") ms) ≡ true
-    → metadata_fits metadata ≡ true → IsBody kind (object (put (codes "metadata") (object (without_held metadata)) ms))
-body_said kind ms metadata kind_said version_said fits =
-    let d = object (without_held metadata) in
-    let parts = fits_parts metadata fits in
+-- what a body has to say, said by its members and its metadata
+pub body_of_metadata : (kind : Kind) (ms metadata : Members) → SaysKind kind ms → has_held metadata ≡ false → labels_fit (get_member (codes "labels") metadata) ≡ true
+    → owners_fit (get_member (codes "ownerReferences") metadata) ≡ true → IsBody kind (object (put (codes "metadata") (object metadata) ms))
+body_of_metadata kind ms metadata said unheld labels owners =
     record {
-      members = put (codes "metadata") d ms;
-      metadata = without_held metadata;
+      members = put (codes "metadata") (object metadata) ms;
+      metadata = metadata;
       whole = refl;
-      kind_said = get_member-put_other (codes "kind") (codes "metadata") d ms (λ e. absurd cc) ∙ kind_said;
-      version_said = ap (is_missing_or (api_version kind)) (get_member-put_other (codes "apiVersion") (codes "metadata") d ms (λ e. absurd cc)) ∙ version_said;
-      metadata_said = get_member-put (codes "metadata") d ms;
-      none_held = has_held-without_held metadata;
-      labels_said = ap labels_fit (unheld_found (codes "labels") metadata refl) ∙ parts.0;
-      owners_said = ap owners_fit (unheld_found (codes "ownerReferences") metadata refl) ∙ parts.1;
+      kind_said = get_member-put_other (codes "kind") (codes "metadata") (object metadata) ms (λ e. absurd cc) ∙ said.kind_said;
+      version_said = ap (is_missing_or (api_version kind)) (get_member-put_other (codes "apiVersion") (codes "metadata") (object metadata) ms (λ e. absurd cc)) ∙ said.version_said;
+      metadata_said = get_member-put (codes "metadata") (object metadata) ms;
+      none_held = unheld;
+      labels_said = labels;
+      owners_said = owners;
     }
+
+-- the same by the members that were read
+pub body_said : (kind : Kind) (ms metadata : Members) → SaysKind kind ms → metadata_fits metadata ≡ true → IsBody kind (object (put (codes "metadata") (object (without_held metadata)) ms))
+body_said kind ms metadata said fits =
+    let parts = fits_parts metadata fits in
+    body_of_metadata kind ms (without_held metadata) said (has_held-without_held metadata)
+    (ap labels_fit (unheld_found (codes "labels") metadata refl) ∙ parts.0) (ap owners_fit (unheld_found (codes "ownerReferences") metadata refl) ∙ parts.1)
 
 -- what was read of the kind
 pub says_kind : (ms : Members) (named kind keyed : Kind) → kind_in ms ≡ Ok named → guarded UnknownKind (is_missing_or (api_version named) (get_member (codes "apiVersion") ms)) named ≡ Ok kind → keyed ≡ kind → SaysKind keyed ms
@@ -161,21 +166,13 @@ pub new_body_said : (kind : Kind) (metadata ms : Members) → has_held metadata 
 new_body_said kind metadata ms unheld fits =
     let parts = fits_parts metadata fits in
     let versioned = put (codes "apiVersion") (string (api_version kind)) ms in
-    let named = put (codes "kind") (string (kind_name kind)) versioned in
-    let version : get_member (codes "apiVersion") (put (codes "metadata") (object metadata) named) ≡ Some (string (api_version kind)) =
-    get_member-put_other (codes "apiVersion") (codes "metadata") (object metadata) named (λ e. absurd cc)
-    ∙ (get_member-put_other (codes "apiVersion") (codes "kind") (string (kind_name kind)) versioned (λ e. absurd cc) ∙ get_member-put (codes "apiVersion") (string (api_version kind)) ms) in
-    record {
-      members = put (codes "metadata") (object metadata) named;
-      metadata = metadata;
-      whole = refl;
-      kind_said = get_member-put_other (codes "kind") (codes "metadata") (object metadata) named (λ e. absurd cc) ∙ get_member-put (codes "kind") (string (kind_name kind)) versioned;
+    let version : get_member (codes "apiVersion") (put (codes "kind") (string (kind_name kind)) versioned) ≡ Some (string (api_version kind)) =
+    get_member-put_other (codes "apiVersion") (codes "kind") (string (kind_name kind)) versioned (λ e. absurd cc) ∙ get_member-put (codes "apiVersion") (string (api_version kind)) ms in
+    let said : SaysKind kind (put (codes "kind") (string (kind_name kind)) versioned) = record {
+      kind_said = get_member-put (codes "kind") (string (kind_name kind)) versioned;
       version_said = ap (is_missing_or (api_version kind)) version ∙ (bytes_eq-Decides (api_version kind) (api_version kind)).1 refl;
-      metadata_said = get_member-put (codes "metadata") (object metadata) named;
-      none_held = unheld;
-      labels_said = parts.0;
-      owners_said = parts.1;
-    }
+    } in
+    body_of_metadata kind (put (codes "kind") (string (kind_name kind)) versioned) metadata said unheld parts.0 parts.1
 
 -- a new body, member by member
 pub new_body_is : (kind : Kind) (metadata ms versioned named whole : Members) (version name : List ℕ) → version ≡ api_version kind → name ≡ kind_name kind

@@ -23,7 +23,7 @@ none_left k no_members = refl
 none_left k (member l d ms) = none_left_at (bytes_eq k l) k l d (without_member k ms) refl (none_left k ms)
 
 -- the key that is set has the value that it is set to
-set_found : (k : List ℕ) (value : Option Data) (ms : Members) → get_member k (set_member k value ms) ≡ value
+pub set_found : (k : List ℕ) (value : Option Data) (ms : Members) → get_member k (set_member k value ms) ≡ value
 set_found k None ms = none_left k ms
 set_found k (Some d) ms = get_member-put k d ms
 

@@ -3,6 +3,7 @@ pub mod Chains
 pub mod HeldMembers
 pub mod Bodies
 pub mod BodyMembers
+pub mod OwnerMembers
 pub mod Numerals
 pub mod UidRound
 pub mod KeyTexts

@@ -15,8 +15,8 @@ pub mod Meta
 pub mod MetadataShape
 pub mod Object
 pub mod New
-pub mod Metadata
 pub mod Status
+pub mod Metadata
 pub mod Steps
 pub mod Reading
 pub mod Text

@@ -24,6 +24,7 @@ pub use fault::ReadError;
 pub use key::Key;
 pub use kind::Kind;
 pub use meta::Meta;
+pub use metadata::only_the_owners_change;
 pub use object::{Draft, Object};
 pub use pod_names::{
     claim_name, claim_names_of_a_set_differ, pod_name, pod_names_differ, split_pod_name,
@@ -31,6 +32,7 @@ pub use pod_names::{
 pub use print::{print_object, write_object};
 pub use printed::{Printed, Printer};
 pub use read::{read_collection, read_draft, read_key, read_object};
+pub use shape::are_owners;
 pub use shard::shard_of;
 pub use status::only_the_set_member_changes;
 pub use trees::{

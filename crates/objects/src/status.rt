@@ -49,7 +49,7 @@ impl Object {
     }
 }
 
-fn with_member(body: Tree, key: &str, value: Option<Tree>) -> Result<Tree, AllocError>
+pub(crate) fn with_member(body: Tree, key: &str, value: Option<Tree>) -> Result<Tree, AllocError>
     ensures { IfOk result (λ changed. data_of changed ≡ with_member key.now (option_map data_of value) (data_of body)) }
 {
     match body {

@@ -5,5 +5,5 @@ use Rattle.collector.proofs.deletes.is_collectable.Goals as goal
 
 pub returns-then-not-is_empty : goal.returns-then-not-is_empty
 returns-then-not-is_empty c =
-    let some : has_items _ ≡ true = ap has_items (sym c.owners-owners.ensures) ∙ has_items-some _ (sym c.is_empty.ensures ∙ c.if-not-is_empty.true) in
-    rw some (rw (← c.owners-owners.ensures) c.are_gone.ensures)
+    let some : has_items _ ≡ true = ap has_items (sym c.owners-owners.ensures.items) ∙ has_items-some _ (sym c.is_empty.ensures ∙ c.if-not-is_empty.true) in
+    rw some (rw (← c.owners-owners.ensures.items) c.are_gone.ensures)

@@ -9,4 +9,4 @@ pub invariant_of-result : goal.invariant_of-result
 invariant_of-result c =
     let gives = c.in_ok-body.ensures c.requires.whole.0 c.requires.whole.1 in
     let same : object (put (codes "metadata") (object (without_held c.requires.whole.0)) c.args.members) ≡ data_of c.in_ok-body.body = cc in
-    subst (IsBody c.args.key.kind) same (body_said c.args.key.kind c.args.members c.requires.whole.0 c.requires.said.kind_said c.requires.said.version_said c.requires.whole.2)
+    subst (IsBody c.args.key.kind) same (body_said c.args.key.kind c.args.members c.requires.whole.0 c.requires.said c.requires.whole.2)
