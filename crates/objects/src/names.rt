@@ -51,9 +51,10 @@ fn has_edges(bytes: &[u8]) -> bool
     is_alphanumeric(bytes[0]) && is_alphanumeric(bytes[bytes.len() - 1])
 }
 
-/// Whether the text is a DNS label (RFC 1123).
+/// Whether the text is a DNS label (RFC 1123): 1 to 63 bytes of `a-z`, `0-9` and `-`, the first and the last a letter or
+/// a digit.
 #[tactic(auto, unfolding(crate::specs::Names::is_dns_label))]
-pub(crate) fn is_dns_label(text: &str) -> bool
+pub fn is_dns_label(text: &str) -> bool
     ensures { result ≡ is_dns_label text.now }
 {
     let bytes = text.as_bytes();

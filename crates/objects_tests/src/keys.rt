@@ -1,6 +1,8 @@
 //! Keys, their kinds and collections, by tables.
-use objects::{Key, Kind, Members, ReadError, Tree, read_collection, read_key, read_tree};
-use std::alloc::Global;
+use objects::{
+    Key, Kind, Members, ReadError, Tree, is_dns_label, read_collection, read_key, read_tree,
+};
+use std::alloc::{AllocError, Global};
 use std::hash::{DefaultHasher, Hash, Hasher};
 use std::process::Abort;
 use std::test::Fail;
@@ -113,6 +115,42 @@ fn some_names_are_no_keys(rt: HostRuntime) {
         let refused = Key::of(rt.alloc(), Kind::Pod, namespace, name);
         assert!(rt; refused.is_err_and(|error| error == ReadError::BadName));
     }
+}
+
+/// How many bytes of `a` stand before a text, and whether they are a DNS label with it.
+static LABELS: [(usize, &str, bool); 17] = [
+    (0, "a", true),
+    (0, "0", true),
+    (0, "z9", true),
+    (0, "a-1", true),
+    (0, "0--z", true),
+    (62, "a", true),
+    (63, "a", false),
+    (0, "", false),
+    (0, "-", false),
+    (0, "-a", false),
+    (0, "a-", false),
+    (0, "A", false),
+    (0, "aBa", false),
+    (0, "a.b", false),
+    (0, "a_b", false),
+    (0, "a b", false),
+    (0, "é", false),
+];
+
+fn label(alloc: Global, letters: usize, end: &str) -> Result<String, AllocError> {
+    let mut text = "a".repeat(alloc, letters)?;
+    text.push_str(end)?;
+    Ok(text)
+}
+
+#[test]
+fn some_texts_are_labels(rt: HostRuntime) -> Result<(), Fail> {
+    for (letters, end, expected) in LABELS.iter() {
+        let text = label(rt.alloc(), *letters, end)?;
+        assert_eq!(rt; is_dns_label(text.as_str()), *expected, "{letters} {end}");
+    }
+    Ok(())
 }
 
 /// Members that name a kind and a namespace, or that are refused.

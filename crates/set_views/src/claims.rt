@@ -9,7 +9,7 @@ ghost use Rattle.set_views.specs.Steps.{Gives, guarded, required};
 ghost use Rattle.set_views.specs.Claims.{are_distinct, claim_of, claims_in, claims_of, names_of};
 
 use crate::fault::PlanError;
-use objects::{Key, Kind, Members, ReadError, Text, Tree};
+use objects::{Members, Text, Tree, is_dns_label};
 use std::alloc::{AllocError, Global};
 use std::collections::BTreeSet;
 
@@ -72,13 +72,10 @@ fn name_in(template: &Members) -> Option<&str>
 fn label_of(alloc: Global, text: &str) -> Result<Text, PlanError>
     ensures { Gives (λ t. t) result (guarded BadSpec (is_dns_label text.now) text.now) }
 {
-    match Key::of(alloc, Kind::StatefulSet, "default", text) {
-        Ok(key) => Ok(key.name),
-        Err(error) => match error {
-            ReadError::Memory => Err(PlanError::Memory),
-            _ => Err(PlanError::BadSpec),
-        },
+    if !is_dns_label(text) {
+        return Err(PlanError::BadSpec);
     }
+    Ok(Text::copy_of(alloc, text)?)
 }
 
 /// Whether no two templates have one name.
