@@ -33,7 +33,7 @@ pub use pod_names::{
 pub use print::{print_object, write_object};
 pub use printed::{Printed, Printer};
 pub use read::{read_collection, read_draft, read_key, read_object};
-pub use shape::are_owners;
+pub use shape::{are_owners, are_texts};
 pub use shard::shard_of;
 pub use status::only_the_set_member_changes;
 pub use trees::{

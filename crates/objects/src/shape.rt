@@ -36,7 +36,8 @@ fn owners_fit(found: Option<&Tree>) -> bool
     }
 }
 
-fn are_texts(entries: &[(Text, Tree)]) -> bool
+/// Whether each of these members is a text, as in `{"app":"web"}`.
+pub fn are_texts(entries: &[(Text, Tree)]) -> bool
     ensures { result ≡ are_texts (members_of entries.now) }
 {
     entries.iter().all(|(_, value)| value.as_text().is_some())
