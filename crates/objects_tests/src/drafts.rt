@@ -1,9 +1,8 @@
 //! Drafts: the texts that an object states of itself, and copies of objects.
+use crate::asserts::{assert_so, read};
 use json::Writer;
-use objects::{Draft, ReadError, Text, read_draft, read_object, read_tree, write_object};
+use objects::{Draft, Object, ReadError, Text, read_draft, read_object, read_tree, write_object};
 use std::alloc::{AllocError, Global};
-use std::process::Abort;
-use std::test::Fail;
 
 /// An object, the text of its UID with its number, and the text of its version with its number.
 struct Stated {
@@ -50,69 +49,75 @@ fn text_in(text: &Option<Text>) -> Option<&str> {
     Some(text.as_ref()?.as_str())
 }
 
-fn assert_states(rt: &impl Abort, draft: &Draft, stated: &Stated) {
-    assert_eq!(rt; text_in(&draft.uid), stated.uid);
-    assert_eq!(rt; draft.object.meta.uid, stated.number);
-    assert_eq!(rt; text_in(&draft.version), stated.version);
-    assert_eq!(rt; draft.object.meta.revision, stated.revision);
+fn states(draft: &Draft, stated: &Stated) -> bool {
+    text_in(&draft.uid) == stated.uid
+        && draft.object.meta.uid == stated.number
+        && text_in(&draft.version) == stated.version
+        && draft.object.meta.revision == stated.revision
 }
 
-/// The draft of a text whose tree is read first.
-fn by_tree(alloc: Global, text: &str) -> Result<Draft, ReadError> {
-    read_draft(alloc, read_tree(alloc, text.as_bytes())?)
-}
-
-#[test]
-fn drafts_keep_the_texts(rt: HostRuntime) -> Result<(), Fail> {
-    for stated in STATED.iter() {
-        let draft = read_object(rt.alloc(), stated.text.as_bytes())?;
-        assert_states(&rt, &draft, stated);
-        drop(draft);
-    }
-    Ok(())
-}
-
-#[test]
-fn drafts_are_read_of_trees(rt: HostRuntime) -> Result<(), Fail> {
-    for stated in STATED.iter() {
-        let draft = by_tree(rt.alloc(), stated.text)?;
-        assert_states(&rt, &draft, stated);
-        drop(draft);
-    }
-    Ok(())
-}
-
-#[test]
-fn drafts_are_copied(rt: HostRuntime) -> Result<(), Fail> {
-    for stated in STATED.iter() {
-        let draft = read_object(rt.alloc(), stated.text.as_bytes())?;
-        let copy: Result<_, AllocError> = draft.clone();
-        drop(draft);
-        let copy = copy?;
-        assert_states(&rt, &copy, stated);
-        drop(copy);
-    }
-    Ok(())
-}
-
-/// The text of a copy of the object that a text is.
-fn written(alloc: Global, text: &str) -> Result<Vec<u8>, ReadError> {
-    let draft = read_object(alloc, text.as_bytes())?;
-    let copy: Result<_, AllocError> = draft.object.clone();
+/// Whether the draft of the text states it.
+fn is_stated(alloc: Global, stated: &Stated) -> Result<bool, ReadError> {
+    let draft = read_object(alloc, stated.text.as_bytes())?;
+    let is_so = states(&draft, stated);
     drop(draft);
-    let copy = copy?;
-    let mut out = Writer::new(Vec::new(alloc));
-    let is_written = write_object(&copy, &mut out);
+    Ok(is_so)
+}
+
+/// Whether the draft of a text whose tree is read first states it.
+fn is_stated_by_its_tree(alloc: Global, stated: &Stated) -> Result<bool, ReadError> {
+    let tree = read_tree(alloc, stated.text.as_bytes())?;
+    let draft = read_draft(alloc, tree)?;
+    let is_so = states(&draft, stated);
+    drop(draft);
+    Ok(is_so)
+}
+
+fn copied(draft: Draft) -> Result<Draft, AllocError> {
+    let copy: Result<_, AllocError> = draft.clone();
+    drop(draft);
+    copy
+}
+
+/// Whether a copy of the draft states it.
+fn is_stated_by_a_copy(alloc: Global, stated: &Stated) -> Result<bool, ReadError> {
+    let copy = copied(read_object(alloc, stated.text.as_bytes())?)?;
+    let is_so = states(&copy, stated);
     drop(copy);
-    is_written?;
-    Ok(out.into_inner())
+    Ok(is_so)
 }
 
 #[test]
-fn copies_of_objects_are_written(rt: HostRuntime) -> Result<(), Fail> {
+fn drafts_keep_the_texts(rt: HostRuntime) {
+    for stated in STATED.iter() {
+        assert_so(&rt, is_stated(rt.alloc(), stated), stated.text);
+        assert_so(&rt, is_stated_by_its_tree(rt.alloc(), stated), stated.text);
+        assert_so(&rt, is_stated_by_a_copy(rt.alloc(), stated), stated.text);
+    }
+}
+
+/// Whether that is written of the object.
+fn is_written(alloc: Global, object: &Object, expected: &str) -> Result<bool, ReadError> {
+    let mut out = Writer::new(Vec::new(alloc));
+    write_object(object, &mut out)?;
+    Ok(out.into_inner().as_slice() == expected.as_bytes())
+}
+
+/// Whether that is written of a copy of the object of the text.
+fn is_copied_as(alloc: Global, text: &str, expected: &str) -> Result<bool, ReadError> {
+    let object = read(alloc, text)?;
+    let copy: Result<_, AllocError> = object.clone();
+    drop(object);
+    let copy = copy?;
+    let is_so = is_written(alloc, &copy, expected);
+    drop(copy);
+    is_so
+}
+
+#[test]
+fn copies_of_objects_are_written(rt: HostRuntime) {
     let text = r#"{"kind":"Pod","metadata":{"name":"a","deletionTimestamp":"d"}}"#;
     let expected =
-        br#"{"kind":"Pod","metadata":{"deletionTimestamp":"d","name":"a","namespace":"default"}}"#;
-    assert!(rt; written(rt.alloc(), text)?.as_slice() == expected.as_slice());
-    Ok(())
+        r#"{"kind":"Pod","metadata":{"deletionTimestamp":"d","name":"a","namespace":"default"}}"#;
+    assert_so(&rt, is_copied_as(rt.alloc(), text, expected), text);
 }

@@ -1,6 +1,8 @@
 //! Refused growths. `rt try --test --fail-alloc N` refuses the Nth allocation of each test. From 1 on, up to an N that no
 //! test of this file comes to, each has to pass: one call may want memory, and the same call after it is ample.
-use objects::{Memory, Object, Printed, Printer, ReadError, TreeReader, print_object, read_object};
+use crate::asserts::read;
+use crate::printed::printed;
+use objects::{Printed, Printer, ReadError, TreeReader, print_object};
 use std::alloc::Global;
 use std::process::Abort;
 
@@ -27,8 +29,10 @@ fn is_ample(rt: &impl Abort, answer: Result<String, ReadError>) -> bool {
 }
 
 fn read_and_printed(alloc: Global) -> Result<String, ReadError> {
-    let draft = read_object(alloc, TEXT.as_bytes())?;
-    Ok(print_object(alloc, &draft.object)?)
+    let object = read(alloc, TEXT)?;
+    let text = print_object(alloc, &object);
+    drop(object);
+    Ok(text?)
 }
 
 #[test]
@@ -45,19 +49,9 @@ fn read_back(
     printed: &Printed,
 ) -> Result<String, ReadError> {
     let object = printed.clone()?.object(reader)?;
-    Ok(print_object(alloc, &object)?)
-}
-
-/// The object as its text, by a printer that has printed before, or by none.
-fn printed(
-    alloc: Global,
-    printer: Option<&mut Printer>,
-    object: &Object,
-) -> Result<Printed, Memory> {
-    match printer {
-        Some(printer) => printer.print(object),
-        None => Printed::of(alloc, object),
-    }
+    let text = print_object(alloc, &object);
+    drop(object);
+    Ok(text?)
 }
 
 fn printed_and_read_back(
@@ -65,27 +59,33 @@ fn printed_and_read_back(
     reader: &mut TreeReader,
     printer: Option<&mut Printer>,
 ) -> Result<String, ReadError> {
-    let draft = read_object(alloc, TEXT.as_bytes())?;
-    let printed = printed(alloc, printer, &draft.object);
-    drop(draft);
-    read_back(alloc, reader, &printed?)
+    let printed = printed(alloc, printer, read(alloc, TEXT)?)?;
+    read_back(alloc, reader, &printed)
+}
+
+/// Whether the printing by that printer, or by none, was ample.
+fn is_ample_by(
+    rt: &impl Abort,
+    alloc: Global,
+    reader: &mut TreeReader,
+    printer: Option<&mut Printer>,
+) -> bool {
+    is_ample(rt, printed_and_read_back(alloc, reader, printer))
 }
 
 #[test]
 fn printed_objects_are_read_back(rt: HostRuntime) {
     let mut reader = TreeReader::new(rt.alloc());
     let mut printer = Printer::new(rt.alloc());
-    let first = printed_and_read_back(rt.alloc(), &mut reader, Some(&mut printer));
-    let first = is_ample(&rt, first);
-    let second = printed_and_read_back(rt.alloc(), &mut reader, Some(&mut printer));
-    let second = is_ample(&rt, second);
+    let first = is_ample_by(&rt, rt.alloc(), &mut reader, Some(&mut printer));
+    let second = is_ample_by(&rt, rt.alloc(), &mut reader, Some(&mut printer));
     assert!(rt; first || second);
 }
 
 #[test]
 fn objects_printed_anew_are_read_back(rt: HostRuntime) {
     let mut reader = TreeReader::new(rt.alloc());
-    let first = is_ample(&rt, printed_and_read_back(rt.alloc(), &mut reader, None));
-    let second = is_ample(&rt, printed_and_read_back(rt.alloc(), &mut reader, None));
+    let first = is_ample_by(&rt, rt.alloc(), &mut reader, None);
+    let second = is_ample_by(&rt, rt.alloc(), &mut reader, None);
     assert!(rt; first || second);
 }

@@ -1,19 +1,8 @@
 //! Keys, their kinds and collections, by tables.
-use objects::{
-    Key, Kind, Members, ReadError, Tree, is_dns_label, read_collection, read_key, read_tree,
-};
+use crate::asserts::{assert_so, read_members};
+use objects::{Key, Kind, ReadError, Text, is_dns_label, read_collection, read_key};
 use std::alloc::{AllocError, Global};
 use std::hash::{DefaultHasher, Hash, Hasher};
-use std::process::Abort;
-use std::test::Fail;
-
-/// The members of a text that is a map.
-fn members_in(alloc: Global, text: &str) -> Result<Members, Fail> {
-    match read_tree(alloc, text.as_bytes())? {
-        Tree::Map(members) => Ok(members),
-        _ => Err("no map".into()),
-    }
-}
 
 /// Members that name a key, with its kind, namespace and name, or that are refused.
 static NAMED: [(&str, Result<(Kind, &str, &str), ReadError>); 4] = [
@@ -33,26 +22,31 @@ fn names_of(key: &Key) -> (Kind, &str, &str) {
     (key.kind, key.namespace.as_str(), key.name.as_str())
 }
 
-fn assert_names(
-    rt: &impl Abort,
-    key: &Result<Key, ReadError>,
-    expected: Result<(Kind, &str, &str), ReadError>,
-) {
+fn is_key(key: &Result<Key, ReadError>, expected: Result<(Kind, &str, &str), ReadError>) -> bool {
     match key {
-        Ok(key) => assert_eq!(rt; Ok(names_of(key)), expected),
-        Err(error) => assert_eq!(rt; Err(*error), expected),
+        Ok(key) => expected.is_ok_and(|names| names == names_of(key)),
+        Err(error) => expected.is_err_and(|expected| expected == *error),
     }
 }
 
+fn reads_key(
+    alloc: Global,
+    text: &str,
+    expected: Result<(Kind, &str, &str), ReadError>,
+) -> Result<bool, ReadError> {
+    let members = read_members(alloc, text)?;
+    let key = read_key(alloc, &members);
+    drop(members);
+    let is_so = is_key(&key, expected);
+    drop(key);
+    Ok(is_so)
+}
+
 #[test]
-fn keys_are_read(rt: HostRuntime) -> Result<(), Fail> {
+fn keys_are_read(rt: HostRuntime) {
     for (text, expected) in NAMED.iter() {
-        let members = members_in(rt.alloc(), text)?;
-        let key = read_key(rt.alloc(), &members);
-        drop(members);
-        assert_names(&rt, &key, *expected);
+        assert_so(&rt, reads_key(rt.alloc(), text, *expected), text);
     }
-    Ok(())
 }
 
 /// Keys in their order: by kind, then by namespace, then by name.
@@ -64,9 +58,11 @@ static RISING: [(Kind, &str, &str); 5] = [
     (Kind::ControllerRevision, "a", "a"),
 ];
 
-fn key_at(alloc: Global, place: usize) -> Result<Key, Fail> {
-    let (kind, namespace, name) = RISING.get(place).ok_or("no such row")?;
-    Ok(Key::of(alloc, *kind, namespace, name)?)
+fn key_at(alloc: Global, place: usize) -> Result<Key, ReadError> {
+    match RISING.get(place) {
+        Some((kind, namespace, name)) => Key::of(alloc, *kind, namespace, name),
+        None => Err(ReadError::BadName),
+    }
 }
 
 fn hash_of(key: &Key) -> u64 {
@@ -75,35 +71,31 @@ fn hash_of(key: &Key) -> u64 {
     hasher.finish()
 }
 
-fn assert_below(rt: &impl Abort, lower: &Key, upper: &Key) {
-    assert!(rt; lower < upper && upper > lower && lower != upper);
-    assert!(rt; hash_of(lower) != hash_of(upper));
+fn is_below(lower: &Key, upper: &Key) -> bool {
+    lower < upper && upper > lower && lower != upper && hash_of(lower) != hash_of(upper)
+}
+
+fn is_alike(key: &Key, copy: &Key) -> bool {
+    key == copy && hash_of(key) == hash_of(copy)
+}
+
+/// Whether the key of the one place is below that of the other, and a copy of it is the key.
+fn are_ordered(alloc: Global, lower: usize, upper: usize) -> Result<bool, ReadError> {
+    let lower = key_at(alloc, lower)?;
+    let is_so = key_at(alloc, upper).is_ok_and(|upper| is_below(&lower, &upper));
+    let copy: Result<_, AllocError> = lower.clone();
+    let is_copied = copy.is_ok_and(|copy| is_alike(&lower, &copy));
+    drop(lower);
+    Ok(is_so && is_copied)
 }
 
 #[test]
-fn keys_have_an_order(rt: HostRuntime) -> Result<(), Fail> {
+fn keys_have_an_order_and_copies(rt: HostRuntime) {
     for upper in 0..RISING.len() {
         for lower in 0..upper {
-            let keys = (key_at(rt.alloc(), lower)?, key_at(rt.alloc(), upper)?);
-            assert_below(&rt, &keys.0, &keys.1);
+            assert_so(&rt, are_ordered(rt.alloc(), lower, upper), "keys");
         }
     }
-    Ok(())
-}
-
-fn assert_alike(rt: &impl Abort, key: &Key, copy: &Key) {
-    assert!(rt; key == copy);
-    assert_eq!(rt; hash_of(key), hash_of(copy));
-}
-
-#[test]
-fn copies_of_keys_are_alike(rt: HostRuntime) -> Result<(), Fail> {
-    for place in 0..RISING.len() {
-        let key = key_at(rt.alloc(), place)?;
-        let copy = key.clone()?;
-        assert_alike(&rt, &key, &copy);
-    }
-    Ok(())
 }
 
 /// Namespaces and names that no key has together.
@@ -138,19 +130,19 @@ static LABELS: [(usize, &str, bool); 17] = [
     (0, "é", false),
 ];
 
-fn label(alloc: Global, letters: usize, end: &str) -> Result<String, AllocError> {
+/// Whether so many bytes of `a` and that end are a label.
+fn is_label(alloc: Global, letters: usize, end: &str) -> Result<bool, ReadError> {
     let mut text = "a".repeat(alloc, letters)?;
     text.push_str(end)?;
-    Ok(text)
+    Ok(is_dns_label(text.as_str()))
 }
 
 #[test]
-fn some_texts_are_labels(rt: HostRuntime) -> Result<(), Fail> {
+fn some_texts_are_labels(rt: HostRuntime) {
     for (letters, end, expected) in LABELS.iter() {
-        let text = label(rt.alloc(), *letters, end)?;
-        assert_eq!(rt; is_dns_label(text.as_str()), *expected, "{letters} {end}");
+        let is_label = is_label(rt.alloc(), *letters, end);
+        assert!(rt; is_label == Ok(*expected), "{end}");
     }
-    Ok(())
 }
 
 /// Members that name a kind and a namespace, or that are refused.
@@ -181,20 +173,36 @@ static COLLECTIONS: [(&str, Result<(Kind, &str), ReadError>); 9] = [
     (r#"{"kind":"Pod","namespace":5}"#, Err(ReadError::BadName)),
 ];
 
-#[test]
-fn collections_are_read(rt: HostRuntime) -> Result<(), Fail> {
-    for (text, expected) in COLLECTIONS.iter() {
-        let members = members_in(rt.alloc(), text)?;
-        let found = read_collection(rt.alloc(), &members);
-        drop(members);
-        match found {
-            Ok((kind, namespace)) => {
-                assert_eq!(rt; Ok((kind, namespace.as_str())), *expected, "of {text}");
-            }
-            Err(error) => assert_eq!(rt; Err(error), *expected, "of {text}"),
+fn is_collection(
+    found: &Result<(Kind, Text), ReadError>,
+    expected: Result<(Kind, &str), ReadError>,
+) -> bool {
+    match found {
+        Ok((kind, namespace)) => {
+            expected.is_ok_and(|names| names.0 == *kind && names.1 == namespace.as_str())
         }
+        Err(error) => expected.is_err_and(|expected| expected == *error),
     }
-    Ok(())
+}
+
+fn reads_collection(
+    alloc: Global,
+    text: &str,
+    expected: Result<(Kind, &str), ReadError>,
+) -> Result<bool, ReadError> {
+    let members = read_members(alloc, text)?;
+    let found = read_collection(alloc, &members);
+    drop(members);
+    let is_so = is_collection(&found, expected);
+    drop(found);
+    Ok(is_so)
+}
+
+#[test]
+fn collections_are_read(rt: HostRuntime) {
+    for (text, expected) in COLLECTIONS.iter() {
+        assert_so(&rt, reads_collection(rt.alloc(), text, *expected), text);
+    }
 }
 
 /// The kinds with their names and API versions.

@@ -1,9 +1,8 @@
 //! What objects say in their `metadata`, and which shards keep them, by tables.
-use objects::{
-    Key, Kind, Object, ReadError, Tree, are_owners, print_object, read_object, read_tree, shard_of,
-};
+use crate::asserts::{assert_so, is_printed, read, read_some};
+use objects::{Key, Kind, Object, ReadError, Tree, are_owners, are_texts, read_tree, shard_of};
 use std::alloc::Global;
-use std::test::Fail;
+use std::process::Abort;
 
 /// An object, the name of a label, and the text of that label.
 static LABELS: [(&str, &str, Option<&str>); 9] = [
@@ -51,15 +50,23 @@ static LABELS: [(&str, &str, Option<&str>); 9] = [
     ),
 ];
 
+fn has_label(
+    alloc: Global,
+    text: &str,
+    name: &str,
+    expected: Option<&str>,
+) -> Result<bool, ReadError> {
+    let object = read(alloc, text)?;
+    let is_found = object.label(name) == expected;
+    drop(object);
+    Ok(is_found)
+}
+
 #[test]
-fn labels_are_found(rt: HostRuntime) -> Result<(), Fail> {
+fn labels_are_found(rt: HostRuntime) {
     for (text, name, expected) in LABELS.iter() {
-        let draft = read_object(rt.alloc(), text.as_bytes())?;
-        let is_found = draft.object.label(name) == *expected;
-        drop(draft);
-        assert!(rt; is_found, "{name} of {text}");
+        assert_so(&rt, has_label(rt.alloc(), text, name, *expected), text);
     }
-    Ok(())
 }
 
 /// An object, and the names of its owners in order.
@@ -100,13 +107,18 @@ fn are_named(owners: &[Tree], names: &[&str]) -> bool {
             .all(|(owner, name)| name_of(owner) == Some(*name))
 }
 
+fn has_owners(alloc: Global, text: &str, names: &[&str]) -> Result<bool, ReadError> {
+    let object = read(alloc, text)?;
+    let is_so = are_named(object.owners(), names);
+    drop(object);
+    Ok(is_so)
+}
+
 #[test]
-fn owners_are_listed(rt: HostRuntime) -> Result<(), Fail> {
+fn owners_are_listed(rt: HostRuntime) {
     for (text, names) in OWNERS.iter() {
-        let draft = read_object(rt.alloc(), text.as_bytes())?;
-        assert!(rt; are_named(draft.object.owners(), names), "of {text}");
+        assert_so(&rt, has_owners(rt.alloc(), text, names), text);
     }
-    Ok(())
 }
 
 /// An object, the owners that it is given, if any, and what is printed of it then.
@@ -144,54 +156,82 @@ static GIVEN: [(&str, Option<&str>, &str); 6] = [
     ),
 ];
 
-/// The object with the owners of that text; BadMeta where they are none.
-fn owned(alloc: Global, object: Object, owners: Option<&str>) -> Result<Object, ReadError> {
-    let Some(text) = owners else {
-        return Ok(object.with_owners(None)?);
-    };
-    match read_tree(alloc, text.as_bytes())? {
-        Tree::List(items) if are_owners(items.as_slice()) => Ok(object.with_owners(Some(items))?),
-        _ => Err(ReadError::BadMeta),
+/// The object with these owners, if any; BadMeta where they are none.
+fn owned(object: Object, owners: Option<Tree>) -> Result<Object, ReadError> {
+    match owners {
+        None => Ok(object.with_owners(None)?),
+        Some(Tree::List(items)) => {
+            if !are_owners(items.as_slice()) {
+                drop(items);
+                drop(object);
+                return Err(ReadError::BadMeta);
+            }
+            Ok(object.with_owners(Some(items))?)
+        }
+        Some(other) => {
+            drop(other);
+            drop(object);
+            Err(ReadError::BadMeta)
+        }
     }
 }
 
-/// What is printed of the object of that text with those owners.
-fn printed_with(alloc: Global, text: &str, owners: Option<&str>) -> Result<String, ReadError> {
-    let draft = read_object(alloc, text.as_bytes())?;
-    let object = owned(alloc, draft.object, owners)?;
-    Ok(print_object(alloc, &object)?)
+/// Whether that is printed of the object of that text with those owners.
+pub(crate) fn is_printed_with(
+    alloc: Global,
+    text: &str,
+    owners: Option<&str>,
+    expected: &str,
+) -> Result<bool, ReadError> {
+    let owners = read_some(alloc, owners)?;
+    let object = owned(read(alloc, text)?, owners)?;
+    let is_so = is_printed(alloc, &object, expected);
+    drop(object);
+    is_so
 }
 
 #[test]
-fn owners_are_set_and_taken_away(rt: HostRuntime) -> Result<(), Fail> {
+fn owners_are_set_and_taken_away(rt: HostRuntime) {
     for (text, owners, expected) in GIVEN.iter() {
-        let printed = printed_with(rt.alloc(), text, *owners)?;
-        assert_eq!(rt; printed.as_str(), *expected);
+        let answer = is_printed_with(rt.alloc(), text, *owners, expected);
+        assert_so(&rt, answer, expected);
     }
-    Ok(())
 }
 
-/// Lists, and whether each item is a map with a text `uid`.
-static LISTS: [(&str, bool); 6] = [
+/// Lists and maps, and whether each item is a map with a text `uid`, or each member a text.
+static PARTS: [(&str, bool); 10] = [
     ("[]", true),
     (r#"[{"uid":""},{"name":"a","uid":"x"}]"#, true),
     (r#"[{"uid":"x"},{"name":"a"}]"#, false),
     (r#"[{"uid":"x"},{"uid":1}]"#, false),
     (r#"[{"uid":"x"},"uid"]"#, false),
     (r#"[[{"uid":"x"}]]"#, false),
+    ("{}", true),
+    (r#"{"a":"","b":"x"}"#, true),
+    (r#"{"a":"x","b":null}"#, false),
+    (r#"{"a":7}"#, false),
 ];
 
-fn are_owners_in(tree: &Tree) -> Option<bool> {
-    Some(are_owners(tree.as_list()?.as_slice()))
+fn fits(tree: &Tree) -> bool {
+    match tree {
+        Tree::List(items) => are_owners(items.as_slice()),
+        Tree::Map(members) => are_texts(members.entries()),
+        _ => false,
+    }
+}
+
+fn is_fitting(alloc: Global, text: &str, expected: bool) -> Result<bool, ReadError> {
+    let tree = read_tree(alloc, text.as_bytes())?;
+    let fits = fits(&tree);
+    drop(tree);
+    Ok(fits == expected)
 }
 
 #[test]
-fn owners_have_uids(rt: HostRuntime) -> Result<(), Fail> {
-    for (text, expected) in LISTS.iter() {
-        let tree = read_tree(rt.alloc(), text.as_bytes())?;
-        assert_eq!(rt; are_owners_in(&tree), Some(*expected), "of {text}");
+fn owners_have_uids_and_labels_are_texts(rt: HostRuntime) {
+    for (text, expected) in PARTS.iter() {
+        assert_so(&rt, is_fitting(rt.alloc(), text, *expected), text);
     }
-    Ok(())
 }
 
 /// A key, how many shards there are, and which one keeps its object. The bytes of `Pod/default/a` sum to 1223: 291 of
@@ -208,15 +248,18 @@ static SHARDS: [(Kind, &str, &str, usize, usize); 9] = [
     (Kind::StatefulSet, "default", "a", 10_000, 2072),
 ];
 
+/// Asserts which shard keeps the object of the key.
+fn assert_kept(rt: &impl Abort, key: &Key, shards: usize, expected: usize) {
+    assert!(rt; shards > 0);
+    assert_eq!(rt; shard_of(key, shards), expected, "of {shards}");
+}
+
 #[test]
-fn shards_are_by_kind_namespace_and_name(rt: HostRuntime) -> Result<(), Fail> {
+fn shards_are_by_kind_namespace_and_name(rt: HostRuntime) {
     for (kind, namespace, name, shards, expected) in SHARDS.iter() {
-        let key = Key::of(rt.alloc(), *kind, namespace, name)?;
-        assert_eq!(rt;
-            shard_of(&key, *shards),
-            *expected,
-            "{kind:?}/{namespace}/{name} of {shards}"
-        );
+        match Key::of(rt.alloc(), *kind, namespace, name) {
+            Ok(key) => assert_kept(&rt, &key, *shards, *expected),
+            Err(error) => panic!(rt; "{error:?}"),
+        }
     }
-    Ok(())
 }

@@ -1,21 +1,27 @@
 //! JSON texts that are read as trees: floats, keys that come twice, wide maps and deep ones.
+use crate::asserts::assert_so;
 use json::Writer;
-use objects::{ReadError, read_tree, write_tree};
+use objects::{ReadError, Tree, read_tree, write_tree};
 use std::alloc::{AllocError, Global};
-use std::test::Fail;
 
-fn printed(alloc: Global, bytes: &[u8]) -> Result<Vec<u8>, ReadError> {
-    let tree = read_tree(alloc, bytes)?;
+fn written(alloc: Global, tree: &Tree) -> Result<Vec<u8>, AllocError> {
     let mut out = Writer::new(Vec::new(alloc));
-    write_tree(&tree, &mut out)?;
+    write_tree(tree, &mut out)?;
     Ok(out.into_inner())
 }
 
+fn printed(alloc: Global, bytes: &[u8]) -> Result<Vec<u8>, ReadError> {
+    let tree = read_tree(alloc, bytes)?;
+    let bytes = written(alloc, &tree);
+    drop(tree);
+    Ok(bytes?)
+}
+
 fn comes_to(alloc: Global, text: &str, expected: Result<&str, ReadError>) -> bool {
-    match (printed(alloc, text.as_bytes()), expected) {
-        (Ok(found), Ok(expected)) => found.as_slice() == expected.as_bytes(),
-        (Err(found), Err(expected)) => found == expected,
-        _ => false,
+    let found = printed(alloc, text.as_bytes());
+    match expected {
+        Ok(expected) => found.is_ok_and(|found| found.as_slice() == expected.as_bytes()),
+        Err(expected) => found.is_err_and(|found| found == expected),
     }
 }
 
@@ -69,7 +75,7 @@ fn trees_are_read(rt: HostRuntime) {
 }
 
 /// Members with that value, their keys from 1000 up to the end.
-fn ascending(alloc: Global, end: u32, value: &str) -> Result<String, AllocError> {
+pub(crate) fn ascending(alloc: Global, end: u32, value: &str) -> Result<String, AllocError> {
     let mut text = String::new(alloc);
     for key in 1000..end {
         let member = format!(in alloc; "\"{key}\":{value},")?;
@@ -88,20 +94,31 @@ fn descending(alloc: Global, end: u32, value: &str) -> Result<String, AllocError
     Ok(text)
 }
 
+/// Whether a map with that front and `x` comes to that.
+fn ends_as(
+    alloc: Global,
+    front: &str,
+    expected: Result<&str, ReadError>,
+) -> Result<bool, ReadError> {
+    let text = format!(in alloc; "{{{front}\"x\":0}}")?;
+    Ok(comes_to(alloc, text.as_str(), expected))
+}
+
 /// Whether a map of so many keys and `x` is the same in any order, and with each key twice.
-fn is_read_in_order(alloc: Global, end: u32) -> Result<bool, AllocError> {
+fn is_read_in_order(alloc: Global, end: u32) -> Result<bool, ReadError> {
     let up = ascending(alloc, end, "7")?;
     let down = descending(alloc, end, "7")?;
     let floats = ascending(alloc, end, "1.5")?;
+    let turned = format!(in alloc; "\"x\":0,{down}")?;
+    let twice = format!(in alloc; "{floats}{down}")?;
+    let undone = format!(in alloc; "{down}{floats}")?;
     let expected = format!(in alloc; "{{{up}\"x\":0}}")?;
-    let turned = format!(in alloc; "{{\"x\":0,{down}\"x\":0}}")?;
-    let twice = format!(in alloc; "{{{floats}{down}\"x\":0}}")?;
-    let floats = format!(in alloc; "{{{down}{floats}\"x\":0}}")?;
+    let expected = Ok(expected.as_str());
     Ok(
-        comes_to(alloc, expected.as_str(), Ok(expected.as_str()))
-            && comes_to(alloc, turned.as_str(), Ok(expected.as_str()))
-            && comes_to(alloc, twice.as_str(), Ok(expected.as_str()))
-            && comes_to(alloc, floats.as_str(), Err(ReadError::NotWhole)),
+        ends_as(alloc, up.as_str(), expected)?
+            && ends_as(alloc, turned.as_str(), expected)?
+            && ends_as(alloc, twice.as_str(), expected)?
+            && ends_as(alloc, undone.as_str(), Err(ReadError::NotWhole))?,
     )
 }
 
@@ -109,48 +126,44 @@ fn is_read_in_order(alloc: Global, end: u32) -> Result<bool, AllocError> {
 static ENDS: [u32; 7] = [1001, 1002, 1015, 1016, 1017, 1018, 1300];
 
 #[test]
-fn keys_come_in_any_order(rt: HostRuntime) -> Result<(), Fail> {
+fn keys_come_in_any_order(rt: HostRuntime) {
     for end in ENDS.iter() {
-        assert!(rt; is_read_in_order(rt.alloc(), *end)?, "up to {end}");
+        assert_so(&rt, is_read_in_order(rt.alloc(), *end), "keys");
     }
-    Ok(())
 }
 
-/// A number in that many lists or maps, one in the other.
-fn nested(
+/// How many lists or maps are one in the other, how each begins and ends, and whether a text may have them.
+static DEPTHS: [(usize, &str, &str, bool); 5] = [
+    (127, "[", "]", true),
+    (127, r#"{"a":"#, "}", true),
+    (128, "[", "]", false),
+    (128, r#"{"a":"#, "}", false),
+    (150_000, r#"{"a":"#, "}", false),
+];
+
+/// Whether a number in that many lists or maps is read, or is no JSON.
+fn nests(
     alloc: Global,
     levels: usize,
-    opening: &str,
-    closing: &str,
-) -> Result<String, AllocError> {
-    let opening = opening.repeat(alloc, levels)?;
-    let closing = closing.repeat(alloc, levels)?;
-    format!(in alloc; "{opening}7{closing}")
-}
-
-fn nests(alloc: Global, levels: usize, opening: &str, closing: &str) -> Result<bool, AllocError> {
-    let text = nested(alloc, levels, opening, closing)?;
-    Ok(comes_to(alloc, text.as_str(), Ok(text.as_str())))
-}
-
-fn nests_too_deep(
-    alloc: Global,
-    levels: usize,
-    opening: &str,
-    closing: &str,
-) -> Result<bool, AllocError> {
-    let text = nested(alloc, levels, opening, closing)?;
-    Ok(comes_to(alloc, text.as_str(), Err(ReadError::NotJson)))
+    parts: (&str, &str),
+    expected: bool,
+) -> Result<bool, ReadError> {
+    let opening = parts.0.repeat(alloc, levels)?;
+    let closing = parts.1.repeat(alloc, levels)?;
+    let text = format!(in alloc; "{opening}7{closing}")?;
+    if expected {
+        Ok(comes_to(alloc, text.as_str(), Ok(text.as_str())))
+    } else {
+        Ok(comes_to(alloc, text.as_str(), Err(ReadError::NotJson)))
+    }
 }
 
 #[test]
-fn trees_nest_so_deep(rt: HostRuntime) -> Result<(), Fail> {
-    assert!(rt; nests(rt.alloc(), 127, "[", "]")?);
-    assert!(rt; nests(rt.alloc(), 127, r#"{"a":"#, "}")?);
-    assert!(rt; nests_too_deep(rt.alloc(), 128, "[", "]")?);
-    assert!(rt; nests_too_deep(rt.alloc(), 128, r#"{"a":"#, "}")?);
-    assert!(rt; nests_too_deep(rt.alloc(), 150_000, r#"{"a":"#, "}")?);
-    Ok(())
+fn trees_nest_so_deep(rt: HostRuntime) {
+    for (levels, opening, closing, expected) in DEPTHS.iter() {
+        let answer = nests(rt.alloc(), *levels, (*opening, *closing), *expected);
+        assert_so(&rt, answer, opening);
+    }
 }
 
 /// Bytes that are no text in UTF-8 (RFC 3629), in a text that is JSON else.

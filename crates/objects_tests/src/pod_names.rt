@@ -1,6 +1,7 @@
 //! The names of pods and claims, and texts that are no pod's name.
-use objects::{claim_name, pod_name, split_pod_name};
-use std::test::Fail;
+use crate::asserts::assert_so;
+use objects::{ReadError, claim_name, pod_name, split_pod_name};
+use std::alloc::Global;
 
 /// Sets and ordinals, with the names of their pods.
 static PODS: [(&str, u32, &str); 6] = [
@@ -38,32 +39,46 @@ static CLAIMS: [(&str, &str, u32, &str); 4] = [
     ("a-b", "c", 0, "a-b-c-0"),
 ];
 
+fn is_pod(alloc: Global, set: &str, ordinal: u32, name: &str) -> Result<bool, ReadError> {
+    let made = pod_name(alloc, set, ordinal)?;
+    Ok(made.as_str() == name)
+}
+
 #[test]
-fn pods_have_names(rt: HostRuntime) -> Result<(), Fail> {
+fn pods_have_names(rt: HostRuntime) {
     for (set, ordinal, name) in PODS.iter() {
-        assert_eq!(rt; pod_name(rt.alloc(), set, *ordinal)?.as_str(), *name);
-        assert_eq!(rt; split_pod_name(name), Some((*set, *ordinal)));
+        assert_so(&rt, is_pod(rt.alloc(), set, *ordinal, name), name);
+        assert!(rt; split_pod_name(name) == Some((*set, *ordinal)));
     }
-    let largest = pod_name(rt.alloc(), "web", u32::MAX)?;
-    assert_eq!(rt; largest.as_str(), "web-4294967295");
-    assert_eq!(rt; split_pod_name(largest.as_str()), None);
-    Ok(())
+    let largest = "web-4294967295";
+    assert_so(&rt, is_pod(rt.alloc(), "web", u32::MAX, largest), largest);
 }
 
 #[test]
 fn other_texts_are_no_names(rt: HostRuntime) {
     for text in OTHERS.iter() {
-        assert_eq!(rt; split_pod_name(text), None, "{text}");
+        assert!(rt; split_pod_name(text).is_none(), "{text}");
     }
 }
 
+fn is_claim(
+    alloc: Global,
+    template: &str,
+    set: &str,
+    ordinal: u32,
+    name: &str,
+) -> Result<bool, ReadError> {
+    let made = claim_name(alloc, template, set, ordinal)?;
+    Ok(made.as_str() == name)
+}
+
 #[test]
-fn claims_have_names(rt: HostRuntime) -> Result<(), Fail> {
+fn claims_have_names(rt: HostRuntime) {
     for (template, set, ordinal, name) in CLAIMS.iter() {
-        assert_eq!(rt;
-            claim_name(rt.alloc(), template, set, *ordinal)?.as_str(),
-            *name
+        assert_so(
+            &rt,
+            is_claim(rt.alloc(), template, set, *ordinal, name),
+            name,
         );
     }
-    Ok(())
 }

@@ -1,15 +1,8 @@
 //! Printed objects: the text, the object that is read back from it, and copies.
-use objects::{
-    Items, Object, Printed, Printer, ReadError, Text, Tree, TreeReader, print_object, read_object,
-};
+use crate::asserts::{assert_so, is_printed, read};
+use objects::{Items, Object, Printed, Printer, ReadError, Text, Tree, TreeReader};
 use std::alloc::{AllocError, Global};
-use std::process::Abort;
 use std::test::Fail;
-
-fn read(alloc: Global, text: &str) -> Result<Object, ReadError> {
-    let draft = read_object(alloc, text.as_bytes())?;
-    Ok(draft.object)
-}
 
 /// Texts that are objects, and what is printed of them.
 static OBJECTS: [(&str, &str); 4] = [
@@ -37,107 +30,130 @@ fn is_printed_as(
     alloc: Global,
     reader: &mut TreeReader,
     printed: &Printed,
-    text: &str,
+    expected: &str,
 ) -> Result<bool, ReadError> {
     let object = printed.object(reader)?;
-    let again = print_object(alloc, &object)?;
-    Ok(printed.as_str() == text && again.as_str() == text)
+    let is_again = is_printed(alloc, &object, expected);
+    drop(object);
+    Ok(printed.as_str() == expected && is_again?)
 }
 
-fn assert_printed(
-    rt: &impl Abort,
+/// The object as its text, by a printer that has printed before, or by none.
+pub(crate) fn printed(
+    alloc: Global,
+    printer: Option<&mut Printer>,
+    object: Object,
+) -> Result<Printed, ReadError> {
+    let printed = match printer {
+        Some(printer) => printer.print(&object),
+        None => Printed::of(alloc, &object),
+    };
+    drop(object);
+    Ok(printed?)
+}
+
+/// Whether that is printed of the object of the text.
+fn prints(
     alloc: Global,
     reader: &mut TreeReader,
-    printed: &Printed,
+    printer: Option<&mut Printer>,
+    text: &str,
     expected: &str,
-) -> Result<(), Fail> {
-    let is_so = is_printed_as(alloc, reader, printed, expected)?;
-    assert!(rt; is_so);
-    Ok(())
+) -> Result<bool, ReadError> {
+    let printed = printed(alloc, printer, read(alloc, text)?)?;
+    is_printed_as(alloc, reader, &printed, expected)
 }
 
 #[test]
-fn objects_are_printed(rt: HostRuntime) -> Result<(), Fail> {
+fn objects_are_printed(rt: HostRuntime) {
     let mut reader = TreeReader::new(rt.alloc());
     for (text, expected) in OBJECTS.iter() {
-        let printed = printed_of(rt.alloc(), text)?;
-        assert_printed(&rt, rt.alloc(), &mut reader, &printed, expected)?;
+        let answer = prints(rt.alloc(), &mut reader, None, text, expected);
+        assert_so(&rt, answer, text);
     }
-    Ok(())
-}
-
-fn printed_of(alloc: Global, text: &str) -> Result<Printed, ReadError> {
-    let object = read(alloc, text)?;
-    Ok(Printed::of(alloc, &object)?)
-}
-
-fn printed_by(alloc: Global, printer: &mut Printer, text: &str) -> Result<Printed, ReadError> {
-    let object = read(alloc, text)?;
-    Ok(printer.print(&object)?)
 }
 
 // Each text but the first comes behind a longer one or behind a shorter one.
 #[test]
-fn a_printer_prints_one_object_after_another(rt: HostRuntime) -> Result<(), Fail> {
+fn a_printer_prints_one_object_after_another(rt: HostRuntime) {
     let mut reader = TreeReader::new(rt.alloc());
     let mut printer = Printer::new(rt.alloc());
     for (text, expected) in OBJECTS.iter() {
-        let printed = printed_by(rt.alloc(), &mut printer, text)?;
-        assert_printed(&rt, rt.alloc(), &mut reader, &printed, expected)?;
+        let answer = prints(rt.alloc(), &mut reader, Some(&mut printer), text, expected);
+        assert_so(&rt, answer, text);
     }
-    Ok(())
 }
 
 fn copy_of(alloc: Global, text: &str) -> Result<Printed, ReadError> {
-    let printed = printed_of(alloc, text)?;
+    let printed = printed(alloc, None, read(alloc, text)?)?;
     Ok(printed.clone()?)
 }
 
+fn is_copied(
+    alloc: Global,
+    reader: &mut TreeReader,
+    text: &str,
+    expected: &str,
+) -> Result<bool, ReadError> {
+    let copy = copy_of(alloc, text)?;
+    is_printed_as(alloc, reader, &copy, expected)
+}
+
 #[test]
-fn copies_outlive_what_they_were_copied_from(rt: HostRuntime) -> Result<(), Fail> {
+fn copies_outlive_what_they_were_copied_from(rt: HostRuntime) {
     let mut reader = TreeReader::new(rt.alloc());
     for (text, expected) in OBJECTS.iter() {
-        let copy = copy_of(rt.alloc(), text)?;
-        assert_printed(&rt, rt.alloc(), &mut reader, &copy, expected)?;
+        assert_so(
+            &rt,
+            is_copied(rt.alloc(), &mut reader, text, expected),
+            text,
+        );
     }
-    Ok(())
 }
 
 /// A pod of that status.
 fn pod_of_status(alloc: Global, status: Tree) -> Result<Object, ReadError> {
-    let pod = read(alloc, r#"{"kind":"Pod","metadata":{"name":"a"}}"#)?;
-    Ok(pod.with_status(Some(status))?)
+    match read(alloc, r#"{"kind":"Pod","metadata":{"name":"a"}}"#) {
+        Ok(pod) => Ok(pod.with_status(Some(status))?),
+        Err(error) => {
+            drop(status);
+            Err(error)
+        }
+    }
 }
 
 /// What is printed of a pod whose status has that text.
 fn pod_text(alloc: Global, status: &str) -> Result<String, AllocError> {
-    let mut text = String::from_str(
-        alloc,
-        r#"{"kind":"Pod","metadata":{"name":"a","namespace":"default"},"status":"#,
-    )?;
-    text.push_str(status)?;
-    text.push_str("}")?;
-    Ok(text)
+    let front = r#"{"kind":"Pod","metadata":{"name":"a","namespace":"default"},"status":"#;
+    format!(in alloc; "{front}{status}}}")
 }
 
 /// That many lists, one in the other.
 fn nested(alloc: Global, lists: usize) -> Result<Tree, AllocError> {
     let mut tree = Tree::List(Items::of(alloc, Vec::new(alloc))?);
     for _ in 1..lists {
-        tree = Tree::List(Items::of(alloc, vec![in alloc; tree]?)?);
+        let mut items = Vec::new(alloc);
+        items.push(tree)?;
+        tree = Tree::List(Items::of(alloc, items)?);
     }
     Ok(tree)
 }
 
-fn printed_with(alloc: Global, status: Tree) -> Result<Printed, ReadError> {
-    let object = pod_of_status(alloc, status)?;
-    Ok(Printed::of(alloc, &object)?)
+/// Whether that is printed of a pod of that status.
+fn prints_status(
+    alloc: Global,
+    reader: &mut TreeReader,
+    status: Tree,
+    expected: &str,
+) -> Result<bool, ReadError> {
+    let printed = printed(alloc, None, pod_of_status(alloc, status)?)?;
+    is_printed_as(alloc, reader, &printed, expected)
 }
 
 fn deep_text(alloc: Global, lists: usize) -> Result<String, AllocError> {
-    let mut status = "[".repeat(alloc, lists)?;
+    let opening = "[".repeat(alloc, lists)?;
     let closing = "]".repeat(alloc, lists)?;
-    status.push_str(closing.as_str())?;
+    let status = format!(in alloc; "{opening}{closing}")?;
     pod_text(alloc, status.as_str())
 }
 
@@ -149,8 +165,9 @@ fn deep_objects_are_read_back(rt: HostRuntime) -> Result<(), Fail> {
     let mut reader = TreeReader::new(rt.alloc());
     for lists in DEPTHS.iter() {
         let expected = deep_text(rt.alloc(), *lists)?;
-        let printed = printed_with(rt.alloc(), nested(rt.alloc(), *lists)?)?;
-        assert_printed(&rt, rt.alloc(), &mut reader, &printed, expected.as_str())?;
+        let status = nested(rt.alloc(), *lists)?;
+        let answer = prints_status(rt.alloc(), &mut reader, status, expected.as_str());
+        assert_so(&rt, answer, "deep lists");
     }
     Ok(())
 }
@@ -160,10 +177,8 @@ fn letters(alloc: Global, count: usize) -> Result<Tree, AllocError> {
 }
 
 fn long_text(alloc: Global, count: usize) -> Result<String, AllocError> {
-    let mut status = String::from_str(alloc, "\"")?;
     let letters = "a".repeat(alloc, count)?;
-    status.push_str(letters.as_str())?;
-    status.push_str("\"")?;
+    let status = format!(in alloc; "\"{letters}\"")?;
     pod_text(alloc, status.as_str())
 }
 
@@ -176,10 +191,10 @@ fn long_objects_are_read_back(rt: HostRuntime) -> Result<(), Fail> {
     let mut reader = TreeReader::new(rt.alloc());
     for (count, is_line) in LENGTHS.iter() {
         let expected = long_text(rt.alloc(), *count)?;
-        let is_read = read(rt.alloc(), expected.as_str()).is_ok();
-        assert!(rt; is_read == *is_line);
-        let printed = printed_with(rt.alloc(), letters(rt.alloc(), *count)?)?;
-        assert_printed(&rt, rt.alloc(), &mut reader, &printed, expected.as_str())?;
+        assert!(rt; read(rt.alloc(), expected.as_str()).is_ok() == *is_line);
+        let status = letters(rt.alloc(), *count)?;
+        let answer = prints_status(rt.alloc(), &mut reader, status, expected.as_str());
+        assert_so(&rt, answer, "many letters");
     }
     Ok(())
 }

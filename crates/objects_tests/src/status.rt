@@ -1,7 +1,7 @@
 //! A status that is set and taken away, by tables worked out by hand.
-use objects::{Object, ReadError, Tree, print_object, read_object, read_tree};
+use crate::asserts::{assert_so, is_printed, read, read_some};
+use objects::{Object, ReadError};
 use std::alloc::Global;
-use std::test::Fail;
 
 /// An object, the status that it is given, and what is printed then.
 static STATUSES: [(&str, Option<&str>, &str); 12] = [
@@ -75,42 +75,34 @@ static STATUSES: [(&str, Option<&str>, &str); 12] = [
     ),
 ];
 
-fn read(alloc: Global, text: &str) -> Result<Object, ReadError> {
-    let draft = read_object(alloc, text.as_bytes())?;
-    Ok(draft.object)
-}
-
-fn read_status(alloc: Global, text: Option<&str>) -> Result<Option<Tree>, ReadError> {
-    match text {
-        Some(text) => Ok(Some(read_tree(alloc, text.as_bytes())?)),
-        None => Ok(None),
-    }
-}
-
-fn is_printed(alloc: Global, object: &Object, text: &str) -> Result<bool, ReadError> {
-    Ok(print_object(alloc, object)?.as_str() == text)
-}
-
 /// Whether this is printed of the object once it has the status.
 fn is_printed_with(
     alloc: Global,
     object: Object,
     status: Option<&str>,
-    text: &str,
+    expected: &str,
 ) -> Result<bool, ReadError> {
-    let status = read_status(alloc, status)?;
-    let changed = object.with_status(status)?;
-    is_printed(alloc, &changed, text)
+    let changed = object.with_status(read_some(alloc, status)?)?;
+    let is_so = is_printed(alloc, &changed, expected);
+    drop(changed);
+    is_so
+}
+
+/// The same of the object of that text.
+fn becomes(
+    alloc: Global,
+    text: &str,
+    status: Option<&str>,
+    expected: &str,
+) -> Result<bool, ReadError> {
+    is_printed_with(alloc, read(alloc, text)?, status, expected)
 }
 
 #[test]
-fn statuses_are_set_and_taken_away(rt: HostRuntime) -> Result<(), Fail> {
+fn statuses_are_set_and_taken_away(rt: HostRuntime) {
     for (text, status, expected) in STATUSES.iter() {
-        let object = read(rt.alloc(), text)?;
-        let is_so = is_printed_with(rt.alloc(), object, *status, expected)?;
-        assert!(rt; is_so, "of {text}");
+        assert_so(&rt, becomes(rt.alloc(), text, *status, expected), text);
     }
-    Ok(())
 }
 
 /// Objects as they are printed, the status that a copy is given, and what is printed of the copy.
@@ -132,28 +124,39 @@ static COPIES: [(&str, Option<&str>, &str); 3] = [
     ),
 ];
 
-/// Whether the second text is printed of a copy of the object once the copy has the status, and then the first text of the
-/// object.
+/// Whether the second text is printed of a copy of the first one's object once the copy has the status, and then the first
+/// text of the object.
 fn is_copied_with(
+    alloc: Global,
+    text: &str,
+    status: Option<&str>,
+    expected: &str,
+) -> Result<bool, ReadError> {
+    let object = read(alloc, text)?;
+    let is_changed = is_changed_copy(alloc, &object, status, expected);
+    let is_kept = is_printed(alloc, &object, text);
+    drop(object);
+    Ok(is_changed? && is_kept?)
+}
+
+fn is_changed_copy(
     alloc: Global,
     object: &Object,
     status: Option<&str>,
-    texts: (&str, &str),
+    expected: &str,
 ) -> Result<bool, ReadError> {
-    let copy = object.clone()?;
-    let is_so = is_printed_with(alloc, copy, status, texts.1)?;
-    Ok(is_so && is_printed(alloc, object, texts.0)?)
+    is_printed_with(alloc, object.clone()?, status, expected)
 }
 
 #[test]
-fn copies_stay_as_they_were(rt: HostRuntime) -> Result<(), Fail> {
+fn copies_stay_as_they_were(rt: HostRuntime) {
     for (text, status, expected) in COPIES.iter() {
-        let object = read(rt.alloc(), text)?;
-        let outcome = is_copied_with(rt.alloc(), &object, *status, (text, expected));
-        drop(object);
-        assert!(rt; outcome?, "of {text}");
+        assert_so(
+            &rt,
+            is_copied_with(rt.alloc(), text, *status, expected),
+            text,
+        );
     }
-    Ok(())
 }
 
 /// An object, the name of a member, and the text that it is, if it is one.
@@ -190,13 +193,21 @@ fn text_of<'a>(object: &'a Object, name: &str) -> Option<&'a str> {
     object.member(name)?.as_text()
 }
 
+fn has_member(
+    alloc: Global,
+    text: &str,
+    name: &str,
+    expected: Option<&str>,
+) -> Result<bool, ReadError> {
+    let object = read(alloc, text)?;
+    let is_found = text_of(&object, name) == expected;
+    drop(object);
+    Ok(is_found)
+}
+
 #[test]
-fn members_are_found(rt: HostRuntime) -> Result<(), Fail> {
+fn members_are_found(rt: HostRuntime) {
     for (text, name, expected) in MEMBERS.iter() {
-        let object = read(rt.alloc(), text)?;
-        let is_found = text_of(&object, name) == *expected;
-        drop(object);
-        assert!(rt; is_found, "{name} of {text}");
+        assert_so(&rt, has_member(rt.alloc(), text, name, *expected), text);
     }
-    Ok(())
 }

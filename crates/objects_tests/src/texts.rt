@@ -1,121 +1,97 @@
 //! Texts that are objects, and texts that are none.
 mod tables;
 
+use crate::asserts::assert_so;
 use objects::{ReadError, print_object, read_object};
 use std::alloc::{AllocError, Global};
-use std::process::Abort;
 use std::test::Fail;
-use tables::{METADATA, NOT_UTF8, TEXTS, VALUES};
+use tables::{METADATA, NOT_UTF8, Outcome, TEXTS, VALUES};
 
 fn printed(alloc: Global, bytes: &[u8]) -> Result<String, ReadError> {
     let draft = read_object(alloc, bytes)?;
-    Ok(print_object(alloc, &draft.object)?)
+    let text = print_object(alloc, &draft.object);
+    drop(draft);
+    Ok(text?)
 }
 
 fn is_refused(alloc: Global, bytes: &[u8], expected: ReadError) -> bool {
-    read_object(alloc, bytes).is_err_and(|error| error == expected)
+    printed(alloc, bytes).is_err_and(|error| error == expected)
 }
 
-/// Asserts what a text comes to, and that the compact text is read again as it is.
-fn assert_reads(rt: &impl Abort, alloc: Global, text: &str, expected: Result<&str, ReadError>) {
-    match (printed(alloc, text.as_bytes()), expected) {
-        (Ok(found), Ok(expected)) => {
-            assert_eq!(rt; found.as_str(), expected, "of {text}");
-            if text != expected {
-                assert_reads_again(rt, alloc, expected);
-            }
+fn is_printed(alloc: Global, text: &str, expected: &str) -> bool {
+    printed(alloc, text.as_bytes()).is_ok_and(|found| found.as_str() == expected)
+}
+
+/// Whether a text comes to that, and the compact text is read again as it is.
+fn comes_to(alloc: Global, text: &str, expected: Result<&str, ReadError>) -> bool {
+    match expected {
+        Ok(expected) => {
+            is_printed(alloc, text, expected)
+                && (text == expected || is_printed(alloc, expected, expected))
         }
-        (Err(found), Err(expected)) => assert_eq!(rt; found, expected, "of {text}"),
-        (Ok(found), Err(expected)) => panic!(rt; "{found} and not {expected:?} of {text}"),
-        (Err(found), Ok(expected)) => panic!(rt; "{found:?} and not {expected} of {text}"),
-    }
-}
-
-fn assert_reads_again(rt: &impl Abort, alloc: Global, text: &str) {
-    match printed(alloc, text.as_bytes()) {
-        Ok(found) => assert_eq!(rt; found.as_str(), text),
-        Err(found) => panic!(rt; "{found:?} of {text}"),
+        Err(expected) => is_refused(alloc, text.as_bytes(), expected),
     }
 }
 
 #[test]
 fn texts_are_read_and_printed(rt: HostRuntime) {
     for (text, expected) in TEXTS.iter() {
-        assert_reads(&rt, rt.alloc(), text, *expected);
+        assert!(rt; comes_to(rt.alloc(), text, *expected), "of {text}");
     }
     for bytes in NOT_UTF8.iter() {
         assert!(rt; is_refused(rt.alloc(), bytes, ReadError::NotJson));
     }
 }
 
-/// A pod with this text as the value of its member `x`.
-fn pod_with(alloc: Global, value: &str) -> Result<String, AllocError> {
-    let mut text = String::from_str(
-        alloc,
-        r#"{"kind":"Pod","metadata":{"name":"a","namespace":"default"},"x":"#,
-    )?;
-    text.push_str(value)?;
-    text.push_str("}")?;
-    Ok(text)
+/// A pod as far as the value of its member `x`.
+const POD: &str = r#"{"kind":"Pod","metadata":{"name":"a","namespace":"default"},"x":"#;
+
+/// A pod as far as its metadata.
+const BARE_POD: &str = r#"{"kind":"Pod","metadata":"#;
+
+/// The text of an object, as far as its last value, and that value.
+fn object_of(alloc: Global, front: &str, value: &str) -> Result<String, AllocError> {
+    format!(in alloc; "{front}{value}}}")
 }
 
-/// An object of this kind with this text as its metadata.
-fn object_with(alloc: Global, kind: &str, metadata: &str) -> Result<String, AllocError> {
-    let mut text = String::from_str(alloc, r#"{"kind":""#)?;
-    text.push_str(kind)?;
-    text.push_str(r#"","metadata":"#)?;
-    text.push_str(metadata)?;
-    text.push_str("}")?;
-    Ok(text)
+/// Whether a text with that last value comes to one with another, or to a refusal.
+fn ends_as(alloc: Global, front: &str, value: &str, expected: Outcome) -> Result<bool, ReadError> {
+    let text = object_of(alloc, front, value)?;
+    match expected {
+        Ok(printed) => {
+            let printed = object_of(alloc, front, printed)?;
+            Ok(comes_to(alloc, text.as_str(), Ok(printed.as_str())))
+        }
+        Err(error) => Ok(comes_to(alloc, text.as_str(), Err(error))),
+    }
 }
 
 #[test]
-fn values_are_read_and_printed(rt: HostRuntime) -> Result<(), Fail> {
+fn values_are_read_and_printed(rt: HostRuntime) {
     for (value, expected) in VALUES.iter() {
-        let text = pod_with(rt.alloc(), value)?;
-        match *expected {
-            Ok(printed) => {
-                let printed = pod_with(rt.alloc(), printed)?;
-                assert_reads(&rt, rt.alloc(), text.as_str(), Ok(printed.as_str()));
-            }
-            Err(error) => assert_reads(&rt, rt.alloc(), text.as_str(), Err(error)),
-        }
+        assert_so(&rt, ends_as(rt.alloc(), POD, value, *expected), value);
     }
-    Ok(())
 }
 
 #[test]
-fn metadata_is_read_and_printed(rt: HostRuntime) -> Result<(), Fail> {
+fn metadata_is_read_and_printed(rt: HostRuntime) {
     for (metadata, expected) in METADATA.iter() {
-        let text = object_with(rt.alloc(), "Pod", metadata)?;
-        match *expected {
-            Ok(printed) => {
-                let printed = object_with(rt.alloc(), "Pod", printed)?;
-                assert_reads(&rt, rt.alloc(), text.as_str(), Ok(printed.as_str()));
-            }
-            Err(error) => assert_reads(&rt, rt.alloc(), text.as_str(), Err(error)),
-        }
+        assert_so(
+            &rt,
+            ends_as(rt.alloc(), BARE_POD, metadata, *expected),
+            metadata,
+        );
     }
-    Ok(())
-}
-
-/// The metadata of an object of that name in that namespace.
-fn named(alloc: Global, name: &str, namespace: &str) -> Result<String, AllocError> {
-    let mut text = String::from_str(alloc, r#"{"name":""#)?;
-    text.push_str(name)?;
-    text.push_str(r#"","namespace":""#)?;
-    text.push_str(namespace)?;
-    text.push_str(r#""}"#)?;
-    Ok(text)
 }
 
 /// Whether an object of this kind may have that many bytes of `a` as its name, and as its namespace.
 fn may_have(alloc: Global, kind: &str, name: usize, namespace: usize) -> Result<bool, ReadError> {
     let name = "a".repeat(alloc, name)?;
     let namespace = "a".repeat(alloc, namespace)?;
-    let metadata = named(alloc, name.as_str(), namespace.as_str())?;
-    let text = object_with(alloc, kind, metadata.as_str())?;
-    match read_object(alloc, text.as_bytes()) {
+    let text = format!(in alloc;
+        "{{\"kind\":\"{kind}\",\"metadata\":{{\"name\":\"{name}\",\"namespace\":\"{namespace}\"}}}}"
+    )?;
+    match printed(alloc, text.as_bytes()) {
         Ok(_) => Ok(true),
         Err(ReadError::BadName) => Ok(false),
         Err(error) => Err(error),
@@ -135,35 +111,49 @@ static LENGTHS: [(&str, usize, usize, bool); 9] = [
     ("StatefulSet", 64, 63, false),
 ];
 
+fn is_allowed(
+    alloc: Global,
+    kind: &str,
+    bytes: (usize, usize),
+    expected: bool,
+) -> Result<bool, ReadError> {
+    Ok(may_have(alloc, kind, bytes.0, bytes.1)? == expected)
+}
+
 #[test]
-fn names_have_so_many_bytes(rt: HostRuntime) -> Result<(), Fail> {
+fn names_have_so_many_bytes(rt: HostRuntime) {
     for (kind, name, namespace, expected) in LENGTHS.iter() {
-        let may = may_have(rt.alloc(), kind, *name, *namespace)?;
-        assert_eq!(rt; may, *expected, "{kind} {name} {namespace}");
+        let answer = is_allowed(rt.alloc(), kind, (*name, *namespace), *expected);
+        assert_so(&rt, answer, kind);
     }
-    let dotted = object_with(rt.alloc(), "StatefulSet", r#"{"name":"a.b"}"#)?;
-    assert_reads(&rt, rt.alloc(), dotted.as_str(), Err(ReadError::BadName));
-    Ok(())
+    let dotted = br#"{"kind":"StatefulSet","metadata":{"name":"a.b"}}"#;
+    assert!(rt; is_refused(rt.alloc(), dotted.as_slice(), ReadError::BadName));
 }
 
 /// A pod with a member of that many lists, one in the other.
 fn nested(alloc: Global, lists: usize) -> Result<String, AllocError> {
-    let mut value = "[".repeat(alloc, lists)?;
+    let opening = "[".repeat(alloc, lists)?;
     let closing = "]".repeat(alloc, lists)?;
-    value.push_str(closing.as_str())?;
-    pod_with(alloc, value.as_str())
+    format!(in alloc; "{POD}{opening}{closing}}}")
+}
+
+/// How many lists nest, and whether a text may have them. The object itself is one level.
+static DEPTHS: [(usize, bool); 3] = [(126, true), (127, false), (100_000, false)];
+
+fn nests(alloc: Global, lists: usize, expected: bool) -> Result<bool, ReadError> {
+    let text = nested(alloc, lists)?;
+    if expected {
+        Ok(is_printed(alloc, text.as_str(), text.as_str()))
+    } else {
+        Ok(is_refused(alloc, text.as_bytes(), ReadError::NotJson))
+    }
 }
 
 #[test]
-fn texts_nest_so_deep(rt: HostRuntime) -> Result<(), Fail> {
-    // The object itself is one level.
-    let deep = nested(rt.alloc(), 126)?;
-    assert_reads(&rt, rt.alloc(), deep.as_str(), Ok(deep.as_str()));
-    let deeper = nested(rt.alloc(), 127)?;
-    assert_reads(&rt, rt.alloc(), deeper.as_str(), Err(ReadError::NotJson));
-    let deepest = nested(rt.alloc(), 100_000)?;
-    assert!(rt; is_refused(rt.alloc(), deepest.as_bytes(), ReadError::NotJson));
-    Ok(())
+fn texts_nest_so_deep(rt: HostRuntime) {
+    for (lists, expected) in DEPTHS.iter() {
+        assert_so(&rt, nests(rt.alloc(), *lists, *expected), "lists");
+    }
 }
 
 #[test]
@@ -172,7 +162,7 @@ fn texts_are_so_long(rt: HostRuntime) -> Result<(), Fail> {
     assert_eq!(rt; pod.len(), 60);
     let mut text = " ".repeat(rt.alloc(), 1_048_516)?;
     text.push_str(pod)?;
-    assert!(rt; printed(rt.alloc(), text.as_bytes())?.as_str() == pod);
+    assert!(rt; is_printed(rt.alloc(), text.as_str(), pod));
     text.push_str(" ")?;
     assert!(rt; is_refused(rt.alloc(), text.as_bytes(), ReadError::TooLong));
     let brackets = "[".repeat(rt.alloc(), 1_048_577)?;

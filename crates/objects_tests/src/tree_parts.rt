@@ -1,81 +1,79 @@
 //! Trees and their parts: found, taken, made, copied and compared.
-use objects::{Items, Members, Text, Tree, Whole, read_tree};
-use std::alloc::Global;
-use std::process::Abort;
-use std::test::Fail;
+use crate::asserts::{assert_so, read_members};
+use objects::{Items, Members, ReadError, Text, Tree, Whole, read_tree};
+use std::alloc::{AllocError, Global};
 
 /// A map of a list, a null and a truth value.
 static MAP: &str = r#"{"b":["x",-7,18446744073709551615],"a":null,"c":true}"#;
 
-/// A copy of the members of `MAP`.
-fn members(alloc: Global) -> Result<Members, Fail> {
-    let tree = read_tree(alloc, MAP.as_bytes())?;
-    let members = copied(&tree);
-    drop(tree);
-    members
+/// Whether the members are those of `MAP`.
+fn has_all(members: &Members) -> bool {
+    members.entries().len() == 3
+        && matches!(members.get("a"), Some(Tree::Null))
+        && matches!(members.get("b"), Some(Tree::List(_)))
+        && matches!(members.get("c"), Some(Tree::Truth(true)))
+        && members.get("").is_none()
+        && members.get("bb").is_none()
 }
 
-fn copied(tree: &Tree) -> Result<Members, Fail> {
-    Ok(tree.as_map().ok_or("no map")?.clone()?)
-}
-
-fn assert_members(rt: &impl Abort, members: &Members) {
-    assert_eq!(rt; members.entries().len(), 3);
-    assert!(rt; matches!(members.get("a"), Some(Tree::Null)));
-    assert!(rt; matches!(members.get("b"), Some(Tree::List(_))));
-    assert!(rt; matches!(members.get("c"), Some(Tree::Truth(true))));
-    assert!(rt; members.get("").is_none() && members.get("bb").is_none());
-}
-
-#[test]
-fn members_are_found(rt: HostRuntime) -> Result<(), Fail> {
-    let members = members(rt.alloc())?;
-    assert_members(&rt, &members);
-    Ok(())
-}
-
-fn assert_items(rt: &impl Abort, items: &Items) {
+fn has_items(items: &Items) -> bool {
     match items.as_slice() {
         [text, Tree::Whole(below), Tree::Whole(most)] => {
-            assert_eq!(rt; text.as_text(), Some("x"));
-            assert_eq!(rt; below.as_u64(), None);
-            assert_eq!(rt; most.as_u64(), Some(u64::MAX));
+            text.as_text() == Some("x")
+                && below.as_u64().is_none()
+                && most.as_u64() == Some(u64::MAX)
         }
-        _ => panic!(rt; "other items"),
+        _ => false,
     }
 }
 
-fn assert_taken(rt: &impl Abort, taken: &Option<Tree>) {
+/// Whether it is the list of `MAP`.
+fn is_list(taken: &Option<Tree>) -> bool {
     match taken {
-        Some(Tree::List(items)) => assert_items(rt, items),
-        _ => panic!(rt; "no list"),
+        Some(Tree::List(items)) => has_items(items),
+        _ => false,
     }
 }
 
-/// The member of that name, taken from a copy.
-fn taken(members: &Members, name: &str) -> Result<Option<Tree>, Fail> {
-    Ok(members.clone()?.take(name)?)
+/// Whether the list is taken of a copy of the members.
+fn gives_list(members: &Members) -> Result<bool, AllocError> {
+    let taken = members.clone()?.take("b")?;
+    let is_so = is_list(&taken);
+    drop(taken);
+    Ok(is_so)
+}
+
+/// Whether a member that is missing is not taken of a copy of the members.
+fn lacks_other(members: &Members) -> Result<bool, AllocError> {
+    let taken = members.clone()?.take("d")?;
+    let is_so = taken.is_none();
+    drop(taken);
+    Ok(is_so)
+}
+
+/// Whether members are found, are taken of a copy, and stay.
+fn has_parts(alloc: Global) -> Result<bool, ReadError> {
+    let members = read_members(alloc, MAP)?;
+    let is_whole = has_all(&members);
+    let gives = gives_list(&members);
+    let lacks = lacks_other(&members);
+    let stays = has_all(&members);
+    drop(members);
+    Ok(is_whole && gives? && lacks? && stays)
+}
+
+/// Whether members that are made anew of their entries are the same.
+fn is_made_anew(alloc: Global) -> Result<bool, ReadError> {
+    let again = Members::of(alloc, read_members(alloc, MAP)?.into_entries()?)?;
+    let is_whole = has_all(&again);
+    drop(again);
+    Ok(is_whole)
 }
 
 #[test]
-fn members_are_taken_from_a_copy(rt: HostRuntime) -> Result<(), Fail> {
-    let members = members(rt.alloc())?;
-    assert_taken(&rt, &taken(&members, "b")?);
-    assert!(rt; taken(&members, "d")?.is_none());
-    assert_members(&rt, &members);
-    Ok(())
-}
-
-/// The members made anew of their entries.
-fn made_anew(alloc: Global, members: Members) -> Result<Members, Fail> {
-    Ok(Members::of(alloc, members.into_entries()?)?)
-}
-
-#[test]
-fn members_are_made_of_their_entries(rt: HostRuntime) -> Result<(), Fail> {
-    let again = made_anew(rt.alloc(), members(rt.alloc())?)?;
-    assert_members(&rt, &again);
-    Ok(())
+fn members_are_found_taken_and_made(rt: HostRuntime) {
+    assert_so(&rt, has_parts(rt.alloc()), MAP);
+    assert_so(&rt, is_made_anew(rt.alloc()), MAP);
 }
 
 /// A tree of each shape but null, with the text that it is, if it is one, and how many items and members it has.
@@ -95,59 +93,77 @@ fn members_of(tree: &Tree) -> Option<usize> {
     Some(tree.as_map()?.entries().len())
 }
 
-fn assert_shape(
-    rt: &impl Abort,
+fn has_shape(
     tree: &Tree,
     text: Option<&str>,
     items: Option<usize>,
     members: Option<usize>,
-) {
-    assert_eq!(rt; tree.as_text(), text);
-    assert_eq!(rt; items_of(tree), items);
-    assert_eq!(rt; members_of(tree), members);
+) -> bool {
+    tree.as_text() == text && items_of(tree) == items && members_of(tree) == members
+}
+
+fn reads_shape(
+    alloc: Global,
+    json: &str,
+    text: Option<&str>,
+    items: Option<usize>,
+    members: Option<usize>,
+) -> Result<bool, ReadError> {
+    let tree = read_tree(alloc, json.as_bytes())?;
+    let is_so = has_shape(&tree, text, items, members);
+    drop(tree);
+    Ok(is_so)
 }
 
 #[test]
-fn trees_have_one_shape(rt: HostRuntime) -> Result<(), Fail> {
+fn trees_have_one_shape(rt: HostRuntime) {
     for (json, text, items, members) in SHAPES.iter() {
-        let tree = read_tree(rt.alloc(), json.as_bytes())?;
-        assert_shape(&rt, &tree, *text, *items, *members);
-        drop(tree);
+        let answer = reads_shape(rt.alloc(), json, *text, *items, *members);
+        assert_so(&rt, answer, json);
     }
-    Ok(())
 }
 
-#[test]
-fn texts_are_made_and_copied(rt: HostRuntime) -> Result<(), Fail> {
-    let text = Text::copy_of(rt.alloc(), "x")?.clone()?;
-    assert_eq!(rt; text.as_str(), "x");
-    Ok(())
+fn copies_text(alloc: Global) -> Result<bool, ReadError> {
+    let text = Text::copy_of(alloc, "x")?.clone()?;
+    Ok(text.as_str() == "x")
 }
 
-#[test]
-fn whole_numbers_are_made_and_copied(rt: HostRuntime) -> Result<(), Fail> {
-    assert_eq!(rt; Whole::from(5u64).clone()?.as_u64(), Some(5));
-    assert_eq!(rt; Whole::from(5i64).as_u64(), Some(5));
-    assert_eq!(rt; Whole::from(-5i64).as_u64(), None);
-    Ok(())
+fn is_number(number: Whole, expected: Option<u64>) -> Result<bool, ReadError> {
+    let copy = number.clone()?;
+    Ok(number.as_u64() == expected && copy.as_u64() == expected)
 }
 
 /// A list of one text.
-fn items(alloc: Global, text: &str) -> Result<Items, Fail> {
-    let text = Text::copy_of(alloc, text)?;
-    Ok(Items::of(alloc, vec![in alloc; Tree::Text(text)]?)?)
+fn items(alloc: Global, text: &str) -> Result<Items, AllocError> {
+    let mut items = Vec::new(alloc);
+    items.push(Tree::Text(Text::copy_of(alloc, text)?))?;
+    Items::of(alloc, items)
+}
+
+fn is_one_text(items: &Items, text: &str) -> bool {
+    match items.as_slice() {
+        [item] => item.as_text() == Some(text),
+        _ => false,
+    }
+}
+
+fn copies_items(alloc: Global) -> Result<bool, ReadError> {
+    let items = items(alloc, "x")?;
+    let copy: Result<_, AllocError> = items.clone();
+    drop(items);
+    let copy = copy?;
+    let is_so = is_one_text(&copy, "x");
+    drop(copy);
+    Ok(is_so)
 }
 
 #[test]
-fn lists_are_made_and_copied(rt: HostRuntime) -> Result<(), Fail> {
-    let items = items(rt.alloc(), "x")?;
-    let copy = items.clone()?;
-    drop(items);
-    match copy.as_slice() {
-        [item] => assert_eq!(rt; item.as_text(), Some("x")),
-        _ => panic!(rt; "no list of one item"),
-    }
-    Ok(())
+fn parts_are_made_and_copied(rt: HostRuntime) {
+    assert_so(&rt, copies_text(rt.alloc()), "text");
+    assert_so(&rt, copies_items(rt.alloc()), "list");
+    assert_so(&rt, is_number(Whole::from(5u64), Some(5)), "5");
+    assert_so(&rt, is_number(Whole::from(5i64), Some(5)), "+5");
+    assert_so(&rt, is_number(Whole::from(-5i64), None), "-5");
 }
 
 /// Two JSON texts, and whether they are the same value.
@@ -180,17 +196,20 @@ static PAIRS: [(&str, &str, bool); 26] = [
     (r#"{"a":{"b":null}}"#, r#"{"a":{}}"#, false),
 ];
 
-fn assert_compare(rt: &impl Abort, left: &Tree, right: &Tree, expected: bool) {
-    assert_eq!(rt; left.is_same(right), expected);
-    assert_eq!(rt; right.is_same(left), expected);
+fn are_same(left: &Tree, right: &Tree, expected: bool) -> bool {
+    left.is_same(right) == expected && right.is_same(left) == expected
+}
+
+fn compares(alloc: Global, left: &str, right: &str, expected: bool) -> Result<bool, ReadError> {
+    let left = read_tree(alloc, left.as_bytes())?;
+    let is_so = read_tree(alloc, right.as_bytes()).map(|right| are_same(&left, &right, expected));
+    drop(left);
+    Ok(is_so?)
 }
 
 #[test]
-fn trees_are_compared(rt: HostRuntime) -> Result<(), Fail> {
+fn trees_are_compared(rt: HostRuntime) {
     for (left, right, expected) in PAIRS.iter() {
-        let left = read_tree(rt.alloc(), left.as_bytes())?;
-        let right = read_tree(rt.alloc(), right.as_bytes())?;
-        assert_compare(&rt, &left, &right, *expected);
+        assert_so(&rt, compares(rt.alloc(), left, right, *expected), left);
     }
-    Ok(())
 }
