@@ -1,3 +1,4 @@
 pub mod Chains
 pub mod ClaimNames
 pub mod NameSets
+pub mod ClaimLabels

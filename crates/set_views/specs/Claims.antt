@@ -1,6 +1,6 @@
 -- The claim templates of a set (Kubernetes API reference, apps/v1, StatefulSetSpec: volumeClaimTemplates).
 use Rattle.std.specs.Prelude.{ℕ, List, [], ◌∷◌, map, Bool, true, not, ◌&&◌, codes, bytes_eq, Option, Some, None, if◌then◌else◌}
-use Rattle.std.specs.List.{list_any}
+use Rattle.std.specs.List.{list_all, list_any}
 use Rattle.serde_json.specs.Data.{Data, Items, no_items, item, Members}
 use Rattle.serde_json.specs.Find.{as_array, as_object}
 use Rattle.objects.specs.Names.{is_dns_label}
@@ -34,6 +34,10 @@ are_distinct (name ∷ names) = not (list_any (bytes_eq name) names) && are_dist
 
 abbrev pub names_of : List Claim → List (List ℕ)
 names_of claims = map (λ c. c.0) claims
+
+-- each name is a DNS label
+abbrev pub are_labelled : List Claim → Bool
+are_labelled claims = list_all (λ c. is_dns_label c.0) claims
 
 -- a list of such objects, no two of one name
 abbrev pub claims_in : Option Data → Option (List Claim)

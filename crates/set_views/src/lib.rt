@@ -15,6 +15,6 @@ mod words;
 pub use fault::PlanError;
 pub use pod::{PodView, read_pod};
 pub use policies::{Policy, Retention, Strategy};
-pub use readiness::Readiness;
+pub use readiness::{Readiness, says};
 pub use reading::read_set;
 pub use set::Set;

@@ -20,8 +20,8 @@ pub enum Readiness {
     Failed,
 }
 
-/// Whether the value of a member is this text.
-pub(crate) fn says(value: &Tree, key: &str, word: &str) -> bool
+/// Whether the value is a map, and its member of that key is this text. It takes no memory.
+pub fn says(value: &Tree, key: &str, word: &str) -> bool
     ensures { result ≡ says key.now word.now (data_of value.now) }
 {
     match inside(Some(value), key) {

@@ -1,6 +1,7 @@
 // The reading of a set.
 ghost use Rattle.std.specs.Prelude.{◌≡◌, ◌<◌, ◌^◌, true, option_map, IfSome, IfOk};
 ghost use Rattle.objects.specs.Tree.{data_of};
+ghost use Rattle.set_views.specs.Claims.{are_labelled};
 ghost use Rattle.set_views.specs.Set.{set_parts};
 ghost use Rattle.set_views.specs.Stated.{start_of, counts_in, choices_in, stated_in, stated_parts};
 ghost use Rattle.objects.specs.Reading.{unless_empty};
@@ -170,6 +171,7 @@ fn made(
     requires start { stated.counts.start < 2 ^ 31 }
     requires collisions { stated.counts.collisions < 2 ^ 31 }
     requires fits { range_fits stated.counts ≡ true }
+    requires labelled { are_labelled claims.items ≡ true }
     ensures { IfOk result (λ set. set_parts set ≡ set_with object.now (stated_parts stated.entry) claims.items) }
 {
     let Counts {

@@ -1,4 +1,5 @@
-ghost use Rattle.std.specs.Prelude.{◌+◌, ◌≤◌, ◌<◌, ◌^◌};
+ghost use Rattle.std.specs.Prelude.{◌≡◌, ◌+◌, ◌≤◌, ◌<◌, ◌^◌, true};
+ghost use Rattle.set_views.specs.Claims.{are_labelled};
 
 use crate::policies::{Policy, Retention, Strategy};
 use objects::{Members, Object, Text};
@@ -35,4 +36,5 @@ pub struct Set {
     ghost named: { 0 < object.meta.uid },
     ghost in_limits: { start + replicas ≤ 2 ^ 31 },
     ghost counted: { collisions < 2 ^ 31 },
+    ghost labelled: { are_labelled claims.items ≡ true },
 }

@@ -1,6 +1,6 @@
 //! The reading of pods and the words of a plan, by tables.
-use objects::{Object, read_object};
-use set_views::{Readiness, Set, read_pod, read_set};
+use objects::{Object, read_object, read_tree};
+use set_views::{Readiness, Set, read_pod, read_set, says};
 use std::alloc::Global;
 use std::test::Fail;
 
@@ -202,5 +202,28 @@ fn no_ordinal_is_in_an_empty_range(rt: HostRuntime) -> Result<(), Fail> {
     assert!(rt; !empty.has_in_range(5) && !empty.has_in_range(4));
     let last = set(rt.alloc(), 2147483647, 1)?;
     assert!(rt; last.has_in_range(2147483647) && !last.has_in_range(2147483648));
+    Ok(())
+}
+
+/// A value, and whether it is a map whose `kind` is the text `Pod`.
+static SAYINGS: [(&str, bool); 6] = [
+    (r#"{"kind":"Pod","name":"web-0"}"#, true),
+    (r#"{"kind":"Pods"}"#, false),
+    (r#"{"kind":["Pod"]}"#, false),
+    (r#"{"Kind":"Pod"}"#, false),
+    (r#"["kind","Pod"]"#, false),
+    (r#""Pod""#, false),
+];
+
+fn says_pod(alloc: Global, text: &str) -> Result<bool, Fail> {
+    let value = read_tree(alloc, text.as_bytes())?;
+    Ok(says(&value, "kind", "Pod"))
+}
+
+#[test]
+fn a_member_says_a_text(rt: HostRuntime) -> Result<(), Fail> {
+    for (text, expected) in SAYINGS.iter() {
+        assert_eq!(rt; says_pod(rt.alloc(), text)?, *expected, "{text}");
+    }
     Ok(())
 }
