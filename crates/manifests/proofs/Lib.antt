@@ -1,2 +1,5 @@
+pub mod ItemLists
 pub mod PodKeys
 pub mod PodMetadata
+pub mod ClaimKeys
+pub mod ClaimMetadata

@@ -22,7 +22,7 @@ or_second false c h = h
 digit_is_alphanumeric : (d : ℕ) → 48 ≤ d → d ≤ 57 → is_alphanumeric d ≡ true
 digit_is_alphanumeric d low high = or_second (nat_le 97 d && nat_le d 122) (nat_le 48 d && nat_le d 57) (and_from _ _ (le-leb 48 d low) (le-leb d 57 high))
 
-all_alphanumeric : (ds : List ℕ) → ((i : ℕ) → i < length ds → (48 ≤ get_or ds i 0) × (get_or ds i 0 ≤ 57)) → list_all is_alphanumeric ds ≡ true
+pub all_alphanumeric : (ds : List ℕ) → ((i : ℕ) → i < length ds → (48 ≤ get_or ds i 0) × (get_or ds i 0 ≤ 57)) → list_all is_alphanumeric ds ≡ true
 all_alphanumeric [] h = refl
 all_alphanumeric (d ∷ ds) h =
     let first = h 0 (omega arith) in

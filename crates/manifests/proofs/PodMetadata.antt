@@ -28,7 +28,7 @@ texts_put : (k s : List ℕ) (ms : Members) → are_texts ms ≡ true → are_te
 texts_put k s no_members h = refl
 texts_put k s (member l e ms) h = texts_put_at (slice_cmp nat_cmp k l) k s l e ms h (texts_put k s ms (and_parts (is_some (as_str e)) (are_texts ms) h).1)
 
-texts_if : (b : Bool) (ms : Members) → are_texts ms ≡ b → are_texts (cond b ms no_members) ≡ true
+pub texts_if : (b : Bool) (ms : Members) → are_texts ms ≡ b → are_texts (cond b ms no_members) ≡ true
 texts_if true ms h = h
 texts_if false ms h = refl
 

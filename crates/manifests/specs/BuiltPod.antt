@@ -6,7 +6,6 @@ use Rattle.objects.specs.declared.kind.Kind.TheVariants.{Pod}
 use Rattle.objects.specs.declared.object.Object.{Object}
 use Rattle.objects.specs.Key.{key_parts}
 use Rattle.objects.specs.New.{new_object}
-use Rattle.objects.specs.Object.{object_at}
 use Rattle.objects.specs.PodNames.{pod_name}
 use Rattle.objects.specs.Text.{put_some}
 use Rattle.set_views.specs.declared.fault.PlanError.{PlanError}
@@ -14,7 +13,8 @@ use Rattle.set_views.specs.declared.fault.PlanError.TheVariants.{NameTooLong}
 use Rattle.set_views.specs.Set.{SetParts}
 use Rattle.set_views.specs.Steps.{guarded}
 use Rattle.revisions.specs.Built.{owned_metadata}
-use Rattle.manifests.specs.Template.{labels_in, part, template_of}
+use Rattle.manifests.specs.Template.{labels_in, part, part_in, template_of}
+use Rattle.manifests.specs.Volumes.{with_volumes}
 
 -- the template's labels, with those of a set's pods over them
 abbrev pub pod_labels : List ℕ → List ℕ → ℕ → Members → Members
@@ -27,20 +27,21 @@ pod_labels name revision ordinal labels =
 abbrev pub pod_metadata : SetParts → List ℕ → List ℕ → ℕ → Members → Members
 pod_metadata set name revision ordinal metadata =
     put (codes "labels") (object (pod_labels name revision ordinal (labels_in metadata)))
-    (put_some (codes "annotations") (option_map object (object_at (codes "annotations") metadata)) (owned_metadata set))
+    (put_some (codes "annotations") (part_in (codes "annotations") metadata) (owned_metadata set))
 
--- the template's spec, with the pod's place in the network over it
-abbrev pub pod_spec : SetParts → List ℕ → Members → Members
-pod_spec set name spec = put_some (codes "subdomain") (option_map string set.service) (put (codes "hostname") (string name) spec)
+-- the template's spec, with the pod's place in the network and its claims over it
+abbrev pub pod_spec : SetParts → List ℕ → ℕ → Members → Members
+pod_spec set name ordinal spec =
+    with_volumes set ordinal (put_some (codes "subdomain") (option_map string set.service) (put (codes "hostname") (string name) spec))
 
 -- the members of a pod beside its metadata
-abbrev pub pod_members : SetParts → List ℕ → Members → Members
-pod_members set name template = member (codes "spec") (object (pod_spec set name (part (codes "spec") template))) no_members
+abbrev pub pod_members : SetParts → List ℕ → ℕ → Members → Members
+pod_members set name ordinal template = member (codes "spec") (object (pod_spec set name ordinal (part (codes "spec") template))) no_members
 
 -- the pod of that name, from this template
 abbrev pub named_pod : SetParts → Members → List ℕ → ℕ → List ℕ → Object
 named_pod set template revision ordinal name =
-    new_object (key_parts Pod set.object.key.namespace name) (pod_metadata set name revision ordinal (part (codes "metadata") template)) (pod_members set name template)
+    new_object (key_parts Pod set.object.key.namespace name) (pod_metadata set name revision ordinal (part (codes "metadata") template)) (pod_members set name ordinal template)
 
 -- the most bytes of a label's value, and of a hostname
 abbrev pub most_name : ℕ

@@ -1,11 +1,14 @@
-//! The objects that a plan of a StatefulSet writes, beside revisions: the pods that it creates, and the set with its new
-//! status.
+//! The objects that a plan of a StatefulSet writes, beside revisions: the pods and the claims that it creates, and the set
+//! with its new status.
 #![tactic(auto)]
 
+mod claim;
 mod members;
 mod pod;
 mod status;
 mod template;
+mod volumes;
 
+pub use claim::claim_of;
 pub use pod::pod_of;
 pub use status::{Status, with_status};

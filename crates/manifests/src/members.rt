@@ -4,7 +4,7 @@ ghost use Rattle.serde_json.specs.Data.{no_members, put, string};
 ghost use Rattle.objects.specs.Object.{object_at};
 ghost use Rattle.objects.specs.Text.{put_some};
 ghost use Rattle.objects.specs.Tree.{data_of};
-ghost use Rattle.manifests.specs.Template.{part};
+ghost use Rattle.manifests.specs.Template.{part, part_in, with_all};
 ghost use Rattle.manifests.specs.BuiltStatus.{put_number};
 
 use objects::{Members, Text, Tree, Whole};
@@ -32,6 +32,28 @@ pub(crate) fn part(alloc: Global, members: &Members, key: &str) -> Result<Member
         Some(found) => found.clone(),
         None => none(alloc),
     }
+}
+
+/// A part as it stands there, if it is a map.
+pub(crate) fn part_in(members: &Members, key: &str) -> Result<Option<Tree>, AllocError>
+    ensures { IfOk result (λ found. option_map data_of found ≡ part_in key.now members.now) }
+{
+    match map_at(members, key) {
+        Some(found) => Ok(Some(Tree::Map(found.clone()?))),
+        None => Ok(None),
+    }
+}
+
+/// The members, with these put over them.
+pub(crate) fn with_all(members: Members, more: &Members) -> Result<Members, AllocError>
+    ensures { IfOk result (λ ms. ms ≡ with_all more.now members) }
+{
+    let mut all = members;
+    let entries = more.entries();
+    for (key, value) in entries {
+        all = all.with(key.as_str(), Some(value.clone()?))?;
+    }
+    Ok(all)
 }
 
 /// The members with that value at the key, if there is one.

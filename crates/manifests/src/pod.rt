@@ -1,18 +1,17 @@
 // The pods that a plan creates.
-ghost use Rattle.std.specs.Prelude.{◌≡◌, codes, true, option_map, IfOk};
-ghost use Rattle.serde_json.specs.Data.{string, object};
+ghost use Rattle.std.specs.Prelude.{◌≡◌, true, option_map, IfOk};
+ghost use Rattle.serde_json.specs.Data.{string};
 ghost use Rattle.objects.specs.declared.kind.Kind.TheVariants.{Pod};
 ghost use Rattle.objects.specs.Key.{is_key, key_parts};
-ghost use Rattle.objects.specs.Object.{object_at};
 ghost use Rattle.objects.specs.PodNames.{pod_name};
-ghost use Rattle.objects.specs.Text.{put_some};
 ghost use Rattle.objects.specs.Tree.{data_of};
 ghost use Rattle.set_views.specs.Set.{set_parts};
 ghost use Rattle.set_views.specs.Steps.{Gives};
 ghost use Rattle.manifests.specs.BuiltPod.{built_pod, named_pod, pod_labels, pod_members, pod_metadata, pod_spec};
 
-use crate::members::{map_at, none, part, with_some, with_text};
+use crate::members::{none, part, part_in, with_some, with_text};
 use crate::template::{labels_in, template_of};
+use crate::volumes::with_volumes;
 use objects::{Key, Kind, Members, Object, ReadError, Tree, pod_name};
 use revisions::{RevisionView, owned_metadata};
 use set_views::{PlanError, Set};
@@ -39,16 +38,6 @@ fn pod_labels(
     Ok(all)
 }
 
-/// The annotations of a template's metadata, if they are a map.
-fn annotations_in(metadata: &Members) -> Result<Option<Tree>, AllocError>
-    ensures { IfOk result (λ found. option_map data_of found ≡ option_map object (object_at (codes "annotations") metadata.now)) }
-{
-    match map_at(metadata, "annotations") {
-        Some(annotations) => Ok(Some(Tree::Map(annotations.clone()?))),
-        None => Ok(None),
-    }
-}
-
 /// The metadata of a pod, beside its name and namespace, over that of the template.
 fn pod_metadata(
     alloc: Global,
@@ -62,7 +51,7 @@ fn pod_metadata(
 {
     let own = labels_in(alloc, metadata)?;
     let labels = pod_labels(alloc, name, revision, ordinal, own)?;
-    let annotations = annotations_in(metadata)?;
+    let annotations = part_in(metadata, "annotations")?;
     let owned = owned_metadata(alloc, set)?;
     let annotated = with_some(owned, "annotations", annotations)?;
     let whole = annotated.with("labels", Some(Tree::Map(labels)))?;
@@ -80,11 +69,18 @@ fn subdomain_of(set: &Set) -> Result<Option<Tree>, AllocError>
 }
 
 /// The spec of a pod, over that of the template.
-fn pod_spec(alloc: Global, set: &Set, name: &str, spec: Members) -> Result<Members, AllocError>
-    ensures { IfOk result (λ ms. ms ≡ pod_spec (set_parts set.now) name.now spec) }
+fn pod_spec(
+    alloc: Global,
+    set: &Set,
+    name: &str,
+    ordinal: u32,
+    spec: Members,
+) -> Result<Members, AllocError>
+    ensures { IfOk result (λ ms. ms ≡ pod_spec (set_parts set.now) name.now ordinal spec) }
 {
     let named = with_text(alloc, spec, "hostname", name)?;
-    with_some(named, "subdomain", subdomain_of(set)?)
+    let placed = with_some(named, "subdomain", subdomain_of(set)?)?;
+    with_volumes(alloc, set, ordinal, placed)
 }
 
 /// The members of a pod beside its metadata.
@@ -92,12 +88,13 @@ fn pod_members(
     alloc: Global,
     set: &Set,
     name: &str,
+    ordinal: u32,
     template: &Members,
 ) -> Result<Members, AllocError>
-    ensures { IfOk result (λ ms. ms ≡ pod_members (set_parts set.now) name.now template.now) }
+    ensures { IfOk result (λ ms. ms ≡ pod_members (set_parts set.now) name.now ordinal template.now) }
 {
     let given = part(alloc, template, "spec")?;
-    let spec = pod_spec(alloc, set, name, given)?;
+    let spec = pod_spec(alloc, set, name, ordinal, given)?;
     let members = none(alloc)?.with("spec", Some(Tree::Map(spec)))?;
     Ok(members)
 }
@@ -128,7 +125,7 @@ fn named_pod(
     let given = part(alloc, template, "metadata")?;
     let metadata = pod_metadata(alloc, set, name, revision, ordinal, &given)?;
     drop(given);
-    let members = pod_members(alloc, set, name, template)?;
+    let members = pod_members(alloc, set, name, ordinal, template)?;
     let key = pod_key(alloc, set, name)?;
     let pod = Object::of(alloc, key, metadata, members)?;
     Ok(pod)
@@ -145,8 +142,10 @@ fn name_of(set: &Set) -> &str
 /// The Pod of the set's ordinal, as it is to be created from the template of that revision (Kubernetes, "StatefulSets":
 /// "Pod Identity"). Over the template's own labels it has `apps.kubernetes.io/pod-index`, `controller-revision-hash` and
 /// `statefulset.kubernetes.io/pod-name`, and over the template's own spec the pod's name as `hostname` and the set's
-/// service, if it has one, as `subdomain`; the set is its one owner. A part of the template that is of the wrong type
-/// counts as missing: `metadata`, `annotations` and `spec` are maps, and `labels` is a map of texts.
+/// service, if it has one, as `subdomain`; the set is its one owner. Where the set has claim templates, its `volumes` are
+/// one for each of them, stored in the claim of that template and the ordinal, and then the template's own of other
+/// names ("Stable Storage"). A part of the template that is of the wrong type counts as missing: `metadata`,
+/// `annotations` and `spec` are maps, `labels` is a map of texts, and `volumes` a list.
 ///
 /// It is NameTooLong where the name, which is a hostname and the value of a label, has more than 63 bytes.
 #[tactic(auto, unfolding(crate::specs::BuiltPod::built_pod))]

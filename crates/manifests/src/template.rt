@@ -1,6 +1,6 @@
-// The parts of a pod template. What is of the wrong type counts as missing.
+// The parts of a template. What is of the wrong type counts as missing.
 ghost use Rattle.std.specs.Prelude.{◌≡◌, IfOk};
-ghost use Rattle.manifests.specs.Template.{labels_in, template_of};
+ghost use Rattle.manifests.specs.Template.{labels_in, template_of, texts_in};
 
 use crate::members::{none, part};
 use objects::{Members, are_texts};
@@ -17,14 +17,21 @@ pub(crate) fn template_of(alloc: Global, revision: &RevisionView<'_>) -> Result<
     }
 }
 
+/// The members of a part, if all of them are texts.
+pub(crate) fn texts_in(alloc: Global, members: &Members, key: &str) -> Result<Members, AllocError>
+    ensures { IfOk result (λ found. found ≡ texts_in key.now members.now) }
+{
+    let texts = part(alloc, members, key)?;
+    if are_texts(texts.entries()) {
+        Ok(texts)
+    } else {
+        none(alloc)
+    }
+}
+
 /// The template's labels.
 pub(crate) fn labels_in(alloc: Global, metadata: &Members) -> Result<Members, AllocError>
     ensures { IfOk result (λ found. found ≡ labels_in metadata.now) }
 {
-    let labels = part(alloc, metadata, "labels")?;
-    if are_texts(labels.entries()) {
-        Ok(labels)
-    } else {
-        none(alloc)
-    }
+    texts_in(alloc, metadata, "labels")
 }

@@ -23,7 +23,7 @@ const LABELS_OF_0: &str =
 
 const SPEC_OF_0: &str = r#"{"hostname":"web-0"}"#;
 
-static ROWS: [Row; 14] = [
+static ROWS: [Row; 17] = [
     ("", "{}", 0, "", LABELS_OF_0, SPEC_OF_0),
     // What the set says of a pod is put over what the template says, and the template's other members stay.
     (
@@ -112,6 +112,32 @@ static ROWS: [Row; 14] = [
     ),
     ("", "[]", 0, "", LABELS_OF_0, SPEC_OF_0),
     ("", "null", 0, "", LABELS_OF_0, SPEC_OF_0),
+    // The set's claims are the first volumes, and the template's own of other names follow.
+    (
+        r#""volumeClaimTemplates":[{"metadata":{"name":"logs"}},{"metadata":{"name":"data"}}],"#,
+        r#"{"spec":{"volumes":[{"name":"tmp"},{"emptyDir":{},"name":"data"},{"emptyDir":{}},7]}}"#,
+        0,
+        "",
+        LABELS_OF_0,
+        r#"{"hostname":"web-0","volumes":[{"name":"logs","persistentVolumeClaim":{"claimName":"logs-web-0"}},{"name":"data","persistentVolumeClaim":{"claimName":"data-web-0"}},{"name":"tmp"},{"emptyDir":{}},7]}"#,
+    ),
+    (
+        r#""volumeClaimTemplates":[{"metadata":{"name":"data"}}],"#,
+        r#"{"spec":{"volumes":{"name":"tmp"}}}"#,
+        0,
+        "",
+        LABELS_OF_0,
+        r#"{"hostname":"web-0","volumes":[{"name":"data","persistentVolumeClaim":{"claimName":"data-web-0"}}]}"#,
+    ),
+    // Without claim templates `volumes` stays whatever it is.
+    (
+        r#""volumeClaimTemplates":[],"#,
+        r#"{"spec":{"volumes":7}}"#,
+        0,
+        "",
+        LABELS_OF_0,
+        r#"{"hostname":"web-0","volumes":7}"#,
+    ),
 ];
 
 fn refusal_name(error: &PlanError) -> &'static str {

@@ -7,4 +7,4 @@ use Rattle.manifests.proofs.pod.pod_members.Goals as goal
 pub returns : goal.returns
 returns c =
     c.in_ok-members.ensures ∙ (ap (put (codes "spec") (object c.in_ok-spec.spec)) c.in_ok-none.ensures
-    ∙ ap (λ s. member (codes "spec") (object s) no_members) (c.in_ok-spec.ensures ∙ ap (pod_spec (set_parts c.args.set.now) c.args.name.now) c.in_ok-given.ensures))
+    ∙ ap (λ s. member (codes "spec") (object s) no_members) (c.in_ok-spec.ensures ∙ ap (pod_spec (set_parts c.args.set.now) c.args.name.now c.args.ordinal) c.in_ok-given.ensures))
