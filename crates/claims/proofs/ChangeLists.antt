@@ -1,0 +1,34 @@
+-- Changes of claims, one template after another.
+use Rattle.std.proofs.Common.{◌≡◌, ℕ, ◌+◌, ◌<◌, List, [], ◌∷◌, ◌++◌, length, take, get_or, Bool, true, false, cond, Option, Some, None, refl, sym, ap, ◌∙◌}
+use Rattle.std.specs.List.{cons_option, filter_map, list_all}
+use Rattle.std.proofs.lemmas.List.{take_more}
+use Rattle.std.proofs.lemmas.List.Elements.{All-get_or, filter_map-append}
+use Rattle.std.proofs.lemmas.List.Sums.{AllPass-from_list_all}
+use Rattle.serde_json.specs.Data.{Data}
+use Rattle.objects.specs.declared.object.Object.{Object}
+use Rattle.set_views.specs.Set.{SetParts}
+use Rattle.claims.specs.declared.change.ClaimChange.TheVariants.{Update}
+use Rattle.claims.specs.declared.owner.Owner.{Owner}
+use Rattle.claims.specs.Changes.{entries_of, update, updated}
+use Rattle.claims.specs.Owners.{are_wanted, wanted}
+
+-- one more change, or none
+pub change_more : {A B : Type 0} (h : A → Option B) (xs : List A) (i : ℕ) (x : A) (y : Option B) (done after : List B) → i < length xs → x ≡ get_or xs i x → done ≡ filter_map h (take i xs)
+    → after ≡ done ++ cons_option y [] → y ≡ h x → after ≡ filter_map h (take (i + 1) xs)
+change_more h xs i x y done after inside is so_far after_is here =
+    after_is ∙ (ap (λ l. l ++ cons_option y []) so_far ∙ (ap (λ z. filter_map h (take i xs) ++ cons_option z []) here
+    ∙ sym (ap (filter_map h) (take_more xs i x inside ∙ ap (λ v. take i xs ++ v ∷ []) (sym is)) ∙ filter_map-append h (take i xs) (x ∷ []))))
+
+-- what all pass, each passes
+pub passes_at : {A : Type 0} (p : A → Bool) (xs : List A) (i : ℕ) (x : A) → list_all p xs ≡ true → i < length xs → x ≡ get_or xs i x → p x ≡ true
+passes_at p xs i x all inside is = ap p is ∙ All-get_or (λ y. p y ≡ true) xs i x inside (AllPass-from_list_all p xs all)
+
+module _ (set : SetParts) (pod : List ℕ) (owner : Option Owner) (claim : Object) (entries : List Data) where
+  pub no_update : entries ≡ entries_of claim → are_wanted set pod owner entries ≡ true → None ≡ update set pod owner claim
+  no_update is h =
+      sym (ap (λ b. cond b None (Some (Update (updated claim (wanted set pod owner (entries_of claim)))))) (ap (are_wanted set pod owner) (sym is) ∙ h))
+
+  pub some_update : entries ≡ entries_of claim → are_wanted set pod owner entries ≡ false → Some (Update (updated claim (wanted set pod owner entries))) ≡ update set pod owner claim
+  some_update is h =
+      ap (λ ds. Some (Update (updated claim (wanted set pod owner ds)))) is
+      ∙ sym (ap (λ b. cond b None (Some (Update (updated claim (wanted set pod owner (entries_of claim)))))) (ap (are_wanted set pod owner) (sym is) ∙ h))

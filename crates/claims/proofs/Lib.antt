@@ -1,0 +1,4 @@
+pub mod OwnerEntries
+pub mod NamedClaims
+pub mod ChangeLists
+pub mod OwnerLaws

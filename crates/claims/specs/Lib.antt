@@ -1,0 +1,3 @@
+pub mod Listed
+pub mod Owners
+pub mod Changes

@@ -1,0 +1,82 @@
+// The claims that were listed, by their names.
+ghost use Rattle.std.specs.Prelude.{◌≡◌, ◌&&◌, ℕ, List, Some, bytes_eq, option_map, if◌then◌else◌, IfOk, OnOk};
+ghost use Rattle.set_views.specs.Set.{set_parts};
+ghost use Rattle.claims.specs.Listed.{claim_named, found_in, is_near, listed_claim};
+
+use objects::{Kind, Object};
+use set_views::Set;
+use std::alloc::{AllocError, Global};
+use std::collections::BTreeMap;
+
+/// The claims of a set's namespace by their names, found once for a plan. It borrows the listed objects.
+#[derive(Drop)]
+pub struct ListedClaims<'a> {
+    by_name: BTreeMap<&'a str, &'a Object>,
+}
+
+/// Whether the object is a claim of the set's namespace.
+fn is_near(set: &Set, object: &Object) -> bool
+    ensures { result ≡ is_near (set_parts set.now) object.now }
+{
+    matches!(object.key.kind, Kind::PersistentVolumeClaim)
+        && object.key.namespace.as_str() == set.object.key.namespace.as_str()
+}
+
+fn name_of(object: &Object) -> &str
+    ensures { result.now ≡ object.now.key.name }
+{
+    object.key.name.as_str()
+}
+
+/// Puts the object under its name, if it is a claim of the set's namespace.
+fn put_claim<'a>(
+    claims: &mut BTreeMap<&'a str, &'a Object>,
+    set: &Set,
+    object: &'a Object,
+) -> Result<(), AllocError>
+    ensures { OnOk result ((name : List ℕ) → found_in claims.new name
+        ≡ (if is_near (set_parts set.now) object.now && bytes_eq object.now.key.name name then Some object.now else found_in claims.old name)) }
+{
+    if is_near(set, object) {
+        claims.insert(name_of(object), object)?;
+    }
+    Ok(())
+}
+
+fn by_name<'a>(
+    alloc: Global,
+    set: &Set,
+    objects: &'a [Object],
+) -> Result<BTreeMap<&'a str, &'a Object>, AllocError>
+    ensures { IfOk result (λ claims. (name : List ℕ) → found_in claims name ≡ listed_claim (set_parts set.now) objects.now name) }
+{
+    let mut claims = BTreeMap::new(alloc);
+    for object in objects.iter().rev() {
+        put_claim(&mut claims, set, object)?;
+    }
+    Ok(claims)
+}
+
+impl<'a> ListedClaims<'a> {
+    /// The claims among these objects. Objects of other kinds and namespaces are passed over; of several claims with one name
+    /// the first counts.
+    pub fn of(
+        alloc: Global,
+        set: &Set,
+        objects: &'a [Object],
+    ) -> Result<ListedClaims<'a>, AllocError>
+        ensures { IfOk result (λ claims. claim_named claims ≡ listed_claim (set_parts set.now) objects.now) }
+    {
+        Ok(ListedClaims {
+            by_name: by_name(alloc, set, objects)?,
+        })
+    }
+
+    /// The claim of that name.
+    #[tactic(auto, unfolding(crate::specs::Listed::claim_named))]
+    pub fn get(&self, name: &str) -> Option<&'a Object>
+        ensures { option_map (λ o. o.now) result ≡ claim_named self.now name.now }
+    {
+        self.by_name.get(name).copied()
+    }
+}
