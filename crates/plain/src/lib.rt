@@ -29,4 +29,3 @@ pub use requests::{
     Change, Form, Judgment, Listing, Reason, Reply, Request, Verdict, Version, decide, judge,
 };
 pub use server::{ServeFault, serve};
-pub use version_map::{is_of, least_key};

@@ -1,169 +1,75 @@
--- What is of a kind and in a namespace are the entries from the least key on, while their keys match.
-use Rattle.std.proofs.Common.{◌≡◌, ℕ, Bool, true, false, cond, T, List, [], ◌∷◌, ◌++◌, map, Option, Some, None, refl, sym, ap, ◌∙◌, subst, append_assoc}
-use Rattle.std.specs.List.{AllByRecursion, filter, take_while}
+-- The names of a kind in a namespace, which stand in the order of their keys.
+use Rattle.std.proofs.Common.{◌≡◌, ℕ, ◌==◌, ◌<◌, length, get_or, bytes_eq, Bool, true, false, cond, T, List, [], ◌∷◌, map, Some, None, string_bytes, string_cmp, refl, sym, ap, ◌∙◌, subst}
+use Rattle.std.specs.List.{AllByRecursion}
 use Rattle.std.specs.List.Sorted.{IsStrictlySortedBy}
-use Rattle.std.specs.Ordering.{eq_by_cmp, is_eq, is_le}
-use Rattle.std.specs.declared.cmp.Ordering.TheVariants.{Less, Equal}
-use Rattle.std.specs.declared.ops.Bound.TheVariants.{Included, Unbounded}
-use Rattle.std.specs.BTreeMap.Range.{entries_between}
-use Rattle.std.specs.FinMap.{from_entries, from_sorted, entries-from_sorted, find, get, get-from_entries, get-from_sorted, get-retain_keys, is_sorted, retain_keys, same_map, values}
-use Rattle.std.specs.FinMap.Entries.{below_all, find-where_key, is_sorted-where_key, where_key}
-use Rattle.std.specs.Cmp.{tied_itself}
-use Rattle.std.proofs.lemmas.Bool.{and_parts}
-use Rattle.std.proofs.lemmas.List.Sums.{take_while-cons}
-use Rattle.std.proofs.lemmas.Option.{none-some, same_Some}
+use Rattle.std.specs.Map.{keys_of}
+use Rattle.std.specs.Ordering.{nat_cmp}
+use Rattle.std.specs.declared.cmp.Ordering.TheVariants.{Less}
+use Rattle.std.specs.BTreeMap.{IsOrdered, get_by_text}
+use Rattle.std.specs.Cmp.{nat_cmp_total}
+use Rattle.std.specs.Cmp.Lexicographic.{slice_cmp, nat_list_cmp_total}
+use Rattle.std.specs.FinMap.{from_sorted, entries-from_sorted, find, get, get-from_sorted, get-retain_keys, is_sorted, retain_keys, same_map, values}
+use Rattle.std.specs.FinMap.Entries.{below_all}
+use Rattle.std.proofs.lemmas.Bool.{and_parts, eqb-true}
+use Rattle.std.proofs.lemmas.Cmp.{tied_itself}
+use Rattle.std.proofs.lemmas.Slice.Eq.{bytes_eq-Decides}
 use Rattle.objects.specs.declared.key.Key.{Key}
 use Rattle.objects.specs.declared.kind.Kind.{Kind}
-use Rattle.objects.specs.Key.{KeyParts, key_cmp, is_key}
+use Rattle.objects.specs.Key.{key_cmp, key_parts, kind_index}
 use Rattle.objects.specs.KeyOrder.{exact_keys, key_cmp_total}
-use Rattle.objects.specs.Kind.{is_name}
-use Rattle.objects.specs.Names.{is_dns_label}
-use Rattle.version_map.specs.Keyed.{AreNamed, collection}
-use Rattle.version_map.specs.Keys.{is_of, least_key}
-use Rattle.version_map.proofs.KeyRuns.{between, bound, bounded, of_parts}
+use Rattle.version_map.specs.Keyed.{collection}
+use Rattle.version_map.specs.Keys.{is_of}
+use Rattle.version_map.specs.Named.{Names, Namespaces, Places, named, placed}
+use Rattle.version_map.proofs.Named.{Text, by_name, find_named, find_other, name_read, none_read, place_read}
 
-bound_by : (b : Bool) (key x : Key) → Some key ≡ cond b (Some x) None → key ≡ x
-bound_by true key x h = same_Some key x h
-bound_by false key x h = absurd (none-some key (sym h))
+abbrev pub values_of : {X : Type 0} → List (Key × X) → List X
+values_of {X} es = map (λ (e : Key × X). e.1) es
 
-no_label : (b : Bool) (x : Key) → None ≡ cond b (Some x) None → b ≡ false
-no_label true x h = absurd (none-some x h)
-no_label false x h = refl
+of_parts : (kind : Kind) (namespace : List ℕ) (k : Key) → is_of kind namespace k ≡ true → (kind_index k.kind ≡ kind_index kind) × (k.namespace ≡ namespace)
+of_parts kind namespace k h =
+    let both = and_parts (kind_index k.kind == kind_index kind) (bytes_eq k.namespace namespace) h in
+    (eqb-true (kind_index k.kind) (kind_index kind) both.0, (bytes_eq-Decides k.namespace namespace).0 both.1)
 
-abbrev pub Entries : Type 0 → Type 0
-Entries X = List (KeyParts × X)
+names_apart : (kind : Kind) (namespace a b : List ℕ) → slice_cmp nat_cmp a b ≡ Less → key_cmp (key_parts kind namespace a) (key_parts kind namespace b) ≡ Less
+names_apart kind namespace a b less =
+    rw (tied_itself nat_cmp_total (kind_index kind), tied_itself nat_list_cmp_total namespace) less
 
-module _ {X : Type 0} where
-  abbrev keys_of : Entries X → List KeyParts
-  keys_of es = map (λ (e : KeyParts × X). e.0) es
+below_named : (kind : Kind) (namespace : List ℕ) (s : Text) (es : List (Text × ℕ)) → AllByRecursion (λ q. string_cmp s q ≡ Less) (keys_of es)
+    → below_all key_cmp (key_parts kind namespace (string_bytes s)) (named kind namespace es) ≡ true
+below_named kind namespace s [] h = refl
+below_named kind namespace s (e ∷ es) h = rw (names_apart kind namespace (string_bytes s) (string_bytes e.0) h.0, below_named kind namespace s es h.1) refl
 
-  abbrev pub values_of : Entries X → List X
-  values_of es = map (λ (e : KeyParts × X). e.1) es
+sorted_named : (kind : Kind) (namespace : List ℕ) (es : List (Text × ℕ)) → IsStrictlySortedBy string_cmp (keys_of es) → is_sorted key_cmp (named kind namespace es) ≡ true
+unfolding IsStrictlySortedBy
+sorted_named kind namespace [] h = refl
+sorted_named kind namespace (e ∷ es) h = rw (below_named kind namespace e.0 es h.0, sorted_named kind namespace es h.1) refl
 
-  -- whether the entry's key is of the kind and in the namespace
-  abbrev pub matches : Kind → List ℕ → KeyParts × X → Bool
-  matches kind namespace e = is_of kind namespace e.0
+values_named : (kind : Kind) (namespace : List ℕ) (es : List (Text × ℕ)) → values_of (named kind namespace es) ≡ map (λ e. e.1) es
+values_named kind namespace [] = refl
+values_named kind namespace (e ∷ es) = ap (λ ps. e.1 ∷ ps) (values_named kind namespace es)
 
-  -- ---- the entries as a finite map
+-- the names with their places make the collection, if the map has at the keys of the kind in the namespace what they have
+pub collected : (m : Places) (kind : Kind) (namespace : List ℕ) (es : List (Text × ℕ)) → IsStrictlySortedBy string_cmp (keys_of es)
+    → ((q : Key) → kind_index q.kind ≡ kind_index kind → q.namespace ≡ namespace → get m q ≡ by_name es q.name) → collection m kind namespace ≡ map (λ e. e.1) es
+collected m kind namespace es ascending same =
+    let sorted : T (is_sorted key_cmp (named kind namespace es)) = subst T (sym (sorted_named kind namespace es ascending)) tt in
+    ap values (same_map key_cmp_total exact_keys (retain_keys m (is_of kind namespace)) (from_sorted (named kind namespace es)) (λ q.
+    get-retain_keys m (is_of kind namespace) q (λ x tie. ap (is_of kind namespace) (sym (exact_keys q x tie)))
+    ∙ by q (is_of kind namespace q) refl ∙ sym (get-from_sorted key_cmp (named kind namespace es) q sorted)))
+    ∙ ap values_of (entries-from_sorted key_cmp (named kind namespace es) sorted) ∙ values_named kind namespace es
+  where
+    by : (q : Key) (b : Bool) → is_of kind namespace q ≡ b → cond b (get m q) None ≡ find key_cmp q (named kind namespace es)
+    by q true is = let parts = of_parts kind namespace q is in same q parts.0 parts.1 ∙ sym (find_named kind namespace q es is)
+    by q false is = sym (find_other kind namespace q es is)
 
-  below_again : (k : KeyParts) (es : Entries X) → AllByRecursion (λ q. key_cmp k q ≡ Less) (keys_of es) → below_all key_cmp k es ≡ true
-  below_again k [] h = refl
-  below_again k (e ∷ es) h = rw (h.0, below_again k es h.1) refl
+-- the collection of a kind in a namespace, as its names are read
+module _ (ms : List Namespaces) (m : Places) (i : ℕ) (d : Namespaces) (view : placed ms ≡ m) (many : length ms ≡ 4) (within : i < 4)
+    (kind : Kind) (namespace text : List ℕ) (index : i ≡ kind_index kind) (spaces : text ≡ namespace) where
+  pub collection_read : (names : Names) → Some names ≡ get_by_text (get_or ms i d) text → IsOrdered string_cmp names → collection m kind namespace ≡ map (λ e. e.1) names.entries
+  collection_read names found ordered = collected m kind namespace names.entries ordered (λ q kinds same.
+      place_read ms m i d view many within q (index ∙ sym kinds) ∙ name_read (get_or ms i d) names text q.namespace q.name (spaces ∙ sym same) found)
 
-  sorted_again : (es : Entries X) → IsStrictlySortedBy key_cmp (keys_of es) → is_sorted key_cmp es ≡ true
+  pub none_collected : None ≡ get_by_text (get_or ms i d) text → collection m kind namespace ≡ []
   unfolding IsStrictlySortedBy
-  sorted_again [] h = refl
-  sorted_again (e ∷ es) h = rw (below_again e.0 es h.0, sorted_again es h.1) refl
-
-  -- the entries that match, as the definition picks them out of the map
-  kept_map : (es : Entries X) (kind : Kind) (namespace : List ℕ) → T (is_sorted key_cmp es)
-      → retain_keys (from_entries {R = key_cmp} es) (is_of kind namespace) ≡ from_sorted (where_key key_cmp (is_of kind namespace) es)
-  kept_map es kind namespace sorted =
-      let p = is_of kind namespace in
-      let alike : (q x : KeyParts) → key_cmp q x ≡ Equal → p x ≡ p q = λ q x tie. ap p (sym (exact_keys q x tie)) in
-      same_map key_cmp_total exact_keys _ _ (λ q.
-      get-retain_keys (from_entries es) p q (alike q) ∙ ap (λ o. cond (p q) o None) (get-from_entries key_cmp_total es q)
-      ∙ sym (get-from_sorted key_cmp (where_key key_cmp p es) q (is_sorted-where_key key_cmp p es sorted) ∙ find-where_key key_cmp p q (alike q) es))
-
-  collection_is : (es : Entries X) (kind : Kind) (namespace : List ℕ) → IsStrictlySortedBy key_cmp (keys_of es)
-      → collection (from_entries es) kind namespace ≡ values_of (filter (matches kind namespace) es)
-  collection_is es kind namespace ascending =
-      let sorted : T (is_sorted key_cmp es) = subst T (sym (sorted_again es ascending)) tt in
-      let p = is_of kind namespace in
-      ap values (kept_map es kind namespace sorted)
-      ∙ ap values_of (entries-from_sorted key_cmp (where_key key_cmp p es) (is_sorted-where_key key_cmp p es sorted))
-
-  -- ---- the entries from the least key on
-
-  -- each key that is found follows the rules of names
-  abbrev Named : Entries X → Type 0
-  Named es = (k : KeyParts) (o : X) → find key_cmp k es ≡ Some o → is_key k ≡ true
-
-  named_all : (es : Entries X) → AreNamed (from_entries es) → Named es
-  named_all es named k o found = named k o (get-from_entries key_cmp_total es k ∙ found)
-
-  named_first : (e : KeyParts × X) (es : Entries X) → Named (e ∷ es) → is_key e.0 ≡ true
-  named_first e es named = named e.0 e.1 (ap (λ r. cond r (Some e.1) (find key_cmp e.0 es)) (ap is_eq (tied_itself key_cmp_total e.0)))
-
-  named_rest : (e : KeyParts × X) (es : Entries X) → Named (e ∷ es) → Named es
-  named_rest e es named k o found = by_tie (eq_by_cmp key_cmp k e.0) refl
-    where
-      by_tie : (b : Bool) → eq_by_cmp key_cmp k e.0 ≡ b → is_key k ≡ true
-      by_tie true tie = named k e.1 (ap (λ b. cond b (Some e.1) (find key_cmp k es)) tie)
-      by_tie false tie = named k o (ap (λ b. cond b (Some e.1) (find key_cmp k es)) tie ∙ found)
-
-  after_by : (kind : Kind) (namespace : List ℕ) (x : KeyParts) (e : KeyParts × X) (es : Entries X) (b : Bool) → is_of kind namespace e.0 ≡ b
-      → is_le (key_cmp (bound kind namespace) x) ≡ true → is_of kind namespace x ≡ false → key_cmp x e.0 ≡ Less
-      → filter (matches kind namespace) es ≡ [] → filter (matches kind namespace) (e ∷ es) ≡ []
-  after_by kind namespace x e es true is from other above none = let both : true ≡ false = sym (between kind namespace x e.0 from above is) ∙ other in cc
-  after_by kind namespace x e es false is from other above none = rw is none
-
-  -- after a key that does not match and is not below the bound, none matches
-  none_after : (kind : Kind) (namespace : List ℕ) (x : KeyParts) (es : Entries X) → is_le (key_cmp (bound kind namespace) x) ≡ true → is_of kind namespace x ≡ false
-      → AllByRecursion (λ q. key_cmp x q ≡ Less) (keys_of es) → filter (matches kind namespace) es ≡ []
-  none_after kind namespace x [] from other above = refl
-  none_after kind namespace x (e ∷ es) from other above =
-      after_by kind namespace x e es (is_of kind namespace e.0) refl from other above.0 (none_after kind namespace x es from other above.1)
-
-  -- the entries from the bound on
-  abbrev pub entries_from_bound : Kind → List ℕ → Entries X → Entries X
-  entries_from_bound kind namespace es = entries_between key_cmp (Included (bound kind namespace)) Unbounded es
-
-  taken_by : (kind : Kind) (namespace : List ℕ) (e : KeyParts × X) (es : Entries X) (b : Bool) → is_of kind namespace e.0 ≡ b
-      → take_while (matches kind namespace) (e ∷ es) ≡ cond b (e ∷ take_while (matches kind namespace) es) []
-  taken_by kind namespace e es b is =
-      take_while-cons (matches kind namespace) e es ∙ ap (λ c. cond c (e ∷ take_while (matches kind namespace) es) []) is
-
-  from_by : (kind : Kind) (namespace : List ℕ) (e : KeyParts × X) (es : Entries X) (b c : Bool) → is_of kind namespace e.0 ≡ b
-      → is_le (key_cmp (bound kind namespace) e.0) ≡ c → is_key e.0 ≡ true → AllByRecursion (λ q. key_cmp e.0 q ≡ Less) (keys_of es)
-      → filter (matches kind namespace) es ≡ take_while (matches kind namespace) (entries_from_bound kind namespace es)
-      → filter (matches kind namespace) (e ∷ es) ≡ take_while (matches kind namespace) (entries_from_bound kind namespace (e ∷ es))
-  from_by kind namespace e es true c is from right above later =
-      rw (is, bounded kind namespace e.0 right is) (ap (λ fs. e ∷ fs) later ∙ sym (taken_by kind namespace e (entries_from_bound kind namespace es) true is))
-  from_by kind namespace e es false true is from right above later =
-      rw (is, from) (none_after kind namespace e.0 es from is above ∙ sym (taken_by kind namespace e (entries_from_bound kind namespace es) false is))
-  from_by kind namespace e es false false is from right above later = rw (is, from) later
-
-  from_bound : (kind : Kind) (namespace : List ℕ) (es : Entries X) → Named es → IsStrictlySortedBy key_cmp (keys_of es)
-      → filter (matches kind namespace) es ≡ take_while (matches kind namespace) (entries_from_bound kind namespace es)
-  unfolding IsStrictlySortedBy
-  from_bound kind namespace [] named ascending = refl
-  from_bound kind namespace (e ∷ es) named ascending =
-      from_by kind namespace e es _ _ refl refl (named_first e es named) ascending.0 (from_bound kind namespace es (named_rest e es named) ascending.1)
-
-  -- ---- what the walk finds
-
-  -- the values that are found before the walk begins are none, and all are among those that are left
-  pub walk_begins : (es left : Entries X) (kind : Kind) (namespace : List ℕ) (key : KeyParts) (found : List X) → AreNamed (from_entries es)
-      → IsStrictlySortedBy key_cmp (keys_of es) → Some key ≡ least_key kind namespace → left ≡ entries_between key_cmp (Included key) Unbounded es → found ≡ []
-      → found ++ values_of (take_while (matches kind namespace) left) ≡ collection (from_entries es) kind namespace
-  walk_begins es left kind namespace key found named ascending least between none =
-      let key_is = bound_by (is_dns_label namespace) key (bound kind namespace) least in
-      ap (λ fs. fs ++ values_of (take_while (matches kind namespace) left)) none
-      ∙ ap (λ fs. values_of (take_while (matches kind namespace) fs)) (between ∙ ap (λ k. entries_between key_cmp (Included k) Unbounded es) key_is)
-      ∙ sym (collection_is es kind namespace ascending ∙ ap values_of (from_bound kind namespace es (named_all es named) ascending))
-
-  pub walk_goes_on : (left rest : Entries X) (kind : Kind) (namespace : List ℕ) (e : KeyParts × X) (found more all : List X)
-      → left ≡ e ∷ rest → is_of kind namespace e.0 ≡ true → more ≡ found ++ e.1 ∷ [] → found ++ values_of (take_while (matches kind namespace) left) ≡ all
-      → more ++ values_of (take_while (matches kind namespace) rest) ≡ all
-  walk_goes_on left rest kind namespace e found more all at is pushed so_far =
-      ap (λ os. os ++ values_of (take_while (matches kind namespace) rest)) pushed ∙ append_assoc found (e.1 ∷ []) _
-      ∙ sym (ap (λ fs. found ++ values_of (take_while (matches kind namespace) fs)) at ∙ ap (λ fs. found ++ values_of fs) (taken_by kind namespace e rest true is)) ∙ so_far
-
-  -- ---- a namespace that no key is in
-
-  pub none_there : (es : Entries X) (kind : Kind) (namespace : List ℕ) (found : List X) → AreNamed (from_entries es) → None ≡ least_key kind namespace → found ≡ []
-      → found ≡ collection (from_entries es) kind namespace
-  none_there es kind namespace found named least none =
-      let p = is_of kind namespace in
-      let alike : (q x : KeyParts) → key_cmp q x ≡ Equal → p x ≡ p q = λ q x tie. ap p (sym (exact_keys q x tie)) in
-      let empty = same_map key_cmp_total exact_keys (retain_keys (from_entries {R = key_cmp} es) p) (from_sorted []) (λ q.
-      get-retain_keys (from_entries es) p q (alike q) ∙ at q (p q) refl (get (from_entries es) q) refl ∙ sym (get-from_sorted key_cmp [] q tt)) in
-      none ∙ sym (ap values empty ∙ ap values_of (entries-from_sorted key_cmp [] tt))
-    where
-      at : (q : KeyParts) (b : Bool) → is_of kind namespace q ≡ b → (o : Option X) → get (from_entries {R = key_cmp} es) q ≡ o → cond b o None ≡ None
-      at q true is None there = refl
-      at q true is (Some o) there =
-          let label = (and_parts (is_dns_label q.namespace) (is_name q.kind q.name) (named q o there)).0 in
-          let both : true ≡ false = sym label ∙ ap is_dns_label (of_parts kind namespace q is).1 ∙ no_label (is_dns_label namespace) (bound kind namespace) least in cc
-      at q false is o there = refl
+  none_collected missing = collected m kind namespace [] tt (λ q kinds same.
+      place_read ms m i d view many within q (index ∙ sym kinds) ∙ none_read (get_or ms i d) text q.namespace q.name (spaces ∙ sym same) missing)

@@ -1,5 +1,5 @@
-pub mod KeyRuns
-pub mod Entries
+pub mod Named
+pub mod NewNames
 pub mod Collections
 pub mod Rows
 pub mod Records

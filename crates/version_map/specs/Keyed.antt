@@ -1,10 +1,10 @@
 -- Finite maps by keys.
-use Rattle.std.specs.Prelude.{◌≡◌, ℕ, true, List, Option, Some, None}
+use Rattle.std.specs.Prelude.{ℕ, List, Option, Some, None}
 use Rattle.std.specs.FinMap as map
 use Rattle.std.specs.FinMap.{FinMap}
 use Rattle.objects.specs.declared.key.Key.{Key}
 use Rattle.objects.specs.declared.kind.Kind.{Kind}
-use Rattle.objects.specs.Key.{key_cmp, is_key}
+use Rattle.objects.specs.Key.{key_cmp}
 use Rattle.version_map.specs.Keys.{is_of}
 
 -- the map with what the key has now
@@ -15,7 +15,3 @@ put_at m k (Some x) = map.insert m k x
 -- what is there of a kind in a namespace, in the map's order: that of the bytes of the names
 abbrev pub collection : {X : Type 0} → FinMap key_cmp X → Kind → List ℕ → List X
 collection m kind namespace = map.values (map.retain_keys m (is_of kind namespace))
-
--- each key follows the rules of names
-abbrev pub AreNamed : {X : Type 0} → FinMap key_cmp X → Type 0
-AreNamed {X} m = (k : Key) (x : X) → map.get m k ≡ Some x → is_key k ≡ true

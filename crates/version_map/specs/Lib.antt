@@ -1,5 +1,6 @@
 pub mod Keys
 pub mod Keyed
+pub mod Named
 pub mod Rows
 pub mod Records
 pub mod Versions

@@ -4,15 +4,12 @@ use Rattle.std.specs.Prelude.{◌≡◌, ℕ, ◌<◌, ◌≤◌, ◌==◌, Bool
 use Rattle.std.specs.List.{AllByRecursion, find, flat_map}
 use Rattle.std.specs.Option.{option_map_or, option_to_list}
 use Rattle.std.specs.FinMap as finite
-use Rattle.std.specs.FinMap.{FinMap, entries}
+use Rattle.std.specs.FinMap.{entries}
 use Rattle.objects.specs.declared.key.Key.{Key}
-use Rattle.objects.specs.Key.{key_cmp}
 use Rattle.version_map.specs.declared.map.Superseding.{Superseding}
 use Rattle.version_map.specs.Rows.{Chain, Row, state_to}
 use Rattle.version_map.specs.Versions.{RowsByKey, count}
-
-abbrev pub Places : Type 0
-Places = FinMap key_cmp ℕ
+pub use Rattle.version_map.specs.Named.{Places}
 
 abbrev pub Chains : Type 0 → Type 0
 Chains X = List (Chain X)

@@ -3,10 +3,8 @@
 
 mod chain;
 mod laws;
-mod least;
 mod map;
 mod places;
 
 pub use laws::states_have_the_values;
-pub use least::{is_of, least_key};
 pub use map::VersionMap;

@@ -1,4 +1,4 @@
-ghost use Rattle.std.specs.Prelude.{◌≡◌, ◌≤◌, ◌<◌, ◌++◌, ◌∷◌, [], ℕ, true, false, Some, IsTrue, IfOk, IfSome, IsSome, OnOk, OnErr, option_map, length, map, if◌then◌else◌};
+ghost use Rattle.std.specs.Prelude.{◌≡◌, ◌≤◌, ◌<◌, ◌++◌, ◌∷◌, [], ℕ, true, false, Some, IsTrue, IfOk, IfSome, IsSome, OnOk, OnErr, option_map, map, if◌then◌else◌};
 ghost use Rattle.std.specs.Option.{option_copied};
 ghost use Rattle.std.specs.VecDeque.{deque_capacity, deque_len};
 ghost use Rattle.std.specs.FinMap as finite;
@@ -238,7 +238,7 @@ fn reserve_for<V: Drop>(
 {
     let place = place_of(alloc, places, chains, key)?;
     let chain = &mut chains[place];
-    chain.reserve()?;
+    chain.reserve(alloc)?;
     Ok(place)
 }
 
@@ -259,8 +259,8 @@ fn place_of<V: Drop>(
         None => {
             chains.reserve(1)?;
             let place = chains.len();
-            places.insert(key, place)?;
-            chains.push_reserved(Chain::new(alloc));
+            places.insert(alloc, key, place)?;
+            chains.push_reserved(Chain::new());
             Ok(place)
         }
     }

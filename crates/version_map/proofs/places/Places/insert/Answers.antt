@@ -1,16 +1,9 @@
-use Rattle.std.proofs.Common.{ap, sym, subst, ◌∙◌}
-use Rattle.std.specs.FinMap as map
-use Rattle.objects.specs.Key.{is_key}
-use Rattle.version_map.specs.Keyed.{AreNamed}
-use Rattle.version_map.proofs.Entries.{inserted, named_more}
+use Rattle.version_map.proofs.NewNames.{on_error, on_ok, placed_as_before, placed_one_more}
 use Rattle.version_map.proofs.places.Places.insert.Goals as goal
 
-pub invariant_of-self-2 : goal.invariant_of-self-2
-invariant_of-self-2 c =
-    subst AreNamed (sym (inserted c.self.inside.places c.insert.new.self c.in_ok-clone.field-0 c.args.key.now c.args.place c.in_ok-clone.ensures.cases c.in_ok-insert.ensures.updates))
-    (named_more _ c.args.key.now c.args.place (ap is_key (sym c.key.view_is) ∙ c.key.invariant) c.self.invariant)
-
 pub returns-clause-ok : goal.returns-clause-ok
-returns-clause-ok c =
-    inserted c.self.inside.places c.insert.new.self c.in_ok-clone.field-0 c.args.key.now c.args.place c.in_ok-clone.ensures.cases c.in_ok-insert.ensures.updates
-    ∙ ap (λ m. map.insert m c.args.key.now c.args.place) c.self.view_is
+returns-clause-ok c = on_ok c.insert_name.result (placed_one_more c.self.inside.kinds _ c.index_of.result c.index-self-index_of.result c.insert_name.new.namespaces c.self.view_is c.self.invariant c.index_of.ensures.within
+    _ c.key.inside.kind c.key.inside.namespace c.key.inside.name c.as_str.result.now c.as_str-2.result.now c.args.place c.key.view_is c.index_of.ensures.index c.as_str.ensures c.as_str-2.ensures) c.insert_name.ensures.ok
+
+pub returns-clause-err : goal.returns-clause-err
+returns-clause-err c = on_error c.insert_name.result (placed_as_before c.self.inside.kinds _ c.index_of.result c.index-self-index_of.result c.insert_name.new.namespaces c.self.view_is c.self.invariant c.index_of.ensures.within) c.insert_name.ensures.err
