@@ -62,6 +62,14 @@ fn taken_at_last(
     texts
 }
 
+/// Asserts the texts of the objects of the reply to a line, which is taken once more where a growth is refused.
+fn assert_texts(rt: &impl Abort, alloc: Global, plain: &mut Plain, line: &str, texts: &str) {
+    match taken_at_last(rt, alloc, plain, line) {
+        Ok(found) => assert_eq!(rt; found.as_str(), texts, "of {line}"),
+        Err(Memory) => panic!(rt; "two growths were refused"),
+    }
+}
+
 /// A request that was refused a growth has changed nothing, so that, taken once more, it is answered as if it came for the
 /// first time, and all later ones are too.
 #[test]
@@ -70,9 +78,49 @@ fn a_store_is_as_before_a_refused_growth(rt: HostRuntime) {
         panic!(rt; "no store");
     };
     for (line, _, texts, _) in ROWS.iter() {
-        match taken_at_last(&rt, rt.alloc(), &mut plain, line) {
-            Ok(found) => assert_eq!(rt; found.as_str(), *texts, "of {line}"),
-            Err(Memory) => panic!(rt; "two growths were refused"),
-        }
+        assert_texts(&rt, rt.alloc(), &mut plain, line, texts);
+    }
+}
+
+/// Lines to a new store, and the texts of the objects of their replies, worked out by hand. Two pods are made and one is
+/// given a label; the past is listed, compacted away, and denied.
+static PAST: [(&str, &str); 9] = [
+    (
+        r#"{"do":"create","object":{"kind":"Pod","metadata":{"name":"a"}}}"#,
+        r#"{"kind":"Pod","metadata":{"generation":1,"name":"a","namespace":"default","resourceVersion":"1","uid":"00000000-0000-4000-8000-000000000001"}}"#,
+    ),
+    (
+        r#"{"do":"create","object":{"kind":"Pod","metadata":{"name":"b"}}}"#,
+        r#"{"kind":"Pod","metadata":{"generation":1,"name":"b","namespace":"default","resourceVersion":"2","uid":"00000000-0000-4000-8000-000000000002"}}"#,
+    ),
+    (
+        r#"{"do":"update","object":{"kind":"Pod","metadata":{"labels":{"x":"y"},"name":"a"}}}"#,
+        r#"{"kind":"Pod","metadata":{"generation":1,"labels":{"x":"y"},"name":"a","namespace":"default","resourceVersion":"3","uid":"00000000-0000-4000-8000-000000000001"}}"#,
+    ),
+    (
+        r#"{"do":"list","kind":"Pod","resourceVersion":"1"}"#,
+        r#"{"kind":"Pod","metadata":{"generation":1,"name":"a","namespace":"default","resourceVersion":"1","uid":"00000000-0000-4000-8000-000000000001"}}"#,
+    ),
+    (
+        r#"{"do":"list","kind":"Pod","resourceVersion":"2"}"#,
+        r#"{"kind":"Pod","metadata":{"generation":1,"name":"a","namespace":"default","resourceVersion":"1","uid":"00000000-0000-4000-8000-000000000001"}},{"kind":"Pod","metadata":{"generation":1,"name":"b","namespace":"default","resourceVersion":"2","uid":"00000000-0000-4000-8000-000000000002"}}"#,
+    ),
+    (r#"{"do":"compact","resourceVersion":"3"}"#, ""),
+    (r#"{"do":"list","kind":"Pod","resourceVersion":"2"}"#, ""),
+    (
+        r#"{"do":"list","kind":"Pod","resourceVersion":"3"}"#,
+        r#"{"kind":"Pod","metadata":{"generation":1,"labels":{"x":"y"},"name":"a","namespace":"default","resourceVersion":"3","uid":"00000000-0000-4000-8000-000000000001"}},{"kind":"Pod","metadata":{"generation":1,"name":"b","namespace":"default","resourceVersion":"2","uid":"00000000-0000-4000-8000-000000000002"}}"#,
+    ),
+    (r#"{"do":"compact","resourceVersion":"2"}"#, ""),
+];
+
+/// So it is with lists at an exact resource version, and with compactions, which change nothing but the floor.
+#[test]
+fn the_past_is_as_before_a_refused_growth(rt: HostRuntime) {
+    let Ok(mut plain) = Plain::new(rt.alloc(), 100) else {
+        panic!(rt; "no store");
+    };
+    for (line, texts) in PAST.iter() {
+        assert_texts(&rt, rt.alloc(), &mut plain, line, texts);
     }
 }
