@@ -9,19 +9,38 @@ use Rattle.objects.specs.Status.{member_of, with_member}
 use Rattle.set_views.specs.Set.{SetParts}
 use Rattle.manifests.specs.declared.status.Status.{Status}
 
+-- the numbers, and the names of the revisions
+pub record StatusParts : Type 0 where
+  pub replicas : ℕ
+  pub ready_replicas : ℕ
+  pub current_replicas : ℕ
+  pub updated_replicas : ℕ
+  pub current_revision : List ℕ
+  pub update_revision : List ℕ
+
+abbrev pub status_parts : Status → StatusParts
+status_parts s = record {
+  replicas = s.replicas;
+  ready_replicas = s.ready_replicas;
+  current_replicas = s.current_replicas;
+  updated_replicas = s.updated_replicas;
+  current_revision = s.current_revision.now;
+  update_revision = s.update_revision.now;
+}
+
 abbrev pub put_number : List ℕ → ℕ → Members → Members
 put_number k n ms = put k (number (unsigned n)) ms
 
 -- what was counted and named, put over the members of the old status
-abbrev pub new_status : SetParts → Status → Members → Members
+abbrev pub new_status : SetParts → StatusParts → Members → Members
 new_status set s old =
     put_number (codes "collisionCount") set.collisions
     (put_number (codes "currentReplicas") s.current_replicas
-    (put (codes "currentRevision") (string s.current_revision.now)
+    (put (codes "currentRevision") (string s.current_revision)
     (put_number (codes "observedGeneration") set.object.meta.generation
     (put_number (codes "readyReplicas") s.ready_replicas
     (put_number (codes "replicas") s.replicas
-    (put (codes "updateRevision") (string s.update_revision.now)
+    (put (codes "updateRevision") (string s.update_revision)
     (put_number (codes "updatedReplicas") s.updated_replicas old)))))))
 
 abbrev pub status_in : SetParts → Option Data
@@ -39,5 +58,5 @@ abbrev pub differs : SetParts → Data → Bool
 differs set status = option_map_or (λ old. not (same_data status old)) (status_in set) true
 
 -- the set with its new status, where that differs from the old one
-unfoldable pub built_status : SetParts → Status → Option Object
+unfoldable pub built_status : SetParts → StatusParts → Option Object
 built_status set s = let status = object (new_status set s (old_status set)) in if differs set status then Some (set_with set status) else None

@@ -3,7 +3,7 @@ ghost use Rattle.std.specs.Prelude.{◌≡◌, IfOk, option_map, option_and_then
 ghost use Rattle.serde_json.specs.Find.{as_object};
 ghost use Rattle.objects.specs.Tree.{data_of};
 ghost use Rattle.set_views.specs.Set.{set_parts};
-ghost use Rattle.manifests.specs.BuiltStatus.{built_status, differs, new_status, old_status, set_with, status_in};
+ghost use Rattle.manifests.specs.BuiltStatus.{built_status, differs, new_status, old_status, set_with, status_in, status_parts};
 
 use crate::members::{none, with_number, with_text};
 use objects::{Members, Object, Tree};
@@ -54,7 +54,7 @@ fn new_status(
     status: Status<'_>,
     old: Members,
 ) -> Result<Members, AllocError>
-    ensures { IfOk result (λ new. new ≡ new_status (set_parts set.now) status.entry old) }
+    ensures { IfOk result (λ new. new ≡ new_status (set_parts set.now) (status_parts status.entry) old) }
 {
     let counted = with_number(old, "updatedReplicas", status.updated_replicas as u64)?;
     let counted = with_text(alloc, counted, "updateRevision", status.update_revision)?;
@@ -86,7 +86,7 @@ pub fn with_status(
     set: &Set,
     status: Status<'_>,
 ) -> Result<Option<Object>, AllocError>
-    ensures { IfOk result (λ changed. changed ≡ built_status (set_parts set.now) status.entry) }
+    ensures { IfOk result (λ changed. changed ≡ built_status (set_parts set.now) (status_parts status.entry)) }
 {
     let members = new_status(alloc, set, status, old_status(alloc, set)?)?;
     let new = Tree::Map(members);
