@@ -1,0 +1,1 @@
+-- ---- what public clauses cite

@@ -1,0 +1,13 @@
+//! The plan of a StatefulSet: what its controller asks of the API, given the set and the objects of its namespace. What
+//! the plan reads, and the collector of claims, stand in crates below and are handed on.
+#![tactic(auto)]
+
+mod action;
+
+pub use action::{Action, Plan};
+pub use collector::{collect, collected_claims_are_collectable, owned_claims_stay};
+pub use revisions::{RevisionPlan, RevisionView, Revisions, revision_plan};
+pub use scaling::Cause;
+pub use set_views::{
+    PlanError, PodView, Policy, Readiness, Retention, Set, Strategy, read_pod, read_set,
+};
