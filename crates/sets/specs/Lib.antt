@@ -1,1 +1,6 @@
 -- ---- what public clauses cite
+pub mod Actions
+pub mod Whole
+pub mod Plan
+-- ---- what private clauses cite
+pub mod Cut

@@ -3,9 +3,14 @@
 #![tactic(auto)]
 
 mod action;
+mod actions;
+mod ending;
+mod planner;
+mod steps;
 
 pub use action::{Action, Plan};
 pub use collector::{collect, collected_claims_are_collectable, owned_claims_stay};
+pub use planner::plan;
 pub use revisions::{RevisionPlan, RevisionView, Revisions, revision_plan};
 pub use scaling::Cause;
 pub use set_views::{

@@ -1,0 +1,9 @@
+use Rattle.std.proofs.Common.{take}
+use Rattle.std.specs.Prelude.{map}
+use Rattle.revisions.specs.Plan.{objects_of}
+use Rattle.sets.specs.Cut.{Adds}
+use Rattle.sets.specs.Whole.{deletion}
+use Rattle.sets.proofs.ending.add_deletions.Given as goal
+
+abbrev pub invariant-loop-revision : goal.invariant-loop-revision
+invariant-loop-revision l = Adds l.fn.actions.list.items l.actions.list.items (map deletion (objects_of (take l.revision-index l.gone)))

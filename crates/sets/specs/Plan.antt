@@ -1,0 +1,61 @@
+-- The plan of a StatefulSet, or the first refusal.
+use Rattle.std.specs.Prelude.{◌≡◌, ◌+◌, ◌-◌, ◌==◌, ◌||◌, ℕ, Bool, nat_le, List, [], ◌∷◌, filter, length, map, take, Result, Ok, Err, ⊤}
+use Rattle.objects.specs.declared.object.Object.{Object}
+use Rattle.set_views.specs.declared.fault.PlanError.{PlanError}
+use Rattle.set_views.specs.declared.fault.PlanError.TheVariants.{NameTooLong, NoRevisionName}
+use Rattle.set_views.specs.declared.fault.PlanError.TheVariants as errors
+use Rattle.set_views.specs.declared.pod.PodView.{PodView}
+use Rattle.set_views.specs.Pod.{PodParts, pod_parts}
+use Rattle.set_views.specs.Set.{SetParts}
+use Rattle.set_views.specs.Steps.{◌>>=◌, guarded, Gives}
+use Rattle.revisions.specs.Plan.{Planned, created, renumbered, settled, plan_of}
+use Rattle.revisions.specs.Revision.{AreOwned, is_held, listed}
+use Rattle.scaling.specs.Listed.{replicas_in}
+use Rattle.scaling.specs.Replicas.{Pods}
+use Rattle.scaling.specs.Views.{AreViews, is_near}
+use Rattle.manifests.specs.BuiltPod.{most_name}
+use Rattle.sets.specs.declared.action.Action.{Action}
+use Rattle.sets.specs.declared.action.Action.TheVariants.{WriteRevision}
+use Rattle.sets.specs.declared.action.Plan.{Plan}
+use Rattle.sets.specs.Actions.{name_at}
+use Rattle.sets.specs.Whole.{whole}
+
+-- the most actions of one plan; the rest is left to the next
+abbrev pub most_actions : ℕ
+most_actions = 1024
+
+-- the name of the last pod in range, if there is one, is not too long
+abbrev pub names_fit : SetParts → Bool
+names_fit set = (set.replicas == 0) || nat_le (length (name_at set (set.start + set.replicas - 1))) most_name
+
+-- the set's pods among the listed ones, given the names of its update and current revisions; NameTooLong is tested before
+-- Foreign
+unfoldable pub fitting : SetParts → List ℕ → List ℕ → List PodParts → Result Pods PlanError
+fitting set update current pods = do
+  fit ← guarded NameTooLong (names_fit set) pods
+  replicas_in set update current fit
+
+-- where no update revision is in place the pods are looked at for their refusals alone
+abbrev pub unless_refused : {A : Type 0} → SetParts → List PodParts → Result A PlanError → Result A PlanError
+unless_refused set pods answer = fitting set [] [] pods >>= λ _. answer
+
+-- where the update revision is in place
+unfoldable pub plan_of_pods : SetParts → List PodParts → List Object → Object → Object → Result (List Action) PlanError
+plan_of_pods set pods owned current update =
+    fitting set update.key.name current.key.name pods >>= λ replicas. Ok (take most_actions (whole set pods owned current update replicas))
+
+-- given what is planned of the revisions: where one is written there is nothing else
+unfoldable pub plan_by : SetParts → List PodParts → Result Planned PlanError → Result (List Action) PlanError
+plan_by set pods (Ok (created o)) = unless_refused set pods (Ok (WriteRevision o ∷ []))
+plan_by set pods (Ok (renumbered o)) = unless_refused set pods (Ok (WriteRevision o ∷ []))
+plan_by set pods (Ok (settled owned current update)) = plan_of_pods set pods owned current update
+plan_by set pods (Err NoRevisionName) = unless_refused set pods (Err NoRevisionName)
+plan_by set pods (Err e) = Err e
+
+-- what is planned over these listed objects; nothing is said where memory ran out
+abbrev pub IsPlan : SetParts → List Object → List Object → ℕ → Result Plan PlanError → Type 0
+IsPlan set pods revisions digits (Err errors.Memory) = ⊤
+IsPlan set pods revisions digits result =
+    (owned : List Object) × AreOwned set revisions owned
+    × ((views : List PodView) × AreViews (filter (is_near set) pods) views
+    × Gives (λ p. p.actions.items) result (plan_by set (map pod_parts views) (plan_of set (is_held (listed set revisions)) digits owned)))

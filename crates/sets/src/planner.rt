@@ -1,0 +1,201 @@
+// The plan of a set.
+ghost use Rattle.std.specs.Prelude.{◌≡◌, ◌≤◌, ◌∷◌, [], map, take, true, IfOk, Result, Ok, Err};
+ghost use Rattle.set_views.specs.declared.fault.PlanError.{PlanError};
+ghost use Rattle.set_views.specs.declared.fault.PlanError.TheVariants.{Memory as OutOfMemory, NoRevisionName};
+ghost use Rattle.set_views.specs.Pod.{pod_parts};
+ghost use Rattle.set_views.specs.Set.{set_parts};
+ghost use Rattle.set_views.specs.Steps.{Gives};
+ghost use Rattle.revisions.specs.Plan.{Planned, objects_of, planned_of};
+ghost use Rattle.sets.specs.declared.action.Action.TheVariants.{WriteRevision};
+ghost use Rattle.sets.specs.Plan.{IsPlan, fitting, most_actions, names_fit, plan_by, plan_of_pods, unless_refused};
+ghost use Rattle.sets.specs.Whole.{whole};
+
+use crate::action::{Action, Plan};
+use crate::actions::Actions;
+use crate::ending::{add_history, add_status, current_name};
+use crate::steps::{add_steps, name_at};
+use objects::{Memory, Object};
+use revisions::{RevisionPlan, Revisions, revision_plan};
+use scaling::{Replica, pod_steps, replicas_of, views_of};
+use set_views::{PlanError, PodView, Set};
+use std::alloc::Global;
+use std::collections::BTreeMap;
+
+/// The most bytes of a pod's name, which is the value of a label, and its hostname.
+const MOST_NAME: usize = 63;
+
+/// Whether the name of the last pod in range, if there is one, is not too long.
+fn names_fit(alloc: Global, set: &Set) -> Result<bool, Memory>
+    ensures { IfOk result (λ fit. fit ≡ names_fit (set_parts set.now)) }
+{
+    if set.replicas == 0 {
+        return Ok(true);
+    }
+    let last = name_at(alloc, set, set.start + set.replicas - 1)?;
+    let fits = last.as_str().len() <= MOST_NAME;
+    Ok(fits)
+}
+
+/// The set's pods among the listed ones, given the names of its update and current revisions.
+#[tactic(auto, using(set_views::proofs::Chains::fails_then), unfolding(crate::specs::Plan::fitting))]
+fn fitting_pods(
+    alloc: Global,
+    set: &Set,
+    update: &str,
+    current: &str,
+    views: &[PodView<'_>],
+) -> Result<BTreeMap<u32, Replica>, PlanError>
+    ensures { Gives (λ pods. pods.entries) result (fitting (set_parts set.now) update.now current.now (map pod_parts views.now)) }
+{
+    if names_fit(alloc, set)? {
+        replicas_of(alloc, set, update, current, views)
+    } else {
+        Err(PlanError::NameTooLong)
+    }
+}
+
+/// What is planned where the update revision is in place, over the set's pods.
+fn actions_over(
+    alloc: Global,
+    set: &Set,
+    views: &[PodView<'_>],
+    revisions: &Revisions<'_>,
+    pods: &BTreeMap<u32, Replica>,
+) -> Result<Vec<Action>, Memory>
+    requires { names_fit (set_parts set.now) ≡ true }
+    ensures { IfOk result (λ actions. actions.items ≡ take most_actions (whole (set_parts set.now) (map pod_parts views.now) (objects_of revisions.now.owned.items)
+        revisions.now.current.object.now revisions.now.update.object.now pods.now.entries)) }
+{
+    // A map's length says that its keys are in order.
+    let _len = pods.len();
+    let steps = pod_steps(alloc, set, pods)?;
+    let mut actions = Actions::new(alloc);
+    add_steps(&mut actions, alloc, set, revisions, &steps)?;
+    let current = current_name(set, revisions, pods);
+    add_history(&mut actions, alloc, set, views, revisions, current, &steps)?;
+    drop(steps);
+    add_status(&mut actions, alloc, set, revisions, pods, current)?;
+    Ok(actions.list)
+}
+
+/// What is planned where the update revision is in place.
+fn plan_of_pods(
+    alloc: Global,
+    set: &Set,
+    views: &[PodView<'_>],
+    revisions: &Revisions<'_>,
+) -> Result<Plan, PlanError>
+    ensures { Gives (λ plan. plan.actions.items) result (plan_of_pods (set_parts set.now) (map pod_parts views.now) (objects_of revisions.now.owned.items)
+        revisions.now.current.object.now revisions.now.update.object.now) }
+{
+    let pods = match fitting_pods(
+        alloc,
+        set,
+        revisions.update.name,
+        revisions.current.name,
+        views,
+    ) {
+        Ok(pods) => pods,
+        Err(error) => return Err(error),
+    };
+    let actions = actions_over(alloc, set, views, revisions, &pods)?;
+    Ok(Plan { actions })
+}
+
+/// The write of that revision alone.
+#[tactic(auto, using(set_views::proofs::Chains::fails_then))]
+fn writing(
+    alloc: Global,
+    set: &Set,
+    views: &[PodView<'_>],
+    revision: Object,
+) -> Result<Plan, PlanError>
+    ensures { Gives (λ plan. plan.actions.items) result (unless_refused (set_parts set.now) (map pod_parts views.now) (Ok (WriteRevision revision ∷ []))) }
+{
+    let pods = match fitting_pods(alloc, set, "", "", views) {
+        Ok(pods) => pods,
+        Err(error) => {
+            drop(revision);
+            return Err(error);
+        }
+    };
+    drop(pods);
+    let mut actions = Vec::new(alloc);
+    actions.push(Action::WriteRevision(revision))?;
+    Ok(Plan { actions })
+}
+
+/// The refusal where no revision can be named: what the pods refuse comes before it.
+#[tactic(auto, using(set_views::proofs::Chains::fails_then))]
+fn unnamed(alloc: Global, set: &Set, views: &[PodView<'_>]) -> Result<Plan, PlanError>
+    ensures { Gives (λ plan. plan.actions.items) result (unless_refused (set_parts set.now) (map pod_parts views.now) (Err NoRevisionName)) }
+{
+    let pods = fitting_pods(alloc, set, "", "", views)?;
+    drop(pods);
+    Err(PlanError::NoRevisionName)
+}
+
+/// The refusal of a plan whose revisions are refused.
+#[tactic(auto, unfolding(crate::specs::Plan::plan_by))]
+fn refusal(
+    alloc: Global,
+    set: &Set,
+    views: &[PodView<'_>],
+    error: PlanError,
+) -> Result<Plan, PlanError>
+    ensures refused { Gives (λ plan. plan.actions.items) result (plan_by (set_parts set.now) (map pod_parts views.now) (Err error)) }
+    ensures memory { error ≡ OutOfMemory → result ≡ Err OutOfMemory }
+{
+    match error {
+        PlanError::NoRevisionName => unnamed(alloc, set, views),
+        _ => Err(error),
+    }
+}
+
+/// What is planned, given what is due of the revisions.
+#[tactic(auto, unfolding(crate::specs::Plan::plan_by))]
+fn plan_by(
+    alloc: Global,
+    set: &Set,
+    views: &[PodView<'_>],
+    found: Result<RevisionPlan<'_>, PlanError>,
+) -> Result<Plan, PlanError>
+    ensures planned { (planned : Result Planned PlanError) → Gives planned_of found.entry planned → Gives (λ plan. plan.actions.items) result (plan_by (set_parts set.now) (map pod_parts views.now) planned) }
+    ensures memory { found.entry ≡ Err OutOfMemory → result ≡ Err OutOfMemory }
+{
+    match found {
+        Ok(RevisionPlan::Create(revision)) => writing(alloc, set, views, revision),
+        Ok(RevisionPlan::Renumber(revision)) => writing(alloc, set, views, revision),
+        Ok(RevisionPlan::Settled(revisions)) => plan_of_pods(alloc, set, views, &revisions),
+        Err(error) => refusal(alloc, set, views, error),
+    }
+}
+
+/// Plans what is to be done for a set, given the pods, claims and revisions that were listed (Kubernetes, "StatefulSets").
+/// Objects of other kinds and namespaces are passed over, and of several with one name the first counts.
+///
+/// Where a revision is to be made or to get a new number, its write is the whole plan. Else come the actions on pods, as
+/// the set's `podManagementPolicy` and `updateStrategy` have them; where there is none of these, the deletions of
+/// revisions that are history, by `revisionHistoryLimit`; and last the set with its new `status`, where that differs.
+///
+/// The refusals are tested in the order BadSpec, NameTooLong, Foreign, NoRevisionName. BadSpec comes where the revisions
+/// have no next number or no template to make pods from; NameTooLong where the name of the last pod in range, or of a
+/// revision to be made, has more than 63 bytes; Foreign where a listed pod with an ordinal in range is not the set's, with
+/// the name of the least; and NoRevisionName where the names of 1,024 collision counts are taken.
+pub fn plan(
+    alloc: Global,
+    set: &Set,
+    pods: &[Object],
+    claims: &[Object],
+    revisions: &[Object],
+    digits: usize,
+) -> Result<Plan, PlanError>
+    requires some { 1 ≤ digits }
+    requires most { digits ≤ 64 }
+    ensures { IsPlan (set_parts set.now) pods.now revisions.now digits result }
+{
+    let _claims = claims;
+    let views = views_of(alloc, set, pods)?;
+    let found = revision_plan(alloc, set, revisions, digits);
+    plan_by(alloc, set, &views, found)
+}

@@ -1,0 +1,106 @@
+// What the steps on a set's pods come to.
+ghost use Rattle.std.specs.Prelude.{◌≡◌, true, IfOk, OnOk, length, nat_le};
+ghost use Rattle.std.specs.List.{flat_map};
+ghost use Rattle.set_views.specs.declared.fault.PlanError.TheVariants.{Memory as OutOfMemory};
+ghost use Rattle.set_views.specs.Set.{set_parts};
+ghost use Rattle.manifests.specs.BuiltPod.{most_name};
+ghost use Rattle.sets.specs.Actions.{actions_of, name_at, new_pod, revision_of};
+ghost use Rattle.sets.specs.Cut.{Adds, AreNameable, is_nameable};
+
+use crate::action::Action;
+use crate::actions::Actions;
+use manifests::pod_of;
+use objects::{Memory, Object, Text, pod_name};
+use revisions::{RevisionView, Revisions};
+use scaling::{Revision, Step};
+use set_views::{PlanError, Set};
+use std::alloc::Global;
+
+/// The name of the set's pod of that ordinal.
+pub(crate) fn name_at(alloc: Global, set: &Set, ordinal: u32) -> Result<Text, Memory>
+    ensures { IfOk result (λ name. name ≡ name_at (set_parts set.now) ordinal) }
+{
+    Ok(Text::from(pod_name(alloc, set.object.key.name.as_str(), ordinal)?))
+}
+
+/// The one refusal that is left.
+fn want_of_memory(error: PlanError) -> Memory
+    requires { error ≡ OutOfMemory }
+{
+    drop(error);
+    Memory
+}
+
+/// The set's pod of that ordinal, from that revision.
+fn new_pod(
+    alloc: Global,
+    set: &Set,
+    revision: &RevisionView<'_>,
+    ordinal: u32,
+) -> Result<Object, Memory>
+    requires { nat_le (length (name_at (set_parts set.now) ordinal)) most_name ≡ true }
+    ensures { IfOk result (λ pod. pod ≡ new_pod (set_parts set.now) revision.now.object.now ordinal) }
+{
+    match pod_of(alloc, set, revision, ordinal) {
+        Ok(pod) => Ok(pod),
+        Err(error) => Err(want_of_memory(error)),
+    }
+}
+
+/// The revision that a new pod is made from.
+fn revision_of<'a>(revisions: &Revisions<'a>, revision: Revision) -> RevisionView<'a>
+    ensures { result.object.now ≡ revision_of revisions.now.current.object.now revisions.now.update.object.now revision }
+{
+    match revision {
+        Revision::Current => revisions.current,
+        Revision::Update => revisions.update,
+    }
+}
+
+/// Adds the actions of a step.
+#[tactic(auto, using(crate::proofs::Cuts::adds_none), unfolding(crate::specs::Actions::actions_of))]
+fn add_step(
+    actions: &mut Actions,
+    alloc: Global,
+    set: &Set,
+    revisions: &Revisions<'_>,
+    step: Step,
+) -> Result<(), Memory>
+    requires { is_nameable (set_parts set.now) step ≡ true }
+    ensures { OnOk result (Adds actions.old.list.items actions.new.list.items (actions_of (set_parts set.now) revisions.now.current.object.now revisions.now.update.object.now step)) }
+{
+    match step {
+        Step::MakeClaims { .. } => Ok(()),
+        Step::KeepClaims { .. } => Ok(()),
+        Step::ReleaseClaims { .. } => Ok(()),
+        Step::CreatePod { ordinal, revision } => {
+            let revision = revision_of(revisions, revision);
+            actions.add(Action::CreatePod(new_pod(alloc, set, &revision, ordinal)?))
+        }
+        Step::DeletePod { ordinal, uid } => {
+            let name = name_at(alloc, set, ordinal)?;
+            actions.add(Action::DeletePod { name, uid })
+        }
+        Step::Wait { ordinal, cause } => {
+            let name = name_at(alloc, set, ordinal)?;
+            actions.add(Action::Wait(cause, name))
+        }
+    }
+}
+
+/// Adds the actions of these steps, in order.
+pub(crate) fn add_steps(
+    actions: &mut Actions,
+    alloc: Global,
+    set: &Set,
+    revisions: &Revisions<'_>,
+    steps: &[Step],
+) -> Result<(), Memory>
+    requires { AreNameable (set_parts set.now) steps.now }
+    ensures { OnOk result (Adds actions.old.list.items actions.new.list.items (flat_map (actions_of (set_parts set.now) revisions.now.current.object.now revisions.now.update.object.now) steps.now)) }
+{
+    for step in steps {
+        add_step(actions, alloc, set, revisions, *step)?;
+    }
+    Ok(())
+}
