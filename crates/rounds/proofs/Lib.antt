@@ -1,0 +1,6 @@
+pub mod Lists
+pub mod Entries
+pub mod Names
+pub mod Knowing
+pub mod Answered
+pub mod Deletes

@@ -1,0 +1,25 @@
+use Rattle.std.proofs.Common.{◌∷◌, Some, inl, inr, ap, subst, sym}
+use Rattle.requests.specs.declared.request.Request.TheVariants.{Delete}
+use Rattle.requests.specs.declared.reply.Reply.TheVariants.{Removed}
+use Rattle.plain_store.specs.Store.{opening}
+use Rattle.plain_store.specs.Taken.{taken}
+use Rattle.rounds.specs.Life.{Follows, phase_after}
+use Rattle.rounds.specs.Phase.{reading_set}
+use Rattle.rounds.specs.Transcript.{of_life}
+use Rattle.rounds.proofs.Deletes.{collector_takes, plan_takes}
+use Rattle.rounds.proofs.Entries.{IsStepwise, asks_at, stepwise, stepwise_at, stepwise_before}
+use Rattle.rounds.proofs.Knowing.{deleted_by, known}
+use Rattle.rounds.proofs.laws.owners_are_gone.Goals as goal
+
+pub returns : goal.returns
+returns c = λ reconcilers capacity entries sound is before later life k uid version at claim where' kind more owner.
+    let r = reconcilers life.controller in
+    let own = of_life life before in
+    let run = subst (IsStepwise (opening capacity)) where' (stepwise (opening capacity) entries is.run) in
+    let first = stepwise_before (opening capacity) before ((Some life, Delete k uid version at, Removed claim) ∷ later) run in
+    let told = ap taken (sym (stepwise_at (opening capacity) before ((Some life, Delete k uid version at, Removed claim) ∷ later) run).0) in
+    let asked = asks_at r reading_set life before (Delete k uid version at) (Removed claim) later (subst (λ es. Follows r reading_set (of_life life es)) where' (is.lives life)) in
+    elim (deleted_by r own (phase_after r reading_set own) k uid version at (known r own asked.0) asked.1) [
+      | inl plan ↦ (plan_takes r capacity before life k uid version at claim is.least is.most first (sound life.controller) plan told).1 kind
+      | inr collected ↦ collector_takes r capacity before life k uid version at claim is.least is.most first (sound life.controller) collected told more owner
+    ]

@@ -1,0 +1,34 @@
+-- The plan that a request of a life comes from, and what was answered for it.
+use Rattle.std.specs.Prelude.{◌≡◌, ℕ, List, [], ◌∷◌, ◌++◌}
+use Rattle.objects.specs.declared.kind.Kind.TheVariants.{Pod, PersistentVolumeClaim, ControllerRevision}
+use Rattle.objects.specs.declared.object.Object.{Object}
+use Rattle.requests.specs.declared.request.Request.{Request}
+use Rattle.requests.specs.declared.request.Request.TheVariants.{Get}
+use Rattle.requests.specs.declared.reply.Reply.TheVariants.{Found, Listed}
+use Rattle.rounds.specs.Phase.{list_of}
+use Rattle.rounds.specs.Reconciler.{Reconciler}
+use Rattle.rounds.specs.Transcript.{Exchange}
+
+abbrev pub asked : List Exchange → List Request
+asked [] = []
+asked (e ∷ es) = e.0 ∷ asked es
+
+-- The request is the next one of a plan. The life was last answered the set and the three lists that the plan is over, and
+-- then the requests of the plan that stand before this one.
+pub record IsPlanned (c : Reconciler) (life : List Exchange) (r : Request) : Type 0 where
+  pub before : List Exchange
+  pub set : Object
+  pub revisions : List Object
+  pub revisions_at : ℕ
+  pub pods : List Object
+  pub pods_at : ℕ
+  pub claims : List Object
+  pub claims_at : ℕ
+  pub done : List Exchange
+  pub later : List Request
+  pub answered : life ≡ before ++ ((Get c.set, Found set)
+      ∷ (list_of c ControllerRevision, Listed revisions revisions_at)
+      ∷ (list_of c Pod, Listed pods pods_at)
+      ∷ (list_of c PersistentVolumeClaim, Listed claims claims_at)
+      ∷ done)
+  pub planned : asked done ++ r ∷ later ≡ c.plan set revisions pods claims

@@ -1,0 +1,40 @@
+-- What one plain store took, in its order: who asked, the request, and the reply.
+use Rattle.std.specs.Prelude.{◌≡◌, ◌==◌, ℕ, Bool, false, ◌&&◌, List, [], ◌∷◌, Option, Some, None, if◌then◌else◌}
+use Rattle.requests.specs.declared.request.Request.{Request}
+use Rattle.requests.specs.declared.reply.Reply.{Reply}
+use Rattle.plain_store.specs.Run.{exchanges}
+use Rattle.plain_store.specs.Store.{opening}
+
+-- a request with its reply
+abbrev pub Exchange : Type 0
+Exchange = Request × Reply
+
+-- A life of a controller is what it does between two crashes: the controller's number, and how often it crashed before.
+pub record Life : Type 0 where
+  pub controller : ℕ
+  pub crashes : ℕ
+
+-- Who asked, the request and the reply. Whoever is no controller has no life.
+abbrev pub Entry : Type 0
+Entry = Option Life × Request × Reply
+
+abbrev pub requests_of : List Entry → List Request
+requests_of [] = []
+requests_of (e ∷ es) = e.1 ∷ requests_of es
+
+abbrev pub exchanges_of : List Entry → List Exchange
+exchanges_of [] = []
+exchanges_of (e ∷ es) = (e.1, e.2) ∷ exchanges_of es
+
+-- the replies are those of one plain store, from its opening on
+abbrev pub IsRun : ℕ → List Entry → Type 0
+IsRun capacity entries = exchanges_of entries ≡ exchanges (opening capacity) (requests_of entries)
+
+abbrev pub is_by : Life → Option Life → Bool
+is_by life None = false
+is_by life (Some other) = life.controller == other.controller && life.crashes == other.crashes
+
+-- what one life asked and was answered, in order
+abbrev pub of_life : Life → List Entry → List Exchange
+of_life life [] = []
+of_life life (e ∷ es) = if is_by life e.0 then (e.1, e.2) ∷ of_life life es else of_life life es

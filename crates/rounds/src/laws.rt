@@ -1,0 +1,57 @@
+//! Laws of transcripts.
+ghost use Rattle.std.specs.Prelude.{◌++◌, ◌∷◌, [], ℕ, List};
+ghost use Rattle.requests.specs.declared.reply.Reply.{Reply};
+ghost use Rattle.requests.specs.declared.request.Request.{Request};
+ghost use Rattle.plain_store.specs.Run.{exchanges};
+ghost use Rattle.plain_store.specs.Store.{opening};
+ghost use Rattle.rounds.specs.Life.{Follows};
+ghost use Rattle.rounds.specs.Phase.{Phase};
+ghost use Rattle.rounds.specs.Promises.{CreatesArePlanned, IsTranscript, KeepsPromises, NamesAreFreed, OwnersAreGone, PlansTakeWhatTheyRead};
+ghost use Rattle.rounds.specs.Reconciler.{Reconciler};
+ghost use Rattle.rounds.specs.Sound.{IsSound};
+ghost use Rattle.rounds.specs.Transcript.{Entry, Exchange};
+
+/// Between two accepted creates of one key stands an accepted removal of the first one's UID, whoever asked. So a name never
+/// has two live objects.
+pub fn names_are_freed()
+    ensures { (capacity : ℕ) (requests : List Request) → NamesAreFreed (exchanges (opening capacity) requests) }
+{}
+
+/// What an accepted delete of a plan marks or removes has the UID that was listed for the plan, so no successor of the same
+/// name is taken for it.
+pub fn plans_take_what_they_read()
+    ensures { (reconcilers : ℕ → Reconciler) (capacity : ℕ) (entries : List Entry) → ((controller : ℕ) → IsSound (reconcilers controller))
+        → IsTranscript reconcilers capacity entries → PlansTakeWhatTheyRead reconcilers entries }
+{}
+
+/// Each create that a controller asks comes from a plan over the set, the revisions, the pods and the claims that were
+/// answered to it since its last crash, and in that round.
+pub fn creates_are_planned()
+    ensures { (reconcilers : ℕ → Reconciler) (capacity : ℕ) (entries : List Entry) → ((controller : ℕ) → IsSound (reconcilers controller))
+        → IsTranscript reconcilers capacity entries → CreatesArePlanned reconcilers entries }
+{}
+
+/// When a claim is removed by a controller's delete, no object of its namespace has the UID of an owner, and none ever will.
+pub fn owners_are_gone()
+    ensures { (reconcilers : ℕ → Reconciler) (capacity : ℕ) (entries : List Entry) → ((controller : ℕ) → IsSound (reconcilers controller))
+        → IsTranscript reconcilers capacity entries → OwnersAreGone capacity entries }
+{}
+
+/// All four.
+pub fn transcripts_keep_promises()
+    ensures { (reconcilers : ℕ → Reconciler) (capacity : ℕ) (entries : List Entry) → ((controller : ℕ) → IsSound (reconcilers controller))
+        → IsTranscript reconcilers capacity entries → KeepsPromises reconcilers capacity entries }
+{
+    names_are_freed();
+    plans_take_what_they_read();
+    creates_are_planned();
+    owners_are_gone();
+}
+
+/// A life that is cut off anywhere is a life, and so is one whose last request has another reply: a controller that crashes
+/// never learns it.
+pub fn lives_may_end_anywhere()
+    ensures cut { (c : Reconciler) (phase : Phase) (own more : List Exchange) → Follows c phase (own ++ more) → Follows c phase own }
+    ensures last { (c : Reconciler) (phase : Phase) (own : List Exchange) (request : Request) (told other : Reply)
+        → Follows c phase (own ++ (request, told) ∷ []) → Follows c phase (own ++ (request, other) ∷ []) }
+{}
