@@ -4,3 +4,5 @@ pub mod Names
 pub mod Knowing
 pub mod Answered
 pub mod Deletes
+pub mod Runs
+pub mod Showing

@@ -1,9 +1,14 @@
 -- ---- what public clauses cite
-pub mod Transcript
 pub mod Accepted
-pub mod Reconciler
-pub mod Phase
+pub mod Before
+pub mod Examples
 pub mod Life
+pub mod Phase
 pub mod Planned
-pub mod Sound
 pub mod Promises
+pub mod Reconciler
+pub mod Sound
+pub mod Transcript
+pub mod World
+-- ---- what only proofs use
+pub mod Shown

@@ -3,7 +3,10 @@ ghost use Rattle.std.specs.Prelude.{◌++◌, ◌∷◌, [], ℕ, List};
 ghost use Rattle.requests.specs.declared.reply.Reply.{Reply};
 ghost use Rattle.requests.specs.declared.request.Request.{Request};
 ghost use Rattle.plain_store.specs.Run.{exchanges};
-ghost use Rattle.plain_store.specs.Store.{opening};
+ghost use Rattle.plain_store.specs.Reached.{IsReached};
+ghost use Rattle.plain_store.specs.Store.{Store, opening};
+ghost use Rattle.rounds.specs.declared.event.WholeEvent.{WholeEvent};
+ghost use Rattle.rounds.specs.Before.{RunKeepsPromises};
 ghost use Rattle.rounds.specs.Life.{Follows};
 ghost use Rattle.rounds.specs.Phase.{Phase};
 ghost use Rattle.rounds.specs.Promises.{CreatesArePlanned, IsTranscript, KeepsPromises, NamesAreFreed, OwnersAreGone, PlansTakeWhatTheyRead};
@@ -46,6 +49,14 @@ pub fn transcripts_keep_promises()
     plans_take_what_they_read();
     creates_are_planned();
     owners_are_gone();
+}
+
+/// Whatever happens where controllers share a store that a run has reached, all that it took keeps the promises.
+pub fn runs_keep_promises()
+    ensures { (count : ℕ) (reconcilers : ℕ → Reconciler) (s : Store) (reached : IsReached s) (events : List WholeEvent)
+        → ((controller : ℕ) → IsSound (reconcilers controller)) → RunKeepsPromises count reconcilers s reached events }
+{
+    transcripts_keep_promises();
 }
 
 /// A life that is cut off anywhere is a life, and so is one whose last request has another reply: a controller that crashes

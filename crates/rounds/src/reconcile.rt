@@ -1,0 +1,38 @@
+ghost use Rattle.std.specs.Prelude.{◌≡◌, Bool, true, false, IfOk, OnOk, OnErr};
+ghost use Rattle.rounds.specs.Phase.{Phase, asks, reading_set, takes};
+ghost use Rattle.rounds.specs.Reconciler.{Reconciler};
+
+use objects::Memory;
+use requests::{Reply, Request};
+
+/// A controller: what goes round by the phases, one request at a time (Kubernetes, "Controllers").
+pub trait Reconcile {
+    /// What it is made of.
+    ghost reconciler: { Self → Reconciler };
+
+    /// Where it stands in its round.
+    ghost phase: { Self → Phase };
+
+    /// Whether a request of it waits for its reply.
+    ghost is_waiting: { Self → Bool };
+
+    /// The next request. Until its reply is taken, the same again.
+    fn next(&mut self) -> Result<Request, Memory>
+        ensures asked { IfOk result (λ request. request ≡ asks (reconciler self.old) (phase self.old)) }
+        ensures waiting { OnOk result (is_waiting self.new ≡ true) }
+        ensures reconciler { reconciler self.new ≡ reconciler self.old }
+        ensures phase { phase self.new ≡ phase self.old };
+
+    /// Takes the reply to its last request. Where none waits, or memory is short, it stays where it stands.
+    fn take(&mut self, reply: &Reply) -> Result<(), Memory>
+        ensures taken { OnOk result (is_waiting self.old ≡ true → phase self.new ≡ takes (reconciler self.old) (phase self.old) reply.now) }
+        ensures idle { is_waiting self.old ≡ false → phase self.new ≡ phase self.old }
+        ensures memory { OnErr result (phase self.new ≡ phase self.old) }
+        ensures reconciler { reconciler self.new ≡ reconciler self.old };
+
+    /// Forgets its round.
+    fn crash(&mut self)
+        ensures forgotten { phase self.new ≡ reading_set }
+        ensures idle { is_waiting self.new ≡ false }
+        ensures reconciler { reconciler self.new ≡ reconciler self.old };
+}
