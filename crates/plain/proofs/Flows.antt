@@ -85,3 +85,13 @@ pub Takes-nothing : (a b : Option (List ℕ)) (piece : List ℕ) → piece ≡ [
 Takes-nothing a b piece none e h =
     let r : Takes (Some []) [] b = subst (λ o. Takes o [] b) e (subst (λ t. Takes a t b) none h) in
     r.2 ∙ ap Some (sym r.1)
+
+-- all was taken, where the reader comes to its end
+abbrev pub TookAll : Option (List ℕ) → List ℕ → Option (List ℕ) → Type 0
+TookAll had bytes left = IfSome had (λ input. bytes ≡ input) × IfSome had (λ _. left ≡ Some [])
+
+pub TookAll-end : (had now left : Option (List ℕ)) (bytes piece : List ℕ) → Takes had bytes now → piece ≡ [] → IfSome now (λ l. l ≡ [])
+    → Takes now piece left → TookAll had bytes left
+TookAll-end None now left bytes piece taken none ended last = (tt, tt)
+TookAll-end (Some input) now left bytes piece taken none ended last =
+    (sym (Takes-all input bytes now taken ended), Takes-nothing now left piece none (Takes-end input bytes now taken ended) last)

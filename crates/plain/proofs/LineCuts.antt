@@ -198,6 +198,19 @@ pub at_feed : (xs : List ℕ) (at : ℕ) → at < length xs → Passes (is_byte 
 at_feed xs at lt is =
     sym (take-append-drop at xs) ∙ ap (λ t. take at xs ++ t) (drop-cons xs at 0 lt ∙ grind (arith, common_steps))
 
+-- the first line, where a line feed ends it and where the text does
+pub first-line : (text later : List ℕ) (at : ℕ) → NoneBefore (Passes (is_byte 10) text) 0 (length text) at → Passes (is_byte 10) text at
+    → later ≡ take (length text - (at + 1)) (drop (at + 1) text) → lines text ≡ take at text ∷ lines later
+first-line text later at before is e =
+    let tail : List ℕ = drop (at + 1) text in
+    let whole : later ≡ tail = e ∙ take_all (length text - (at + 1)) tail (rw length-drop (omega arith)) in
+    ap lines (at_feed text at before.high is) ∙ lines-feed (take at text) tail (NoFeed-before text at before)
+    ∙ ap (λ w. take at text ∷ lines w) (sym whole)
+
+pub only-line : (text : List ℕ) → 0 < length text → Nowhere (Passes (is_byte 10) text) 0 (length text) → lines text ≡ text ∷ lines []
+only-line [] some none = absurd (omega arith)
+only-line (b ∷ bs) some none = lines-last b bs (NoFeed-nowhere (b ∷ bs) none)
+
 -- a last line is answered with no line feed behind it
 pub text-last : (s : Store) (k end old new : List ℕ) → 0 < length k → NoFeed k → end ≡ [] → new ≡ old ++ ((answer s (k ++ end)).1 ++ 10 ∷ []) → new ≡ old ++ answers s (lines k)
 text-last s [] end old new l f e h = absurd (omega arith)

@@ -19,7 +19,7 @@ use Rattle.plain.specs.declared.lines.request_error.RequestError.{RequestError}
 use Rattle.plain.specs.declared.lines.request_error.RequestError.TheVariants as errors
 use Rattle.plain.specs.declared.lines.verb.Verb.{Verb}
 use Rattle.plain.specs.declared.lines.verb.Verb.TheVariants as verb
-use Rattle.plain.specs.Requests.{◌>>=◌, compaction_in, deletion_in, demanded, exact_in, field_text, lifted, list_in, named_in, object_draft, verb_request, request_of, Refuses, Answers}
+use Rattle.plain.specs.Requests.{◌>>=◌, compaction_in, deletion_in, demanded, exact_in, field_text, lifted, list_in, named_in, object_draft, verb_request, request_in, request_of, Refuses, Answers}
 use Rattle.plain.specs.Verbs.{verb_named, verb_in, request_by}
 
 -- what a step of reading objects refuses, the reading of a request refuses
@@ -76,18 +76,13 @@ members_request ms =
     let name = demanded errors.NoVerb (option_and_then as_str (get_member (codes "do") ms)) in
     same_after name _ _ (λ s. by_verb s ms) ∙ sym (bind_bind name (λ s. demanded errors.UnknownVerb (verb_named s)) (λ v. request_by v ms))
 
--- the request that a value is
+-- the request that a value is, by the verb
 abbrev pub data_request : Data → Result Request RequestError
 data_request d = demanded errors.NoVerb (as_object d) >>= λ ms. verb_in ms >>= λ v. request_by v ms
 
-pub line_request : (line : List ℕ) → request_of line ≡ (lifted (reading_of_data line) >>= data_request)
-unfolding request_of
-line_request line =
-    same_after (lifted (reading_of_data line)) _ _ (λ d. same_after (demanded errors.NoVerb (as_object d)) _ _ (λ ms. members_request ms))
-
--- the value is known
-pub line_members : (line : List ℕ) (d : Data) → reading_of_data line ≡ Ok d → request_of line ≡ data_request d
-line_members line d h = line_request line ∙ ap (λ r. lifted r >>= data_request) h
+pub value_request : (d : Data) → request_in d ≡ data_request d
+unfolding request_in
+value_request d = same_after (demanded errors.NoVerb (as_object d)) _ _ (λ ms. members_request ms)
 
 -- ---- the request of each verb, and its refusals
 
@@ -261,7 +256,14 @@ deletion_read ms key uid version at named uid_is version_is is =
 -- the value is refused
 pub line_refused : (line : List ℕ) (result : Result Request RequestError) (y : RequestError) (e : ReadError)
     → result ≡ Err y → y ≡ errors.Read e → Fails e (reading_of_data line) → Answers result (request_of line)
-line_refused line result y e is same h = subst (Answers result) (sym (line_request line)) (answers_lifted result y e _ data_request is same h)
+unfolding request_of
+line_refused line result y e is same h = answers_lifted result y e _ request_in is same h
+
+-- the value is known
+pub line_read : (line : List ℕ) (d : Data) (result : Result Request RequestError)
+    → reading_of_data line ≡ Ok d → Answers result (request_in d) → Answers result (request_of line)
+unfolding request_of
+line_read line d result h answers = subst (λ r. Answers result (lifted r >>= request_in)) (sym h) answers
 
 -- ---- the verb
 
@@ -282,23 +284,23 @@ verb_of ms name o h is =
 
 -- ---- the value of the line
 
-pub map_read : (line : List ℕ) (t : Tree) (ms : Members) → reading_of_data line ≡ Ok (data_of t) → t ≡ tree.Map ms → request_of line ≡ (verb_in ms >>= λ v. request_by v ms)
-map_read line t ms h is = line_members line (data_of t) h ∙ ap (λ x. data_request (data_of x)) is
+map_read : (t : Tree) (ms : Members) → t ≡ tree.Map ms → request_in (data_of t) ≡ (verb_in ms >>= λ v. request_by v ms)
+map_read t ms is = value_request (data_of t) ∙ ap (λ x. data_request (data_of x)) is
 
-pub no_map : (line : List ℕ) (t : Tree) → reading_of_data line ≡ Ok (data_of t) → ((ms : Members) → t ≡ tree.Map ms → ⊥) → request_of line ≡ Err errors.NoVerb
-no_map line tree.Null h other = line_members line _ h
-no_map line (tree.Truth b) h other = line_members line _ h
-no_map line (tree.Whole z) h other = line_members line _ h
-no_map line (tree.Text s) h other = line_members line _ h
-no_map line (tree.List ds) h other = line_members line _ h
-no_map line (tree.Map ms) h other = absurd (other ms refl)
+pub no_map : (t : Tree) → ((ms : Members) → t ≡ tree.Map ms → ⊥) → request_in (data_of t) ≡ Err errors.NoVerb
+no_map tree.Null other = value_request _
+no_map (tree.Truth b) other = value_request _
+no_map (tree.Whole z) other = value_request _
+no_map (tree.Text s) other = value_request _
+no_map (tree.List ds) other = value_request _
+no_map (tree.Map ms) other = absurd (other ms refl)
 
-pub verb_refused : (line : List ℕ) (t : Tree) (ms : Members) (result : Result Request RequestError) (y e : RequestError)
-    → reading_of_data line ≡ Ok (data_of t) → t ≡ tree.Map ms → Err e ≡ verb_in ms → result ≡ Err y → y ≡ e → Answers result (request_of line)
-verb_refused line t ms result y e h is named at same =
-    refused_so result y (request_of line) at (map_read line t ms h is ∙ ap (λ r. r >>= λ v. request_by v ms) (sym named) ∙ ap Err (sym same))
+pub verb_refused : (t : Tree) (ms : Members) (result : Result Request RequestError) (y e : RequestError)
+    → t ≡ tree.Map ms → Err e ≡ verb_in ms → result ≡ Err y → y ≡ e → Answers result (request_in (data_of t))
+verb_refused t ms result y e is named at same =
+    refused_so result y (request_in (data_of t)) at (map_read t ms is ∙ ap (λ r. r >>= λ v. request_by v ms) (sym named) ∙ ap Err (sym same))
 
-pub verb_read : (line : List ℕ) (t : Tree) (ms : Members) (v : Verb) (result : Result Request RequestError)
-    → reading_of_data line ≡ Ok (data_of t) → t ≡ tree.Map ms → Ok v ≡ verb_in ms → Answers result (request_by v ms) → Answers result (request_of line)
-verb_read line t ms v result h is named answers =
-    subst (Answers result) (sym (map_read line t ms h is ∙ ap (λ r. r >>= λ x. request_by x ms) (sym named))) answers
+pub verb_read : (t : Tree) (ms : Members) (v : Verb) (result : Result Request RequestError)
+    → t ≡ tree.Map ms → Ok v ≡ verb_in ms → Answers result (request_by v ms) → Answers result (request_in (data_of t))
+verb_read t ms v result is named answers =
+    subst (Answers result) (sym (map_read t ms is ∙ ap (λ r. r >>= λ x. request_by x ms) (sym named))) answers

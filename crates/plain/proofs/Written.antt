@@ -6,8 +6,12 @@ use Rattle.std.proofs.lemmas.Bool.{and_parts, leb-true}
 use Rattle.std.proofs.lemmas.Fmt.{digits_decimal}
 use Rattle.std.proofs.lemmas.Str.Parse.{numerals_by_value, tells_all_ascii_digits}
 use Rattle.json.proofs.Printed.Strings.{escape_byte_plain}
-use Rattle.json.specs.Print.{escape, escape_byte}
-use Rattle.serde_json.specs.Written.{compact_text, items_text}
+use Rattle.json.specs.Print.{escape, escape_byte, print}
+use Rattle.json.specs.Token.{Token}
+use Rattle.json.specs.Tree.{json_tokens}
+use Rattle.serde_json.specs.Data.{Data}
+use Rattle.serde_json.specs.Written.{compact_text, items_text, outline}
+use Rattle.serde_json.proofs.Texts.{print-outline}
 use Rattle.objects.specs.declared.object.Object.{Object}
 use Rattle.objects.specs.Text.{text}
 use Rattle.requests.specs.declared.reply.Reason.{Reason}
@@ -83,18 +87,32 @@ revision_text revision small =
 
 -- ---- pieces, one after another
 
-then : (a b c xs ys : List ℕ) → b ≡ a ++ xs → c ≡ b ++ ys → c ≡ a ++ (xs ++ ys)
+then : {A : Type 0} (a b c xs ys : List A) → b ≡ a ++ xs → c ≡ b ++ ys → c ≡ a ++ (xs ++ ys)
 then a b c xs ys p q = q ∙ ap (λ ts. ts ++ ys) p ∙ append_assoc a xs ys
 
-pub two : (a b c x y all : List ℕ) → b ≡ a ++ x → c ≡ b ++ y → x ++ y ≡ all → c ≡ a ++ all
+pub two : {A : Type 0} (a b c x y all : List A) → b ≡ a ++ x → c ≡ b ++ y → x ++ y ≡ all → c ≡ a ++ all
 two a b c x y all p q is = then a b c x y p q ∙ ap (λ z. a ++ z) is
 
-pub four : (a b c d e w x y z all : List ℕ) → b ≡ a ++ w → c ≡ b ++ x → d ≡ c ++ y → e ≡ d ++ z → w ++ (x ++ (y ++ z)) ≡ all → e ≡ a ++ all
-four a b c d e w x y z all p q r s is = then a b e w (x ++ (y ++ z)) p (then b c e x (y ++ z) q (then c d e y z r s)) ∙ ap (λ v. a ++ v) is
+pub three : {A : Type 0} (a b c d w x y all : List A) → b ≡ a ++ w → c ≡ b ++ x → d ≡ c ++ y → w ++ (x ++ y) ≡ all → d ≡ a ++ all
+three a b c d w x y all p q r is = then a b d w (x ++ y) p (then b c d x y q r) ∙ ap (λ v. a ++ v) is
 
-pub six : (a b c d e f g u v w x y z all : List ℕ) → b ≡ a ++ u → c ≡ b ++ v → d ≡ c ++ w → e ≡ d ++ x → f ≡ e ++ y → g ≡ f ++ z → u ++ (v ++ (w ++ (x ++ (y ++ z)))) ≡ all → g ≡ a ++ all
-six a b c d e f g u v w x y z all o p q r s t is =
-    then a b g u (v ++ (w ++ (x ++ (y ++ z)))) o (then b c g v (w ++ (x ++ (y ++ z))) p (then c d g w (x ++ (y ++ z)) q (then d e g x (y ++ z) r (then e f g y z s t)))) ∙ ap (λ l. a ++ l) is
+pub four : {A : Type 0} (a b c d e w x y z all : List A) → b ≡ a ++ w → c ≡ b ++ x → d ≡ c ++ y → e ≡ d ++ z → w ++ (x ++ (y ++ z)) ≡ all → e ≡ a ++ all
+four a b c d e w x y z all p q r s is = three a b c e w x (y ++ z) all p q (then c d e y z r s) is
+
+pub five : {A : Type 0} (a b c d e f v w x y z all : List A) → b ≡ a ++ v → c ≡ b ++ w → d ≡ c ++ x → e ≡ d ++ y → f ≡ e ++ z
+    → v ++ (w ++ (x ++ (y ++ z))) ≡ all → f ≡ a ++ all
+five a b c d e f v w x y z all p q r s t is = four a b c d f v w x (y ++ z) all p q r (then d e f y z s t) is
+
+pub six : {A : Type 0} (a b c d e f g u v w x y z all : List A) → b ≡ a ++ u → c ≡ b ++ v → d ≡ c ++ w → e ≡ d ++ x → f ≡ e ++ y → g ≡ f ++ z
+    → u ++ (v ++ (w ++ (x ++ (y ++ z)))) ≡ all → g ≡ a ++ all
+six a b c d e f g u v w x y z all o p q r s t is = five a b c d e g u v w x (y ++ z) all o p q r (then e f g y z s t) is
+
+-- a value that was written on a line of its own
+pub line_written : (line before first out : List ℕ) (none tokens : List Token) (d : Data) → line ≡ before ++ (print tokens ++ 10 ∷ []) → before ≡ first
+    → first ≡ out → tokens ≡ none ++ json_tokens (outline d) → none ≡ [] → line ≡ out ++ (compact_text d ++ 10 ∷ [])
+line_written line before first out none tokens d is begun made wrote empty =
+    is ∙ ap (λ b. b ++ (print tokens ++ 10 ∷ [])) (begun ∙ made)
+    ∙ ap (λ t. out ++ (t ++ 10 ∷ [])) (ap print (wrote ∙ ap (λ n. n ++ json_tokens (outline d)) empty) ∙ print-outline d)
 
 -- ---- texts that need no escape
 

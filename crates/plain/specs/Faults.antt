@@ -1,6 +1,8 @@
--- Which fault ended a serving: a failure of the reader or of the writer is counted where the fault says so, and
--- nowhere else.
+-- Which fault ended a serving or the reading of an input: a failure of the reader or of the writer is counted where the
+-- fault says so, and nowhere else.
 use Rattle.std.specs.Prelude.{◌≡◌, ◌<◌, ℕ, Result, Ok, Err}
+use Rattle.plain.specs.declared.devices.input.InputFault.{InputFault}
+use Rattle.plain.specs.declared.devices.input.InputFault.TheVariants as input
 use Rattle.plain.specs.declared.server.ServeFault.{ServeFault}
 use Rattle.plain.specs.declared.server.ServeFault.TheVariants.{Read, Write, Memory, BadCapacity}
 
@@ -35,3 +37,9 @@ IsInRange (Err Read) = Unit {0}
 IsInRange (Err Write) = Unit {0}
 IsInRange (Err Memory) = Unit {0}
 IsInRange (Err BadCapacity) = ⊥
+
+-- the reader's failures before and after an input was read
+abbrev pub CountsInput : {A : Type 0} → Result A InputFault → ℕ → ℕ → Type 0
+CountsInput (Err input.Read) old new = old < new
+CountsInput (Err input.Memory) old new = new ≡ old
+CountsInput (Ok x) old new = new ≡ old

@@ -6,6 +6,7 @@ pub mod Requests
 pub mod Served
 pub mod ServedRun
 pub mod Streams
+pub mod ValueLines
 -- ---- what only proofs use
 pub mod Cuts
 pub mod Serving

@@ -96,12 +96,15 @@ verb_request verb ms =
     else if bytes_eq verb (codes "compact") then compaction_in ms
     else Err errors.UnknownVerb
 
-unfoldable pub request_of : List ℕ → Result Request RequestError
-request_of line = do
-  d ← lifted (reading_of_data line)
+-- the request that a value is
+unfoldable pub request_in : Data → Result Request RequestError
+request_in d = do
   ms ← demanded errors.NoVerb (as_object d)
   verb ← demanded errors.NoVerb (option_and_then as_str (get_member (codes "do") ms))
   verb_request verb ms
+
+unfoldable pub request_of : List ℕ → Result Request RequestError
+request_of line = lifted (reading_of_data line) >>= request_in
 
 -- reading refuses with e; nothing is said where memory ran out
 abbrev pub Refuses : {A : Type 0} → RequestError → Result A RequestError → Type 0

@@ -2,6 +2,7 @@
 
 pub(crate) mod buffers;
 mod failures;
+pub(crate) mod input;
 pub(crate) mod slices;
 pub(crate) mod stream;
 pub(crate) mod wrappers;

@@ -8,12 +8,16 @@ mod lines;
 mod server;
 
 pub use devices::buffers::BufferSink;
+pub use devices::input::{InputFault, read_all};
 pub use devices::slices::SliceSource;
 pub use devices::stream::{Sink, Source, write_all};
 pub use devices::wrappers::{ReadSource, WriteSink};
 pub use laws::lines_are_one_run;
+pub use lines::members::{end_line, write_object_member, write_text_member, write_whole_member};
+pub use lines::reply_value::write_reply;
 pub use lines::request_error::RequestError;
-pub use lines::request_line::read_request;
+pub use lines::request_line::{read_request, request_in};
+pub use lines::split::split_line;
 pub use plain_store::{
     Api, ApiFault, MOST_REVISIONS, Plain, PlainError, PrintedReply, StoredReply,
     capacity_bounds_the_counter, compactions_give_up_the_past_alone, deletes_spare_other_uids,

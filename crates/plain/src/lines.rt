@@ -2,7 +2,10 @@
 
 mod answer;
 pub(crate) mod cutter;
+pub(crate) mod members;
 mod reply_line;
+pub(crate) mod reply_value;
 pub(crate) mod request_error;
 pub(crate) mod request_line;
+pub(crate) mod split;
 mod verb;

@@ -27,4 +27,6 @@ mod stored_texts;
 #[cfg(test)]
 mod streams;
 #[cfg(test)]
+mod values;
+#[cfg(test)]
 mod verdicts;

@@ -4,7 +4,7 @@ ghost use Rattle.serde_json.specs.Find.{get_member};
 ghost use Rattle.objects.specs.Reading.{reading_of_data};
 ghost use Rattle.objects.specs.Steps.{Gives};
 ghost use Rattle.objects.specs.Tree.{data_of};
-ghost use Rattle.plain.specs.Requests.{Answers, request_of, object_draft, list_in, exact_in, deletion_in, compaction_in, named_in, field_text, stored_number};
+ghost use Rattle.plain.specs.Requests.{Answers, request_in, request_of, object_draft, list_in, exact_in, deletion_in, compaction_in, named_in, field_text, stored_number};
 ghost use Rattle.plain.specs.Verbs.{request_by};
 
 use crate::lines::request_error::RequestError;
@@ -31,7 +31,15 @@ pub(crate) fn next_request(
 ) -> Result<Request, RequestError>
     ensures { Answers result (request_of line.now) }
 {
-    let Tree::Map(members) = value_in(reader, line)? else {
+    let value = value_in(reader, line)?;
+    request_in(alloc, value)
+}
+
+/// The request that a value is: a request line of `serve`, read as JSON.
+pub fn request_in(alloc: Global, value: Tree) -> Result<Request, RequestError>
+    ensures { Answers result (request_in (data_of value)) }
+{
+    let Tree::Map(members) = value else {
         return Err(RequestError::NoVerb);
     };
     let verb = verb_in(&members)?;
