@@ -1,0 +1,4 @@
+-- ---- what public clauses cite
+pub mod Events
+pub mod Printing
+pub mod Scripts
