@@ -166,9 +166,9 @@ fn first_lines_that_give_no_size(rt: HostRuntime) -> Result<(), Fail> {
 #[test]
 fn a_script_that_ends_in_a_line(rt: HostRuntime) -> Result<(), Fail> {
     let text = two_lines(rt.alloc(), SIZE, r#"{"caller":1,"event":"check"}"#)?;
-    let first = SIZE.len();
+    let first = SIZE.len().saturating_add(2);
     // The last line is cut off after each of its bytes but the last.
-    for cut in first + 2..text.len() - 1 {
+    for cut in first..text.len().saturating_sub(1) {
         let part = text.get(..cut).unwrap_or("");
         assert!(rt; is_refused(rt.alloc(), part), "{part}");
     }

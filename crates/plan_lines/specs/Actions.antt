@@ -1,0 +1,51 @@
+-- The line of an action: compact JSON with keys in byte order.
+use Rattle.std.specs.Prelude.{ℕ, ◌^◌, ◌==◌, nat_lt, List, [], codes, decimal, if◌then◌else◌}
+use Rattle.serde_json.specs.Data.{Data, string, object, no_members, member}
+use Rattle.objects.specs.declared.object.Object.{Object}
+use Rattle.objects.specs.Text.{printed}
+use Rattle.objects.specs.Uid.{uid_text}
+use Rattle.scaling.specs.declared.step.Cause.{Cause}
+use Rattle.scaling.specs.declared.step.Cause.TheVariants.{Terminating, NotReady}
+use Rattle.sets.specs.declared.action.Action.{Action}
+use Rattle.sets.specs.declared.action.Action.TheVariants.{CreateClaim, CreatePod, DeletePod, UpdateClaim, WriteRevision, DeleteRevision, WriteStatus, Wait}
+
+-- the text of a UID; of 0, and of a number that no UID has, the empty text
+abbrev pub uid_shown : ℕ → List ℕ
+uid_shown n = if nat_lt n (2 ^ 48) then uid_text n else []
+
+-- the text of a resource version; of 0 the empty text
+abbrev pub version_shown : ℕ → List ℕ
+version_shown n = if n == 0 then [] else decimal n
+
+abbrev pub cause_name : Cause → List ℕ
+cause_name Terminating = codes "Terminating"
+cause_name NotReady = codes "NotReady"
+
+-- `{"do":A,"object":O}`
+abbrev pub with_object : List ℕ → Object → Data
+with_object word o = object (member (codes "do") (string word) (member (codes "object") (printed o) no_members))
+
+-- `{"do":"DeletePod","name":N,"uid":U}`
+abbrev pub pod_deletion : List ℕ → ℕ → Data
+pod_deletion name uid =
+    object (member (codes "do") (string (codes "DeletePod")) (member (codes "name") (string name) (member (codes "uid") (string (uid_shown uid)) no_members)))
+
+-- `{"do":"DeleteRevision","name":N,"resourceVersion":V,"uid":U}`
+abbrev pub revision_deletion : List ℕ → (version uid : ℕ) → Data
+revision_deletion name version uid =
+    object (member (codes "do") (string (codes "DeleteRevision")) (member (codes "name") (string name) (member (codes "resourceVersion") (string (version_shown version)) (member (codes "uid") (string (uid_shown uid)) no_members))))
+
+-- `{"cause":C,"do":"Wait","name":N}`
+abbrev pub waiting : Cause → List ℕ → Data
+waiting cause name =
+    object (member (codes "cause") (string (cause_name cause)) (member (codes "do") (string (codes "Wait")) (member (codes "name") (string name) no_members)))
+
+abbrev pub action_data : Action → Data
+action_data (CreateClaim claim) = with_object (codes "CreateClaim") claim
+action_data (CreatePod pod) = with_object (codes "CreatePod") pod
+action_data (DeletePod name uid) = pod_deletion name uid
+action_data (UpdateClaim claim) = with_object (codes "UpdateClaim") claim
+action_data (WriteRevision revision) = with_object (codes "WriteRevision") revision
+action_data (DeleteRevision name uid version) = revision_deletion name version uid
+action_data (WriteStatus set) = with_object (codes "WriteStatus") set
+action_data (Wait cause name) = waiting cause name

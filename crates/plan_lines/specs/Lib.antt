@@ -1,0 +1,4 @@
+-- ---- what public clauses cite
+pub mod Actions
+pub mod Objects
+pub mod Refusals

@@ -1,0 +1,10 @@
+//! Lines of `stsctl plan`: the objects that an input has, and the actions of a plan as text.
+#![tactic(auto)]
+
+mod action_line;
+mod listed;
+mod refusal;
+
+pub use action_line::actions_text;
+pub use listed::{Listed, named_set, read_objects};
+pub use refusal::plan_error_name;
