@@ -79,19 +79,27 @@ fn is_alike(key: &Key, copy: &Key) -> bool {
     key == copy && hash_of(key) == hash_of(copy)
 }
 
-/// Whether the key of the one place is below that of the other, and a copy of it is the key.
+/// Whether the key of the one place is below that of the other.
 fn are_ordered(alloc: Global, lower: usize, upper: usize) -> Result<bool, ReadError> {
     let lower = key_at(alloc, lower)?;
     let is_so = key_at(alloc, upper).is_ok_and(|upper| is_below(&lower, &upper));
-    let copy: Result<_, AllocError> = lower.clone();
-    let is_copied = copy.is_ok_and(|copy| is_alike(&lower, &copy));
     drop(lower);
-    Ok(is_so && is_copied)
+    Ok(is_so)
+}
+
+/// Whether a copy of the key of that place is the key.
+fn is_copied(alloc: Global, place: usize) -> Result<bool, ReadError> {
+    let key = key_at(alloc, place)?;
+    let copy: Result<_, AllocError> = key.clone();
+    let is_so = copy.is_ok_and(|copy| is_alike(&key, &copy));
+    drop(key);
+    Ok(is_so)
 }
 
 #[test]
 fn keys_have_an_order_and_copies(rt: HostRuntime) {
     for upper in 0..RISING.len() {
+        assert_so(&rt, is_copied(rt.alloc(), upper), "copies");
         for lower in 0..upper {
             assert_so(&rt, are_ordered(rt.alloc(), lower, upper), "keys");
         }
