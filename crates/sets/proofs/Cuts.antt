@@ -96,3 +96,7 @@ walk_at f xs i d old held new inside first second = walk_more f xs i (get_or xs 
 pub none_gone : (b : Bool) (gone xs : List Action) → not b ≡ false → length xs ≤ 1024 → Adds xs xs (if b then [] else gone)
 none_gone true gone xs h few = adds_none xs few
 none_gone false gone xs h few = absurd (cc)
+
+-- what comes in parts comes whole
+pub coming_more : (xs ys ms rest : List Action) → Adds xs ys ms → take 1024 (ys ++ rest) ≡ take 1024 (xs ++ (ms ++ rest))
+coming_more xs ys ms rest f = ap (λ l. take 1024 (l ++ rest)) f ∙ (take_again 1024 (xs ++ ms) rest ∙ ap (take 1024) (append_assoc xs ms rest))

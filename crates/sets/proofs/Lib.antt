@@ -1,3 +1,4 @@
 pub mod Cuts
 pub mod Names
+pub mod Origins
 pub mod Plans

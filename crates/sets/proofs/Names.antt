@@ -22,7 +22,8 @@ use Rattle.set_views.specs.declared.fault.PlanError.{PlanError}
 use Rattle.set_views.specs.declared.fault.PlanError.TheVariants as errors
 use Rattle.set_views.specs.Steps.{Fails}
 use Rattle.manifests.specs.BuiltPod.{built_pod}
-use Rattle.sets.specs.Actions.{actions_of, name_at, new_pod}
+use Rattle.claims.specs.declared.change.ClaimChange.{ClaimChange}
+use Rattle.sets.specs.Actions.{Claims, actions_of, changes_in, name_at, new_pod}
 use Rattle.sets.specs.Cut.{AreNameable, is_nameable}
 use Rattle.sets.specs.Plan.{names_fit}
 use Rattle.sets.proofs.Cuts.{ActsOnPods}
@@ -91,14 +92,14 @@ nameable set pods steps sorted small fit is k d inside =
     planned_fits set pods x sorted small fit
     (subst (λ (l : List Step). Contains l x) (sym begun.1) (Contains-append_left (cut (planned set pods)) begun.0 x cut_there))
 
-pub acts : (set : SetParts) (current update : Object) → ActsOnPods (actions_of set current update)
+pub acts : (set : SetParts) (claims : Claims) (current update : Object) → ActsOnPods (actions_of set claims current update)
 unfolding actions_of
-acts set current update (MakeClaims i) t = absurd (cc)
-acts set current update (KeepClaims i) t = absurd (cc)
-acts set current update (ReleaseClaims i uid) t = absurd (cc)
-acts set current update (CreatePod i revision) t = omega arith
-acts set current update (DeletePod i uid) t = omega arith
-acts set current update (Wait i cause) t = omega arith
+acts set claims current update (MakeClaims i) t = absurd (cc)
+acts set claims current update (KeepClaims i) t = absurd (cc)
+acts set claims current update (ReleaseClaims i uid) t = absurd (cc)
+acts set claims current update (CreatePod i revision) t = omega arith
+acts set claims current update (DeletePod i uid) t = omega arith
+acts set claims current update (Wait i cause) t = omega arith
 
 -- ---- a pod whose name fits is built
 built_fits : (set : SetParts) (revision : Object) (i : ℕ) → nat_le (length (name_at set i)) 63 ≡ true → built_pod set revision i ≡ Ok (new_pod set revision i)
@@ -124,3 +125,8 @@ fails_never e r x ok h = let clash : true ≡ false = ap is_made (sym ok ∙ h) 
 
 pub only_memory : (set : SetParts) (revision : Object) (i : ℕ) (e : PlanError) → nat_le (length (name_at set i)) 63 ≡ true → Fails e (built_pod set revision i) → e ≡ errors.Memory
 only_memory set revision i e fit h = fails_never e (built_pod set revision i) (new_pod set revision i) (built_fits set revision i fit) h
+
+-- ---- a pod whose name is too long has no claims made
+pub no_changes : (e : PlanError) (r : Result (List ClaimChange) PlanError) → (e ≡ errors.Memory → ⊥) → Fails e r → [] ≡ changes_in r
+no_changes errors.Memory r other h = absurd (other refl)
+no_changes e r other h = sym (ap changes_in h)

@@ -1,7 +1,8 @@
 -- What the steps of a plan come to (Kubernetes, "StatefulSets": "Pod Identity", "Deployment and Scaling Guarantees").
-use Rattle.std.specs.Prelude.{ℕ, List, [], ◌∷◌}
+use Rattle.std.specs.Prelude.{ℕ, List, [], ◌∷◌, map, Option, Result, Ok, Err}
 use Rattle.objects.specs.declared.object.Object.{Object}
 use Rattle.objects.specs.PodNames.{pod_name}
+use Rattle.set_views.specs.declared.fault.PlanError.{PlanError}
 use Rattle.set_views.specs.Set.{SetParts}
 use Rattle.scaling.specs.declared.step.Revision.{Revision}
 use Rattle.scaling.specs.declared.step.Revision.TheVariants.{Current, Update}
@@ -9,8 +10,11 @@ use Rattle.scaling.specs.declared.step.Step.{Step}
 use Rattle.scaling.specs.declared.step.Step.TheVariants as steps
 use Rattle.manifests.specs.BuiltPod.{named_pod}
 use Rattle.manifests.specs.Template.{template_of}
+use Rattle.claims.specs.declared.change.ClaimChange.{ClaimChange}
+use Rattle.claims.specs.declared.change.ClaimChange.TheVariants.{Create, Update as Change}
+use Rattle.claims.specs.Changes.{kept_claims, made_claims, released_claims}
 use Rattle.sets.specs.declared.action.Action.{Action}
-use Rattle.sets.specs.declared.action.Action.TheVariants.{CreatePod, DeletePod, Wait}
+use Rattle.sets.specs.declared.action.Action.TheVariants.{CreateClaim, CreatePod, DeletePod, UpdateClaim, Wait}
 
 -- of the current and the update revision, the one that a new pod is made from
 abbrev pub revision_of : Object → Object → Revision → Object
@@ -25,11 +29,27 @@ name_at set i = pod_name set.object.key.name i
 abbrev pub new_pod : SetParts → Object → ℕ → Object
 new_pod set revision i = named_pod set (template_of revision) revision.key.name i (name_at set i)
 
--- the actions of a step, given the current and the update revision
-unfoldable pub actions_of : SetParts → Object → Object → Step → List Action
-actions_of set current update (steps.MakeClaims i) = []
-actions_of set current update (steps.KeepClaims i) = []
-actions_of set current update (steps.ReleaseClaims i uid) = []
-actions_of set current update (steps.CreatePod i revision) = CreatePod (new_pod set (revision_of current update revision) i) ∷ []
-actions_of set current update (steps.DeletePod i uid) = DeletePod (name_at set i) uid ∷ []
-actions_of set current update (steps.Wait i cause) = Wait cause (name_at set i) ∷ []
+-- the listed claim of a name, if there is one
+abbrev pub Claims : Type 0
+Claims = List ℕ → Option Object
+
+abbrev pub claim_action : ClaimChange → Action
+claim_action (Create o) = CreateClaim o
+claim_action (Change o) = UpdateClaim o
+
+abbrev pub claim_actions : List ClaimChange → List Action
+claim_actions changes = map claim_action changes
+
+-- a pod whose name is too long is not created: the plan is refused before
+abbrev pub changes_in : Result (List ClaimChange) PlanError → List ClaimChange
+changes_in (Ok changes) = changes
+changes_in (Err e) = []
+
+-- the actions of a step, given the listed claims, and the current and the update revision
+unfoldable pub actions_of : SetParts → Claims → Object → Object → Step → List Action
+actions_of set claims current update (steps.MakeClaims i) = claim_actions (changes_in (made_claims set claims i))
+actions_of set claims current update (steps.KeepClaims i) = claim_actions (kept_claims set claims i)
+actions_of set claims current update (steps.ReleaseClaims i uid) = claim_actions (released_claims set claims i uid)
+actions_of set claims current update (steps.CreatePod i revision) = CreatePod (new_pod set (revision_of current update revision) i) ∷ []
+actions_of set claims current update (steps.DeletePod i uid) = DeletePod (name_at set i) uid ∷ []
+actions_of set claims current update (steps.Wait i cause) = Wait cause (name_at set i) ∷ []

@@ -2,5 +2,35 @@
 pub mod Actions
 pub mod Whole
 pub mod Plan
+pub mod Laws
 -- ---- what private clauses cite
 pub mod Cut
+-- ---- of the crates below
+pub use Rattle.claims.specs.Changes
+pub use Rattle.claims.specs.Listed
+pub use Rattle.claims.specs.Owners
+pub use Rattle.collector.specs.Collectable
+pub use Rattle.manifests.specs.BuiltClaim
+pub use Rattle.manifests.specs.BuiltPod
+pub use Rattle.manifests.specs.BuiltStatus
+pub use Rattle.manifests.specs.Template
+pub use Rattle.manifests.specs.Volumes
+pub use Rattle.revisions.specs.Built
+pub use Rattle.revisions.specs.Choice
+pub use Rattle.revisions.specs.History
+pub use Rattle.revisions.specs.Name
+pub use Rattle.revisions.specs.Plan as Revisions
+pub use Rattle.revisions.specs.Revision
+pub use Rattle.scaling.specs.Listed as Replicas
+pub use Rattle.scaling.specs.Scaling
+pub use Rattle.scaling.specs.Status
+pub use Rattle.scaling.specs.Step
+pub use Rattle.scaling.specs.Update
+pub use Rattle.scaling.specs.Views
+pub use Rattle.scaling.specs.Whole as Steps
+pub use Rattle.set_views.specs.Pod
+pub use Rattle.set_views.specs.Readiness
+pub use Rattle.set_views.specs.Set
+pub use Rattle.set_views.specs.SetReading
+pub use Rattle.set_views.specs.Steps as Refusals
+pub use Rattle.set_views.specs.Words

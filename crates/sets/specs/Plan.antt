@@ -14,10 +14,11 @@ use Rattle.scaling.specs.Listed.{replicas_in}
 use Rattle.scaling.specs.Replicas.{Pods}
 use Rattle.scaling.specs.Views.{AreViews, is_near}
 use Rattle.manifests.specs.BuiltPod.{most_name}
+use Rattle.claims.specs.Listed.{listed_claim}
 use Rattle.sets.specs.declared.action.Action.{Action}
 use Rattle.sets.specs.declared.action.Action.TheVariants.{WriteRevision}
 use Rattle.sets.specs.declared.action.Plan.{Plan}
-use Rattle.sets.specs.Actions.{name_at}
+use Rattle.sets.specs.Actions.{Claims, name_at}
 use Rattle.sets.specs.Whole.{whole}
 
 -- the most actions of one plan; the rest is left to the next
@@ -39,23 +40,27 @@ fitting set update current pods = do
 abbrev pub unless_refused : {A : Type 0} → SetParts → List PodParts → Result A PlanError → Result A PlanError
 unless_refused set pods answer = fitting set [] [] pods >>= λ _. answer
 
+-- where the revisions are refused
+abbrev pub refusal : SetParts → List PodParts → PlanError → Result (List Action) PlanError
+refusal set pods NoRevisionName = unless_refused set pods (Err NoRevisionName)
+refusal set pods e = Err e
+
 -- where the update revision is in place
-unfoldable pub plan_of_pods : SetParts → List PodParts → List Object → Object → Object → Result (List Action) PlanError
-plan_of_pods set pods owned current update =
-    fitting set update.key.name current.key.name pods >>= λ replicas. Ok (take most_actions (whole set pods owned current update replicas))
+unfoldable pub plan_of_pods : SetParts → Claims → List PodParts → List Object → Object → Object → Result (List Action) PlanError
+plan_of_pods set claims pods owned current update =
+    fitting set update.key.name current.key.name pods >>= λ replicas. Ok (take most_actions (whole set claims pods owned current update replicas))
 
 -- given what is planned of the revisions: where one is written there is nothing else
-unfoldable pub plan_by : SetParts → List PodParts → Result Planned PlanError → Result (List Action) PlanError
-plan_by set pods (Ok (created o)) = unless_refused set pods (Ok (WriteRevision o ∷ []))
-plan_by set pods (Ok (renumbered o)) = unless_refused set pods (Ok (WriteRevision o ∷ []))
-plan_by set pods (Ok (settled owned current update)) = plan_of_pods set pods owned current update
-plan_by set pods (Err NoRevisionName) = unless_refused set pods (Err NoRevisionName)
-plan_by set pods (Err e) = Err e
+unfoldable pub plan_by : SetParts → Claims → List PodParts → Result Planned PlanError → Result (List Action) PlanError
+plan_by set claims pods (Ok (created o)) = unless_refused set pods (Ok (WriteRevision o ∷ []))
+plan_by set claims pods (Ok (renumbered o)) = unless_refused set pods (Ok (WriteRevision o ∷ []))
+plan_by set claims pods (Ok (settled owned current update)) = plan_of_pods set claims pods owned current update
+plan_by set claims pods (Err e) = refusal set pods e
 
 -- what is planned over these listed objects; nothing is said where memory ran out
-abbrev pub IsPlan : SetParts → List Object → List Object → ℕ → Result Plan PlanError → Type 0
-IsPlan set pods revisions digits (Err errors.Memory) = ⊤
-IsPlan set pods revisions digits result =
+abbrev pub IsPlan : SetParts → List Object → List Object → List Object → ℕ → Result Plan PlanError → Type 0
+IsPlan set pods claims revisions digits (Err errors.Memory) = ⊤
+IsPlan set pods claims revisions digits result =
     (owned : List Object) × AreOwned set revisions owned
     × ((views : List PodView) × AreViews (filter (is_near set) pods) views
-    × Gives (λ p. p.actions.items) result (plan_by set (map pod_parts views) (plan_of set (is_held (listed set revisions)) digits owned)))
+    × Gives (λ p. p.actions.items) result (plan_by set (listed_claim set claims) (map pod_parts views) (plan_of set (is_held (listed set revisions)) digits owned)))

@@ -16,7 +16,7 @@ use Rattle.scaling.specs.declared.step.Step.{Step}
 use Rattle.manifests.specs.BuiltStatus.{StatusParts, built_status}
 use Rattle.sets.specs.declared.action.Action.{Action}
 use Rattle.sets.specs.declared.action.Action.TheVariants.{DeleteRevision, WriteStatus}
-use Rattle.sets.specs.Actions.{actions_of}
+use Rattle.sets.specs.Actions.{Claims, actions_of}
 
 -- the name that the status has for the current revision: once a rolling update is done it is that of the update revision
 abbrev pub current_name : SetParts → Pods → Object → Object → List ℕ
@@ -48,10 +48,10 @@ status_of set pods current update = status_with (counts_of set pods) current upd
 abbrev pub status_write : SetParts → StatusParts → List Action
 status_write set status = option_map_or (λ o. WriteStatus o ∷ []) (built_status set status) []
 
--- all actions, given the listed pods, the owned revisions with the current and the update one, and the set's pods among
+-- all actions, given the listed claims, the listed pods, the owned revisions with the current and the update one, and the set's pods among
 -- the listed ones
-unfoldable pub whole : SetParts → List PodParts → List Object → Object → Object → Pods → List Action
-whole set listed owned current update pods = let name = current_name set pods current update in
-    flat_map (actions_of set current update) (planned set pods)
+unfoldable pub whole : SetParts → Claims → List PodParts → List Object → Object → Object → Pods → List Action
+whole set claims listed owned current update pods = let name = current_name set pods current update in
+    flat_map (actions_of set claims current update) (planned set pods)
     ++ deletions set listed owned name update.key.name (planned set pods)
     ++ status_write set (status_of set pods name update.key.name)

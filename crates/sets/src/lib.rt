@@ -5,11 +5,16 @@
 mod action;
 mod actions;
 mod ending;
+mod laws;
 mod planner;
 mod steps;
 
 pub use action::{Action, Plan};
 pub use collector::{collect, collected_claims_are_collectable, owned_claims_stay};
+pub use laws::{
+    plans_create_free_names, plans_create_in_turn, plans_delete_owned_pods,
+    plans_keep_healthy_pods_on_delete, plans_touch_one_pod_in_order, revisions_are_written_alone,
+};
 pub use planner::plan;
 pub use revisions::{RevisionPlan, RevisionView, Revisions, revision_plan};
 pub use scaling::Cause;

@@ -7,13 +7,15 @@ ghost use Rattle.set_views.specs.Set.{set_parts};
 ghost use Rattle.set_views.specs.Steps.{Gives};
 ghost use Rattle.revisions.specs.Plan.{Planned, objects_of, planned_of};
 ghost use Rattle.sets.specs.declared.action.Action.TheVariants.{WriteRevision};
-ghost use Rattle.sets.specs.Plan.{IsPlan, fitting, most_actions, names_fit, plan_by, plan_of_pods, unless_refused};
+ghost use Rattle.sets.specs.Plan.{IsPlan, fitting, most_actions, names_fit, plan_by, plan_of_pods, refusal, unless_refused};
+ghost use Rattle.claims.specs.Listed.{claim_named};
 ghost use Rattle.sets.specs.Whole.{whole};
 
 use crate::action::{Action, Plan};
 use crate::actions::Actions;
 use crate::ending::{add_history, add_status, current_name};
 use crate::steps::{add_steps, name_at};
+use claims::ListedClaims;
 use objects::{Memory, Object};
 use revisions::{RevisionPlan, Revisions, revision_plan};
 use scaling::{Replica, pod_steps, replicas_of, views_of};
@@ -59,18 +61,19 @@ fn actions_over(
     alloc: Global,
     set: &Set,
     views: &[PodView<'_>],
+    claims: &ListedClaims<'_>,
     revisions: &Revisions<'_>,
     pods: &BTreeMap<u32, Replica>,
 ) -> Result<Vec<Action>, Memory>
     requires { names_fit (set_parts set.now) ≡ true }
-    ensures { IfOk result (λ actions. actions.items ≡ take most_actions (whole (set_parts set.now) (map pod_parts views.now) (objects_of revisions.now.owned.items)
+    ensures { IfOk result (λ actions. actions.items ≡ take most_actions (whole (set_parts set.now) (claim_named claims.now) (map pod_parts views.now) (objects_of revisions.now.owned.items)
         revisions.now.current.object.now revisions.now.update.object.now pods.now.entries)) }
 {
     // A map's length says that its keys are in order.
     let _len = pods.len();
     let steps = pod_steps(alloc, set, pods)?;
     let mut actions = Actions::new(alloc);
-    add_steps(&mut actions, alloc, set, revisions, &steps)?;
+    add_steps(&mut actions, alloc, set, claims, revisions, &steps)?;
     let current = current_name(set, revisions, pods);
     add_history(&mut actions, alloc, set, views, revisions, current, &steps)?;
     drop(steps);
@@ -83,9 +86,10 @@ fn plan_of_pods(
     alloc: Global,
     set: &Set,
     views: &[PodView<'_>],
+    claims: &ListedClaims<'_>,
     revisions: &Revisions<'_>,
 ) -> Result<Plan, PlanError>
-    ensures { Gives (λ plan. plan.actions.items) result (plan_of_pods (set_parts set.now) (map pod_parts views.now) (objects_of revisions.now.owned.items)
+    ensures { Gives (λ plan. plan.actions.items) result (plan_of_pods (set_parts set.now) (claim_named claims.now) (map pod_parts views.now) (objects_of revisions.now.owned.items)
         revisions.now.current.object.now revisions.now.update.object.now) }
 {
     let pods = match fitting_pods(
@@ -98,7 +102,7 @@ fn plan_of_pods(
         Ok(pods) => pods,
         Err(error) => return Err(error),
     };
-    let actions = actions_over(alloc, set, views, revisions, &pods)?;
+    let actions = actions_over(alloc, set, views, claims, revisions, &pods)?;
     Ok(Plan { actions })
 }
 
@@ -136,14 +140,13 @@ fn unnamed(alloc: Global, set: &Set, views: &[PodView<'_>]) -> Result<Plan, Plan
 }
 
 /// The refusal of a plan whose revisions are refused.
-#[tactic(auto, unfolding(crate::specs::Plan::plan_by))]
 fn refusal(
     alloc: Global,
     set: &Set,
     views: &[PodView<'_>],
     error: PlanError,
 ) -> Result<Plan, PlanError>
-    ensures refused { Gives (λ plan. plan.actions.items) result (plan_by (set_parts set.now) (map pod_parts views.now) (Err error)) }
+    ensures refused { Gives (λ plan. plan.actions.items) result (refusal (set_parts set.now) (map pod_parts views.now) error) }
     ensures memory { error ≡ OutOfMemory → result ≡ Err OutOfMemory }
 {
     match error {
@@ -158,15 +161,16 @@ fn plan_by(
     alloc: Global,
     set: &Set,
     views: &[PodView<'_>],
+    claims: &ListedClaims<'_>,
     found: Result<RevisionPlan<'_>, PlanError>,
 ) -> Result<Plan, PlanError>
-    ensures planned { (planned : Result Planned PlanError) → Gives planned_of found.entry planned → Gives (λ plan. plan.actions.items) result (plan_by (set_parts set.now) (map pod_parts views.now) planned) }
+    ensures planned { (planned : Result Planned PlanError) → Gives planned_of found.entry planned → Gives (λ plan. plan.actions.items) result (plan_by (set_parts set.now) (claim_named claims.now) (map pod_parts views.now) planned) }
     ensures memory { found.entry ≡ Err OutOfMemory → result ≡ Err OutOfMemory }
 {
     match found {
         Ok(RevisionPlan::Create(revision)) => writing(alloc, set, views, revision),
         Ok(RevisionPlan::Renumber(revision)) => writing(alloc, set, views, revision),
-        Ok(RevisionPlan::Settled(revisions)) => plan_of_pods(alloc, set, views, &revisions),
+        Ok(RevisionPlan::Settled(revisions)) => plan_of_pods(alloc, set, views, claims, &revisions),
         Err(error) => refusal(alloc, set, views, error),
     }
 }
@@ -192,10 +196,10 @@ pub fn plan(
 ) -> Result<Plan, PlanError>
     requires some { 1 ≤ digits }
     requires most { digits ≤ 64 }
-    ensures { IsPlan (set_parts set.now) pods.now revisions.now digits result }
+    ensures { IsPlan (set_parts set.now) pods.now claims.now revisions.now digits result }
 {
-    let _claims = claims;
     let views = views_of(alloc, set, pods)?;
+    let listed = ListedClaims::of(alloc, set, claims)?;
     let found = revision_plan(alloc, set, revisions, digits);
-    plan_by(alloc, set, &views, found)
+    plan_by(alloc, set, &views, &listed, found)
 }

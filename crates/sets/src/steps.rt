@@ -4,11 +4,14 @@ ghost use Rattle.std.specs.List.{flat_map};
 ghost use Rattle.set_views.specs.declared.fault.PlanError.TheVariants.{Memory as OutOfMemory};
 ghost use Rattle.set_views.specs.Set.{set_parts};
 ghost use Rattle.manifests.specs.BuiltPod.{most_name};
-ghost use Rattle.sets.specs.Actions.{actions_of, name_at, new_pod, revision_of};
+ghost use Rattle.claims.specs.Changes.{made_claims};
+ghost use Rattle.claims.specs.Listed.{claim_named};
+ghost use Rattle.sets.specs.Actions.{actions_of, changes_in, claim_action, claim_actions, name_at, new_pod, revision_of};
 ghost use Rattle.sets.specs.Cut.{Adds, AreNameable, is_nameable};
 
 use crate::action::Action;
 use crate::actions::Actions;
+use claims::{ClaimChange, ListedClaims, kept_claims, made_claims, released_claims};
 use manifests::pod_of;
 use objects::{Memory, Object, Text, pod_name};
 use revisions::{RevisionView, Revisions};
@@ -57,22 +60,73 @@ fn revision_of<'a>(revisions: &Revisions<'a>, revision: Revision) -> RevisionVie
     }
 }
 
+fn claim_action(change: ClaimChange) -> Action
+    ensures { result ≡ claim_action change }
+{
+    match change {
+        ClaimChange::Create(claim) => Action::CreateClaim(claim),
+        ClaimChange::Update(claim) => Action::UpdateClaim(claim),
+    }
+}
+
+/// Adds these changes of claims, in order.
+fn add_changes(actions: &mut Actions, changes: Vec<ClaimChange>) -> Result<(), Memory>
+    ensures { OnOk result (Adds actions.old.list.items actions.new.list.items (claim_actions changes.items)) }
+{
+    for change in changes {
+        actions.add(claim_action(change))?;
+    }
+    Ok(())
+}
+
+/// The changes of the claims of a pod that is then created. There are none where its name is too long, which the plan is
+/// refused for before.
+fn made_changes(
+    alloc: Global,
+    set: &Set,
+    claims: &ListedClaims<'_>,
+    ordinal: u32,
+) -> Result<Vec<ClaimChange>, Memory>
+    ensures { IfOk result (λ changes. changes.items ≡ changes_in (made_claims (set_parts set.now) (claim_named claims.now) ordinal)) }
+{
+    match made_claims(alloc, set, claims, ordinal) {
+        Ok(changes) => Ok(changes),
+        Err(error) => match error {
+            PlanError::Memory => Err(Memory),
+            _ => {
+                drop(error);
+                Ok(Vec::new(alloc))
+            }
+        },
+    }
+}
+
 /// Adds the actions of a step.
-#[tactic(auto, using(crate::proofs::Cuts::adds_none), unfolding(crate::specs::Actions::actions_of))]
+#[tactic(auto, unfolding(crate::specs::Actions::actions_of))]
 fn add_step(
     actions: &mut Actions,
     alloc: Global,
     set: &Set,
+    claims: &ListedClaims<'_>,
     revisions: &Revisions<'_>,
     step: Step,
 ) -> Result<(), Memory>
     requires { is_nameable (set_parts set.now) step ≡ true }
-    ensures { OnOk result (Adds actions.old.list.items actions.new.list.items (actions_of (set_parts set.now) revisions.now.current.object.now revisions.now.update.object.now step)) }
+    ensures { OnOk result (Adds actions.old.list.items actions.new.list.items (actions_of (set_parts set.now) (claim_named claims.now) revisions.now.current.object.now revisions.now.update.object.now step)) }
 {
     match step {
-        Step::MakeClaims { .. } => Ok(()),
-        Step::KeepClaims { .. } => Ok(()),
-        Step::ReleaseClaims { .. } => Ok(()),
+        Step::MakeClaims { ordinal } => {
+            let changes = made_changes(alloc, set, claims, ordinal)?;
+            add_changes(actions, changes)
+        }
+        Step::KeepClaims { ordinal } => {
+            let changes = kept_claims(alloc, set, claims, ordinal)?;
+            add_changes(actions, changes)
+        }
+        Step::ReleaseClaims { ordinal, uid } => {
+            let changes = released_claims(alloc, set, claims, ordinal, uid)?;
+            add_changes(actions, changes)
+        }
         Step::CreatePod { ordinal, revision } => {
             let revision = revision_of(revisions, revision);
             actions.add(Action::CreatePod(new_pod(alloc, set, &revision, ordinal)?))
@@ -93,14 +147,15 @@ pub(crate) fn add_steps(
     actions: &mut Actions,
     alloc: Global,
     set: &Set,
+    claims: &ListedClaims<'_>,
     revisions: &Revisions<'_>,
     steps: &[Step],
 ) -> Result<(), Memory>
     requires { AreNameable (set_parts set.now) steps.now }
-    ensures { OnOk result (Adds actions.old.list.items actions.new.list.items (flat_map (actions_of (set_parts set.now) revisions.now.current.object.now revisions.now.update.object.now) steps.now)) }
+    ensures { OnOk result (Adds actions.old.list.items actions.new.list.items (flat_map (actions_of (set_parts set.now) (claim_named claims.now) revisions.now.current.object.now revisions.now.update.object.now) steps.now)) }
 {
     for step in steps {
-        add_step(actions, alloc, set, revisions, *step)?;
+        add_step(actions, alloc, set, claims, revisions, *step)?;
     }
     Ok(())
 }
