@@ -120,7 +120,7 @@ state_is m rs n are = same_map key_cmp_total exact_keys _ _ (λ k. state_is_valu
 
 -- ---- none yet
 
-no_records : entries {X = Version} {R = nat_cmp} finite.empty ≡ []
+pub no_records : entries {X = Version} {R = nat_cmp} finite.empty ≡ []
 no_records = by (entries {X = Version} {R = nat_cmp} finite.empty) (sym (len-entries {X = Version} {R = nat_cmp} finite.empty) ∙ len-empty nat_cmp Version)
   where
     by : (es : List Record) → length es ≡ 0 → es ≡ []
@@ -138,10 +138,10 @@ opening_is v is = ap shard_of is ∙ ap (λ rs. record { records = rs; floor = 0
 
 -- ---- one more
 
-all_below : (rs : Records) (n : ℕ) → IsAbove rs n → AllByRecursion (λ (e : Record). e.0 < n) (entries rs)
+pub all_below : (rs : Records) (n : ℕ) → IsAbove rs n → AllByRecursion (λ (e : Record). e.0 < n) (entries rs)
 all_below rs n above = all_found (λ e. e.0 < n) (entries rs) (in_order rs) (λ m v found. above m (ap is_some (get-entries rs m ∙ found)))
 
-put_last : (n : ℕ) (v : Version) (es : List Record) → AllByRecursion (λ (e : Record). e.0 < n) es → put nat_cmp n v es ≡ es ++ (n, v) ∷ []
+pub put_last : (n : ℕ) (v : Version) (es : List Record) → AllByRecursion (λ (e : Record). e.0 < n) es → put nat_cmp n v es ≡ es ++ (n, v) ∷ []
 put_last n v [] below = refl
 put_last n v (e ∷ es) below = let less = below.0 in rw (past n e.0 less) (ap (λ fs. e ∷ fs) (put_last n v es below.1))
   where
