@@ -16,3 +16,5 @@ pub mod Forward
 pub mod Runs
 pub mod Followed
 pub mod Paired
+pub mod LastWrites
+pub mod Mirrors

@@ -10,4 +10,5 @@ pub mod World
 -- ---- what only proofs use
 pub mod Following
 pub mod Marks
+pub mod Mirrors
 pub mod Pairing
