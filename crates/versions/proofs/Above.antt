@@ -2,7 +2,7 @@
 use Rattle.std.proofs.Common.{◌≡◌, ◌<◌, ◌≤◌, ◌+◌, ℕ, Bool, true, false, cond, not, Option, Some, None, is_some, refl, sym, ap, ◌∙◌, arith, nat_lt, if◌then◌else◌, true≢false}
 use Rattle.std.specs.Cmp.{nat_cmp_total}
 use Rattle.std.specs.Ordering.{eq_by_cmp, nat_cmp}
-use Rattle.std.specs.FinMap.{empty, get, get-empty, get-insert, get-retain_keys, insert, nat_cmp-IsAntisymmetric}
+use Rattle.std.specs.FinMap.{contains_key, empty, get, get-empty, get-insert, get-retain_keys, insert, nat_cmp-IsAntisymmetric}
 use Rattle.requests.specs.declared.version.Version.{Version}
 use Rattle.versions.specs.Compacted.{compacted, is_superseded}
 use Rattle.versions.specs.Records.{IsAbove, Records}
@@ -32,15 +32,19 @@ kept_by : (b : Bool) (v : Option Version) → is_some (cond b v None) ≡ true �
 kept_by true v there = there
 kept_by false v there = absurd (true≢false (sym there))
 
-above_compacted : (rs : Records) (n k : ℕ) → IsAbove rs k → IsAbove (compacted rs n) k
-above_compacted rs n k above m there =
+-- a record that is left was there
+left_from : (rs : Records) (n m : ℕ) → contains_key (compacted rs n) m ≡ true → contains_key rs m ≡ true
+left_from rs n m there =
     let kept = get-retain_keys rs (λ x. not (is_superseded rs n x)) m (λ x tie. ap (λ y. not (is_superseded rs n y)) (sym (nat_cmp-IsAntisymmetric m x tie))) in
-    above m (kept_by (not (is_superseded rs n m)) (get rs m) (sym (ap is_some kept) ∙ there))
+    kept_by (not (is_superseded rs n m)) (get rs m) (sym (ap is_some kept) ∙ there)
 
 -- a compaction brings no records
-pub above_raised : (s : Shard) (n k : ℕ) → IsAbove s.records k → IsAbove (raised s n).records k
-above_raised s n k above = by (nat_lt n s.floor)
+pub raised_from : (s : Shard) (n m : ℕ) → contains_key (raised s n).records m ≡ true → contains_key s.records m ≡ true
+raised_from s n m = by (nat_lt n s.floor)
   where
-    by : (b : Bool) → IsAbove (if b then s else record { records = compacted s.records n; floor = n; room = s.room }).records k
-    by true = above
-    by false = above_compacted s.records n k above
+    by : (b : Bool) → contains_key (if b then s else record { records = compacted s.records n; floor = n; room = s.room }).records m ≡ true → contains_key s.records m ≡ true
+    by true there = there
+    by false there = left_from s.records n m there
+
+pub above_raised : (s : Shard) (n k : ℕ) → IsAbove s.records k → IsAbove (raised s n).records k
+above_raised s n k above m there = above m (raised_from s n m there)
