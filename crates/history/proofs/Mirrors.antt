@@ -1,11 +1,12 @@
 -- A shard shows the log: as both begin, and after each event.
-use Rattle.std.proofs.Common.{◌≡◌, ◌≢◌, ℕ, zero, suc, ◌+◌, ◌<◌, ◌≤◌, Bool, true, false, cond, ◌&&◌, List, [], ◌∷◌, ◌++◌, Option, Some, None, option_map, option_and_then, filter, refl, sym, ap, subst, ◌∙◌, arith, nat_lt, nat_le, ltb-false}
+use Rattle.std.proofs.Common.{◌≡◌, ◌≢◌, ℕ, zero, suc, ◌+◌, ◌<◌, ◌≤◌, Bool, true, false, cond, ◌&&◌, List, [], ◌∷◌, ◌++◌, Option, Some, None, is_some, option_map, option_and_then, filter, refl, sym, ap, subst, ◌∙◌, arith, nat_lt, nat_le, ltb-false, true≢false}
 use Rattle.std.specs.List.{AllByRecursion}
 use Rattle.std.specs.Cmp.{nat_cmp_total}
 use Rattle.std.specs.Option.{option_map_or, option_or}
+use Rattle.std.specs.Ordering.{eq_by_cmp, nat_cmp}
 use Rattle.std.specs.FinMap as map
-use Rattle.std.specs.FinMap.{entries, entries-insert}
-use Rattle.std.proofs.lemmas.Option.{same_Some}
+use Rattle.std.specs.FinMap.{entries, entries-insert, get-empty, get-insert}
+use Rattle.std.proofs.lemmas.Option.{none-some, same_Some}
 use Rattle.objects.specs.declared.key.Key.{Key}
 use Rattle.objects.specs.declared.object.Object.{Object}
 use Rattle.requests.specs.Change.{kept}
@@ -16,12 +17,13 @@ use Rattle.versions.specs.Compacted.{compacted}
 use Rattle.versions.specs.Records as versions
 use Rattle.versions.specs.Records.{IsAbove, Record, Records, current, last_of, newest, up_to, version_at}
 use Rattle.versions.specs.Shard.{Shard, raised}
-use Rattle.versions.proofs.Above.{above_more, above_none, above_pushed, above_raised}
+use Rattle.versions.proofs.Above.{above_more, above_none, above_pushed, above_raised, raised_from}
+use Rattle.versions.proofs.Found.{equal_numbers}
 use Rattle.versions.proofs.Held.{all_below, no_records, put_last}
 use Rattle.history.specs.Log.{Log, Writing, last_write, newer_number, value}
-use Rattle.history.specs.Mirrors.{Mirrors, last_seen}
-use Rattle.history.specs.World.{Size, changed, shard}
-use Rattle.history.proofs.Basics.{ComparedKeys, same_key, other_key, compare_keys, Least, atmost, above, least, is_key_at}
+use Rattle.history.specs.Mirrors.{IsPublished, Mirrors, last_seen}
+use Rattle.history.specs.World.{Draw, Size, changed, shard}
+use Rattle.history.proofs.Basics.{ComparedKeys, same_key, other_key, compare_keys, Least, atmost, above, least, changed-same, changed-other, is_key_at}
 use Rattle.history.proofs.LastWrites.{last_all, last_other, last_put, value_newest, value_unwritten}
 use Rattle.history.proofs.Values.{value_none, value_put}
 
@@ -105,6 +107,7 @@ mirrors_opening z s = record {
   values = λ n k le here. ap (λ es. state (last_of k (filter (λ r. nat_le r.0 n) es))) no_records ∙ sym (no_value n k);
   others = λ n k le apart. ap (λ es. state (last_of k (filter (λ r. nat_le r.0 n) es))) no_records;
   above = above_none 1;
+  published = λ n there. absurd (true≢false (sym there ∙ ap is_some (get-empty nat_cmp n)));
 }
   where
     no_value : (n : ℕ) (k : Key) → value (λ i. None) n k ≡ None
@@ -126,6 +129,17 @@ module _ {z : Size} {log : Log} {d s : ℕ} {rs : Records} {f : ℕ} (shown : Mi
     values = shown.values;
     others = shown.others;
     above = above_more rs (suc d) (suc (suc d)) (omega arith) shown.above;
+    published = shown.published;
+  }
+
+  -- a write that is published is beside all others
+  published_still : (i : ℕ) (t : Writing) → log i ≡ None → (n : ℕ) → IsPublished z log s n → IsPublished z (changed log i (Some t)) s n
+  published_still i t empty n p = record {
+    index = p.index;
+    writing = p.writing;
+    follows = p.follows;
+    filled = changed-other log i (Some t) p.index (λ e. absurd (none-some p.writing (sym empty ∙ ap log (sym e) ∙ p.filled))) ∙ p.filled;
+    here = p.here;
   }
 
   -- a write of another shard is published
@@ -137,6 +151,7 @@ module _ {z : Size} {log : Log} {d s : ℕ} {rs : Records} {f : ℕ} (shown : Mi
     values = λ n k le here. shown.values n k le here ∙ sym (left n k here);
     others = shown.others;
     above = shown.above;
+    published = λ n there. published_still i t empty n (shown.published n there);
   }
     where
       not_its : (k : Key) → shard z k ≡ s → k ≢ t.key
@@ -144,6 +159,13 @@ module _ {z : Size} {log : Log} {d s : ℕ} {rs : Records} {f : ℕ} (shown : Mi
 
       left : (n : ℕ) (k : Key) → shard z k ≡ s → value (changed log i (Some t)) n k ≡ value log n k
       left n k here = value_put log i t empty n k (λ same. absurd (not_its k here (sym same)))
+
+  -- a draw that comes after all writes of its shard is above all records
+  pub above_draw : (x : Draw) → shard z x.writing.key ≡ s → ((i : ℕ) (t : Writing) → log i ≡ Some t → shard z t.key ≡ shard z x.writing.key → i < x.index) → IsAbove rs (suc x.index)
+  above_draw x its latest n there =
+      let p = shown.published n there in
+      let follows = p.follows in
+      let less = latest p.index p.writing p.filled (p.here ∙ sym its) in omega arith
 
   -- the last write of each key of the shard is below any number that is above all records
   last_below : (n : ℕ) → IsAbove rs (suc n) → (k : Key) → shard z k ≡ s → last_write log d k ≤ n
@@ -193,12 +215,17 @@ module _ {z : Size} {log : Log} {d s : ℕ} {rs : Records} {f : ℕ} (shown : Mi
     none_now n k le apart (same_key ke kb) = absurd (apart (ap (shard z) ke ∙ here))
     none_now n k le apart (other_key ne kb) = same_value n k ne kb ∙ shown.others n k le apart
 
+    published_now : (n : ℕ) → (b : Bool) → eq_by_cmp nat_cmp n (suc i) ≡ b → is_some (cond b (Some record_of) (map.get rs n)) ≡ true → IsPublished z log' s n
+    published_now n true tie there = record { index = i; writing = t; follows = equal_numbers n (suc i) tie; filled = changed-same log i (Some t); here = here }
+    published_now n false tie there = published_still i t empty n (shown.published n there)
+
     mirrors_now : Mirrors z log' d s (map.insert rs (suc i) record_of) f
     mirrors_now = record {
       newest = λ k in_shard. newest_pushed rs (suc i) record_of free k ∙ newest_now k in_shard (compare_keys k t.key);
       values = λ n k le in_shard. value_pushed rs (suc i) record_of free n k ∙ value_now n k le in_shard (compare_keys k t.key) (least (suc i) n);
       others = λ n k le apart. value_pushed rs (suc i) record_of free n k ∙ none_now n k le apart (compare_keys k t.key);
       above = above_more (map.insert rs (suc i) record_of) (suc i + 1) (suc d) (omega arith) (above_pushed rs (suc i) record_of free);
+      published = λ n there. published_now n (eq_by_cmp nat_cmp n (suc i)) refl (sym (ap is_some (get-insert nat_cmp_total rs (suc i) record_of n)) ∙ there);
     }
 
     pub mirrors_pushed : (n : ℕ) (v : Version) → n ≡ suc i → v ≡ version_at t.key (kept t.change n) → Mirrors z (changed log i (Some t)) d s (map.insert rs n v) f
@@ -214,6 +241,7 @@ mirrors_raised {d = d} a b n shown is newest_stays values_stay = record {
   values = λ m k le here. values_stay m k le ∙ shown.values m k (lower m le) here;
   others = λ m k le apart. values_stay m k le ∙ shown.others m k (lower m le) apart;
   above = subst (λ (c : Shard). IsAbove c.records (suc d)) (sym is) (above_raised a n (suc d) shown.above);
+  published = λ m there. shown.published m (raised_from a n m (sym (ap (λ (c : Shard). map.contains_key c.records m) is) ∙ there));
 }
   where
     higher : a.floor ≤ b.floor

@@ -1,17 +1,29 @@
 -- One shard of versions beside the log of all shards.
-use Rattle.std.specs.Prelude.{◌≡◌, ◌≢◌, ℕ, zero, suc, ◌≤◌, Option, Some, None}
+use Rattle.std.specs.Prelude.{◌≡◌, ◌≢◌, ℕ, zero, suc, ◌≤◌, true, List, fold, Option, Some, None}
+use Rattle.std.specs.FinMap as map
 use Rattle.objects.specs.declared.key.Key.{Key}
 use Rattle.objects.specs.declared.object.Object.{Object}
+use Rattle.requests.specs.declared.request.Request.{Request}
 use Rattle.requests.specs.Change.{change_object}
+use Rattle.plain_store.specs.Store.{Objects}
 use Rattle.versions.specs.Records as versions
 use Rattle.versions.specs.Records.{IsAbove, Records}
 use Rattle.history.specs.Log.{Log, Writing, last_write, value}
+use Rattle.history.specs.Step.{with_part}
 use Rattle.history.specs.World.{Size, shard}
 
 -- the number of the last write, and what it left; nothing where the number is 0
 abbrev pub last_seen : ℕ → Option Object → Option (ℕ × Option Object)
 last_seen zero o = None
 last_seen (suc n) o = Some (suc n, o)
+
+-- a number at which a write of the shard s is published
+pub record IsPublished (z : Size) (log : Log) (s number : ℕ) : Type 0 where
+  pub index : ℕ
+  pub writing : Writing
+  pub follows : number ≡ suc index
+  pub filled : log index ≡ Some writing
+  pub here : shard z writing.key ≡ s
 
 -- The records are those of the shard s, where so many numbers are drawn: they say of its keys what the log says, at the
 -- numbers from the floor on, and of other keys nothing.
@@ -21,7 +33,25 @@ pub record Mirrors (z : Size) (log : Log) (drawn s : ℕ) (records : Records) (f
   pub others : (n : ℕ) (k : Key) → floor ≤ n → shard z k ≢ s → versions.value records n k ≡ None
   -- none has a number that is not drawn
   pub above : IsAbove records (suc drawn)
+  -- each is of a write
+  pub published : (n : ℕ) → map.contains_key records n ≡ true → IsPublished z log s n
 
 -- each write is of an object of its key
 abbrev pub IsFiled : Log → Type 0
 IsFiled log = (i : ℕ) (t : Writing) → log i ≡ Some t → (change_object t.change).key ≡ t.key
+
+-- ---- what a caller finds
+
+-- with these objects too, each under its key
+abbrev pub with_objects : Objects → List Object → Objects
+with_objects found objects = fold (λ m o. map.insert m o.key o) found objects
+
+-- with an object too, if there is one
+abbrev pub with_object : Objects → Option Object → Objects
+with_object found None = found
+with_object found (Some o) = map.insert found o.key o
+
+-- what a request finds in the shards below s, as the log has it at a number
+abbrev pub read_up_to : Size → Log → (number : ℕ) → Request → (s : ℕ) → Objects
+read_up_to z log number r zero = map.empty
+read_up_to z log number r (suc s) = with_part z log number r s (read_up_to z log number r s)
