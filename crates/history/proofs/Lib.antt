@@ -18,3 +18,4 @@ pub mod Followed
 pub mod Paired
 pub mod LastWrites
 pub mod Mirrors
+pub mod MirrorReads

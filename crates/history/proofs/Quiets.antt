@@ -35,7 +35,7 @@ use Rattle.history.proofs.Invariant.{Apart, Aside, Fate, Ghost, HoldingFacts, In
 use Rattle.history.proofs.Arranged.{Holds, Moves, Shows, backwards_without, moved_same}
 use Rattle.history.proofs.Frames.{idle, next_ghost, next_world, quiet}
 
-shard_below : (z : Size) (k : Key) → 0 < z.shards → shard z k < z.shards
+pub shard_below : (z : Size) (k : Key) → 0 < z.shards → shard z k < z.shards
 unfolding shard
 shard_below z k h = mod-lt (sum (key_text k)) h
 

@@ -93,7 +93,7 @@ last_bound log b h k (suc d) = by_record (log d) refl (last_bound log b h k d)
     by_record (Some t) e ih = by_key t e ih (compare_keys k t.key)
 
 -- ---- what a read finds, shard by shard
-pub find_or : Option Object → Option Object → Option Object
+unfoldable pub find_or : Option Object → Option Object → Option Object
 find_or None o = o
 find_or (Some x) o = Some x
 
