@@ -19,3 +19,5 @@ pub mod Paired
 pub mod LastWrites
 pub mod Mirrors
 pub mod MirrorReads
+pub mod Turns
+pub mod Facts

@@ -21,7 +21,7 @@ by_caller : (z : Size) (w : World) (a : Arrangement) (c : ℕ) (v : World) → M
 by_caller z w a c v m = subst (λ ph. Holds z v (moved w.frontier c (w.phase c) ph a)) (sym m.entered) m.holds
 
 -- each event keeps the invariant
-step_goes : (z : Size) (w : World) (g : Ghost) (a : Arrangement) → 0 < z.shards → Invariant z w g → Shows g a → (e : Event) → Holds z (step z w e) (arranged w e (step z w e) a)
+pub step_goes : (z : Size) (w : World) (g : Ghost) (a : Arrangement) → 0 < z.shards → Invariant z w g → Shows g a → (e : Event) → Holds z (step z w e) (arranged w e (step z w e) a)
 step_goes z w g a some iv sh (Call c q) = by_caller z w a c _ (call_goes z w g iv a sh c q (w.phase c) refl (iv.opens c))
 step_goes z w g a some iv sh (Check c) = by_caller z w a c _ (check_goes z w g iv a sh c (w.phase c) refl (iv.phases c) (iv.opens c))
 step_goes z w g a some iv sh (Reserve c) = by_caller z w a c _ (reserve_goes z w g iv a sh c (w.phase c) refl (iv.phases c) (iv.opens c))
@@ -38,7 +38,7 @@ run_goes : (z : Size) → 0 < z.shards → (events : List Event) (w : World) (a 
 run_goes z some [] w a h = h
 run_goes z some (e ∷ es) w a h = run_goes z some es (step z w e) (arranged w e (step z w e) a) (step_goes z w h.0 a some h.1.0 h.1.1 e)
 
-begins : (z : Size) → Holds z opening beginning
+pub begins : (z : Size) → Holds z opening beginning
 begins z = (
   record { fate = λ p. New; taker = λ i. 0; settled = λ k. 0; jobs = []; parked = [] },
   (

@@ -8,6 +8,7 @@ pub mod Step
 pub mod Trace
 pub mod World
 -- ---- what only proofs use
+pub mod Facts
 pub mod Following
 pub mod Marks
 pub mod Mirrors
