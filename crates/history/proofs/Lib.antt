@@ -19,5 +19,6 @@ pub mod Paired
 pub mod LastWrites
 pub mod Mirrors
 pub mod MirrorReads
+pub mod ListAnswers
 pub mod Turns
 pub mod Facts

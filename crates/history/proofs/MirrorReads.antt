@@ -124,7 +124,7 @@ module _ {z : Size} {log : Log} {d s : ℕ} {rs : Records} {f : ℕ} (shown : Mi
 
   module _ (r : Request) (found : Objects) where
     -- a list that a caller puts into what it has found
-    listed : (kind : Kind) (namespace : List ℕ) → ((k : Key) → reads (route r) k ≡ is_of kind namespace k)
+    pub listed : (kind : Kind) (namespace : List ℕ) → ((k : Key) → reads (route r) k ≡ is_of kind namespace k)
         → with_objects found (collection (versions.state_at rs n) kind namespace) ≡ with_part z log n r s found
     listed kind namespace wanted = same_map key_cmp_total exact_keys _ _ (λ q.
         get_objects (entries here) (is_held (is_sorted key_cmp (entries here)) (entries_sorted here)) are_filed found q

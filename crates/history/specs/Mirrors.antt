@@ -2,10 +2,11 @@
 use Rattle.std.specs.Prelude.{◌≡◌, ◌≢◌, ℕ, zero, suc, ◌≤◌, true, List, fold, Option, Some, None}
 use Rattle.std.specs.FinMap as map
 use Rattle.objects.specs.declared.key.Key.{Key}
+use Rattle.objects.specs.declared.kind.Kind.{Kind}
 use Rattle.objects.specs.declared.object.Object.{Object}
 use Rattle.requests.specs.declared.request.Request.{Request}
 use Rattle.requests.specs.Change.{change_object}
-use Rattle.plain_store.specs.Store.{Objects}
+use Rattle.plain_store.specs.Store.{Objects, collection}
 use Rattle.versions.specs.Records as versions
 use Rattle.versions.specs.Records.{IsAbove, Records}
 use Rattle.history.specs.Log.{Log, Writing, last_write, value}
@@ -55,3 +56,8 @@ with_object found (Some o) = map.insert found o.key o
 abbrev pub read_up_to : Size → Log → (number : ℕ) → Request → (s : ℕ) → Objects
 read_up_to z log number r zero = map.empty
 read_up_to z log number r (suc s) = with_part z log number r s (read_up_to z log number r s)
+
+-- the objects of a kind in a namespace that the records of the shards below s have at a number
+abbrev pub found_in : (records : ℕ → Records) → (number : ℕ) → Kind → List ℕ → (s : ℕ) → Objects
+found_in records number kind namespace zero = map.empty
+found_in records number kind namespace (suc s) = with_objects (found_in records number kind namespace s) (collection (versions.state_at (records s) number) kind namespace)
