@@ -127,6 +127,7 @@ module _ (z : Size) (w : World) (g : Ghost) (iv : Invariant z w g) where
   pub facts_now : 0 < z.shards → AllInTurn z w → Facts z w
   facts_now some turns = record {
     some = some;
+    standing = iv.standing;
     within = iv.within;
     room = iv.room;
     above = iv.above;
@@ -144,7 +145,7 @@ module _ (z : Size) (w : World) (g : Ghost) (iv : Invariant z w g) where
 run_facts : (z : Size) → 0 < z.shards → (events : List Event) (w : World) (a : Arrangement) → Holds z w a → AllInTurn z w → Facts z (after z w events)
 run_facts z some [] w a h turns = facts_now z w h.0 h.1.0 some turns
 run_facts z some (e ∷ es) w a h turns =
-    run_facts z some es (world.step z w e) (arranged w e (world.step z w e) a) (step_goes z w h.0 a some h.1.0 h.1.1 e) (step_turn z w h.1.0.above (writing_holds z w h.0 h.1.0) turns e)
+    run_facts z some es (world.step z w e) (arranged w e (world.step z w e) a) (step_goes z w h.0 a some h.1.0 h.1.1 e) (step_turn z w h.1.0.above (writing_holds z w h.0 h.1.0) h.1.0.standing turns e)
 
 pub facts_after : (z : Size) → 0 < z.shards → (events : List Event) → Facts z (after z opening events)
 facts_after z some events = run_facts z some events opening beginning (begins z) (λ c. record { latest = λ d e. absurd (none-some d e); numbered = λ n p r parts found e. absurd cc })

@@ -20,5 +20,6 @@ pub mod LastWrites
 pub mod Mirrors
 pub mod MirrorReads
 pub mod ListAnswers
+pub mod Phases
 pub mod Turns
 pub mod Facts

@@ -33,6 +33,7 @@ draw_in (Gone left) = left
 
 pub record Facts (z : Size) (w : World) : Type 0 where
   pub some : 0 < z.shards
+  pub standing : w.floor ≤ w.frontier
   pub within : w.frontier ≤ w.drawn
   pub room : w.drawn ≤ z.capacity
   pub above : (i : ℕ) → w.drawn ≤ i → w.log i ≡ None
