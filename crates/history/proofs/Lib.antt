@@ -23,3 +23,4 @@ pub mod ListAnswers
 pub mod Phases
 pub mod Turns
 pub mod Facts
+pub mod Spared

@@ -34,7 +34,7 @@ step_goes z w g a some iv sh (Part c) = by_caller z w a c _ (part_goes z w g iv 
 step_goes z w g a some iv sh (event.Reply c) = by_caller z w a c _ (reply_goes z w g iv a sh c (w.phase c) refl (iv.phases c) (iv.opens c))
 step_goes z w g a some iv sh (Crash c) = by_caller z w a c _ (crash_goes z w g iv a sh c (w.phase c) refl (iv.phases c) (iv.opens c))
 
-run_goes : (z : Size) → 0 < z.shards → (events : List Event) (w : World) (a : Arrangement) → Holds z w a → Holds z (after z w events) (arrangement z w a events)
+pub run_goes : (z : Size) → 0 < z.shards → (events : List Event) (w : World) (a : Arrangement) → Holds z w a → Holds z (after z w events) (arrangement z w a events)
 run_goes z some [] w a h = h
 run_goes z some (e ∷ es) w a h = run_goes z some es (step z w e) (arranged w e (step z w e) a) (step_goes z w h.0 a some h.1.0 h.1.1 e)
 

@@ -13,3 +13,4 @@ pub mod Following
 pub mod Marks
 pub mod Mirrors
 pub mod Pairing
+pub mod Spared
