@@ -4,6 +4,7 @@ pub mod Linearizable
 pub mod Linearization
 pub mod Log
 pub mod Order
+pub mod Spared
 pub mod Step
 pub mod Trace
 pub mod World
@@ -13,4 +14,3 @@ pub mod Following
 pub mod Marks
 pub mod Mirrors
 pub mod Pairing
-pub mod Spared

@@ -3,11 +3,12 @@ ghost use Rattle.requests.specs.declared.request.Request.{Request};
 ghost use Rattle.history.specs.declared.event.Event.{Event};
 ghost use Rattle.history.specs.declared.trace.Item.{Item};
 ghost use Rattle.history.specs.declared.trace.Item.TheVariants.{Call};
-ghost use Rattle.history.specs.World.{Size};
+ghost use Rattle.history.specs.World.{Size, opening};
 ghost use Rattle.history.specs.Linearizable.{IsLinearizable};
 ghost use Rattle.history.specs.Linearization.{Before, Has, IsHistory, IsLegal};
 ghost use Rattle.history.specs.Order.{order};
-ghost use Rattle.history.specs.Trace.{trace};
+ghost use Rattle.history.specs.Spared.{IsSpared};
+ghost use Rattle.history.specs.Trace.{after, trace};
 
 /// Every run is linearizable (Herlihy and Wing 1990): for each list of events, whatever the callers and however their
 /// steps and crashes are mixed, there is an order of the requests in which one plain store, taking them whole and one at
@@ -26,4 +27,10 @@ pub fn callers_keep_their_order()
     ensures { (capacity : ℕ) (items : List Item) (places : List ℕ) → IsHistory items → IsLegal capacity items places
         → (p q caller : ℕ) (r s : Request) → Has (Call p caller r) items → Has (Call q caller s) items → p < q
         → Has q places → Before p q places }
+{}
+
+/// A compaction never reaches what is still to be read: a number that is up to the floor, and up to that of each read that
+/// has begun, is so after all further events.
+pub fn compactions_spare_reads()
+    ensures { (size : Size) (events later : List Event) (number : ℕ) → 0 < size.shards → IsSpared (after size opening events) number → IsSpared (after size (after size opening events) later) number }
 {}

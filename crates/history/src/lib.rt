@@ -13,5 +13,8 @@ mod walk;
 pub use check::check_order;
 pub use event::Event;
 pub use examples::{short_orders, short_runs};
-pub use laws::{built_orders_are_legal, callers_keep_their_order, runs_are_linearizable};
+pub use laws::{
+    built_orders_are_legal, callers_keep_their_order, compactions_spare_reads,
+    runs_are_linearizable,
+};
 pub use trace::{Item, Run, Trace};
