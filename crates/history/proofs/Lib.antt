@@ -24,3 +24,17 @@ pub mod Phases
 pub mod Turns
 pub mod Facts
 pub mod Spared
+pub mod Waiters
+pub mod Showing
+pub mod Stepping
+pub mod WritesDone
+pub mod Pieces
+pub mod CrashesDone
+pub mod ReadsDone
+pub mod Published
+pub mod Admitted
+pub mod Due
+pub mod Reached
+pub mod Replays
+pub mod Opening
+pub mod Gatherings

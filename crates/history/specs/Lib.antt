@@ -1,4 +1,5 @@
 -- ---- what public clauses cite
+pub mod After
 pub mod Examples
 pub mod Linearizable
 pub mod Linearization
@@ -14,3 +15,4 @@ pub mod Following
 pub mod Marks
 pub mod Mirrors
 pub mod Pairing
+pub mod Replayed

@@ -7,6 +7,8 @@ mod growths;
 #[cfg(test)]
 mod orders;
 #[cfg(test)]
+mod replays;
+#[cfg(test)]
 mod strangers;
 #[cfg(test)]
 mod traces;

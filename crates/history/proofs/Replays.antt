@@ -1,0 +1,67 @@
+-- What a replay promises, by its machine.
+use Rattle.std.proofs.Common.{◌≡◌, ℕ, ◌<◌, ◌↔◌, Bool, true, false, IsTrue, List, [], ◌∷◌, ◌++◌, Option, Result, Ok, Err, OnOk, IfOk, refl, sym, ap, ◌∙◌, subst}
+use Rattle.requests.specs.declared.reply.Reply.{Reply}
+use Rattle.history.specs.declared.event.Event.{Event}
+use Rattle.history.specs.declared.event.Event.TheVariants as event
+use Rattle.history.specs.declared.machine.Machine.{Machine}
+use Rattle.history.specs.declared.phase.Phase.{Phase as CodePhase}
+use Rattle.history.specs.declared.phase.Phase.TheVariants as code
+use Rattle.history.specs.declared.trace.Item.{Item}
+use Rattle.history.specs.After.{IsReplyTo}
+use Rattle.history.specs.Order.{order}
+use Rattle.history.specs.Linearization.{IsLegal}
+use Rattle.history.specs.Trace.{trace}
+use Rattle.history.specs.World.{Phase, Idle, Size}
+use Rattle.history.specs.Replayed.{IsAnswer, IsRun, IsShown, is_idle, told_at}
+use Rattle.history.proofs.Runs.{orders_are_legal}
+
+pub on_ok_two : {A E : Type 0} (P Q R : Type 0) (r : Result A E) → (P → Q → R) → OnOk r P → OnOk r Q → OnOk r R
+on_ok_two P Q R (Ok x) f p q = f p q
+on_ok_two P Q R (Err e) f p q = tt
+
+pub if_ok_three : {A E : Type 0} (P Q : Type 0) (R S : A → Type 0) (r : Result A E) → ((x : A) → P → Q → R x → S x) → OnOk r P → OnOk r Q → IfOk r R → IfOk r S
+if_ok_three P Q R S (Ok x) f p q s = f x p q s
+if_ok_three P Q R S (Err e) f p q s = tt
+
+pub answer_told : (z : Size) (es : List Event) (m m' : Machine) (e : Event) (told : Option Reply) → IsRun z es m → IsRun z (es ++ e ∷ []) m' → IsAnswer e m m' told → IsReplyTo z es e told
+answer_told z es m m' (event.Call c r) told run next answer = answer
+answer_told z es m m' (event.Check c) told run next answer = answer
+answer_told z es m m' (event.Reserve c) told run next answer = answer
+answer_told z es m m' (event.Publish c) told run next answer = answer
+answer_told z es m m' event.Raise told run next answer = answer
+answer_told z es m m' (event.Read c) told run next answer = answer
+answer_told z es m m' (event.ReadAt c) told run next answer = answer
+answer_told z es m m' (event.Compact c) told run next answer = answer
+answer_told z es m m' (event.Part c) told run next answer = answer
+answer_told z es m m' (event.Reply c) told run next answer =
+    sym next.shows.items ∙ answer ∙ ap (λ l. l ++ told_at m.now_at c told) run.shows.items ∙ ap (λ n. trace z es ++ told_at n c told) run.count
+answer_told z es m m' (event.Crash c) told run next answer = answer
+
+idle_shown : (p : CodePhase) (ph : Phase) → IsShown p ph → is_idle p ≡ true → ph ≡ Idle
+idle_shown code.Idle ph h e = h
+idle_shown (code.Called p r) ph h e = absurd cc
+idle_shown (code.Holding t) ph h e = absurd cc
+idle_shown (code.Drawn d) ph h e = absurd cc
+idle_shown (code.Waiting s p r) ph h e = absurd cc
+idle_shown (code.Reading n p r left) ph h e = absurd cc
+idle_shown code.Gone ph h e = absurd cc
+idle_shown (code.Left d) ph h e = absurd cc
+idle_shown code.Dropped ph h e = absurd cc
+
+shown_idle : (p : CodePhase) (ph : Phase) → IsShown p ph → ph ≡ Idle → is_idle p ≡ true
+shown_idle code.Idle ph h e = refl
+shown_idle (code.Called p r) ph h e = absurd cc
+shown_idle (code.Holding t) ph h e = absurd cc
+shown_idle (code.Drawn d) ph h e = absurd cc
+shown_idle (code.Waiting s p r) ph h e = absurd cc
+shown_idle (code.Reading n p r left) ph h e = let x = h.1.1.0 in absurd cc
+shown_idle code.Gone ph h e = absurd cc
+shown_idle (code.Left d) ph h e = absurd cc
+shown_idle code.Dropped ph h e = absurd cc
+
+pub idle_tells : (b : Bool) (p : CodePhase) (ph : Phase) → b ≡ is_idle p → IsShown p ph → IsTrue b ↔ (ph ≡ Idle)
+idle_tells true p ph is h = (λ t. idle_shown p ph h (sym is), λ e. refl)
+idle_tells false p ph is h = (λ t. absurd cc, λ e. let x = is ∙ shown_idle p ph h e in absurd cc)
+
+pub run_legal : (z : Size) (es : List Event) (items : List Item) (places : List ℕ) → 0 < z.shards → items ≡ trace z es → places ≡ order z es → IsLegal z.capacity items places
+run_legal z es items places some is are = subst (λ l. IsLegal z.capacity l places) (sym is) (subst (λ o. IsLegal z.capacity (trace z es) o) (sym are) (orders_are_legal z es some))

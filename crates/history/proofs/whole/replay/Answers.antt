@@ -1,0 +1,18 @@
+use Rattle.std.proofs.Common.{◌∙◌, arith, subst}
+use Rattle.std.proofs.lemmas.List.{length-take-le, take_all}
+use Rattle.history.specs.After.{IsAfter, taken}
+use Rattle.history.specs.World.{Size}
+use Rattle.history.proofs.whole.replay.Goals as goal
+
+pub step-requires-clause-room : goal.step-requires-clause-room
+unfolding IsAfter taken
+step-requires-clause-room c =
+    let lt = c.loop-event-test.true in
+    let fits = c.well_formed in
+    let at = c.loop-event.invariant.count ∙ length-take-le c.loop-event.event-index c.args.events.now (omega (arith, lt)) in
+    omega (arith, at, lt, fits)
+
+pub returns : goal.returns
+returns c =
+    let z : Size = record { capacity = c.args.capacity; shards = c.args.shards } in
+    c.finish.ensures z c.args.events.now (subst (λ es. IsAfter z es c.loop-event.replay) (take_all c.loop-event.event-index c.args.events.now c.loop-event-test.false) c.loop-event.invariant)

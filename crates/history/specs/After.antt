@@ -1,0 +1,45 @@
+-- What a replay says of the events so far.
+use Rattle.std.specs.Prelude.{◌≡◌, ℕ, List, [], ◌∷◌, ◌++◌, length, Option, None}
+use Rattle.requests.specs.declared.reply.Reply.{Reply}
+use Rattle.history.specs.declared.event.Event.{Event}
+use Rattle.history.specs.declared.event.Event.TheVariants as event
+use Rattle.history.specs.declared.replaying.Replay.{Replay}
+use Rattle.history.specs.Replayed.{IsRun, told_at}
+use Rattle.history.specs.declared.trace.Run.{Run}
+use Rattle.history.specs.Linearization.{IsLegal}
+use Rattle.history.specs.Order.{order}
+use Rattle.history.specs.Trace.{trace}
+use Rattle.history.specs.World.{Size}
+
+-- the replay has taken these events, and no others
+unfoldable pub IsAfter : Size → List Event → Replay → Type 0
+IsAfter z events replay = IsRun z events replay.machine
+
+-- some events lead to it
+abbrev pub IsReached : Replay → Type 0
+IsReached replay = (z : Size) × ((events : List Event) × IsAfter z events replay)
+
+-- how many events it has taken
+unfoldable pub taken : Replay → ℕ
+taken replay = replay.machine.now_at
+
+-- The run has the trace of the events, and the order that is built of them, which is a legal one.
+pub record IsRunOf (z : Size) (events : List Event) (run : Run) : Type 0 where
+  pub capacity : run.trace.capacity ≡ z.capacity
+  pub trace_is : run.trace.items.items ≡ trace z events
+  pub order_is : run.order.items ≡ order z events
+  pub legal : IsLegal z.capacity run.trace.items.items run.order.items
+
+-- What the caller of an event is told: of a Reply what it adds to the trace, and nothing of any other event.
+abbrev pub IsReplyTo : Size → List Event → Event → Option Reply → Type 0
+IsReplyTo z events (event.Call c r) told = told ≡ None
+IsReplyTo z events (event.Check c) told = told ≡ None
+IsReplyTo z events (event.Reserve c) told = told ≡ None
+IsReplyTo z events (event.Publish c) told = told ≡ None
+IsReplyTo z events event.Raise told = told ≡ None
+IsReplyTo z events (event.Read c) told = told ≡ None
+IsReplyTo z events (event.ReadAt c) told = told ≡ None
+IsReplyTo z events (event.Compact c) told = told ≡ None
+IsReplyTo z events (event.Part c) told = told ≡ None
+IsReplyTo z events (event.Reply c) told = trace z (events ++ event.Reply c ∷ []) ≡ trace z events ++ told_at (length events) c told
+IsReplyTo z events (event.Crash c) told = told ≡ None

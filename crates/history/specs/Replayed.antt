@@ -1,0 +1,434 @@
+-- What the pieces of a replay show of the world, and of the order that is built.
+use Rattle.std.specs.Prelude.{◌≡◌, ℕ, suc, ◌+◌, ◌-◌, ◌<◌, ◌≤◌, Bool, true, false, cond, nat_eq, nat_le, List, [], ◌∷◌, ◌++◌, length, get_or, Option, Some, None, option_map}
+use Rattle.std.specs.BTreeMap.{get}
+use Rattle.std.specs.Option.{option_map_or}
+use Rattle.std.specs.Ordering.{nat_cmp}
+use Rattle.requests.specs.declared.reply.Reply.{Reply}
+use Rattle.requests.specs.declared.reply.Reply.TheVariants.{Compacted, Refused}
+use Rattle.requests.specs.declared.reply.Reason.{Reason}
+use Rattle.requests.specs.declared.request.Request.{Request}
+use Rattle.requests.specs.declared.version.Version.{Version}
+use Rattle.plain_store.specs.Route.{Route, compacts, gets, lists, lists_at, route, writes}
+use Rattle.plain_store.specs.Store.{Objects, step}
+use Rattle.requests.specs.Change.{kept}
+use Rattle.objects.specs.declared.kind.Kind.{Kind}
+use Rattle.versions.specs.Records.{Records, version_at}
+use Rattle.versions.specs.Shard as versions
+use Rattle.versions.specs.Shard.{Shard}
+use Rattle.history.specs.declared.callers.Callers.{Callers}
+use Rattle.history.specs.declared.decision.Decision.{Decision}
+use Rattle.history.specs.declared.decision.Decision.TheVariants.{Hold, Wait}
+use Rattle.history.specs.declared.event.Event.{Event}
+use Rattle.history.specs.declared.event.Event.TheVariants.{Check}
+use Rattle.history.specs.declared.event.Event.TheVariants as event
+use Rattle.history.specs.declared.machine.Machine.{Machine}
+use Rattle.history.specs.declared.parking.Parking.{Parking}
+use Rattle.history.specs.declared.parking.Waiter.{Waiter}
+use Rattle.history.specs.declared.phase.Draw.{Draw as CodeDraw}
+use Rattle.history.specs.declared.phase.Phase.{Phase as CodePhase}
+use Rattle.history.specs.declared.phase.Phase.TheVariants as code
+use Rattle.history.specs.declared.phase.Writing.{Writing as CodeWriting}
+use Rattle.history.specs.declared.trace.Item.{Item}
+use Rattle.history.specs.declared.trace.Item.TheVariants as item
+use Rattle.history.specs.Log.{Log, Writing, state_at}
+use Rattle.history.specs.Mirrors.{Mirrors}
+use Rattle.history.specs.Order.{Arrangement, Parked, arranged, arrangement, beginning, last_or_parked, moved, with_last}
+use Rattle.history.specs.Step.{step as step_world}
+use Rattle.history.specs.Step.{begun, enters, given, happens, only, replied, told}
+use Rattle.history.specs.Trace.{after}
+use Rattle.history.specs.World.{Draw, Phase, Idle, Called, Holding, Drawn, Waiting, Reading, Gone, Size, World, changed, opening, shard}
+use Rattle.history.specs.Facts.{Facts}
+
+-- ---- callers
+abbrev pub writing_of : CodeWriting → Writing
+writing_of t = record { place = t.place; key = t.key; change = t.change }
+
+abbrev pub draw_of : CodeDraw → Draw
+draw_of d = record { index = d.index; writing = writing_of d.writing }
+
+-- a caller's phase; of a read only how many parts are left
+abbrev pub IsShown : CodePhase → Phase → Type 0
+IsShown code.Idle ph = ph ≡ Idle
+IsShown (code.Called p r) ph = ph ≡ Called p r
+IsShown (code.Holding t) ph = ph ≡ Holding (writing_of t)
+IsShown (code.Drawn d) ph = ph ≡ Drawn (draw_of d)
+IsShown (code.Waiting s p r) ph = ph ≡ Waiting s p r
+IsShown (code.Reading n p r left) ph = (parts : List ℕ) × ((found : Objects) × ((ph ≡ Reading n p r parts found) × (length parts ≡ left)))
+IsShown code.Gone ph = ph ≡ Gone None
+IsShown (code.Left d) ph = ph ≡ Gone (Some (draw_of d))
+IsShown code.Dropped ph = ph ≡ Gone None
+
+abbrev pub or_idle : Option CodePhase → CodePhase
+or_idle None = code.Idle
+or_idle (Some ph) = ph
+
+abbrev pub named_phase : Callers → ℕ → Option CodePhase
+named_phase callers c = get nat_cmp callers.phases c
+
+abbrev pub phase_at : Callers → ℕ → CodePhase
+phase_at callers c = or_idle (named_phase callers c)
+
+abbrev pub is_dropped : CodePhase → Bool
+is_dropped code.Idle = false
+is_dropped (code.Called p r) = false
+is_dropped (code.Holding t) = false
+is_dropped (code.Drawn d) = false
+is_dropped (code.Waiting s p r) = false
+is_dropped (code.Reading n p r left) = false
+is_dropped code.Gone = false
+is_dropped (code.Left d) = false
+is_dropped code.Dropped = true
+
+abbrev pub drops : Callers → ℕ → Bool
+drops callers c = is_dropped (phase_at callers c)
+
+abbrev pub is_idle : CodePhase → Bool
+is_idle code.Idle = true
+is_idle (code.Called p r) = false
+is_idle (code.Holding t) = false
+is_idle (code.Drawn d) = false
+is_idle (code.Waiting s p r) = false
+is_idle (code.Reading n p r left) = false
+is_idle code.Gone = false
+is_idle (code.Left d) = false
+is_idle code.Dropped = false
+
+-- whether the caller's request is still to be decided
+abbrev pub is_undecided : CodePhase → Bool
+is_undecided code.Idle = false
+is_undecided (code.Called p r) = true
+is_undecided (code.Holding t) = true
+is_undecided (code.Drawn d) = false
+is_undecided (code.Waiting s p r) = false
+is_undecided (code.Reading n p r left) = false
+is_undecided code.Gone = false
+is_undecided (code.Left d) = false
+is_undecided code.Dropped = false
+
+abbrev pub is_replying : CodePhase → Bool
+is_replying code.Idle = false
+is_replying (code.Called p r) = false
+is_replying (code.Holding t) = false
+is_replying (code.Drawn d) = false
+is_replying (code.Waiting s p r) = true
+is_replying (code.Reading n p r left) = true
+is_replying code.Gone = false
+is_replying (code.Left d) = false
+is_replying code.Dropped = false
+
+abbrev pub called_in : CodePhase → Option (ℕ × Request)
+called_in code.Idle = None
+called_in (code.Called p r) = Some (p, r)
+called_in (code.Holding t) = None
+called_in (code.Drawn d) = None
+called_in (code.Waiting s p r) = None
+called_in (code.Reading n p r left) = None
+called_in code.Gone = None
+called_in (code.Left d) = None
+called_in code.Dropped = None
+
+abbrev pub holding_in : CodePhase → Option CodeWriting
+holding_in code.Idle = None
+holding_in (code.Called p r) = None
+holding_in (code.Holding t) = Some t
+holding_in (code.Drawn d) = None
+holding_in (code.Waiting s p r) = None
+holding_in (code.Reading n p r left) = None
+holding_in code.Gone = None
+holding_in (code.Left d) = None
+holding_in code.Dropped = None
+
+abbrev pub waiting_in : CodePhase → Option (ℕ × Reply)
+waiting_in code.Idle = None
+waiting_in (code.Called p r) = None
+waiting_in (code.Holding t) = None
+waiting_in (code.Drawn d) = None
+waiting_in (code.Waiting s p r) = Some (s, r)
+waiting_in (code.Reading n p r left) = None
+waiting_in code.Gone = None
+waiting_in (code.Left d) = None
+waiting_in code.Dropped = None
+
+abbrev pub reading_in : CodePhase → Option (ℕ × Request × ℕ)
+reading_in code.Idle = None
+reading_in (code.Called p r) = None
+reading_in (code.Holding t) = None
+reading_in (code.Drawn d) = None
+reading_in (code.Waiting s p r) = None
+reading_in (code.Reading n p r left) = Some (n, r, left)
+reading_in code.Gone = None
+reading_in (code.Left d) = None
+reading_in code.Dropped = None
+
+abbrev pub drawn_in : CodePhase → Option CodeDraw
+drawn_in code.Idle = None
+drawn_in (code.Called p r) = None
+drawn_in (code.Holding t) = None
+drawn_in (code.Drawn d) = Some d
+drawn_in (code.Waiting s p r) = None
+drawn_in (code.Reading n p r left) = None
+drawn_in code.Gone = None
+drawn_in (code.Left d) = Some d
+drawn_in code.Dropped = None
+
+abbrev pub is_called : CodePhase → Bool
+is_called code.Idle = false
+is_called (code.Called p r) = true
+is_called (code.Holding t) = false
+is_called (code.Drawn d) = false
+is_called (code.Waiting s p r) = false
+is_called (code.Reading n p r left) = false
+is_called code.Gone = false
+is_called (code.Left d) = false
+is_called code.Dropped = false
+
+-- ---- the next phase of a caller that draws an index, whose draw is published, that begins to read, for which a shard has
+-- answered, and that crashes; any other phase stays
+abbrev pub with_draw : ℕ → CodePhase → CodePhase
+with_draw i code.Idle = code.Idle
+with_draw i (code.Called p r) = code.Called p r
+with_draw i (code.Holding t) = code.Drawn (record { index = i; writing = t })
+with_draw i (code.Drawn d) = code.Drawn d
+with_draw i (code.Waiting s p r) = code.Waiting s p r
+with_draw i (code.Reading n p r left) = code.Reading n p r left
+with_draw i code.Gone = code.Gone
+with_draw i (code.Left d) = code.Left d
+with_draw i code.Dropped = code.Dropped
+
+abbrev pub published_phase : CodePhase → CodePhase
+published_phase code.Idle = code.Idle
+published_phase (code.Called p r) = code.Called p r
+published_phase (code.Holding t) = code.Holding t
+published_phase (code.Drawn d) = code.Waiting (d.index + 1) d.writing.place (told d.writing.change (d.index + 1))
+published_phase (code.Waiting s p r) = code.Waiting s p r
+published_phase (code.Reading n p r left) = code.Reading n p r left
+published_phase code.Gone = code.Gone
+published_phase (code.Left d) = code.Gone
+published_phase code.Dropped = code.Dropped
+
+abbrev pub begun_phase : ℕ → ℕ → CodePhase → CodePhase
+begun_phase number left code.Idle = code.Idle
+begun_phase number left (code.Called p r) = code.Reading number p r left
+begun_phase number left (code.Holding t) = code.Holding t
+begun_phase number left (code.Drawn d) = code.Drawn d
+begun_phase number left (code.Waiting s p r) = code.Waiting s p r
+begun_phase number left (code.Reading n p r m) = code.Reading n p r m
+begun_phase number left code.Gone = code.Gone
+begun_phase number left (code.Left d) = code.Left d
+begun_phase number left code.Dropped = code.Dropped
+
+abbrev pub parted : CodePhase → CodePhase
+parted code.Idle = code.Idle
+parted (code.Called p r) = code.Called p r
+parted (code.Holding t) = code.Holding t
+parted (code.Drawn d) = code.Drawn d
+parted (code.Waiting s p r) = code.Waiting s p r
+parted (code.Reading n p r left) = code.Reading n p r (left - 1)
+parted code.Gone = code.Gone
+parted (code.Left d) = code.Left d
+parted code.Dropped = code.Dropped
+
+abbrev pub gone_phase : CodePhase → CodePhase
+gone_phase code.Idle = code.Gone
+gone_phase (code.Called p r) = code.Gone
+gone_phase (code.Holding t) = code.Gone
+gone_phase (code.Drawn d) = code.Left d
+gone_phase (code.Waiting s p r) = code.Dropped
+gone_phase (code.Reading n p r left) = code.Gone
+gone_phase code.Gone = code.Gone
+gone_phase (code.Left d) = code.Left d
+gone_phase code.Dropped = code.Dropped
+
+-- the caller is in this phase, and each other where it was
+abbrev pub Enters : Callers → Callers → ℕ → CodePhase → Type 0
+Enters old new c ph = (d : ℕ) → named_phase new d ≡ cond (nat_eq d c) (Some ph) (named_phase old d)
+
+abbrev pub Same : Callers → Callers → Type 0
+Same old new = (d : ℕ) → named_phase new d ≡ named_phase old d
+
+-- ---- what a request that was called reads of now, or at a number, and the floor that it sets
+abbrev pub parts_in : ℕ → Route → Option ℕ
+parts_in shards (gets k) = Some 1
+parts_in shards (lists kind namespace) = Some shards
+parts_in shards (writes k) = None
+parts_in shards (lists_at kind namespace number) = None
+parts_in shards (compacts to) = None
+
+abbrev pub exact_in : Route → Option ℕ
+exact_in (gets k) = None
+exact_in (lists kind namespace) = None
+exact_in (writes k) = None
+exact_in (lists_at kind namespace number) = Some number
+exact_in (compacts to) = None
+
+abbrev pub floor_in : Route → Option ℕ
+floor_in (gets k) = None
+floor_in (lists kind namespace) = None
+floor_in (writes k) = None
+floor_in (lists_at kind namespace number) = None
+floor_in (compacts to) = Some to
+
+-- ---- what is parked
+abbrev pub lot_at : Parking → ℕ → List Waiter
+lot_at parking n = option_map_or (λ lot. lot.items) (get nat_cmp parking.lots n) []
+
+-- those parked at a number, first to last
+abbrev pub waiters_at : ℕ → List Parked → List Waiter
+waiters_at n [] = []
+waiters_at n (p ∷ ps) = cond (nat_eq p.number n) (record { caller = p.caller; place = p.place } ∷ waiters_at n ps) (waiters_at n ps)
+
+-- without those whose caller is gone
+abbrev pub staying : (ℕ → Bool) → List Waiter → List Waiter
+staying gone [] = []
+staying gone (x ∷ xs) = cond (gone x.caller) (staying gone xs) (x ∷ staying gone xs)
+
+-- ---- the pieces together
+abbrev pub shard_at : List Shard → ℕ → Shard
+shard_at shards s = get_or shards s versions.opening
+
+-- the log, by the shards and by the places of the calls of the numbers that are filled
+pub record ShowsLog (z : Size) (log : Log) (drawn : ℕ) (places : List (Option ℕ)) (shards : List Shard) : Type 0 where
+  pub drawn_is : length places ≡ drawn
+  pub filled : (i : ℕ) → get_or places i None ≡ option_map (λ t. t.place) (log i)
+  pub count : length shards ≡ z.shards
+  pub mirrors : (s : ℕ) → s < z.shards → Mirrors z log drawn s (shard_at shards s).records (shard_at shards s).floor
+  pub floors : (s : ℕ) → (shard_at shards s).floor ≡ 0
+
+-- who holds the shards
+pub record ShowsSeats (z : Size) (holder : ℕ → Option ℕ) (holders : List (Option ℕ)) : Type 0 where
+  pub count : length holders ≡ z.shards
+  pub same : (s : ℕ) → s < z.shards → get_or holders s None ≡ holder s
+
+pub record Shows (z : Size) (w : World) (a : Arrangement) (m : Machine) : Type 0 where
+  pub capacity : m.capacity ≡ z.capacity
+  pub small : z.capacity ≤ 1048576
+  pub frontier : m.frontier ≡ w.frontier
+  pub floor : m.floor ≡ w.floor
+  pub place : m.now_at ≡ w.now
+  pub items : m.items.items ≡ w.trace
+  pub order : m.order.items ≡ a.order
+  pub log : ShowsLog z w.log w.drawn m.places.items m.shards.items
+  pub seats : ShowsSeats z w.holder m.holders.items
+  pub phases : (c : ℕ) → IsShown (phase_at m.callers c) (w.phase c)
+  pub parked : (n : ℕ) → waiters_at n a.parked ≡ staying (drops m.callers) (lot_at m.parking n)
+
+-- ---- what one event does
+
+-- whatever was shown is shown still
+unfoldable pub Stays : Machine → Machine → Type 0
+Stays old new = (z : Size) (w : World) (a : Arrangement) → Shows z w a old → Shows z w a new
+
+-- the request of a caller is put into the order, or parked
+unfoldable pub Settles : ℕ → ℕ → ℕ → Machine → Machine → Type 0
+Settles saw c place old new = (z : Size) (w : World) (a : Arrangement) → Shows z w a old → Shows z w (last_or_parked (nat_le saw w.frontier) saw c place a) new
+
+-- and the caller waits
+unfoldable pub Waits : ℕ → ℕ → ℕ → Reply → Machine → Machine → Type 0
+Waits c saw place reply old new = (z : Size) (w : World) (a : Arrangement) → Shows z w a old → Shows z (enters w c (Waiting saw place reply)) (last_or_parked (nat_le saw w.frontier) saw c place a) new
+
+-- the caller's write holds its shard
+unfoldable pub Holds : ℕ → ℕ → Writing → Machine → Machine → Type 0
+Holds c s t old new = (z : Size) (w : World) (a : Arrangement) → Shows z w a old → Shows z (record w { holder = changed w.holder s (Some c); phase = changed w.phase c (Holding t) }) a new
+
+-- the caller begins to read at a number, with so many parts
+unfoldable pub Begins : ℕ → ℕ → ℕ → ℕ → Machine → Machine → Type 0
+Begins c place number left old new = (z : Size) (w : World) (a : Arrangement) (r : Request) (parts : List ℕ) → Shows z w a old → w.phase c ≡ Called place r → length parts ≡ left
+    → Shows z (begun w c number place r parts) (with_last a place) new
+
+-- the caller is told a reply
+unfoldable pub Tells : ℕ → Reply → Machine → Machine → Type 0
+Tells c reply old new = (z : Size) (w : World) (a : Arrangement) → Shows z w a old → Shows z (given w c reply) a new
+
+-- the caller's wait or its read is over, and this is its reply
+unfoldable pub IsTold : Size → World → ℕ → Reply → Phase → Type 0
+IsTold z w c reply ph = (replied z w c ph ≡ given w c reply) × ((a : Arrangement) → moved w.frontier c ph Idle a ≡ a)
+
+-- the reply to a read at a number is that of a store with what was there
+unfoldable pub Answers : ℕ → Request → Reply → Machine → Type 0
+Answers number r reply m = (z : Size) (w : World) (a : Arrangement) → Shows z w a m → Facts z w → reply ≡ (step (only z number (state_at w.log number)) r).1
+
+-- the reply that a caller can be given now, or that it can be given none
+abbrev pub IsDue : ℕ → Option Reply → Machine → Type 0
+IsDue c None m = (z : Size) (w : World) (a : Arrangement) → Shows z w a m → Facts z w → replied z w c (w.phase c) ≡ w
+IsDue c (Some reply) m = (is_replying (phase_at m.callers c) ≡ true) × ((z : Size) (w : World) (a : Arrangement) → Shows z w a m → Facts z w → IsTold z w c reply (w.phase c))
+
+-- a list at a number is read at that number
+abbrev pub IsNumbered : ℕ → Request → Type 0
+IsNumbered n r = (kind : Kind) (namespace : List ℕ) (number : ℕ) → route r ≡ lists_at kind namespace number → number ≡ n
+
+-- the reply to a compaction
+abbrev pub compaction_at : (number to : ℕ) → Option Reason → Reply
+compaction_at number to None = Compacted to
+compaction_at number to (Some reason) = Refused reason
+
+-- the records of each shard
+abbrev pub records_of : Machine → ℕ → Records
+records_of m s = (shard_at m.shards.items s).records
+
+-- the places of those that wait
+abbrev pub places_in : List Waiter → List ℕ
+places_in [] = []
+places_in (x ∷ xs) = x.place ∷ places_in xs
+
+-- a write of an index is put into its shard, its number is filled, and the shard is free
+unfoldable pub Fills : (s index place : ℕ) → Version → Machine → Machine → Type 0
+Fills s i place v old new = (z : Size) (w : World) (a : Arrangement) (t : Writing) → Shows z w a old → t.place ≡ place → v ≡ version_at t.key (kept t.change (suc i)) → shard z t.key ≡ s
+    → i < w.drawn → w.log i ≡ None → ((j : ℕ) → w.drawn ≤ j → w.log j ≡ None)
+    → Shows z (record w { log = changed w.log i (Some t); holder = changed w.holder s None }) a new
+
+-- what is shown is stepped by the event
+unfoldable pub Does : Event → Machine → Machine → Type 0
+Does e old new = (z : Size) (w : World) (a : Arrangement) → Shows z w a old → Facts z w → Shows z (happens z w e) (arranged w e (happens z w e) a) new
+
+-- what the check of a caller comes to
+abbrev pub IsDecision : ℕ → Option Decision → Machine → Type 0
+IsDecision c None m = Does (Check c) m m
+IsDecision c (Some (Wait saw place reply)) m = (is_undecided (phase_at m.callers c) ≡ true) × ((m' : Machine) → Waits c saw place reply m m' → Does (Check c) m m')
+IsDecision c (Some (Hold s t)) m = (is_called (phase_at m.callers c) ≡ true) × ((s < length m.holders.items) × ((m' : Machine) → Holds c s (writing_of t) m m' → Does (Check c) m m'))
+
+-- a machine that some run comes to
+abbrev pub Stands : Machine → Type 0
+Stands m = (z : Size) × ((w : World) × ((a : Arrangement) × (Shows z w a m × Facts z w)))
+
+-- what a reply adds to the trace
+abbrev pub told_at : ℕ → ℕ → Option Reply → List Item
+told_at place caller None = []
+told_at place caller (Some reply) = item.Reply place caller reply ∷ []
+
+-- the caller that an event names
+abbrev pub named_by : Event → Option ℕ
+named_by (event.Call c r) = Some c
+named_by (event.Check c) = Some c
+named_by (event.Reserve c) = Some c
+named_by (event.Publish c) = Some c
+named_by event.Raise = None
+named_by (event.Read c) = Some c
+named_by (event.ReadAt c) = Some c
+named_by (event.Compact c) = Some c
+named_by (event.Part c) = Some c
+named_by (event.Reply c) = Some c
+named_by (event.Crash c) = Some c
+
+-- only a Reply is answered, by what it adds to the trace
+abbrev pub IsAnswer : Event → Machine → Machine → Option Reply → Type 0
+IsAnswer (event.Call c r) old new told = told ≡ None
+IsAnswer (event.Check c) old new told = told ≡ None
+IsAnswer (event.Reserve c) old new told = told ≡ None
+IsAnswer (event.Publish c) old new told = told ≡ None
+IsAnswer event.Raise old new told = told ≡ None
+IsAnswer (event.Read c) old new told = told ≡ None
+IsAnswer (event.ReadAt c) old new told = told ≡ None
+IsAnswer (event.Compact c) old new told = told ≡ None
+IsAnswer (event.Part c) old new told = told ≡ None
+IsAnswer (event.Reply c) old new told = new.items.items ≡ old.items.items ++ told_at old.now_at c told
+IsAnswer (event.Crash c) old new told = told ≡ None
+
+-- what is shown is stepped by the event, and its place is taken
+unfoldable pub Steps : Event → Machine → Machine → Type 0
+Steps e old new = (z : Size) (w : World) (a : Arrangement) → Shows z w a old → Facts z w → Shows z (step_world z w e) (arranged w e (step_world z w e) a) new
+
+-- the machine of a run of these events
+pub record IsRun (z : Size) (events : List Event) (m : Machine) : Type 0 where
+  pub some : 0 < z.shards
+  pub count : m.now_at ≡ length events
+  pub shows : Shows z (after z opening events) (arrangement z opening beginning events) m

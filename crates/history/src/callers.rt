@@ -1,0 +1,257 @@
+ghost use Rattle.std.specs.Prelude.{◌≡◌, ◌≢◌, ◌==◌, ◌+◌, ◌<◌, ℕ, true, None, Some, IfSome, IsSomeAnd, OnOk, OnErr, option_map, if◌then◌else◌};
+ghost use Rattle.std.specs.Option.{option_copied};
+ghost use Rattle.requests.specs.Change.{version_of};
+ghost use Rattle.history.specs.declared.phase.Phase.TheVariants.{Idle};
+ghost use Rattle.history.specs.Replayed.{Enters, Same, begun_phase, called_in, drawn_in, drops, gone_phase, holding_in, is_idle, named_phase, parted, phase_at, published_phase, reading_in, waiting_in, with_draw};
+
+use crate::phase::{Draw, Phase, Writing};
+use objects::Memory;
+use requests::{Reply, Request, Version};
+use std::alloc::Global;
+use std::collections::BTreeMap;
+
+/// Where each caller stands. One that no event has named yet is idle.
+#[derive(Drop)]
+pub(crate) struct Callers {
+    pub phases: BTreeMap<u64, Phase>,
+}
+
+impl Callers {
+    pub(crate) fn new(alloc: Global) -> Callers
+        ensures { (c : ℕ) → named_phase result c ≡ None }
+    {
+        Callers {
+            phases: BTreeMap::new(alloc),
+        }
+    }
+
+    /// Where a caller stands, if an event has named it.
+    pub(crate) fn phase(&self, caller: u64) -> Option<&Phase>
+        ensures { option_copied result ≡ named_phase self.now caller }
+    {
+        self.phases.get(&caller)
+    }
+
+    pub(crate) fn is_idle(&self, caller: u64) -> bool
+        ensures { result ≡ is_idle (phase_at self.now caller) }
+    {
+        match self.phase(caller) {
+            None | Some(Phase::Idle) => true,
+            _ => false,
+        }
+    }
+
+    /// Whether the caller went while its reply waited.
+    pub(crate) fn is_dropped(&self, caller: u64) -> bool
+        ensures { result ≡ drops self.now caller }
+    {
+        match self.phase(caller) {
+            Some(Phase::Dropped) => true,
+            _ => false,
+        }
+    }
+
+    /// Makes room for a caller that is named for the first time.
+    pub(crate) fn admit(&mut self, caller: u64) -> Result<(), Memory>
+        ensures admitted { OnOk result (Enters self.old self.new caller Idle) }
+        ensures memory { OnErr result (Same self.old self.new) }
+    {
+        drop(self.phases.insert(caller, Phase::Idle)?);
+        Ok(())
+    }
+
+    /// Forgets a caller that is idle.
+    pub(crate) fn dismiss(&mut self, caller: u64)
+        ensures { (c : ℕ) → named_phase self.new c ≡ (if c == caller then None else named_phase self.old c) }
+    {
+        drop(self.phases.remove(&caller));
+    }
+
+    /// The caller's next phase, in the place of the one that is handed back.
+    pub(crate) fn enter(&mut self, caller: u64, phase: Phase) -> Phase
+        requires { named_phase self.old caller ≢ None }
+        ensures before { named_phase self.old caller ≡ Some result }
+        ensures entered { Enters self.old self.new caller phase }
+    {
+        match self.phases.insert(caller, phase) {
+            Ok(Some(before)) => before,
+            _ => unreachable!(),
+        }
+    }
+}
+
+impl Callers {
+    /// The request of a caller, and the place of its call, while nothing is done about it yet.
+    pub(crate) fn called(&self, caller: u64) -> Option<(u64, &Request)>
+        ensures { option_map (λ p. (p.0, p.1.now)) result ≡ called_in (phase_at self.now caller) }
+    {
+        match self.phase(caller) {
+            Some(Phase::Called { place, request }) => Some((*place, request)),
+            _ => None,
+        }
+    }
+
+    /// The write of a caller that holds its shard and has drawn no number.
+    pub(crate) fn holding(&self, caller: u64) -> Option<&Writing>
+        ensures { option_copied result ≡ holding_in (phase_at self.now caller) }
+    {
+        match self.phase(caller) {
+            Some(Phase::Holding(writing)) => Some(writing),
+            _ => None,
+        }
+    }
+
+    /// The number that a caller waits for, and its reply.
+    pub(crate) fn waiting(&self, caller: u64) -> Option<(u64, &Reply)>
+        ensures { option_map (λ p. (p.0, p.1.now)) result ≡ waiting_in (phase_at self.now caller) }
+    {
+        match self.phase(caller) {
+            Some(
+                Phase::Waiting {
+                    saw,
+                    place: _,
+                    reply,
+                },
+            ) => Some((*saw, reply)),
+            _ => None,
+        }
+    }
+
+    /// The number of a read, its request, and how many shards have still to answer.
+    pub(crate) fn reading(&self, caller: u64) -> Option<(u64, &Request, usize)>
+        ensures { option_map (λ p. (p.0, p.1.now, p.2)) result ≡ reading_in (phase_at self.now caller) }
+    {
+        match self.phase(caller) {
+            Some(
+                Phase::Reading {
+                    number,
+                    place: _,
+                    request,
+                    left,
+                },
+            ) => Some((*number, request, *left)),
+            _ => None,
+        }
+    }
+
+    /// The draw of a caller, also of one that is gone, if it is not published yet.
+    pub(crate) fn drawn(&self, caller: u64) -> Option<&Draw>
+        ensures { option_copied result ≡ drawn_in (phase_at self.now caller) }
+    {
+        match self.phase(caller) {
+            Some(Phase::Drawn(draw) | Phase::Left(draw)) => Some(draw),
+            _ => None,
+        }
+    }
+
+    /// The caller's write draws an index.
+    pub(crate) fn draw(&mut self, caller: u64, index: usize)
+        requires { named_phase self.old caller ≢ None }
+        ensures { Enters self.old self.new caller (with_draw index (phase_at self.old caller)) }
+    {
+        match self.enter(caller, Phase::Idle) {
+            Phase::Holding(writing) => {
+                drop(self.enter(caller, Phase::Drawn(Draw { index, writing })));
+            }
+            before => drop(self.enter(caller, before)),
+        }
+    }
+
+    /// The caller's draw is published: what is stored, while the caller waits with its reply, or is gone.
+    #[tactic(auto, unfolding(crate::specs::Step::told))]
+    pub(crate) fn publish(&mut self, caller: u64) -> Version
+        requires { IsSomeAnd (drawn_in (phase_at self.old caller)) (λ draw. draw.index < 1048576) }
+        ensures version { IfSome (drawn_in (phase_at self.old caller)) (λ draw. result ≡ version_of draw.writing.change (draw.index + 1)) }
+        ensures entered { Enters self.old self.new caller (published_phase (phase_at self.old caller)) }
+    {
+        match self.enter(caller, Phase::Gone) {
+            Phase::Drawn(draw) => {
+                let Draw { index, writing } = draw;
+                let Writing { place, key, change } = writing;
+                drop(key);
+                let saw = index as u64 + 1;
+                let (version, reply) = change.stamp(saw);
+                drop(self.enter(caller, Phase::Waiting { saw, place, reply }));
+                version
+            }
+            Phase::Left(draw) => {
+                let Draw { index, writing } = draw;
+                let Writing {
+                    place: _,
+                    key,
+                    change,
+                } = writing;
+                drop(key);
+                let (version, reply) = change.stamp(index as u64 + 1);
+                drop(reply);
+                version
+            }
+            _ => unreachable!(),
+        }
+    }
+
+    /// The caller's request begins to read at a number.
+    pub(crate) fn begin(&mut self, caller: u64, number: u64, left: usize)
+        requires { named_phase self.old caller ≢ None }
+        ensures { Enters self.old self.new caller (begun_phase number left (phase_at self.old caller)) }
+    {
+        match self.enter(caller, Phase::Idle) {
+            Phase::Called { place, request } => {
+                let begun = Phase::Reading {
+                    number,
+                    place,
+                    request,
+                    left,
+                };
+                drop(self.enter(caller, begun));
+            }
+            before => drop(self.enter(caller, before)),
+        }
+    }
+
+    /// A shard has answered a read.
+    pub(crate) fn part(&mut self, caller: u64)
+        requires { named_phase self.old caller ≢ None }
+        ensures { Enters self.old self.new caller (parted (phase_at self.old caller)) }
+    {
+        match self.enter(caller, Phase::Idle) {
+            Phase::Reading {
+                number,
+                place,
+                request,
+                left,
+            } => {
+                let rest = Phase::Reading {
+                    number,
+                    place,
+                    request,
+                    left: left.saturating_sub(1),
+                };
+                drop(self.enter(caller, rest));
+            }
+            before => drop(self.enter(caller, before)),
+        }
+    }
+
+    /// The caller is gone.
+    pub(crate) fn crash(&mut self, caller: u64)
+        requires { named_phase self.old caller ≢ None }
+        ensures { Enters self.old self.new caller (gone_phase (phase_at self.old caller)) }
+    {
+        match self.enter(caller, Phase::Gone) {
+            Phase::Drawn(draw) | Phase::Left(draw) => {
+                drop(self.enter(caller, Phase::Left(draw)));
+            }
+            Phase::Waiting {
+                saw: _,
+                place: _,
+                reply,
+            } => {
+                drop(reply);
+                drop(self.enter(caller, Phase::Dropped));
+            }
+            Phase::Dropped => drop(self.enter(caller, Phase::Dropped)),
+            before => drop(before),
+        }
+    }
+}

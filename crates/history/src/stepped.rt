@@ -1,0 +1,241 @@
+ghost use Rattle.std.specs.Prelude.{◌≡◌, ◌≢◌, ◌+◌, ◌-◌, ◌^◌, ◌<◌, ◌≤◌, ◌↔◌, ◌++◌, ◌∷◌, [], ℕ, List, length, None, Some, OnOk, OnErr, IfOk, IfSome, IfErr, IsErrOf, IsTrue};
+ghost use Rattle.history.specs.After.{IsAfter, IsReached, IsReplyTo, IsRunOf, taken};
+ghost use Rattle.history.specs.declared.event.Event.{Event};
+ghost use Rattle.history.specs.World.{Idle, Size, opening};
+ghost use Rattle.history.specs.Trace.{after};
+ghost use Rattle.history.specs.Replayed.{Does, IsAnswer, IsRun, Stands, Stays, Steps, named_by, named_phase, shard_at};
+ghost use Rattle.versions.specs.Shard.{opening as fresh};
+ghost use Rattle.history.specs.declared.replay_error.ReplayError.TheVariants.{Memory as OutOfMemory};
+
+use crate::callers::Callers;
+use crate::event::Event;
+use crate::machine::Machine;
+use crate::parking::Parking;
+use crate::replay_error::ReplayError;
+use crate::replaying::Replay;
+use crate::trace::{Run, Trace};
+use objects::Memory;
+use requests::Reply;
+use std::alloc::Global;
+use versions::Shard;
+
+/// The most shards that a run may have.
+pub const MOST_SHARDS: usize = 64;
+
+/// The most numbers that a run may draw.
+pub const MOST_NUMBERS: u64 = 1_048_576;
+
+/// The most callers that the events of a run may name.
+pub const MOST_CALLERS: usize = 4096;
+
+impl Replay {
+    /// A run before its first event.
+    pub fn new(alloc: Global, shards: usize, capacity: u64) -> Result<Replay, ReplayError>
+        ensures opened { IfOk result (λ replay. IsAfter (record { capacity = capacity; shards = shards }) [] replay) }
+        ensures bad_shards { IsErrOf result ReplayError.BadShards ↔ (1 ≤ shards → 64 < shards) }
+        ensures bad_capacity { IsErrOf result ReplayError.BadCapacity ↔ ((1 ≤ shards) × (shards ≤ 64) × (1 ≤ capacity → 1048576 < capacity)) }
+    {
+        if shards < 1 || MOST_SHARDS < shards {
+            return Err(ReplayError::BadShards);
+        }
+        if capacity < 1 || MOST_NUMBERS < capacity {
+            return Err(ReplayError::BadCapacity);
+        }
+        let machine = opened(alloc, shards, capacity)?;
+        Ok(Replay { machine })
+    }
+
+    /// One event; one that is not enabled changes nothing but the place of the next. The reply of a `Reply` that is
+    /// enabled, and nothing for any other event. At a refusal all is as it was: the event names a 4,097th caller, or memory
+    /// ran out.
+    pub fn step(&mut self, event: &Event) -> Result<Option<Reply>, ReplayError>
+        requires reached { IsReached self.old }
+        requires room { taken self.old < 2 ^ 64 - 1 }
+        ensures done { (size : Size) (events : List Event) → IsAfter size events self.old → OnOk result (IsAfter size (events ++ event.now ∷ []) self.new) }
+        ensures told { (size : Size) (events : List Event) → IsAfter size events self.old → IfOk result (λ told. IsReplyTo size events event.now told) }
+        ensures refused { (size : Size) (events : List Event) → IsAfter size events self.old → OnErr result (IsAfter size events self.new) }
+        ensures count { OnOk result (taken self.new ≡ taken self.old + 1) }
+    {
+        self.machine.step(event)
+    }
+
+    /// How many events there were, enabled or not.
+    pub fn events(&self) -> u64
+        ensures taken { result ≡ taken self.now }
+        ensures count { (size : Size) (events : List Event) → IsAfter size events self.now → result ≡ length events }
+    {
+        self.machine.now_at
+    }
+
+    /// Whether the caller is idle: it waits for no reply, and is not gone.
+    pub fn idle(&self, caller: u64) -> bool
+        ensures { (size : Size) (events : List Event) → IsAfter size events self.now → IsTrue result ↔ ((after size opening events).phase caller ≡ Idle) }
+    {
+        self.machine.callers.is_idle(caller)
+    }
+
+    /// The run so far. It takes no memory.
+    pub fn finish(self) -> Run
+        ensures { (size : Size) (events : List Event) → IsAfter size events self → IsRunOf size events result }
+    {
+        let Replay { machine } = self;
+        let Machine {
+            capacity,
+            shards,
+            holders,
+            callers,
+            places,
+            parking,
+            frontier: _,
+            floor: _,
+            now_at: _,
+            items,
+            order,
+            alloc: _,
+        } = machine;
+        drop(shards);
+        drop(holders);
+        drop(callers);
+        drop(places);
+        drop(parking);
+        Run {
+            trace: Trace { capacity, items },
+            order,
+        }
+    }
+}
+
+/// So many shards with no records.
+fn new_shards(alloc: Global, shards: usize) -> Result<Vec<Shard>, ReplayError>
+    ensures made { IfOk result (λ held. (length held.items ≡ shards) × ((s : ℕ) → shard_at held.items s ≡ fresh)) }
+    ensures memory { IfErr result (λ reason. reason ≡ OutOfMemory) }
+{
+    let mut held = Vec::new(alloc);
+    for _ in 0..shards {
+        held.push(Shard::new(alloc))?;
+    }
+    Ok(held)
+}
+
+/// The pieces of a world in which nothing has happened.
+fn opened(alloc: Global, shards: usize, capacity: u64) -> Result<Machine, ReplayError>
+    requires { (0 < shards) × (capacity ≤ 1048576) }
+    ensures opened { IfOk result (λ machine. IsRun (record { capacity = capacity; shards = shards }) [] machine) }
+    ensures memory { IfErr result (λ reason. reason ≡ OutOfMemory) }
+{
+    let held = new_shards(alloc, shards)?;
+    let holders = vec![in alloc; None; shards]?;
+    Ok(Machine {
+        capacity,
+        shards: held,
+        holders,
+        callers: Callers::new(alloc),
+        places: Vec::new(alloc),
+        parking: Parking::new(alloc),
+        frontier: 0,
+        floor: 0,
+        now_at: 0,
+        items: Vec::new(alloc),
+        order: Vec::new(alloc),
+        alloc,
+    })
+}
+
+impl Machine {
+    /// One event, and the place of the next one. At a refusal all is as it was.
+    pub(crate) fn step(&mut self, event: &Event) -> Result<Option<Reply>, ReplayError>
+        requires stands { Stands self.old }
+        requires room { self.old.now_at < 2 ^ 64 - 1 }
+        ensures done { OnOk result (Steps event.now self.old self.new) }
+        ensures count { OnOk result (self.new.now_at ≡ self.old.now_at + 1) }
+        ensures told { IfOk result (λ told. IsAnswer event.now self.old self.new told) }
+        ensures memory { OnErr result (Stays self.old self.new) }
+    {
+        let told = self.dispatch(event)?;
+        self.now_at += 1;
+        Ok(told)
+    }
+
+    /// One event, whoever its caller.
+    fn dispatch(&mut self, event: &Event) -> Result<Option<Reply>, ReplayError>
+        requires { Stands self.old }
+        ensures done { OnOk result (Does event.now self.old self.new) }
+        ensures place { self.new.now_at ≡ self.old.now_at }
+        ensures told { IfOk result (λ told. IsAnswer event.now self.old self.new told) }
+        ensures memory { OnErr result (Stays self.old self.new) }
+    {
+        match caller_of(event) {
+            Some(caller) => self.step_of(caller, event),
+            None => Ok(self.take(event)?),
+        }
+    }
+
+    /// An event of a caller. One that is named for the first time is admitted, and forgotten where the event is refused.
+    fn step_of(&mut self, caller: u64, event: &Event) -> Result<Option<Reply>, ReplayError>
+        requires stands { Stands self.old }
+        requires caller { named_by event.now ≡ Some caller }
+        ensures done { OnOk result (Does event.now self.old self.new) }
+        ensures place { self.new.now_at ≡ self.old.now_at }
+        ensures told { IfOk result (λ told. IsAnswer event.now self.old self.new told) }
+        ensures memory { OnErr result (Stays self.old self.new) }
+    {
+        if self.callers.phase(caller).is_some() {
+            return Ok(self.take(event)?);
+        }
+        if self.callers.phases.len() == MOST_CALLERS {
+            return Err(ReplayError::TooManyCallers);
+        }
+        self.callers.admit(caller)?;
+        match self.take(event) {
+            Ok(told) => Ok(told),
+            Err(Memory) => {
+                self.callers.dismiss(caller);
+                Err(ReplayError::Memory)
+            }
+        }
+    }
+
+    /// An event whose caller, if it has one, is known.
+    fn take(&mut self, event: &Event) -> Result<Option<Reply>, Memory>
+        requires stands { Stands self.old }
+        requires named { IfSome (named_by event.now) (λ c. named_phase self.old.callers c ≢ None) }
+        ensures done { OnOk result (Does event.now self.old self.new) }
+        ensures place { self.new.now_at ≡ self.old.now_at }
+        ensures told { IfOk result (λ told. IsAnswer event.now self.old self.new told) }
+        ensures memory { OnErr result (Stays self.old self.new) }
+    {
+        match event {
+            Event::Call(caller, request) => self.call(*caller, request)?,
+            Event::Check(caller) => self.check(*caller)?,
+            Event::Reserve(caller) => self.reserve(*caller)?,
+            Event::Publish(caller) => self.publish(*caller)?,
+            Event::Raise => self.raise()?,
+            Event::Read(caller) => self.read(*caller)?,
+            Event::ReadAt(caller) => self.read_at(*caller)?,
+            Event::Compact(caller) => self.compact(*caller)?,
+            Event::Part(caller) => self.part(*caller),
+            Event::Reply(caller) => return self.reply(*caller),
+            Event::Crash(caller) => self.crash(*caller),
+        }
+        Ok(None)
+    }
+}
+
+/// The caller that an event names.
+fn caller_of(event: &Event) -> Option<u64>
+    ensures { result ≡ named_by event.now }
+{
+    match event {
+        Event::Call(caller, _)
+        | Event::Check(caller)
+        | Event::Reserve(caller)
+        | Event::Publish(caller)
+        | Event::Read(caller)
+        | Event::ReadAt(caller)
+        | Event::Compact(caller)
+        | Event::Part(caller)
+        | Event::Reply(caller)
+        | Event::Crash(caller) => Some(*caller),
+        Event::Raise => None,
+    }
+}
