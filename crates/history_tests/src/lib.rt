@@ -3,11 +3,17 @@
 #![tactic(auto)]
 
 #[cfg(test)]
+mod crashes;
+#[cfg(test)]
 mod growths;
+#[cfg(test)]
+mod limits;
 #[cfg(test)]
 mod orders;
 #[cfg(test)]
 mod replays;
+#[cfg(test)]
+mod runs;
 #[cfg(test)]
 mod strangers;
 #[cfg(test)]
