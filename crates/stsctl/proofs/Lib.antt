@@ -1,3 +1,5 @@
 pub mod Asked
-pub mod Capacity
+pub mod Grammars
+pub mod Planned
+pub mod Ranges
 pub mod Serving

@@ -1,9 +1,10 @@
--- What the program takes, as `clap` reads it: `serve [--capacity N]`. `clap` adds help and the version.
-use Rattle.std.specs.Prelude.{◌≡◌, ◌<◌, ◌^◌, ℕ, Bool, true, false, List, [], Option, Some, None, codes, if◌then◌else◌}
+-- What the program takes, as `clap` reads it: `serve [--capacity N]` and `plan --set NAME [--namespace NS] [--digits H]`.
+-- `clap` adds help and the version.
+use Rattle.std.specs.Prelude.{◌≡◌, ◌≤◌, ◌<◌, ◌^◌, ℕ, Bool, true, false, List, [], Option, Some, None, codes, if◌then◌else◌}
 use Rattle.std.specs.Option.{option_map_or}
 use Rattle.std.specs.Str.{bytes_eq}
 use Rattle.std.specs.Str.Parse.{IsNumeral, digits_value, without_leading_plus}
-use Rattle.clap.specs.Words.{App, Kinds, Row, Rule, Text, fault_of, new_app, new_rule, one_of, subcommand_of, with_rule, with_subcommand}
+use Rattle.clap.specs.Words.{App, Kinds, Row, Rule, Text, fault_of, first_of, new_app, new_rule, one_of, subcommand_of, with_rule, with_subcommand}
 use Rattle.clap.specs.Simple.{new_shape}
 use Rattle.clap.specs.declared.builder.value_parser.ValueParser.TheVariants as parsers
 use Rattle.clap.specs.declared.error.kind.ErrorKind.{ErrorKind}
@@ -19,22 +20,53 @@ capacity_rule = record (new_rule (codes "capacity")) {
 abbrev pub serve_app : App
 serve_app = with_rule (new_app (codes "serve")) capacity_rule
 
-abbrev pub stsctl_app : App
-stsctl_app = with_subcommand
-    (record (new_app (codes "stsctl")) { top = record (new_shape (codes "stsctl")) { has_version = true; subcommand_required = true } })
-    serve_app.top
+abbrev pub set_rule : Rule
+set_rule = record (new_rule (codes "set")) { long = Some (codes "set"); value_names = 1; required = true }
 
--- why the words, the program's name first, ask for no serving: nothing where they do ask for it
+abbrev pub namespace_rule : Rule
+namespace_rule = record (new_rule (codes "namespace")) { long = Some (codes "namespace"); value_names = 1 }
+
+abbrev pub digits_rule : Rule
+digits_rule = record (new_rule (codes "digits")) {
+  long = Some (codes "digits");
+  value_names = 1;
+  parser = Some (parsers.Unsigned 1 64);
+}
+
+abbrev pub plan_app : App
+plan_app = with_rule (with_rule (with_rule (new_app (codes "plan")) set_rule) namespace_rule) digits_rule
+
+abbrev pub stsctl_app : App
+stsctl_app = with_subcommand (with_subcommand
+    (record (new_app (codes "stsctl")) { top = record (new_shape (codes "stsctl")) { has_version = true; subcommand_required = true } })
+    serve_app.top) plan_app.top
+
+-- why the words, the program's name first, ask for nothing that the program does: nothing where they do ask for it
 unfoldable pub faults_of : List Text → Kinds
 faults_of words = fault_of stsctl_app words
 
--- what `serve` is given, option by option
-abbrev pub rows_of_serve : Option (Text × List Row) → List Row
-rows_of_serve entered = option_map_or (λ e. if bytes_eq e.0 (codes "serve") then e.1 else []) entered []
+-- what this subcommand is given, option by option
+abbrev pub rows_under : Text → Option (Text × List Row) → List Row
+rows_under word entered = option_map_or (λ e. if bytes_eq e.0 word then e.1 else []) entered []
+
+abbrev pub is_under : Text → Option (Text × List Row) → Bool
+is_under word entered = option_map_or (λ e. bytes_eq e.0 word) entered false
+
+-- the words name this subcommand
+unfoldable pub asks_to : Text → List Text → Bool
+asks_to word words = is_under word (subcommand_of stsctl_app words)
 
 -- the text after `--capacity`, if the words have one
 unfoldable pub capacity_text : List Text → Option Text
-capacity_text words = one_of (codes "capacity") (rows_of_serve (subcommand_of stsctl_app words))
+capacity_text words = one_of (codes "capacity") (rows_under (codes "serve") (subcommand_of stsctl_app words))
+
+-- the text after this option of `plan`, if the words have one
+unfoldable pub plan_text : Text → List Text → Option Text
+plan_text option words = first_of option (rows_under (codes "plan") (subcommand_of stsctl_app words))
+
+-- the number after `--digits`, as text
+unfoldable pub digits_text : List Text → Option Text
+digits_text words = one_of (codes "digits") (rows_under (codes "plan") (subcommand_of stsctl_app words))
 
 -- The store has room for as many revisions as the text says in decimal digits, or else for as many as there may be. Where
 -- the text is no such number, the words have a fault.
@@ -47,6 +79,14 @@ IsCapacityBy (Some text) capacity =
 -- the words ask for a store with room for so many revisions
 abbrev pub AsksFor : List Text → ℕ → Type 0
 AsksFor words capacity = IsCapacityBy (capacity_text words) capacity
+
+-- The name of a new revision gets as many hex digits of its hash as the text says, or else 10. Where the text is no number
+-- from 1 to 64, the words have a fault.
+abbrev pub IsDigitsBy : Option Text → ℕ → Type 0
+IsDigitsBy None digits = digits ≡ 10
+IsDigitsBy (Some text) digits =
+    IsNumeral 10 (without_leading_plus text) → 1 ≤ digits_value 10 (without_leading_plus text)
+    → digits_value 10 (without_leading_plus text) ≤ 64 → digits ≡ digits_value 10 (without_leading_plus text)
 
 -- the words ask for help or for the version
 abbrev pub is_request : ErrorKind → Bool

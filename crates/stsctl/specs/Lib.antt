@@ -1,2 +1,5 @@
+pub mod Asked
 pub mod Grammar
+pub mod Halts
+pub mod Planning
 pub mod Serving

@@ -1,12 +1,19 @@
-//! `stsctl`: serves requests to a plain in-memory store, a line of standard input to a line of standard output.
+//! `stsctl`: serves requests to a plain in-memory store, a line of standard input to a line of standard output, and plans
+//! what a StatefulSet calls for.
 #![tactic(auto)]
 
 mod command;
+mod explain;
+mod halt;
+mod plan;
+mod serve;
+mod status;
 #[cfg(test)]
 mod tests;
+mod words;
 
-use command::Heap;
 use plain::{ReadSource, WriteSink};
+use status::Heap;
 use std::process::ExitCode;
 use std::{env, io};
 

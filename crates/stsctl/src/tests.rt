@@ -1,13 +1,13 @@
 //! The exit statuses and the texts, over readers and writers in memory.
 mod answered;
 mod asserts;
+mod planned;
 mod words;
 
-use crate::command::{Heap, command};
-use crate::tests::asserts::{outcome_of, outcome_over};
+use crate::command::command;
+use crate::status::Heap;
+use crate::tests::asserts::{Broken, Shut, outcome_of, outcome_over};
 use plain::{ReadSource, WriteSink};
-use std::io;
-use std::io::{Read, Write};
 use std::test::Fail;
 
 const CREATE: &str =
@@ -34,33 +34,6 @@ const UPDATED: &str = "{\"code\":200,\"object\":{\"kind\":\"Pod\",\"metadata\":{
 \"uid\":\"00000000-0000-4000-8000-000000000001\"}},\"result\":\"Updated\"}\n";
 
 const FULL: &str = "{\"code\":507,\"reason\":\"StoreFull\"}\n";
-
-/// Gives its bytes, and then fails.
-#[derive(Drop)]
-struct Broken<'a>(&'a [u8]);
-
-impl Read for Broken<'_> {
-    fn read(&mut self, room: &mut [u8]) -> io::Result<usize> {
-        if self.0.is_empty() {
-            return Err(io::Error::from(io::ErrorKind::BrokenPipe));
-        }
-        self.0.read(room)
-    }
-}
-
-/// Takes nothing.
-#[derive(Drop)]
-struct Shut;
-
-impl Write for Shut {
-    fn write(&mut self, _bytes: &[u8]) -> io::Result<usize> {
-        Err(io::Error::from(io::ErrorKind::BrokenPipe))
-    }
-
-    fn flush(&mut self) -> io::Result<()> {
-        Ok(())
-    }
-}
 
 fn contains(text: &[u8], part: &str) -> bool {
     match str::from_utf8(text) {

@@ -1,13 +1,42 @@
 //! What tests run, and what they assert of a run. Tests hand on references: a large value that a function lets go of is
 //! proved to be let go of at each way out.
-use crate::command::{Heap, command};
+use crate::command::command;
+use crate::status::Heap;
 use plain::{ReadSource, WriteSink};
 use std::alloc::{AllocError, Global};
-use std::io::Read;
+use std::io;
+use std::io::{Read, Write};
 use std::process::Abort;
 
 /// A request, for those who must not read it.
 const UNREAD: &str = r#"{"do":"list","kind":"Pod"}"#;
+
+/// Gives its bytes, and then fails.
+#[derive(Drop)]
+pub(crate) struct Broken<'a>(pub(crate) &'a [u8]);
+
+impl Read for Broken<'_> {
+    fn read(&mut self, room: &mut [u8]) -> io::Result<usize> {
+        if self.0.is_empty() {
+            return Err(io::Error::from(io::ErrorKind::BrokenPipe));
+        }
+        self.0.read(room)
+    }
+}
+
+/// Takes nothing.
+#[derive(Drop)]
+pub(crate) struct Shut;
+
+impl Write for Shut {
+    fn write(&mut self, _bytes: &[u8]) -> io::Result<usize> {
+        Err(io::Error::from(io::ErrorKind::BrokenPipe))
+    }
+
+    fn flush(&mut self) -> io::Result<()> {
+        Ok(())
+    }
+}
 
 /// What a run came to.
 #[derive(Drop)]
@@ -95,7 +124,20 @@ pub(crate) fn assert_says(
     written: &str,
     faults: &str,
 ) {
-    let outcome = outcome_of(alloc, words, UNREAD);
+    assert_ends(rt, alloc, words, UNREAD, status, written, faults);
+}
+
+/// Asserts the status and the texts of a run by these words on this input.
+pub(crate) fn assert_ends(
+    rt: &impl Abort,
+    alloc: Global,
+    words: &[&str],
+    input: &str,
+    status: u8,
+    written: &str,
+    faults: &str,
+) {
+    let outcome = outcome_of(alloc, words, input);
     assert_eq!(rt; outcome.status, status, "{words:?}");
     assert_eq!(rt; shown(outcome.written.as_slice()), written, "{words:?}");
     assert_eq!(rt; shown(outcome.faults.as_slice()), faults, "{words:?}");

@@ -2,12 +2,13 @@
 //! fault stream. The texts are those of the README.
 use crate::tests::asserts::assert_says;
 
-const HELP: &str = "A plain in-memory store of Kubernetes objects
+const HELP: &str = "A plain in-memory store of Kubernetes objects, and plans of StatefulSets
 
 Usage: stsctl <COMMAND>
 
 Commands:
   serve  Answers each request line of standard input with a line of standard output
+  plan   Prints the actions that the objects on standard input call for, each on a line
   help   Print this message or the help of the given subcommand(s)
 
 Options:
@@ -23,6 +24,18 @@ Usage: stsctl serve [OPTIONS]
 Options:
       --capacity <N>  How many revisions the store may draw, from 1 to 1048576 [default: 1048576]
   -h, --help          Print help
+";
+
+const HELP_ON_PLAN: &str =
+    "Prints the actions that the objects on standard input call for, each on a line
+
+Usage: stsctl plan [OPTIONS] --set <NAME>
+
+Options:
+      --set <NAME>      The name of the set that is planned
+      --namespace <NS>  The namespace of the set [default: default]
+      --digits <H>      How many hex digits of its hash the name of a new revision gets, from 1 to 64 [default: 10]
+  -h, --help            Print help
 ";
 
 #[test]
@@ -45,6 +58,18 @@ fn help_on_serve_is_the_text_of_the_readme(rt: HostRuntime) {
 }
 
 #[test]
+fn help_on_plan_is_the_text_of_the_reference(rt: HostRuntime) {
+    let cases: [&[&str]; 3] = [
+        &["stsctl", "plan", "--help"],
+        &["stsctl", "plan", "-h"],
+        &["stsctl", "help", "plan"],
+    ];
+    for words in cases {
+        assert_says(&rt, rt.alloc(), words, 0, HELP_ON_PLAN, "");
+    }
+}
+
+#[test]
 fn the_version_is_a_line(rt: HostRuntime) {
     assert_says(
         &rt,
@@ -63,7 +88,7 @@ fn a_command_that_is_missing_or_unknown(rt: HostRuntime) {
         (
             &["stsctl"],
             "error: 'stsctl' requires a subcommand but one was not provided
-  [subcommands: serve, help]
+  [subcommands: serve, plan, help]
 
 Usage: stsctl <COMMAND>
 
@@ -162,6 +187,57 @@ For more information, try '--help'.
         (
             &["stsctl", "serve", "--capacity"],
             "error: a value is required for '--capacity <N>' but none was supplied
+
+For more information, try '--help'.
+",
+        ),
+    ];
+    for (words, reason) in cases {
+        assert_says(&rt, rt.alloc(), words, 2, "", reason);
+    }
+}
+
+#[test]
+fn words_that_plan_does_not_take(rt: HostRuntime) {
+    let cases: [(&[&str], &str); 5] = [
+        (
+            &["stsctl", "plan"],
+            "error: the following required arguments were not provided:
+  --set <NAME>
+
+Usage: stsctl plan --set <NAME>
+
+For more information, try '--help'.
+",
+        ),
+        (
+            &["stsctl", "plan", "--set", "web", "extra"],
+            "error: unexpected argument 'extra' found
+
+Usage: stsctl plan [OPTIONS] --set <NAME>
+
+For more information, try '--help'.
+",
+        ),
+        (
+            &["stsctl", "plan", "--set", "web", "--set", "db"],
+            "error: the argument '--set <NAME>' cannot be used multiple times
+
+Usage: stsctl plan [OPTIONS] --set <NAME>
+
+For more information, try '--help'.
+",
+        ),
+        (
+            &["stsctl", "plan", "--set", "web", "--digits", "0"],
+            "error: invalid value '0' for '--digits <H>': 0 is not in 1..=64
+
+For more information, try '--help'.
+",
+        ),
+        (
+            &["stsctl", "plan", "--set", "web", "--digits", "65"],
+            "error: invalid value '65' for '--digits <H>': 65 is not in 1..=64
 
 For more information, try '--help'.
 ",

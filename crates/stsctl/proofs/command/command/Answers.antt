@@ -1,16 +1,20 @@
-use Rattle.std.proofs.Common.{rules, map, inl, inr, refl, ap}
+use Rattle.std.proofs.Common.{rules, map, inl, inr, refl, ap, subst}
+use Rattle.stsctl.specs.declared.words.Asked.{Asked}
+use Rattle.stsctl.specs.Asked.{IsAsked}
 use Rattle.stsctl.specs.Grammar.{faults_of, is_mistake, is_request}
 use Rattle.stsctl.proofs.Asked.{list_any-kind, no_kind, only_memory}
 use Rattle.stsctl.proofs.Serving.{serves_nothing}
 use Rattle.stsctl.proofs.command.command.Goals as goal
 
-pub returns-in-Ok-clause-cause : goal.returns-in-Ok-clause-cause
-returns-in-Ok-clause-cause g c = λ is.
+pub returns-in-Ok-Serve-clause-cause : goal.returns-in-Ok-Serve-clause-cause
+returns-in-Ok-Serve-clause-cause g c = λ is.
+    let words = map g.S.AsStr.text c.args.words.now in
+    let asked = subst (λ (a : Asked). IsAsked words a) c.in-Ok-Serve.field-0-is c.in-Ok-Serve.ensures.asked in
     elim (c.served.ensures.cause (search (rules, is))) [
       | inl read ↦ inl read
       | inr (inl wrote) ↦ inr (inl wrote)
       | inr (inr (inl memory)) ↦ inr (inr (inl memory))
-      | inr (inr (inr out)) ↦ inr (inr (inr (c.in-Ok.ensures.faults, (c.in-Ok.capacity, c.in-Ok.ensures.capacity, out))))
+      | inr (inr (inr out)) ↦ inr (inr (inr (c.in-Ok-Serve.ensures.faults, (c.in-Ok-Serve.capacity, asked.1, out))))
     ]
 
 pub returns-in-Err-clause-success : goal.returns-in-Err-clause-success
@@ -24,7 +28,7 @@ returns-in-Err-clause-refused g c = λ same.
     (c.explained.ensures.refused same)
 
 pub returns-in-Err-clause-part : goal.returns-in-Err-clause-part
-returns-in-Err-clause-part g c = λ is none.
+returns-in-Err-clause-part g c = λ is none serving.
     let words = map g.S.AsStr.text c.args.words.now in
     let memory = only_memory c.in-Err.error words c.in-Err.ensures.faults none in
     serves_nothing words _ _ _ _ refl (ap g.W.Sink.written (c.explained.ensures.untouched (ap is_request memory)))

@@ -1,4 +1,4 @@
--- The parser of a capacity: that of `u64`, within a range.
+-- The parser of a number of digits: that of `u64`, within a range.
 use Rattle.std.proofs.Common.{◌≡◌, ℤ, subst}
 use Rattle.std.specs.Prelude.{pos}
 use Rattle.std.specs.declared.ops.Bound.TheVariants.{Included}
@@ -7,8 +7,8 @@ use Rattle.clap.specs.declared.builder.value_parser.ValueParser.{ValueParser}
 use Rattle.clap.specs.declared.builder.value_parser.ValueParser.TheVariants as parsers
 
 pub narrowed : (whole narrow : ValueParser) (least most : ℤ) → whole ≡ parsers.Unsigned 0 18446744073709551615
-    → least ≡ pos 1 → most ≡ pos 1048576 → NarrowsTo whole (start_of (Included least)) (end_of (Included most)) narrow
-    → narrow ≡ parsers.Unsigned 1 1048576
+    → least ≡ pos 1 → most ≡ pos 64 → NarrowsTo whole (start_of (Included least)) (end_of (Included most)) narrow
+    → narrow ≡ parsers.Unsigned 1 64
 narrowed whole narrow least most whole_is least_is most_is narrows =
     let Of : ValueParser → Type 0 = λ w. NarrowsTo w (start_of (Included least)) (end_of (Included most)) narrow in
     let From : ℤ → Type 0 = λ i. NarrowsTo (parsers.Unsigned 0 18446744073709551615) (start_of (Included i)) (end_of (Included most)) narrow in
