@@ -37,4 +37,5 @@ pub mod Due
 pub mod Reached
 pub mod Replays
 pub mod Opening
+pub mod Naming
 pub mod Gatherings

@@ -1,9 +1,10 @@
 -- What a replay says of the events so far.
-use Rattle.std.specs.Prelude.{◌≡◌, ℕ, List, [], ◌∷◌, ◌++◌, length, Option, None}
+use Rattle.std.specs.Prelude.{◌≡◌, ◌≤◌, ℕ, List, [], ◌∷◌, ◌++◌, length, Option, None}
 use Rattle.requests.specs.declared.reply.Reply.{Reply}
 use Rattle.history.specs.declared.event.Event.{Event}
 use Rattle.history.specs.declared.event.Event.TheVariants as event
 use Rattle.history.specs.declared.replaying.Replay.{Replay}
+use Rattle.history.specs.Named.{named}
 use Rattle.history.specs.Replayed.{IsRun, told_at}
 use Rattle.history.specs.declared.trace.Run.{Run}
 use Rattle.history.specs.Linearization.{IsLegal}
@@ -13,7 +14,7 @@ use Rattle.history.specs.World.{Size}
 
 -- the replay has taken these events, and no others
 unfoldable pub IsAfter : Size → List Event → Replay → Type 0
-IsAfter z events replay = IsRun z events replay.machine
+IsAfter z events replay = IsRun z events replay.machine × ((replay.names.callers.keys ≡ named [] events) × (length replay.names.callers.keys ≤ 4096))
 
 -- some events lead to it
 abbrev pub IsReached : Replay → Type 0

@@ -4,6 +4,7 @@ pub mod Examples
 pub mod Linearizable
 pub mod Linearization
 pub mod Log
+pub mod Named
 pub mod Order
 pub mod Spared
 pub mod Step

@@ -10,6 +10,7 @@ mod examples;
 mod gathered;
 mod laws;
 mod machine;
+mod names;
 mod pairs;
 mod parking;
 mod phase;

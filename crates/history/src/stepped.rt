@@ -3,6 +3,7 @@ ghost use Rattle.history.specs.After.{IsAfter, IsReached, IsReplyTo, IsRunOf, ta
 ghost use Rattle.history.specs.declared.event.Event.{Event};
 ghost use Rattle.history.specs.World.{Idle, Size, opening};
 ghost use Rattle.history.specs.Trace.{after};
+ghost use Rattle.history.specs.Named.{callers};
 ghost use Rattle.history.specs.Replayed.{Does, IsAnswer, IsRun, Stands, Stays, Steps, named_by, named_phase, shard_at};
 ghost use Rattle.versions.specs.Shard.{opening as fresh};
 ghost use Rattle.history.specs.declared.replay_error.ReplayError.TheVariants.{Memory as OutOfMemory};
@@ -10,6 +11,7 @@ ghost use Rattle.history.specs.declared.replay_error.ReplayError.TheVariants.{Me
 use crate::callers::Callers;
 use crate::event::Event;
 use crate::machine::Machine;
+use crate::names::{Names, caller_of};
 use crate::parking::Parking;
 use crate::replay_error::ReplayError;
 use crate::replaying::Replay;
@@ -25,9 +27,6 @@ pub const MOST_SHARDS: usize = 64;
 /// The most numbers that a run may draw.
 pub const MOST_NUMBERS: u64 = 1_048_576;
 
-/// The most callers that the events of a run may name.
-pub const MOST_CALLERS: usize = 4096;
-
 impl Replay {
     /// A run before its first event.
     pub fn new(alloc: Global, shards: usize, capacity: u64) -> Result<Replay, ReplayError>
@@ -42,7 +41,10 @@ impl Replay {
             return Err(ReplayError::BadCapacity);
         }
         let machine = opened(alloc, shards, capacity)?;
-        Ok(Replay { machine })
+        Ok(Replay {
+            machine,
+            names: Names::new(alloc),
+        })
     }
 
     /// One event; one that is not enabled changes nothing but the place of the next. The reply of a `Reply` that is
@@ -55,8 +57,16 @@ impl Replay {
         ensures told { (size : Size) (events : List Event) → IsAfter size events self.old → IfOk result (λ told. IsReplyTo size events event.now told) }
         ensures refused { (size : Size) (events : List Event) → IsAfter size events self.old → OnErr result (IsAfter size events self.new) }
         ensures count { OnOk result (taken self.new ≡ taken self.old + 1) }
+        ensures too_many { (size : Size) (events : List Event) → IsAfter size events self.old → IsErrOf result ReplayError.TooManyCallers ↔ (4096 < callers (events ++ event.now ∷ [])) }
     {
-        self.machine.step(event)
+        let newly = self.names.note(event)?;
+        match self.machine.step(event) {
+            Ok(told) => Ok(told),
+            Err(Memory) => {
+                self.names.forget(newly);
+                Err(ReplayError::Memory)
+            }
+        }
     }
 
     /// How many events there were, enabled or not.
@@ -78,7 +88,8 @@ impl Replay {
     pub fn finish(self) -> Run
         ensures { (size : Size) (events : List Event) → IsAfter size events self → IsRunOf size events result }
     {
-        let Replay { machine } = self;
+        let Replay { machine, names } = self;
+        drop(names);
         let Machine {
             capacity,
             shards,
@@ -143,7 +154,7 @@ fn opened(alloc: Global, shards: usize, capacity: u64) -> Result<Machine, Replay
 
 impl Machine {
     /// One event, and the place of the next one. At a refusal all is as it was.
-    pub(crate) fn step(&mut self, event: &Event) -> Result<Option<Reply>, ReplayError>
+    pub(crate) fn step(&mut self, event: &Event) -> Result<Option<Reply>, Memory>
         requires stands { Stands self.old }
         requires room { self.old.now_at < 2 ^ 64 - 1 }
         ensures done { OnOk result (Steps event.now self.old self.new) }
@@ -157,7 +168,7 @@ impl Machine {
     }
 
     /// One event, whoever its caller.
-    fn dispatch(&mut self, event: &Event) -> Result<Option<Reply>, ReplayError>
+    fn dispatch(&mut self, event: &Event) -> Result<Option<Reply>, Memory>
         requires { Stands self.old }
         ensures done { OnOk result (Does event.now self.old self.new) }
         ensures place { self.new.now_at ≡ self.old.now_at }
@@ -166,12 +177,12 @@ impl Machine {
     {
         match caller_of(event) {
             Some(caller) => self.step_of(caller, event),
-            None => Ok(self.take(event)?),
+            None => self.take(event),
         }
     }
 
     /// An event of a caller. One that is named for the first time is admitted, and forgotten where the event is refused.
-    fn step_of(&mut self, caller: u64, event: &Event) -> Result<Option<Reply>, ReplayError>
+    fn step_of(&mut self, caller: u64, event: &Event) -> Result<Option<Reply>, Memory>
         requires stands { Stands self.old }
         requires caller { named_by event.now ≡ Some caller }
         ensures done { OnOk result (Does event.now self.old self.new) }
@@ -180,17 +191,14 @@ impl Machine {
         ensures memory { OnErr result (Stays self.old self.new) }
     {
         if self.callers.phase(caller).is_some() {
-            return Ok(self.take(event)?);
-        }
-        if self.callers.phases.len() == MOST_CALLERS {
-            return Err(ReplayError::TooManyCallers);
+            return self.take(event);
         }
         self.callers.admit(caller)?;
         match self.take(event) {
             Ok(told) => Ok(told),
             Err(Memory) => {
                 self.callers.dismiss(caller);
-                Err(ReplayError::Memory)
+                Err(Memory)
             }
         }
     }
@@ -218,24 +226,5 @@ impl Machine {
             Event::Crash(caller) => self.crash(*caller),
         }
         Ok(None)
-    }
-}
-
-/// The caller that an event names.
-fn caller_of(event: &Event) -> Option<u64>
-    ensures { result ≡ named_by event.now }
-{
-    match event {
-        Event::Call(caller, _)
-        | Event::Check(caller)
-        | Event::Reserve(caller)
-        | Event::Publish(caller)
-        | Event::Read(caller)
-        | Event::ReadAt(caller)
-        | Event::Compact(caller)
-        | Event::Part(caller)
-        | Event::Reply(caller)
-        | Event::Crash(caller) => Some(*caller),
-        Event::Raise => None,
     }
 }

@@ -9,7 +9,7 @@ unfolding IsAfter taken
 step-requires-clause-room c =
     let lt = c.loop-event-test.true in
     let fits = c.well_formed in
-    let at = c.loop-event.invariant.count ∙ length-take-le c.loop-event.event-index c.args.events.now (omega (arith, lt)) in
+    let at = c.loop-event.invariant.0.count ∙ length-take-le c.loop-event.event-index c.args.events.now (omega (arith, lt)) in
     omega (arith, at, lt, fits)
 
 pub returns : goal.returns

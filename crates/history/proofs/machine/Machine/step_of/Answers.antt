@@ -1,10 +1,7 @@
 use Rattle.std.proofs.Common.{refl, sym, ◌∙◌}
 use Rattle.history.proofs.Admitted.{admits, dismisses, does_after, same_stays, stays_twice, unnamed}
-use Rattle.history.proofs.Pieces.{on_err, stays_same}
+use Rattle.history.proofs.Pieces.{on_err}
 use Rattle.history.proofs.machine.Machine.step_of.Goals as goal
-
-pub returns-then-len-eq-MOST_CALLERS-clause-memory : goal.returns-then-len-eq-MOST_CALLERS-clause-memory
-returns-then-len-eq-MOST_CALLERS-clause-memory c = stays_same c.args.self.now
 
 pub returns-in_err-admit-clause-memory : goal.returns-in_err-admit-clause-memory
 returns-in_err-admit-clause-memory c = on_err _ _ (same_stays c.args.self.now _ c.in_err-admit.ensures.memory refl)

@@ -8,4 +8,4 @@ returns-clause-taken c = refl
 
 pub returns-clause-count : goal.returns-clause-count
 unfolding IsAfter
-returns-clause-count c = λ size events run. run.count
+returns-clause-count c = λ size events run. run.0.count

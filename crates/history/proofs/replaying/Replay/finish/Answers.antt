@@ -5,8 +5,8 @@ use Rattle.history.proofs.replaying.Replay.finish.Goals as goal
 pub returns : goal.returns
 unfolding IsAfter
 returns c = λ size events run. record {
-  capacity = run.shows.capacity;
-  trace_is = run.shows.items;
-  order_is = run.shows.order;
-  legal = run_legal size events _ _ run.some run.shows.items run.shows.order;
+  capacity = run.0.shows.capacity;
+  trace_is = run.0.shows.items;
+  order_is = run.0.shows.order;
+  legal = run_legal size events _ _ run.0.some run.0.shows.items run.0.shows.order;
 }

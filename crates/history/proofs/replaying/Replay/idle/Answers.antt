@@ -8,4 +8,4 @@ use Rattle.history.proofs.replaying.Replay.idle.Goals as goal
 pub returns : goal.returns
 unfolding IsAfter
 returns c = λ size events run.
-    idle_tells c.is_idle.result (phase_at c.args.self.now.machine.callers c.args.caller) ((after size opening events).phase c.args.caller) c.is_idle.ensures (run.shows.phases c.args.caller)
+    idle_tells c.is_idle.result (phase_at c.args.self.now.machine.callers c.args.caller) ((after size opening events).phase c.args.caller) c.is_idle.ensures (run.0.shows.phases c.args.caller)

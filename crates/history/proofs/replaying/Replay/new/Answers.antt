@@ -1,6 +1,7 @@
+use Rattle.std.proofs.Common.{ap, arith, length}
 use Rattle.history.specs.After.{IsAfter}
 use Rattle.history.proofs.replaying.Replay.new.Goals as goal
 
 pub returns-clause-opened : goal.returns-clause-opened
 unfolding IsAfter
-returns-clause-opened c = c.in_ok-machine.ensures.opened
+returns-clause-opened c = let none = ap length c.new.ensures in (c.in_ok-machine.ensures.opened, (c.new.ensures, omega (arith, none)))
