@@ -38,4 +38,5 @@ pub mod Reached
 pub mod Replays
 pub mod Opening
 pub mod Naming
+pub mod Entries
 pub mod Gatherings

@@ -1,6 +1,6 @@
 use Rattle.std.proofs.Common.{ap, ◌∙◌}
 use Rattle.std.specs.FinMap as map
-use Rattle.version_map.proofs.Entries.{inserted}
+use Rattle.history.proofs.Entries.{inserted}
 use Rattle.history.proofs.gathered.Gathered.put.Goals as goal
 
 pub returns : goal.returns
