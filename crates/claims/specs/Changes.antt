@@ -13,7 +13,7 @@ use Rattle.set_views.specs.Set.{SetParts}
 use Rattle.set_views.specs.Steps.{guarded}
 use Rattle.manifests.specs.Arrays.{list_of}
 use Rattle.manifests.specs.BuiltClaim.{built_claim}
-use Rattle.manifests.specs.BuiltPod.{most_name}
+use Rattle.objects.specs.Names.{most_label}
 use Rattle.claims.specs.declared.change.ClaimChange.{ClaimChange}
 use Rattle.claims.specs.declared.change.ClaimChange.TheVariants.{Create, Update}
 use Rattle.claims.specs.declared.owner.Owner.{Owner}
@@ -51,7 +51,7 @@ all_made set listed i claims = filter_map (λ c. made set i c (listed (claim_nam
 -- For a pod that is created: the creates of its missing claims, and the updates of the others, in the order of the templates.
 -- `listed` gives the claim of a name. The pod's own name has at most 63 bytes.
 abbrev pub made_claims : SetParts → (List ℕ → Option Object) → ℕ → Result (List ClaimChange) PlanError
-made_claims set listed i = guarded NameTooLong (nat_le (length (pod_name set.object.key.name i)) most_name) (all_made set listed i set.claims)
+made_claims set listed i = guarded NameTooLong (nat_le (length (pod_name set.object.key.name i)) most_label) (all_made set listed i set.claims)
 
 -- the updates of a pod's claims that are to have this owner
 abbrev pub all_updated : SetParts → (List ℕ → Option Object) → ℕ → Option Owner → List Claim → List ClaimChange

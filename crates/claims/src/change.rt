@@ -14,12 +14,9 @@ use crate::entries::{are_wanted, wanted};
 use crate::listed::ListedClaims;
 use crate::owner::{Owner, owner_in_range, owner_of_condemned};
 use manifests::claim_of;
-use objects::{Items, Members, Memory, Object, Text, Tree, claim_name, pod_name};
+use objects::{Items, MAX_LABEL, Members, Memory, Object, Text, Tree, claim_name, pod_name};
 use set_views::{PlanError, Set};
 use std::alloc::{AllocError, Global};
-
-/// The most bytes of a pod's name.
-const MOST_NAME: usize = 63;
 
 /// What a plan does to a claim.
 #[derive(Drop)]
@@ -238,7 +235,7 @@ pub fn made_claims(
     ensures { Gives (λ changes. changes.items) result (made_claims (set_parts set.now) (claim_named listed.now) ordinal) }
 {
     let pod = pod_of(alloc, set, ordinal)?;
-    if MOST_NAME < pod.as_str().len() {
+    if MAX_LABEL < pod.as_str().len() {
         drop(pod);
         return Err(PlanError::NameTooLong);
     }

@@ -8,6 +8,7 @@ use Rattle.requests.specs.declared.reply.Reply.TheVariants.{Compacted, Refused}
 use Rattle.requests.specs.declared.reply.Reason.{Reason}
 use Rattle.requests.specs.declared.request.Request.{Request}
 use Rattle.requests.specs.declared.version.Version.{Version}
+use Rattle.plain_store.specs.Reached.{most_revisions}
 use Rattle.plain_store.specs.Route.{Route, compacts, gets, lists, lists_at, route, writes}
 use Rattle.plain_store.specs.Store.{Objects, step}
 use Rattle.requests.specs.Change.{kept}
@@ -301,7 +302,7 @@ pub record ShowsSeats (z : Size) (holder : ℕ → Option ℕ) (holders : List (
 
 pub record Shows (z : Size) (w : World) (a : Arrangement) (m : Machine) : Type 0 where
   pub capacity : m.capacity ≡ z.capacity
-  pub small : z.capacity ≤ 1048576
+  pub small : z.capacity ≤ most_revisions
   pub frontier : m.frontier ≡ w.frontier
   pub floor : m.floor ≡ w.floor
   pub place : m.now_at ≡ w.now

@@ -1,6 +1,7 @@
 ghost use Rattle.std.specs.Prelude.{◌≡◌, ◌≢◌, ◌==◌, ◌+◌, ◌<◌, ℕ, true, None, Some, IfSome, IsSomeAnd, OnOk, OnErr, option_map, if◌then◌else◌};
 ghost use Rattle.std.specs.Option.{option_copied};
 ghost use Rattle.requests.specs.Change.{version_of};
+ghost use Rattle.plain_store.specs.Reached.{most_revisions};
 ghost use Rattle.history.specs.declared.phase.Phase.TheVariants.{Idle};
 ghost use Rattle.history.specs.Replayed.{Enters, Same, begun_phase, called_in, drawn_in, drops, gone_phase, holding_in, is_idle, named_phase, parted, phase_at, published_phase, reading_in, waiting_in, with_draw};
 
@@ -160,7 +161,7 @@ impl Callers {
     /// The caller's draw is published: what is stored, while the caller waits with its reply, or is gone.
     #[tactic(auto, unfolding(crate::specs::Step::told))]
     pub(crate) fn publish(&mut self, caller: u64) -> Version
-        requires { IsSomeAnd (drawn_in (phase_at self.old caller)) (λ draw. draw.index < 1048576) }
+        requires { IsSomeAnd (drawn_in (phase_at self.old caller)) (λ draw. draw.index < most_revisions) }
         ensures version { IfSome (drawn_in (phase_at self.old caller)) (λ draw. result ≡ version_of draw.writing.change (draw.index + 1)) }
         ensures entered { Enters self.old self.new caller (published_phase (phase_at self.old caller)) }
     {

@@ -8,7 +8,7 @@ use std::alloc::Global;
 use std::collections::BTreeSet;
 
 /// The most callers that the events of a run may name.
-pub const MOST_CALLERS: usize = 4096;
+pub const MAX_CALLERS: usize = 4096;
 
 /// The callers that the events have named.
 #[derive(Drop)]
@@ -40,7 +40,7 @@ impl Names {
         if self.callers.contains(&caller) {
             return Ok(None);
         }
-        if self.callers.len() == MOST_CALLERS {
+        if self.callers.len() == MAX_CALLERS {
             return Err(ReplayError::TooManyCallers);
         }
         self.callers.insert(caller)?;

@@ -5,6 +5,7 @@ ghost use Rattle.history.specs.World.{Idle, Size, opening};
 ghost use Rattle.history.specs.Trace.{after};
 ghost use Rattle.history.specs.Named.{callers};
 ghost use Rattle.history.specs.Replayed.{Does, IsAnswer, IsRun, Stands, Stays, Steps, named_by, named_phase, shard_at};
+ghost use Rattle.plain_store.specs.Reached.{most_revisions};
 ghost use Rattle.versions.specs.Shard.{opening as fresh};
 ghost use Rattle.history.specs.declared.replay_error.ReplayError.TheVariants.{Memory as OutOfMemory};
 
@@ -17,27 +18,25 @@ use crate::replay_error::ReplayError;
 use crate::replaying::Replay;
 use crate::trace::{Run, Trace};
 use objects::Memory;
+use plain_store::MAX_REVISIONS;
 use requests::Reply;
 use std::alloc::Global;
 use versions::Shard;
 
 /// The most shards that a run may have.
-pub const MOST_SHARDS: usize = 64;
-
-/// The most numbers that a run may draw.
-pub const MOST_NUMBERS: u64 = 1_048_576;
+pub const MAX_SHARDS: usize = 64;
 
 impl Replay {
     /// A run before its first event.
     pub fn new(alloc: Global, shards: usize, capacity: u64) -> Result<Replay, ReplayError>
         ensures opened { IfOk result (λ replay. IsAfter (record { capacity = capacity; shards = shards }) [] replay) }
         ensures bad_shards { IsErrOf result ReplayError.BadShards ↔ (1 ≤ shards → 64 < shards) }
-        ensures bad_capacity { IsErrOf result ReplayError.BadCapacity ↔ ((1 ≤ shards) × (shards ≤ 64) × (1 ≤ capacity → 1048576 < capacity)) }
+        ensures bad_capacity { IsErrOf result ReplayError.BadCapacity ↔ ((1 ≤ shards) × (shards ≤ 64) × (1 ≤ capacity → most_revisions < capacity)) }
     {
-        if shards < 1 || MOST_SHARDS < shards {
+        if shards < 1 || MAX_SHARDS < shards {
             return Err(ReplayError::BadShards);
         }
-        if capacity < 1 || MOST_NUMBERS < capacity {
+        if capacity < 1 || MAX_REVISIONS < capacity {
             return Err(ReplayError::BadCapacity);
         }
         let machine = opened(alloc, shards, capacity)?;
@@ -130,7 +129,7 @@ fn new_shards(alloc: Global, shards: usize) -> Result<Vec<Shard>, ReplayError>
 
 /// The pieces of a world in which nothing has happened.
 fn opened(alloc: Global, shards: usize, capacity: u64) -> Result<Machine, ReplayError>
-    requires { (0 < shards) × (capacity ≤ 1048576) }
+    requires { (0 < shards) × (capacity ≤ most_revisions) }
     ensures opened { IfOk result (λ machine. IsRun (record { capacity = capacity; shards = shards }) [] machine) }
     ensures memory { IfErr result (λ reason. reason ≡ OutOfMemory) }
 {

@@ -5,6 +5,7 @@ ghost use Rattle.requests.specs.Verdict.{is_write, verdict};
 ghost use Rattle.objects.specs.ShardOf.{shard_of};
 ghost use Rattle.std.specs.Option.{option_map_or};
 ghost use Rattle.versions.specs.Records.{IsAbove, current, newest};
+ghost use Rattle.plain_store.specs.Reached.{most_revisions};
 ghost use Rattle.history.specs.declared.event.Event.TheVariants.{Call, Check, Publish, Raise, Reserve};
 ghost use Rattle.history.specs.Replayed.{Does, Fills, Holds, IsDecision, Stands, Stays, drops, holding_in, is_called, lot_at, named_phase, phase_at, places_in, shard_at, staying, writing_of};
 
@@ -185,7 +186,7 @@ impl Machine {
         requires shard { shard < length self.old.shards.items }
         requires seat { shard < length self.old.holders.items }
         requires index { index < length self.old.places.items }
-        requires small { index < 1048576 }
+        requires small { index < most_revisions }
         requires room { (shard_at self.old.shards.items shard).room ≡ Some version.key }
         requires above { IsAbove (shard_at self.old.shards.items shard).records (index + 1) }
         ensures fills { Fills shard index place version self.old self.new }

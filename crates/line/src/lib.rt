@@ -11,6 +11,6 @@ mod steps;
 mod view;
 
 pub use error::LineError;
-pub use line::{Closed, Ends, Line, MOST_NUMBERS, MOST_SHARDS};
+pub use line::{Closed, Ends, Line, MAX_NUMBERS, MAX_SHARDS};
 pub use naming::Naming;
 pub use seat::{CallerSeat, Drawn, ShardSeat};

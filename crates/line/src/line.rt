@@ -13,10 +13,10 @@ use std::alloc::{AllocError, Global};
 use std::marker::Model;
 
 /// The most numbers that a line may have.
-pub const MOST_NUMBERS: u64 = 1_048_576;
+pub const MAX_NUMBERS: u64 = 1_048_576;
 
 /// The most shards that a line may serve.
-pub const MOST_SHARDS: usize = 64;
+pub const MAX_SHARDS: usize = 64;
 
 /// The numbers from 1 to a capacity, which shards draw and fill in any order, and a frontier up to which all of them are
 /// filled.
@@ -32,14 +32,14 @@ pub struct Line {
 impl Model for Line {
     ghost use Rattle.std.specs.Prelude.{◌≡◌, ◌+◌, ◌<◌, ◌≤◌};
     ghost use Rattle.line.specs.Seat.{Line};
-    ghost use Rattle.line.specs.declared.line.TheConstants.{MOST_NUMBERS};
+    ghost use Rattle.line.specs.declared.line.TheConstants.{MAX_NUMBERS};
 
     ghost Value = { Line };
 
     ghost view = { λ l. record { name = l.table.shared.table_id; capacity = l.capacity } };
 
     ghost invariant = { λ l. (l.table.shared.table_id.words ≡ l.capacity + 2) × (l.table.shared.table_id.slots ≡ 0)
-        × (l.table.shared.key ≡ l.capacity) × (0 < l.capacity) × (l.capacity ≤ MOST_NUMBERS) };
+        × (l.table.shared.key ≡ l.capacity) × (0 < l.capacity) × (l.capacity ≤ MAX_NUMBERS) };
 }
 
 /// A new line with its seats: one for each shard, and one for a first caller.
@@ -64,14 +64,14 @@ impl Line {
         ensures shards { IfOk result (λ e. (vec_len e.shards ≡ shards)
             × All (λ s. s ≡ new_shard_seat e.line.name) e.shards.items) }
         ensures caller { IfOk result (λ e. e.caller ≡ new_caller_seat e.line.name 0) }
-        ensures bad_capacity { IsErrOf result LineError.BadCapacity ↔ ((1 ≤ capacity → MOST_NUMBERS < capacity)) }
+        ensures bad_capacity { IsErrOf result LineError.BadCapacity ↔ ((1 ≤ capacity → MAX_NUMBERS < capacity)) }
         ensures bad_shards { IsErrOf result LineError.BadShards
-            ↔ ((1 ≤ capacity) × (capacity ≤ MOST_NUMBERS) × (1 ≤ shards → MOST_SHARDS < shards)) }
+            ↔ ((1 ≤ capacity) × (capacity ≤ MAX_NUMBERS) × (1 ≤ shards → MAX_SHARDS < shards)) }
     {
-        if capacity == 0 || capacity > MOST_NUMBERS {
+        if capacity == 0 || capacity > MAX_NUMBERS {
             return Err(LineError::BadCapacity);
         }
-        if shards == 0 || shards > MOST_SHARDS {
+        if shards == 0 || shards > MAX_SHARDS {
             return Err(LineError::BadShards);
         }
         let words = vec![in alloc; 0; capacity as usize + 2]?;
@@ -198,7 +198,7 @@ fn shard_seats(
     shards: usize,
 ) -> Result<Vec<ShardSeat>, AllocError>
     requires table { IsOf table.now.shared.table_id first.old.table_id first.old.me.0 }
-    requires shards { (first.old.me.0 ≡ first_view first.old.me.0.capacity) × (shards ≤ MOST_SHARDS) }
+    requires shards { (first.old.me.0 ≡ first_view first.old.me.0.capacity) × (shards ≤ MAX_SHARDS) }
     ensures first { (first.new.table_id ≡ first.old.table_id) × (first.new.me.0.capacity ≡ first.old.me.0.capacity) × (first.new.me.0.seen ≡ 0) × (first.new.me.0.loads ≡ 0) × (first.new.me.0.tries ≡ []) }
     ensures seats { IfOk result (λ v. (vec_len v ≡ shards) × All (λ s. s ≡ new_shard_seat first.old.table_id) v.items) }
 {

@@ -13,7 +13,7 @@ use Rattle.objects.specs.Kind.{is_name}
 use Rattle.objects.specs.Names.{is_alphanumeric, is_dns_label}
 use Rattle.objects.specs.PodNames.{pod_name}
 use Rattle.revisions.proofs.JoinedNames.{begins_names, joined_name}
-use Rattle.manifests.specs.BuiltPod.{most_name}
+use Rattle.objects.specs.Names.{most_label}
 
 or_second : (b c : Bool) → c ≡ true → (b || c) ≡ true
 or_second true c h = refl
@@ -28,12 +28,12 @@ all_alphanumeric (d ∷ ds) h =
     let first = h 0 (omega arith) in
     rw (digit_is_alphanumeric d first.0 first.1) (all_alphanumeric ds (λ i l. h (suc i) (omega arith)))
 
-pub pod_key_fits : (k : KeyParts) (i : ℕ) → is_key k ≡ true → i < 2 ^ 32 → nat_le (length (pod_name k.name i)) most_name ≡ true → is_key (key_parts Pod k.namespace (pod_name k.name i)) ≡ true
+pub pod_key_fits : (k : KeyParts) (i : ℕ) → is_key k ≡ true → i < 2 ^ 32 → nat_le (length (pod_name k.name i)) most_label ≡ true → is_key (key_parts Pod k.namespace (pod_name k.name i)) ≡ true
 pod_key_fits k i valid small fits =
     let parts = and_parts (is_dns_label k.namespace) (is_name k.kind k.name) valid in
     let numeral = decimal_is_IsNumeral i (omega arith) in
     let some : 0 < length (decimal i) = decimal_nonempty i (omega arith) in
-    let short : length (pod_name k.name i) ≤ most_name = leb-true (length (pod_name k.name i)) most_name fits in
+    let short : length (pod_name k.name i) ≤ most_label = leb-true (length (pod_name k.name i)) most_label fits in
     let dash = length-append k.name (codes "-") in
     let long = length-append (k.name ++ codes "-") (decimal i) in
     rw (parts.0, joined_name k.name (decimal i) (begins_names k.kind k.name parts.1) (all_alphanumeric (decimal i) (λ j l. digit_at _ j numeral.0.1 l)) some (omega (arith, short, long, dash))) refl

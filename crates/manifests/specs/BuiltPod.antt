@@ -5,6 +5,7 @@ use Rattle.serde_json.specs.Data.{string, object, Members, no_members, member, p
 use Rattle.objects.specs.declared.kind.Kind.TheVariants.{Pod}
 use Rattle.objects.specs.declared.object.Object.{Object}
 use Rattle.objects.specs.Key.{key_parts}
+use Rattle.objects.specs.Names.{most_label}
 use Rattle.objects.specs.New.{new_object}
 use Rattle.objects.specs.PodNames.{pod_name}
 use Rattle.objects.specs.Text.{put_some}
@@ -43,12 +44,8 @@ abbrev pub named_pod : SetParts → Members → List ℕ → ℕ → List ℕ �
 named_pod set template revision ordinal name =
     new_object (key_parts Pod set.object.key.namespace name) (pod_metadata set name revision ordinal (part (codes "metadata") template)) (pod_members set name ordinal template)
 
--- the most bytes of a label's value, and of a hostname
-abbrev pub most_name : ℕ
-most_name = 63
-
 -- the pod of that ordinal
 unfoldable pub built_pod : SetParts → Object → ℕ → Result Object PlanError
 built_pod set revision ordinal =
     let name = pod_name set.object.key.name ordinal in
-    guarded NameTooLong (nat_le (length name) most_name) (named_pod set (template_of revision) revision.key.name ordinal name)
+    guarded NameTooLong (nat_le (length name) most_label) (named_pod set (template_of revision) revision.key.name ordinal name)

@@ -12,13 +12,10 @@ ghost use Rattle.manifests.specs.BuiltPod.{built_pod, named_pod, pod_labels, pod
 use crate::members::{none, part, part_in, with_some, with_text};
 use crate::template::{labels_in, template_of};
 use crate::volumes::with_volumes;
-use objects::{Key, Kind, Members, Object, ReadError, Tree, pod_name};
+use objects::{Key, Kind, MAX_LABEL, Members, Object, ReadError, Tree, pod_name};
 use revisions::{RevisionView, owned_metadata};
 use set_views::{PlanError, Set};
 use std::alloc::{AllocError, Global};
-
-/// The most bytes of a pod's name, which is the value of a label, and its hostname.
-const MOST_NAME: usize = 63;
 
 /// These labels, with those of a set's pods over them.
 fn pod_labels(
@@ -158,7 +155,7 @@ pub fn pod_of(
     ensures { Gives (λ pod. pod) result (built_pod (set_parts set.now) revision.now.object.now ordinal) }
 {
     let name = pod_name(alloc, name_of(set), ordinal)?;
-    if MOST_NAME < name.as_str().len() {
+    if MAX_LABEL < name.as_str().len() {
         drop(name);
         return Err(PlanError::NameTooLong);
     }

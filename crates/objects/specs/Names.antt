@@ -18,9 +18,13 @@ is_name_of most allowed s =
     nat_le 1 (length s) && nat_le (length s) most && list_all allowed s
     && is_alphanumeric (slice_index s 0) && is_alphanumeric (slice_index s (length s - 1))
 
--- RFC 1123: at most 63 bytes, with `-` inside
+-- RFC 1123: the most bytes of a label
+abbrev pub most_label : ℕ
+most_label = 63
+
+-- RFC 1123: with `-` inside
 unfoldable pub is_dns_label : List ℕ → Bool
-is_dns_label s = is_name_of 63 is_label_byte s
+is_dns_label s = is_name_of most_label is_label_byte s
 
 -- at most 253 bytes, with `-` and `.` inside; leniently, a `.` may stand beside a `-` or another `.`
 unfoldable pub is_subdomain_name : List ℕ → Bool

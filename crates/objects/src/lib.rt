@@ -25,7 +25,7 @@ pub use key::Key;
 pub use kind::Kind;
 pub use meta::Meta;
 pub use metadata::only_the_owners_change;
-pub use names::is_dns_label;
+pub use names::{MAX_LABEL, is_dns_label};
 pub use object::{Draft, Object};
 pub use pod_names::{
     claim_name, claim_names_of_a_set_differ, pod_name, pod_names_differ, split_pod_name,

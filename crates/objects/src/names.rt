@@ -51,6 +51,9 @@ fn has_edges(bytes: &[u8]) -> bool
     is_alphanumeric(bytes[0]) && is_alphanumeric(bytes[bytes.len() - 1])
 }
 
+/// The most bytes of a DNS label (RFC 1123), and so of a label's value and of a hostname.
+pub const MAX_LABEL: usize = 63;
+
 /// Whether the text is a DNS label (RFC 1123): 1 to 63 bytes of `a-z`, `0-9` and `-`, the first and the last a letter or
 /// a digit.
 #[tactic(auto, unfolding(crate::specs::Names::is_dns_label))]
@@ -58,7 +61,7 @@ pub fn is_dns_label(text: &str) -> bool
     ensures { result ≡ is_dns_label text.now }
 {
     let bytes = text.as_bytes();
-    is_long_enough(bytes, 63) && are_label_bytes(bytes) && has_edges(bytes)
+    is_long_enough(bytes, MAX_LABEL) && are_label_bytes(bytes) && has_edges(bytes)
 }
 
 /// Whether the text is a DNS subdomain name, leniently.

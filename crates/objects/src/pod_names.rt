@@ -5,7 +5,7 @@ use std::alloc::Global;
 use trees::Memory;
 
 // The largest ordinal, since the API's integers have 32 bits with a sign.
-const MOST_ORDINAL: u32 = 2_147_483_647;
+const MAX_ORDINAL: u32 = 2_147_483_647;
 
 /// The name of a set's pod, `SET-ORDINAL`, the ordinal in decimal (Kubernetes, "StatefulSets": "Pod Identity").
 pub fn pod_name(alloc: Global, set: &str, ordinal: u32) -> Result<String, Memory>
@@ -31,7 +31,7 @@ pub fn split_pod_name(name: &str) -> Option<(&str, u32)>
 {
     let (set, digits) = name.rsplit_once('-')?;
     let ordinal = digits.parse().ok()?;
-    if set.is_empty() || MOST_ORDINAL < ordinal || digits != itoa::Buffer::new().format(ordinal) {
+    if set.is_empty() || MAX_ORDINAL < ordinal || digits != itoa::Buffer::new().format(ordinal) {
         return None;
     }
     Some((set, ordinal))

@@ -9,7 +9,7 @@ use Rattle.plain.specs.Requests.{request_of}
 use Rattle.plain.specs.Lines.{ended_lines, lines, onto_ended, onto_first}
 use Rattle.plain.specs.Served.{answered, answer, answers}
 use Rattle.memchr.specs.Find.{Nowhere, NoneBefore, Passes, is_byte}
-use Rattle.plain.specs.Cuts.{NoFeed, kept_with, Point, Reaches}
+use Rattle.plain.specs.Cuts.{NoFeed, with_pending, Progress, LeadsTo}
 
 -- no line feed is in either part
 pub NoFeed-append : (xs ys : List ℕ) → NoFeed xs → NoFeed ys → NoFeed (xs ++ ys)
@@ -97,20 +97,20 @@ unfolding request_of tree_reading
 request_of-too_long a b la lb = grind (arith, common_steps)
 
 -- so its beginning answers for it
-request_of-cut : (k b : List ℕ) (n : ℕ) → n ≡ most_bytes + 1 - length k → (n < length b) ⊎ (length b ≤ n) → request_of (k ++ take n b) ≡ request_of (k ++ b)
-request_of-cut k b n e (inr le) = ap (λ t. request_of (k ++ t)) (take_all n b le)
-request_of-cut k b n e (inl lt) =
+request_of-cutter : (k b : List ℕ) (n : ℕ) → n ≡ most_bytes + 1 - length k → (n < length b) ⊎ (length b ≤ n) → request_of (k ++ take n b) ≡ request_of (k ++ b)
+request_of-cutter k b n e (inr le) = ap (λ t. request_of (k ++ t)) (take_all n b le)
+request_of-cutter k b n e (inl lt) =
     request_of-too_long (k ++ take n b) (k ++ b) (simp (length-append, length-take) (omega arith)) (simp length-append (omega arith))
 
-pub answer-kept : (s : Store) (k b : List ℕ) → answer s (kept_with k b) ≡ answer s (k ++ b)
-answer-kept s k b =
+pub answer-pending : (s : Store) (k b : List ℕ) → answer s (with_pending k b) ≡ answer s (k ++ b)
+answer-pending s k b =
     let n : ℕ = most_bytes + 1 - length k in
-    ap (answered s) (request_of-cut k b n refl (cases_lt n (length b)))
+    ap (answered s) (request_of-cutter k b n refl (cases_lt n (length b)))
 
 -- what a kept beginning comes to does not turn on what was passed over
 answers-onto : (s : Store) (n : ℕ) (k b : List ℕ) (ls : List (List ℕ)) → n ≡ most_bytes + 1 - length k → n < length b → answers s (onto (k ++ take n b) ls) ≡ answers s (onto (k ++ b) ls)
 answers-onto s n k b [] e lt =
-    ap (λ r. (answered s r).1 ++ 10 ∷ []) (request_of-cut k b n e (inl lt))
+    ap (λ r. (answered s r).1 ++ 10 ∷ []) (request_of-cutter k b n e (inl lt))
 answers-onto s n k b (l ∷ ls) e lt =
     let same : request_of ((k ++ take n b) ++ l) ≡ request_of ((k ++ b) ++ l) =
     request_of-too_long ((k ++ take n b) ++ l) ((k ++ b) ++ l) (simp (length-append, length-take) (omega arith)) (simp length-append (omega arith)) in
@@ -129,30 +129,30 @@ lines-begun [] more l f = absurd (omega arith)
 lines-begun (b ∷ bs) more l f = lines-onto b bs more f
 
 -- a point stands for itself
-pub Reaches-same : (p : Point) → Reaches p p
-Reaches-same p = record { text = λ _. refl; ended = λ _. refl; count = λ _. refl }
+pub LeadsTo-same : (p : Progress) → LeadsTo p p
+LeadsTo-same p = record { text = λ _. refl; ended = λ _. refl; count = λ _. refl }
 
-pub Reaches-then : (p q r : Point) → Reaches p q → Reaches q r → Reaches p r
-Reaches-then p q r f g = record { text = λ more. f.text more ∙ g.text more; ended = λ more. f.ended more ∙ g.ended more; count = λ more. f.count more ∙ g.count more }
+pub LeadsTo-then : (p q r : Progress) → LeadsTo p q → LeadsTo q r → LeadsTo p r
+LeadsTo-then p q r f g = record { text = λ more. f.text more ∙ g.text more; ended = λ more. f.ended more ∙ g.ended more; count = λ more. f.count more ∙ g.count more }
 
 -- the rest of a piece is kept
-pub Reaches-kept : (s : Store) (k b text : List ℕ) (n : ℕ) → NoFeed k → NoFeed b →
-    Reaches (record { store = s; waiting = k ++ b; text = text; count = n }) (record { store = s; waiting = kept_with k b; text = text; count = n })
-Reaches-kept s k b text n fk fb =
+pub LeadsTo-pending : (s : Store) (k b text : List ℕ) (n : ℕ) → NoFeed k → NoFeed b →
+    LeadsTo (record { store = s; waiting = k ++ b; text = text; count = n }) (record { store = s; waiting = with_pending k b; text = text; count = n })
+LeadsTo-pending s k b text n fk fb =
     let most : ℕ = most_bytes + 1 - length k in
     elim (cases_lt most (length b)) [
       | inl lt ↦
           let whole = λ (more : List ℕ). lines-begun (k ++ b) more (simp length-append (omega arith)) (NoFeed-append k b fk fb) in
-          let cut = λ (more : List ℕ). lines-begun (kept_with k b) more (simp (length-append, length-take) (omega arith)) (NoFeed-append k (take most b) fk (NoFeed-take most b fb)) in
+          let cutter = λ (more : List ℕ). lines-begun (with_pending k b) more (simp (length-append, length-take) (omega arith)) (NoFeed-append k (take most b) fk (NoFeed-take most b fb)) in
           let ended = λ (more : List ℕ). ended-begun (k ++ b) more (simp length-append (omega arith)) (NoFeed-append k b fk fb) in
-          let ended_cut = λ (more : List ℕ). ended-begun (kept_with k b) more (simp (length-append, length-take) (omega arith)) (NoFeed-append k (take most b) fk (NoFeed-take most b fb)) in
+          let ended_cut = λ (more : List ℕ). ended-begun (with_pending k b) more (simp (length-append, length-take) (omega arith)) (NoFeed-append k (take most b) fk (NoFeed-take most b fb)) in
           record {
-            text = λ more. ap (λ ls. text ++ answers s ls) (whole more) ∙ (ap (λ t. text ++ t) (sym (answers-onto s most k b (lines more) refl lt)) ∙ ap (λ ls. text ++ answers s ls) (sym (cut more)));
+            text = λ more. ap (λ ls. text ++ answers s ls) (whole more) ∙ (ap (λ t. text ++ t) (sym (answers-onto s most k b (lines more) refl lt)) ∙ ap (λ ls. text ++ answers s ls) (sym (cutter more)));
             ended = λ more. ap (λ ls. text ++ answers s ls) (ended more) ∙ (ap (λ t. text ++ t) (sym (answers-onto_next s most k b (ended_lines more) refl lt)) ∙ ap (λ ls. text ++ answers s ls) (sym (ended_cut more)));
-            count = λ more. ap (λ ls. n + length ls) (whole more) ∙ (ap (λ t. n + t) (count-onto (k ++ b) (kept_with k b) (lines more)) ∙ ap (λ ls. n + length ls) (sym (cut more)));
+            count = λ more. ap (λ ls. n + length ls) (whole more) ∙ (ap (λ t. n + t) (count-onto (k ++ b) (with_pending k b) (lines more)) ∙ ap (λ ls. n + length ls) (sym (cutter more)));
           }
       | inr le ↦
-          let e : k ++ b ≡ kept_with k b = ap (λ t. k ++ t) (sym (take_all most b le)) in
+          let e : k ++ b ≡ with_pending k b = ap (λ t. k ++ t) (sym (take_all most b le)) in
           record {
             text = λ more. ap (λ w. text ++ answers s (lines (w ++ more))) e;
             ended = λ more. ap (λ w. text ++ answers s (ended_lines (w ++ more))) e;
@@ -160,14 +160,14 @@ Reaches-kept s k b text n fk fb =
           }
     ]
 
-pub NoFeed-kept : (k b : List ℕ) → NoFeed k → NoFeed b → NoFeed (kept_with k b)
-NoFeed-kept k b fk fb = NoFeed-append k (take (most_bytes + 1 - length k) b) fk (NoFeed-take (most_bytes + 1 - length k) b fb)
+pub NoFeed-pending : (k b : List ℕ) → NoFeed k → NoFeed b → NoFeed (with_pending k b)
+NoFeed-pending k b fk fb = NoFeed-append k (take (most_bytes + 1 - length k) b) fk (NoFeed-take (most_bytes + 1 - length k) b fb)
 
 -- a line is answered
-pub Reaches-line : (s : Store) (l rest text : List ℕ) (n : ℕ) → NoFeed l →
-    Reaches (record { store = s; waiting = l ++ 10 ∷ rest; text = text; count = n })
+pub LeadsTo-line : (s : Store) (l rest text : List ℕ) (n : ℕ) → NoFeed l →
+    LeadsTo (record { store = s; waiting = l ++ 10 ∷ rest; text = text; count = n })
     (record { store = (answer s l).0; waiting = rest; text = text ++ ((answer s l).1 ++ 10 ∷ []); count = n + 1 })
-Reaches-line s l rest text n f =
+LeadsTo-line s l rest text n f =
     let e = λ (more : List ℕ). ap lines (append_assoc l (10 ∷ rest) more) ∙ lines-feed l (rest ++ more) f in
     let ended = λ (more : List ℕ). ap ended_lines (append_assoc l (10 ∷ rest) more) ∙ ended-feed l (rest ++ more) f in
     record {
@@ -177,12 +177,12 @@ Reaches-line s l rest text n f =
     }
 
 -- what a kept line answers
-pub text-kept : (s : Store) (k b kept line out new : List ℕ) → kept ≡ kept_with k b → line ≡ kept → new ≡ out ++ ((answer s line).1 ++ 10 ∷ []) → new ≡ out ++ ((answer s (k ++ b)).1 ++ 10 ∷ [])
-text-kept s k b kept line out new e w h =
-    h ∙ (ap (λ l. out ++ ((answer s l).1 ++ 10 ∷ [])) (w ∙ e) ∙ ap (λ (a : Store × List ℕ). out ++ (a.1 ++ 10 ∷ [])) (answer-kept s k b))
+pub text-pending : (s : Store) (k b pending line out new : List ℕ) → pending ≡ with_pending k b → line ≡ pending → new ≡ out ++ ((answer s line).1 ++ 10 ∷ []) → new ≡ out ++ ((answer s (k ++ b)).1 ++ 10 ∷ [])
+text-pending s k b pending line out new e w h =
+    h ∙ (ap (λ l. out ++ ((answer s l).1 ++ 10 ∷ [])) (w ∙ e) ∙ ap (λ (a : Store × List ℕ). out ++ (a.1 ++ 10 ∷ [])) (answer-pending s k b))
 
-pub store-kept : (s t : Store) (k b kept line : List ℕ) → kept ≡ kept_with k b → line ≡ kept → t ≡ (answer s line).0 → t ≡ (answer s (k ++ b)).0
-store-kept s t k b kept line e w h = h ∙ (ap (λ l. (answer s l).0) (w ∙ e) ∙ ap (λ (a : Store × List ℕ). a.0) (answer-kept s k b))
+pub store-pending : (s t : Store) (k b pending line : List ℕ) → pending ≡ with_pending k b → line ≡ pending → t ≡ (answer s line).0 → t ≡ (answer s (k ++ b)).0
+store-pending s t k b pending line e w h = h ∙ (ap (λ l. (answer s l).0) (w ∙ e) ∙ ap (λ (a : Store × List ℕ). a.0) (answer-pending s k b))
 
 -- no line feed is where the search found none
 pub NoFeed-nowhere : (xs : List ℕ) → Nowhere (Passes (is_byte 10) xs) 0 (length xs) → NoFeed xs
@@ -223,51 +223,51 @@ count-last [] old new l f h = absurd (omega arith)
 count-last (b ∷ bs) old new l f h = h ∙ ap (λ (ls : List (List ℕ)). old + length ls) (sym (lines-last b bs f))
 
 -- one line of the rest of a piece is answered
-pub Reaches-next : (p : Point) (s t : Store) (k kept rest later text new : List ℕ) (n m at : ℕ) →
-    Reaches p (record { store = s; waiting = k ++ rest; text = text; count = n }) → NoFeed k →
+pub LeadsTo-next : (p : Progress) (s t : Store) (k pending rest later text new : List ℕ) (n m at : ℕ) →
+    LeadsTo p (record { store = s; waiting = k ++ rest; text = text; count = n }) → NoFeed k →
     NoneBefore (Passes (is_byte 10) rest) 0 (length rest) at → Passes (is_byte 10) rest at → new ≡ text ++ ((answer s (k ++ take at rest)).1 ++ 10 ∷ []) →
-    t ≡ (answer s (k ++ take at rest)).0 → kept ≡ [] → m ≡ n + 1 → later ≡ take (length rest - (at + 1)) (drop (at + 1) rest) →
-    Reaches p (record { store = t; waiting = kept ++ later; text = new; count = m })
-Reaches-next p s t k kept rest later text new n m at h f before is etext estore ekept ecount elater =
+    t ≡ (answer s (k ++ take at rest)).0 → pending ≡ [] → m ≡ n + 1 → later ≡ take (length rest - (at + 1)) (drop (at + 1) rest) →
+    LeadsTo p (record { store = t; waiting = pending ++ later; text = new; count = m })
+LeadsTo-next p s t k pending rest later text new n m at h f before is etext estore ekept ecount elater =
     let l : List ℕ = k ++ take at rest in
     let tail : List ℕ = drop (at + 1) rest in
-    let cut : k ++ rest ≡ l ++ 10 ∷ tail =
+    let cutter : k ++ rest ≡ l ++ 10 ∷ tail =
     ap (λ w. k ++ w) (at_feed rest at before.high is) ∙ sym (append_assoc k (take at rest) (10 ∷ tail)) in
-    let first : Reaches p (record { store = s; waiting = l ++ 10 ∷ tail; text = text; count = n }) =
-    subst (λ w. Reaches p (record { store = s; waiting = w; text = text; count = n })) cut h in
-    let second : Reaches p (record { store = (answer s l).0; waiting = tail; text = text ++ ((answer s l).1 ++ 10 ∷ []); count = n + 1 }) =
-    Reaches-then p _ _ first (Reaches-line s l tail text n (NoFeed-append k (take at rest) f (NoFeed-before rest at before))) in
-    let whole : tail ≡ kept ++ later =
+    let first : LeadsTo p (record { store = s; waiting = l ++ 10 ∷ tail; text = text; count = n }) =
+    subst (λ w. LeadsTo p (record { store = s; waiting = w; text = text; count = n })) cutter h in
+    let second : LeadsTo p (record { store = (answer s l).0; waiting = tail; text = text ++ ((answer s l).1 ++ 10 ∷ []); count = n + 1 }) =
+    LeadsTo-then p _ _ first (LeadsTo-line s l tail text n (NoFeed-append k (take at rest) f (NoFeed-before rest at before))) in
+    let whole : tail ≡ pending ++ later =
     sym (take_all (length rest - (at + 1)) tail (rw length-drop (omega arith))) ∙ (sym elater ∙ ap (λ w. w ++ later) (sym ekept)) in
-    let at_text : Reaches p (record { store = (answer s l).0; waiting = tail; text = new; count = n + 1 }) =
-    subst (λ w. Reaches p (record { store = (answer s l).0; waiting = tail; text = w; count = n + 1 })) (sym etext) second in
-    let at_store : Reaches p (record { store = t; waiting = tail; text = new; count = n + 1 }) =
-    subst (λ w. Reaches p (record { store = w; waiting = tail; text = new; count = n + 1 })) (sym estore) at_text in
-    let at_count : Reaches p (record { store = t; waiting = tail; text = new; count = m }) =
-    subst (λ w. Reaches p (record { store = t; waiting = tail; text = new; count = w })) (sym ecount) at_store in
-    subst (λ w. Reaches p (record { store = t; waiting = w; text = new; count = m })) whole at_count
+    let at_text : LeadsTo p (record { store = (answer s l).0; waiting = tail; text = new; count = n + 1 }) =
+    subst (λ w. LeadsTo p (record { store = (answer s l).0; waiting = tail; text = w; count = n + 1 })) (sym etext) second in
+    let at_store : LeadsTo p (record { store = t; waiting = tail; text = new; count = n + 1 }) =
+    subst (λ w. LeadsTo p (record { store = w; waiting = tail; text = new; count = n + 1 })) (sym estore) at_text in
+    let at_count : LeadsTo p (record { store = t; waiting = tail; text = new; count = m }) =
+    subst (λ w. LeadsTo p (record { store = t; waiting = tail; text = new; count = w })) (sym ecount) at_store in
+    subst (λ w. LeadsTo p (record { store = t; waiting = w; text = new; count = m })) whole at_count
 
 pub NoFeed-none : (k : List ℕ) → k ≡ [] → NoFeed k
 NoFeed-none k e = subst NoFeed (sym e) tt
 
 -- the rest of the piece is kept, and nothing is left of it
-pub Reaches-end : (p : Point) (s : Store) (k kept rest text : List ℕ) (n : ℕ) →
-    Reaches p (record { store = s; waiting = k ++ rest; text = text; count = n }) → NoFeed k → Nowhere (Passes (is_byte 10) rest) 0 (length rest) →
-    kept ≡ kept_with k rest → Reaches p (record { store = s; waiting = kept ++ []; text = text; count = n })
-Reaches-end p s k kept rest text n h f none e =
-    subst (λ w. Reaches p (record { store = s; waiting = w; text = text; count = n })) (sym (append-nil kept ∙ e))
-    (Reaches-then p _ _ h (Reaches-kept s k rest text n f (NoFeed-nowhere rest none)))
+pub LeadsTo-end : (p : Progress) (s : Store) (k pending rest text : List ℕ) (n : ℕ) →
+    LeadsTo p (record { store = s; waiting = k ++ rest; text = text; count = n }) → NoFeed k → Nowhere (Passes (is_byte 10) rest) 0 (length rest) →
+    pending ≡ with_pending k rest → LeadsTo p (record { store = s; waiting = pending ++ []; text = text; count = n })
+LeadsTo-end p s k pending rest text n h f none e =
+    subst (λ w. LeadsTo p (record { store = s; waiting = w; text = text; count = n })) (sym (append-nil pending ∙ e))
+    (LeadsTo-then p _ _ h (LeadsTo-pending s k rest text n f (NoFeed-nowhere rest none)))
 
-pub NoFeed-end : (k kept rest : List ℕ) → NoFeed k → Nowhere (Passes (is_byte 10) rest) 0 (length rest) → kept ≡ kept_with k rest → NoFeed kept
-NoFeed-end k kept rest f none e = subst NoFeed (sym e) (NoFeed-kept k rest f (NoFeed-nowhere rest none))
+pub NoFeed-end : (k pending rest : List ℕ) → NoFeed k → Nowhere (Passes (is_byte 10) rest) 0 (length rest) → pending ≡ with_pending k rest → NoFeed pending
+NoFeed-end k pending rest f none e = subst NoFeed (sym e) (NoFeed-pending k rest f (NoFeed-nowhere rest none))
 
 -- each line takes a byte at least
 pub shorter-next : (rest later : List ℕ) (at : ℕ) → at < length rest → later ≡ take (length rest - (at + 1)) (drop (at + 1) rest) → length later < length rest
 shorter-next rest later at lt e = rw e (simp length-take (omega arith))
 
 -- and counts for no more than its bytes
-pub count-next : (k kept rest later : List ℕ) (n m at most : ℕ) → at < length rest → kept ≡ [] → m ≡ n + 1 → later ≡ take (length rest - (at + 1)) (drop (at + 1) rest) → n + length k + length rest ≤ most → m + length kept + length later ≤ most
-count-next k kept rest later n m at most lt ekept ecount elater h =
-    let none : length kept ≡ 0 = ap (λ (xs : List ℕ). length xs) ekept in
+pub count-next : (k pending rest later : List ℕ) (n m at most : ℕ) → at < length rest → pending ≡ [] → m ≡ n + 1 → later ≡ take (length rest - (at + 1)) (drop (at + 1) rest) → n + length k + length rest ≤ most → m + length pending + length later ≤ most
+count-next k pending rest later n m at most lt ekept ecount elater h =
+    let none : length pending ≡ 0 = ap (λ (xs : List ℕ). length xs) ekept in
     let short : length later < length rest = shorter-next rest later at lt elater in
     omega arith

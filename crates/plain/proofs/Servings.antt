@@ -5,7 +5,7 @@ use Rattle.std.specs.Result.{OnErr}
 use Rattle.plain_store.specs.Store.{Store}
 use Rattle.plain.specs.Lines.{ended_lines, lines}
 use Rattle.plain.specs.Served.{answers}
-use Rattle.plain.specs.Cuts.{NoFeed, Reaches}
+use Rattle.plain.specs.Cuts.{NoFeed, LeadsTo}
 use Rattle.plain.proofs.LineCuts.{ended-none}
 use Rattle.plain.specs.Streams.{Takes, Puts, PutsPart, ServesEnded, ServesPart}
 use Rattle.plain.specs.Serving.{Answered, Serving}
@@ -23,12 +23,12 @@ pub PutsPart-more : (old new : Option (List ℕ)) (bytes more : List ℕ) → Pu
 PutsPart-more old new bytes more (text, rest, e, p) = (text, rest ++ more, ap (λ b. b ++ more) e ∙ append_assoc text rest more, p)
 
 -- where a part of the replies was written
-pub PutsPart-replies : (s t : Store) (bytes start kept text slice : List ℕ) (n m : ℕ) (old new : Option (List ℕ)) → start ≡ [] → Reaches (record { store = s; waiting = bytes; text = start; count = n }) (record { store = t; waiting = kept; text = text; count = m }) → slice ≡ text → PutsPart old slice new → PutsPart old (answers s (ended_lines bytes)) new
-PutsPart-replies s t bytes start kept text slice n m old new none r e p =
-    let all : answers s (ended_lines bytes) ≡ slice ++ answers t (ended_lines (kept ++ [])) =
+pub PutsPart-replies : (s t : Store) (bytes start pending text slice : List ℕ) (n m : ℕ) (old new : Option (List ℕ)) → start ≡ [] → LeadsTo (record { store = s; waiting = bytes; text = start; count = n }) (record { store = t; waiting = pending; text = text; count = m }) → slice ≡ text → PutsPart old slice new → PutsPart old (answers s (ended_lines bytes)) new
+PutsPart-replies s t bytes start pending text slice n m old new none r e p =
+    let all : answers s (ended_lines bytes) ≡ slice ++ answers t (ended_lines (pending ++ [])) =
     ap (λ b. answers s (ended_lines b)) (sym (append-nil bytes)) ∙ (ap (λ b. b ++ answers s (ended_lines (bytes ++ []))) (sym none) ∙
-    (r.ended [] ∙ ap (λ b. b ++ answers t (ended_lines (kept ++ []))) (sym e))) in
-    subst (λ b. PutsPart old b new) (sym all) (PutsPart-more old new slice (answers t (ended_lines (kept ++ []))) p)
+    (r.ended [] ∙ ap (λ b. b ++ answers t (ended_lines (pending ++ []))) (sym e))) in
+    subst (λ b. PutsPart old b new) (sym all) (PutsPart-more old new slice (answers t (ended_lines (pending ++ []))) p)
 
 -- some of the lines are answered, and then some more
 pub Answered-then : (s t u : Store) (bytes rest later : List ℕ) (n m k : ℕ) (before now after : Option (List ℕ)) →
@@ -53,9 +53,9 @@ Answered-fault s t bytes rest n m before now then a p =
     ap (λ b. answers s (ended_lines b)) (sym (append-nil bytes)) ∙ (a.reaches.ended [] ∙ ap (λ b. a.text ++ answers t (ended_lines b)) (append-nil rest)) in
     subst (λ b. PutsPart before b then) (sym all) (PutsPart-after before now then a.text (answers t (ended_lines rest)) a.put p)
 
-pub Serving-next : (s t u : Store) (had left later before after then : Option (List ℕ)) (kept piece next : List ℕ) (n m : ℕ) →
-    Serving s had left before after t kept n → Takes left piece later → Answered t (kept ++ piece) n after u next m then → Serving s had later before then u next m
-Serving-next s t u had left later before after then kept piece next n m h taken a = record {
+pub Serving-next : (s t u : Store) (had left later before after then : Option (List ℕ)) (pending piece next : List ℕ) (n m : ℕ) →
+    Serving s had left before after t pending n → Takes left piece later → Answered t (pending ++ piece) n after u next m then → Serving s had later before then u next m
+Serving-next s t u had left later before after then pending piece next n m h taken a = record {
   consumed = h.consumed ++ piece;
   taken = Takes-then had left later h.consumed piece h.taken taken;
   answered = record {
@@ -64,43 +64,43 @@ Serving-next s t u had left later before after then kept piece next n m h taken 
     reaches = record {
       text = λ more.
           ap (λ b. answers s (lines b)) (append_assoc h.consumed piece more) ∙ (h.answered.reaches.text (piece ++ more) ∙
-          (ap (λ b. h.answered.text ++ answers t (lines b)) (sym (append_assoc kept piece more)) ∙ (ap (λ b. h.answered.text ++ b) (a.reaches.text more) ∙
+          (ap (λ b. h.answered.text ++ answers t (lines b)) (sym (append_assoc pending piece more)) ∙ (ap (λ b. h.answered.text ++ b) (a.reaches.text more) ∙
           sym (append_assoc h.answered.text a.text (answers u (lines (next ++ more)))))));
       ended = λ more.
           ap (λ b. answers s (ended_lines b)) (append_assoc h.consumed piece more) ∙ (h.answered.reaches.ended (piece ++ more) ∙
-          (ap (λ b. h.answered.text ++ answers t (ended_lines b)) (sym (append_assoc kept piece more)) ∙ (ap (λ b. h.answered.text ++ b) (a.reaches.ended more) ∙
+          (ap (λ b. h.answered.text ++ answers t (ended_lines b)) (sym (append_assoc pending piece more)) ∙ (ap (λ b. h.answered.text ++ b) (a.reaches.ended more) ∙
           sym (append_assoc h.answered.text a.text (answers u (ended_lines (next ++ more)))))));
       count = λ more.
           ap (λ b. 0 + length (lines b)) (append_assoc h.consumed piece more) ∙ (h.answered.reaches.count (piece ++ more) ∙
-          (ap (λ b. n + length (lines b)) (sym (append_assoc kept piece more)) ∙ a.reaches.count more));
+          (ap (λ b. n + length (lines b)) (sym (append_assoc pending piece more)) ∙ a.reaches.count more));
     };
   };
 }
 
 -- a fault after one more piece was read
-pub Serving-fault : (s t : Store) (had left later before after then : Option (List ℕ)) (kept piece : List ℕ) (n : ℕ) →
-    Serving s had left before after t kept n → Takes left piece later → PutsPart after (answers t (ended_lines (kept ++ piece))) then →
+pub Serving-fault : (s t : Store) (had left later before after then : Option (List ℕ)) (pending piece : List ℕ) (n : ℕ) →
+    Serving s had left before after t pending n → Takes left piece later → PutsPart after (answers t (ended_lines (pending ++ piece))) then →
     ServesPart (λ input. answers s (ended_lines input)) (λ input. answers s (lines input)) had later before then
-Serving-fault s t had left later before after then kept piece n h taken p = (
+Serving-fault s t had left later before after then pending piece n h taken p = (
   h.consumed ++ piece,
   Takes-then had left later h.consumed piece h.taken taken,
   inl (subst (λ b. PutsPart before b then) (sym (h.answered.reaches.ended piece))
-      (PutsPart-after before after then h.answered.text (answers t (ended_lines (kept ++ piece))) h.answered.put p)),
+      (PutsPart-after before after then h.answered.text (answers t (ended_lines (pending ++ piece))) h.answered.put p)),
 )
 
 -- a failed read
-pub Serving-unread : (s t : Store) (had left later before after : Option (List ℕ)) (kept : List ℕ) (n : ℕ) → Serving s had left before after t kept n →
+pub Serving-unread : (s t : Store) (had left later before after : Option (List ℕ)) (pending : List ℕ) (n : ℕ) → Serving s had left before after t pending n →
     Takes left [] later → ServesPart (λ input. answers s (ended_lines input)) (λ input. answers s (lines input)) had later before after
-Serving-unread s t had left later before after kept n h none =
-    Serving-fault s t had left later before after after kept [] n h none (PutsPart-none after (answers t (ended_lines (kept ++ []))))
+Serving-unread s t had left later before after pending n h none =
+    Serving-fault s t had left later before after after pending [] n h none (PutsPart-none after (answers t (ended_lines (pending ++ []))))
 
 -- all lines that ended are answered by then
-pub Serving-ended : (s t : Store) (had left later before after : Option (List ℕ)) (kept : List ℕ) (n : ℕ) → Serving s had left before after t kept n →
-    NoFeed kept → Takes left [] later → ServesEnded (λ input. answers s (ended_lines input)) had later before after
-Serving-ended s t had left later before after kept n h begun none =
+pub Serving-ended : (s t : Store) (had left later before after : Option (List ℕ)) (pending : List ℕ) (n : ℕ) → Serving s had left before after t pending n →
+    NoFeed pending → Takes left [] later → ServesEnded (λ input. answers s (ended_lines input)) had later before after
+Serving-ended s t had left later before after pending n h begun none =
     let all : answers s (ended_lines (h.consumed ++ [])) ≡ h.answered.text =
-    h.answered.reaches.ended [] ∙ (ap (λ b. h.answered.text ++ answers t (ended_lines b)) (append-nil kept) ∙
-    (ap (λ ls. h.answered.text ++ answers t ls) (ended-none kept begun) ∙ append-nil h.answered.text)) in (
+    h.answered.reaches.ended [] ∙ (ap (λ b. h.answered.text ++ answers t (ended_lines b)) (append-nil pending) ∙
+    (ap (λ ls. h.answered.text ++ answers t ls) (ended-none pending begun) ∙ append-nil h.answered.text)) in (
       h.consumed ++ [],
       Takes-then had left later h.consumed [] h.taken none,
       subst (λ b. Puts before b after) (sym all) h.answered.put,
@@ -112,17 +112,17 @@ over_still None left later consumed taken over none = tt
 over_still (Some input) left later consumed taken over none = Takes-nothing left later [] refl (Takes-end input consumed left taken over) none
 
 -- a fault at the last line
-pub Serving-last : {A E : Type 0} (r : Result A E) (s t : Store) (had left later before after then : Option (List ℕ)) (kept piece : List ℕ) (n : ℕ) →
-    Serving s had left before after t kept n → Takes left piece later → piece ≡ [] → IfSome left (λ l. l ≡ []) → OnErr r (PutsPart after (answers t (lines kept)) then) →
+pub Serving-last : {A E : Type 0} (r : Result A E) (s t : Store) (had left later before after then : Option (List ℕ)) (pending piece : List ℕ) (n : ℕ) →
+    Serving s had left before after t pending n → Takes left piece later → piece ≡ [] → IfSome left (λ l. l ≡ []) → OnErr r (PutsPart after (answers t (lines pending)) then) →
     OnErr r (ServesPart (λ input. answers s (ended_lines input)) (λ input. answers s (lines input)) had later before then)
-Serving-last (Ok x) s t had left later before after then kept piece n h taken none over p = tt
-Serving-last (Err e) s t had left later before after then kept piece n h taken none over p =
+Serving-last (Ok x) s t had left later before after then pending piece n h taken none over p = tt
+Serving-last (Err e) s t had left later before after then pending piece n h taken none over p =
     let nothing : Takes left [] later = subst (λ b. Takes left b later) none taken in
-    let all : answers s (lines (h.consumed ++ [])) ≡ h.answered.text ++ answers t (lines kept) =
-    h.answered.reaches.text [] ∙ ap (λ b. h.answered.text ++ answers t (lines b)) (append-nil kept) in (
+    let all : answers s (lines (h.consumed ++ [])) ≡ h.answered.text ++ answers t (lines pending) =
+    h.answered.reaches.text [] ∙ ap (λ b. h.answered.text ++ answers t (lines b)) (append-nil pending) in (
       h.consumed ++ [],
       Takes-then had left later h.consumed [] h.taken nothing,
-      inr (over_still had left later h.consumed h.taken over nothing, subst (λ b. PutsPart before b then) (sym all) (PutsPart-after before after then h.answered.text (answers t (lines kept)) h.answered.put p)),
+      inr (over_still had left later h.consumed h.taken over nothing, subst (λ b. PutsPart before b then) (sym all) (PutsPart-after before after then h.answered.text (answers t (lines pending)) h.answered.put p)),
     )
 
 pub in_range : {A : Type 0} (r : Result A ServeFault) → IsInRange r → r ≡ Err BadCapacity → ⊥

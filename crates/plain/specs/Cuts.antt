@@ -12,37 +12,37 @@ NoFeed [] = Unit {0}
 NoFeed (b ∷ bs) = (b ≢ 10) × NoFeed bs
 
 -- these bytes are kept and more follow: one byte past the most shows that a line is too long
-abbrev pub kept_with : List ℕ → List ℕ → List ℕ
-kept_with kept bytes = kept ++ take (most_bytes + 1 - length kept) bytes
+abbrev pub with_pending : List ℕ → List ℕ → List ℕ
+with_pending pending bytes = pending ++ take (most_bytes + 1 - length pending) bytes
 
 -- where the answering of an input stands: the store, the bytes that wait, the text of the replies so far and the
 -- number of the lines so far
-pub record Point : Type 0 where
+pub record Progress : Type 0 where
   pub store : Store
   pub waiting : List ℕ
   pub text : List ℕ
   pub count : ℕ
 
 -- the text of all replies, if these bytes and no more follow
-abbrev pub text_with : Point → List ℕ → List ℕ
+abbrev pub text_with : Progress → List ℕ → List ℕ
 text_with p more = p.text ++ answers p.store (lines (p.waiting ++ more))
 
 -- the text of the replies to the lines that end, if these bytes follow
-abbrev pub ended_with : Point → List ℕ → List ℕ
+abbrev pub ended_with : Progress → List ℕ → List ℕ
 ended_with p more = p.text ++ answers p.store (ended_lines (p.waiting ++ more))
 
 -- the number of all lines, if these bytes and no more follow
-abbrev pub count_with : Point → List ℕ → ℕ
+abbrev pub count_with : Progress → List ℕ → ℕ
 count_with p more = p.count + length (lines (p.waiting ++ more))
 
 -- all come to the same, whatever follows
-pub record Reaches (p q : Point) : Type 0 where
+pub record LeadsTo (p q : Progress) : Type 0 where
   pub text : (more : List ℕ) → text_with p more ≡ text_with q more
   pub ended : (more : List ℕ) → ended_with p more ≡ ended_with q more
   pub count : (more : List ℕ) → count_with p more ≡ count_with q more
 
 -- bytes that come
-abbrev pub given : Point → List ℕ → Point
+abbrev pub given : Progress → List ℕ → Progress
 given p bytes = record p { waiting = p.waiting ++ bytes }
 
 -- after these bytes there is the reply to one line

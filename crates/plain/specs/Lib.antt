@@ -27,7 +27,7 @@ pub use Rattle.plain_store.specs.Store
 pub use Rattle.plain_store.specs.Taken
 pub use Rattle.plain_store.specs.declared.store.TheConstants
 pub use Rattle.requests.specs.Change
-pub use Rattle.requests.specs.Forms
+pub use Rattle.requests.specs.ChangeKinds
 pub use Rattle.requests.specs.Judgments
 pub use Rattle.requests.specs.Keys
 pub use Rattle.requests.specs.Reasons

@@ -19,7 +19,7 @@ pub use lines::request_error::RequestError;
 pub use lines::request_line::{read_request, request_in};
 pub use lines::split::split_line;
 pub use plain_store::{
-    Api, ApiFault, MOST_REVISIONS, Plain, PlainError, PrintedReply, StoredReply,
+    Api, ApiFault, MAX_REVISIONS, Plain, PlainError, PrintedReply, StoredReply,
     capacity_bounds_the_counter, compactions_give_up_the_past_alone, deletes_spare_other_uids,
     deletes_take_what_is_there, generation_rises_with_spec, lists_are_whole,
     lists_of_one_version_are_equal, names_live_once, objects_stand_under_their_keys,
@@ -30,6 +30,6 @@ pub use plain_store::{
     versions_rise_by_one,
 };
 pub use requests::{
-    Change, Form, Judgment, Listing, Reason, Reply, Request, Verdict, Version, decide, judge,
+    Change, ChangeKind, Judgment, Listing, Reason, Reply, Request, Verdict, Version, decide, judge,
 };
 pub use server::{ServeFault, serve};

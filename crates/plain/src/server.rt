@@ -2,15 +2,15 @@ ghost use Rattle.std.specs.Prelude.{◌≡◌, ◌+◌, ◌<◌, ◌≤◌, ◌^
 ghost use Rattle.plain_store.specs.Store.{opening};
 ghost use Rattle.plain.specs.Lines.{ended_lines, lines};
 ghost use Rattle.plain.specs.Served.{served, served_so_far, answers};
-ghost use Rattle.plain.specs.Cuts.{NoFeed, Reaches};
+ghost use Rattle.plain.specs.Cuts.{NoFeed, LeadsTo};
 ghost use Rattle.plain.specs.Streams.{Takes, Puts, PutsPart, ServesEnded, ServesPart};
 ghost use Rattle.plain.specs.Serving.{Answered};
 ghost use Rattle.plain.specs.Faults.{CountsReads, CountsWrites, IsWriteOrMemory, IsInRange};
-ghost use Rattle.plain_store.specs.declared.store.TheConstants.{MOST_REVISIONS};
+ghost use Rattle.plain_store.specs.Reached.{most_revisions};
 ghost use Rattle.plain.specs.declared.server.ServeFault.TheVariants.{Memory as OutOfMemory, BadCapacity as CapacityOut};
 
 use crate::devices::stream::{Sink, Source, write_all};
-use crate::lines::cutter::{Cut, Stop, answer_last, answer_piece};
+use crate::lines::cutter::{Cutter, Paused, answer_last, answer_piece};
 use objects::{Memory, TreeReader};
 use plain_store::{Plain, PlainError};
 use std::alloc::{AllocError, Global};
@@ -67,27 +67,27 @@ fn answer_some<'a, W: Sink>(
     alloc: Global,
     plain: &mut Plain,
     writer: &mut W,
-    cut: Cut,
+    cutter: Cutter,
     piece: &'a [u8],
-) -> Result<Stop<'a>, ServeFault>
-    requires begun { NoFeed cut.kept.items }
-    requires room { cut.lines + length cut.kept.items + length piece.now < 2 ^ 64 }
-    requires written { cut.replies.items ≡ [] }
-    ensures reaches { IfOk result (λ v. Answered plain.old (cut.kept.items ++ piece.now) cut.lines (W.written writer.old)
-        plain.new (v.cut.kept.items ++ v.rest.now) v.cut.lines (W.written writer.new)) }
-    ensures begun { IfOk result (λ v. NoFeed v.cut.kept.items) }
+) -> Result<Paused<'a>, ServeFault>
+    requires begun { NoFeed cutter.pending.items }
+    requires room { cutter.lines + length cutter.pending.items + length piece.now < 2 ^ 64 }
+    requires written { cutter.replies.items ≡ [] }
+    ensures reaches { IfOk result (λ v. Answered plain.old (cutter.pending.items ++ piece.now) cutter.lines (W.written writer.old)
+        plain.new (v.cutter.pending.items ++ v.rest.now) v.cutter.lines (W.written writer.new)) }
+    ensures begun { IfOk result (λ v. NoFeed v.cutter.pending.items) }
     ensures count { IfOk result (λ v.
-        v.cut.lines + length v.cut.kept.items + length v.rest.now ≤ cut.lines + length cut.kept.items + length piece.now) }
+        v.cutter.lines + length v.cutter.pending.items + length v.rest.now ≤ cutter.lines + length cutter.pending.items + length piece.now) }
     ensures shorter { IfOk result (λ v. 0 < length piece.now → length v.rest.now < length piece.now) }
-    ensures written { IfOk result (λ v. v.cut.replies.items ≡ []) }
-    ensures fault { OnErr result (PutsPart (W.written writer.old) (answers plain.old (ended_lines (cut.kept.items ++ piece.now))) (W.written writer.new)) }
+    ensures written { IfOk result (λ v. v.cutter.replies.items ≡ []) }
+    ensures fault { OnErr result (PutsPart (W.written writer.old) (answers plain.old (ended_lines (cutter.pending.items ++ piece.now))) (W.written writer.new)) }
     ensures writes { CountsWrites result (W.failures writer.old) (W.failures writer.new) }
     ensures cause { IsWriteOrMemory result }
 {
-    let mut stop = answer_piece(alloc, plain, cut, piece)?;
-    write_all(writer, stop.cut.replies.as_slice()).ok_or(ServeFault::Write)?;
-    stop.cut.replies.clear();
-    Ok(stop)
+    let mut paused = answer_piece(alloc, plain, cutter, piece)?;
+    write_all(writer, paused.cutter.replies.as_slice()).ok_or(ServeFault::Write)?;
+    paused.cutter.replies.clear();
+    Ok(paused)
 }
 
 /// Answers the lines that end in the piece, and writes the replies.
@@ -95,28 +95,28 @@ fn answer_read<W: Sink>(
     alloc: Global,
     plain: &mut Plain,
     writer: &mut W,
-    mut cut: Cut,
+    mut cutter: Cutter,
     piece: &[u8],
-) -> Result<Cut, ServeFault>
-    requires begun { NoFeed cut.kept.items }
-    requires room { cut.lines + length cut.kept.items + length piece.now < 2 ^ 64 }
-    requires written { cut.replies.items ≡ [] }
-    ensures reaches { IfOk result (λ v. Answered plain.old (cut.kept.items ++ piece.now) cut.lines (W.written writer.old)
-        plain.new v.kept.items v.lines (W.written writer.new)) }
-    ensures begun { IfOk result (λ v. NoFeed v.kept.items) }
-    ensures count { IfOk result (λ v. v.lines + length v.kept.items ≤ cut.lines + length cut.kept.items + length piece.now) }
+) -> Result<Cutter, ServeFault>
+    requires begun { NoFeed cutter.pending.items }
+    requires room { cutter.lines + length cutter.pending.items + length piece.now < 2 ^ 64 }
+    requires written { cutter.replies.items ≡ [] }
+    ensures reaches { IfOk result (λ v. Answered plain.old (cutter.pending.items ++ piece.now) cutter.lines (W.written writer.old)
+        plain.new v.pending.items v.lines (W.written writer.new)) }
+    ensures begun { IfOk result (λ v. NoFeed v.pending.items) }
+    ensures count { IfOk result (λ v. v.lines + length v.pending.items ≤ cutter.lines + length cutter.pending.items + length piece.now) }
     ensures written { IfOk result (λ v. v.replies.items ≡ []) }
-    ensures fault { OnErr result (PutsPart (W.written writer.old) (answers plain.old (ended_lines (cut.kept.items ++ piece.now))) (W.written writer.new)) }
+    ensures fault { OnErr result (PutsPart (W.written writer.old) (answers plain.old (ended_lines (cutter.pending.items ++ piece.now))) (W.written writer.new)) }
     ensures writes { CountsWrites result (W.failures writer.old) (W.failures writer.new) }
     ensures cause { IsWriteOrMemory result }
 {
     let mut rest = piece;
     while !rest.is_empty() {
-        let stop = answer_some(alloc, plain, writer, cut, rest)?;
-        cut = stop.cut;
-        rest = stop.rest;
+        let paused = answer_some(alloc, plain, writer, cutter, rest)?;
+        cutter = paused.cutter;
+        rest = paused.rest;
     }
-    Ok(cut)
+    Ok(cutter)
 }
 
 /// Answers the last line, if its line feed has not come, and writes the reply. Answers how many lines there were.
@@ -124,20 +124,20 @@ fn answer_rest<W: Sink>(
     alloc: Global,
     plain: &mut Plain,
     writer: &mut W,
-    cut: Cut,
+    cutter: Cutter,
 ) -> Result<u64, ServeFault>
-    requires begun { NoFeed cut.kept.items }
-    requires room { cut.lines + length cut.kept.items < 2 ^ 64 }
-    requires written { cut.replies.items ≡ [] }
-    ensures text { OnOk result (Puts (W.written writer.old) (answers plain.old (lines cut.kept.items)) (W.written writer.new)) }
-    ensures count { IfOk result (λ n. n ≡ cut.lines + length (lines cut.kept.items)) }
-    ensures fault { OnErr result (PutsPart (W.written writer.old) (answers plain.old (lines cut.kept.items)) (W.written writer.new)) }
+    requires begun { NoFeed cutter.pending.items }
+    requires room { cutter.lines + length cutter.pending.items < 2 ^ 64 }
+    requires written { cutter.replies.items ≡ [] }
+    ensures text { OnOk result (Puts (W.written writer.old) (answers plain.old (lines cutter.pending.items)) (W.written writer.new)) }
+    ensures count { IfOk result (λ n. n ≡ cutter.lines + length (lines cutter.pending.items)) }
+    ensures fault { OnErr result (PutsPart (W.written writer.old) (answers plain.old (lines cutter.pending.items)) (W.written writer.new)) }
     ensures writes { CountsWrites result (W.failures writer.old) (W.failures writer.new) }
     ensures cause { IsWriteOrMemory result }
 {
-    let cut = answer_last(alloc, plain, cut)?;
-    write_all(writer, cut.replies.as_slice()).ok_or(ServeFault::Write)?;
-    Ok(cut.lines)
+    let cutter = answer_last(alloc, plain, cutter)?;
+    write_all(writer, cutter.replies.as_slice()).ok_or(ServeFault::Write)?;
+    Ok(cutter.lines)
 }
 
 /// Answers the lines of the reader's bytes from this store, with this room for one read.
@@ -161,23 +161,23 @@ fn serve_store<R: Source, W: Sink>(
     ensures writes { CountsWrites result (W.failures writer.old) (W.failures writer.new) }
     ensures cause { IsInRange result }
 {
-    let mut cut = Cut {
+    let mut cutter = Cutter {
         reader: Box::new(alloc, TreeReader::new(alloc)).map_err(AllocError::from)?,
-        kept: Vec::new(alloc),
+        pending: Vec::new(alloc),
         replies: Vec::new(alloc),
         lines: 0,
     };
     'reads: loop {
         let Some(count) = reader.read(room) else {
-            drop(cut);
+            drop(cutter);
             return Err(ServeFault::Read);
         };
         if count == 0 {
             break;
         }
-        cut = answer_read(alloc, plain, writer, cut, &room[..count])?;
+        cutter = answer_read(alloc, plain, writer, cutter, &room[..count])?;
     }
-    answer_rest(alloc, plain, writer, cut)
+    answer_rest(alloc, plain, writer, cutter)
 }
 
 /// Answers each line of the reader's bytes with a line to the writer, as the plain store with room for `capacity`
@@ -207,7 +207,7 @@ pub fn serve<R: Source, W: Sink>(
         (R.remaining reader.old) (R.remaining reader.new) (W.written writer.old) (W.written writer.new) }
     ensures reads { CountsReads result (R.failures reader.old) (R.failures reader.new) }
     ensures writes { CountsWrites result (W.failures writer.old) (W.failures writer.new) }
-    ensures capacity { IsErrOf result ServeFault.BadCapacity ↔ (1 ≤ capacity → MOST_REVISIONS < capacity) }
+    ensures capacity { IsErrOf result ServeFault.BadCapacity ↔ (1 ≤ capacity → most_revisions < capacity) }
     ensures untouched { IsErrOf result ServeFault.BadCapacity → (reader.new ≡ reader.old) × (writer.new ≡ writer.old) }
 {
     let mut plain = Plain::new(alloc, capacity)?;

@@ -6,7 +6,7 @@ use Rattle.std.proofs.lemmas.List.{get_or-append_right, get_or-drop, get_or_appe
 use Rattle.objects.specs.declared.key.Key.{Key}
 use Rattle.objects.specs.declared.object.Object.{Object}
 use Rattle.requests.specs.declared.request.Request.{Request}
-use Rattle.plain_store.specs.Reached.{IsReached}
+use Rattle.plain_store.specs.Reached.{IsReached, most_revisions}
 use Rattle.plain_store.specs.Run.{after}
 use Rattle.plain_store.specs.Store.{Objects, Store, map_at, opening, step, with_floor, with_next}
 use Rattle.plain_store.proofs.Moves.{Moves, idle, moves, raised, wrote}
@@ -72,7 +72,7 @@ capacity_run : (s : Store) (rs : List Request) → (after s rs).capacity ≡ s.c
 capacity_run s [] = refl
 capacity_run s (r ∷ rs) = capacity_run (step s r).0 rs ∙ capacity_move s (step s r).0 (moves s r)
 
-pub bounds : (s : Store) → IsReached s → (1 ≤ s.capacity) × (s.capacity ≤ 1048576) × (s.counter ≤ s.capacity) × (s.floor ≤ s.counter)
+pub bounds : (s : Store) → IsReached s → (1 ≤ s.capacity) × (s.capacity ≤ most_revisions) × (s.counter ≤ s.capacity) × (s.floor ≤ s.counter)
 bounds s is =
     let same = ap (λ (x : Store). x.capacity) is.left ∙ capacity_run (opening is.capacity) is.requests in
     let least = is.least in

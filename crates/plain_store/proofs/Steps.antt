@@ -13,10 +13,10 @@ use Rattle.requests.specs.declared.reply.Reply.TheVariants.{Listed}
 use Rattle.requests.specs.declared.verdict.Verdict.{Verdict}
 use Rattle.requests.specs.declared.verdict.Verdict.TheVariants.{Write}
 use Rattle.requests.specs.Change.{Change, change_object}
-use Rattle.requests.specs.declared.form.Form.{Form}
-use Rattle.requests.specs.declared.form.Form.TheVariants.{Creation, Update as Updating, Mark, Removal}
+use Rattle.requests.specs.declared.change_kind.ChangeKind.{ChangeKind}
+use Rattle.requests.specs.declared.change_kind.ChangeKind.TheVariants.{Creation, Update as Updating, Mark, Removal}
 use Rattle.plain_store.specs.Filed.{AreFiled}
-use Rattle.requests.specs.Forms.{change_by}
+use Rattle.requests.specs.ChangeKinds.{change_by}
 use Rattle.requests.specs.Keys.{key_named}
 use Rattle.plain_store.specs.Route.{lists, lists_at, route}
 use Rattle.plain_store.specs.Store.{Store, carried_out, collection, compacted_to, denied, listed_at, map_at, routed, step, written}
@@ -43,17 +43,17 @@ by_change s r k current c is named there filed decided =
     let own : IsOfKey k (Write c) = subst (IsOfKey k) (sym decided) (changes_its_key r k current named (filed_now s k current filed there)) in
     ap (λ q. carried_out s q (Write c)) own ∙ by_verdict s r k current (Write c) is named there decided
 
-pub object_by : (form : Form) (o : Object) → change_object (change_by form o) ≡ o
+pub object_by : (kind : ChangeKind) (o : Object) → change_object (change_by kind o) ≡ o
 object_by Creation o = refl
 object_by Updating o = refl
 object_by Mark o = refl
 object_by Removal o = refl
 
-pub by_form : (s : Store) (r : Request) (k : Key) (current : Option Object) (form : Form) (o : Object) → is_write r ≡ true → key_named r ≡ Some k
-    → current ≡ map.get s.objects k → AreFiled s.objects → Write (change_by form o) ≡ verdict r current
-    → carried_out s o.key (Write (change_by form o)) ≡ step s r
-by_form s r k current form o is named there filed decided =
-    ap (λ (p : Object). carried_out s p.key (Write (change_by form o))) (sym (object_by form o)) ∙ by_change s r k current (change_by form o) is named there filed decided
+pub by_kind : (s : Store) (r : Request) (k : Key) (current : Option Object) (kind : ChangeKind) (o : Object) → is_write r ≡ true → key_named r ≡ Some k
+    → current ≡ map.get s.objects k → AreFiled s.objects → Write (change_by kind o) ≡ verdict r current
+    → carried_out s o.key (Write (change_by kind o)) ≡ step s r
+by_kind s r k current kind o is named there filed decided =
+    ap (λ (p : Object). carried_out s p.key (Write (change_by kind o))) (sym (object_by kind o)) ∙ by_change s r k current (change_by kind o) is named there filed decided
 
 -- ---- the other steps
 

@@ -16,7 +16,7 @@ pub mod Taken
 pub mod Held
 -- ---- of the crate below
 pub use Rattle.requests.specs.Change
-pub use Rattle.requests.specs.Forms
+pub use Rattle.requests.specs.ChangeKinds
 pub use Rattle.requests.specs.Judgments
 pub use Rattle.requests.specs.Keys
 pub use Rattle.requests.specs.Reasons

@@ -27,5 +27,5 @@ pub use laws::runs::{
     runs_go_on, uids_are_given_once, versions_rise_by_one,
 };
 pub use printed_reply::PrintedReply;
-pub use store::{MOST_REVISIONS, Plain, PlainError};
+pub use store::{MAX_REVISIONS, Plain, PlainError};
 pub use stored_reply::StoredReply;

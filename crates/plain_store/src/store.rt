@@ -6,7 +6,7 @@ ghost use Rattle.plain_store.specs.Route.{is_read};
 ghost use Rattle.plain_store.specs.Store.{carried_out, compacted_to, denied, found, listed_at, map_at, opening, step, with_next};
 ghost use Rattle.version_map.specs.Keyed.{collection};
 ghost use Rattle.requests.specs.Change.{accepted, stamp};
-ghost use Rattle.requests.specs.Forms.{change_by, stored_by};
+ghost use Rattle.requests.specs.ChangeKinds.{change_by, stored_by};
 ghost use Rattle.requests.specs.Judgments.{verdict_of};
 ghost use Rattle.plain_store.specs.PrintedReplies.{is_single, reply_object, reply_stored};
 ghost use Rattle.requests.specs.Verdict.{is_write, verdict};
@@ -17,14 +17,14 @@ ghost use Rattle.requests.specs.declared.verdict.Verdict.TheVariants.{Write};
 use crate::printed_reply::PrintedReply;
 use crate::stored_reply::StoredReply;
 use objects::{Key, Kind, Memory, Object, Printed, Printer, Text, TreeReader};
-use requests::{Form, Judgment, Reason, Reply, Request, judge};
+use requests::{ChangeKind, Judgment, Reason, Reply, Request, judge};
 use std::alloc::{AllocError, Global};
 use std::marker::Model;
 use thiserror::Error;
 use version_map::VersionMap;
 
 /// The most revisions that a store may draw.
-pub const MOST_REVISIONS: u64 = 1_048_576;
+pub const MAX_REVISIONS: u64 = 1_048_576;
 
 #[derive(Clone, Copy, Debug, PartialEq, Eq, Error)]
 pub enum PlainError {
@@ -49,8 +49,7 @@ impl Model for Plain {
     ghost use Rattle.std.specs.Prelude.{◌≤◌};
     ghost use Rattle.plain_store.specs.Store.{Store, store_coded};
     ghost use Rattle.plain_store.specs.Held.{IsUpTo, store_of};
-    ghost use Rattle.plain_store.specs.Reached.{IsReached};
-    ghost use Rattle.plain_store.specs.declared.store.TheConstants.{MOST_REVISIONS};
+    ghost use Rattle.plain_store.specs.Reached.{IsReached, most_revisions};
 
     ghost Value = { Store };
 
@@ -58,7 +57,7 @@ impl Model for Plain {
 
     ghost view = { λ p. store_of p.versions p.counter p.capacity };
 
-    ghost invariant = { λ p. (p.counter ≤ p.capacity) × (p.capacity ≤ MOST_REVISIONS) × IsUpTo p.versions p.counter
+    ghost invariant = { λ p. (p.counter ≤ p.capacity) × (p.capacity ≤ most_revisions) × IsUpTo p.versions p.counter
         × IsReached (store_of p.versions p.counter p.capacity) };
 }
 
@@ -66,9 +65,9 @@ impl Plain {
     /// A store with nothing in it, whose floor is 0.
     pub fn new(alloc: Global, capacity: u64) -> Result<Plain, PlainError>
         ensures opened { IfOk result (λ plain. plain ≡ opening capacity) }
-        ensures refused { IsErrOf result PlainError.BadCapacity ↔ ((1 ≤ capacity → MOST_REVISIONS < capacity)) }
+        ensures refused { IsErrOf result PlainError.BadCapacity ↔ ((1 ≤ capacity → most_revisions < capacity)) }
     {
-        if capacity < 1 || MOST_REVISIONS < capacity {
+        if capacity < 1 || MAX_REVISIONS < capacity {
             return Err(PlainError::BadCapacity);
         }
         Ok(Plain {
@@ -252,7 +251,7 @@ impl Plain {
         match verdict_on(current, request)? {
             Judgment::Refuse(reason) => self.print(Reply::Refused(reason)),
             Judgment::Same(object) => self.print(Reply::Unchanged(object)),
-            Judgment::Write(form, object) => self.carry_out(form, object),
+            Judgment::Write(kind, object) => self.carry_out(kind, object),
         }
     }
 
@@ -274,20 +273,20 @@ impl Plain {
     }
 
     /// Makes the change at the next number, if there is one left.
-    fn carry_out(&mut self, form: Form, object: Object) -> Result<PrintedReply, Memory>
-        requires { IsReached (carried_out self.old object.key (Write (change_by form object))).0 }
-        ensures step { IfOk result (λ printed. (self.new, printed.reply) ≡ carried_out self.old object.key (Write (change_by form object))) }
+    fn carry_out(&mut self, kind: ChangeKind, object: Object) -> Result<PrintedReply, Memory>
+        requires { IsReached (carried_out self.old object.key (Write (change_by kind object))).0 }
+        ensures step { IfOk result (λ printed. (self.new, printed.reply) ≡ carried_out self.old object.key (Write (change_by kind object))) }
         ensures memory { OnErr result (self.new ≡ self.old) }
     {
         if self.is_full() {
             drop(object);
             return self.print(Reply::Refused(Reason::StoreFull));
         }
-        let printed = self.ready(form, object)?;
+        let printed = self.ready(kind, object)?;
         let (Some(key), Some(text)) = (printed.key(), printed.text()) else {
             unreachable!();
         };
-        match self.put(form, key, text) {
+        match self.put(kind, key, text) {
             Ok(()) => Ok(printed),
             Err(error) => {
                 drop(printed);
@@ -297,24 +296,24 @@ impl Plain {
     }
 
     /// What a change answers at the next number.
-    fn ready(&mut self, form: Form, object: Object) -> Result<PrintedReply, Memory>
+    fn ready(&mut self, kind: ChangeKind, object: Object) -> Result<PrintedReply, Memory>
         requires { self.old.counter ≢ self.old.capacity }
-        ensures reply { IfOk result (λ printed. printed.reply ≡ accepted (change_by form object) (stamp (change_by form object) (self.old.counter + 1))) }
+        ensures reply { IfOk result (λ printed. printed.reply ≡ accepted (change_by kind object) (stamp (change_by kind object) (self.old.counter + 1))) }
         ensures same { self.new ≡ self.old }
     {
-        let object = form.stamped(object, self.counter + 1);
-        self.print(form.accepted(object))
+        let object = kind.stamped(object, self.counter + 1);
+        self.print(kind.accepted(object))
     }
 
-    /// Draws the next number for a change of that form, which leaves this text under its key, or nothing. All that may be
+    /// Draws the next number for a change of that kind, which leaves this text under its key, or nothing. All that may be
     /// refused memory comes before it.
-    fn put(&mut self, form: Form, key: &Key, text: &Printed) -> Result<(), Memory>
+    fn put(&mut self, kind: ChangeKind, key: &Key, text: &Printed) -> Result<(), Memory>
         requires room { self.old.counter ≢ self.old.capacity }
-        requires reached { IsReached (with_next self.old key.now (stored_by form text.now)) }
-        ensures put { OnOk result (self.new ≡ with_next self.old key.now (stored_by form text.now)) }
+        requires reached { IsReached (with_next self.old key.now (stored_by kind text.now)) }
+        ensures put { OnOk result (self.new ≡ with_next self.old key.now (stored_by kind text.now)) }
         ensures memory { OnErr result (self.new ≡ self.old) }
     {
-        let state = stored(form, text)?;
+        let state = stored(kind, text)?;
         self.versions.make_room(key)?;
         self.versions.push(self.counter + 1, state);
         self.counter += 1;
@@ -348,13 +347,13 @@ fn verdict_on(current: Option<Object>, request: Request) -> Result<Judgment, Mem
     Ok(decided?)
 }
 
-/// What a change of that form leaves of the text of its object.
-fn stored(form: Form, text: &Printed) -> Result<Option<Printed>, AllocError>
-    ensures { IfOk result (λ state. state ≡ stored_by form text.now) }
+/// What a change of that kind leaves of the text of its object.
+fn stored(kind: ChangeKind, text: &Printed) -> Result<Option<Printed>, AllocError>
+    ensures { IfOk result (λ state. state ≡ stored_by kind text.now) }
 {
-    match form {
-        Form::Creation | Form::Update | Form::Mark => Ok(Some(text.clone()?)),
-        Form::Removal => Ok(None),
+    match kind {
+        ChangeKind::Creation | ChangeKind::Update | ChangeKind::Mark => Ok(Some(text.clone()?)),
+        ChangeKind::Removal => Ok(None),
     }
 }
 

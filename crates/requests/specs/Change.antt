@@ -22,7 +22,7 @@ change_object (updates o) = o
 change_object (marks o) = o
 change_object (removes o) = o
 
--- changes as codes: the place of the form, and the object
+-- changes as codes: the place of the kind, and the object
 abbrev pub form_index : Change → ℕ
 form_index (creates o) = 0
 form_index (updates o) = 1

@@ -1,8 +1,8 @@
 ghost use Rattle.std.specs.Prelude.{◌≡◌, ◌≤◌, ◌<◌, ◌^◌, IfOk};
 ghost use Rattle.requests.specs.Change.{accepted, stamp, version_of};
-ghost use Rattle.requests.specs.Forms.{change_by, stored_by};
+ghost use Rattle.requests.specs.ChangeKinds.{change_by, stored_by};
 
-use crate::form::Form;
+use crate::change_kind::ChangeKind;
 use crate::reply::Reply;
 use crate::version::Version;
 use objects::{Key, Object};
@@ -13,7 +13,7 @@ use std::marker::Model;
 /// answered, so that `stamp` takes no memory.
 #[derive(Drop)]
 pub struct Change {
-    form: Form,
+    kind: ChangeKind,
     key: Key,
     shown: Object,
     stored: Option<Object>,
@@ -22,25 +22,25 @@ pub struct Change {
 impl Model for Change {
     ghost use Rattle.std.specs.Prelude.{◌≡◌};
     ghost use Rattle.requests.specs.Change.{Change, change_coded};
-    ghost use Rattle.requests.specs.Forms.{change_by, stored_by};
+    ghost use Rattle.requests.specs.ChangeKinds.{change_by, stored_by};
 
     ghost Value = { Change };
 
     ghost coded = { change_coded };
 
-    ghost view = { λ c. change_by c.form c.shown };
+    ghost view = { λ c. change_by c.kind c.shown };
 
-    ghost invariant = { λ c. (c.key ≡ c.shown.key) × (c.stored ≡ stored_by c.form c.shown) };
+    ghost invariant = { λ c. (c.key ≡ c.shown.key) × (c.stored ≡ stored_by c.kind c.shown) };
 }
 
 impl Change {
-    /// The change of that form that leaves the object, or takes it away.
-    pub(crate) fn of(form: Form, object: Object) -> Result<Change, AllocError>
-        ensures { IfOk result (λ change. change ≡ change_by form object) }
+    /// The change of that kind that leaves the object, or takes it away.
+    pub(crate) fn of(kind: ChangeKind, object: Object) -> Result<Change, AllocError>
+        ensures { IfOk result (λ change. change ≡ change_by kind object) }
     {
-        match held_by(form, &object) {
+        match held_by(kind, &object) {
             Ok((key, stored)) => Ok(Change {
-                form,
+                kind,
                 key,
                 shown: object,
                 stored,
@@ -60,36 +60,36 @@ impl Change {
         ensures reply { result.1 ≡ accepted self (stamp self number) }
     {
         let Change {
-            form,
+            kind,
             key,
             shown,
             stored,
         } = self;
         let state = match stored {
-            Some(object) => Some(form.stamped(object, number)),
+            Some(object) => Some(kind.stamped(object, number)),
             None => None,
         };
         (
             Version { key, state },
-            form.accepted(form.stamped(shown, number)),
+            kind.accepted(kind.stamped(shown, number)),
         )
     }
 }
 
 /// What a change holds beside the object: its key, and what is to be stored.
-fn held_by(form: Form, object: &Object) -> Result<(Key, Option<Object>), AllocError>
-    ensures { IfOk result (λ held. (held.0 ≡ object.now.key) × (held.1 ≡ stored_by form object.now)) }
+fn held_by(kind: ChangeKind, object: &Object) -> Result<(Key, Option<Object>), AllocError>
+    ensures { IfOk result (λ held. (held.0 ≡ object.now.key) × (held.1 ≡ stored_by kind object.now)) }
 {
     let key = object.key.clone()?;
-    Ok((key, stored_by(form, object)?))
+    Ok((key, stored_by(kind, object)?))
 }
 
 /// A copy of the object to be stored; a removal stores none.
-fn stored_by(form: Form, object: &Object) -> Result<Option<Object>, AllocError>
-    ensures { IfOk result (λ stored. stored ≡ stored_by form object.now) }
+fn stored_by(kind: ChangeKind, object: &Object) -> Result<Option<Object>, AllocError>
+    ensures { IfOk result (λ stored. stored ≡ stored_by kind object.now) }
 {
-    match form {
-        Form::Creation | Form::Update | Form::Mark => Ok(Some(object.clone()?)),
-        Form::Removal => Ok(None),
+    match kind {
+        ChangeKind::Creation | ChangeKind::Update | ChangeKind::Mark => Ok(Some(object.clone()?)),
+        ChangeKind::Removal => Ok(None),
     }
 }

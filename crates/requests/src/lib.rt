@@ -2,7 +2,7 @@
 #![tactic(auto)]
 
 mod change;
-mod form;
+mod change_kind;
 mod listing;
 mod outcomes;
 mod preconditions;
@@ -14,7 +14,7 @@ mod verdict;
 mod version;
 
 pub use change::Change;
-pub use form::Form;
+pub use change_kind::ChangeKind;
 pub use listing::Listing;
 pub use reply::{Reason, Reply};
 pub use request::Request;

@@ -5,7 +5,7 @@ ghost use Rattle.requests.specs.Verdict.{is_write, on_create, on_delete, on_stat
 ghost use Rattle.requests.specs.Judgments.{verdict_of};
 
 use crate::change::Change;
-use crate::form::Form;
+use crate::change_kind::ChangeKind;
 use crate::outcomes::{born, marked, updated, with_status_of};
 use crate::preconditions::{
     changes_data, conflicts, graceful, has_status, is_marked, is_same_body, is_same_status, stated,
@@ -25,7 +25,7 @@ pub fn decide(current: Option<&Object>, request: &Request) -> Result<Verdict, Me
     Ok(match judge(current, request.clone()?)? {
         Judgment::Refuse(reason) => Verdict::Refuse(reason),
         Judgment::Same(object) => Verdict::Same(object),
-        Judgment::Write(form, object) => Verdict::Write(Change::of(form, object)?),
+        Judgment::Write(kind, object) => Verdict::Write(Change::of(kind, object)?),
     })
 }
 
@@ -75,7 +75,7 @@ fn on_create(draft: Draft, current: Option<&Object>) -> Result<Judgment, AllocEr
         drop(draft);
         return Ok(Judgment::Refuse(Reason::AlreadyExists));
     }
-    Ok(Judgment::Write(Form::Creation, born(draft.object)?))
+    Ok(Judgment::Write(ChangeKind::Creation, born(draft.object)?))
 }
 
 fn on_update(draft: Draft, current: Option<&Object>) -> Result<Judgment, AllocError>
@@ -104,7 +104,7 @@ fn unless_same(object: Object, current: &Object) -> Result<Judgment, AllocError>
         drop(object);
         return Ok(Judgment::Same(current.clone()?));
     }
-    Ok(Judgment::Write(Form::Update, object))
+    Ok(Judgment::Write(ChangeKind::Update, object))
 }
 
 fn on_status(draft: &Draft, current: Option<&Object>) -> Result<Judgment, AllocError>
@@ -122,7 +122,7 @@ fn on_status(draft: &Draft, current: Option<&Object>) -> Result<Judgment, AllocE
     if is_same_status(draft, current) {
         return Ok(Judgment::Same(current.clone()?));
     }
-    Ok(Judgment::Write(Form::Update, with_status_of(draft, current)?))
+    Ok(Judgment::Write(ChangeKind::Update, with_status_of(draft, current)?))
 }
 
 fn on_delete(
@@ -141,10 +141,10 @@ fn on_delete(
         return Ok(Judgment::Refuse(Reason::Conflict));
     }
     let Some(at) = graceful(current, at) else {
-        return Ok(Judgment::Write(Form::Removal, current.clone()?));
+        return Ok(Judgment::Write(ChangeKind::Removal, current.clone()?));
     };
     if is_marked(current) {
         return Ok(Judgment::Same(current.clone()?));
     }
-    Ok(Judgment::Write(Form::Mark, marked(current, at)?))
+    Ok(Judgment::Write(ChangeKind::Mark, marked(current, at)?))
 }

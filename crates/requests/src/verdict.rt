@@ -1,5 +1,5 @@
 use crate::change::Change;
-use crate::form::Form;
+use crate::change_kind::ChangeKind;
 use crate::reply::Reason;
 use objects::Object;
 
@@ -12,11 +12,11 @@ pub enum Verdict {
     Write(Change),
 }
 
-/// A verdict of which nothing is copied yet. Of a write it has the form and the object.
+/// A verdict of which nothing is copied yet. Of a write it has the kind and the object.
 #[derive(Drop)]
 pub enum Judgment {
     Refuse(Reason),
     /// The request would change nothing: this is the object as it is.
     Same(Object),
-    Write(Form, Object),
+    Write(ChangeKind, Object),
 }

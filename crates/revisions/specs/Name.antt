@@ -16,7 +16,3 @@ first_free held name from tries = find (λ s. not (held s)) (map name (range_wit
 -- how many counts are tried
 abbrev pub most_tries : ℕ
 most_tries = 1024
-
--- the most bytes of a name
-abbrev pub most_name : ℕ
-most_name = 63

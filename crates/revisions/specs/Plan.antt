@@ -3,6 +3,7 @@ use Rattle.std.specs.Prelude.{ℕ, ◌+◌, Bool, true, ◌&&◌, nat_le, nat_lt
 use Rattle.std.specs.Option.{is_some, option_map_or}
 use Rattle.serde_json.specs.Written.{compact_text}
 use Rattle.objects.specs.declared.object.Object.{Object}
+use Rattle.objects.specs.Names.{most_label}
 use Rattle.set_views.specs.declared.fault.PlanError.{PlanError}
 use Rattle.set_views.specs.declared.fault.PlanError.TheVariants.{BadSpec, NameTooLong, NoRevisionName}
 use Rattle.set_views.specs.declared.fault.PlanError.TheVariants as errors
@@ -13,7 +14,7 @@ use Rattle.revisions.specs.declared.plan.RevisionPlan.{RevisionPlan}
 use Rattle.revisions.specs.declared.plan.RevisionPlan.TheVariants.{Create, Renumber, Settled}
 use Rattle.revisions.specs.Built.{new_revision, with_number}
 use Rattle.revisions.specs.Choice.{Choice, in_place, to_renumber, to_create, choice_of, data_with, greatest, most_number, named_current, template_of}
-use Rattle.revisions.specs.Name.{first_free, most_name, most_tries, revision_name}
+use Rattle.revisions.specs.Name.{first_free, most_tries, revision_name}
 use Rattle.revisions.specs.Revision.{AreOwned, is_held, listed}
 
 pub data Planned : Type 0 where
@@ -35,7 +36,7 @@ planned_of (Settled revisions) = settled (objects_of revisions.owned.items) revi
 -- a new revision with that number
 unfoldable pub creation : SetParts → (List ℕ → Bool) → ℕ → ℕ → Result Object PlanError
 creation set held digits n = do
-  name ← guarded NameTooLong (nat_le (length set.object.key.name + 1 + digits) most_name) set.object.key.name
+  name ← guarded NameTooLong (nat_le (length set.object.key.name + 1 + digits) most_label) set.object.key.name
   free ← required NoRevisionName (first_free held (revision_name name (compact_text (data_with set.template)) digits) set.collisions most_tries)
   Ok (new_revision set free n)
 

@@ -13,7 +13,7 @@ use objects::Tree;
 use set_views::Set;
 
 /// The largest number that the API's integers of 64 bits with a sign hold.
-const MOST_NUMBER: u64 = 9_223_372_036_854_775_807;
+const MAX_NUMBER: u64 = 9_223_372_036_854_775_807;
 
 #[derive(Clone, Copy)]
 pub(crate) enum Chosen<'a> {
@@ -107,5 +107,5 @@ fn has_template(current: Option<RevisionView<'_>>) -> bool
 pub(crate) fn are_sound(set: &Set, owned: &[RevisionView<'_>]) -> bool
     ensures { result ≡ are_sound (set_parts set.now) (objects_of owned.now) }
 {
-    greatest(owned) < MOST_NUMBER && has_template(named_current(set, owned))
+    greatest(owned) < MAX_NUMBER && has_template(named_current(set, owned))
 }

@@ -17,7 +17,7 @@ use std::alloc::{AllocError, Global};
 use std::collections::BTreeSet;
 
 /// How many collision counts are tried.
-const MOST_TRIES: u32 = 1024;
+const MAX_TRIES: u32 = 1024;
 
 /// The name of which `digits` are hexadecimal digits of the digest of the text and the collision count.
 #[tactic(auto, unfolding(crate::specs::Name::revision_name))]
@@ -57,7 +57,7 @@ fn free_name(
         (required NoRevisionName (first_free (λ q. has_name q names.now.keys) (revision_name set.now text.now digits) from most_tries)) }
     ensures made { IfOk result (λ name. (count : ℕ) × (string_bytes name ≡ revision_name set.now text.now digits count)) }
 {
-    for count in from..from + MOST_TRIES {
+    for count in from..from + MAX_TRIES {
         let name = revision_name(alloc, set, text, digits, count)?;
         if !names.contains(name.as_str()) {
             return Ok(name);

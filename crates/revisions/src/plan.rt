@@ -11,13 +11,10 @@ use crate::choice::{Chosen, are_sound, choice_of, greatest, named_current};
 use crate::listed::{Listed, read_revisions};
 use crate::name::{name_of, new_name};
 use crate::view::RevisionView;
-use objects::{Object, Tree};
+use objects::{MAX_LABEL, Object, Tree};
 use set_views::{PlanError, Set};
 use std::alloc::Global;
 use std::collections::BTreeSet;
-
-/// The most bytes of a revision's name, which is the value of a pod's label.
-const MOST_NAME: usize = 63;
 
 /// The revisions of a set whose update revision is in place.
 #[derive(Drop)]
@@ -130,7 +127,7 @@ fn created(
     requires template { data_of template ≡ data_with set.now.template }
     ensures { Gives (λ object. object) result (creation (set_parts set.now) (λ q. has_name q names.now.keys) digits number) }
 {
-    if MOST_NAME < name_of(set).len() + 1 + digits {
+    if MAX_LABEL < name_of(set).len() + 1 + digits {
         drop(template);
         return Err(PlanError::NameTooLong);
     }

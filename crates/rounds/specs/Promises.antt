@@ -17,6 +17,7 @@ use Rattle.collector.specs.Collectable.{Among, HasOwner}
 use Rattle.rounds.specs.Accepted.{Creates, HasRemoval}
 use Rattle.rounds.specs.Life.{Follows}
 use Rattle.rounds.specs.Phase.{reading_set}
+use Rattle.plain_store.specs.Reached.{most_revisions}
 use Rattle.rounds.specs.Planned.{IsPlanned}
 use Rattle.rounds.specs.Reconciler.{Reconciler}
 use Rattle.rounds.specs.Transcript.{Entry, Exchange, IsRun, Life, exchanges_of, of_life, requests_of}
@@ -25,7 +26,7 @@ use Rattle.rounds.specs.Transcript.{Entry, Exchange, IsRun, Life, exchanges_of, 
 -- set and asks what the controller's reconciler has it ask.
 pub record IsTranscript (reconcilers : ℕ → Reconciler) (capacity : ℕ) (entries : List Entry) : Type 0 where
   pub least : 1 ≤ capacity
-  pub most : capacity ≤ 1048576
+  pub most : capacity ≤ most_revisions
   pub run : IsRun capacity entries
   pub lives : (life : Life) → Follows (reconcilers life.controller) reading_set (of_life life entries)
 

@@ -12,7 +12,7 @@ use crate::claims::claims_in;
 use crate::fault::PlanError;
 use crate::policies::{Policy, Retention, Strategy, policy_of, retention_of, strategy_of};
 use crate::set::Set;
-use crate::values::{MOST_COUNT, count_or, inside, present, text_in};
+use crate::values::{MAX_COUNT, count_or, inside, present, text_in};
 use objects::{Members, Object, Text, Tree};
 use std::alloc::{AllocError, Global};
 
@@ -117,7 +117,7 @@ fn range_fits(counts: Counts) -> bool
     ensures { result ≡ range_fits counts }
 {
     let end = u64::from(counts.start) + u64::from(counts.replicas);
-    counts.replicas == 0 || end - 1 <= u64::from(MOST_COUNT)
+    counts.replicas == 0 || end - 1 <= u64::from(MAX_COUNT)
 }
 
 /// The text, copied, if there is one.

@@ -8,7 +8,7 @@ ghost use Rattle.set_views.specs.Values.{present, inside, count_of, count_or};
 use objects::Tree;
 
 /// The largest number of the API's integers of 32 bits with a sign.
-pub(crate) const MOST_COUNT: u32 = 2_147_483_647;
+pub(crate) const MAX_COUNT: u32 = 2_147_483_647;
 
 /// The value, unless it is `null`.
 pub(crate) fn present(found: Option<&Tree>) -> Option<&Tree>
@@ -43,7 +43,7 @@ pub(crate) fn count_of(value: &Tree) -> Option<u32>
         return None;
     };
     match number.as_u64() {
-        Some(count) if count <= u64::from(MOST_COUNT) => Some(count as u32),
+        Some(count) if count <= u64::from(MAX_COUNT) => Some(count as u32),
         _ => None,
     }
 }

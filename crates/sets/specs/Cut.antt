@@ -4,7 +4,7 @@ use Rattle.std.specs.List.{All}
 use Rattle.set_views.specs.Set.{SetParts}
 use Rattle.scaling.specs.declared.step.Step.{Step}
 use Rattle.scaling.specs.declared.step.Step.TheVariants.{MakeClaims, KeepClaims, ReleaseClaims, CreatePod, DeletePod, Wait}
-use Rattle.manifests.specs.BuiltPod.{most_name}
+use Rattle.objects.specs.Names.{most_label}
 use Rattle.sets.specs.declared.action.Action.{Action}
 use Rattle.sets.specs.Actions.{name_at}
 use Rattle.sets.specs.Plan.{most_actions}
@@ -18,7 +18,7 @@ abbrev pub is_nameable : SetParts → Step → Bool
 is_nameable set (MakeClaims i) = true
 is_nameable set (KeepClaims i) = true
 is_nameable set (ReleaseClaims i uid) = true
-is_nameable set (CreatePod i revision) = nat_le (length (name_at set i)) most_name
+is_nameable set (CreatePod i revision) = nat_le (length (name_at set i)) most_label
 is_nameable set (DeletePod i uid) = true
 is_nameable set (Wait i cause) = true
 

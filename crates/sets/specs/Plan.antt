@@ -13,7 +13,7 @@ use Rattle.revisions.specs.Revision.{AreOwned, is_held, listed}
 use Rattle.scaling.specs.Listed.{replicas_in}
 use Rattle.scaling.specs.Replicas.{Pods}
 use Rattle.scaling.specs.Views.{AreViews, is_near}
-use Rattle.manifests.specs.BuiltPod.{most_name}
+use Rattle.objects.specs.Names.{most_label}
 use Rattle.claims.specs.Listed.{listed_claim}
 use Rattle.sets.specs.declared.action.Action.{Action}
 use Rattle.sets.specs.declared.action.Action.TheVariants.{WriteRevision}
@@ -27,7 +27,7 @@ most_actions = 1024
 
 -- the name of the last pod in range, if there is one, is not too long
 abbrev pub names_fit : SetParts → Bool
-names_fit set = (set.replicas == 0) || nat_le (length (name_at set (set.start + set.replicas - 1))) most_name
+names_fit set = (set.replicas == 0) || nat_le (length (name_at set (set.start + set.replicas - 1))) most_label
 
 -- the set's pods among the listed ones, given the names of its update and current revisions; NameTooLong is tested before
 -- Foreign

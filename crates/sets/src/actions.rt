@@ -7,7 +7,7 @@ use objects::Memory;
 use std::alloc::Global;
 
 /// The most actions of one plan.
-const MOST_ACTIONS: usize = 1024;
+const MAX_ACTIONS: usize = 1024;
 
 /// The actions that were added, up to the 1,024th.
 #[derive(Drop)]
@@ -30,7 +30,7 @@ impl Actions {
     pub fn add(&mut self, action: Action) -> Result<(), Memory>
         ensures { OnOk result (Adds self.old.list.items self.new.list.items (action ∷ [])) }
     {
-        if self.list.len() < MOST_ACTIONS {
+        if self.list.len() < MAX_ACTIONS {
             self.list.push(action)?;
             Ok(())
         } else {

@@ -16,15 +16,12 @@ use crate::actions::Actions;
 use crate::ending::{add_history, add_status, current_name};
 use crate::steps::{add_steps, name_at};
 use claims::ListedClaims;
-use objects::{Memory, Object};
+use objects::{MAX_LABEL, Memory, Object};
 use revisions::{RevisionPlan, Revisions, revision_plan};
 use scaling::{Replica, pod_steps, replicas_of, views_of};
 use set_views::{PlanError, PodView, Set};
 use std::alloc::Global;
 use std::collections::BTreeMap;
-
-/// The most bytes of a pod's name, which is the value of a label, and its hostname.
-const MOST_NAME: usize = 63;
 
 /// Whether the name of the last pod in range, if there is one, is not too long.
 fn names_fit(alloc: Global, set: &Set) -> Result<bool, Memory>
@@ -34,7 +31,7 @@ fn names_fit(alloc: Global, set: &Set) -> Result<bool, Memory>
         return Ok(true);
     }
     let last = name_at(alloc, set, set.start + set.replicas - 1)?;
-    let fits = last.as_str().len() <= MOST_NAME;
+    let fits = last.as_str().len() <= MAX_LABEL;
     Ok(fits)
 }
 

@@ -3,7 +3,7 @@ ghost use Rattle.std.specs.Prelude.{◌≡◌, true, IfOk, OnOk, length, nat_le}
 ghost use Rattle.std.specs.List.{flat_map};
 ghost use Rattle.set_views.specs.declared.fault.PlanError.TheVariants.{Memory as OutOfMemory};
 ghost use Rattle.set_views.specs.Set.{set_parts};
-ghost use Rattle.manifests.specs.BuiltPod.{most_name};
+ghost use Rattle.objects.specs.Names.{most_label};
 ghost use Rattle.claims.specs.Changes.{made_claims};
 ghost use Rattle.claims.specs.Listed.{claim_named};
 ghost use Rattle.sets.specs.Actions.{actions_of, changes_in, claim_action, claim_actions, name_at, new_pod, revision_of};
@@ -41,7 +41,7 @@ fn new_pod(
     revision: &RevisionView<'_>,
     ordinal: u32,
 ) -> Result<Object, Memory>
-    requires { nat_le (length (name_at (set_parts set.now) ordinal)) most_name ≡ true }
+    requires { nat_le (length (name_at (set_parts set.now) ordinal)) most_label ≡ true }
     ensures { IfOk result (λ pod. pod ≡ new_pod (set_parts set.now) revision.now.object.now ordinal) }
 {
     match pod_of(alloc, set, revision, ordinal) {

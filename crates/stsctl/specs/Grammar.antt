@@ -9,12 +9,13 @@ use Rattle.clap.specs.Simple.{new_shape}
 use Rattle.clap.specs.declared.builder.value_parser.ValueParser.TheVariants as parsers
 use Rattle.clap.specs.declared.error.kind.ErrorKind.{ErrorKind}
 use Rattle.clap.specs.declared.error.kind.ErrorKind.TheVariants.{DisplayHelp, DisplayVersion, OutOfMemory}
+use Rattle.plain_store.specs.Reached.{most_revisions}
 
 abbrev pub capacity_rule : Rule
 capacity_rule = record (new_rule (codes "capacity")) {
   long = Some (codes "capacity");
   value_names = 1;
-  parser = Some (parsers.Unsigned 1 1048576);
+  parser = Some (parsers.Unsigned 1 most_revisions);
 }
 
 abbrev pub serve_app : App
@@ -71,7 +72,7 @@ digits_text words = one_of (codes "digits") (rows_under (codes "plan") (subcomma
 -- The store has room for as many revisions as the text says in decimal digits, or else for as many as there may be. Where
 -- the text is no such number, the words have a fault.
 abbrev pub IsCapacityBy : Option Text → ℕ → Type 0
-IsCapacityBy None capacity = capacity ≡ 1048576
+IsCapacityBy None capacity = capacity ≡ most_revisions
 IsCapacityBy (Some text) capacity =
     IsNumeral 10 (without_leading_plus text) → digits_value 10 (without_leading_plus text) < 2 ^ 64
     → capacity ≡ digits_value 10 (without_leading_plus text)

@@ -5,7 +5,7 @@ ghost use Rattle.plain.specs.Served.{served, served_so_far};
 ghost use Rattle.stsctl.specs.Serving.{IsOutOfRange, ServesAll};
 
 use crate::status::{BAD_WORDS, FAILURE, Heap, SUCCESS};
-use plain::{MOST_REVISIONS, ServeFault, Sink, Source};
+use plain::{MAX_REVISIONS, ServeFault, Sink, Source};
 
 /// Serves the lines of the reader.
 pub(crate) fn served<R: Source, W: Sink>(
@@ -15,7 +15,7 @@ pub(crate) fn served<R: Source, W: Sink>(
     capacity: u64,
 ) -> u8
     ensures status { result < BAD_WORDS }
-    ensures range { result ≡ SUCCESS → (1 ≤ capacity) × (capacity ≤ MOST_REVISIONS) }
+    ensures range { result ≡ SUCCESS → (1 ≤ capacity) × (capacity ≤ MAX_REVISIONS) }
     ensures all { result ≡ SUCCESS → ServesAll capacity (R.remaining reader.old) (R.remaining reader.new)
         (W.written writer.old) (W.written writer.new) }
     ensures part { result ≢ SUCCESS → ServesPart (served_so_far capacity) (served capacity)

@@ -5,7 +5,7 @@ ghost use Rattle.stsctl.specs.Grammar.{IsCapacityBy, IsDigitsBy, faults_of, plan
 ghost use Rattle.stsctl.specs.Asked.{IsAsked};
 
 use clap::{Arg, ArgMatches, Command, Error, value_parser};
-use plain::MOST_REVISIONS;
+use plain::MAX_REVISIONS;
 use std::alloc::{AllocError, Global};
 use std::convert::AsStr;
 
@@ -13,7 +13,7 @@ use std::convert::AsStr;
 const DIGITS: u64 = 10;
 
 /// The most hex digits that a hash has.
-const MOST_DIGITS: u64 = 64;
+const MAX_DIGITS: u64 = 64;
 
 /// What is to be planned: the set of this namespace and name, and how many hex digits of its hash the name of a new
 /// revision gets.
@@ -53,7 +53,7 @@ fn serve_grammar<'a>(alloc: Global) -> Result<Command<'a>, AllocError>
     let capacity = Arg::new(alloc, "capacity")
         .long("capacity")
         .value_name("N")
-        .value_parser(value_parser!(u64).range(1..=MOST_REVISIONS as i64))
+        .value_parser(value_parser!(u64).range(1..=MAX_REVISIONS as i64))
         .help("How many revisions the store may draw, from 1 to 1048576 [default: 1048576]");
     Command::new(alloc, "serve")
         .about("Answers each request line of standard input with a line of standard output")
@@ -75,7 +75,7 @@ fn plan_grammar<'a>(alloc: Global) -> Result<Command<'a>, AllocError>
     let digits = Arg::new(alloc, "digits")
         .long("digits")
         .value_name("H")
-        .value_parser(value_parser!(u64).range(1..=MOST_DIGITS as i64))
+        .value_parser(value_parser!(u64).range(1..=MAX_DIGITS as i64))
         .help(
             "How many hex digits of its hash the name of a new revision gets, from 1 to 64 [default: 10]",
         );
@@ -106,7 +106,7 @@ fn capacity_in(matches: &ArgMatches<'_>) -> u64
         Some(serve) => serve.get_one::<u64>("capacity"),
         None => None,
     };
-    given.unwrap_or(MOST_REVISIONS)
+    given.unwrap_or(MAX_REVISIONS)
 }
 
 /// What the words after `plan` say.
@@ -122,6 +122,6 @@ fn plan_words<'a>(matches: &ArgMatches<'a>) -> PlanWords<'a>
     PlanWords {
         namespace: matches.get_str("namespace").unwrap_or("default"),
         name: matches.get_str("set").unwrap_or(""),
-        digits: digits.clamp(1, MOST_DIGITS) as usize,
+        digits: digits.clamp(1, MAX_DIGITS) as usize,
     }
 }

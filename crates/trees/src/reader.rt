@@ -16,10 +16,10 @@ use simdutf8::basic::from_utf8;
 use std::alloc::Global;
 
 /// The most bytes that a text may have.
-pub const MOST_BYTES: usize = 1_048_576;
+pub const MAX_BYTES: usize = 1_048_576;
 
 /// How deep lists and maps of a text may nest.
-const MOST_DEPTH: usize = 127;
+const MAX_DEPTH: usize = 127;
 
 /// Reads texts one after another, in memory that it keeps from text to text: a few pages, and the longest text's length.
 #[derive(Drop)]
@@ -42,7 +42,7 @@ impl TreeReader {
     pub fn read(&mut self, bytes: &[u8]) -> Result<Tree, TreeError>
         ensures { Gives data_of result (tree_reading bytes.now) }
     {
-        if bytes.len() > MOST_BYTES {
+        if bytes.len() > MAX_BYTES {
             return Err(TreeError::TooLong);
         }
         self.read_text(bytes)?.ok_or(TreeError::NotWhole)
@@ -53,7 +53,7 @@ impl TreeReader {
             (required NotJson (option_map if_whole (json_value bytes.now))) }
     {
         match from_utf8(bytes) {
-            Ok(text) => tree_in(self.alloc, text, MOST_DEPTH, &mut self.scratch),
+            Ok(text) => tree_in(self.alloc, text, MAX_DEPTH, &mut self.scratch),
             Err(_) => Err(TreeError::NotJson),
         }
     }

@@ -10,7 +10,7 @@ ghost use Rattle.requests.specs.declared.reply.Reply.TheVariants.{Refused};
 ghost use Rattle.requests.specs.declared.reply.Reason.TheVariants.{Conflict};
 ghost use Rattle.requests.specs.Keys.{key_named};
 ghost use Rattle.requests.specs.Verdict.{stated};
-ghost use Rattle.plain_store.specs.Reached.{IsReached};
+ghost use Rattle.plain_store.specs.Reached.{IsReached, most_revisions};
 ghost use Rattle.plain_store.specs.Route.{is_read};
 ghost use Rattle.plain_store.specs.Taken.{Takes, taken};
 ghost use Rattle.plain_store.specs.Store.{Store, step};
@@ -68,5 +68,5 @@ pub fn deletes_take_what_is_there()
 
 /// A store that an `Api` may stand on has a capacity from 1 to 1,048,576, and neither its counter nor its floor passes it.
 pub fn capacity_bounds_the_counter()
-    ensures { (s : Store) → IsReached s → (1 ≤ s.capacity) × (s.capacity ≤ 1048576) × (s.counter ≤ s.capacity) × (s.floor ≤ s.counter) }
+    ensures { (s : Store) → IsReached s → (1 ≤ s.capacity) × (s.capacity ≤ most_revisions) × (s.counter ≤ s.capacity) × (s.floor ≤ s.counter) }
 {}

@@ -2,7 +2,7 @@ use Rattle.std.proofs.Common.{◌≡◌, ◌∙◌, ◌<◌, sym, ap, arith, len
 use Rattle.std.proofs.lemmas.Bool.{eqb-false, eqb-true, not-false}
 use Rattle.std.proofs.lemmas.Slice.Eq.{bytes_eq-Decides}
 use Rattle.objects.proofs.PodNamesDiffer.{not_split, is_cut, parts_of_pod_name, result_ok-parsed, pod_name-cut}
-use Rattle.objects.proofs.pod_names.split_pod_name.Goals.{then-is_empty-via-then-is_empty, then-is_empty-via-else-is_empty+then-ordinal-gt-MOST_ORDINAL, then-is_empty-via-else-is_empty+else-ordinal-gt-MOST_ORDINAL+then-ne}
+use Rattle.objects.proofs.pod_names.split_pod_name.Goals.{then-is_empty-via-then-is_empty, then-is_empty-via-else-is_empty+then-ordinal-gt-MAX_ORDINAL, then-is_empty-via-else-is_empty+else-ordinal-gt-MAX_ORDINAL+then-ne}
 use Rattle.objects.proofs.pod_names.split_pod_name.Goals as goal
 
 pub returns-in_err-set-clause-none : goal.returns-in_err-set-clause-none
@@ -23,8 +23,8 @@ returns-then-is_empty-clause-none c set ordinal is =
     elim c.then-is_empty.branch [
       | then-is_empty-via-then-is_empty w ↦
           let some : 0 < length c.in_ok-set.set.now = rw parts.0 is.set_named in omega (arith, eqb-true (length c.in_ok-set.set.now) 0 (sym c.is_empty.ensures ∙ w.if-is_empty.true))
-      | then-is_empty-via-else-is_empty+then-ordinal-gt-MOST_ORDINAL w ↦ omega (arith, is.fits, w.if-ordinal-gt-MOST_ORDINAL.true)
-      | then-is_empty-via-else-is_empty+else-ordinal-gt-MOST_ORDINAL+then-ne w ↦
+      | then-is_empty-via-else-is_empty+then-ordinal-gt-MAX_ORDINAL w ↦ omega (arith, is.fits, w.if-ordinal-gt-MAX_ORDINAL.true)
+      | then-is_empty-via-else-is_empty+else-ordinal-gt-MAX_ORDINAL+then-ne w ↦
           let equal = (bytes_eq-Decides c.in_ok-set.digits.now w.format.result.now).1 (parts.1 ∙ ap decimal (sym same) ∙ sym w.format.ensures.text) in
           let unequal = sym w.if-ne.true ∙ w.ne.ensures ∙ ap not equal in absurd cc
     ]
@@ -36,5 +36,5 @@ returns-clause-some c =
     record {
       joined = pod_name-cut _ _ _ c.in_ok-ordinal.ordinal cut (equal ∙ c.format.ensures.text);
       set_named = omega (arith, eqb-false (length c.in_ok-set.set.now) 0 (sym c.is_empty.ensures ∙ c.if-is_empty.false));
-      fits = c.if-ordinal-gt-MOST_ORDINAL.false;
+      fits = c.if-ordinal-gt-MAX_ORDINAL.false;
     }

@@ -5,11 +5,11 @@ use Rattle.plain.proofs.server.answer_read.Given as goal
 
 abbrev pub invariant-loop-rest : goal.invariant-loop-rest
 invariant-loop-rest g l = record {
-  answered : Answered l.fn.plain (l.fn.cut.kept.items ++ l.fn.piece) l.fn.cut.lines (g.W.Sink.written l.fn.writer) l.plain (l.cut.kept.items ++ l.rest)
-      l.cut.lines (g.W.Sink.written l.writer);
-  begun : NoFeed l.cut.kept.items;
-  written : l.cut.replies.items ≡ [];
-  count : l.cut.lines + length l.cut.kept.items + length l.rest ≤ l.fn.cut.lines + length l.fn.cut.kept.items + length l.fn.piece;
+  answered : Answered l.fn.plain (l.fn.cutter.pending.items ++ l.fn.piece) l.fn.cutter.lines (g.W.Sink.written l.fn.writer) l.plain (l.cutter.pending.items ++ l.rest)
+      l.cutter.lines (g.W.Sink.written l.writer);
+  begun : NoFeed l.cutter.pending.items;
+  written : l.cutter.replies.items ≡ [];
+  count : l.cutter.lines + length l.cutter.pending.items + length l.rest ≤ l.fn.cutter.lines + length l.fn.cutter.pending.items + length l.fn.piece;
   writes : g.W.Sink.failures l.writer ≡ g.W.Sink.failures l.fn.writer;
 }
 

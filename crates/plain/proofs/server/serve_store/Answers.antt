@@ -3,24 +3,24 @@ use Rattle.plain.proofs.Servings.{on_err, Serving-next, Serving-fault, Serving-u
 use Rattle.plain.proofs.server.serve_store.Goals as goal
 
 pub returns-in_default-clause-fault : goal.returns-in_default-clause-fault
-returns-in_default-clause-fault g c = Serving-unread _ _ _ _ _ _ _ _ _ c.reads.invariant.serving c.in_default.ensures.kept
+returns-in_default-clause-fault g c = Serving-unread _ _ _ _ _ _ _ _ _ c.reads.invariant.serving c.in_default.ensures.pending
 
 pub returns-in_default-clause-unread : goal.returns-in_default-clause-unread
-returns-in_default-clause-unread g c = λ _. Serving-ended _ _ _ _ _ _ _ _ _ c.reads.invariant.serving c.reads.invariant.begun c.in_default.ensures.kept
+returns-in_default-clause-unread g c = λ _. Serving-ended _ _ _ _ _ _ _ _ _ c.reads.invariant.serving c.reads.invariant.begun c.in_default.ensures.pending
 
-pub returns-in_err-cut-clause-fault : goal.returns-in_err-cut-clause-fault
-returns-in_err-cut-clause-fault g c =
-    on_err _ c.from_residual-in_err-cut.result
-    (Serving-fault _ _ _ _ _ _ _ _ _ _ _ c.reads.invariant.serving c.in-Some.ensures.taken c.in_err-cut.ensures.fault)
+pub returns-in_err-cutter-clause-fault : goal.returns-in_err-cutter-clause-fault
+returns-in_err-cutter-clause-fault g c =
+    on_err _ c.from_residual-in_err-cutter.result
+    (Serving-fault _ _ _ _ _ _ _ _ _ _ _ c.reads.invariant.serving c.in-Some.ensures.taken c.in_err-cutter.ensures.fault)
 
 pub reads-preserved : goal.reads-preserved
 reads-preserved g c = record {
-  serving = Serving-next _ _ _ _ _ _ _ _ _ _ _ _ _ _ c.reads.invariant.serving c.in-Some.ensures.taken c.in_ok-cut.ensures.reaches;
-  begun = c.in_ok-cut.ensures.begun;
-  written = c.in_ok-cut.ensures.written;
-  room = omega (arith, length-take c.in-Some.count c.read.new.room, c.in_ok-cut.ensures.count, c.in-Some.ensures.bounded, c.reads.invariant.room);
+  serving = Serving-next _ _ _ _ _ _ _ _ _ _ _ _ _ _ c.reads.invariant.serving c.in-Some.ensures.taken c.in_ok-cutter.ensures.reaches;
+  begun = c.in_ok-cutter.ensures.begun;
+  written = c.in_ok-cutter.ensures.written;
+  room = omega (arith, length-take c.in-Some.count c.read.new.room, c.in_ok-cutter.ensures.count, c.in-Some.ensures.bounded, c.reads.invariant.room);
   reads = c.in-Some.ensures.well ∙ c.reads.invariant.reads;
-  writes = c.in_ok-cut.ensures.writes ∙ c.reads.invariant.writes;
+  writes = c.in_ok-cutter.ensures.writes ∙ c.reads.invariant.writes;
 }
 
 pub returns-clause-fault : goal.returns-clause-fault

@@ -6,10 +6,10 @@ use Rattle.plain.proofs.server.serve_store.Given as goal
 abbrev pub invariant-reads : goal.invariant-reads
 invariant-reads g l = record {
   serving : Serving l.fn.plain (g.R.Source.remaining l.fn.reader) (g.R.Source.remaining l.reader) (g.W.Sink.written l.fn.writer) (g.W.Sink.written l.writer) l.plain
-      l.cut.kept.items l.cut.lines;
-  begun : NoFeed l.cut.kept.items;
-  written : l.cut.replies.items ≡ [];
-  room : l.cut.lines + length l.cut.kept.items + g.R.Source.most l.reader ≤ g.R.Source.most l.fn.reader;
+      l.cutter.pending.items l.cutter.lines;
+  begun : NoFeed l.cutter.pending.items;
+  written : l.cutter.replies.items ≡ [];
+  room : l.cutter.lines + length l.cutter.pending.items + g.R.Source.most l.reader ≤ g.R.Source.most l.fn.reader;
   reads : g.R.Source.failures l.reader ≡ g.R.Source.failures l.fn.reader;
   writes : g.W.Sink.failures l.writer ≡ g.W.Sink.failures l.fn.writer;
 }

@@ -5,10 +5,10 @@ use Rattle.plain.proofs.lines.cutter.answer_last.Goals as goal
 
 pub returns-clause-text : goal.returns-clause-text
 returns-clause-text c =
-    let some : 0 < length c.args.cut.kept.items = omega (arith, eqb-false (vec_len c.args.cut.kept) 0 (sym c.if-is_empty.ensures)) in
-    text-last c.args.plain.now c.args.cut.kept.items _ _ _ some c.requires.begun refl c.in_ok-cut.ensures.text
+    let some : 0 < length c.args.cutter.pending.items = omega (arith, eqb-false (vec_len c.args.cutter.pending) 0 (sym c.if-is_empty.ensures)) in
+    text-last c.args.plain.now c.args.cutter.pending.items _ _ _ some c.requires.begun refl c.in_ok-cutter.ensures.text
 
 pub returns-clause-count : goal.returns-clause-count
 returns-clause-count c =
-    let some : 0 < length c.args.cut.kept.items = omega (arith, eqb-false (vec_len c.args.cut.kept) 0 (sym c.if-is_empty.ensures)) in
-    count-last c.args.cut.kept.items _ _ some c.requires.begun c.in_ok-cut.ensures.count
+    let some : 0 < length c.args.cutter.pending.items = omega (arith, eqb-false (vec_len c.args.cutter.pending) 0 (sym c.if-is_empty.ensures)) in
+    count-last c.args.cutter.pending.items _ _ some c.requires.begun c.in_ok-cutter.ensures.count

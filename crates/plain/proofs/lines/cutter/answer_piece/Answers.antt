@@ -1,12 +1,12 @@
 use Rattle.std.proofs.Common.{◌++◌, take, inr, refl, arith}
-use Rattle.plain.proofs.LineCuts.{NoFeed-none, NoFeed-end, Reaches-next, Reaches-end, shorter-next, count-next}
+use Rattle.plain.proofs.LineCuts.{NoFeed-none, NoFeed-end, LeadsTo-next, LeadsTo-end, shorter-next, count-next}
 use Rattle.plain.proofs.lines.cutter.answer_piece.Goals as goal
 
 pub returns-then-len-ge-ENOUGH-clause-reaches : goal.returns-then-len-ge-ENOUGH-clause-reaches
 returns-then-len-ge-ENOUGH-clause-reaches c =
-    Reaches-next _ c.loop-at.plain _ c.loop-at.cut.kept.items _ c.loop-at.rest.now _ c.loop-at.cut.replies.items _ c.loop-at.cut.lines _ c.in-Some.at
-    c.loop-at.invariant.reaches c.loop-at.invariant.begun c.in-Some.ensures.0 c.in-Some.ensures.1 c.in_ok-cut.ensures.text c.in_ok-cut.ensures.store
-    c.in_ok-cut.ensures.kept c.in_ok-cut.ensures.count refl
+    LeadsTo-next _ c.loop-at.plain _ c.loop-at.cutter.pending.items _ c.loop-at.rest.now _ c.loop-at.cutter.replies.items _ c.loop-at.cutter.lines _ c.in-Some.at
+    c.loop-at.invariant.reaches c.loop-at.invariant.begun c.in-Some.ensures.0 c.in-Some.ensures.1 c.in_ok-cutter.ensures.text c.in_ok-cutter.ensures.store
+    c.in_ok-cutter.ensures.pending c.in_ok-cutter.ensures.count refl
 
 pub returns-then-len-ge-ENOUGH-clause-shorter : goal.returns-then-len-ge-ENOUGH-clause-shorter
 returns-then-len-ge-ENOUGH-clause-shorter c =
@@ -15,29 +15,29 @@ returns-then-len-ge-ENOUGH-clause-shorter c =
 
 pub returns-then-len-ge-ENOUGH-clause-few : goal.returns-then-len-ge-ENOUGH-clause-few
 returns-then-len-ge-ENOUGH-clause-few c =
-    (c.loop-at.cut.replies.items, c.loop-at.invariant.few, inr (c.loop-at.plain, c.loop-at.cut.kept.items ++ take c.in-Some.at c.loop-at.rest.now, c.in_ok-cut.ensures.text))
+    (c.loop-at.cutter.replies.items, c.loop-at.invariant.few, inr (c.loop-at.plain, c.loop-at.cutter.pending.items ++ take c.in-Some.at c.loop-at.rest.now, c.in_ok-cutter.ensures.text))
 
 pub loop-at-preserved : goal.loop-at-preserved
 loop-at-preserved c =
     let less = shorter-next c.loop-at.rest.now _ c.in-Some.at c.in-Some.ensures.0.high refl in
     record {
-      begun = NoFeed-none _ c.in_ok-cut.ensures.kept;
+      begun = NoFeed-none _ c.in_ok-cutter.ensures.pending;
       reaches =
-          Reaches-next _ c.loop-at.plain _ c.loop-at.cut.kept.items _ c.loop-at.rest.now _ c.loop-at.cut.replies.items _ c.loop-at.cut.lines _ c.in-Some.at
-          c.loop-at.invariant.reaches c.loop-at.invariant.begun c.in-Some.ensures.0 c.in-Some.ensures.1 c.in_ok-cut.ensures.text c.in_ok-cut.ensures.store
-          c.in_ok-cut.ensures.kept c.in_ok-cut.ensures.count refl;
+          LeadsTo-next _ c.loop-at.plain _ c.loop-at.cutter.pending.items _ c.loop-at.rest.now _ c.loop-at.cutter.replies.items _ c.loop-at.cutter.lines _ c.in-Some.at
+          c.loop-at.invariant.reaches c.loop-at.invariant.begun c.in-Some.ensures.0 c.in-Some.ensures.1 c.in_ok-cutter.ensures.text c.in_ok-cutter.ensures.store
+          c.in_ok-cutter.ensures.pending c.in_ok-cutter.ensures.count refl;
       count =
-          count-next c.loop-at.cut.kept.items _ c.loop-at.rest.now _ c.loop-at.cut.lines _ c.in-Some.at _ c.in-Some.ensures.0.high c.in_ok-cut.ensures.kept
-          c.in_ok-cut.ensures.count refl c.loop-at.invariant.count;
+          count-next c.loop-at.cutter.pending.items _ c.loop-at.rest.now _ c.loop-at.cutter.lines _ c.in-Some.at _ c.in-Some.ensures.0.high c.in_ok-cutter.ensures.pending
+          c.in_ok-cutter.ensures.count refl c.loop-at.invariant.count;
       shorter = omega (arith, less, c.loop-at.invariant.shorter);
       few = omega (arith, c.if-len-ge-ENOUGH.false);
     }
 
 pub returns-clause-reaches : goal.returns-clause-reaches
 returns-clause-reaches c =
-    Reaches-end _ _ c.loop-at.cut.kept.items _ c.loop-at.rest.now _ _ c.loop-at.invariant.reaches c.loop-at.invariant.begun c.in_default.ensures
-    c.in_ok-kept.ensures
+    LeadsTo-end _ _ c.loop-at.cutter.pending.items _ c.loop-at.rest.now _ _ c.loop-at.invariant.reaches c.loop-at.invariant.begun c.in_default.ensures
+    c.in_ok-pending.ensures
 
 pub returns-clause-begun : goal.returns-clause-begun
 returns-clause-begun c =
-    NoFeed-end c.loop-at.cut.kept.items _ c.loop-at.rest.now c.loop-at.invariant.begun c.in_default.ensures c.in_ok-kept.ensures
+    NoFeed-end c.loop-at.cutter.pending.items _ c.loop-at.rest.now c.loop-at.invariant.begun c.in_default.ensures c.in_ok-pending.ensures

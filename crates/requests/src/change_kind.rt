@@ -1,13 +1,13 @@
 ghost use Rattle.std.specs.Prelude.{◌≡◌, ◌<◌, ◌^◌};
 ghost use Rattle.requests.specs.Change.{accepted, stamp};
-ghost use Rattle.requests.specs.Forms.{change_by};
+ghost use Rattle.requests.specs.ChangeKinds.{change_by};
 
 use crate::reply::Reply;
 use objects::{Meta, Object};
 
 /// What a change does to the object of its key.
 #[derive(Clone, Copy)]
-pub enum Form {
+pub enum ChangeKind {
     Creation,
     Update,
     /// A graceful deletion, which leaves the object until a later delete.
@@ -15,8 +15,8 @@ pub enum Form {
     Removal,
 }
 
-impl Form {
-    /// The object of a change of this form that draws the number. A creation has the number as its UID too (Kubernetes
+impl ChangeKind {
+    /// The object of a change of this kind that draws the number. A creation has the number as its UID too (Kubernetes
     /// `ObjectMeta`: uid, resourceVersion, generation).
     pub fn stamped(self, object: Object, number: u64) -> Object
         requires { number < 2 ^ 48 }
@@ -24,21 +24,21 @@ impl Form {
     {
         let Object { key, meta, body } = object;
         let meta = match self {
-            Form::Creation => created(number),
-            Form::Update | Form::Mark | Form::Removal => at_version(meta, number),
+            ChangeKind::Creation => created(number),
+            ChangeKind::Update | ChangeKind::Mark | ChangeKind::Removal => at_version(meta, number),
         };
         Object { key, meta, body }
     }
 
-    /// The reply to a change of this form that left the object.
+    /// The reply to a change of this kind that left the object.
     pub fn accepted(self, object: Object) -> Reply
         ensures { result ≡ accepted (change_by self object) object }
     {
         match self {
-            Form::Creation => Reply::Created(object),
-            Form::Update => Reply::Updated(object),
-            Form::Mark => Reply::Marked(object),
-            Form::Removal => Reply::Removed(object),
+            ChangeKind::Creation => Reply::Created(object),
+            ChangeKind::Update => Reply::Updated(object),
+            ChangeKind::Mark => Reply::Marked(object),
+            ChangeKind::Removal => Reply::Removed(object),
         }
     }
 }
