@@ -1,6 +1,6 @@
 -- ---- what public clauses cite
 pub mod Change
-pub mod Forms
+pub mod ChangeKinds
 pub mod Judgments
 pub mod Keys
 pub mod Reasons
