@@ -59,6 +59,11 @@ pub struct Closed {
 
 impl Line {
     /// A line with the numbers from 1 to `capacity`, none of them drawn.
+    ///
+    /// # Errors
+    ///
+    /// The first that applies: BadCapacity where `capacity` is not from 1 to 1,048,576; BadShards where `shards` is not
+    /// from 1 to 64.
     pub fn new(alloc: Global, capacity: u64, shards: usize) -> Result<Ends, LineError>
         ensures line { IfOk result (λ e. e.line.capacity ≡ capacity) }
         ensures shards { IfOk result (λ e. (vec_len e.shards ≡ shards)

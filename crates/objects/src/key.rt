@@ -38,7 +38,11 @@ impl Key {
     ghost use Rattle.objects.specs.Key.{key_parts, is_key};
     ghost use Rattle.objects.specs.declared.fault.ReadError.TheVariants.{BadName};
 
-    /// The key of these parts, or BadName.
+    /// The key of these parts.
+    ///
+    /// # Errors
+    ///
+    /// BadName where the namespace is no DNS label, or the name is none that an object of the kind may have.
     pub fn of(alloc: Global, kind: Kind, namespace: &str, name: &str) -> Result<Key, ReadError>
         ensures kind { IfOk result (λ key. key.kind ≡ kind) }
         ensures key { Gives (λ key. key) result

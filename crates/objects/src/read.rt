@@ -12,7 +12,11 @@ use crate::object::Draft;
 use std::alloc::Global;
 use trees::{Members, Text, Tree, read_tree};
 
-/// The object that the bytes are, or the first refusal.
+/// The object that the bytes are.
+///
+/// # Errors
+///
+/// The first that applies: TooLong, NotJson, NotWhole, NoKind, UnknownKind, BadName, BadMeta.
 #[tactic(auto, using(crate::proofs::Chains::fails_then), unfolding(crate::specs::Reading::reading))]
 pub fn read_object(alloc: Global, bytes: &[u8]) -> Result<Draft, ReadError>
     ensures { Gives (λ draft. draft) result (reading bytes.now) }
@@ -21,7 +25,11 @@ pub fn read_object(alloc: Global, bytes: &[u8]) -> Result<Draft, ReadError>
     read_draft(alloc, tree)
 }
 
-/// The object that a value is. It refuses with NoKind, UnknownKind, BadName or BadMeta alone.
+/// The object that a value is.
+///
+/// # Errors
+///
+/// The first that applies: NoKind, UnknownKind, BadName, BadMeta.
 #[tactic(auto, unfolding(crate::specs::Reading::draft_of))]
 pub fn read_draft(alloc: Global, tree: Tree) -> Result<Draft, ReadError>
     ensures { Gives (λ draft. draft) result (draft_of (data_of tree)) }
@@ -32,7 +40,11 @@ pub fn read_draft(alloc: Global, tree: Tree) -> Result<Draft, ReadError>
     }
 }
 
-/// The key that the members `kind`, `namespace` and `name` say. It refuses with NoKind, UnknownKind or BadName alone.
+/// The key that the members `kind`, `namespace` and `name` say.
+///
+/// # Errors
+///
+/// The first that applies: NoKind, UnknownKind, BadName.
 #[tactic(auto, using(crate::proofs::Chains::fails_then), unfolding(crate::specs::Reading::key_in))]
 pub fn read_key(alloc: Global, members: &Members) -> Result<Key, ReadError>
     ensures { Gives (λ key. key) result (key_in members.now) }
@@ -42,7 +54,11 @@ pub fn read_key(alloc: Global, members: &Members) -> Result<Key, ReadError>
 }
 
 /// The kind and the namespace that the members `kind` and `namespace` say: those of the objects that a list is asked
-/// for (Kubernetes API concepts, resource collections). It refuses with NoKind, UnknownKind or BadName alone.
+/// for (Kubernetes API concepts, resource collections).
+///
+/// # Errors
+///
+/// The first that applies: NoKind, UnknownKind, BadName.
 #[tactic(auto, using(crate::proofs::Chains::fails_then), unfolding(crate::specs::Reading::collection_in))]
 pub fn read_collection(alloc: Global, members: &Members) -> Result<(Kind, Text), ReadError>
     ensures { Gives (λ collection. collection) result (collection_in members.now) }

@@ -140,11 +140,17 @@ fn unless_empty(text: Option<&str>) -> Option<&str>
     }
 }
 
-/// Reads what a StatefulSet says of its pods (Kubernetes API reference, apps/v1, StatefulSet). It is BadSpec where its
-/// UID is 0, where `spec` or `spec.template` is no map, or where a member of `spec` or the collision count of `status`
-/// has a value that the API does not know: a number out of the range from 0 to 2147483647, another word, or claim
-/// templates that are no list of maps with a DNS label as their `metadata.name`, no two alike. It is OrdinalTooLarge
-/// where the last of its ordinals is above 2147483647. A missing member and `null` have the API's default.
+/// Reads what a StatefulSet says of its pods (Kubernetes API reference, apps/v1, StatefulSet). A missing member and
+/// `null` have the API's default.
+///
+/// # Errors
+///
+/// The first that applies:
+///
+/// - BadSpec where its UID is 0, where `spec` or `spec.template` is no map, or where a member of `spec` or the collision
+///   count of `status` has a value that the API does not know: a number out of the range from 0 to 2147483647, another
+///   word, or claim templates that are no list of maps with a DNS label as their `metadata.name`, no two alike;
+/// - OrdinalTooLarge where the last of its ordinals is above 2147483647.
 #[tactic(auto, using(crate::proofs::Chains::fails_then), unfolding(crate::specs::SetReading::set_of))]
 pub fn read_set(alloc: Global, object: &Object) -> Result<Set, PlanError>
     ensures { Gives set_parts result (set_of object.now) }

@@ -38,6 +38,10 @@ impl TreeReader {
     }
 
     /// The value that the bytes are, whatever was read before.
+    ///
+    /// # Errors
+    ///
+    /// The first that applies: TooLong, NotJson, NotWhole.
     #[tactic(auto, using(crate::proofs::Chains::fails_then), unfolding(crate::specs::Reading::tree_reading))]
     pub fn read(&mut self, bytes: &[u8]) -> Result<Tree, TreeError>
         ensures { Gives data_of result (tree_reading bytes.now) }
@@ -72,6 +76,10 @@ impl TreeReader {
 }
 
 /// The value that the bytes are.
+///
+/// # Errors
+///
+/// The first that applies: TooLong, NotJson, NotWhole.
 pub fn read_tree(alloc: Global, bytes: &[u8]) -> Result<Tree, TreeError>
     ensures { Gives data_of result (tree_reading bytes.now) }
 {

@@ -19,6 +19,16 @@ use version_map::VersionMap;
 /// A record is what a key is from its number on: an object, or none after a removal. Whoever reads at a number is
 /// answered by the record with the largest number up to that one. Numbers below the floor are read no more, so that
 /// records which only they need can be dropped.
+///
+/// A key that was created at 3, updated at 5, removed at 8 and created again at 9:
+///
+/// | Read at | 1, 2 | 3, 4 | 5, 6, 7 | 8 | 9 and on |
+/// |---|---|---|---|---|---|
+/// | answer | none | the first object | the updated one | none | the new object |
+///
+/// A compaction to 6 drops the record 3, which was superseded at 5; reads at 6 and 7 still need 5. One to 8 drops 5 too,
+/// and one to 9 the removal. The newest record of a key stays, also where it is a removal: it says when the key was last
+/// written.
 #[derive(Drop)]
 pub struct Shard {
     versions: VersionMap<Object>,

@@ -17,6 +17,11 @@ use requests::Request;
 use std::alloc::Global;
 
 /// The request that a line, without its line end, is.
+///
+/// # Errors
+///
+/// The first that applies: what `read_tree` refuses; NoVerb, UnknownVerb; what the object or the key is refused with, as
+/// `read_draft` and `read_key` do; BadField.
 pub fn read_request(alloc: Global, line: &[u8]) -> Result<Request, RequestError>
     ensures { Answers result (request_of line.now) }
 {
