@@ -1,5 +1,5 @@
 -- Steps of reading a request.
-use Rattle.std.proofs.Common.{◌≡◌, ℕ, List, Bool, true, false, cond, codes, bytes_eq, Option, Some, None, Result, Ok, Err, refl, sym, ap, ◌∙◌, subst}
+use Rattle.std.proofs.Common.{◌≡◌, ℕ, List, codes, Option, Some, None, Result, Ok, Err, refl, sym, ap, ◌∙◌, subst}
 use Rattle.std.specs.Option.{option_and_then, ok_or}
 use Rattle.serde_json.specs.Data.{Data, Members}
 use Rattle.serde_json.specs.Find.{as_object, as_str, get_member}
@@ -19,7 +19,7 @@ use Rattle.plain.specs.declared.lines.request_error.RequestError.{RequestError}
 use Rattle.plain.specs.declared.lines.request_error.RequestError.TheVariants as errors
 use Rattle.plain.specs.declared.lines.verb.Verb.{Verb}
 use Rattle.plain.specs.declared.lines.verb.Verb.TheVariants as verb
-use Rattle.plain.specs.Requests.{◌>>=◌, compaction_in, deletion_in, demanded, exact_in, field_text, lifted, list_in, named_in, object_draft, verb_request, request_in, request_of, Refuses, Answers}
+use Rattle.plain.specs.Requests.{◌>>=◌, compaction_in, deletion_in, required, exact_in, field_text, lifted, list_in, named_in, object_draft, request_in, request_of, Refuses, Answers}
 use Rattle.plain.specs.Verbs.{verb_named, verb_in, request_by}
 
 -- what a step of reading objects refuses, the reading of a request refuses
@@ -37,52 +37,13 @@ pub answers_lifted : {A B : Type 0} (result : Result B RequestError) (y : Reques
     → result ≡ Err y → y ≡ errors.Read e → Fails e r → Answers result (lifted r >>= f)
 answers_lifted result y e r f is same h = subst (λ x. Answers x (lifted r >>= f)) (sym (is ∙ ap Err same)) (refuses_lifted e r f h)
 
--- one test of a verb's name
-either : {A B : Type 0} (b : Bool) (x y : Option A) (f : Option A → B) → f (cond b x y) ≡ cond b (f x) (f y)
-either true x y f = refl
-either false x y f = refl
-
--- the request of a verb, by the verb that the name stands for
-pub by_verb : (name : List ℕ) (ms : Members) → verb_request name ms ≡ (demanded errors.UnknownVerb (verb_named name) >>= λ v. request_by v ms)
-unfolding verb_request request_by
-by_verb name ms =
-    let f : Option Verb → Result Request RequestError = λ o. demanded errors.UnknownVerb o >>= λ v. request_by v ms in
-    sym (either (bytes_eq name (codes "create")) _ _ f
-    ∙ ap (cond (bytes_eq name (codes "create")) (f (Some verb.Create)))
-    (either (bytes_eq name (codes "get")) _ _ f
-    ∙ ap (cond (bytes_eq name (codes "get")) (f (Some verb.Get)))
-    (either (bytes_eq name (codes "list")) _ _ f
-    ∙ ap (cond (bytes_eq name (codes "list")) (f (Some verb.List)))
-    (either (bytes_eq name (codes "update")) _ _ f
-    ∙ ap (cond (bytes_eq name (codes "update")) (f (Some verb.Update)))
-    (either (bytes_eq name (codes "status")) _ _ f
-    ∙ ap (cond (bytes_eq name (codes "status")) (f (Some verb.Status)))
-    (either (bytes_eq name (codes "delete")) _ _ f
-    ∙ ap (cond (bytes_eq name (codes "delete")) (f (Some verb.Delete))) (either (bytes_eq name (codes "compact")) (Some verb.Compact) None f)))))))
-
-bind_bind : {A B C : Type 0} (r : Result A RequestError) (f : A → Result B RequestError) (g : B → Result C RequestError) → ((r >>= f) >>= g) ≡ (r >>= λ x. f x >>= g)
-bind_bind (Ok x) f g = refl
-bind_bind (Err e) f g = refl
-
-same_after : {A B : Type 0} (r : Result A RequestError) (f g : A → Result B RequestError) → ((x : A) → f x ≡ g x) → (r >>= f) ≡ (r >>= g)
-same_after (Ok x) f g h = h x
-same_after (Err e) f g h = refl
-
--- the request that the members are
-pub members_request : (ms : Members)
-    → (demanded errors.NoVerb (option_and_then as_str (get_member (codes "do") ms)) >>= λ name. verb_request name ms) ≡ (verb_in ms >>= λ v. request_by v ms)
-unfolding verb_in
-members_request ms =
-    let name = demanded errors.NoVerb (option_and_then as_str (get_member (codes "do") ms)) in
-    same_after name _ _ (λ s. by_verb s ms) ∙ sym (bind_bind name (λ s. demanded errors.UnknownVerb (verb_named s)) (λ v. request_by v ms))
-
 -- the request that a value is, by the verb
 abbrev pub data_request : Data → Result Request RequestError
-data_request d = demanded errors.NoVerb (as_object d) >>= λ ms. verb_in ms >>= λ v. request_by v ms
+data_request d = required errors.NoVerb (as_object d) >>= λ ms. verb_in ms >>= λ v. request_by v ms
 
 pub value_request : (d : Data) → request_in d ≡ data_request d
 unfolding request_in
-value_request d = same_after (demanded errors.NoVerb (as_object d)) _ _ (λ ms. members_request ms)
+value_request d = refl
 
 -- ---- the request of each verb, and its refusals
 
@@ -267,20 +228,20 @@ line_read line d result h answers = subst (λ r. Answers result (lifted r >>= re
 
 -- ---- the verb
 
-pub demanded_is : {A : Type 0} (o : Option A) (e : RequestError) → ok_or o e ≡ demanded e o
-demanded_is None e = refl
-demanded_is (Some x) e = refl
+pub required_of : {A : Type 0} (o : Option A) (e : RequestError) → ok_or o e ≡ required e o
+required_of None e = refl
+required_of (Some x) e = refl
 
 pub no_verb : (ms : Members) → None ≡ option_and_then as_str (get_member (codes "do") ms) → Err errors.NoVerb ≡ verb_in ms
 unfolding verb_in
-no_verb ms h = ap (λ o. demanded errors.NoVerb o >>= λ name. demanded errors.UnknownVerb (verb_named name)) h
+no_verb ms h = ap (λ o. required errors.NoVerb o >>= λ name. required errors.UnknownVerb (verb_named name)) h
 
 pub verb_of : (ms : Members) (name : List ℕ) (o : Option Verb) → Some name ≡ option_and_then as_str (get_member (codes "do") ms) → o ≡ verb_named name
     → ok_or o errors.UnknownVerb ≡ verb_in ms
 unfolding verb_in
 verb_of ms name o h is =
-    demanded_is o errors.UnknownVerb ∙ ap (demanded errors.UnknownVerb) is
-    ∙ ap (λ p. demanded errors.NoVerb p >>= λ s. demanded errors.UnknownVerb (verb_named s)) h
+    required_of o errors.UnknownVerb ∙ ap (required errors.UnknownVerb) is
+    ∙ ap (λ p. required errors.NoVerb p >>= λ s. required errors.UnknownVerb (verb_named s)) h
 
 -- ---- the value of the line
 

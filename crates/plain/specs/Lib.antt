@@ -2,15 +2,16 @@
 pub mod Faults
 pub mod Lines
 pub mod Replies
+pub mod RequestParts
 pub mod Requests
 pub mod Served
 pub mod ServedRun
 pub mod Streams
 pub mod ValueLines
+pub mod Verbs
 -- ---- what only proofs use
 pub mod Cuts
 pub mod Serving
-pub mod Verbs
 -- ---- of the crates below
 pub use Rattle.plain_store.specs.AtKey
 pub use Rattle.plain_store.specs.Drawn

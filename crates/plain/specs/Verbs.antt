@@ -9,7 +9,7 @@ use Rattle.plain.specs.declared.lines.request_error.RequestError.{RequestError}
 use Rattle.plain.specs.declared.lines.request_error.RequestError.TheVariants as errors
 use Rattle.plain.specs.declared.lines.verb.Verb.{Verb}
 use Rattle.plain.specs.declared.lines.verb.Verb.TheVariants as verb
-use Rattle.plain.specs.Requests.{◌>>=◌, demanded, lifted, object_draft, list_in, deletion_in, compaction_in}
+use Rattle.plain.specs.RequestParts.{◌>>=◌, required, lifted, object_draft, list_in, deletion_in, compaction_in}
 
 -- the verb of that name
 abbrev pub verb_named : List ℕ → Option Verb
@@ -25,8 +25,8 @@ verb_named s =
 
 unfoldable pub verb_in : Members → Result Verb RequestError
 verb_in ms = do
-  name ← demanded errors.NoVerb (option_and_then as_str (get_member (codes "do") ms))
-  demanded errors.UnknownVerb (verb_named name)
+  name ← required errors.NoVerb (option_and_then as_str (get_member (codes "do") ms))
+  required errors.UnknownVerb (verb_named name)
 
 unfoldable pub request_by : Verb → Members → Result Request RequestError
 request_by verb.Create ms = lifted (object_draft (get_member (codes "object") ms)) >>= λ d. Ok (Create d)

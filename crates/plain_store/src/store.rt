@@ -1,7 +1,7 @@
 ghost use Rattle.std.specs.Prelude.{◌≡◌, ◌≢◌, ◌≤◌, ◌<◌, ◌↔◌, ◌==◌, ◌+◌, true, false, IfOk, IfSome, OnOk, OnErr, IsErrOf, map, option_map};
 ghost use Rattle.std.specs.FinMap as finite;
 ghost use Rattle.std.specs.Option.{option_copied};
-ghost use Rattle.plain_store.specs.Reached.{IsReached};
+ghost use Rattle.plain_store.specs.Reached.{IsReached, most_revisions};
 ghost use Rattle.plain_store.specs.Route.{is_read};
 ghost use Rattle.plain_store.specs.Store.{carried_out, compacted_to, denied, found, listed_at, map_at, opening, step, with_next};
 ghost use Rattle.version_map.specs.Keyed.{collection};
