@@ -8,7 +8,8 @@ use Rattle.objects.specs.Reading.{reading_of_data}
 use Rattle.requests.specs.declared.request.Request.{Request}
 use Rattle.plain.specs.declared.lines.request_error.RequestError.{RequestError}
 use Rattle.plain.specs.declared.lines.request_error.RequestError.TheVariants as errors
-pub use Rattle.plain.specs.RequestParts.{◌>>=◌, compaction_in, deletion_in, exact_in, field_text, lifted, list_in, named_in, object_draft, required, stored_number}
+pub use Rattle.plain.specs.RequestParts.{◌>>=◌, exact_in, field_text, lifted, named_in, object_draft, required, stored_number}
+unfoldable pub use Rattle.plain.specs.RequestParts.{compaction_in, deletion_in, list_in}
 use Rattle.plain.specs.Verbs.{request_by, verb_in}
 
 -- the request that a value is

@@ -3,10 +3,10 @@ use Rattle.plain.proofs.Servings.{on_err, Serving-next, Serving-fault, Serving-u
 use Rattle.plain.proofs.server.serve_store.Goals as goal
 
 pub returns-in_default-clause-fault : goal.returns-in_default-clause-fault
-returns-in_default-clause-fault g c = Serving-unread _ _ _ _ _ _ _ _ _ c.reads.invariant.serving c.in_default.ensures.pending
+returns-in_default-clause-fault g c = Serving-unread _ _ _ _ _ _ _ _ _ c.reads.invariant.serving c.in_default.ensures.kept
 
 pub returns-in_default-clause-unread : goal.returns-in_default-clause-unread
-returns-in_default-clause-unread g c = λ _. Serving-ended _ _ _ _ _ _ _ _ _ c.reads.invariant.serving c.reads.invariant.begun c.in_default.ensures.pending
+returns-in_default-clause-unread g c = λ _. Serving-ended _ _ _ _ _ _ _ _ _ c.reads.invariant.serving c.reads.invariant.begun c.in_default.ensures.kept
 
 pub returns-in_err-cutter-clause-fault : goal.returns-in_err-cutter-clause-fault
 returns-in_err-cutter-clause-fault g c =
