@@ -2,8 +2,7 @@
 use Rattle.std.specs.Prelude.{Result, Ok, Err, Bool, true, false}
 use Rattle.trees.specs.declared.fault.TreeError.{TreeError}
 use Rattle.trees.specs.declared.fault.TreeError.TheVariants as tree
-use Rattle.trees.specs.Steps.{FailsUnless, GivesUnless}
-pub use Rattle.trees.specs.Steps.{◌>>=◌, required, guarded}
+pub use Rattle.trees.specs.Steps.{◌>>=◌, required, guarded, FailsUnless, GivesUnless}
 use Rattle.objects.specs.declared.fault.ReadError.{ReadError}
 use Rattle.objects.specs.declared.fault.ReadError.TheVariants as errors
 
