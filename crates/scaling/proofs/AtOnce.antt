@@ -251,6 +251,13 @@ uncalled_is_untouched set pods sorted none =
       | inr h ↦ none (inr (h.0, (h.1.0, h.1.1)))
     ])
 
+-- where scaling calls for nothing, the plan is the update
+pub uncalled_updates : (set : SetParts) (pods : Pods) → AreInOrder pods → ¬ CallsForScaling set pods → pod_steps (at_once set pods) ≡ pod_steps (updated set pods)
+uncalled_updates set pods sorted none =
+    let t = uncalled_is_untouched set pods sorted none in
+    ap (λ b. pod_steps (scaled_at_once set pods ++ rest set pods b)) t
+    ∙ (filter-append is_of_pod (scaled_at_once set pods) (updated set pods) ∙ ap (λ l. l ++ pod_steps (updated set pods)) (none_of is_of_pod (scaled_at_once set pods) t))
+
 pub creates_exactly : (set : SetParts) (pods : Pods) (i : ℕ) (revision : Revision) → AreInOrder pods → Contains (at_once set pods) (CreatePod i revision) → IsAbsent set pods i × (revision_at set.strategy i ≡ revision)
 creates_exactly set pods i revision sorted h =
     elim (Contains-append_cases (scaled_at_once set pods) (rest set pods (list_any is_of_pod (scaled_at_once set pods))) (CreatePod i revision) h) [
@@ -314,10 +321,6 @@ scales_at_once set pods sorted = record {
   );
   waits = λ calls i cause h. waits_for_none set pods i cause sorted calls (was_there is_of_pod (at_once set pods) (Wait i cause) h).0;
   neither = λ none.
-      let t = uncalled_is_untouched set pods sorted none in
-      let whole : pod_steps (at_once set pods) ≡ pod_steps (updated set pods) =
-      ap (λ b. pod_steps (scaled_at_once set pods ++ rest set pods b)) t
-      ∙ (filter-append is_of_pod (scaled_at_once set pods) (updated set pods) ∙ ap (λ l. l ++ pod_steps (updated set pods)) (none_of is_of_pod (scaled_at_once set pods) t)) in
       let P : List Step → Type 0 = λ l. Updates set pods l in
-      subst P (sym whole) (updates set pods);
+      subst P (sym (uncalled_updates set pods sorted none)) (updates set pods);
 }

@@ -29,7 +29,7 @@ use Rattle.scaling.proofs.Found.{found_below, last_range}
 use Rattle.scaling.proofs.InOrder.{after_kept, bounds, inside, not_false}
 
 -- ---- what a search has found
-found_in : (p : ℕ → Bool) (a n i : ℕ) → find p (range_with_len a n) ≡ Some i → (a ≤ i) × (i < a + n)
+pub found_in : (p : ℕ → Bool) (a n i : ℕ) → find p (range_with_len a n) ≡ Some i → (a ≤ i) × (i < a + n)
 found_in p a zero i e = absurd (cc)
 found_in p a (suc n) i e =
     elim (p a) as (λ b. cond b (Some a) (find p (range_with_len (a + 1) n)) ≡ Some i → (a ≤ i) × (i < a + suc n)) [

@@ -6,6 +6,7 @@ pub mod Entries
 pub mod InOrder
 pub mod AtOnce
 pub mod Causes
+pub mod Replaced
 pub mod Firsts
 pub mod ListedPlans
 pub mod ViewLists
