@@ -1,4 +1,7 @@
+pub mod ClaimActions
+pub mod ClaimsFirst
 pub mod Cuts
 pub mod Names
 pub mod Origins
 pub mod Plans
+pub mod Updates

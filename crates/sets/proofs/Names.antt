@@ -67,7 +67,7 @@ last_fits set some fit =
       | false ↦ λ e h. h
     ] refl fit
 
-created_fits : (set : SetParts) (i : ℕ) → set.start ≤ i → i < set.start + set.replicas → set.start + set.replicas ≤ 2 ^ 31 → names_fit set ≡ true → nat_le (length (name_at set i)) 63 ≡ true
+pub created_fits : (set : SetParts) (i : ℕ) → set.start ≤ i → i < set.start + set.replicas → set.start + set.replicas ≤ 2 ^ 31 → names_fit set ≡ true → nat_le (length (name_at set i)) 63 ≡ true
 created_fits set i from to small fit =
     let last : length (name_at set (set.start + set.replicas - 1)) ≤ 63 = leb-true _ 63 (last_fits set (omega arith) fit) in
     le-leb _ 63 (fits_below set.object.key.name i (set.start + set.replicas - 1) (omega arith) (omega arith) last)

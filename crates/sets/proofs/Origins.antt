@@ -39,10 +39,11 @@ use Rattle.sets.specs.declared.action.Action.TheVariants.{CreateClaim, CreatePod
 use Rattle.sets.specs.Actions.{Claims, actions_of, changes_in, claim_action, claim_actions, name_at, new_pod, revision_of}
 use Rattle.sets.specs.Plan.{fitting, names_fit, plan_by, plan_of_pods, unless_refused}
 use Rattle.sets.specs.Whole.{current_name, deletion, deletions, status_of, status_write, whole}
+use Rattle.sets.proofs.Plans.{fitting_fits}
 use Rattle.sets.specs.Laws.{HasHealthyTarget, IsPodAt, is_on_pod}
 
 -- the action comes from a step
-is_from_step : Action → Bool
+unfoldable pub is_from_step : Action → Bool
 is_from_step (CreateClaim o) = true
 is_from_step (CreatePod o) = true
 is_from_step (DeletePod name uid) = true
@@ -68,7 +69,7 @@ in_map g (o ∷ os) a h =
       | inr k ↦ in_map g os a k
     ]
 
-in_take : {X : Type 0} (n : ℕ) (xs : List X) (a : X) → Contains (take n xs) a → Contains xs a
+pub in_take : {X : Type 0} (n : ℕ) (xs : List X) (a : X) → Contains (take n xs) a → Contains xs a
 in_take {X} n xs a h =
     let P : List X → Type 0 = λ l. Contains l a in
     subst P (take-append-drop n xs) (Contains-append_left (take n xs) (drop n xs) a h)
@@ -150,7 +151,7 @@ uid_in (DeleteRevision name uid version) = 0
 uid_in (WriteStatus o) = 0
 uid_in (Wait cause name) = 0
 
-deleted_from : (set : SetParts) (claims : Claims) (current update : Object) (s : Step) (name : List ℕ) (uid : ℕ) → Contains (actions_of set claims current update s) (DeletePod name uid) → (i : ℕ) × (s ≡ steps.DeletePod i uid) × (name ≡ name_at set i)
+pub deleted_from : (set : SetParts) (claims : Claims) (current update : Object) (s : Step) (name : List ℕ) (uid : ℕ) → Contains (actions_of set claims current update s) (DeletePod name uid) → (i : ℕ) × (s ≡ steps.DeletePod i uid) × (name ≡ name_at set i)
 unfolding actions_of name_in uid_in
 deleted_from set claims current update (steps.MakeClaims i) name uid h = absurd (not_of_claims (changes_in (made_claims set claims i)) (DeletePod name uid) refl h)
 deleted_from set claims current update (steps.KeepClaims i) name uid h = absurd (not_of_claims (kept_claims set claims i) (DeletePod name uid) refl h)
@@ -183,16 +184,16 @@ found_fitting true f listed pods e = e
 found_fitting false f listed pods e = let clash : false ≡ true = ap is_made e in absurd (cc)
 
 -- the pods that a plan is made over
-abbrev IsOver : SetParts → Claims → List PodParts → List Object → Object → Object → List Action → Pods → Type 0
-IsOver set claims listed owned current update actions pods = (replicas_in set update.key.name current.key.name listed ≡ Ok pods) × (actions ≡ take 1024 (whole set claims listed owned current update pods))
+abbrev pub IsOver : SetParts → Claims → List PodParts → List Object → Object → Object → List Action → Pods → Type 0
+IsOver set claims listed owned current update actions pods = (replicas_in set update.key.name current.key.name listed ≡ Ok pods) × (actions ≡ take 1024 (whole set claims listed owned current update pods)) × (names_fit set ≡ true)
 
-planned_over : (set : SetParts) (claims : Claims) (listed : List PodParts) (owned : List Object) (current update : Object) (actions : List Action) → plan_of_pods set claims listed owned current update ≡ Ok actions → (pods : Pods) × IsOver set claims listed owned current update actions pods
+pub planned_over : (set : SetParts) (claims : Claims) (listed : List PodParts) (owned : List Object) (current update : Object) (actions : List Action) → plan_of_pods set claims listed owned current update ≡ Ok actions → (pods : Pods) × IsOver set claims listed owned current update actions pods
 unfolding plan_of_pods fitting
 planned_over set claims listed owned current update actions e =
     let r = over (fitting set update.key.name current.key.name listed) (λ pods. take 1024 (whole set claims listed owned current update pods)) actions e in
-    (r.0, (found_fitting (names_fit set) (λ fit. replicas_in set update.key.name current.key.name fit) listed r.0 r.1, r.2))
+    (r.0, (found_fitting (names_fit set) (λ fit. replicas_in set update.key.name current.key.name fit) listed r.0 r.1, r.2, fitting_fits set listed update.key.name current.key.name r.0 r.1))
 
-origin : (set : SetParts) (claims : Claims) (listed : List PodParts) (owned : List Object) (current update : Object) (actions : List Action) (pods : Pods) (a : Action) → is_from_step a ≡ true → IsOver set claims listed owned current update actions pods → Contains actions a → (s : Step) × Contains (planned set pods) s × Contains (actions_of set claims current update s) a
+pub origin : (set : SetParts) (claims : Claims) (listed : List PodParts) (owned : List Object) (current update : Object) (actions : List Action) (pods : Pods) (a : Action) → is_from_step a ≡ true → IsOver set claims listed owned current update actions pods → Contains actions a → (s : Step) × Contains (planned set pods) s × Contains (actions_of set claims current update s) a
 origin set claims listed owned current update actions pods a t o h =
     let P : List Action → Type 0 = λ l. Contains l a in
     from_step set claims listed owned current update pods a t (in_take 1024 (whole set claims listed owned current update pods) a (subst P o.1 h))
@@ -221,7 +222,7 @@ creates_free set claims listed owned current update actions pod e h =
       created_is_free set update.key.name current.key.name listed p.0 c.0 c.1 p.1.0 there,
     )
 
-healthy_target : (set : SetParts) (update current : List ℕ) (listed : List PodParts) (pods : Pods) (j : ℕ) → replicas_in set update current listed ≡ Ok pods → has_healthy_pod pods j ≡ true → HasHealthyTarget set listed j
+pub healthy_target : (set : SetParts) (update current : List ℕ) (listed : List PodParts) (pods : Pods) (j : ℕ) → replicas_in set update current listed ≡ Ok pods → has_healthy_pod pods j ≡ true → HasHealthyTarget set listed j
 healthy_target set update current listed pods j made h =
     elim (pod_at pods j) as (λ o. pod_at pods j ≡ o → option_map_or replicas.is_healthy o false ≡ true → HasHealthyTarget set listed j) [
       | Some y ↦ λ e k.
@@ -304,14 +305,18 @@ no_more_in_take n xs =
     ap (λ l. length (filter is_on_pod l)) (sym (take-append-drop n xs)) ∙ (ap length (filter-append is_on_pod (take n xs) (drop n xs)) ∙ length-append (filter is_on_pod (take n xs)) (filter is_on_pod (drop n xs))) in
     omega arith
 
+-- few steps on pods come to few actions on pods
+pub few_on_pods : (set : SetParts) (claims : Claims) (listed : List PodParts) (owned : List Object) (current update : Object) (actions : List Action) (pods : Pods) → IsOver set claims listed owned current update actions pods → length (pod_steps (planned set pods)) ≤ 1 → length (filter is_on_pod actions) ≤ 1
+few_on_pods set claims listed owned current update actions pods over few =
+    let all : length (filter is_on_pod (whole set claims listed owned current update pods)) ≡ length (pod_steps (planned set pods)) = count_of_whole set claims listed owned current update pods in
+    let first : length (filter is_on_pod actions) ≡ length (filter is_on_pod (take 1024 (whole set claims listed owned current update pods))) = ap (λ l. length (filter is_on_pod l)) over.1 in
+    let fewer = no_more_in_take 1024 (whole set claims listed owned current update pods) in
+    omega arith
+
 pub one_pod : (set : SetParts) (claims : Claims) (listed : List PodParts) (owned : List Object) (current update : Object) (actions : List Action) → set.policy ≡ OrderedReady → plan_of_pods set claims listed owned current update ≡ Ok actions → length (filter is_on_pod actions) ≤ 1
 one_pod set claims listed owned current update actions policy e =
     let p = planned_over set claims listed owned current update actions e in
-    let all : length (filter is_on_pod (whole set claims listed owned current update p.0)) ≡ length (pod_steps (planned set p.0)) = count_of_whole set claims listed owned current update p.0 in
-    let few : length (pod_steps (planned set p.0)) ≤ 1 = one_at_a_time set p.0 policy in
-    let first : length (filter is_on_pod actions) ≡ length (filter is_on_pod (take 1024 (whole set claims listed owned current update p.0))) = ap (λ l. length (filter is_on_pod l)) p.1.1 in
-    let fewer = no_more_in_take 1024 (whole set claims listed owned current update p.0) in
-    omega arith
+    few_on_pods set claims listed owned current update actions p.0 p.1 (one_at_a_time set p.0 policy)
 
 -- ---- a revision alone
 pub created_alone : (set : SetParts) (claims : Claims) (listed : List PodParts) (actions : List Action) (o : Object) → plan_by set claims listed (Ok (created o)) ≡ Ok actions → actions ≡ WriteRevision o ∷ []

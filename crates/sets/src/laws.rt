@@ -1,18 +1,25 @@
 // Laws of plans, for every set and all lists.
-ghost use Rattle.std.specs.Prelude.{◌≡◌, ◌≤◌, ◌<◌, ◌∷◌, [], ℕ, List, true, false, find, filter, length, None, Ok};
+ghost use Rattle.std.specs.Prelude.{◌≡◌, ◌≤◌, ◌<◌, ◌^◌, ◌+◌, ◌∷◌, ◌++◌, [], ℕ, List, true, false, find, filter, length, None, Ok};
 ghost use Rattle.std.specs.List.{Contains};
+ghost use Rattle.serde_json.specs.Data.{Data};
+ghost use Rattle.serde_json.specs.View.{items_of};
 ghost use Rattle.objects.specs.declared.object.Object.{Object};
 ghost use Rattle.set_views.specs.declared.policies.Policy.TheVariants.{OrderedReady};
-ghost use Rattle.set_views.specs.declared.policies.Strategy.TheVariants.{OnDelete};
+ghost use Rattle.set_views.specs.declared.policies.Retention.TheVariants.{Retain};
+ghost use Rattle.set_views.specs.declared.policies.Strategy.TheVariants.{OnDelete, RollingUpdate};
+ghost use Rattle.set_views.specs.Claims.{Claim};
 ghost use Rattle.set_views.specs.Pod.{PodParts};
 ghost use Rattle.set_views.specs.Set.{SetParts};
 ghost use Rattle.set_views.specs.Words.{in_range, is_healthy, is_owned};
 ghost use Rattle.revisions.specs.Plan.{created, renumbered};
 ghost use Rattle.scaling.specs.Listed.{is_named};
+ghost use Rattle.scaling.specs.Replicas.{is_failed};
+ghost use Rattle.manifests.specs.BuiltClaim.{built_claim};
+ghost use Rattle.claims.specs.Changes.{updated};
 ghost use Rattle.sets.specs.declared.action.Action.{Action};
-ghost use Rattle.sets.specs.declared.action.Action.TheVariants.{CreatePod, DeletePod, WriteRevision};
+ghost use Rattle.sets.specs.declared.action.Action.TheVariants.{CreateClaim, CreatePod, DeletePod, UpdateClaim, WriteRevision};
 ghost use Rattle.sets.specs.Actions.{Claims, name_at};
-ghost use Rattle.sets.specs.Laws.{HasHealthyTarget, IsPodAt, is_on_pod};
+ghost use Rattle.sets.specs.Laws.{AreMade, HasHealthyTarget, IsNextToUpdate, IsPodAt, IsUpdatedClaim, is_on_pod, name_set_or_pod};
 ghost use Rattle.sets.specs.Plan.{plan_by, plan_of_pods};
 
 /// A plan deletes a pod only if the set controls it: the first listed one of its name, by its UID.
@@ -42,6 +49,48 @@ pub fn plans_touch_one_pod_in_order()
 pub fn plans_keep_healthy_pods_on_delete()
     ensures { (set : SetParts) (claims : Claims) (listed : List PodParts) (owned : List Object) (current update : Object) (actions : List Action) (name : List ℕ) (uid : ℕ) → set.strategy ≡ OnDelete → plan_of_pods set claims listed owned current update ≡ Ok actions → Contains actions (DeletePod name uid)
         → (i : ℕ) × (name ≡ name_at set i) × ((pod : PodParts) × IsPodAt set listed i pod × (in_range set i ≡ true → is_healthy pod ≡ false)) }
+{}
+
+/// A pod in range that has not failed is deleted by an update alone, and then no other pod is created, deleted or waited
+/// for. So an update deletes one pod of a plan at most.
+pub fn plans_replace_one_pod()
+    ensures { (set : SetParts) (claims : Claims) (listed : List PodParts) (owned : List Object) (current update : Object) (actions : List Action) (name : List ℕ) (uid : ℕ) → plan_of_pods set claims listed owned current update ≡ Ok actions → Contains actions (DeletePod name uid)
+        → (i : ℕ) × (name ≡ name_at set i) × ((pod : PodParts) × IsPodAt set listed i pod × (in_range set i ≡ true → is_failed pod.readiness ≡ false → length (filter is_on_pod actions) ≤ 1)) }
+{}
+
+/// Under a rolling update such a pod has an ordinal from the partition on, was made from another revision than the update
+/// revision, and is not on its way out; and each larger ordinal in range has a healthy pod at the update revision.
+pub fn plans_update_downward()
+    ensures { (set : SetParts) (claims : Claims) (listed : List PodParts) (owned : List Object) (current update : Object) (actions : List Action) (name : List ℕ) (uid partition : ℕ) → set.strategy ≡ RollingUpdate partition → plan_of_pods set claims listed owned current update ≡ Ok actions → Contains actions (DeletePod name uid)
+        → (i : ℕ) × (name ≡ name_at set i) × ((pod : PodParts) × IsPodAt set listed i pod × (in_range set i ≡ true → is_failed pod.readiness ≡ false → IsNextToUpdate set update.key.name listed partition i pod)) }
+{}
+
+/// Under OrderedReady such a pod is deleted only where each ordinal in range has a healthy pod of the set's.
+pub fn plans_update_healthy_sets_in_order()
+    ensures { (set : SetParts) (claims : Claims) (listed : List PodParts) (owned : List Object) (current update : Object) (actions : List Action) (name : List ℕ) (uid : ℕ) → set.policy ≡ OrderedReady → plan_of_pods set claims listed owned current update ≡ Ok actions → Contains actions (DeletePod name uid)
+        → (i : ℕ) × (name ≡ name_at set i) × ((pod : PodParts) × IsPodAt set listed i pod × (in_range set i ≡ true → is_failed pod.readiness ≡ false → (j : ℕ) → in_range set j ≡ true → HasHealthyTarget set listed j)) }
+{}
+
+/// The create of a pod is preceded by the creates of all claims that it misses. The last ordinal in range is one that the
+/// API has, as that of each set that is read.
+pub fn plans_make_claims_before_their_pod()
+    ensures { (set : SetParts) (claims : Claims) (listed : List PodParts) (owned : List Object) (current update : Object) (before after : List Action) (pod : Object) → set.start + set.replicas ≤ 2 ^ 31 → plan_of_pods set claims listed owned current update ≡ Ok (before ++ CreatePod pod ∷ after)
+        → (i : ℕ) × (pod.key.name ≡ name_at set i) × (in_range set i ≡ true) × AreMade set claims before i }
+{}
+
+/// A plan updates only listed claims of pods of the set. It sets their `ownerReferences` and nothing else, and of these it
+/// leaves all as they stood, in their order, that name neither the set, nor the claim's pod, nor the owner by retention.
+pub fn plans_change_owners_alone()
+    ensures { (set : SetParts) (claims : Claims) (listed : List PodParts) (owned : List Object) (current update : Object) (actions : List Action) (changed : Object) → plan_of_pods set claims listed owned current update ≡ Ok actions → Contains actions (UpdateClaim changed)
+        → (i : ℕ) × (claim : Object) × (entries : List Data) × IsUpdatedClaim set claims i claim entries changed }
+{}
+
+/// Under Retain for a set that is deleted and for one that is scaled, no claim of a plan has the set or its pod as an owner.
+pub fn plans_retain_claims()
+    ensures updated { (set : SetParts) (claims : Claims) (listed : List PodParts) (owned : List Object) (current update : Object) (actions : List Action) (changed : Object) → set.when_deleted ≡ Retain → set.when_scaled ≡ Retain → plan_of_pods set claims listed owned current update ≡ Ok actions → Contains actions (UpdateClaim changed)
+        → (i : ℕ) × (claim : Object) × (entries : List Data) × (changed ≡ updated claim entries) × (name_set_or_pod set i entries ≡ false) }
+    ensures created { (set : SetParts) (claims : Claims) (listed : List PodParts) (owned : List Object) (current update : Object) (actions : List Action) (claim : Object) → set.when_deleted ≡ Retain → set.when_scaled ≡ Retain → plan_of_pods set claims listed owned current update ≡ Ok actions → Contains actions (CreateClaim claim)
+        → (i : ℕ) × (c : Claim) × (entries : List Data) × (claim ≡ built_claim set i (items_of entries) c) × (name_set_or_pod set i entries ≡ false) }
 {}
 
 /// A plan that writes a revision has no other action.
