@@ -25,7 +25,7 @@ use Rattle.history.specs.Log.{state_at}
 use Rattle.history.specs.Order.{Arrangement, moved}
 use Rattle.history.specs.Step.{given, given_if, only, replied}
 use Rattle.history.specs.World.{Phase, Idle, Waiting, Reading, Size, World, shard}
-use Rattle.history.specs.Replayed.{Answers, Does, IsDue, IsNumbered, IsShown, IsTold, Shows, Stands, Tells, compaction_at, is_replying, phase_at, reading_in, records_of, shard_at, waiting_in}
+use Rattle.history.specs.Replayed.{Answers, Does, IsDue, IsNumbered, IsShown, IsTold, IsUnread, Shows, Stands, Tells, compaction_at, is_replying, phase_at, reading_in, records_of, shard_at, waiting_in}
 use Rattle.history.proofs.Basics.{Compared, same, other, compare, Least, atmost, above, least, changed-same}
 use Rattle.history.specs.Mirrors.{found_in}
 use Rattle.history.proofs.ListAnswers.{list_answer}
@@ -154,12 +154,12 @@ module _ (m : Machine) (c : ℕ) where
       steps z w c a m' (given w c reply) _ (w.phase c) Idle told.0 refl (changed-same w.phase c Idle) (subst (λ b. Shows z (given w c reply) b m') (sym (told.1 a)) (tells z w a sh))
 
 -- ---- a get
-pub get_found : (m : Machine) (number : ℕ) (k : Key) (reply : Reply) → shard_of k (length m.shards.items) < length m.shards.items → reply ≡ found (versions.value (shard_at m.shards.items (shard_of k (length m.shards.items))).records number k) → Answers number (Get k) reply m
+pub get_found : (m : Machine) (number : ℕ) (k : Key) (reply : Reply) → shard_of k (length m.shards.items) < length m.shards.items → m.compacted ≤ number → reply ≡ found (versions.value (shard_at m.shards.items (shard_of k (length m.shards.items))).records number k) → Answers number (Get k) reply m
 unfolding Answers shard route
-get_found m number k reply lt is = λ z w a sh facts.
+get_found m number k reply lt kept is = λ z w a sh facts.
     let own : shard_of k (length m.shards.items) ≡ shard z k = ap (shard_of k) sh.log.count in
     let below : shard z k < z.shards = (let c = sh.log.count in omega arith) in
-    let floor = sh.log.floors (shard z k) in
+    let floor = sh.log.floors (shard z k) below in
     is ∙ ap (λ s. found (versions.value (shard_at m.shards.items s).records number k)) own ∙ sym (get_answer k (sh.log.mirrors (shard z k) below) number (omega arith) (Get k) refl)
 
 -- each key has a shard
@@ -171,12 +171,12 @@ below_shards m k st =
     subst (λ n. shard_of k n < n) (sym sh.log.count) (shard_below st.0 k facts.some)
 
 -- ---- a list
-pub list_found : (m : Machine) (number : ℕ) (kind : Kind) (namespace : List ℕ) (exact : ℕ) (reply : Reply) → (exact ≡ 0) ⊎ (exact ≡ number)
+pub list_found : (m : Machine) (number : ℕ) (kind : Kind) (namespace : List ℕ) (exact : ℕ) (reply : Reply) → (exact ≡ 0) ⊎ (exact ≡ number) → m.compacted ≤ number
     → reply ≡ Listed (finite.values (found_in (records_of m) number kind namespace (length m.shards.items))) number → Answers number (request.List kind namespace exact) reply m
 unfolding Answers
-list_found m number kind namespace exact reply numbered is = λ z w a sh facts.
+list_found m number kind namespace exact reply numbered kept is = λ z w a sh facts.
     is ∙ ap (λ n. Listed (finite.values (found_in (records_of m) number kind namespace n)) number) sh.log.count
-    ∙ sym (list_answer z w.log w.drawn (records_of m) (λ s. (shard_at m.shards.items s).floor) number sh.log.mirrors (λ s lt. let f = sh.log.floors s in omega arith) facts.filed facts.some kind namespace exact numbered)
+    ∙ sym (list_answer z w.log w.drawn (records_of m) (λ s. (shard_at m.shards.items s).floor) number sh.log.mirrors (λ s lt. let f = sh.log.floors s lt in omega arith) facts.filed facts.some kind namespace exact numbered)
 
 -- a request that is read, is read at its number
 pub numbered_list : (number : ℕ) (kind : Kind) (namespace : List ℕ) (exact : ℕ) → IsNumbered number (request.List kind namespace exact) → (exact ≡ 0) ⊎ (exact ≡ number)
@@ -188,13 +188,13 @@ numbered_list number kind namespace exact numbered = by (compare exact 0)
     by (other ne b) = inr (numbered kind namespace exact (ap (λ t. cond t (lists kind namespace) (lists_at kind namespace exact)) b))
 
 -- what is read is a get or a list, at its number
-pub reads_numbered : (m : Machine) (c n : ℕ) (r : Request) (left : ℕ) → Stands m → reading_in (phase_at m.callers c) ≡ Some (n, r, left) → (IsNumbered n r) × ((k : Key) → route r ≡ writes k → ⊥)
+pub reads_numbered : (m : Machine) (c n : ℕ) (r : Request) (left : ℕ) → Stands m → reading_in (phase_at m.callers c) ≡ Some (n, r, left) → (IsNumbered n r) × (((k : Key) → route r ≡ writes k → ⊥) × (m.compacted ≤ n))
 reads_numbered m c n r left st e =
     let w : World = st.1.0 in
     let sh : Shows st.0 w st.1.1.0 m = st.1.1.1.0 in
     let facts : Facts st.0 w = st.1.1.1.1 in
     let x = reads_at (phase_at m.callers c) (w.phase c) n r left e (sh.phases c) in
-    (λ kind namespace number is. facts.numbered c n x.0 r x.1.0 x.1.1.0 x.1.1.1.0 kind namespace number is, (facts.past c n x.0 r x.1.0 x.1.1.0 x.1.1.1.0).1)
+    (λ kind namespace number is. facts.numbered c n x.0 r x.1.0 x.1.1.0 x.1.1.1.0 kind namespace number is, ((facts.past c n x.0 r x.1.0 x.1.1.0 x.1.1.1.0).1, subst (IsUnread m.compacted) x.1.1.1.0 (sh.unread c)))
 
 compaction_route : (to : ℕ) → route (request.Compact to) ≡ compacts to
 unfolding route

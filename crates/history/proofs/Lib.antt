@@ -24,6 +24,8 @@ pub mod Phases
 pub mod Turns
 pub mod Facts
 pub mod Spared
+pub mod Compactions
+pub mod OpenRead
 pub mod Waiters
 pub mod Showing
 pub mod Stepping

@@ -1,5 +1,5 @@
 -- A shard shows the log: as both begin, and after each event.
-use Rattle.std.proofs.Common.{◌≡◌, ◌≢◌, ℕ, zero, suc, ◌+◌, ◌<◌, ◌≤◌, Bool, true, false, cond, ◌&&◌, List, [], ◌∷◌, ◌++◌, Option, Some, None, is_some, option_map, option_and_then, filter, refl, sym, ap, subst, ◌∙◌, arith, nat_lt, nat_le, ltb-false, true≢false}
+use Rattle.std.proofs.Common.{◌≡◌, ◌≢◌, ℕ, zero, suc, ◌+◌, ◌<◌, ◌≤◌, Bool, true, false, cond, ◌&&◌, List, [], ◌∷◌, ◌++◌, Option, Some, None, is_some, option_map, option_and_then, filter, refl, sym, ap, subst, ◌∙◌, arith, nat_lt, nat_le, ltb-true, true≢false}
 use Rattle.std.specs.List.{AllByRecursion}
 use Rattle.std.specs.Cmp.{nat_cmp_total}
 use Rattle.std.specs.Option.{option_map_or, option_or}
@@ -21,7 +21,7 @@ use Rattle.versions.proofs.Above.{above_more, above_none, above_pushed, above_ra
 use Rattle.versions.proofs.Found.{equal_numbers}
 use Rattle.versions.proofs.Held.{all_below, no_records, put_last}
 use Rattle.history.specs.Log.{Log, Writing, last_write, newer_number, value}
-use Rattle.history.specs.Mirrors.{IsPublished, Mirrors, last_seen}
+use Rattle.history.specs.Mirrors.{IsCompacted, IsPublished, Mirrors, last_seen}
 use Rattle.history.specs.World.{Draw, Size, changed, shard}
 use Rattle.history.proofs.Basics.{ComparedKeys, same_key, other_key, compare_keys, Least, atmost, above, least, changed-same, changed-other, is_key_at}
 use Rattle.history.proofs.LastWrites.{last_all, last_other, last_put, value_newest, value_unwritten}
@@ -234,25 +234,25 @@ module _ {z : Size} {log : Log} {d s : ℕ} {rs : Records} {f : ℕ} (shown : Mi
         (subst (λ (w : Version). Mirrors z log' d s (map.insert rs (suc i) w) f) (sym (is ∙ ap (λ m. version_at t.key (kept t.change m)) number)) mirrors_now)
 
 -- the shard is compacted
-pub mirrors_raised : {z : Size} {log : Log} {d s : ℕ} (a b : Shard) (n : ℕ) → Mirrors z log d s a.records a.floor → b ≡ raised a n
-    → ((k : Key) → newest b.records k ≡ newest a.records k) → ((m : ℕ) (k : Key) → b.floor ≤ m → versions.value b.records m k ≡ versions.value a.records m k) → Mirrors z log d s b.records b.floor
-mirrors_raised {d = d} a b n shown is newest_stays values_stay = record {
-  newest = λ k here. newest_stays k ∙ shown.newest k here;
-  values = λ m k le here. values_stay m k le ∙ shown.values m k (lower m le) here;
-  others = λ m k le apart. values_stay m k le ∙ shown.others m k (lower m le) apart;
-  above = subst (λ (c : Shard). IsAbove c.records (suc d)) (sym is) (above_raised a n (suc d) shown.above);
-  published = λ m there. shown.published m (raised_from a n m (sym (ap (λ (c : Shard). map.contains_key c.records m) is) ∙ there));
-}
-  where
-    higher : a.floor ≤ b.floor
-    higher = subst (λ (c : Shard). a.floor ≤ c.floor) (sym is) (by (nat_lt n a.floor) refl)
-      where
-        by : (c : Bool) → nat_lt n a.floor ≡ c → a.floor ≤ (cond c a (record { records = compacted a.records n; floor = n; room = a.room })).floor
-        by true e = omega arith
-        by false e = let le = ltb-false n a.floor e in omega arith
+module _ (a b : Shard) (n : ℕ) (is : IsCompacted n a b) (above : a.floor ≤ n) where
+  pub floor_raised : b.floor ≡ n
+  floor_raised = ap (λ (c : Shard). c.floor) is.raised_is ∙ by (nat_lt n a.floor) refl
+    where
+      by : (c : Bool) → nat_lt n a.floor ≡ c → (cond c a (record { records = compacted a.records n; floor = n; room = a.room })).floor ≡ n
+      by true e = let lt = ltb-true n a.floor e in absurd (omega arith)
+      by false e = refl
 
-    lower : (m : ℕ) → b.floor ≤ m → a.floor ≤ m
-    lower m le = omega (arith, higher)
+  pub mirrors_raised : {z : Size} {log : Log} {d s : ℕ} → Mirrors z log d s a.records a.floor → Mirrors z log d s b.records b.floor
+  mirrors_raised {d = d} shown = record {
+    newest = λ k here. is.newest_stays k ∙ shown.newest k here;
+    values = λ m k le here. is.values_stay m k le ∙ shown.values m k (lower m le) here;
+    others = λ m k le apart. is.values_stay m k le ∙ shown.others m k (lower m le) apart;
+    above = subst (λ (c : Shard). IsAbove c.records (suc d)) (sym is.raised_is) (above_raised a n (suc d) shown.above);
+    published = λ m there. shown.published m (raised_from a n m (sym (ap (λ (c : Shard). map.contains_key c.records m) is.raised_is) ∙ there));
+  }
+    where
+      lower : (m : ℕ) → b.floor ≤ m → a.floor ≤ m
+      lower m le = let floor = floor_raised in omega arith
 
 -- ---- what the shard answers, in the log's words
 

@@ -8,35 +8,44 @@ use Rattle.history.specs.declared.machine.Machine.{Machine}
 use Rattle.history.specs.declared.phase.Phase.{Phase as CodePhase}
 use Rattle.history.specs.declared.phase.Phase.TheVariants as code
 use Rattle.history.specs.declared.trace.Item.TheVariants as item
+use Rattle.plain_store.specs.Store.{denied}
+use Rattle.plain_store.proofs.Denials.{readable}
+use Rattle.history.specs.Facts.{Facts}
 use Rattle.history.specs.Order.{Arrangement, last_or_parked, with_last}
 use Rattle.history.specs.Step.{begun, given}
 use Rattle.history.specs.World.{Phase, Idle, Called, Holding, Waiting, Reading, Size, World, changed}
-use Rattle.history.specs.Replayed.{Begins, Enters, Holds, IsShown, Settles, Shows, Stands, Stays, Tells, Waits, begun_phase, drops, is_called, is_dropped, is_replying, is_undecided, lot_at, or_idle, phase_at, staying, waiters_at, writing_of}
+use Rattle.history.specs.Replayed.{Begins, Enters, Holds, IsShown, Settles, Shows, Stands, Stays, Tells, Waits, begun_phase, drops, is_called, is_dropped, is_replying, is_undecided, lot_at, or_idle, phase_at, shard_at, staying, waiters_at, writing_of}
 use Rattle.history.specs.declared.phase.Writing.{Writing as CodeWriting}
 use Rattle.history.proofs.Basics.{Least, atmost, above, least}
 use Rattle.history.proofs.Showing.{shows_entered, shows_holder, shows_parked}
 
 pub stays_same : (m : Machine) → Stays m m
 unfolding Stays
-stays_same m = λ z w a sh. sh
+stays_same m = (refl, λ z w a sh. sh)
 
 -- the same, piece by piece
 pub stays_by : (m m' : Machine) → m'.items.items ≡ m.items.items → m'.order.items ≡ m.order.items → m'.places.items ≡ m.places.items → ((n : ℕ) → lot_at m'.parking n ≡ lot_at m.parking n)
     → m' ≡ record m { items = m'.items; order = m'.order; places = m'.places; parking = m'.parking } → Stays m m'
 unfolding Stays
-stays_by m m' items order places lots is = λ z w a sh. subst (λ x. Shows z w a x) (sym is) (record {
-  capacity = sh.capacity;
-  small = sh.small;
-  frontier = sh.frontier;
-  floor = sh.floor;
-  place = sh.place;
-  seats = sh.seats;
-  phases = sh.phases;
-  items = items ∙ sh.items;
-  order = order ∙ sh.order;
-  log = subst (λ ps. Rattle.history.specs.Replayed.ShowsLog z w.log w.drawn ps m.shards.items) (sym places) sh.log;
-  parked = λ n. sh.parked n ∙ ap (staying (drops m.callers)) (sym (lots n));
-})
+stays_by m m' items order places lots is = (
+  ap (λ (x : Machine). x.compacted) is,
+  λ z w a sh. subst (λ x. Shows z w a x) (sym is) (record {
+    capacity = sh.capacity;
+    small = sh.small;
+    frontier = sh.frontier;
+    floor = sh.floor;
+    place = sh.place;
+    seats = sh.seats;
+    phases = sh.phases;
+    items = items ∙ sh.items;
+    order = order ∙ sh.order;
+    log = subst (λ ps. Rattle.history.specs.Replayed.ShowsLog z w.log w.drawn ps m.shards.items m.compacted) (sym places) sh.log;
+    parked = λ n. sh.parked n ∙ ap (staying (drops m.callers)) (sym (lots n));
+    tracked = sh.tracked;
+    low = sh.low;
+    unread = sh.unread;
+  }),
+)
 
 pub undecided_live : (p : CodePhase) → is_undecided p ≡ true → is_dropped p ≡ false
 undecided_live code.Idle e = refl
@@ -60,6 +69,31 @@ called_is_undecided code.Gone e = absurd cc
 called_is_undecided (code.Left d) e = absurd cc
 called_is_undecided code.Dropped e = absurd cc
 
+-- ---- what is read is kept
+pub kept_now : (m : Machine) → Stands m → m.compacted ≤ m.frontier
+kept_now m st =
+    let sh : Shows st.0 st.1.0 st.1.1.0 m = st.1.1.1.0 in
+    let facts : Facts st.0 st.1.0 = st.1.1.1.1 in
+    let low = sh.low in
+    let standing = facts.standing in
+    let same = sh.frontier in
+    omega arith
+
+pub kept_at : (m : Machine) (n : ℕ) → Stands m → denied m.floor m.frontier n ≡ None → m.compacted ≤ n
+kept_at m n st allowed =
+    let sh : Shows st.0 st.1.0 st.1.1.0 m = st.1.1.1.0 in
+    let low = sh.low in
+    let same = sh.floor in
+    let from = (readable m.floor m.frontier n allowed).0 in
+    omega arith
+
+pub kept_shard : (m : Machine) (s n : ℕ) → Stands m → s < length m.shards.items → m.compacted ≤ n → (shard_at m.shards.items s).floor ≤ n
+kept_shard m s n st lt kept =
+    let sh : Shows st.0 st.1.0 st.1.1.0 m = st.1.1.1.0 in
+    let count = sh.log.count in
+    let floor = sh.log.floors s (omega arith) in
+    omega arith
+
 -- ---- into the order, or parked
 pub settled_now : (m m' : Machine) (saw c place : ℕ) → saw ≤ m.frontier → m'.order.items ≡ m.order.items ++ place ∷ [] → m' ≡ record m { order = m'.order } → Settles saw c place m m'
 unfolding Settles
@@ -77,6 +111,9 @@ settled_now m m' saw c place le order is = λ z w a sh. by z w a sh (least saw w
       seats = sh.seats;
       phases = sh.phases;
       parked = sh.parked;
+      tracked = sh.tracked;
+      low = sh.low;
+      unread = sh.unread;
       order = order ∙ ap (λ l. l ++ place ∷ []) sh.order;
     }))
     by z w a sh (above lt e) = let f = sh.frontier in absurd (omega arith)
@@ -99,6 +136,9 @@ settled_later m m' saw c place lt live lots is = λ z w a sh. by z w a sh (least
       log = sh.log;
       seats = sh.seats;
       phases = sh.phases;
+      tracked = sh.tracked;
+      low = sh.low;
+      unread = sh.unread;
       parked = shows_parked z w a m sh m'.parking saw c place (undecided_live (phase_at m.callers c) live) lots;
     }))
 
@@ -109,7 +149,7 @@ unfolding Settles Waits
 waits_by m s m' saw c place reply live settles same entering is = λ z w a sh.
     let live' : drops s.callers c ≡ false = ap (λ cs. drops cs c) same ∙ undecided_live (phase_at m.callers c) live in
     subst (λ x. Shows z (enters' w) (last_or_parked (nat_le saw w.frontier) saw c place a) x) (sym is)
-    (shows_entered z w _ s (settles z w a sh) m'.callers c (code.Waiting saw place reply) (Waiting saw place reply) entering refl (sym live'))
+    (shows_entered z w _ s (settles z w a sh) m'.callers c (code.Waiting saw place reply) (Waiting saw place reply) entering refl (sym live') tt)
   where
     enters' : World → World
     enters' w = record w { phase = changed w.phase c (Waiting saw place reply) }
@@ -119,7 +159,7 @@ pub holds_by : (m m' : Machine) (c s : ℕ) (t : CodeWriting) → is_called (pha
 unfolding Holds
 holds_by m m' c s t stated lt seats entering is = λ z w a sh.
     let live : drops m.callers c ≡ false = undecided_live (phase_at m.callers c) (called_is_undecided (phase_at m.callers c) stated) in
-    let next = shows_entered z w a m sh m'.callers c (code.Holding t) (Holding (writing_of t)) entering refl (sym live) in
+    let next = shows_entered z w a m sh m'.callers c (code.Holding t) (Holding (writing_of t)) entering refl (sym live) tt in
     subst (λ x. Shows z (record w { holder = changed w.holder s (Some c); phase = changed w.phase c (Holding (writing_of t)) }) a x) (sym is) (record {
       capacity = sh.capacity;
       small = sh.small;
@@ -132,14 +172,17 @@ holds_by m m' c s t stated lt seats entering is = λ z w a sh.
       seats = shows_holder z w a m sh m'.holders.items s (Some c) (let n = sh.seats.count in omega arith) seats;
       phases = next.phases;
       parked = next.parked;
+      tracked = next.tracked;
+      low = next.low;
+      unread = next.unread;
     })
 
-pub begins_by : (m m' : Machine) (c place number left : ℕ) → is_called (phase_at m.callers c) ≡ true → m'.order.items ≡ m.order.items ++ place ∷ [] → Enters m.callers m'.callers c (begun_phase number left (phase_at m.callers c))
+pub begins_by : (m m' : Machine) (c place number left : ℕ) → is_called (phase_at m.callers c) ≡ true → m.compacted ≤ number → m'.order.items ≡ m.order.items ++ place ∷ [] → Enters m.callers m'.callers c (begun_phase number left (phase_at m.callers c))
     → m' ≡ record m { order = m'.order; callers = m'.callers } → Begins c place number left m m'
 unfolding Begins
-begins_by m m' c place number left stated order entering is = λ z w a r parts sh at count.
+begins_by m m' c place number left stated kept order entering is = λ z w a r parts sh at count.
     let next = shows_entered z w a m sh m'.callers c (begun_phase number left (phase_at m.callers c)) (Reading number place r parts map.empty) entering
-    (reads (phase_at m.callers c) stated (w.phase c) (sh.phases c) r place parts at count) (same_drops (phase_at m.callers c)) in
+    (reads (phase_at m.callers c) stated (w.phase c) (sh.phases c) r place parts at count) (same_drops (phase_at m.callers c)) kept in
     subst (λ x. Shows z (begun w c number place r parts) (with_last a place) x) (sym is) (record {
       capacity = sh.capacity;
       small = sh.small;
@@ -152,6 +195,9 @@ begins_by m m' c place number left stated order entering is = λ z w a r parts s
       order = order ∙ ap (λ l. l ++ place ∷ []) sh.order;
       phases = next.phases;
       parked = next.parked;
+      tracked = next.tracked;
+      low = next.low;
+      unread = next.unread;
     })
   where
     same_drops : (p : CodePhase) → is_dropped (begun_phase number left p) ≡ is_dropped p
@@ -191,7 +237,7 @@ pub tells_by : (m m' : Machine) (c : ℕ) (reply : Reply) → is_replying (phase
     → m' ≡ record m { items = m'.items; callers = m'.callers } → Tells c reply m m'
 unfolding Tells
 tells_by m m' c reply stated items entering is = λ z w a sh.
-    let next = shows_entered z w a m sh m'.callers c code.Idle Idle entering refl (sym (replying_live (phase_at m.callers c) stated)) in
+    let next = shows_entered z w a m sh m'.callers c code.Idle Idle entering refl (sym (replying_live (phase_at m.callers c) stated)) tt in
     subst (λ x. Shows z (given w c reply) a x) (sym is) (record {
       capacity = sh.capacity;
       small = sh.small;
@@ -204,6 +250,9 @@ tells_by m m' c reply stated items entering is = λ z w a sh.
       items = items ∙ ap (λ l. l ++ item.Reply m.now_at c reply ∷ []) sh.items ∙ ap (λ n. w.trace ++ item.Reply n c reply ∷ []) sh.place;
       phases = next.phases;
       parked = next.parked;
+      tracked = next.tracked;
+      low = next.low;
+      unread = next.unread;
     })
 
 -- ---- results

@@ -17,7 +17,7 @@ use Rattle.history.specs.Log.{Writing}
 use Rattle.history.specs.Order.{Arrangement, moved_by}
 use Rattle.history.specs.Step.{published, told}
 use Rattle.history.specs.World.{Phase, Draw, Drawn, Waiting, Gone, Size, World, changed, shard}
-use Rattle.history.specs.Replayed.{Does, Enters, Fills, IsShown, Shows, Stands, Stays, draw_of, drawn_in, is_dropped, phase_at, published_phase, shard_at}
+use Rattle.history.specs.Replayed.{Does, Enters, Fills, IsShown, IsUnread, Shows, Stands, Stays, draw_of, drawn_in, is_dropped, phase_at, published_phase, shard_at}
 use Rattle.history.proofs.Basics.{changed-same}
 use Rattle.history.proofs.Mirrors.{above_draw}
 use Rattle.history.proofs.Showing.{shows_entered}
@@ -106,12 +106,12 @@ publish_done m n k m' c s d v stated is stays same entering k_is v_is fills = λ
     own : (z : Size) (w : World) (a : Arrangement) → Shows z w a m → shard z T.key ≡ s
     own z w a sh = ap (shard_of T.key) (sym sh.log.count) ∙ sym is
 
-    published_to : (z : Size) (w : World) (a : Arrangement) → Shows z w a m → (before to : CodePhase) → phase_at m.callers c ≡ before → published_phase before ≡ to → is_dropped to ≡ is_dropped before → (ph : Phase) → IsShown to ph
+    published_to : (z : Size) (w : World) (a : Arrangement) → Shows z w a m → (before to : CodePhase) → phase_at m.callers c ≡ before → published_phase before ≡ to → is_dropped to ≡ is_dropped before → (ph : Phase) → IsShown to ph → IsUnread n.compacted ph
         → Shows z (record w { phase = changed w.phase c ph }) a k
-    published_to z w a sh before to at goes_to drop ph shown =
+    published_to z w a sh before to at goes_to drop ph shown unread =
         let here : phase_at n.callers c ≡ before = ap (λ cs. phase_at cs c) same ∙ at in
         subst (λ x. Shows z (record w { phase = changed w.phase c ph }) a x) (sym k_is)
-        (shows_entered z w a n (stays z w a sh) k.callers c to ph (subst (λ x. Enters n.callers k.callers c x) (ap published_phase here ∙ goes_to) entering) shown (drop ∙ sym (ap is_dropped here)))
+        (shows_entered z w a n (stays.1 z w a sh) k.callers c to ph (subst (λ x. Enters n.callers k.callers c x) (ap published_phase here ∙ goes_to) entering) shown (drop ∙ sym (ap is_dropped here)) unread)
 
     by : (z : Size) (w : World) (a : Arrangement) → Shows z w a m → Facts z w → IsDrawing (phase_at m.callers c) (w.phase c) d → Shows z (published z w c (w.phase c)) (moved_by c w (published z w c (w.phase c)) a) m'
     by z w a sh facts (draws p ph) =
@@ -120,7 +120,7 @@ publish_done m n k m' c s d v stated is stays same entering k_is v_is fills = λ
         let drawn = draw_is (phase_at m.callers c) (w.phase c) d at in
         let to : Phase = Waiting (suc d.index) T.place (told T.change (suc d.index)) in
         let next : code.Waiting (d.index + 1) d.writing.place (told d.writing.change (d.index + 1)) ≡ code.Waiting (suc d.index) T.place (told T.change (suc d.index)) = ap (λ i. code.Waiting i d.writing.place (told d.writing.change i)) (add-one d.index) in
-        let shown = published_to z w a sh (code.Drawn d) (code.Waiting (suc d.index) T.place (told T.change (suc d.index))) p next refl to refl in
+        let shown = published_to z w a sh (code.Drawn d) (code.Waiting (suc d.index) T.place (told T.change (suc d.index))) p next refl to refl tt in
         let u : World = record w { log = changed w.log d.index (Some T); holder = changed w.holder s None; phase = changed w.phase c to } in
         steps z w c a m' u _ (Drawn D) to
         (ap (published z w c) ph ∙ ap (λ i. let x : World = record w { log = changed w.log d.index (Some T); holder = changed w.holder i None; phase = changed w.phase c to } in x) (own z w a sh)) ph (changed-same w.phase c to)
@@ -130,7 +130,7 @@ publish_done m n k m' c s d v stated is stays same entering k_is v_is fills = λ
         let D : Draw = draw_of d in
         let drawn = draw_is (phase_at m.callers c) (w.phase c) d at in
         let to : Phase = Gone None in
-        let shown = published_to z w a sh (code.Left d) code.Gone p refl refl to refl in
+        let shown = published_to z w a sh (code.Left d) code.Gone p refl refl to refl tt in
         let u : World = record w { log = changed w.log d.index (Some T); holder = changed w.holder s None; phase = changed w.phase c to } in
         steps z w c a m' u _ (Gone (Some D)) to
         (ap (published z w c) ph ∙ ap (λ i. let x : World = record w { log = changed w.log d.index (Some T); holder = changed w.holder i None; phase = changed w.phase c to } in x) (own z w a sh)) ph (changed-same w.phase c to)

@@ -7,6 +7,7 @@ use Rattle.history.specs.Step.{step}
 use Rattle.history.specs.Trace.{after}
 use Rattle.history.specs.World.{Size, World, opening}
 use Rattle.history.specs.Replayed.{IsRun, Shows, Stands, Stays, Steps}
+use Rattle.history.specs.Spared.{IsLeastRead}
 use Rattle.history.proofs.Facts.{facts_after}
 
 pub after_more : (z : Size) (es : List Event) (w : World) (e : Event) → after z w (es ++ e ∷ []) ≡ step z (after z w es) e
@@ -28,11 +29,12 @@ run_steps z es e m m' run steps place =
       some = run.some;
       count = place ∙ ap (λ n. n + 1) run.count ∙ sym (length-append es (e ∷ []));
       shows = subst (λ w. Shows z w (arrangement z opening beginning (es ++ e ∷ [])) m') (sym (after_more z es opening e))
-          (subst (λ a. Shows z (step z (after z opening es) e) a m') (sym (arrangement_more z es opening beginning e)) shown);
+          (subst (λ a. Shows z (step z (after z opening es) e) a m') (sym (arrangement_more z es opening beginning e)) shown.0);
+      compacted = subst (λ w. IsLeastRead w m'.compacted) (sym (after_more z es opening e)) shown.1;
     }
 
 pub run_stays : (z : Size) (es : List Event) (m m' : Machine) → IsRun z es m → Stays m m' → IsRun z es m'
 unfolding Stays
 run_stays z es m m' run stays =
-    let shown = stays z (after z opening es) (arrangement z opening beginning es) run.shows in
-    record { some = run.some; count = shown.place ∙ sym run.shows.place ∙ run.count; shows = shown }
+    let shown = stays.1 z (after z opening es) (arrangement z opening beginning es) run.shows in
+    record { some = run.some; count = shown.place ∙ sym run.shows.place ∙ run.count; shows = shown; compacted = subst (IsLeastRead (after z opening es)) (sym stays.0) run.compacted }

@@ -1,5 +1,5 @@
 -- The events of reads and compactions do what the definition says.
-use Rattle.std.proofs.Common.{◌≡◌, ℕ, List, [], ◌∷◌, length, Option, Some, None, refl, sym, ap, ◌∙◌, subst, nat_le}
+use Rattle.std.proofs.Common.{◌≡◌, ℕ, List, [], ◌∷◌, length, Option, Some, None, refl, sym, ap, ◌∙◌, subst, nat_le, arith}
 use Rattle.std.proofs.lemmas.List.FromFn.{length-range_with_len}
 use Rattle.std.specs.List.{range_with_len}
 use Rattle.requests.specs.declared.request.Request.{Request}
@@ -7,6 +7,7 @@ use Rattle.requests.specs.declared.reply.Reply.TheVariants.{Compacted, Refused}
 use Rattle.requests.specs.declared.reply.Reason.{Reason}
 use Rattle.plain_store.specs.Route.{Route, compacts, gets, lists, lists_at, route, writes}
 use Rattle.plain_store.specs.Store.{denied}
+use Rattle.plain_store.proofs.Denials.{readable}
 use Rattle.history.specs.declared.event.Event.TheVariants.{Compact, Read, ReadAt}
 use Rattle.history.specs.declared.event.Event.TheVariants as event
 use Rattle.history.specs.declared.machine.Machine.{Machine}
@@ -154,5 +155,8 @@ module _ (m : Machine) (c place : ℕ) (r : Request) (stated : called_in (phase_
         seats = shown.seats;
         phases = shown.phases;
         parked = shown.parked;
+        tracked = shown.tracked;
+        low = (let kept = shown.low in let risen = (readable m.floor m.frontier number (sym denies)).0 in let same = sh.floor in omega arith);
+        unread = shown.unread;
         floor = floor;
       }))

@@ -8,16 +8,16 @@ use Rattle.history.specs.declared.parking.Waiter.{Waiter}
 use Rattle.history.specs.declared.phase.Phase.{Phase as CodePhase}
 use Rattle.history.specs.Order.{Arrangement, moved, moved_by, rest, without}
 use Rattle.history.specs.World.{Phase, Size, World, changed}
-use Rattle.history.specs.Replayed.{Enters, IsShown, Shows, ShowsSeats, drops, is_dropped, lot_at, named_phase, or_idle, phase_at, staying, waiters_at}
+use Rattle.history.specs.Replayed.{Enters, IsShown, IsTracked, IsUnread, Shows, ShowsSeats, drops, is_dropped, lot_at, named_phase, or_idle, phase_at, staying, waiters_at}
 use Rattle.history.proofs.Basics.{Compared, same, other, compare, changed-same, changed-other, changed_all, eq_self}
 use Rattle.history.proofs.Waiters.{staying_more, staying_same, staying_twice, waiters_more, waiters_passed, waiters_rest, waiters_without}
 
 module _ (old new : Callers) (c : ℕ) (ph : CodePhase) (e : Enters old new c ph) where
   pub entered_own : phase_at new c ≡ ph
-  entered_own = ap or_idle (e c ∙ ap (λ b. cond b (Some ph) (named_phase old c)) (eq_self c))
+  entered_own = ap or_idle (e.0 c ∙ ap (λ b. cond b (Some ph) (named_phase old c)) (eq_self c))
 
   pub entered_other : (d : ℕ) → d ≢ c → phase_at new d ≡ phase_at old d
-  entered_other d ne = ap or_idle (e d ∙ ap (λ b. cond b (Some ph) (named_phase old d)) (ne_eqb d c ne))
+  entered_other d ne = ap or_idle (e.0 d ∙ ap (λ b. cond b (Some ph) (named_phase old d)) (ne_eqb d c ne))
 
   pub entered_drops : is_dropped ph ≡ drops old c → (d : ℕ) → drops old d ≡ drops new d
   entered_drops stays d = by (compare d c)
@@ -33,8 +33,8 @@ module _ (old new : Callers) (c : ℕ) (ph : CodePhase) (e : Enters old new c ph
 
 module _ (z : Size) (w : World) (a : Arrangement) (m : Machine) (sh : Shows z w a m) where
   -- a caller enters a phase
-  pub shows_entered : (cs : Callers) (c : ℕ) (ph : CodePhase) (to : Phase) → Enters m.callers cs c ph → IsShown ph to → is_dropped ph ≡ drops m.callers c → Shows z (record w { phase = changed w.phase c to }) a (record m { callers = cs })
-  shows_entered cs c ph to e own stays = record {
+  pub shows_entered : (cs : Callers) (c : ℕ) (ph : CodePhase) (to : Phase) → Enters m.callers cs c ph → IsShown ph to → is_dropped ph ≡ drops m.callers c → IsUnread m.compacted to → Shows z (record w { phase = changed w.phase c to }) a (record m { callers = cs })
+  shows_entered cs c ph to e own stays unread = record {
     capacity = sh.capacity;
     small = sh.small;
     frontier = sh.frontier;
@@ -46,11 +46,14 @@ module _ (z : Size) (w : World) (a : Arrangement) (m : Machine) (sh : Shows z w 
     seats = sh.seats;
     phases = entered_shown m.callers cs c ph e w.phase to own sh.phases;
     parked = λ n. sh.parked n ∙ staying_same (drops m.callers) (drops cs) (entered_drops m.callers cs c ph e stays) (lot_at m.parking n);
+    tracked = e.1 sh.tracked;
+    low = sh.low;
+    unread = changed_all (λ d x. IsUnread m.compacted x) w.phase c to unread (λ d ne. sh.unread d);
   }
 
   -- the same callers
-  pub shows_named : (cs : Callers) → ((c : ℕ) → phase_at cs c ≡ phase_at m.callers c) → Shows z w a (record m { callers = cs })
-  shows_named cs e = record {
+  pub shows_named : (cs : Callers) → ((c : ℕ) → phase_at cs c ≡ phase_at m.callers c) → (IsTracked m.callers → IsTracked cs) → Shows z w a (record m { callers = cs })
+  shows_named cs e tracks = record {
     capacity = sh.capacity;
     small = sh.small;
     frontier = sh.frontier;
@@ -62,12 +65,15 @@ module _ (z : Size) (w : World) (a : Arrangement) (m : Machine) (sh : Shows z w 
     seats = sh.seats;
     phases = λ c. subst (λ p. IsShown p (w.phase c)) (sym (e c)) (sh.phases c);
     parked = λ n. sh.parked n ∙ staying_same (drops m.callers) (drops cs) (λ c. ap is_dropped (sym (e c))) (lot_at m.parking n);
+    tracked = tracks sh.tracked;
+    low = sh.low;
+    unread = sh.unread;
   }
 
   -- a caller is gone while its reply waited
-  pub shows_dropped : (cs : Callers) (c : ℕ) (ph : CodePhase) (to : Phase) → Enters m.callers cs c ph → IsShown ph to → is_dropped ph ≡ true
+  pub shows_dropped : (cs : Callers) (c : ℕ) (ph : CodePhase) (to : Phase) → Enters m.callers cs c ph → IsShown ph to → is_dropped ph ≡ true → IsUnread m.compacted to
       → Shows z (record w { phase = changed w.phase c to }) (record { order = a.order; parked = without c a.parked }) (record m { callers = cs })
-  shows_dropped cs c ph to e own gone = record {
+  shows_dropped cs c ph to e own gone unread = record {
     capacity = sh.capacity;
     small = sh.small;
     frontier = sh.frontier;
@@ -79,6 +85,9 @@ module _ (z : Size) (w : World) (a : Arrangement) (m : Machine) (sh : Shows z w 
     seats = sh.seats;
     phases = entered_shown m.callers cs c ph e w.phase to own sh.phases;
     parked = λ n. waiters_without c n a.parked ∙ ap (staying (λ d. nat_eq d c)) (sh.parked n) ∙ staying_twice (λ d. nat_eq d c) (drops m.callers) (drops cs) (λ d. by d (compare d c)) (lot_at m.parking n);
+    tracked = e.1 sh.tracked;
+    low = sh.low;
+    unread = changed_all (λ d x. IsUnread m.compacted x) w.phase c to unread (λ d ne. sh.unread d);
   }
     where
       or_true : (b : Bool) → cond b true true ≡ true
@@ -116,6 +125,9 @@ module _ (z : Size) (w : World) (a : Arrangement) (m : Machine) (sh : Shows z w 
     log = sh.log;
     phases = sh.phases;
     parked = sh.parked;
+    tracked = sh.tracked;
+    low = sh.low;
+    unread = sh.unread;
     seats = shows_holder m'.holders.items s v lt seats;
   })
 

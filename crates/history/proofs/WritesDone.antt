@@ -116,7 +116,7 @@ pub call_done : (m : Machine) (c : ℕ) (r : Request) (m' : Machine) (cs : Calle
 unfolding Does
 call_done m c r m' cs stated entering is e = λ z w a sh facts.
     let at : w.phase c ≡ Idle = idle_is (phase_at m.callers c) (w.phase c) stated (sh.phases c) in
-    let next = shows_entered z w a m sh cs c (code.Called m.now_at r) (Called w.now r) entering (ap (λ n. Called n r) (sym sh.place)) (sym (live (phase_at m.callers c) stated)) in
+    let next = shows_entered z w a m sh cs c (code.Called m.now_at r) (Called w.now r) entering (ap (λ n. Called n r) (sym sh.place)) (sym (live (phase_at m.callers c) stated)) tt in
     steps z w c a m' (called w c r Idle) _ Idle (Called w.now r) (ap (called w c r) at) at (changed-same w.phase c (Called w.now r))
     (subst (λ x. Shows z (called w c r Idle) a x) (sym e) (record {
       capacity = sh.capacity;
@@ -129,6 +129,9 @@ call_done m c r m' cs stated entering is e = λ z w a sh facts.
       seats = sh.seats;
       phases = next.phases;
       parked = next.parked;
+      tracked = next.tracked;
+      low = next.low;
+      unread = next.unread;
       items = is ∙ ap (λ l. l ++ item.Call m.now_at c r ∷ []) sh.items ∙ ap (λ n. w.trace ++ item.Call n c r ∷ []) sh.place;
     }))
   where
@@ -160,8 +163,8 @@ module _ (m : Machine) (c : ℕ) (t : CodeWriting) (stated : holding_in (phase_a
       let v : World = record w { drawn = suc w.drawn; phase = changed w.phase c to } in
       let entered : Enters m.callers m'.callers c (code.Drawn (record { index = index; writing = t })) = subst (λ p. Enters m.callers m'.callers c (with_draw index p)) (holding_code (phase_at m.callers c) t stated) entering in
       let next = shows_entered z w a m sh m'.callers c (code.Drawn (record { index = index; writing = t })) to entered (ap (λ i. let d : Draw = record { index = i; writing = T } in Drawn d) (sym count))
-      (sym (ap is_dropped (holding_code (phase_at m.callers c) t stated))) in
-      let log : ShowsLog z w.log (suc w.drawn) m'.places.items m.shards.items = record {
+      (sym (ap is_dropped (holding_code (phase_at m.callers c) t stated))) tt in
+      let log : ShowsLog z w.log (suc w.drawn) m'.places.items m.shards.items m.compacted = record {
         drawn_is = ap length places ∙ length-append m.places.items (None ∷ []) ∙ add-one (length m.places.items) ∙ ap suc sh.log.drawn_is;
         filled = λ i. ap (λ l. get_or l i None) places ∙ none_more m.places.items i ∙ sh.log.filled i;
         count = sh.log.count;
@@ -181,6 +184,9 @@ module _ (m : Machine) (c : ℕ) (t : CodeWriting) (stated : holding_in (phase_a
         log = log;
         phases = next.phases;
         parked = next.parked;
+        tracked = next.tracked;
+        low = next.low;
+        unread = next.unread;
       }))
 
   pub reserve_full : (n m' : Machine) (s : ℕ) → s ≡ shard_of t.key (length m.shards.items) → s < length n.holders.items → m.capacity ≤ length m.places.items → Waits c m.capacity t.place (Refused StoreFull) m n
@@ -234,6 +240,9 @@ raise_done m m' place found order lots front e = λ z w a sh facts.
       log = sh.log;
       seats = sh.seats;
       phases = sh.phases;
+      tracked = sh.tracked;
+      low = sh.low;
+      unread = sh.unread;
       frontier = front ∙ next;
       order = order
           ∙ ap (λ l. l ++ place ∷ places_in (staying (drops m.callers) (lot_at m.parking (m.frontier + 1)))) sh.order
@@ -253,12 +262,12 @@ fills_by m m' s i n place v sv lt seat small number free sv_is shards places sea
     let below : s < z.shards = (let k = sh.log.count in omega arith) in
     let free' : IsAbove (shard_at m.shards.items s).records (suc i) = subst (λ x. IsAbove (shard_at m.shards.items s).records x) number free in
     let sv_at : shard_at m'.shards.items s ≡ sv = ap (λ l. get_or l s versions.opening) shards ∙ get_or-set_same m.shards.items s sv versions.opening lt in
-    let log : ShowsLog z (changed w.log i (Some t)) w.drawn m'.places.items m'.shards.items = record {
+    let log : ShowsLog z (changed w.log i (Some t)) w.drawn m'.places.items m'.shards.items m.compacted = record {
       drawn_is = ap length places ∙ length-set m.places.items i (Some place) ∙ sh.log.drawn_is;
       filled = λ j. ap (λ l. get_or l j None) places ∙ by_place z w a sh t own j (compare j i);
       count = ap length shards ∙ length-set m.shards.items s sv ∙ sh.log.count;
       mirrors = λ q lt'. by_shard z w a sh t v_is here drawn empty none free' below sv_at q lt' (compare q s);
-      floors = λ q. by_floor z w a sh sv_at q (compare q s);
+      floors = λ q lt'. by_floor z w a sh below sv_at q lt' (compare q s);
     } in
     subst (λ x. Shows z (record w { log = changed w.log i (Some t); holder = changed w.holder s None }) a x) (sym e) (record {
       capacity = sh.capacity;
@@ -270,6 +279,9 @@ fills_by m m' s i n place v sv lt seat small number free sv_is shards places sea
       order = sh.order;
       phases = sh.phases;
       parked = sh.parked;
+      tracked = sh.tracked;
+      low = sh.low;
+      unread = sh.unread;
       log = log;
       seats = shows_holder z w a m sh m'.holders.items s None below seats;
     })
@@ -297,33 +309,39 @@ fills_by m m' s i n place v sv lt seat small number free sv_is shards places sea
         let P : Shard → Type 0 = λ y. Mirrors z (changed w.log i (Some t)) w.drawn q y.records y.floor in
         subst P (sym (other_at q x)) (mirrors_beside (sh.log.mirrors q lt') i t empty (λ f. x (sym f ∙ here)))
 
-    by_floor : (z : Size) (w : World) (a : Arrangement) → Shows z w a m → shard_at m'.shards.items s ≡ sv → (q : ℕ) → Compared q s → (shard_at m'.shards.items q).floor ≡ 0
-    by_floor z w a sh sv_at q (same x b) = ap (λ k. (shard_at m'.shards.items k).floor) x ∙ ap (λ (y : Shard). y.floor) (sv_at ∙ sv_is) ∙ sh.log.floors s
-    by_floor z w a sh sv_at q (other x b) = ap (λ (y : Shard). y.floor) (other_at q x) ∙ sh.log.floors q
+    by_floor : (z : Size) (w : World) (a : Arrangement) → Shows z w a m → s < z.shards → shard_at m'.shards.items s ≡ sv → (q : ℕ) → q < z.shards → Compared q s → (shard_at m'.shards.items q).floor ≡ m.compacted
+    by_floor z w a sh below sv_at q lt' (same x b) = ap (λ k. (shard_at m'.shards.items k).floor) x ∙ ap (λ (y : Shard). y.floor) (sv_at ∙ sv_is) ∙ sh.log.floors s below
+    by_floor z w a sh below sv_at q lt' (other x b) = ap (λ (y : Shard). y.floor) (other_at q x) ∙ sh.log.floors q lt'
 
 -- room was made in a shard, or none was got
 pub roomed : (m m' : Machine) (s : ℕ) (sv : Shard) → sv.records ≡ (shard_at m.shards.items s).records → sv.floor ≡ (shard_at m.shards.items s).floor → s < length m.shards.items → m'.shards.items ≡ set m.shards.items s sv
     → m' ≡ record m { shards = m'.shards } → Stays m m'
 unfolding Stays
-roomed m m' s sv records floor lt shards e = λ z w a sh. subst (λ x. Shows z w a x) (sym e) (record {
-  capacity = sh.capacity;
-  small = sh.small;
-  frontier = sh.frontier;
-  floor = sh.floor;
-  place = sh.place;
-  items = sh.items;
-  order = sh.order;
-  seats = sh.seats;
-  phases = sh.phases;
-  parked = sh.parked;
-  log = record {
-    drawn_is = sh.log.drawn_is;
-    filled = sh.log.filled;
-    count = ap length shards ∙ length-set m.shards.items s sv ∙ sh.log.count;
-    mirrors = λ q lt'. subst (λ rs. Mirrors z w.log w.drawn q rs (shard_at m'.shards.items q).floor) (sym (by_records q (compare q s))) (subst (λ f. Mirrors z w.log w.drawn q (shard_at m.shards.items q).records f) (sym (by_floor q (compare q s))) (sh.log.mirrors q lt'));
-    floors = λ q. by_floor q (compare q s) ∙ sh.log.floors q;
-  };
-})
+roomed m m' s sv records floor lt shards e = (
+  ap (λ (x : Machine). x.compacted) e,
+  λ z w a sh. subst (λ x. Shows z w a x) (sym e) (record {
+    capacity = sh.capacity;
+    small = sh.small;
+    frontier = sh.frontier;
+    floor = sh.floor;
+    place = sh.place;
+    items = sh.items;
+    order = sh.order;
+    seats = sh.seats;
+    phases = sh.phases;
+    parked = sh.parked;
+    tracked = sh.tracked;
+    low = sh.low;
+    unread = sh.unread;
+    log = record {
+      drawn_is = sh.log.drawn_is;
+      filled = sh.log.filled;
+      count = ap length shards ∙ length-set m.shards.items s sv ∙ sh.log.count;
+      mirrors = λ q lt'. subst (λ rs. Mirrors z w.log w.drawn q rs (shard_at m'.shards.items q).floor) (sym (by_records q (compare q s))) (subst (λ f. Mirrors z w.log w.drawn q (shard_at m.shards.items q).records f) (sym (by_floor q (compare q s))) (sh.log.mirrors q lt'));
+      floors = λ q lt'. by_floor q (compare q s) ∙ sh.log.floors q lt';
+    };
+  }),
+)
   where
     own_at : shard_at m'.shards.items s ≡ sv
     own_at = ap (λ l. get_or l s versions.opening) shards ∙ get_or-set_same m.shards.items s sv versions.opening lt

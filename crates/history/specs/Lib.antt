@@ -11,6 +11,7 @@ pub mod Step
 pub mod Trace
 pub mod World
 -- ---- what only proofs use
+pub mod Begun
 pub mod Facts
 pub mod Following
 pub mod Marks

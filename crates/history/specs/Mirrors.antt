@@ -9,6 +9,7 @@ use Rattle.requests.specs.Change.{change_object}
 use Rattle.plain_store.specs.Store.{Objects, collection}
 use Rattle.versions.specs.Records as versions
 use Rattle.versions.specs.Records.{IsAbove, Records}
+use Rattle.versions.specs.Shard.{Shard, raised}
 use Rattle.history.specs.Log.{Log, Writing, last_write, value}
 use Rattle.history.specs.Step.{with_part}
 use Rattle.history.specs.World.{Size, shard}
@@ -36,6 +37,12 @@ pub record Mirrors (z : Size) (log : Log) (drawn s : ℕ) (records : Records) (f
   pub above : IsAbove records (suc drawn)
   -- each is of a write
   pub published : (n : ℕ) → map.contains_key records n ≡ true → IsPublished z log s n
+
+-- b is the shard a, compacted to a number
+pub record IsCompacted (n : ℕ) (a b : Shard) : Type 0 where
+  pub raised_is : b ≡ raised a n
+  pub newest_stays : (k : Key) → versions.newest b.records k ≡ versions.newest a.records k
+  pub values_stay : (m : ℕ) (k : Key) → b.floor ≤ m → versions.value b.records m k ≡ versions.value a.records m k
 
 -- each write is of an object of its key
 abbrev pub IsFiled : Log → Type 0

@@ -32,13 +32,15 @@ use Rattle.history.specs.declared.phase.Writing.{Writing as CodeWriting}
 use Rattle.history.specs.declared.trace.Item.{Item}
 use Rattle.history.specs.declared.trace.Item.TheVariants as item
 use Rattle.history.specs.Log.{Log, Writing, state_at}
-use Rattle.history.specs.Mirrors.{Mirrors}
+use Rattle.history.specs.Mirrors.{IsCompacted, Mirrors}
 use Rattle.history.specs.Order.{Arrangement, Parked, arranged, arrangement, beginning, last_or_parked, moved, with_last}
 use Rattle.history.specs.Step.{step as step_world}
 use Rattle.history.specs.Step.{begun, enters, given, happens, only, replied, told}
 use Rattle.history.specs.Trace.{after}
 use Rattle.history.specs.World.{Draw, Phase, Idle, Called, Holding, Drawn, Waiting, Reading, Gone, Size, World, changed, opening, shard}
+use Rattle.history.specs.Begun.{is_open}
 use Rattle.history.specs.Facts.{Facts}
+use Rattle.history.specs.Spared.{IsLeastRead}
 
 -- ---- callers
 abbrev pub writing_of : CodeWriting → Writing
@@ -240,12 +242,24 @@ gone_phase code.Gone = code.Gone
 gone_phase (code.Left d) = code.Left d
 gone_phase code.Dropped = code.Dropped
 
+-- whether a phase reads at a number
+abbrev pub reads_at : ℕ → CodePhase → Bool
+reads_at n p = option_map_or (λ t. nat_eq t.0 n) (reading_in p) false
+
+-- the reads that are open are those of the phases
+abbrev pub IsTracked : Callers → Type 0
+IsTracked callers = (n c : ℕ) → is_open callers.open_reads n c ≡ reads_at n (phase_at callers c)
+
 -- the caller is in this phase, and each other where it was
+abbrev pub Replaces : Callers → Callers → ℕ → CodePhase → Type 0
+Replaces old new c ph = (d : ℕ) → named_phase new d ≡ cond (nat_eq d c) (Some ph) (named_phase old d)
+
+-- and the reads that are open are still those of the phases
 abbrev pub Enters : Callers → Callers → ℕ → CodePhase → Type 0
-Enters old new c ph = (d : ℕ) → named_phase new d ≡ cond (nat_eq d c) (Some ph) (named_phase old d)
+Enters old new c ph = Replaces old new c ph × (IsTracked old → IsTracked new)
 
 abbrev pub Same : Callers → Callers → Type 0
-Same old new = (d : ℕ) → named_phase new d ≡ named_phase old d
+Same old new = ((d : ℕ) → named_phase new d ≡ named_phase old d) × (IsTracked old → IsTracked new)
 
 -- ---- what a request that was called reads of now, or at a number, and the floor that it sets
 abbrev pub parts_in : ℕ → Route → Option ℕ
@@ -287,13 +301,24 @@ staying gone (x ∷ xs) = cond (gone x.caller) (staying gone xs) (x ∷ staying 
 abbrev pub shard_at : List Shard → ℕ → Shard
 shard_at shards s = get_or shards s versions.opening
 
--- the log, by the shards and by the places of the calls of the numbers that are filled
-pub record ShowsLog (z : Size) (log : Log) (drawn : ℕ) (places : List (Option ℕ)) (shards : List Shard) : Type 0 where
+-- the log, by the shards, which are compacted to a number, and by the places of the calls of the numbers that are filled
+pub record ShowsLog (z : Size) (log : Log) (drawn : ℕ) (places : List (Option ℕ)) (shards : List Shard) (compacted : ℕ) : Type 0 where
   pub drawn_is : length places ≡ drawn
   pub filled : (i : ℕ) → get_or places i None ≡ option_map (λ t. t.place) (log i)
   pub count : length shards ≡ z.shards
   pub mirrors : (s : ℕ) → s < z.shards → Mirrors z log drawn s (shard_at shards s).records (shard_at shards s).floor
-  pub floors : (s : ℕ) → (shard_at shards s).floor ≡ 0
+  pub floors : (s : ℕ) → s < z.shards → (shard_at shards s).floor ≡ compacted
+
+-- the phase reads at no lower number
+abbrev pub IsUnread : ℕ → Phase → Type 0
+IsUnread low (Reading n p r parts found) = low ≤ n
+IsUnread low ph = Unit {0}
+
+-- the first i shards are compacted to a number, and the others as they were
+pub record AreCompacted (n i : ℕ) (old new : List Shard) : Type 0 where
+  pub count : length new ≡ length old
+  pub each : (s : ℕ) → s < i → IsCompacted n (shard_at old s) (shard_at new s)
+  pub others : (s : ℕ) → i ≤ s → shard_at new s ≡ shard_at old s
 
 -- who holds the shards
 pub record ShowsSeats (z : Size) (holder : ℕ → Option ℕ) (holders : List (Option ℕ)) : Type 0 where
@@ -308,16 +333,20 @@ pub record Shows (z : Size) (w : World) (a : Arrangement) (m : Machine) : Type 0
   pub place : m.now_at ≡ w.now
   pub items : m.items.items ≡ w.trace
   pub order : m.order.items ≡ a.order
-  pub log : ShowsLog z w.log w.drawn m.places.items m.shards.items
+  pub log : ShowsLog z w.log w.drawn m.places.items m.shards.items m.compacted
   pub seats : ShowsSeats z w.holder m.holders.items
   pub phases : (c : ℕ) → IsShown (phase_at m.callers c) (w.phase c)
+  pub tracked : IsTracked m.callers
+  -- nothing is read below what the shards are compacted to
+  pub low : m.compacted ≤ w.floor
+  pub unread : (c : ℕ) → IsUnread m.compacted (w.phase c)
   pub parked : (n : ℕ) → waiters_at n a.parked ≡ staying (drops m.callers) (lot_at m.parking n)
 
 -- ---- what one event does
 
--- whatever was shown is shown still
+-- whatever was shown is shown still, and the shards are compacted no further
 unfoldable pub Stays : Machine → Machine → Type 0
-Stays old new = (z : Size) (w : World) (a : Arrangement) → Shows z w a old → Shows z w a new
+Stays old new = (new.compacted ≡ old.compacted) × ((z : Size) (w : World) (a : Arrangement) → Shows z w a old → Shows z w a new)
 
 -- the request of a caller is put into the order, or parked
 unfoldable pub Settles : ℕ → ℕ → ℕ → Machine → Machine → Type 0
@@ -424,12 +453,17 @@ IsAnswer (event.Part c) old new told = told ≡ None
 IsAnswer (event.Reply c) old new told = new.items.items ≡ old.items.items ++ told_at old.now_at c told
 IsAnswer (event.Crash c) old new told = told ≡ None
 
--- what is shown is stepped by the event, and its place is taken
+-- whatever was shown is shown still, and the shards are compacted as far as nothing is read
+unfoldable pub Thins : Machine → Machine → Type 0
+Thins old new = (z : Size) (w : World) (a : Arrangement) → Shows z w a old → Shows z w a new × IsLeastRead w new.compacted
+
+-- what is shown is stepped by the event, its place is taken, and the shards are compacted
 unfoldable pub Steps : Event → Machine → Machine → Type 0
-Steps e old new = (z : Size) (w : World) (a : Arrangement) → Shows z w a old → Facts z w → Shows z (step_world z w e) (arranged w e (step_world z w e) a) new
+Steps e old new = (z : Size) (w : World) (a : Arrangement) → Shows z w a old → Facts z w → Shows z (step_world z w e) (arranged w e (step_world z w e) a) new × IsLeastRead (step_world z w e) new.compacted
 
 -- the machine of a run of these events
 pub record IsRun (z : Size) (events : List Event) (m : Machine) : Type 0 where
   pub some : 0 < z.shards
   pub count : m.now_at ≡ length events
   pub shows : Shows z (after z opening events) (arrangement z opening beginning events) m
+  pub compacted : IsLeastRead (after z opening events) m.compacted

@@ -8,3 +8,8 @@ use Rattle.history.specs.World.{Reading, World}
 pub record IsSpared (w : World) (number : ℕ) : Type 0 where
   pub floor : number ≤ w.floor
   pub reads : (c n p : ℕ) (r : Request) (parts : List ℕ) (found : Objects) → w.phase c ≡ Reading n p r parts found → number ≤ n
+
+-- The greatest such number: the least of the floor and of the numbers of all reads that have begun and are not answered.
+pub record IsLeastRead (w : World) (number : ℕ) : Type 0 where
+  pub spared : IsSpared w number
+  pub greatest : (n : ℕ) → IsSpared w n → n ≤ number

@@ -3,8 +3,9 @@ ghost use Rattle.std.specs.Option.{option_copied};
 ghost use Rattle.requests.specs.Change.{version_of};
 ghost use Rattle.plain_store.specs.Reached.{most_revisions};
 ghost use Rattle.history.specs.declared.phase.Phase.TheVariants.{Idle};
-ghost use Rattle.history.specs.Replayed.{Enters, Same, begun_phase, called_in, drawn_in, drops, gone_phase, holding_in, is_idle, named_phase, parted, phase_at, published_phase, reading_in, waiting_in, with_draw};
+ghost use Rattle.history.specs.Replayed.{Enters, IsTracked, Replaces, Same, begun_phase, called_in, drawn_in, drops, gone_phase, holding_in, is_called, is_idle, named_phase, parted, phase_at, published_phase, reading_in, waiting_in, with_draw};
 
+use crate::open_reads::OpenReads;
 use crate::phase::{Draw, Phase, Writing};
 use objects::Memory;
 use requests::{Reply, Request, Version};
@@ -15,14 +16,17 @@ use std::collections::BTreeMap;
 #[derive(Drop)]
 pub(crate) struct Callers {
     pub phases: BTreeMap<u64, Phase>,
+    pub open_reads: OpenReads,
 }
 
 impl Callers {
     pub(crate) fn new(alloc: Global) -> Callers
-        ensures { (c : ℕ) → named_phase result c ≡ None }
+        ensures unnamed { (c : ℕ) → named_phase result c ≡ None }
+        ensures tracked { IsTracked result }
     {
         Callers {
             phases: BTreeMap::new(alloc),
+            open_reads: OpenReads::new(alloc),
         }
     }
 
@@ -54,6 +58,7 @@ impl Callers {
 
     /// Makes room for a caller that is named for the first time.
     pub(crate) fn admit(&mut self, caller: u64) -> Result<(), Memory>
+        requires { named_phase self.old caller ≡ None }
         ensures admitted { OnOk result (Enters self.old self.new caller Idle) }
         ensures memory { OnErr result (Same self.old self.new) }
     {
@@ -63,16 +68,30 @@ impl Callers {
 
     /// Forgets a caller that is idle.
     pub(crate) fn dismiss(&mut self, caller: u64)
-        ensures { (c : ℕ) → named_phase self.new c ≡ (if c == caller then None else named_phase self.old c) }
+        ensures dismissed { (c : ℕ) → named_phase self.new c ≡ (if c == caller then None else named_phase self.old c) }
+        ensures tracked { is_idle (phase_at self.old caller) ≡ true → IsTracked self.old → IsTracked self.new }
     {
         drop(self.phases.remove(&caller));
     }
 
-    /// The caller's next phase, in the place of the one that is handed back.
+    /// The caller's next phase, in which it reads nothing, in the place of the one that is handed back.
     pub(crate) fn enter(&mut self, caller: u64, phase: Phase) -> Phase
-        requires { named_phase self.old caller ≢ None }
+        requires named { named_phase self.old caller ≢ None }
+        requires plain { reading_in phase ≡ None }
         ensures before { named_phase self.old caller ≡ Some result }
         ensures entered { Enters self.old self.new caller phase }
+    {
+        let before = self.replace(caller, phase);
+        self.open_reads.leave(caller, &before);
+        before
+    }
+
+    /// The caller's next phase, in the place of the one that is handed back. The open reads stay.
+    fn replace(&mut self, caller: u64, phase: Phase) -> Phase
+        requires { named_phase self.old caller ≢ None }
+        ensures before { named_phase self.old caller ≡ Some result }
+        ensures replaced { Replaces self.old self.new caller phase }
+        ensures open_reads { self.new.open_reads ≡ self.old.open_reads }
     {
         match self.phases.insert(caller, phase) {
             Ok(Some(before)) => before,
@@ -150,11 +169,11 @@ impl Callers {
         requires { named_phase self.old caller ≢ None }
         ensures { Enters self.old self.new caller (with_draw index (phase_at self.old caller)) }
     {
-        match self.enter(caller, Phase::Idle) {
+        match self.replace(caller, Phase::Idle) {
             Phase::Holding(writing) => {
-                drop(self.enter(caller, Phase::Drawn(Draw { index, writing })));
+                drop(self.replace(caller, Phase::Drawn(Draw { index, writing })));
             }
-            before => drop(self.enter(caller, before)),
+            before => drop(self.replace(caller, before)),
         }
     }
 
@@ -192,11 +211,13 @@ impl Callers {
     }
 
     /// The caller's request begins to read at a number.
-    pub(crate) fn begin(&mut self, caller: u64, number: u64, left: usize)
-        requires { named_phase self.old caller ≢ None }
-        ensures { Enters self.old self.new caller (begun_phase number left (phase_at self.old caller)) }
+    pub(crate) fn begin(&mut self, caller: u64, number: u64, left: usize) -> Result<(), Memory>
+        requires { is_called (phase_at self.old caller) ≡ true }
+        ensures begun { OnOk result (Enters self.old self.new caller (begun_phase number left (phase_at self.old caller))) }
+        ensures memory { OnErr result (Same self.old self.new) }
     {
-        match self.enter(caller, Phase::Idle) {
+        self.open_reads.begin(caller, number)?;
+        match self.replace(caller, Phase::Idle) {
             Phase::Called { place, request } => {
                 let begun = Phase::Reading {
                     number,
@@ -204,10 +225,11 @@ impl Callers {
                     request,
                     left,
                 };
-                drop(self.enter(caller, begun));
+                drop(self.replace(caller, begun));
             }
-            before => drop(self.enter(caller, before)),
+            before => drop(self.replace(caller, before)),
         }
+        Ok(())
     }
 
     /// A shard has answered a read.
@@ -215,7 +237,7 @@ impl Callers {
         requires { named_phase self.old caller ≢ None }
         ensures { Enters self.old self.new caller (parted (phase_at self.old caller)) }
     {
-        match self.enter(caller, Phase::Idle) {
+        match self.replace(caller, Phase::Idle) {
             Phase::Reading {
                 number,
                 place,
@@ -228,9 +250,9 @@ impl Callers {
                     request,
                     left: left.saturating_sub(1),
                 };
-                drop(self.enter(caller, rest));
+                drop(self.replace(caller, rest));
             }
-            before => drop(self.enter(caller, before)),
+            before => drop(self.replace(caller, before)),
         }
     }
 

@@ -4,6 +4,7 @@
 
 mod callers;
 mod check;
+mod compaction;
 mod decision;
 mod event;
 mod examples;
@@ -11,6 +12,7 @@ mod gathered;
 mod laws;
 mod machine;
 mod names;
+mod open_reads;
 mod pairs;
 mod parking;
 mod phase;

@@ -24,6 +24,8 @@ pub(crate) struct Machine {
     pub parking: Parking,
     pub frontier: u64,
     pub floor: u64,
+    /// What all shards are compacted to: nothing below it is read any more.
+    pub compacted: u64,
     /// The place of the next event.
     pub now_at: u64,
     pub items: Vec<Item>,

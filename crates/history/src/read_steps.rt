@@ -1,5 +1,5 @@
 // The events of reads and compactions, replies and crashes.
-ghost use Rattle.std.specs.Prelude.{◌≡◌, ◌≢◌, ◌++◌, ◌<◌, ℕ, true, None, Some, length, OnOk, OnErr, IfOk};
+ghost use Rattle.std.specs.Prelude.{◌≡◌, ◌≢◌, ◌++◌, ◌<◌, ◌≤◌, ℕ, true, None, Some, length, OnOk, OnErr, IfOk};
 ghost use Rattle.std.specs.Option.{option_copied};
 ghost use Rattle.objects.specs.ShardOf.{shard_of};
 ghost use Rattle.std.specs.FinMap as map;
@@ -41,13 +41,15 @@ impl Machine {
 
     /// A read begins, and stands in the order from here on.
     fn begin(&mut self, caller: u64, place: u64, number: u64, left: usize) -> Result<(), Memory>
-        requires { is_called (phase_at self.old.callers caller) ≡ true }
+        requires called { is_called (phase_at self.old.callers caller) ≡ true }
+        requires kept { self.old.compacted ≤ number }
         ensures begun { OnOk result (Begins caller place number left self.old self.new) }
         ensures memory { OnErr result (Stays self.old self.new) }
         ensures place { self.new.now_at ≡ self.old.now_at }
     {
+        self.order.reserve(1)?;
+        self.callers.begin(caller, number, left)?;
         self.order.push(place)?;
-        self.callers.begin(caller, number, left);
         Ok(())
     }
 
@@ -181,6 +183,7 @@ impl Machine {
     /// What a read at a number is answered.
     fn answer(&self, number: u64, request: &Request) -> Result<Reply, Memory>
         requires stands { Stands self.now }
+        requires kept { self.now.compacted ≤ number }
         requires read { (key : Key) → route request.now ≡ writes key → ⊥ }
         requires numbered { IsNumbered number request.now }
         ensures { IfOk result (λ reply. Answers number request.now reply self.now) }
@@ -206,7 +209,8 @@ impl Machine {
     }
 
     fn answer_get(&self, number: u64, key: &Key) -> Result<Reply, Memory>
-        requires { Stands self.now }
+        requires stands { Stands self.now }
+        requires kept { self.now.compacted ≤ number }
         ensures { IfOk result (λ reply. Answers number (Get key.now) reply self.now) }
     {
         match self.version_at(number, key) {
@@ -217,14 +221,16 @@ impl Machine {
 
     /// What a key was at a number.
     fn version_at(&self, number: u64, key: &Key) -> Option<&Object>
-        requires { Stands self.now }
+        requires stands { Stands self.now }
+        requires kept { self.now.compacted ≤ number }
         ensures { option_copied result ≡ value (shard_at self.now.shards.items (shard_of key.now (length self.now.shards.items))).records number key.now }
     {
         self.shards[self.shard_of(key)].at(key, number)
     }
 
     fn answer_list(&self, number: u64, kind: Kind, namespace: &Text) -> Result<Reply, Memory>
-        requires { Stands self.now }
+        requires stands { Stands self.now }
+        requires kept { self.now.compacted ≤ number }
         ensures { IfOk result (λ reply. reply ≡ Listed (map.values (found_in (records_of self.now) number kind namespace.now (length self.now.shards.items))) number) }
     {
         let objects = self.gather(number, kind, namespace)?.into_objects()?;
@@ -236,7 +242,8 @@ impl Machine {
 
     /// What all shards have of a kind in a namespace at a number.
     fn gather(&self, number: u64, kind: Kind, namespace: &Text) -> Result<Gathered, Memory>
-        requires { Stands self.now }
+        requires stands { Stands self.now }
+        requires kept { self.now.compacted ≤ number }
         ensures { IfOk result (λ found. found ≡ found_in (records_of self.now) number kind namespace.now (length self.now.shards.items)) }
     {
         let mut found = Gathered::new(self.alloc);
@@ -256,6 +263,7 @@ impl Machine {
     ) -> Result<Vec<Object>, Memory>
         requires stands { Stands self.now }
         requires below { shard < length self.now.shards.items }
+        requires kept { self.now.compacted ≤ number }
         ensures { IfOk result (λ objects. objects.items ≡ collection (state_at (shard_at self.now.shards.items shard).records number) kind namespace.now) }
     {
         self.shards[shard].list_at(kind, namespace, number)

@@ -98,6 +98,7 @@ impl Replay {
             parking,
             frontier: _,
             floor: _,
+            compacted: _,
             now_at: _,
             items,
             order,
@@ -144,6 +145,7 @@ fn opened(alloc: Global, shards: usize, capacity: u64) -> Result<Machine, Replay
         parking: Parking::new(alloc),
         frontier: 0,
         floor: 0,
+        compacted: 0,
         now_at: 0,
         items: Vec::new(alloc),
         order: Vec::new(alloc),
@@ -163,6 +165,7 @@ impl Machine {
     {
         let told = self.dispatch(event)?;
         self.now_at += 1;
+        self.compact_shards();
         Ok(told)
     }
 

@@ -9,7 +9,7 @@ pub returns-in-List : goal.returns-in-List
 returns-in-List c =
     let m = c.args.self.now in
     let n = c.args.number in
-    if_ok_by _ _ c.answer_list.result (λ reply is. subst (λ r. Answers n r reply m) (sym c.in-List.is) (list_found m n c.in-List.kind _ c.in-List.exact reply (numbered_list n c.in-List.kind _ c.in-List.exact (subst (IsNumbered n) c.in-List.is c.requires.numbered)) is)) c.answer_list.ensures
+    if_ok_by _ _ c.answer_list.result (λ reply is. subst (λ r. Answers n r reply m) (sym c.in-List.is) (list_found m n c.in-List.kind _ c.in-List.exact reply (numbered_list n c.in-List.kind _ c.in-List.exact (subst (IsNumbered n) c.in-List.is c.requires.numbered)) c.requires.kept is)) c.answer_list.ensures
 
 pub returns-in-Compact : goal.returns-in-Compact
 returns-in-Compact c =

@@ -6,7 +6,7 @@ use Rattle.history.proofs.Due.{below_shards}
 use Rattle.history.proofs.machine.Machine.answer_get.Goals as goal
 
 pub returns-in_ok-clone-in-Some : goal.returns-in_ok-clone-in-Some
-returns-in_ok-clone-in-Some c = get_found c.args.self.now c.args.number c.args.key.now _ (below_shards c.args.self.now c.args.key.now c.requires) (ap Found c.in_ok-clone-in-Some.ensures.cases ∙ ap found c.in-Some.ensures)
+returns-in_ok-clone-in-Some c = get_found c.args.self.now c.args.number c.args.key.now _ (below_shards c.args.self.now c.args.key.now c.requires.stands) c.requires.kept (ap Found c.in_ok-clone-in-Some.ensures.cases ∙ ap found c.in-Some.ensures)
 
 pub returns-in-None : goal.returns-in-None
-returns-in-None c = get_found c.args.self.now c.args.number c.args.key.now _ (below_shards c.args.self.now c.args.key.now c.requires) (ap found c.in-None.ensures)
+returns-in-None c = get_found c.args.self.now c.args.number c.args.key.now _ (below_shards c.args.self.now c.args.key.now c.requires.stands) c.requires.kept (ap found c.in-None.ensures)

@@ -1,7 +1,7 @@
 use Rattle.std.proofs.Common.{◌≡◌, length, Some, sym, subst, arith}
 use Rattle.plain_store.specs.Route.{route}
 use Rattle.history.specs.Replayed.{parts_in}
-use Rattle.history.proofs.Pieces.{on_ok_by}
+use Rattle.history.proofs.Pieces.{kept_now, on_ok_by}
 use Rattle.history.proofs.ReadsDone.{read_done, read_nothing, read_other}
 use Rattle.history.proofs.machine.Machine.read.Goals as goal
 
@@ -10,6 +10,9 @@ returns-in_default-clause-done c = read_nothing c.args.self.now c.args.caller (s
 
 pub returns-in_default-parts_of-clause-done : goal.returns-in_default-parts_of-clause-done
 returns-in_default-parts_of-clause-done c = read_other c.args.self.now c.args.caller c.in-Some.place c.in-Some.request.now (sym c.in-Some.ensures) _ (sym c.in_default-parts_of.ensures)
+
+pub begin-requires-clause-kept : goal.begin-requires-clause-kept
+begin-requires-clause-kept c = kept_now c.args.self.now c.requires
 
 pub returns-clause-done : goal.returns-clause-done
 returns-clause-done c =

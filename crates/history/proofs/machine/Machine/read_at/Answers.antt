@@ -1,6 +1,6 @@
 use Rattle.std.proofs.Common.{◌≡◌, length, sym, subst, arith}
 use Rattle.history.specs.Replayed.{Begins}
-use Rattle.history.proofs.Pieces.{on_ok_by}
+use Rattle.history.proofs.Pieces.{kept_at, on_ok_by}
 use Rattle.history.proofs.ReadsDone.{read_at_done, read_at_nothing, read_at_other, read_at_refused}
 use Rattle.history.proofs.machine.Machine.read_at.Goals as goal
 
@@ -13,6 +13,9 @@ returns-in_default-exact_of-clause-done c = read_at_other c.args.self.now c.args
 pub returns-in-Some-denied-clause-done : goal.returns-in-Some-denied-clause-done
 returns-in-Some-denied-clause-done c =
     on_ok_by _ _ c.wait.result (λ waits. read_at_refused c.args.self.now c.args.caller c.in-Some.place c.in-Some.request.now (sym c.in-Some.ensures) _ c.in-Some-exact_of.exact c.in-Some-denied.reason c.in-Some-exact_of.ensures c.in-Some-denied.ensures waits) c.wait.ensures.waits
+
+pub begin-requires-clause-kept : goal.begin-requires-clause-kept
+begin-requires-clause-kept c = kept_at c.args.self.now c.in-Some-exact_of.exact c.requires (sym c.in-None.ensures)
 
 pub returns-in-None-clause-done : goal.returns-in-None-clause-done
 returns-in-None-clause-done c =

@@ -1,0 +1,130 @@
+-- The shards are compacted to the least number that is read: what a machine shows stays.
+use Rattle.std.proofs.Common.{◌≡◌, ◌≢◌, ℕ, ◌+◌, ◌<◌, ◌≤◌, true, List, length, set, refl, sym, ap, ◌∙◌, subst, arith, nat_eq, true≢false, get_or-set_same, get_or-set_other}
+use Rattle.std.proofs.Math.ListN.{length-set}
+use Rattle.versions.specs.Shard as versions
+use Rattle.versions.specs.Shard.{Shard}
+use Rattle.history.specs.declared.machine.Machine.{Machine}
+use Rattle.history.specs.declared.phase.Phase.{Phase as CodePhase}
+use Rattle.history.specs.declared.phase.Phase.TheVariants as code
+use Rattle.requests.specs.declared.request.Request.{Request}
+use Rattle.plain_store.specs.Store.{Objects}
+use Rattle.history.specs.Begun.{IsLeastOf, is_open}
+use Rattle.history.specs.Mirrors.{IsCompacted}
+use Rattle.history.specs.Order.{Arrangement}
+use Rattle.history.specs.Replayed.{AreCompacted, IsShown, IsUnread, Shows, Thins, phase_at, reads_at, shard_at}
+use Rattle.history.specs.Spared.{IsLeastRead, IsSpared}
+use Rattle.history.specs.World.{Phase, Reading, Size, World}
+use Rattle.history.proofs.Basics.{Compared, same, other, compare, eq_self}
+use Rattle.history.proofs.Mirrors.{floor_raised, mirrors_raised}
+
+-- one shard more is compacted
+pub compacted_next : (n i : ℕ) (old xs : List Shard) (before after : Shard) → i < length xs → before ≡ shard_at xs i → IsCompacted n before after → AreCompacted n i old xs → AreCompacted n (i + 1) old (set xs i after)
+compacted_next n i old xs before after lt at is done = record {
+  count = length-set xs i after ∙ done.count;
+  each = λ s below. each s below (compare s i);
+  others = λ s from. get_or-set_other xs i s after versions.opening (λ e. omega arith) ∙ done.others s (omega arith);
+}
+  where
+    own : shard_at (set xs i after) i ≡ after
+    own = get_or-set_same xs i after versions.opening lt
+
+    each : (s : ℕ) → s < i + 1 → Compared s i → IsCompacted n (shard_at old s) (shard_at (set xs i after) s)
+    each s below (same e b) =
+        subst (λ j. IsCompacted n (shard_at old j) (shard_at (set xs i after) j)) (sym e)
+        (subst (λ x. IsCompacted n (shard_at old i) x) (sym own) (subst (λ x. IsCompacted n x after) (at ∙ done.others i (omega arith)) is))
+    each s below (other ne b) = subst (λ x. IsCompacted n (shard_at old s) x) (sym (get_or-set_other xs i s after versions.opening ne)) (done.each s (omega arith))
+
+-- what is up to the number of each code phase that reads, is up to that of its phase
+unread_shown : (low : ℕ) (p : CodePhase) (ph : Phase) → IsShown p ph → ((n : ℕ) → reads_at n p ≡ true → low ≤ n) → IsUnread low ph
+unread_shown low code.Idle ph h f = subst (IsUnread low) (sym h) tt
+unread_shown low (code.Called p r) ph h f = subst (IsUnread low) (sym h) tt
+unread_shown low (code.Holding t) ph h f = subst (IsUnread low) (sym h) tt
+unread_shown low (code.Drawn d) ph h f = subst (IsUnread low) (sym h) tt
+unread_shown low (code.Waiting s p r) ph h f = subst (IsUnread low) (sym h) tt
+unread_shown low (code.Reading n p r left) ph h f = subst (IsUnread low) (sym h.1.1.0) (f n (eq_self n))
+unread_shown low code.Gone ph h f = subst (IsUnread low) (sym h) tt
+unread_shown low (code.Left d) ph h f = subst (IsUnread low) (sym h) tt
+unread_shown low code.Dropped ph h f = subst (IsUnread low) (sym h) tt
+
+number_is : {m n : ℕ} → Compared m n → nat_eq m n ≡ true → m ≡ n
+number_is (same e b) is = e
+number_is (other ne b) is = absurd (true≢false (sym is ∙ b))
+
+shown_unread : (low n : ℕ) (p : CodePhase) (ph : Phase) → IsShown p ph → reads_at n p ≡ true → IsUnread low ph → low ≤ n
+shown_unread low n (code.Reading m p r left) ph h e unread = let le : low ≤ m = subst (IsUnread low) h.1.1.0 unread in let equal = number_is (compare m n) e in omega arith
+shown_unread low n code.Idle ph h e unread = absurd cc
+shown_unread low n (code.Called p r) ph h e unread = absurd cc
+shown_unread low n (code.Holding t) ph h e unread = absurd cc
+shown_unread low n (code.Drawn d) ph h e unread = absurd cc
+shown_unread low n (code.Waiting s p r) ph h e unread = absurd cc
+shown_unread low n code.Gone ph h e unread = absurd cc
+shown_unread low n (code.Left d) ph h e unread = absurd cc
+shown_unread low n code.Dropped ph h e unread = absurd cc
+
+spared_unread : (w : World) (k : ℕ) → IsSpared w k → (c : ℕ) → IsUnread k (w.phase c)
+spared_unread w k spared c = by (w.phase c) refl
+  where
+    by : (ph : Phase) → w.phase c ≡ ph → IsUnread k ph
+    by (Reading n p r parts found) at = spared.reads c n p r parts found at
+    by ph at = tt
+
+unread_spared : (w : World) (k : ℕ) → k ≤ w.floor → ((c : ℕ) → IsUnread k (w.phase c)) → IsSpared w k
+unread_spared w k low unread = record { floor = low; reads = λ c n p r parts found at. subst (IsUnread k) at (unread c) }
+
+module _ (m : Machine) (least : ℕ) (is : IsLeastOf m.callers.open_reads m.floor least) where
+  module _ (z : Size) (w : World) (a : Arrangement) (sh : Shows z w a m) where
+    unread : (c : ℕ) → IsUnread least (w.phase c)
+    unread c = unread_shown least (phase_at m.callers c) (w.phase c) (sh.phases c) (λ n e. is.reads n c (sh.tracked n c ∙ e))
+
+    low : least ≤ w.floor
+    low = let le = is.low in let floor = sh.floor in omega arith
+
+    least_read : IsLeastRead w least
+    least_read = record {
+      spared = unread_spared w least low unread;
+      greatest = λ k spared. is.greatest k (let le = spared.floor in let floor = sh.floor in omega arith)
+          (λ n c e. shown_unread k n (phase_at m.callers c) (w.phase c) (sh.phases c) (sym (sh.tracked n c) ∙ e) (spared_unread w k spared c));
+    }
+
+  -- the least has not risen
+  pub thins_not : least ≤ m.compacted → Thins m m
+  unfolding Thins
+  thins_not le = λ z w a sh.
+      let l = least_read z w a sh in
+      let ge = l.greatest m.compacted (unread_spared w m.compacted sh.low sh.unread) in
+      let equal : least ≡ m.compacted = omega arith in
+      (sh, subst (IsLeastRead w) equal l)
+
+  pub thins_by : (m' : Machine) → m.compacted < least → AreCompacted least (length m.shards.items) m.shards.items m'.shards.items → m' ≡ record m { shards = m'.shards; compacted = least } → Thins m m'
+  unfolding Thins
+  thins_by m' lt compacted e = λ z w a sh. (
+    subst (λ x. Shows z w a x) (sym e) (record {
+      capacity = sh.capacity;
+      small = sh.small;
+      frontier = sh.frontier;
+      floor = sh.floor;
+      place = sh.place;
+      items = sh.items;
+      order = sh.order;
+      seats = sh.seats;
+      phases = sh.phases;
+      parked = sh.parked;
+      tracked = sh.tracked;
+      low = low z w a sh;
+      unread = unread z w a sh;
+      log = record {
+        drawn_is = sh.log.drawn_is;
+        filled = sh.log.filled;
+        count = compacted.count ∙ sh.log.count;
+        mirrors = λ s below. mirrors_raised _ _ least (compacted.each s (inside z w a sh s below)) (under z w a sh s below) (sh.log.mirrors s below);
+        floors = λ s below. floor_raised _ _ least (compacted.each s (inside z w a sh s below)) (under z w a sh s below);
+      };
+    }),
+    subst (IsLeastRead w) (sym (ap (λ (x : Machine). x.compacted) e)) (least_read z w a sh),
+  )
+    where
+      inside : (z : Size) (w : World) (a : Arrangement) → Shows z w a m → (s : ℕ) → s < z.shards → s < length m.shards.items
+      inside z w a sh s below = let count = sh.log.count in omega arith
+
+      under : (z : Size) (w : World) (a : Arrangement) → Shows z w a m → (s : ℕ) → s < z.shards → (shard_at m.shards.items s).floor ≤ least
+      under z w a sh s below = let floor = sh.log.floors s below in omega arith
