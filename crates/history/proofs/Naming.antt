@@ -1,5 +1,5 @@
 -- The names of callers, with one more and without it again.
-use Rattle.std.proofs.Common.{◌≡◌, ℕ, suc, ◌+◌, ◌≤◌, Bool, true, false, cond, ◌||◌, nat_eq, List, [], ◌∷◌, ◌++◌, length, Option, Some, None, refl, sym, ap, ◌∙◌, arith}
+use Rattle.std.proofs.Common.{◌≡◌, ℕ, zero, suc, ◌+◌, ◌≤◌, Bool, true, false, cond, ◌||◌, nat_eq, List, [], ◌∷◌, ◌++◌, length, take, Option, Some, None, refl, sym, ap, ◌∙◌, arith}
 use Rattle.std.specs.List.{list_any}
 use Rattle.std.specs.declared.cmp.Ordering.{Ordering}
 use Rattle.std.specs.declared.cmp.Ordering.TheVariants.{Less, Equal, Greater}
@@ -8,7 +8,7 @@ use Rattle.std.specs.BTreeSet.{insert_key}
 use Rattle.std.specs.Ordering.{is_eq, match_ordering, nat_cmp}
 use Rattle.std.specs.Set.{remove_key}
 use Rattle.history.specs.declared.event.Event.{Event}
-use Rattle.history.specs.Named.{named, with_named}
+use Rattle.history.specs.Named.{callers, named, with_named}
 use Rattle.history.specs.Replayed.{named_by}
 use Rattle.history.proofs.Basics.{eq_self}
 use Rattle.history.proofs.Stepping.{lt_false}
@@ -58,6 +58,15 @@ length_named ks (Some c) = by (list_any (is_at (nat_cmp c)) ks) refl
 pub more_named : (es : List Event) (names : List ℕ) → length names ≤ length (named names es)
 more_named [] names = omega arith
 more_named (e ∷ es) names = let a = length_named names (named_by e) in let b = more_named es (with_named names (named_by e)) in omega arith
+
+-- the first events name no more callers than all
+pub callers_taken : (i : ℕ) (es : List Event) → callers (take i es) ≤ callers es
+callers_taken i es = go [] i es
+  where
+    go : (names : List ℕ) (i : ℕ) (es : List Event) → length (named names (take i es)) ≤ length (named names es)
+    go names zero es = more_named es names
+    go names (suc i) [] = omega arith
+    go names (suc i) (e ∷ es) = go (with_named names (named_by e)) i es
 
 pub named_append : (es fs : List Event) (names : List ℕ) → named names (es ++ fs) ≡ named (named names es) fs
 named_append [] fs names = refl

@@ -1,4 +1,4 @@
-ghost use Rattle.std.specs.Prelude.{◌≡◌, ◌<◌, ◌≤◌, ◌↔◌, [], length, OnOk, OnErr, IfOk, IsErrOf};
+ghost use Rattle.std.specs.Prelude.{◌≡◌, ◌<◌, ◌≤◌, ◌↔◌, ◌⊎◌, [], length, OnOk, OnErr, IfOk, IfErr, IsErrOf};
 ghost use Rattle.history.specs.Named.{with_named, without};
 ghost use Rattle.history.specs.Replayed.{named_by};
 
@@ -33,6 +33,7 @@ impl Names {
         ensures few { OnOk result (length self.new.callers.keys ≤ 4096) }
         ensures too_many { IsErrOf result ReplayError.TooManyCallers ↔ (4096 < length (with_named self.old.callers.keys (named_by event.now))) }
         ensures refused { OnErr result (self.new.callers.keys ≡ self.old.callers.keys) }
+        ensures reasons { IfErr result (λ reason. (reason ≡ ReplayError.TooManyCallers) ⊎ (reason ≡ ReplayError.Memory)) }
     {
         let Some(caller) = caller_of(event) else {
             return Ok(None);

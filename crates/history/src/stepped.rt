@@ -1,4 +1,4 @@
-ghost use Rattle.std.specs.Prelude.{◌≡◌, ◌≢◌, ◌+◌, ◌-◌, ◌^◌, ◌<◌, ◌≤◌, ◌↔◌, ◌++◌, ◌∷◌, [], ℕ, List, length, None, Some, OnOk, OnErr, IfOk, IfSome, IfErr, IsErrOf, IsTrue};
+ghost use Rattle.std.specs.Prelude.{◌≡◌, ◌≢◌, ◌+◌, ◌-◌, ◌^◌, ◌<◌, ◌≤◌, ◌↔◌, ◌⊎◌, ◌++◌, ◌∷◌, [], ℕ, List, length, None, Some, OnOk, OnErr, IfOk, IfSome, IfErr, IsErrOf, IsTrue};
 ghost use Rattle.history.specs.After.{IsAfter, IsReached, IsReplyTo, IsRunOf, taken};
 ghost use Rattle.history.specs.declared.event.Event.{Event};
 ghost use Rattle.history.specs.World.{Idle, Size, opening};
@@ -32,6 +32,7 @@ impl Replay {
         ensures opened { IfOk result (λ replay. IsAfter (record { capacity = capacity; shards = shards }) [] replay) }
         ensures bad_shards { IsErrOf result ReplayError.BadShards ↔ (1 ≤ shards → 64 < shards) }
         ensures bad_capacity { IsErrOf result ReplayError.BadCapacity ↔ ((1 ≤ shards) × (shards ≤ 64) × (1 ≤ capacity → most_revisions < capacity)) }
+        ensures unnamed { IsErrOf result ReplayError.TooManyCallers → ⊥ }
     {
         if shards < 1 || MAX_SHARDS < shards {
             return Err(ReplayError::BadShards);
@@ -56,6 +57,7 @@ impl Replay {
         ensures told { (size : Size) (events : List Event) → IsAfter size events self.old → IfOk result (λ told. IsReplyTo size events event.now told) }
         ensures refused { (size : Size) (events : List Event) → IsAfter size events self.old → OnErr result (IsAfter size events self.new) }
         ensures count { OnOk result (taken self.new ≡ taken self.old + 1) }
+        ensures reasons { IfErr result (λ reason. (reason ≡ ReplayError.TooManyCallers) ⊎ (reason ≡ ReplayError.Memory)) }
         ensures too_many { (size : Size) (events : List Event) → IsAfter size events self.old → IsErrOf result ReplayError.TooManyCallers ↔ (4096 < callers (events ++ event.now ∷ [])) }
     {
         let newly = self.names.note(event)?;

@@ -1,5 +1,7 @@
-ghost use Rattle.std.specs.Prelude.{IfOk};
+ghost use Rattle.std.specs.Prelude.{◌<◌, ◌≤◌, ◌↔◌, IfOk, OnOk, IsErrOf};
+ghost use Rattle.plain_store.specs.Reached.{most_revisions};
 ghost use Rattle.history.specs.After.{IsRunOf};
+ghost use Rattle.history.specs.Named.{callers};
 
 use crate::event::Event;
 use crate::replay_error::ReplayError;
@@ -7,14 +9,18 @@ use crate::replaying::Replay;
 use crate::trace::Run;
 use std::alloc::Global;
 
-/// The run of these events from the opening world: its trace, and the order that is built of its requests.
+/// The run of these events from the opening world: its trace, and the order that is built of its requests. Where the events
+/// name more than 4,096 callers it is refused for that, or for memory if that ran out first.
 pub fn replay(
     alloc: Global,
     shards: usize,
     capacity: u64,
     events: &[Event],
 ) -> Result<Run, ReplayError>
-    ensures { IfOk result (λ run. IsRunOf (record { capacity = capacity; shards = shards }) events.now run) }
+    ensures run { IfOk result (λ run. IsRunOf (record { capacity = capacity; shards = shards }) events.now run) }
+    ensures few { OnOk result (callers events.now ≤ 4096) }
+    ensures bad_shards { IsErrOf result ReplayError.BadShards ↔ (1 ≤ shards → 64 < shards) }
+    ensures bad_capacity { IsErrOf result ReplayError.BadCapacity ↔ ((1 ≤ shards) × (shards ≤ 64) × (1 ≤ capacity → most_revisions < capacity)) }
 {
     let mut replay = Replay::new(alloc, shards, capacity)?;
     for event in events {

@@ -1,6 +1,7 @@
-use Rattle.std.proofs.Common.{◌∙◌, arith, subst}
+use Rattle.std.proofs.Common.{◌∙◌, ap, arith, length, subst}
 use Rattle.std.proofs.lemmas.List.{length-take-le, take_all}
 use Rattle.history.specs.After.{IsAfter, taken}
+use Rattle.history.specs.Named.{callers}
 use Rattle.history.specs.World.{Size}
 use Rattle.history.proofs.whole.replay.Goals as goal
 
@@ -12,7 +13,17 @@ step-requires-clause-room c =
     let at = c.loop-event.invariant.0.count ∙ length-take-le c.loop-event.event-index c.args.events.now (omega (arith, lt)) in
     omega (arith, at, lt, fits)
 
-pub returns : goal.returns
-returns c =
+pub returns-clause-few : goal.returns-clause-few
+unfolding IsAfter
+returns-clause-few c =
+    let es = c.args.events.now in
+    let after = c.loop-event.invariant in
+    let names = ap length after.1.0 in
+    let all = ap (λ l. callers l) (take_all c.loop-event.event-index es c.loop-event-test.false) in
+    let few = after.1.1 in
+    omega (arith, names, all, few)
+
+pub returns-clause-run : goal.returns-clause-run
+returns-clause-run c =
     let z : Size = record { capacity = c.args.capacity; shards = c.args.shards } in
     c.finish.ensures z c.args.events.now (subst (λ es. IsAfter z es c.loop-event.replay) (take_all c.loop-event.event-index c.args.events.now c.loop-event-test.false) c.loop-event.invariant)
