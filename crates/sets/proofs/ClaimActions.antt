@@ -1,13 +1,12 @@
 -- Which claims a plan creates and updates.
-use Rattle.std.proofs.Common.{◌≡◌, ◌⊎◌, inl, inr, ℕ, Bool, true, false, cond, List, [], ◌∷◌, ◌++◌, map, filter, Option, Some, None, Result, Ok, Err, refl, sym, ap, ◌∙◌, subst}
+use Rattle.std.proofs.Common.{◌≡◌, ◌⊎◌, inl, inr, ℕ, Bool, true, false, cond, List, [], ◌∷◌, Option, Some, None, Ok, refl, sym, ap, ◌∙◌, subst}
 use Rattle.std.proofs.lemmas.List.Elements.{Contains-append_cases, Contains-append_left, Contains-append_right}
-use Rattle.std.specs.List.{Contains, cons_option, filter_map, list_any}
+use Rattle.std.specs.List.{Contains, cons_option, filter_map}
 use Rattle.std.specs.Prelude.{option_and_then}
 use Rattle.serde_json.specs.Data.{Data}
 use Rattle.serde_json.specs.View.{items_of}
 use Rattle.objects.specs.declared.object.Object.{Object}
 use Rattle.objects.specs.PodNames.{claim_name}
-use Rattle.set_views.specs.declared.fault.PlanError.{PlanError}
 use Rattle.set_views.specs.declared.fault.PlanError.TheVariants.{NameTooLong}
 use Rattle.set_views.specs.declared.policies.Retention.TheVariants.{Retain}
 use Rattle.set_views.specs.Claims.{Claim}
@@ -21,7 +20,7 @@ use Rattle.manifests.specs.BuiltClaim.{built_claim}
 use Rattle.claims.specs.declared.change.ClaimChange.{ClaimChange}
 use Rattle.claims.specs.declared.change.ClaimChange.TheVariants.{Create, Update as Change}
 use Rattle.claims.specs.Changes.{all_made, entries_of, kept_claims, made, made_claims, released_claims, update, updated}
-use Rattle.claims.specs.Owners.{is_of_pod, is_of_set, owner_in_range, owner_of_condemned, wanted}
+use Rattle.claims.specs.Owners.{owner_in_range, owner_of_condemned, wanted}
 use Rattle.claims.proofs.OwnerLaws.{retained_condemned, retained_in_range, strangers_stay, update_is}
 use Rattle.sets.specs.declared.action.Action.{Action}
 use Rattle.sets.specs.declared.action.Action.TheVariants.{CreateClaim, CreatePod, DeletePod, UpdateClaim, WriteRevision, DeleteRevision, WriteStatus, Wait}
@@ -154,26 +153,46 @@ pub owners_alone : (set : SetParts) (claims : Claims) (listed : List PodParts) (
 owners_alone set claims listed owned current update actions changed e h =
     let f = found set claims listed owned current update actions changed e h in
     elim (f.is) [
-      | inl is ↦ (f.i, f.claim, wanted set (name_at set f.i) (owner_in_range set) (entries_of f.claim), record {
-        listed = (f.c, f.among, f.listed);
-        owners = sym (update_is set (name_at set f.i) (owner_in_range set) f.claim changed is);
-        others = inl (strangers_stay set (name_at set f.i) (owner_in_range set) (entries_of f.claim));
-      })
-      | inr is ↦ (f.i, f.claim, wanted set (name_at set f.i) (owner_of_condemned set is.0) (entries_of f.claim), record {
-        listed = (f.c, f.among, f.listed);
-        owners = sym (update_is set (name_at set f.i) (owner_of_condemned set is.0) f.claim changed is.1);
-        others = inr (is.0, strangers_stay set (name_at set f.i) (owner_of_condemned set is.0) (entries_of f.claim));
-      })
+      | inl is ↦ (
+        f.i,
+        f.claim,
+        wanted set (name_at set f.i) (owner_in_range set) (entries_of f.claim),
+        record {
+          listed = (f.c, f.among, f.listed);
+          owners = sym (update_is set (name_at set f.i) (owner_in_range set) f.claim changed is);
+          others = inl (strangers_stay set (name_at set f.i) (owner_in_range set) (entries_of f.claim));
+        },
+      )
+      | inr is ↦ (
+        f.i,
+        f.claim,
+        wanted set (name_at set f.i) (owner_of_condemned set is.0) (entries_of f.claim),
+        record {
+          listed = (f.c, f.among, f.listed);
+          owners = sym (update_is set (name_at set f.i) (owner_of_condemned set is.0) f.claim changed is.1);
+          others = inr (is.0, strangers_stay set (name_at set f.i) (owner_of_condemned set is.0) (entries_of f.claim));
+        },
+      )
     ]
 
 pub updated_retained : (set : SetParts) (claims : Claims) (listed : List PodParts) (owned : List Object) (current update : Object) (actions : List Action) (changed : Object) → set.when_deleted ≡ Retain → set.when_scaled ≡ Retain → plan_of_pods set claims listed owned current update ≡ Ok actions → Contains actions (UpdateClaim changed) → (i : ℕ) × (claim : Object) × (entries : List Data) × (changed ≡ updated claim entries) × (name_set_or_pod set i entries ≡ false)
 updated_retained set claims listed owned current update actions changed deleted scaled e h =
     let f = found set claims listed owned current update actions changed e h in
     elim (f.is) [
-      | inl is ↦ (f.i, f.claim, wanted set (name_at set f.i) (owner_in_range set) (entries_of f.claim), sym (update_is set (name_at set f.i) (owner_in_range set) f.claim changed is),
-      retained_in_range set (name_at set f.i) (entries_of f.claim) deleted)
-      | inr is ↦ (f.i, f.claim, wanted set (name_at set f.i) (owner_of_condemned set is.0) (entries_of f.claim), sym (update_is set (name_at set f.i) (owner_of_condemned set is.0) f.claim changed is.1),
-      retained_condemned set (name_at set f.i) is.0 (entries_of f.claim) deleted scaled)
+      | inl is ↦ (
+        f.i,
+        f.claim,
+        wanted set (name_at set f.i) (owner_in_range set) (entries_of f.claim),
+        sym (update_is set (name_at set f.i) (owner_in_range set) f.claim changed is),
+        retained_in_range set (name_at set f.i) (entries_of f.claim) deleted,
+      )
+      | inr is ↦ (
+        f.i,
+        f.claim,
+        wanted set (name_at set f.i) (owner_of_condemned set is.0) (entries_of f.claim),
+        sym (update_is set (name_at set f.i) (owner_of_condemned set is.0) f.claim changed is.1),
+        retained_condemned set (name_at set f.i) is.0 (entries_of f.claim) deleted scaled,
+      )
     ]
 
 -- ---- new claims

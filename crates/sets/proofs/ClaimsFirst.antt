@@ -1,5 +1,5 @@
 -- The create of a pod stands after the creates of its claims.
-use Rattle.std.proofs.Common.{◌≡◌, ◌⊎◌, inl, inr, ℕ, zero, suc, ◌+◌, ◌-◌, ◌^◌, ◌≤◌, ◌<◌, Bool, true, false, if◌then◌else◌, List, [], ◌∷◌, ◌++◌, append_assoc, map, take, find, reverse, Option, Some, None, Ok, arith, refl, sym, ap, ◌∙◌, subst}
+use Rattle.std.proofs.Common.{◌≡◌, inl, inr, ℕ, zero, suc, ◌+◌, ◌-◌, ◌^◌, ◌≤◌, ◌<◌, Bool, true, false, if◌then◌else◌, List, [], ◌∷◌, ◌++◌, append_assoc, map, take, find, reverse, Option, Some, None, Ok, arith, refl, sym, ap, subst}
 use Rattle.std.proofs.lemmas.Grind.{flat_map-append}
 use Rattle.std.proofs.lemmas.List.{append-nil}
 use Rattle.std.proofs.lemmas.List.Elements.{Contains-append_cases, Contains-append_left, Contains-append_right}
@@ -7,14 +7,11 @@ use Rattle.std.specs.List.{Contains, flat_map, list_any, range_with_len}
 use Rattle.std.specs.Option.{option_map_or}
 use Rattle.std.specs.Prelude.{⊤, ◌||◌, length, nat_le, not, ◌&&◌}
 use Rattle.serde_json.specs.View.{items_of}
-use Rattle.objects.specs.declared.kind.Kind.TheVariants.{PersistentVolumeClaim}
 use Rattle.objects.specs.declared.object.Object.{Object}
-use Rattle.objects.specs.Key.{key_parts}
 use Rattle.objects.specs.PodNames.{claim_name}
 use Rattle.set_views.specs.declared.fault.PlanError.TheVariants.{NameTooLong}
 use Rattle.set_views.specs.declared.policies.Policy.TheVariants.{OrderedReady, Parallel}
 use Rattle.set_views.specs.declared.policies.Strategy.TheVariants.{RollingUpdate, OnDelete}
-use Rattle.set_views.specs.Claims.{Claim}
 use Rattle.set_views.specs.Pod.{PodParts}
 use Rattle.set_views.specs.Set.{SetParts}
 use Rattle.set_views.specs.Steps.{guarded}
@@ -33,7 +30,7 @@ use Rattle.manifests.specs.BuiltClaim.{built_claim}
 use Rattle.manifests.specs.BuiltStatus.{built_status}
 use Rattle.claims.specs.declared.change.ClaimChange.{ClaimChange}
 use Rattle.claims.specs.declared.change.ClaimChange.TheVariants.{Create, Update as Change}
-use Rattle.claims.specs.Changes.{all_made, create, kept_claims, made as made_of, made_claims, released_claims}
+use Rattle.claims.specs.Changes.{all_made, kept_claims, made as made_of, made_claims, released_claims}
 use Rattle.claims.specs.Owners.{owner_in_range, wanted}
 use Rattle.sets.specs.declared.action.Action.{Action}
 use Rattle.sets.specs.declared.action.Action.TheVariants.{CreateClaim, CreatePod, DeletePod, UpdateClaim, WriteRevision, DeleteRevision, WriteStatus, Wait}

@@ -1,5 +1,5 @@
 -- The names of the pods in range are no longer than that of the last.
-use Rattle.std.proofs.Common.{◌≡◌, ℕ, zero, suc, ◌+◌, ◌-◌, ◌*◌, ◌/◌, ◌%◌, ◌^◌, ◌≤◌, ◌<◌, List, [], ◌∷◌, ◌++◌, length, arith, refl, sym, ap, ◌∙◌, subst, length-append, codes, add-one}
+use Rattle.std.proofs.Common.{◌≡◌, ℕ, suc, ◌+◌, ◌-◌, ◌*◌, ◌/◌, ◌%◌, ◌^◌, ◌≤◌, ◌<◌, List, [], ◌∷◌, ◌++◌, length, arith, refl, sym, ap, ◌∙◌, subst, length-append, codes, add-one}
 use Rattle.std.proofs.lemmas.Bool.{eqb-true, leb-true, le-leb}
 use Rattle.std.proofs.lemmas.Fmt.{decimal_by_steps, decimal_nonempty, length-decimal-le}
 use Rattle.std.proofs.lemmas.List.{get_or_default}
@@ -12,7 +12,7 @@ use Rattle.set_views.specs.Set.{SetParts}
 use Rattle.scaling.specs.declared.step.Step.{Step}
 use Rattle.scaling.specs.declared.step.Step.TheVariants.{MakeClaims, KeepClaims, ReleaseClaims, CreatePod, DeletePod, Wait}
 use Rattle.scaling.specs.Replicas.{AreInOrder, Pods}
-use Rattle.scaling.specs.Step.{cut, is_of_pod}
+use Rattle.scaling.specs.Step.{cut}
 use Rattle.scaling.specs.Whole.{planned}
 use Rattle.scaling.proofs.Causes.{created_is_absent}
 use Rattle.scaling.proofs.Cuts.{cut_is_a_beginning}

@@ -1,5 +1,5 @@
 -- Which step an action comes from, and what is known of the step.
-use Rattle.std.proofs.Common.{◌≡◌, ◌⊎◌, inl, inr, ℕ, zero, suc, ◌+◌, ◌≤◌, ◌<◌, Bool, true, false, List, [], ◌∷◌, ◌++◌, Option, Some, None, Result, Ok, Err, map, take, find, drop, filter, length, length-append, refl, sym, ap, ◌∙◌, subst, arith}
+use Rattle.std.proofs.Common.{◌≡◌, inl, inr, ℕ, suc, ◌+◌, ◌≤◌, ◌<◌, Bool, true, false, List, [], ◌∷◌, ◌++◌, Option, Some, None, Result, Ok, Err, map, take, find, drop, filter, length, length-append, refl, sym, ap, ◌∙◌, subst, arith}
 use Rattle.std.proofs.lemmas.List.{append-nil, take-append-drop}
 use Rattle.std.proofs.lemmas.List.Elements.{Contains-append_cases, Contains-append_left, Contains-append_right, filter-append}
 use Rattle.std.specs.List.{Contains, flat_map, list_any}
@@ -17,11 +17,10 @@ use Rattle.set_views.specs.Words.{in_range, is_owned, is_healthy}
 use Rattle.revisions.specs.History.{expired}
 use Rattle.revisions.specs.Plan.{created, renumbered}
 use Rattle.scaling.specs.declared.replica.Replica.{Replica}
-use Rattle.scaling.specs.declared.step.Cause.{Cause}
 use Rattle.scaling.specs.declared.step.Revision.{Revision}
 use Rattle.scaling.specs.declared.step.Step.{Step}
 use Rattle.scaling.specs.declared.step.Step.TheVariants as steps
-use Rattle.scaling.specs.Listed.{is_named, replica_of, replicas_in}
+use Rattle.scaling.specs.Listed.{is_named, replicas_in}
 use Rattle.scaling.specs.Replicas as replicas
 use Rattle.scaling.specs.Replicas.{Pods, has_healthy_pod, pod_at}
 use Rattle.scaling.specs.Step.{is_of_pod, pod_steps}
@@ -30,14 +29,14 @@ use Rattle.scaling.proofs.AtOnce.{alone, nowhere, single}
 use Rattle.scaling.proofs.Causes.{created_in_turn, created_is_absent, deleted, one_at_a_time}
 use Rattle.scaling.proofs.Firsts.{is_listed, replicas_in_order}
 use Rattle.scaling.proofs.ListedPlans.{created_is_free, deleted_is_owned, kept_of_list}
-use Rattle.manifests.specs.BuiltStatus.{StatusParts, built_status}
+use Rattle.manifests.specs.BuiltStatus.{built_status}
 use Rattle.claims.specs.declared.change.ClaimChange.{ClaimChange}
 use Rattle.claims.specs.declared.change.ClaimChange.TheVariants.{Create, Update as Change}
 use Rattle.claims.specs.Changes.{kept_claims, made_claims, released_claims}
 use Rattle.sets.specs.declared.action.Action.{Action}
 use Rattle.sets.specs.declared.action.Action.TheVariants.{CreateClaim, CreatePod, DeletePod, UpdateClaim, WriteRevision, DeleteRevision, WriteStatus, Wait}
 use Rattle.sets.specs.Actions.{Claims, actions_of, changes_in, claim_action, claim_actions, name_at, new_pod, revision_of}
-use Rattle.sets.specs.Plan.{fitting, names_fit, plan_by, plan_of_pods, unless_refused}
+use Rattle.sets.specs.Plan.{fitting, names_fit, plan_by, plan_of_pods}
 use Rattle.sets.specs.Whole.{current_name, deletion, deletions, status_of, status_write, whole}
 use Rattle.sets.proofs.Plans.{fitting_fits}
 use Rattle.sets.specs.Laws.{HasHealthyTarget, IsPodAt, is_on_pod}

@@ -1,18 +1,17 @@
 -- What is known of a plan that deletes a pod in range which has not failed.
-use Rattle.std.proofs.Common.{◌≡◌, ℕ, ◌+◌, ◌≤◌, ◌<◌, Bool, true, false, List, length, filter, find, Option, Some, None, Ok, arith, refl, sym, ap, ◌∙◌, subst}
+use Rattle.std.proofs.Common.{◌≡◌, ℕ, ◌≤◌, ◌<◌, true, false, List, length, filter, Some, None, Ok, refl, sym, ap, ◌∙◌, subst}
 use Rattle.std.proofs.lemmas.Bool.{and_parts, leb-true}
 use Rattle.std.specs.List.{Contains}
-use Rattle.std.specs.Prelude.{take}
 use Rattle.objects.specs.declared.object.Object.{Object}
 use Rattle.set_views.specs.declared.policies.Policy.TheVariants.{OrderedReady}
 use Rattle.set_views.specs.declared.policies.Strategy.TheVariants.{RollingUpdate}
 use Rattle.set_views.specs.Pod.{PodParts}
 use Rattle.set_views.specs.Set.{SetParts}
-use Rattle.set_views.specs.Words.{in_range, is_owned}
+use Rattle.set_views.specs.Words.{in_range}
 use Rattle.scaling.specs.declared.replica.Replica.{Replica}
 use Rattle.scaling.specs.declared.step.Step.{Step}
 use Rattle.scaling.specs.declared.step.Step.TheVariants as steps
-use Rattle.scaling.specs.Listed.{has_revision, is_named, replica_of}
+use Rattle.scaling.specs.Listed.{replica_of}
 use Rattle.scaling.specs.Replicas as replicas
 use Rattle.scaling.specs.Replicas.{AreInOrder, Pods, is_failed, is_settled, pod_at}
 use Rattle.scaling.specs.Step.{pod_steps}
@@ -59,10 +58,17 @@ module _ (set : SetParts) (current update : Object) (listed : List PodParts) (po
 pub replaced_alone : (set : SetParts) (claims : Claims) (listed : List PodParts) (owned : List Object) (current update : Object) (actions : List Action) (name : List ℕ) (uid : ℕ) → plan_of_pods set claims listed owned current update ≡ Ok actions → Contains actions (DeletePod name uid) → (i : ℕ) × (name ≡ name_at set i) × ((pod : PodParts) × IsPodAt set listed i pod × (in_range set i ≡ true → is_failed pod.readiness ≡ false → length (filter is_on_pod actions) ≤ 1))
 replaced_alone set claims listed owned current update actions name uid e h =
     let p = planned_over set claims listed owned current update actions e in
-    let g = gone_from set claims listed owned current update actions p.0 name uid p.1 h in
-    (g.i, g.named, (g.pod, g.at, λ within staying.
-        let few : length (pod_steps (planned set p.0)) ≤ 1 = one_is_touched set p.0 g.i uid g.replica g.sorted (replaced set current update listed p.0 name uid g within staying) in
-        few_on_pods set claims listed owned current update actions p.0 p.1 few))
+    let g = gone_from set claims listed owned current update actions p.0 name uid p.1 h in (
+      g.i,
+      g.named,
+      (
+        g.pod,
+        g.at,
+        λ within staying.
+            let few : length (pod_steps (planned set p.0)) ≤ 1 = one_is_touched set p.0 g.i uid g.replica g.sorted (replaced set current update listed p.0 name uid g within staying) in
+            few_on_pods set claims listed owned current update actions p.0 p.1 few,
+      ),
+    )
 
 -- ---- the update
 module _ (set : SetParts) (claims : Claims) (listed : List PodParts) (owned : List Object) (current update : Object) (actions : List Action) (pods : Pods) (over : IsOver set claims listed owned current update actions pods) where
@@ -82,22 +88,36 @@ module _ (set : SetParts) (claims : Claims) (listed : List PodParts) (owned : Li
 pub updated_downward : (set : SetParts) (claims : Claims) (listed : List PodParts) (owned : List Object) (current update : Object) (actions : List Action) (name : List ℕ) (uid partition : ℕ) → set.strategy ≡ RollingUpdate partition → plan_of_pods set claims listed owned current update ≡ Ok actions → Contains actions (DeletePod name uid) → (i : ℕ) × (name ≡ name_at set i) × ((pod : PodParts) × IsPodAt set listed i pod × (in_range set i ≡ true → is_failed pod.readiness ≡ false → IsNextToUpdate set update.key.name listed partition i pod))
 updated_downward set claims listed owned current update actions name uid partition rolling e h =
     let p = planned_over set claims listed owned current update actions e in
-    let g = gone_from set claims listed owned current update actions p.0 name uid p.1 h in
-    (g.i, g.named, (g.pod, g.at, λ within staying.
-        let gone = replaced set current update listed p.0 name uid g within staying in
-        let by = by_the_update set p.0 g.i uid g.replica g.sorted gone in
-        let old = replaced_is_outdated set p.0 g.i uid g.replica g.here by in
-        record {
-          reached = leb-true partition g.i (replaced_from_partition set p.0 partition g.i uid rolling by);
-          outdated = ap (λ (r : Replica). r.updated) g.same ∙ old.0;
-          staying = ap (λ (r : Replica). r.terminating) g.same ∙ old.1;
-          above = targets_above set claims listed owned current update actions p.0 p.1 g.i uid partition g.replica g.sorted gone rolling;
-        }))
+    let g = gone_from set claims listed owned current update actions p.0 name uid p.1 h in (
+      g.i,
+      g.named,
+      (
+        g.pod,
+        g.at,
+        λ within staying.
+            let gone = replaced set current update listed p.0 name uid g within staying in
+            let by = by_the_update set p.0 g.i uid g.replica g.sorted gone in
+            let old = replaced_is_outdated set p.0 g.i uid g.replica g.here by in
+            record {
+              reached = leb-true partition g.i (replaced_from_partition set p.0 partition g.i uid rolling by);
+              outdated = ap (λ (r : Replica). r.updated) g.same ∙ old.0;
+              staying = ap (λ (r : Replica). r.terminating) g.same ∙ old.1;
+              above = targets_above set claims listed owned current update actions p.0 p.1 g.i uid partition g.replica g.sorted gone rolling;
+            },
+      ),
+    )
 
 pub updated_where_healthy : (set : SetParts) (claims : Claims) (listed : List PodParts) (owned : List Object) (current update : Object) (actions : List Action) (name : List ℕ) (uid : ℕ) → set.policy ≡ OrderedReady → plan_of_pods set claims listed owned current update ≡ Ok actions → Contains actions (DeletePod name uid) → (i : ℕ) × (name ≡ name_at set i) × ((pod : PodParts) × IsPodAt set listed i pod × (in_range set i ≡ true → is_failed pod.readiness ≡ false → (j : ℕ) → in_range set j ≡ true → HasHealthyTarget set listed j))
 updated_where_healthy set claims listed owned current update actions name uid policy e h =
     let p = planned_over set claims listed owned current update actions e in
-    let g = gone_from set claims listed owned current update actions p.0 name uid p.1 h in
-    (g.i, g.named, (g.pod, g.at, λ within staying j there.
-        let gone = replaced set current update listed p.0 name uid g within staying in
-        healthy_target set update.key.name current.key.name listed p.0 j p.1.0 (replaced_where_all_healthy set p.0 g.i uid j g.replica g.sorted policy g.there within g.here gone.staying there)))
+    let g = gone_from set claims listed owned current update actions p.0 name uid p.1 h in (
+      g.i,
+      g.named,
+      (
+        g.pod,
+        g.at,
+        λ within staying j there.
+            let gone = replaced set current update listed p.0 name uid g within staying in
+            healthy_target set update.key.name current.key.name listed p.0 j p.1.0 (replaced_where_all_healthy set p.0 g.i uid j g.replica g.sorted policy g.there within g.here gone.staying there),
+      ),
+    )

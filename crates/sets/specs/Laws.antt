@@ -1,5 +1,5 @@
 -- Words of the laws of plans.
-use Rattle.std.specs.Prelude.{◌≡◌, ◌≤◌, ◌<◌, ◌⊎◌, ◌||◌, ℕ, Bool, true, false, List, Option, Some, None, filter, find}
+use Rattle.std.specs.Prelude.{◌≡◌, ◌≤◌, ◌<◌, ◌⊎◌, ◌||◌, ℕ, Bool, true, false, List, Some, None, filter, find}
 use Rattle.std.specs.List.{Contains, list_any}
 use Rattle.serde_json.specs.Data.{Data}
 use Rattle.objects.specs.declared.kind.Kind.TheVariants.{PersistentVolumeClaim}

@@ -1,5 +1,5 @@
 -- The plan of a StatefulSet, or the first refusal.
-use Rattle.std.specs.Prelude.{◌≡◌, ◌+◌, ◌-◌, ◌==◌, ◌||◌, ℕ, Bool, nat_le, List, [], ◌∷◌, filter, length, map, take, Result, Ok, Err, ⊤}
+use Rattle.std.specs.Prelude.{◌+◌, ◌-◌, ◌==◌, ◌||◌, ℕ, Bool, nat_le, List, [], ◌∷◌, filter, length, map, take, Result, Ok, Err, ⊤}
 use Rattle.objects.specs.declared.object.Object.{Object}
 use Rattle.set_views.specs.declared.fault.PlanError.{PlanError}
 use Rattle.set_views.specs.declared.fault.PlanError.TheVariants.{NameTooLong, NoRevisionName}

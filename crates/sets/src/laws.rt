@@ -11,6 +11,7 @@ ghost use Rattle.set_views.specs.Claims.{Claim};
 ghost use Rattle.set_views.specs.Pod.{PodParts};
 ghost use Rattle.set_views.specs.Set.{SetParts};
 ghost use Rattle.set_views.specs.Words.{in_range, is_healthy, is_owned};
+ghost use Rattle.revisions.specs.History.{has_pod};
 ghost use Rattle.revisions.specs.Plan.{created, renumbered};
 ghost use Rattle.scaling.specs.Listed.{is_named};
 ghost use Rattle.scaling.specs.Replicas.{is_failed};
@@ -91,6 +92,15 @@ pub fn plans_retain_claims()
         → (i : ℕ) × (claim : Object) × (entries : List Data) × (changed ≡ updated claim entries) × (name_set_or_pod set i entries ≡ false) }
     ensures created { (set : SetParts) (claims : Claims) (listed : List PodParts) (owned : List Object) (current update : Object) (actions : List Action) (claim : Object) → set.when_deleted ≡ Retain → set.when_scaled ≡ Retain → plan_of_pods set claims listed owned current update ≡ Ok actions → Contains actions (CreateClaim claim)
         → (i : ℕ) × (c : Claim) × (entries : List Data) × (claim ≡ built_claim set i (items_of entries) c) × (name_set_or_pod set i entries ≡ false) }
+{}
+
+/// A plan goes by the first listed pod of each of the set's names, by the revisions that have a pod of the set's, and by the
+/// first listed claim of each name. So the order of pods and of claims does not matter but among those of one name.
+pub fn plans_go_by_first_objects()
+    ensures claims { (set : SetParts) (claims others : Claims) (listed : List PodParts) (owned : List Object) (current update : Object)
+        → ((name : List ℕ) → claims name ≡ others name) → plan_of_pods set claims listed owned current update ≡ plan_of_pods set others listed owned current update }
+    ensures pods { (set : SetParts) (listed moved : List PodParts) → ((i : ℕ) → find (is_named set i) listed ≡ find (is_named set i) moved) → ((name : List ℕ) → has_pod set listed name ≡ has_pod set moved name)
+        → (claims : Claims) (owned : List Object) (current update : Object) → plan_of_pods set claims listed owned current update ≡ plan_of_pods set claims moved owned current update }
 {}
 
 /// A plan that writes a revision has no other action.

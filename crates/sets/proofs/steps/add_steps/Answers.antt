@@ -1,4 +1,4 @@
-use Rattle.std.proofs.Common.{◌<◌, length, arith}
+use Rattle.std.proofs.Common.{arith}
 use Rattle.set_views.specs.Set.{set_parts}
 use Rattle.claims.specs.Listed.{claim_named}
 use Rattle.sets.specs.Actions.{actions_of}
