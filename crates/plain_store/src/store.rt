@@ -141,7 +141,7 @@ impl Plain {
                 exact,
             } => {
                 if *exact == 0 {
-                    self.list_at(*kind, namespace, self.counter)
+                    self.list_now(*kind, namespace)
                 } else {
                     self.list_exactly(*kind, namespace, *exact)
                 }
@@ -183,6 +183,19 @@ impl Plain {
             Some(reason) => Ok(StoredReply::Refused(reason)),
             None => self.list_at(kind, namespace, number),
         }
+    }
+
+    /// The objects of the kind in the namespace as they are. Its time is theirs: it does not walk over those that were
+    /// removed.
+    fn list_now(&self, kind: Kind, namespace: &Text) -> Result<StoredReply, Memory>
+        ensures { IfOk result (λ stored. reply_stored stored ≡ Listed (collection self.now.objects kind namespace.now) self.now.counter) }
+    {
+        let listed = self.versions.list_newest(kind, namespace, self.counter)?;
+        let objects = shared(self.alloc, listed)?;
+        Ok(StoredReply::Listed {
+            objects,
+            revision: self.counter,
+        })
     }
 
     /// The objects of the kind in the namespace as they were at a number that can be read.
@@ -317,7 +330,19 @@ impl Plain {
         self.versions.make_room(key)?;
         self.versions.push(self.counter + 1, state);
         self.counter += 1;
+        self.put_aside(kind, key);
         Ok(())
+    }
+
+    /// After a change of that kind a list of what is there need not come upon the key.
+    fn put_aside(&mut self, kind: ChangeKind, key: &Key)
+        ensures { self.new ≡ self.old }
+    {
+        let _ = &self.versions;
+        match kind {
+            ChangeKind::Creation | ChangeKind::Update | ChangeKind::Mark => {}
+            ChangeKind::Removal => self.versions.put_aside(key),
+        }
     }
 
     /// Whether all revisions are drawn.

@@ -6,12 +6,13 @@ use Rattle.std.specs.Ordering.{eq_by_cmp, is_eq, is_lt}
 use Rattle.std.specs.declared.cmp.Ordering.{Ordering}
 use Rattle.std.specs.declared.cmp.Ordering.TheVariants.{Less, Equal, Greater}
 use Rattle.std.specs.FinMap as map
-use Rattle.std.specs.FinMap.{entries, entries-insert, entries_sorted, find, get, get-empty, get-entries, get-from_entries, get-insert, get-remove, is_sorted, put, same_map}
+use Rattle.std.specs.FinMap.{FinMap, entries, entries-insert, entries_sorted, find, get, get-empty, get-entries, get-from_entries, get-insert, get-remove, is_sorted, put, same_map}
 use Rattle.std.specs.FinMap.Entries.{below_all, length-put}
 use Rattle.std.proofs.lemmas.Bool.{and_parts}
 use Rattle.objects.specs.declared.key.Key.{Key}
 use Rattle.objects.specs.Key.{key_cmp}
 use Rattle.objects.specs.KeyOrder.{equal_from, exact_keys, key_cmp_total}
+use Rattle.version_map.specs.Keyed.{put_at}
 use Rattle.version_map.specs.Rows.{Row, begins_to, kept}
 use Rattle.version_map.specs.Versions.{RowsByKey, compacted, count, count_in, rows_at}
 use Rattle.version_map.specs.Whole.{Chains, Places, by_key, put_rows, rows_by, rows_in, rows_there}
@@ -40,6 +41,10 @@ below_none k [] below = refl
 below_none k (e ∷ es) below =
     let parts = and_parts (is_lt (key_cmp k e.0)) (below_all key_cmp k es) below in
     ap (λ b. cond b (Some e.1) (find key_cmp k es)) (not_tied (key_cmp k e.0) parts.0) ∙ below_none k es parts.1
+
+pub get_put_at : {X : Type 0} (m : FinMap key_cmp X) (k : Key) (s : Option X) (q : Key) → get (put_at m k s) q ≡ cond (eq_by_cmp key_cmp q k) s (get m q)
+get_put_at m k None q = get-remove key_cmp_total m k q
+get_put_at m k (Some x) q = get-insert key_cmp_total m k x q
 
 -- ---- how many rows there are
 

@@ -1,10 +1,13 @@
 -- The names of a kind in a namespace, which stand in the order of their keys.
-use Rattle.std.proofs.Common.{◌≡◌, ℕ, ◌==◌, ◌<◌, length, get_or, bytes_eq, Bool, true, false, cond, T, List, [], ◌∷◌, map, Some, None, string_bytes, string_cmp, refl, sym, ap, ◌∙◌, subst}
+use Rattle.std.proofs.Common.{◌≡◌, ℕ, ◌==◌, ◌<◌, length, get_or, bytes_eq, Bool, true, false, cond, T, List, [], ◌∷◌, map, Option, Some, None, string_bytes, string_cmp, refl, sym, ap, ◌∙◌, subst}
 use Rattle.std.specs.List.{AllByRecursion}
 use Rattle.std.specs.List.Sorted.{IsStrictlySortedBy}
 use Rattle.std.specs.Map.{keys_of}
 use Rattle.std.specs.Ordering.{nat_cmp}
-use Rattle.std.specs.declared.cmp.Ordering.TheVariants.{Less}
+use Rattle.std.specs.declared.cmp.Ordering.TheVariants.{Equal, Less}
+use Rattle.std.specs.declared.cmp.Ordering.{Ordering}
+use Rattle.std.specs.Borrow.{Bor}
+use Rattle.std.specs.Option.{option_or}
 use Rattle.std.specs.BTreeMap.{IsOrdered, get_by_text}
 use Rattle.std.specs.Cmp.{nat_cmp_total}
 use Rattle.std.specs.Cmp.Lexicographic.{slice_cmp, nat_list_cmp_total}
@@ -19,8 +22,8 @@ use Rattle.objects.specs.Key.{key_cmp, key_parts, kind_index}
 use Rattle.objects.specs.KeyOrder.{exact_keys, key_cmp_total}
 use Rattle.version_map.specs.Keyed.{collection}
 use Rattle.version_map.specs.Keys.{is_of}
-use Rattle.version_map.specs.Named.{Names, Namespaces, Places, named, placed}
-use Rattle.version_map.proofs.Named.{Text, by_name, find_named, find_other, name_read, none_read, place_read}
+use Rattle.version_map.specs.Named.{AreNames, AreValues, Names, Namespaces, Places, both, named, place_among, placed}
+use Rattle.version_map.proofs.Named.{Text, by_bytes, find_named, find_other, get_both, place_read}
 
 abbrev pub values_of : {X : Type 0} → List (Key × X) → List X
 values_of {X} es = map (λ (e : Key × X). e.1) es
@@ -34,42 +37,89 @@ names_apart : (kind : Kind) (namespace a b : List ℕ) → slice_cmp nat_cmp a b
 names_apart kind namespace a b less =
     rw (tied_itself nat_cmp_total (kind_index kind), tied_itself nat_list_cmp_total namespace) less
 
-below_named : (kind : Kind) (namespace : List ℕ) (s : Text) (es : List (Text × ℕ)) → AllByRecursion (λ q. string_cmp s q ≡ Less) (keys_of es)
-    → below_all key_cmp (key_parts kind namespace (string_bytes s)) (named kind namespace es) ≡ true
-below_named kind namespace s [] h = refl
-below_named kind namespace s (e ∷ es) h = rw (names_apart kind namespace (string_bytes s) (string_bytes e.0) h.0, below_named kind namespace s es h.1) refl
+module _ {K : Type 0} (bytes : K → List ℕ) where
+  abbrev pub by_bytes_cmp : K → K → Ordering
+  by_bytes_cmp x y = slice_cmp nat_cmp (bytes x) (bytes y)
 
-sorted_named : (kind : Kind) (namespace : List ℕ) (es : List (Text × ℕ)) → IsStrictlySortedBy string_cmp (keys_of es) → is_sorted key_cmp (named kind namespace es) ≡ true
-unfolding IsStrictlySortedBy
-sorted_named kind namespace [] h = refl
-sorted_named kind namespace (e ∷ es) h = rw (below_named kind namespace e.0 es h.0, sorted_named kind namespace es h.1) refl
+  below_named : (kind : Kind) (namespace : List ℕ) (s : K) (es : List (K × ℕ)) → AllByRecursion (λ q. by_bytes_cmp s q ≡ Less) (keys_of es)
+      → below_all key_cmp (key_parts kind namespace (bytes s)) (named bytes kind namespace es) ≡ true
+  below_named kind namespace s [] h = refl
+  below_named kind namespace s (e ∷ es) h = rw (names_apart kind namespace (bytes s) (bytes e.0) h.0, below_named kind namespace s es h.1) refl
 
-values_named : (kind : Kind) (namespace : List ℕ) (es : List (Text × ℕ)) → values_of (named kind namespace es) ≡ map (λ e. e.1) es
-values_named kind namespace [] = refl
-values_named kind namespace (e ∷ es) = ap (λ ps. e.1 ∷ ps) (values_named kind namespace es)
+  sorted_named : (kind : Kind) (namespace : List ℕ) (es : List (K × ℕ)) → IsStrictlySortedBy by_bytes_cmp (keys_of es) → is_sorted key_cmp (named bytes kind namespace es) ≡ true
+  unfolding IsStrictlySortedBy
+  sorted_named kind namespace [] h = refl
+  sorted_named kind namespace (e ∷ es) h = rw (below_named kind namespace e.0 es h.0, sorted_named kind namespace es h.1) refl
 
--- the names with their places make the collection, if the map has at the keys of the kind in the namespace what they have
-pub collected : (m : Places) (kind : Kind) (namespace : List ℕ) (es : List (Text × ℕ)) → IsStrictlySortedBy string_cmp (keys_of es)
-    → ((q : Key) → kind_index q.kind ≡ kind_index kind → q.namespace ≡ namespace → get m q ≡ by_name es q.name) → collection m kind namespace ≡ map (λ e. e.1) es
-collected m kind namespace es ascending same =
-    let sorted : T (is_sorted key_cmp (named kind namespace es)) = subst T (sym (sorted_named kind namespace es ascending)) tt in
-    ap values (same_map key_cmp_total exact_keys (retain_keys m (is_of kind namespace)) (from_sorted (named kind namespace es)) (λ q.
-    get-retain_keys m (is_of kind namespace) q (λ x tie. ap (is_of kind namespace) (sym (exact_keys q x tie)))
-    ∙ by q (is_of kind namespace q) refl ∙ sym (get-from_sorted key_cmp (named kind namespace es) q sorted)))
-    ∙ ap values_of (entries-from_sorted key_cmp (named kind namespace es) sorted) ∙ values_named kind namespace es
+  values_named : (kind : Kind) (namespace : List ℕ) (es : List (K × ℕ)) → values_of (named bytes kind namespace es) ≡ map (λ e. e.1) es
+  values_named kind namespace [] = refl
+  values_named kind namespace (e ∷ es) = ap (λ ps. e.1 ∷ ps) (values_named kind namespace es)
+
+  -- the names with their places make the collection, if the map has at the keys of the kind in the namespace what they have
+  pub collected : (m : Places) (kind : Kind) (namespace : List ℕ) (es : List (K × ℕ)) → IsStrictlySortedBy by_bytes_cmp (keys_of es)
+      → ((q : Key) → kind_index q.kind ≡ kind_index kind → q.namespace ≡ namespace → get m q ≡ by_bytes bytes es q.name) → collection m kind namespace ≡ map (λ e. e.1) es
+  collected m kind namespace es ascending same =
+      let sorted : T (is_sorted key_cmp (named bytes kind namespace es)) = subst T (sym (sorted_named kind namespace es ascending)) tt in
+      ap values (same_map key_cmp_total exact_keys (retain_keys m (is_of kind namespace)) (from_sorted (named bytes kind namespace es)) (λ q.
+      get-retain_keys m (is_of kind namespace) q (λ x tie. ap (is_of kind namespace) (sym (exact_keys q x tie)))
+      ∙ by q (is_of kind namespace q) refl ∙ sym (get-from_sorted key_cmp (named bytes kind namespace es) q sorted)))
+      ∙ ap values_of (entries-from_sorted key_cmp (named bytes kind namespace es) sorted) ∙ values_named kind namespace es
+    where
+      by : (q : Key) (b : Bool) → is_of kind namespace q ≡ b → cond b (get m q) None ≡ find key_cmp q (named bytes kind namespace es)
+      by q true is = let parts = of_parts kind namespace q is in same q parts.0 parts.1 ∙ sym (find_named bytes kind namespace q es is)
+      by q false is = sym (find_other bytes kind namespace q es is)
+
+-- maps that agree at the keys of a kind in a namespace have one collection there
+pub same_collection : (m n : Places) (kind : Kind) (namespace : List ℕ) → ((q : Key) → kind_index q.kind ≡ kind_index kind → q.namespace ≡ namespace → get m q ≡ get n q)
+    → collection m kind namespace ≡ collection n kind namespace
+same_collection m n kind namespace same = ap values (same_map key_cmp_total exact_keys (retain_keys m p) (retain_keys n p) (λ q.
+    get-retain_keys m p q (alike q) ∙ by q (p q) refl ∙ sym (get-retain_keys n p q (alike q))))
   where
-    by : (q : Key) (b : Bool) → is_of kind namespace q ≡ b → cond b (get m q) None ≡ find key_cmp q (named kind namespace es)
-    by q true is = let parts = of_parts kind namespace q is in same q parts.0 parts.1 ∙ sym (find_named kind namespace q es is)
-    by q false is = sym (find_other kind namespace q es is)
+    p : Key → Bool
+    p = is_of kind namespace
 
--- the collection of a kind in a namespace, as its names are read
+    alike : (q x : Key) → key_cmp q x ≡ Equal → p x ≡ p q
+    alike q x tie = ap p (sym (exact_keys q x tie))
+
+    by : (q : Key) (b : Bool) → p q ≡ b → cond b (get m q) None ≡ cond b (get n q) None
+    by q true is = let parts = of_parts kind namespace q is in same q parts.0 parts.1
+    by q false is = refl
+
+-- ---- names, as they are read
+
+module _ (m : Places) (kind : Kind) (namespace : List ℕ) where
+  pub collection_of : (names : Names) → AreNames m kind namespace (Some names) → IsOrdered string_cmp names → collection m kind namespace ≡ map (λ e. e.1) names.entries
+  collection_of names are ordered = collected string_bytes m kind namespace names.entries ordered are
+
+  pub none_collected : AreNames m kind namespace None → collection m kind namespace ≡ []
+  unfolding IsStrictlySortedBy
+  none_collected are = collected {K = Text} string_bytes m kind namespace [] tt are
+
+  -- and of other places beside them
+  module _ (n : Places) where
+    pub first_alone : AreNames n kind namespace None → collection m kind namespace ≡ collection (both m n) kind namespace
+    first_alone none = same_collection m (both m n) kind namespace (λ q kinds same. sym (get_both m n q ∙ ap (option_or (get m q)) (none q kinds same) ∙ or_none (get m q)))
+      where
+        or_none : (o : Option ℕ) → option_or o None ≡ o
+        or_none None = refl
+        or_none (Some p) = refl
+
+    pub second_alone : (names : Names) → AreNames m kind namespace None → AreNames n kind namespace (Some names) → IsOrdered string_cmp names
+        → collection (both m n) kind namespace ≡ map (λ e. e.1) names.entries
+    second_alone names none are ordered = collected string_bytes (both m n) kind namespace names.entries ordered (λ q kinds same.
+        get_both m n q ∙ ap (λ o. option_or o (get n q)) (none q kinds same) ∙ are q kinds same)
+
+    pub both_collected : (names more : Names) (values : List ℕ) → AreNames m kind namespace (Some names) → AreNames n kind namespace (Some more)
+        → AreValues values (λ word. option_or (get_by_text names word) (get_by_text more word)) → collection (both m n) kind namespace ≡ values
+    both_collected names more values first second all =
+        collected (λ (k : Bor (List ℕ)). k.now) (both m n) kind namespace all.0.entries all.1 (λ q kinds same.
+        get_both m n q ∙ ap (λ o. option_or o (get n q)) (first q kinds same) ∙ ap (option_or (get_by_text names q.name)) (second q kinds same) ∙ sym (all.3 q.name))
+        ∙ all.2
+
+-- the names of a kind in a namespace, as they are found
 module _ (ms : List Namespaces) (m : Places) (i : ℕ) (d : Namespaces) (view : placed ms ≡ m) (many : length ms ≡ 4) (within : i < 4)
     (kind : Kind) (namespace text : List ℕ) (index : i ≡ kind_index kind) (spaces : text ≡ namespace) where
-  pub collection_read : (names : Names) → Some names ≡ get_by_text (get_or ms i d) text → IsOrdered string_cmp names → collection m kind namespace ≡ map (λ e. e.1) names.entries
-  collection_read names found ordered = collected m kind namespace names.entries ordered (λ q kinds same.
-      place_read ms m i d view many within q (index ∙ sym kinds) ∙ name_read (get_or ms i d) names text q.namespace q.name (spaces ∙ sym same) found)
-
-  pub none_collected : None ≡ get_by_text (get_or ms i d) text → collection m kind namespace ≡ []
-  unfolding IsStrictlySortedBy
-  none_collected missing = collected m kind namespace [] tt (λ q kinds same.
-      place_read ms m i d view many within q (index ∙ sym kinds) ∙ none_read (get_or ms i d) text q.namespace q.name (spaces ∙ sym same) missing)
+  pub names_read : (names : Option Names) → names ≡ get_by_text (get_or ms i d) text → AreNames m kind namespace names
+  names_read names found q kinds same =
+      place_read ms m i d view many within q (index ∙ sym kinds)
+      ∙ ap (λ o. place_among o q.name) (ap (get_by_text (get_or ms i d)) (same ∙ sym spaces) ∙ sym found)

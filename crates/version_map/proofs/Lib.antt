@@ -8,3 +8,5 @@ pub mod Placing
 pub mod Steps
 pub mod Lists
 pub mod Readings
+pub mod Aside
+pub mod Added

@@ -3,7 +3,7 @@ use Rattle.std.proofs.Common.{◌≡◌, ℕ, ◌≤◌, arith, nat_le, IfSome, 
 use Rattle.std.specs.Option.{option_map_or, option_to_list, unwrap_or}
 use Rattle.std.specs.Ordering.{eq_by_cmp, is_lt}
 use Rattle.std.specs.declared.cmp.Ordering.TheVariants.{Equal}
-use Rattle.std.specs.FinMap.{FinMap, entries, entries-from_sorted, entries_sorted, find, from_sorted, get, get-entries, get-from_entries, get-from_sorted, get-insert, get-remove, get-retain_keys, insert, is_sorted, retain_keys, same_map}
+use Rattle.std.specs.FinMap.{FinMap, entries, entries-from_sorted, entries_sorted, find, from_sorted, get, get-entries, get-from_entries, get-from_sorted, get-insert, get-retain_keys, insert, is_sorted, retain_keys, same_map}
 use Rattle.std.specs.FinMap.Entries.{below_all, find-where_key, is_sorted-where_key, where_key}
 use Rattle.std.proofs.lemmas.Bool.{and_parts}
 use Rattle.std.proofs.lemmas.Bool.Decides.{nat_tests}
@@ -17,7 +17,7 @@ use Rattle.version_map.specs.Keyed.{collection, put_at}
 use Rattle.version_map.specs.Rows.{Row, state_to}
 use Rattle.version_map.specs.Versions.{IsAbove, RowsByKey, Versions, compacted, rows_at, state_at, states_to, value, with_state}
 use Rattle.version_map.specs.Whole.{Chains, Places, by_key, key_at, rows_there, values_in}
-use Rattle.version_map.proofs.Chains.{below_none, is_held, rows_are, same_key}
+use Rattle.version_map.proofs.Chains.{below_none, get_put_at, is_held, rows_are, same_key}
 use Rattle.version_map.proofs.Rows.{row_here}
 use Rattle.version_map.proofs.Steps.{room_key, seen, value_left}
 
@@ -90,10 +90,6 @@ module _ {X : Type 0} where
   -- so it stays when what is read no more is dropped
   pub state_left : (m : RowsByKey X) (n r : ℕ) → n ≤ r → state_at (compacted m n) r ≡ state_at m r
   state_left m n r from = same_map key_cmp_total exact_keys _ _ (λ q. get_state (compacted m n) r q ∙ value_left m n r q from ∙ sym (get_state m r q))
-
-  get_put_at : (m : FinMap key_cmp X) (k : Key) (s : Option X) (q : Key) → get (put_at m k s) q ≡ cond (eq_by_cmp key_cmp q k) s (get m q)
-  get_put_at m k None q = get-remove key_cmp_total m k q
-  get_put_at m k (Some x) q = get-insert key_cmp_total m k x q
 
   -- one more row past all others puts what it says
   pub state_more : (m : RowsByKey X) (k : Key) (n : ℕ) (s : Option X) → IsAbove m n → state_at (insert m k (rows_at m k ++ (n, s) ∷ [])) n ≡ put_at (state_at m n) k s

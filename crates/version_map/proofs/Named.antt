@@ -18,7 +18,7 @@ use Rattle.objects.specs.declared.kind.Kind.TheVariants.{StatefulSet, Pod, Persi
 use Rattle.objects.specs.Key.{key_cmp, key_parts, kind_index}
 use Rattle.objects.specs.KeyOrder.{exact_keys, key_cmp_total}
 use Rattle.version_map.specs.Keys.{is_of}
-use Rattle.version_map.specs.Named.{Names, Namespaces, Places, all_kinds, in_namespaces, is_kind, joined, named, of_kind, of_kinds, place_in, placed, put_all}
+use Rattle.version_map.specs.Named.{Names, Namespaces, Places, all_kinds, both, in_namespaces, is_kind, joined, named, of_kind, of_kinds, place_in, placed, put_all}
 
 abbrev pub Text : Type 0
 Text = String Global
@@ -39,26 +39,30 @@ tied k q = sym (and_again (kind_index k.kind == kind_index q.kind) (bytes_eq k.n
 
 -- ---- the names of a namespace
 
+module _ {K : Type 0} (bytes : K → List ℕ) where
+  abbrev pub by_bytes : {X : Type 0} → List (K × X) → List ℕ → Option X
+  by_bytes es name = lookup (is_at (λ s. slice_cmp nat_cmp name (bytes s))) es
+
+  pub find_named : (kind : Kind) (namespace : List ℕ) (k : Key) (es : List (K × ℕ)) → is_of kind namespace k ≡ true → find key_cmp k (named bytes kind namespace es) ≡ by_bytes es k.name
+  find_named kind namespace k [] is = refl
+  find_named kind namespace k (e ∷ es) is =
+      ap (λ b. cond b (Some e.1) (find key_cmp k (named bytes kind namespace es)))
+      (tied k (key_parts kind namespace (bytes e.0)) ∙ ap (λ b. b && bytes_eq k.name (bytes e.0)) is ∙ sym (is_eq-slice_cmp k.name (bytes e.0)))
+      ∙ ap (cond (is_eq (slice_cmp nat_cmp k.name (bytes e.0))) (Some e.1)) (find_named kind namespace k es is)
+
+  pub find_other : (kind : Kind) (namespace : List ℕ) (k : Key) (es : List (K × ℕ)) → is_of kind namespace k ≡ false → find key_cmp k (named bytes kind namespace es) ≡ None
+  find_other kind namespace k [] is = refl
+  find_other kind namespace k (e ∷ es) is =
+      ap (λ b. cond b (Some e.1) (find key_cmp k (named bytes kind namespace es))) (tied k (key_parts kind namespace (bytes e.0)) ∙ ap (λ b. b && bytes_eq k.name (bytes e.0)) is)
+      ∙ find_other kind namespace k es is
+
 -- what stands at a text
 abbrev pub by_name : {X : Type 0} → List (Text × X) → List ℕ → Option X
-by_name es name = lookup (is_at (λ s. slice_cmp nat_cmp name (string_bytes s))) es
-
-pub find_named : (kind : Kind) (namespace : List ℕ) (k : Key) (es : List (Text × ℕ)) → is_of kind namespace k ≡ true → find key_cmp k (named kind namespace es) ≡ by_name es k.name
-find_named kind namespace k [] is = refl
-find_named kind namespace k (e ∷ es) is =
-    ap (λ b. cond b (Some e.1) (find key_cmp k (named kind namespace es)))
-    (tied k (key_parts kind namespace (string_bytes e.0)) ∙ ap (λ b. b && bytes_eq k.name (string_bytes e.0)) is ∙ sym (is_eq-slice_cmp k.name (string_bytes e.0)))
-    ∙ ap (cond (is_eq (slice_cmp nat_cmp k.name (string_bytes e.0))) (Some e.1)) (find_named kind namespace k es is)
-
-pub find_other : (kind : Kind) (namespace : List ℕ) (k : Key) (es : List (Text × ℕ)) → is_of kind namespace k ≡ false → find key_cmp k (named kind namespace es) ≡ None
-find_other kind namespace k [] is = refl
-find_other kind namespace k (e ∷ es) is =
-    ap (λ b. cond b (Some e.1) (find key_cmp k (named kind namespace es))) (tied k (key_parts kind namespace (string_bytes e.0)) ∙ ap (λ b. b && bytes_eq k.name (string_bytes e.0)) is)
-    ∙ find_other kind namespace k es is
+by_name es name = by_bytes string_bytes es name
 
 -- ---- maps that are joined
 
-get_put_all : (es : List (Key × ℕ)) (n : Places) (k : Key) → get (put_all es n) k ≡ option_or (find key_cmp k es) (get n k)
+pub get_put_all : (es : List (Key × ℕ)) (n : Places) (k : Key) → get (put_all es n) k ≡ option_or (find key_cmp k es) (get n k)
 get_put_all [] n k = refl
 get_put_all (e ∷ es) n k =
     get-insert key_cmp_total (put_all es n) e.0 e.1 k ∙ ap (cond (eq_by_cmp key_cmp k e.0) (Some e.1)) (get_put_all es n k)
@@ -66,6 +70,9 @@ get_put_all (e ∷ es) n k =
       | true ↦ refl
       | false ↦ refl
     ]
+
+pub get_both : (m n : Places) (k : Key) → get (both m n) k ≡ option_or (get m k) (get n k)
+get_both m n k = get_put_all (entries m) n k ∙ ap (λ o. option_or o (get n k)) (sym (get-entries m k))
 
 get_kept : (holds : Key → Bool) (m : Places) (k : Key) → get (retain_keys m holds) k ≡ cond (holds k) (get m k) None
 get_kept holds m k = get-retain_keys m holds k (λ x tie. ap holds (sym (exact_keys k x tie)))
@@ -91,7 +98,7 @@ either true o = refl
 either false o = refl
 
 abbrev first_of : Kind → Text × Names → Places
-first_of kind e = from_entries (named kind (string_bytes e.0) e.1.entries)
+first_of kind e = from_entries (named string_bytes kind (string_bytes e.0) e.1.entries)
 
 get_namespaces : (kind : Kind) (es : List (Text × Names)) (k : Key) → get (in_namespaces kind es) k ≡ cond (is_kind kind k) (place_by es k) None
 get_namespaces kind [] k = get-empty key_cmp k ∙ either (is_kind kind k) None
@@ -107,8 +114,8 @@ get_namespaces kind (e ∷ es) k = get_joined (is_of kind (string_bytes e.0)) (f
         → cond (is_of kind (string_bytes e.0) k) (get (first_of kind e) k) (get (in_namespaces kind es) k) ≡ cond (is_kind kind k) (place_by (e ∷ es) k) None
     by true kinds true spaces rest =
         let is : is_of kind (string_bytes e.0) k ≡ true = rw (kinds, spaces) refl in
-        ap (λ c. cond c (get (first_of kind e) k) (get (in_namespaces kind es) k)) is ∙ get-from_entries key_cmp_total (named kind (string_bytes e.0) e.1.entries) k
-        ∙ find_named kind (string_bytes e.0) k e.1.entries is ∙ sym (ap (λ c. cond c (place_by (e ∷ es) k) None) kinds ∙ first true spaces)
+        ap (λ c. cond c (get (first_of kind e) k) (get (in_namespaces kind es) k)) is ∙ get-from_entries key_cmp_total (named string_bytes kind (string_bytes e.0) e.1.entries) k
+        ∙ find_named string_bytes kind (string_bytes e.0) k e.1.entries is ∙ sym (ap (λ c. cond c (place_by (e ∷ es) k) None) kinds ∙ first true spaces)
     by true kinds false spaces rest =
         let is : is_of kind (string_bytes e.0) k ≡ false = rw (kinds, spaces) refl in
         ap (λ c. cond c (get (first_of kind e) k) (get (in_namespaces kind es) k)) is ∙ rest ∙ ap (λ c. cond c (place_by es k) None) kinds

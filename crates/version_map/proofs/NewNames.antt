@@ -4,7 +4,7 @@ use Rattle.std.specs.Prelude.{slice_get}
 use Rattle.std.proofs.Math.ListN.{set}
 use Rattle.std.specs.BTreeMap.{get_by_text}
 use Rattle.std.specs.Ordering.{eq_by_cmp}
-use Rattle.std.specs.FinMap.{get-insert, insert, same_map}
+use Rattle.std.specs.FinMap.{same_map}
 use Rattle.std.proofs.lemmas.Bool.{eqb-true}
 use Rattle.std.proofs.lemmas.Bool.Decides.{nat_tests}
 use Rattle.std.proofs.lemmas.Option.{slice_get-get_or}
@@ -13,41 +13,38 @@ use Rattle.objects.specs.declared.key.Key.{Key}
 use Rattle.objects.specs.declared.kind.Kind.{Kind}
 use Rattle.objects.specs.Key.{key_cmp, key_parts, kind_index}
 use Rattle.objects.specs.KeyOrder.{exact_keys, key_cmp_total}
-use Rattle.version_map.specs.Named.{AreAsBefore, HasOneMore, Names, Namespaces, Places, place_in, placed}
-use Rattle.version_map.proofs.Chains.{swap}
+use Rattle.version_map.specs.Named.{AreAsBefore, HasNow, Names, Namespaces, Places, place_among, place_in, placed}
+use Rattle.version_map.specs.Keyed.{put_at}
+use Rattle.version_map.proofs.Chains.{get_put_at, swap}
 use Rattle.version_map.proofs.Named.{get_placed, place_of, tied}
 
 -- ---- a name of a namespace
 
--- what some names, or none, have at a name
-abbrev pub place_at : Option Names → List ℕ → Option ℕ
-place_at names name = option_and_then (λ (x : Names). get_by_text x name) names
-
 module _ (m n : Namespaces) (space : List ℕ) (names : Names) (old : Option Names) (was : old ≡ get_by_text m space)
     (written : (q : List ℕ) → get_by_text n q ≡ cond (bytes_eq space q) (Some names) (get_by_text m q)) where
   elsewhere : (q word : List ℕ) → bytes_eq space q ≡ false → place_in n q word ≡ place_in m q word
-  elsewhere q word other = ap (λ o. place_at o word) (written q ∙ ap (λ b. cond b (Some names) (get_by_text m q)) other)
+  elsewhere q word other = ap (λ o. place_among o word) (written q ∙ ap (λ b. cond b (Some names) (get_by_text m q)) other)
 
   here : (q word : List ℕ) → bytes_eq space q ≡ true → place_in n q word ≡ get_by_text names word
-  here q word same = ap (λ o. place_at o word) (written q ∙ ap (λ b. cond b (Some names) (get_by_text m q)) same)
+  here q word same = ap (λ o. place_among o word) (written q ∙ ap (λ b. cond b (Some names) (get_by_text m q)) same)
 
-  before : (q word : List ℕ) → bytes_eq space q ≡ true → place_at old word ≡ place_in m q word
-  before q word same = ap (λ o. place_at o word) (was ∙ ap (get_by_text m) ((bytes_eq-Decides space q).0 same))
+  before : (q word : List ℕ) → bytes_eq space q ≡ true → place_among old word ≡ place_in m q word
+  before q word same = ap (λ o. place_among o word) (was ∙ ap (get_by_text m) ((bytes_eq-Decides space q).0 same))
 
-  pub as_before : ((word : List ℕ) → get_by_text names word ≡ place_at old word) → AreAsBefore m n
+  pub as_before : ((word : List ℕ) → get_by_text names word ≡ place_among old word) → AreAsBefore m n
   as_before kept q word = by (bytes_eq space q) refl
     where
       by : (b : Bool) → bytes_eq space q ≡ b → place_in n q word ≡ place_in m q word
       by true same = here q word same ∙ kept word ∙ before q word same
       by false other = elsewhere q word other
 
-  pub one_more : (name : List ℕ) (place : ℕ) → ((word : List ℕ) → get_by_text names word ≡ cond (bytes_eq name word) (Some place) (place_at old word)) → HasOneMore m n space name place
+  pub one_more : (name : List ℕ) (place : Option ℕ) → ((word : List ℕ) → get_by_text names word ≡ cond (bytes_eq name word) place (place_among old word)) → HasNow m n space name place
   one_more name place more q word = by (bytes_eq space q) refl
     where
-      by : (b : Bool) → bytes_eq space q ≡ b → place_in n q word ≡ cond (bytes_eq space q && bytes_eq name word) (Some place) (place_in m q word)
-      by true same = here q word same ∙ more word ∙ ap (cond (bytes_eq name word) (Some place)) (before q word same)
-          ∙ sym (ap (λ b. cond (b && bytes_eq name word) (Some place) (place_in m q word)) same)
-      by false other = elsewhere q word other ∙ sym (ap (λ b. cond (b && bytes_eq name word) (Some place) (place_in m q word)) other)
+      by : (b : Bool) → bytes_eq space q ≡ b → place_in n q word ≡ cond (bytes_eq space q && bytes_eq name word) place (place_in m q word)
+      by true same = here q word same ∙ more word ∙ ap (cond (bytes_eq name word) place) (before q word same)
+          ∙ sym (ap (λ b. cond (b && bytes_eq name word) place (place_in m q word)) same)
+      by false other = elsewhere q word other ∙ sym (ap (λ b. cond (b && bytes_eq name word) place (place_in m q word)) other)
 
 -- ---- the namespaces of a kind
 
@@ -91,23 +88,23 @@ module _ (ms : List Namespaces) (m : Places) (i : ℕ) (d n : Namespaces) (view 
       by q true is = place_here q is ∙ same q.namespace q.name ∙ sym (place_before q is)
       by q false is = place_elsewhere q is
 
-  pub placed_one_more : (k : Key) (kind : Kind) (space name a b : List ℕ) (place : ℕ) → key_parts kind space name ≡ k → i ≡ kind_index kind → a ≡ space → b ≡ name → HasOneMore (get_or ms i d) n a b place → placed (set ms i n) ≡ insert m k place
-  placed_one_more k kind space name a b place parts index spaces names more =
+  pub placed_now : (k : Key) (kind : Kind) (space name a b : List ℕ) (place : Option ℕ) → key_parts kind space name ≡ k → i ≡ kind_index kind → a ≡ space → b ≡ name → HasNow (get_or ms i d) n a b place → placed (set ms i n) ≡ put_at m k place
+  placed_now k kind space name a b place parts index spaces names more =
       same_map key_cmp_total exact_keys _ _ (λ q.
-      get_placed (set ms i n) q ∙ by q (i == kind_index q.kind) refl ∙ ap (λ t. cond t (Some place) (place_of ms q)) (sym (swap q (key_parts kind space name) ∙ tied (key_parts kind space name) q))
-      ∙ ap (cond (eq_by_cmp key_cmp q (key_parts kind space name)) (Some place)) (sym (get_placed ms q))
-      ∙ sym (get-insert key_cmp_total (placed ms) (key_parts kind space name) place q))
-      ∙ ap (λ (l : Places). insert l (key_parts kind space name) place) view ∙ ap (λ (l : Key). insert m l place) parts
+      get_placed (set ms i n) q ∙ by q (i == kind_index q.kind) refl ∙ ap (λ t. cond t place (place_of ms q)) (sym (swap q (key_parts kind space name) ∙ tied (key_parts kind space name) q))
+      ∙ ap (cond (eq_by_cmp key_cmp q (key_parts kind space name)) place) (sym (get_placed ms q))
+      ∙ sym (get_put_at (placed ms) (key_parts kind space name) place q))
+      ∙ ap (λ (l : Places). put_at l (key_parts kind space name) place) view ∙ ap (λ (l : Key). put_at m l place) parts
     where
-      more_there : HasOneMore (get_or ms i d) n space name place
-      more_there = subst (λ s. HasOneMore (get_or ms i d) n s name place) spaces (subst (λ s. HasOneMore (get_or ms i d) n a s place) names more)
+      more_there : HasNow (get_or ms i d) n space name place
+      more_there = subst (λ s. HasNow (get_or ms i d) n s name place) spaces (subst (λ s. HasNow (get_or ms i d) n a s place) names more)
 
       kinds : (q : Key) (b : Bool) → (i == kind_index q.kind) ≡ b → (kind_index kind == kind_index q.kind) ≡ b
       kinds q b is = ap (λ j. j == kind_index q.kind) (sym index) ∙ is
 
       by : (q : Key) (b : Bool) → (i == kind_index q.kind) ≡ b
-          → place_of (set ms i n) q ≡ cond (kind_index kind == kind_index q.kind && bytes_eq space q.namespace && bytes_eq name q.name) (Some place) (place_of ms q)
+          → place_of (set ms i n) q ≡ cond (kind_index kind == kind_index q.kind && bytes_eq space q.namespace && bytes_eq name q.name) place (place_of ms q)
       by q true is =
-          place_here q is ∙ more_there q.namespace q.name ∙ ap (cond (bytes_eq space q.namespace && bytes_eq name q.name) (Some place)) (sym (place_before q is))
-          ∙ sym (ap (λ t. cond (t && bytes_eq space q.namespace && bytes_eq name q.name) (Some place) (place_of ms q)) (kinds q true is))
-      by q false is = place_elsewhere q is ∙ sym (ap (λ t. cond (t && bytes_eq space q.namespace && bytes_eq name q.name) (Some place) (place_of ms q)) (kinds q false is))
+          place_here q is ∙ more_there q.namespace q.name ∙ ap (cond (bytes_eq space q.namespace && bytes_eq name q.name) place) (sym (place_before q is))
+          ∙ sym (ap (λ t. cond (t && bytes_eq space q.namespace && bytes_eq name q.name) place (place_of ms q)) (kinds q true is))
+      by q false is = place_elsewhere q is ∙ sym (ap (λ t. cond (t && bytes_eq space q.namespace && bytes_eq name q.name) place (place_of ms q)) (kinds q false is))

@@ -129,7 +129,7 @@ module _ {X : Type 0} where
     rows_here : rows_there ds p ≡ d.rows
     rows_here = ap (λ (c : Chain X). c.rows) (chain_here cs ds p d within written)
 
-    rows_after : (q : Key) → rows_in ps ds q ≡ cond (eq_by_cmp key_cmp k q) d.rows (rows_in ps cs q)
+    pub rows_after : (q : Key) → rows_in ps ds q ≡ cond (eq_by_cmp key_cmp k q) d.rows (rows_in ps cs q)
     rows_after q = by (eq_by_cmp key_cmp k q) refl
       where
         by_place : (o : Option ℕ) → get ps q ≡ o → eq_by_cmp key_cmp k q ≡ false → option_map_or (rows_there ds) o [] ≡ option_map_or (rows_there cs) o []

@@ -1,7 +1,10 @@
 -- The places of keys: for each kind, for each namespace, the place of each name.
-use Rattle.std.specs.Prelude.{◌≡◌, ℕ, Bool, ◌==◌, ◌&&◌, not, List, [], ◌∷◌, map, bytes_eq, Option, Some, option_and_then, slice_get, String, string_bytes, if◌then◌else◌}
+use Rattle.std.specs.Prelude.{◌≡◌, ℕ, Bool, ◌==◌, ◌&&◌, not, List, [], ◌∷◌, map, bytes_eq, Option, option_and_then, slice_get, String, string_bytes, if◌then◌else◌}
 use Rattle.std.specs.declared.alloc.Global.{Global}
-use Rattle.std.specs.BTreeMap.{BTreeMap, get_by_text}
+use Rattle.std.specs.BTreeMap.{BTreeMap, IsOrdered, get_by, get_by_text}
+use Rattle.std.specs.Borrow.{Bor}
+use Rattle.std.specs.Cmp.Lexicographic.{slice_cmp}
+use Rattle.std.specs.Ordering.{nat_cmp}
 use Rattle.std.specs.Option.{option_map_or}
 use Rattle.std.specs.FinMap as finite
 use Rattle.std.specs.FinMap.{FinMap, entries}
@@ -24,13 +27,29 @@ Places = FinMap key_cmp ℕ
 abbrev pub place_in : Namespaces → List ℕ → List ℕ → Option ℕ
 place_in m namespace name = option_and_then (λ names. get_by_text names name) (get_by_text m namespace)
 
--- after an insert each name of each namespace has the place that it had, but for the one that was given another
-abbrev pub HasOneMore : Namespaces → Namespaces → List ℕ → List ℕ → ℕ → Type 0
-HasOneMore old new namespace name place =
-    (space word : List ℕ) → place_in new space word ≡ (if bytes_eq namespace space && bytes_eq name word then Some place else place_in old space word)
+-- each name of each namespace has the place that it had, but for the one that was given another, or none
+abbrev pub HasNow : Namespaces → Namespaces → List ℕ → List ℕ → Option ℕ → Type 0
+HasNow old new namespace name place =
+    (space word : List ℕ) → place_in new space word ≡ (if bytes_eq namespace space && bytes_eq name word then place else place_in old space word)
+
+-- the place of a name, where there are names
+abbrev pub place_among : Option Names → List ℕ → Option ℕ
+place_among names name = option_and_then (λ (x : Names). get_by_text x name) names
+
+-- the keys of the kind in the namespace have the places of these names
+abbrev pub AreNames : FinMap key_cmp ℕ → Kind → List ℕ → Option Names → Type 0
+AreNames m kind namespace names = (q : Key) → kind_index q.kind ≡ kind_index kind → q.namespace ≡ namespace → finite.get m q ≡ place_among names q.name
 
 abbrev pub AreAsBefore : Namespaces → Namespaces → Type 0
 AreAsBefore old new = (space word : List ℕ) → place_in new space word ≡ place_in old space word
+
+-- the place of a text among borrowed ones
+abbrev pub place_at_text : BTreeMap (Bor (List ℕ)) ℕ → List ℕ → Option ℕ
+place_at_text m word = get_by (λ k. slice_cmp nat_cmp word k.now) m
+
+-- the values are those of texts in their byte order, each of which has its value
+abbrev pub AreValues : List ℕ → (List ℕ → Option ℕ) → Type 0
+AreValues values value = (m : BTreeMap (Bor (List ℕ)) ℕ) × IsOrdered (λ x y. slice_cmp nat_cmp x.now y.now) m × (map (λ e. e.1) m.entries ≡ values) × ((word : List ℕ) → place_at_text m word ≡ value word)
 
 -- ---- as one map by keys
 
@@ -38,16 +57,20 @@ abbrev pub put_all : List (Key × ℕ) → Places → Places
 put_all [] n = n
 put_all (e ∷ es) n = finite.insert (put_all es n) e.0 e.1
 
+-- what m has, and for other keys what n has
+abbrev pub both : Places → Places → Places
+both m n = put_all (entries m) n
+
 -- what m has where the test holds, and what n has elsewhere
 abbrev pub joined : (Key → Bool) → Places → Places → Places
 joined holds m n = put_all (entries (finite.retain_keys m holds)) (finite.retain_keys n (λ k. not (holds k)))
 
-abbrev pub named : Kind → List ℕ → List (String Global × ℕ) → List (Key × ℕ)
-named kind namespace es = map (λ e. (key_parts kind namespace (string_bytes e.0), e.1)) es
+abbrev pub named : {K : Type 0} → (K → List ℕ) → Kind → List ℕ → List (K × ℕ) → List (Key × ℕ)
+named bytes kind namespace es = map (λ e. (key_parts kind namespace (bytes e.0), e.1)) es
 
 abbrev pub in_namespaces : Kind → List (String Global × Names) → Places
 in_namespaces kind [] = finite.empty
-in_namespaces kind (e ∷ es) = joined (is_of kind (string_bytes e.0)) (finite.from_entries (named kind (string_bytes e.0) e.1.entries)) (in_namespaces kind es)
+in_namespaces kind (e ∷ es) = joined (is_of kind (string_bytes e.0)) (finite.from_entries (named string_bytes kind (string_bytes e.0) e.1.entries)) (in_namespaces kind es)
 
 abbrev pub of_kind : List Namespaces → Kind → Places
 of_kind ms kind = in_namespaces kind (option_map_or (λ m. m.entries) (slice_get ms (kind_index kind)) [])

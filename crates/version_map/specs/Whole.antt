@@ -1,14 +1,15 @@
 -- What holds of the parts of a map of versions: the places of its keys, the chains that stand there, and the queue of the
 -- rows that supersede another one.
-use Rattle.std.specs.Prelude.{◌≡◌, ℕ, ◌<◌, ◌≤◌, ◌==◌, Bool, true, false, List, [], ◌∷◌, length, map, drop, Option, Some, slice_index_or, option_map, if◌then◌else◌}
+use Rattle.std.specs.Prelude.{◌≡◌, ℕ, ◌<◌, ◌≤◌, ◌==◌, Bool, true, false, List, [], ◌∷◌, length, map, drop, Option, Some, None, slice_index_or, option_map, if◌then◌else◌}
 use Rattle.std.specs.List.{AllByRecursion, find, flat_map}
 use Rattle.std.specs.Option.{option_map_or, option_to_list}
 use Rattle.std.specs.FinMap as finite
 use Rattle.std.specs.FinMap.{entries}
 use Rattle.objects.specs.declared.key.Key.{Key}
 use Rattle.version_map.specs.declared.map.Superseding.{Superseding}
-use Rattle.version_map.specs.Rows.{Chain, Row, state_to}
+use Rattle.version_map.specs.Rows.{Chain, Row, last_state, state_to}
 use Rattle.version_map.specs.Versions.{RowsByKey, count}
+use Rattle.version_map.specs.Index.{Index}
 pub use Rattle.version_map.specs.Named.{Places}
 
 abbrev pub Chains : Type 0 → Type 0
@@ -71,6 +72,14 @@ IsOwned ps p = (k : Key) × (finite.get ps k ≡ Some p)
 
 abbrev pub HasRoom : {X : Type 0} → Places → Chains X → ℕ → Type 0
 HasRoom ps cs p = IsOwned ps p × (is_roomy cs p ≡ true)
+
+-- a key that is listed has the place
+abbrev pub IsListed : Index → ℕ → Type 0
+IsListed i p = (k : Key) × (finite.get i.all k ≡ Some p) × (finite.get i.listed k ≡ Some p)
+
+-- a key that is not listed has no value
+abbrev pub AreListed : {X : Type 0} → Index → Chains X → Type 0
+AreListed i cs = (k : Key) → finite.get i.listed k ≡ None → last_state (rows_in i.all cs k) ≡ None
 
 -- each key has a place of its own, where a chain stands, and a chain with rows has a key
 pub record ArePlaced {X : Type 0} (ps : Places) (cs : Chains X) : Type 0 where

@@ -2,6 +2,7 @@
 #![tactic(auto)]
 
 mod chain;
+mod index;
 mod laws;
 mod map;
 mod places;

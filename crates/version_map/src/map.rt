@@ -1,15 +1,16 @@
-ghost use Rattle.std.specs.Prelude.{◌≡◌, ◌≤◌, ◌<◌, ◌++◌, ◌∷◌, [], ℕ, true, false, Some, IsTrue, IfOk, IfSome, IsSome, OnOk, OnErr, option_map, map, if◌then◌else◌};
+ghost use Rattle.std.specs.Prelude.{◌≡◌, ◌≤◌, ◌<◌, ◌+◌, ◌++◌, ◌∷◌, [], ℕ, is_some, option_and_then, true, false, Some, IsTrue, IfOk, IfSome, IsSome, OnOk, OnErr, option_map, map, if◌then◌else◌};
 ghost use Rattle.std.specs.Option.{option_copied};
 ghost use Rattle.std.specs.VecDeque.{deque_capacity, deque_len};
 ghost use Rattle.std.specs.FinMap as finite;
 ghost use Rattle.objects.specs.declared.key.Key.{Key};
+ghost use Rattle.version_map.specs.Index.{AreKept};
 ghost use Rattle.version_map.specs.Rows.{state_to};
 ghost use Rattle.version_map.specs.Whole.{ArePlaced, AreStill, is_roomy, rows_there, values_in};
 ghost use Rattle.version_map.specs.Keyed.{collection, put_at};
 ghost use Rattle.version_map.specs.Versions.{IsAbove, compacted, count, newest, opening, pushed, raised, state_at, value, with_room};
 
 use crate::chain::Chain;
-use crate::places::Places;
+use crate::index::Index;
 use objects::{Key, Kind, Memory, Text};
 use std::alloc::{AllocError, Global};
 use std::collections::VecDeque;
@@ -29,7 +30,7 @@ struct Superseding {
 /// only they need can be dropped.
 #[derive(Drop)]
 pub struct VersionMap<V> {
-    places: Places,
+    index: Index,
     chains: Vec<Chain<V>>,
     superseding: VecDeque<Superseding>,
     count: usize,
@@ -43,16 +44,17 @@ impl<V> Model for VersionMap<V> {
     ghost use Rattle.std.specs.Prelude.{◌<◌, ◌+◌, ◌^◌, IfSome, IsSome, option_and_then};
     ghost use Rattle.std.specs.VecDeque.{deque_capacity, deque_len};
     ghost use Rattle.version_map.specs.Versions.{Versions, versions_coded};
-    ghost use Rattle.version_map.specs.Whole.{HasRoom, IsWhole, by_key, key_at};
+    ghost use Rattle.version_map.specs.Whole.{AreListed, HasRoom, IsListed, IsWhole, by_key, key_at};
 
     ghost Value = { Versions V };
 
     ghost coded = { versions_coded V.code };
 
-    ghost view = { λ s. record { rows = by_key s.places s.chains.items; floor = s.floor; room = option_and_then (key_at s.places) s.room } };
+    ghost view = { λ s. record { rows = by_key s.index.all s.chains.items; floor = s.floor; room = option_and_then (key_at s.index.all) s.room } };
 
-    ghost invariant = { λ s. IsWhole s.places s.chains.items s.superseding.items s.count
-        × IfSome s.room (HasRoom s.places s.chains.items)
+    ghost invariant = { λ s. IsWhole s.index.all s.chains.items s.superseding.items s.count
+        × IfSome s.room (HasRoom s.index.all s.chains.items)
+        × AreListed s.index s.chains.items × IfSome s.room (IsListed s.index)
         × (IsSome s.room → (deque_len s.superseding < deque_capacity s.superseding) × (s.count + 1 < 2 ^ 64)) };
 }
 
@@ -62,7 +64,7 @@ impl<V: Drop> VersionMap<V> {
         ensures { result ≡ opening }
     {
         VersionMap {
-            places: Places::new(alloc),
+            index: Index::new(alloc),
             chains: Vec::new(alloc),
             superseding: VecDeque::new(alloc),
             count: 0,
@@ -76,7 +78,7 @@ impl<V: Drop> VersionMap<V> {
     pub fn newest(&self, key: &Key) -> Option<(u64, Option<&V>)>
         ensures { option_map (λ p. (p.0, option_copied p.1)) result ≡ newest self.now.rows key.now }
     {
-        let place = self.places.get(key)?;
+        let place = self.index.get(key)?;
         self.chains[place].newest()
     }
 
@@ -85,7 +87,7 @@ impl<V: Drop> VersionMap<V> {
         requires { self.now.floor ≤ number }
         ensures { option_copied result ≡ value self.now.rows number key.now }
     {
-        let place = self.places.get(key)?;
+        let place = self.index.get(key)?;
         self.chains[place].at(number)
     }
 
@@ -94,8 +96,46 @@ impl<V: Drop> VersionMap<V> {
         requires { self.now.floor ≤ number }
         ensures { IfOk result (λ values. map (λ v. v.now) values.items ≡ collection (state_at self.now.rows number) kind namespace.now) }
     {
-        let places = self.places.of(self.alloc, kind, namespace)?;
+        let places = self.index.of(self.alloc, kind, namespace)?;
         Ok(values_at(self.alloc, &self.chains, places, number)?)
+    }
+
+    /// The same at a number that no version is above. It does not walk over the keys that were put aside.
+    pub fn list_newest(
+        &self,
+        kind: Kind,
+        namespace: &Text,
+        number: u64,
+    ) -> Result<Vec<&V>, Memory>
+        requires { IsAbove self.now.rows (number + 1) }
+        ensures { IfOk result (λ values. map (λ v. v.now) values.items ≡ collection (state_at self.now.rows number) kind namespace.now) }
+    {
+        let listed = self.index.of_listed(self.alloc, kind, namespace)?;
+        Ok(values_at(self.alloc, &self.chains, listed, number)?)
+    }
+
+    /// Puts a key aside that has no value, until room is made for it again. All readings stay. A key that has one stays
+    /// listed, and so does any where memory runs out or room is made.
+    pub fn put_aside(&mut self, key: &Key)
+        ensures { self.new ≡ self.old }
+    {
+        if self.has_value(key) {
+            return;
+        }
+        match self.room {
+            Some(_) => {}
+            None => self.index.put_aside(self.alloc, key),
+        }
+    }
+
+    /// Whether the key has a value now.
+    fn has_value(&self, key: &Key) -> bool
+        ensures { result ≡ is_some (option_and_then (λ row. row.1) (newest self.now.rows key.now)) }
+    {
+        match self.newest(key) {
+            Some((_, value)) => value.is_some(),
+            None => false,
+        }
     }
 
     /// Makes room for one push of that key, in place of any room that was made before. All readings stay, and where memory
@@ -108,7 +148,7 @@ impl<V: Drop> VersionMap<V> {
             return Err(Memory);
         }
         self.superseding.reserve(1)?;
-        let place = reserve_for(self.alloc, &mut self.places, &mut self.chains, key)?;
+        let place = reserve_for(self.alloc, &mut self.index, &mut self.chains, key)?;
         self.room = Some(place);
         Ok(())
     }
@@ -227,16 +267,18 @@ fn enqueue(superseding: &mut VecDeque<Superseding>, is_first: bool, next: Supers
 /// Makes room for one more version of the key, and answers its place. A new key is put in with no versions.
 fn reserve_for<V: Drop>(
     alloc: Global,
-    places: &mut Places,
+    index: &mut Index,
     chains: &mut Vec<Chain<V>>,
     key: &Key,
 ) -> Result<usize, AllocError>
-    requires { ArePlaced places.old chains.old.items }
-    ensures placed { ArePlaced places.new chains.new.items }
-    ensures still { AreStill places.old chains.old.items places.new chains.new.items }
-    ensures room { IfOk result (λ place. (finite.get places.new key.now ≡ Some place) × (is_roomy chains.new.items place ≡ true)) }
+    requires { ArePlaced index.old.all chains.old.items }
+    ensures placed { ArePlaced index.new.all chains.new.items }
+    ensures still { AreStill index.old.all chains.old.items index.new.all chains.new.items }
+    ensures kept { AreKept index.old.listed index.new.listed }
+    ensures listed { IfOk result (λ place. finite.get index.new.listed key.now ≡ Some place) }
+    ensures room { IfOk result (λ place. (finite.get index.new.all key.now ≡ Some place) × (is_roomy chains.new.items place ≡ true)) }
 {
-    let place = place_of(alloc, places, chains, key)?;
+    let place = place_of(alloc, index, chains, key)?;
     let chain = &mut chains[place];
     chain.reserve(alloc)?;
     Ok(place)
@@ -245,21 +287,24 @@ fn reserve_for<V: Drop>(
 /// The place of the key, which is put in with no versions if it is new.
 fn place_of<V: Drop>(
     alloc: Global,
-    places: &mut Places,
+    index: &mut Index,
     chains: &mut Vec<Chain<V>>,
     key: &Key,
 ) -> Result<usize, AllocError>
-    requires { ArePlaced places.old chains.old.items }
-    ensures placed { ArePlaced places.new chains.new.items }
-    ensures still { AreStill places.old chains.old.items places.new chains.new.items }
-    ensures place { IfOk result (λ place. finite.get places.new key.now ≡ Some place) }
+    requires { ArePlaced index.old.all chains.old.items }
+    ensures placed { ArePlaced index.new.all chains.new.items }
+    ensures still { AreStill index.old.all chains.old.items index.new.all chains.new.items }
+    ensures kept { AreKept index.old.listed index.new.listed }
+    ensures listed { IfOk result (λ place. finite.get index.new.listed key.now ≡ Some place) }
+    ensures place { IfOk result (λ place. finite.get index.new.all key.now ≡ Some place) }
 {
-    match places.get(key) {
+    let found = index.recall(alloc, key)?;
+    match found {
         Some(place) => Ok(place),
         None => {
             chains.reserve(1)?;
             let place = chains.len();
-            places.insert(alloc, key, place)?;
+            index.insert(alloc, key, place)?;
             chains.push_reserved(Chain::new());
             Ok(place)
         }

@@ -1,9 +1,10 @@
-ghost use Rattle.std.specs.Prelude.{◌≡◌, ◌<◌, IfOk, OnOk, OnErr, string_cmp};
-ghost use Rattle.std.specs.BTreeMap.{IsOrdered, values};
+ghost use Rattle.std.specs.Prelude.{◌≡◌, ◌<◌, ℕ, List, Some, None, IfOk, OnOk, OnErr};
+ghost use Rattle.std.specs.BTreeMap.{IsOrdered, get_by_text, values};
+ghost use Rattle.std.specs.Option.{option_copied, option_or};
 ghost use Rattle.std.specs.FinMap as map;
 ghost use Rattle.objects.specs.Key.{kind_index};
 ghost use Rattle.version_map.specs.Keyed.{collection};
-ghost use Rattle.version_map.specs.Named.{AreAsBefore, HasOneMore};
+ghost use Rattle.version_map.specs.Named.{AreAsBefore, AreNames, AreValues, HasNow, both, place_at_text};
 
 use objects::{Key, Kind, Text};
 use std::alloc::{AllocError, Global};
@@ -83,6 +84,13 @@ impl Places {
         )
     }
 
+    pub(crate) fn remove(&mut self, key: &Key)
+        ensures { self.new ≡ map.remove self.old key.now }
+    {
+        let namespaces = &mut self.kinds[index_of(key.kind)];
+        remove_name(namespaces, key.namespace.as_str(), key.name.as_str());
+    }
+
     /// The places of the keys of a kind in a namespace, in the order of the keys.
     pub(crate) fn of(
         &self,
@@ -92,10 +100,36 @@ impl Places {
     ) -> Result<Vec<usize>, AllocError>
         ensures { IfOk result (λ places. places.items ≡ collection self.now kind namespace.now) }
     {
-        match self.kinds[index_of(kind)].get(namespace.as_str()) {
+        match self.names(kind, namespace) {
             Some(names) => places_in(alloc, names),
             None => Ok(Vec::new(alloc)),
         }
+    }
+
+    /// The same of the keys of these places and of others.
+    pub(crate) fn of_both(
+        &self,
+        others: &Places,
+        alloc: Global,
+        kind: Kind,
+        namespace: &Text,
+    ) -> Result<Vec<usize>, AllocError>
+        ensures { IfOk result (λ places. places.items ≡ collection (both self.now others.now) kind namespace.now) }
+    {
+        let Some(more) = others.names(kind, namespace) else {
+            return self.of(alloc, kind, namespace);
+        };
+        match self.names(kind, namespace) {
+            Some(names) => places_in_both(alloc, names, more),
+            None => places_in(alloc, more),
+        }
+    }
+
+    /// The names of a kind in a namespace, if there was ever one.
+    fn names(&self, kind: Kind, namespace: &Text) -> Option<&Names>
+        ensures { AreNames self.now kind namespace.now (option_copied result) }
+    {
+        self.kinds[index_of(kind)].get(namespace.as_str())
     }
 }
 
@@ -108,11 +142,34 @@ fn index_of(kind: Kind) -> usize
 }
 
 /// The places of all names, in byte order of the names.
-fn places_in(alloc: Global, names: &Names) -> Result<Vec<usize>, AllocError>
+fn places_in<N: Ord>(
+    alloc: Global,
+    names: &BTreeMap<N, usize>,
+) -> Result<Vec<usize>, AllocError>
     ensures places { IfOk result (λ places. places.items ≡ values names.now) }
-    ensures ordered { IsOrdered string_cmp names.now }
+    ensures ordered { IsOrdered N.cmp names.now }
 {
     names.values().copied().collect(alloc)
+}
+
+/// The places of the names of both, in byte order of the names.
+fn places_in_both(alloc: Global, names: &Names, more: &Names) -> Result<Vec<usize>, AllocError>
+    ensures { IfOk result (λ places. AreValues places.items (λ word. option_or (get_by_text names.now word) (get_by_text more.now word))) }
+{
+    let mut all = BTreeMap::new(alloc);
+    add(&mut all, more)?;
+    add(&mut all, names)?;
+    places_in(alloc, &all)
+}
+
+/// Adds names with their places.
+fn add<'a>(all: &mut BTreeMap<&'a str, usize>, names: &'a Names) -> Result<(), AllocError>
+    ensures { OnOk result ((word : List ℕ) → place_at_text all.new word ≡ option_or (get_by_text names.now word) (place_at_text all.old word)) }
+{
+    for (name, place) in names.iter() {
+        all.insert(name.as_str(), *place)?;
+    }
+    Ok(())
 }
 
 /// Gives a name of a namespace that place.
@@ -123,7 +180,7 @@ fn insert_name(
     name: &str,
     place: usize,
 ) -> Result<(), AllocError>
-    ensures ok { OnOk result (HasOneMore namespaces.old namespaces.new namespace.now name.now place) }
+    ensures ok { OnOk result (HasNow namespaces.old namespaces.new namespace.now name.now (Some place)) }
     ensures err { OnErr result (AreAsBefore namespaces.old namespaces.new) }
 {
     let name = String::from_str(alloc, name)?;
@@ -138,4 +195,13 @@ fn insert_name(
         }
     }
     Ok(())
+}
+
+/// Takes the place of a name of a namespace away.
+fn remove_name(namespaces: &mut Namespaces, namespace: &str, name: &str)
+    ensures { HasNow namespaces.old namespaces.new namespace.now name.now None }
+{
+    if let Some(names) = namespaces.get_mut(namespace) {
+        names.remove(name);
+    }
 }

@@ -19,7 +19,7 @@ returns-in_ok-insert-in-Some-clause-ok c =
     let names = c.insert.new.self in
     let spaces = c.get_mut.follows.lender names in
     one_more c.args.namespaces.now spaces c.args.namespace.now names (Some c.in-Some.names.now) c.in-Some.ensures.value
-    (btree_map_updates_text c.args.namespace.now c.args.namespaces.now spaces (Some names) ((c.get_mut.follows.holds names).3 (search rules))) c.args.name.now c.args.place
+    (btree_map_updates_text c.args.namespace.now c.args.namespaces.now spaces (Some names) ((c.get_mut.follows.holds names).3 (search rules))) c.args.name.now (Some c.args.place)
     (λ word. btree_map_updates_text (string_bytes c.in_ok-name.name) c.in-Some.names.now names (Some c.args.place) c.in_ok-insert-in-Some.ensures.updates word
     ∙ ap (λ b. cond (bytes_eq b word) (Some c.args.place) (get_by_text c.in-Some.names.now word)) c.in_ok-name.ensures.ok)
 
@@ -31,7 +31,7 @@ returns-in_ok-insert-in-None-2-clause-ok c =
     (λ q. btree_map_updates_text (string_bytes c.in_ok-from_str-in-None.field-0) c.get_mut.follows.lender-at-none spaces (Some names) c.in_ok-insert-in-None-2.ensures.updates q
     ∙ ap (λ b. cond (bytes_eq b q) (Some names) (get_by_text c.get_mut.follows.lender-at-none q)) c.in_ok-from_str-in-None.ensures.ok
     ∙ ap (λ m. cond (bytes_eq c.args.namespace.now q) (Some names) (get_by_text m q)) c.get_mut.follows.holds-at-none)
-    c.args.name.now c.args.place
+    c.args.name.now (Some c.args.place)
     (λ word. btree_map_updates_text (string_bytes c.in_ok-name.name) c.new-names.result names (Some c.args.place) c.in_ok-insert-in-None.ensures.updates word
     ∙ ap (λ b. cond (bytes_eq b word) (Some c.args.place) (get_by_text c.new-names.result word)) c.in_ok-name.ensures.ok
     ∙ ap (λ es. cond (bytes_eq c.args.name.now word) (Some c.args.place) (by_name es word)) c.new-names.ensures.empty)

@@ -1,11 +1,8 @@
 use Rattle.std.proofs.Common.{ap, sym, ◌∙◌, rules}
 use Rattle.std.proofs.lemmas.Result.{IfOk-weaker}
 use Rattle.requests.specs.declared.reply.Reply.{Reply}
-use Rattle.requests.specs.declared.reply.Reply.TheVariants.{Listed}
-use Rattle.version_map.specs.Keyed.{collection}
 use Rattle.plain_store.specs.Route.{route}
-use Rattle.plain_store.specs.Store.{Store, step}
-use Rattle.plain_store.proofs.Held.{present_is}
+use Rattle.plain_store.specs.Store.{step}
 use Rattle.plain_store.proofs.Steps.{list_at_step, list_step}
 use Rattle.plain_store.proofs.store.Plain.read.Goals as goal
 
@@ -16,13 +13,8 @@ returns-in-Get c = search rules
 pub returns-then-exact-eq0 : goal.returns-then-exact-eq0
 returns-then-exact-eq0 c =
     let s = c.args.self.now in
-    let kind = c.in-List.kind in
-    let namespace = c.in-List.namespace in
-    let counted = ap (λ (t : Store). t.counter) c.self.view_is in
-    let present = present_is c.self.inside.versions c.self.inside.counter c.self.inside.capacity s c.self.invariant.2 c.self.view_is in
-    IfOk-weaker c.list_at.result _ _ (λ stored is.
-    ap (λ (r : Reply). (s, r)) (is ∙ ap (λ m. Listed (collection m kind namespace) c.self.inside.counter) present ∙ ap (Listed (collection s.objects kind namespace)) counted)
-    ∙ list_step s kind namespace c.in-List.exact c.if-exact-eq0.true ∙ ap (step s) (sym c.in-List.is)) c.list_at.ensures
+    IfOk-weaker c.list_now.result _ _ (λ stored is.
+    ap (λ (r : Reply). (s, r)) is ∙ list_step s c.in-List.kind c.in-List.namespace c.in-List.exact c.if-exact-eq0.true ∙ ap (step s) (sym c.in-List.is)) c.list_now.ensures
 
 pub returns-else-exact-eq0 : goal.returns-else-exact-eq0
 returns-else-exact-eq0 c =

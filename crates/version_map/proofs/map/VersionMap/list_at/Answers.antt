@@ -6,4 +6,4 @@ use Rattle.version_map.proofs.map.VersionMap.list_at.Goals as goal
 pub returns : goal.returns
 returns g c =
     c.in_ok-values_at.ensures ∙ ap (λ cs. values_in c.args.number cs c.in_ok-places.places.items) c.deref.ensures.value ∙ ap (values_in c.args.number c.self.inside.chains.items) c.in_ok-places.ensures
-    ∙ collection_is c.args.number c.self.inside.places c.self.inside.chains.items _ c.args.kind c.args.namespace.now (ap (λ v. v.rows) c.self.view_is)
+    ∙ collection_is c.args.number c.self.inside.index.all c.self.inside.chains.items _ c.args.kind c.args.namespace.now (ap (λ v. v.rows) c.self.view_is)

@@ -1,9 +1,12 @@
-use Rattle.std.proofs.Common.{true≢false, sym}
+use Rattle.std.proofs.Common.{true≢false, ap, sym}
+use Rattle.version_map.proofs.Aside.{none_listed}
 use Rattle.version_map.proofs.Steps.{empty_view, none_whole}
 use Rattle.version_map.proofs.map.VersionMap.new.Goals as goal
 
 pub invariant_of-result : goal.invariant_of-result
-invariant_of-result g c = (none_whole _ _ _ c.new.ensures c.new-2.ensures.items c.new-3.ensures.items, tt, λ some. absurd (true≢false (sym some)))
+invariant_of-result g c =
+    let all = ap (λ i. i.all) c.new.ensures in
+    (none_whole _ _ _ all c.new-2.ensures.items c.new-3.ensures.items, tt, none_listed c.new.result c.new-2.result.items c.new.ensures, tt, λ some. absurd (true≢false (sym some)))
 
 pub returns : goal.returns
-returns g c = empty_view _ _ c.new.ensures c.new-2.ensures.items
+returns g c = empty_view _ _ (ap (λ i. i.all) c.new.ensures) c.new-2.ensures.items

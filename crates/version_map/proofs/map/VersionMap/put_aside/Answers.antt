@@ -1,0 +1,16 @@
+use Rattle.std.proofs.Common.{IfSome, sym, ap, subst, ◌∙◌}
+use Rattle.version_map.specs.Whole.{HasRoom, IsListed, IsWhole}
+use Rattle.version_map.proofs.Aside.{listed_aside, no_value}
+use Rattle.version_map.proofs.map.VersionMap.put_aside.Goals as goal
+
+pub invariant_of-self : goal.invariant_of-self
+invariant_of-self g c =
+    let all = sym c.put_aside.ensures.all in
+    let cs = c.self.inside.chains.items in (
+      subst (λ ps. IsWhole ps cs c.self.inside.superseding.items c.self.inside.count) all c.self.invariant.0,
+      subst (λ ps. IfSome c.self.inside.room (HasRoom ps cs)) all c.self.invariant.1,
+      listed_aside c.self.inside.index c.put_aside.new.self cs c.args.key.now c.put_aside.ensures.all
+          (no_value c.self.inside.index.all cs _ c.args.key.now (ap (λ v. v.rows) c.self.view_is) (sym c.has_value.ensures ∙ c.if-has_value.false)) c.put_aside.ensures.others c.self.invariant.2,
+      subst (λ r. IfSome r (IsListed c.put_aside.new.self)) (sym c.in-None.is) tt,
+      c.self.invariant.4,
+    )
