@@ -92,8 +92,13 @@ pub two_added : (none some all : Texts) (names more : Names) (values : List ℕ)
     → ((word : List ℕ) → place_at_text some word ≡ option_or (get_by_text more word) (place_at_text none word))
     → ((word : List ℕ) → place_at_text all word ≡ option_or (get_by_text names word) (place_at_text some word))
     → AreValues values (λ word. option_or (get_by_text names word) (get_by_text more word))
-two_added none some all names more values empty ordered are first second = (all, ordered, sym are, λ word.
-    second word ∙ ap (option_or (get_by_text names word)) (first word ∙ ap (option_or (get_by_text more word)) (nothing word) ∙ or_none (get_by_text more word)))
+two_added none some all names more values empty ordered are first second = (
+  all,
+  ordered,
+  sym are,
+  λ word.
+      second word ∙ ap (option_or (get_by_text names word)) (first word ∙ ap (option_or (get_by_text more word)) (nothing word) ∙ or_none (get_by_text more word)),
+)
   where
     nothing : (word : List ℕ) → place_at_text none word ≡ None
     nothing word = ap (λ es. by_text es word) empty

@@ -101,12 +101,7 @@ impl<V: Drop> VersionMap<V> {
     }
 
     /// The same at a number that no version is above. It does not walk over the keys that were put aside.
-    pub fn list_newest(
-        &self,
-        kind: Kind,
-        namespace: &Text,
-        number: u64,
-    ) -> Result<Vec<&V>, Memory>
+    pub fn list_newest(&self, kind: Kind, namespace: &Text, number: u64) -> Result<Vec<&V>, Memory>
         requires { IsAbove self.now.rows (number + 1) }
         ensures { IfOk result (λ values. map (λ v. v.now) values.items ≡ collection (state_at self.now.rows number) kind namespace.now) }
     {

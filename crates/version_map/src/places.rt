@@ -142,10 +142,7 @@ fn index_of(kind: Kind) -> usize
 }
 
 /// The places of all names, in byte order of the names.
-fn places_in<N: Ord>(
-    alloc: Global,
-    names: &BTreeMap<N, usize>,
-) -> Result<Vec<usize>, AllocError>
+fn places_in<N: Ord>(alloc: Global, names: &BTreeMap<N, usize>) -> Result<Vec<usize>, AllocError>
     ensures places { IfOk result (λ places. places.items ≡ values names.now) }
     ensures ordered { IsOrdered N.cmp names.now }
 {
