@@ -2,4 +2,5 @@ pub mod Asked
 pub mod Grammars
 pub mod Planned
 pub mod Ranges
+pub mod Replayed
 pub mod Serving

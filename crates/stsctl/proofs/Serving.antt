@@ -1,6 +1,6 @@
 -- What `clap` found for a subcommand is what the words ask for.
 use Rattle.std.proofs.Common.{◌≡◌, ◌≤◌, ◌<◌, ◌^◌, ℕ, inl, Bool, true, false, List, [], Option, Some, None, Result, Ok, Err, codes, refl, sym, ap, subst, ◌∙◌, MatchBool, MatchOption, arith, max, min}
-use Rattle.std.specs.Prelude.{Box, option_map, unwrap_or, if◌then◌else◌}
+use Rattle.std.specs.Prelude.{Box, length, nat_eq, option_map, unwrap_or, if◌then◌else◌}
 use Rattle.std.specs.Borrow.{Bor}
 use Rattle.std.specs.Box.{box_value}
 use Rattle.std.specs.Str.{bytes_eq}
@@ -15,7 +15,10 @@ use Rattle.clap.proofs.OnLiterals.{clap_on_literals}
 use Rattle.plain.specs.Served.{served_so_far}
 use Rattle.plain.specs.Streams.{PutsPart, Takes}
 use Rattle.plain.proofs.Flows.{PutsPart-none, Takes-none}
+use Rattle.stsctl.specs.Asked.{IsAsked, IsOther}
 use Rattle.stsctl.specs.Serving.{ServesSome}
+use Rattle.stsctl.specs.declared.words.Asked.{Asked}
+use Rattle.stsctl.specs.declared.words.Asked.TheVariants.{Plan, Replay, Serve}
 use Rattle.stsctl.specs.Grammar.{IsCapacityBy, IsDigitsBy, asks_to, capacity_text, digits_text, is_under, plan_text, rows_under, stsctl_app}
 
 stsctl-is_simple : is_simple stsctl_app ≡ true
@@ -97,6 +100,21 @@ pub capacity-is : (words : List Text) (m : ArgMatches) → subcommand_rows_of m 
     → one_of (codes "capacity") (rows_under (codes "serve") (subcommand_rows_of m)) ≡ capacity_text words
 unfolding capacity_text
 capacity-is words m same = ap (λ e. one_of (codes "capacity") (rows_under (codes "serve") e)) same
+
+-- words that name `plan` do not name `replay`
+plan-replay : Some (codes "plan") ≡ Some (codes "replay") → ⊥
+plan-replay is = absurd (false-true (ap (λ o. nat_eq (length (unwrap_or o [])) 6) is))
+
+pub replay-unmet : (m : ArgMatches) → subcommand_name_of m ≡ Some (codes "plan") → is_under (codes "replay") (subcommand_rows_of m) ≡ false
+replay-unmet m plan = under-unmet (codes "replay") m (λ replay. plan-replay (sym plan ∙ replay))
+
+-- what words without a plan ask for
+pub other_asked : (words : List Text) (m : ArgMatches) (asked : Asked) → subcommand_rows_of m ≡ subcommand_of stsctl_app words
+    → asks_to (codes "plan") words ≡ false → IsOther (subcommand_rows_of m) asked → IsAsked words asked
+other_asked words m (Serve capacity) same plan other =
+    (plan, asks-to words m (codes "replay") false same other.0, subst (λ t. IsCapacityBy t capacity) (capacity-is words m same) other.1)
+other_asked words m Replay same plan other = (plan, asks-to words m (codes "replay") true same other)
+other_asked words m (Plan asked) same plan other = absurd other
 
 pub plan-is : (words : List Text) (m : ArgMatches) (option : Text) (rows : List Row) → subcommand_rows_of m ≡ subcommand_of stsctl_app words
     → rows_under (codes "plan") (subcommand_rows_of m) ≡ rows → first_of option rows ≡ plan_text option words

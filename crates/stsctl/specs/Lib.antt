@@ -2,4 +2,5 @@ pub mod Asked
 pub mod Grammar
 pub mod Halts
 pub mod Planning
+pub mod Replaying
 pub mod Serving

@@ -1,5 +1,5 @@
 -- What a run of the program that was asked to plan has done, where the devices tell.
-use Rattle.std.specs.Prelude.{◌≡◌, ℕ, List, [], ◌∷◌, ◌++◌, Option, Some, Ok, codes, find, map}
+use Rattle.std.specs.Prelude.{◌≡◌, ℕ, List, [], Option, Some, Ok, find, map}
 use Rattle.std.specs.Option.{IfSome}
 use Rattle.clap.specs.Words.{Text}
 use Rattle.objects.specs.declared.object.Object.{Object}
@@ -37,7 +37,3 @@ PlansBy asked had left before after = IfSome had (λ input. (left ≡ Some [])
 -- the same by what the words say
 abbrev pub Plans : List Text → Option (List ℕ) → Option (List ℕ) → Option (List ℕ) → Option (List ℕ) → Type 0
 Plans words had left before after = (asked : PlanWords) × IsPlanAsked words asked × PlansBy asked had left before after
-
--- what is said of a refusal
-abbrev pub refusal_text : List ℕ → List ℕ
-refusal_text name = codes "refused: " ++ name ++ 10 ∷ []

@@ -1,11 +1,12 @@
-//! `stsctl`: serves requests to a plain in-memory store, a line of standard input to a line of standard output, and plans
-//! what a StatefulSet calls for.
+//! `stsctl`: serves requests to a plain in-memory store, a line of standard input to a line of standard output, replays
+//! callers that race for one, and plans what a StatefulSet calls for.
 #![tactic(auto)]
 
 mod command;
 mod explain;
 mod halt;
 mod plan;
+mod replay;
 mod serve;
 mod status;
 #[cfg(test)]

@@ -1,14 +1,14 @@
 //! `stsctl plan`.
-ghost use Rattle.std.specs.Prelude.{◌≡◌, ◌≢◌, ◌≤◌, ◌<◌, ◌⊎◌, [], true, false, IfOk, IfErr, IfSome, Some, Ok};
+ghost use Rattle.std.specs.Prelude.{◌≡◌, ◌≢◌, ◌≤◌, ◌<◌, ◌⊎◌, ℕ, List, [], true, false, IfOk, IfErr, IfSome, Some, Ok};
 ghost use Rattle.plan_lines.specs.Objects.{lists_of};
 ghost use Rattle.set_views.specs.Set.{set_parts};
 ghost use Rattle.sets.specs.Plan.{IsPlan};
 ghost use Rattle.sets.specs.declared.action.Plan.{Plan};
-ghost use Rattle.stsctl.specs.Halts.{is_read};
+ghost use Rattle.stsctl.specs.Halts.{Tells, is_read};
 ghost use Rattle.stsctl.specs.Planning.{IsPlanOver, IsPlanText, PlansBy, actions_of};
 
-use crate::halt::Halt;
-use crate::status::{BAD_WORDS, FAILURE, Heap, REFUSED, SUCCESS, refused, shown};
+use crate::halt::{Halt, halted};
+use crate::status::{BAD_WORDS, FAILURE, Heap, REFUSED, SUCCESS, shown};
 use crate::words::PlanWords;
 use plain::{Sink, Source, read_all};
 use plan_lines::{Listed, actions_text, named_set, read_objects};
@@ -28,6 +28,8 @@ pub(crate) fn planned<R: Source, W: Sink, F: Sink>(
     ensures status { (result < BAD_WORDS) ⊎ (result ≡ REFUSED) }
     ensures planned { result ≡ SUCCESS → PlansBy asked.now (R.remaining reader.old) (R.remaining reader.new)
         (W.written writer.old) (W.written writer.new) }
+    ensures named { result ≡ REFUSED → (name : List ℕ)
+        × (Tells name (F.written faults.old) (F.written faults.new) (F.failures faults.old) (F.failures faults.new)) }
     ensures cause { result ≡ FAILURE → (R.failures reader.old < R.failures reader.new) ⊎ ((W.failures writer.old < W.failures writer.new)
         ⊎ (heap.new.refused ≡ true)) }
     ensures memory { result ≢ FAILURE → heap.new.refused ≡ heap.old.refused }
@@ -36,12 +38,7 @@ pub(crate) fn planned<R: Source, W: Sink, F: Sink>(
 {
     match plan_of_input(heap.alloc, asked, reader) {
         Ok(text) => shown(writer, text.as_slice()),
-        Err(Halt::Read) => FAILURE,
-        Err(Halt::Memory) => {
-            heap.refused = true;
-            FAILURE
-        }
-        Err(Halt::Refused(name)) => refused(faults, name),
+        Err(halt) => halted(heap, halt, faults),
     }
 }
 

@@ -1,7 +1,7 @@
 //! Exit statuses, and what goes with each.
 ghost use Rattle.std.specs.Prelude.{◌≡◌, ◌≢◌, ◌<◌, ◌⊎◌, ◌++◌, ◌∷◌, [], codes, IfNone, OnSome, false};
 ghost use Rattle.plain.specs.Streams.{Puts};
-ghost use Rattle.stsctl.specs.Planning.{refusal_text};
+ghost use Rattle.stsctl.specs.Halts.{Tells, refusal_text};
 
 use plain::{Sink, write_all};
 use std::alloc::Global;
@@ -62,7 +62,7 @@ pub(crate) fn told<F: Sink>(faults: &mut F, text: &[u8]) -> u8
 /// refused, so nothing is lost where this fails.
 pub(crate) fn refused<F: Sink>(faults: &mut F, name: &str) -> u8
     ensures status { result ≡ REFUSED }
-    ensures all { (Puts (F.written faults.old) (refusal_text name.now) (F.written faults.new)) ⊎ (F.failures faults.old < F.failures faults.new) }
+    ensures all { Tells name.now (F.written faults.old) (F.written faults.new) (F.failures faults.old) (F.failures faults.new) }
 {
     let _ = put_refusal(faults, name);
     REFUSED

@@ -2,6 +2,8 @@
 mod answered;
 mod asserts;
 mod planned;
+mod replayed;
+mod rows;
 mod words;
 
 use crate::command::command;

@@ -1,8 +1,8 @@
 //! What the words of the command line ask for.
 ghost use Rattle.std.specs.Prelude.{◌≡◌, ◌≤◌, [], codes, map, unwrap_or, IfOk};
 ghost use Rattle.clap.specs.Words.{FailsBy, app_of, first_of, found_of, one_of, rows_of, subcommand_rows_of};
-ghost use Rattle.stsctl.specs.Grammar.{IsCapacityBy, IsDigitsBy, faults_of, plan_app, rows_under, serve_app, stsctl_app};
-ghost use Rattle.stsctl.specs.Asked.{IsAsked};
+ghost use Rattle.stsctl.specs.Grammar.{IsCapacityBy, IsDigitsBy, faults_of, plan_app, replay_app, rows_under, serve_app, stsctl_app};
+ghost use Rattle.stsctl.specs.Asked.{IsAsked, IsOther};
 
 use clap::{Arg, ArgMatches, Command, Error, value_parser};
 use plain::MAX_REVISIONS;
@@ -29,21 +29,26 @@ pub(crate) struct PlanWords<'a> {
 pub(crate) enum Asked<'a> {
     /// To answer requests from a store with room for this many revisions.
     Serve(u64),
+    /// To run the events of a script.
+    Replay,
     /// To plan a set.
     Plan(PlanWords<'a>),
 }
 
-/// What the program takes: `serve [--capacity N]` and `plan --set NAME [--namespace NS] [--digits H]`, and what `clap`
-/// adds for help and the version.
+/// What the program takes: `serve [--capacity N]`, `replay`, and `plan --set NAME [--namespace NS] [--digits H]`, and what
+/// `clap` adds for help and the version.
 fn grammar<'a>(alloc: Global) -> Result<Command<'a>, AllocError>
     ensures { IfOk result (λ c. app_of c ≡ stsctl_app) }
 {
     Command::new(alloc, "stsctl")
         .bin_name("stsctl")?
         .version("0.1.0")
-        .about("A plain in-memory store of Kubernetes objects, and plans of StatefulSets")
+        .about(
+            "A plain in-memory store of Kubernetes objects, replays of racing callers, and plans of StatefulSets",
+        )
         .subcommand_required(true)
         .subcommand(serve_grammar(alloc)?)?
+        .subcommand(replay_grammar(alloc))?
         .subcommand(plan_grammar(alloc)?)
 }
 
@@ -58,6 +63,14 @@ fn serve_grammar<'a>(alloc: Global) -> Result<Command<'a>, AllocError>
     Command::new(alloc, "serve")
         .about("Answers each request line of standard input with a line of standard output")
         .arg(capacity)
+}
+
+fn replay_grammar<'a>(alloc: Global) -> Command<'a>
+    ensures { app_of result ≡ replay_app }
+{
+    Command::new(alloc, "replay").about(
+        "Runs the events of the script on standard input, and prints their replies and a legal order",
+    )
 }
 
 fn plan_grammar<'a>(alloc: Global) -> Result<Command<'a>, AllocError>
@@ -94,8 +107,18 @@ pub(crate) fn read_words<'a, S: AsStr>(alloc: Global, words: &'a [S]) -> Result<
     let matches = grammar(alloc)?.try_get_matches_from(words)?;
     Ok(match matches.subcommand_matches("plan") {
         Some(plan) => Asked::Plan(plan_words(plan)),
-        None => Asked::Serve(capacity_in(&matches)),
+        None => other_in(&matches),
     })
+}
+
+/// What words ask for that ask for no plan.
+fn other_in<'a>(matches: &ArgMatches<'_>) -> Asked<'a>
+    ensures { IsOther (subcommand_rows_of matches.now) result }
+{
+    match matches.subcommand_matches("replay") {
+        Some(_) => Asked::Replay,
+        None => Asked::Serve(capacity_in(matches)),
+    }
 }
 
 /// The capacity of the store that is to be served.

@@ -2,14 +2,16 @@
 //! fault stream. The texts are those of the README.
 use crate::tests::asserts::assert_says;
 
-const HELP: &str = "A plain in-memory store of Kubernetes objects, and plans of StatefulSets
+const HELP: &str =
+    "A plain in-memory store of Kubernetes objects, replays of racing callers, and plans of StatefulSets
 
 Usage: stsctl <COMMAND>
 
 Commands:
-  serve  Answers each request line of standard input with a line of standard output
-  plan   Prints the actions that the objects on standard input call for, each on a line
-  help   Print this message or the help of the given subcommand(s)
+  serve   Answers each request line of standard input with a line of standard output
+  replay  Runs the events of the script on standard input, and prints their replies and a legal order
+  plan    Prints the actions that the objects on standard input call for, each on a line
+  help    Print this message or the help of the given subcommand(s)
 
 Options:
   -h, --help     Print help
@@ -24,6 +26,15 @@ Usage: stsctl serve [OPTIONS]
 Options:
       --capacity <N>  How many revisions the store may draw, from 1 to 1048576 [default: 1048576]
   -h, --help          Print help
+";
+
+const HELP_ON_REPLAY: &str =
+    "Runs the events of the script on standard input, and prints their replies and a legal order
+
+Usage: stsctl replay
+
+Options:
+  -h, --help  Print help
 ";
 
 const HELP_ON_PLAN: &str =
@@ -58,6 +69,18 @@ fn help_on_serve_is_the_text_of_the_readme(rt: HostRuntime) {
 }
 
 #[test]
+fn help_on_replay_is_the_text_of_the_reference(rt: HostRuntime) {
+    let cases: [&[&str]; 3] = [
+        &["stsctl", "replay", "--help"],
+        &["stsctl", "replay", "-h"],
+        &["stsctl", "help", "replay"],
+    ];
+    for words in cases {
+        assert_says(&rt, rt.alloc(), words, 0, HELP_ON_REPLAY, "");
+    }
+}
+
+#[test]
 fn help_on_plan_is_the_text_of_the_reference(rt: HostRuntime) {
     let cases: [&[&str]; 3] = [
         &["stsctl", "plan", "--help"],
@@ -88,7 +111,7 @@ fn a_command_that_is_missing_or_unknown(rt: HostRuntime) {
         (
             &["stsctl"],
             "error: 'stsctl' requires a subcommand but one was not provided
-  [subcommands: serve, plan, help]
+  [subcommands: serve, replay, plan, help]
 
 Usage: stsctl <COMMAND>
 
@@ -187,6 +210,33 @@ For more information, try '--help'.
         (
             &["stsctl", "serve", "--capacity"],
             "error: a value is required for '--capacity <N>' but none was supplied
+
+For more information, try '--help'.
+",
+        ),
+    ];
+    for (words, reason) in cases {
+        assert_says(&rt, rt.alloc(), words, 2, "", reason);
+    }
+}
+
+#[test]
+fn words_that_replay_does_not_take(rt: HostRuntime) {
+    let cases: [(&[&str], &str); 2] = [
+        (
+            &["stsctl", "replay", "extra"],
+            "error: unexpected argument 'extra' found
+
+Usage: stsctl replay
+
+For more information, try '--help'.
+",
+        ),
+        (
+            &["stsctl", "replay", "--capacity", "5"],
+            "error: unexpected argument '--capacity' found
+
+Usage: stsctl replay
 
 For more information, try '--help'.
 ",

@@ -3,11 +3,11 @@ use Rattle.std.specs.Prelude.{unwrap_or}
 use Rattle.clap.specs.Kinds.{HasKind}
 use Rattle.clap.specs.Words.{app_of, found_of, rows_of, subcommand_name_of, subcommand_of, subcommand_rows_of}
 use Rattle.stsctl.specs.declared.words.Asked.{Asked}
-use Rattle.stsctl.specs.declared.words.Asked.TheVariants.{Serve, Plan}
+use Rattle.stsctl.specs.declared.words.Asked.TheVariants.{Plan}
 use Rattle.stsctl.specs.Asked.{IsAsked}
-use Rattle.stsctl.specs.Grammar.{IsCapacityBy, IsDigitsBy, faults_of, rows_under, stsctl_app}
+use Rattle.stsctl.specs.Grammar.{IsDigitsBy, faults_of, rows_under, stsctl_app}
 use Rattle.stsctl.proofs.Asked.{failed, parsed}
-use Rattle.stsctl.proofs.Serving.{asks-to, capacity-is, digits-is, false-true, met, plan-is, rows-met, under-met, under-unmet}
+use Rattle.stsctl.proofs.Serving.{asks-to, digits-is, false-true, met, other_asked, plan-is, replay-unmet, rows-met, under-met, under-unmet}
 use Rattle.stsctl.proofs.words.read_words.Goals.{in-Some, in-None}
 use Rattle.stsctl.proofs.words.read_words.Goals as goal
 
@@ -36,6 +36,7 @@ returns-clause-asked g c =
           let says = w.plan_words.ensures in
           let asked : IsAsked words (Plan w.plan_words.result) = (
             asks-to words m (codes "plan") true same (under-met (codes "plan") m (said.found.0 refl)),
+            asks-to words m (codes "replay") false same (replay-unmet m (said.found.0 refl)),
             (
               says.namespace ∙ ap (λ o. unwrap_or o (codes "default")) (plan-is words m (codes "namespace") (rows_of (found_of plan)) same rows),
               says.name ∙ ap (λ o. unwrap_or o []) (plan-is words m (codes "set") (rows_of (found_of plan)) same rows),
@@ -47,9 +48,7 @@ returns-clause-asked g c =
           subst (λ (a : Asked). IsAsked words a) (sym w.result-is) asked
       | in-None w ↦
           let other : subcommand_name_of m ≡ Some (codes "plan") → ⊥ = λ is. false-true (w.in-None.ensures.found.1 is) in
-          let asked : IsAsked words (Serve w.capacity_in.result) = (
-            asks-to words m (codes "plan") false same (under-unmet (codes "plan") m other),
-            subst (λ t. IsCapacityBy t w.capacity_in.result) (capacity-is words m same) w.capacity_in.ensures,
-          ) in
+          let asked : IsAsked words w.other_in.result =
+          other_asked words m w.other_in.result same (asks-to words m (codes "plan") false same (under-unmet (codes "plan") m other)) w.other_in.ensures in
           subst (λ (a : Asked). IsAsked words a) (sym w.result-is) asked
     ]
