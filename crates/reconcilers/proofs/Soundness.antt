@@ -1,0 +1,300 @@
+-- A plan deletes only what was listed for it, and a collection only what is collectable.
+use Rattle.std.proofs.Common.{◌≡◌, ◌⊎◌, inl, inr, ℕ, length, ◌^◌, Bool, true, false, cond, not, ◌+◌, List, [], ◌∷◌, ◌++◌, Option, Some, None, Result, Ok, Err, map, filter, find, refl, sym, ap, ◌∙◌, subst, true≢false}
+use Rattle.std.specs.Prelude.{◌==◌, ◌&&◌, bytes_eq, nat_lt, option_and_then, if◌then◌else◌}
+use Rattle.std.specs.List.{AllByRecursion, Contains, flat_map}
+use Rattle.std.specs.Option.{is_some, option_map_or}
+use Rattle.std.proofs.lemmas.Bool.{and_parts, eqb-true}
+use Rattle.std.proofs.lemmas.Slice.Eq.{bytes_eq-Decides}
+use Rattle.objects.specs.declared.key.Key.{Key}
+use Rattle.objects.specs.declared.kind.Kind.{Kind}
+use Rattle.objects.specs.declared.kind.Kind.TheVariants as kinds
+use Rattle.objects.specs.declared.object.Object.{Object}
+use Rattle.objects.specs.Key.{is_key, key_parts}
+use Rattle.objects.specs.PodNames.{IsPodName, pod_name}
+use Rattle.objects.specs.Uid.{uid_text}
+use Rattle.requests.specs.declared.request.Request.{Request}
+use Rattle.requests.specs.declared.request.Request.TheVariants.{Create, Update, UpdateStatus, Delete}
+use Rattle.set_views.specs.declared.fault.PlanError.{PlanError}
+use Rattle.set_views.specs.declared.fault.PlanError.TheVariants as errors
+use Rattle.set_views.specs.Pod.{PodParts}
+use Rattle.set_views.specs.Set.{SetParts}
+use Rattle.set_views.specs.SetReading.{set_of}
+use Rattle.set_views.specs.Steps.{◌>>=◌}
+use Rattle.set_views.specs.Words.{ordinal_in}
+use Rattle.revisions.specs.Choice as choice
+use Rattle.revisions.specs.Plan as revision_plans
+use Rattle.revisions.specs.Plan.{created, renumbered, settled, plan_of}
+use Rattle.revisions.specs.Revision.{is_held, is_owned, first_of_each, listed, is_listed, is_revision, owned_among, revision_cmp}
+use Rattle.scaling.specs.Listed.{is_named}
+use Rattle.scaling.specs.Views.{is_near, is_pod}
+use Rattle.scaling.proofs.AtOnce.{alone}
+use Rattle.claims.specs.Listed.{listed_claim}
+use Rattle.collector.specs.Collectable.{Among, collected}
+use Rattle.collector.proofs.Collected.{claim_of}
+use Rattle.sets.specs.declared.action.Action.{Action}
+use Rattle.sets.specs.declared.action.Action.TheVariants.{CreateClaim, CreatePod, DeletePod, UpdateClaim, WriteRevision, DeleteRevision, WriteStatus, Wait}
+use Rattle.sets.specs.Actions.{Claims, name_at}
+use Rattle.sets.specs.Plan.{plan_by, plan_of_pods, refusal, unless_refused, fitting}
+use Rattle.sets.proofs.Origins.{created_alone, deletes_owned, renumbered_alone}
+use Rattle.rounds.specs.Sound.{HasNamed, IsAction, IsCollection, IsSound}
+use Rattle.rounds.proofs.Lists.{among_contained, among_either, among_left, among_right, contains_among}
+use Rattle.reconcilers.specs.Order.{in_order}
+use Rattle.reconcilers.specs.Planned.{deletions, deletion_of, key_of, or_none, owned_of, planned, new, as_read, request_of, requested, requested_for, requests_of, view_of, views_of}
+use Rattle.reconcilers.specs.Place.{place_in}
+use Rattle.reconcilers.specs.Reconciler.{reconciler_with}
+use Rattle.reconcilers.proofs.Deletions.{deletes_controlled}
+use Rattle.reconcilers.proofs.Ordered.{all_in_order}
+use Rattle.reconcilers.proofs.Owned.{filtered, total}
+use Rattle.reconcilers.proofs.Places.{found_below}
+
+-- ---- requests
+
+in_requests : (namespace moment : List ℕ) (actions : List Action) (r : Request) → Among r (requests_of namespace moment actions) → (a : Action) × Among a actions × Among r (request_of namespace moment a)
+in_requests namespace moment [] r at = absurd at
+in_requests namespace moment (a ∷ rest) r at =
+    elim (among_either r (request_of namespace moment a) (requests_of namespace moment rest) at) [
+      | inl here ↦ (a, inl refl, here)
+      | inr more ↦ let x = in_requests namespace moment rest r more in (x.0, inr x.1, x.2)
+    ]
+
+in_deletions : (key : Option Key) (uid : ℕ) (version at : Option (List ℕ)) (r : Request) → Among r (deletions key uid version at)
+    → (k : Key) × (key ≡ Some k) × (r ≡ Delete k (Some (uid_text uid)) version at)
+in_deletions None uid version at r h = absurd h
+in_deletions (Some k) uid version at r h =
+    elim (nat_lt uid (2 ^ 48)) as (λ b. Among r (cond b (Delete k (Some (uid_text uid)) version at ∷ []) []) → (q : Key) × (Some k ≡ Some q) × (r ≡ Delete q (Some (uid_text uid)) version at)) [
+      | true ↦ λ there. elim there [ inl is ↦ (k, refl, is) | inr none ↦ absurd none ]
+      | false ↦ λ there. absurd there
+    ] h
+
+key_is : (kind : Kind) (namespace name : List ℕ) (k : Key) → key_of kind namespace name ≡ Some k → k ≡ key_parts kind namespace name
+key_is kind namespace name k is =
+    elim (is_key (key_parts kind namespace name)) as (λ b. cond b (Some (key_parts kind namespace name)) None ≡ Some k → k ≡ key_parts kind namespace name) [
+      | true ↦ λ e. sym (ap (λ o. option_map_or (λ (q : Key). q) o k) e)
+      | false ↦ λ e. let clash : false ≡ true = ap is_some e in absurd (true≢false (sym clash))
+    ] is
+
+-- the delete of a listed object
+named : (os : List Object) (kind : Kind) (namespace name : List ℕ) (uid : ℕ) (version at : Option (List ℕ)) (r : Request) (o : Object) → Among r (deletion_of kind namespace name uid version at)
+    → Among o os → o.key ≡ key_parts kind namespace name → o.meta.uid ≡ uid → IsAction os r
+named os kind namespace name uid version at r o h among key uid_is =
+    let d = in_deletions (key_of kind namespace name) uid version at r h in
+    subst (IsAction os) (sym d.2)
+    (record { object = o; among = among; key_is = key_is kind namespace name d.0 d.1 ∙ sym key; uid_is = ap (λ (n : ℕ). Some (uid_text n)) (sym uid_is) })
+
+-- ---- listed pods
+
+found_in_map : (p : PodParts → Bool) (os : List Object) (pod : PodParts) → find p (map view_of os) ≡ Some pod → (o : Object) × Among o os × (view_of o ≡ pod) × (p (view_of o) ≡ true)
+found_in_map p [] pod is = let clash : false ≡ true = ap is_some is in absurd (true≢false (sym clash))
+found_in_map p (o ∷ os) pod is =
+    elim (p (view_of o)) as (λ b. p (view_of o) ≡ b → cond b (Some (view_of o)) (find p (map view_of os)) ≡ Some pod → (q : Object) × Among q (o ∷ os) × (view_of q ≡ pod) × (p (view_of q) ≡ true)) [
+      | true ↦ λ e h. (o, inl refl, ap (λ x. option_map_or (λ (v : PodParts). v) x pod) h, e)
+      | false ↦ λ e h. let r = found_in_map p os pod h in (r.0, inr r.1, r.2, r.3)
+    ] refl is
+
+pod_kind : (kind : Kind) → is_pod kind ≡ true → kind ≡ kinds.Pod
+pod_kind kinds.StatefulSet h = absurd (true≢false (sym h))
+pod_kind kinds.Pod h = refl
+pod_kind kinds.PersistentVolumeClaim h = absurd (true≢false (sym h))
+pod_kind kinds.ControllerRevision h = absurd (true≢false (sym h))
+
+named_place : (set : SetParts) (i : ℕ) (place : Option (List ℕ × ℕ))
+    → option_map_or (λ (j : ℕ). i == j) (option_and_then (λ (s : List ℕ × ℕ). if bytes_eq s.0 set.object.key.name then Some s.1 else None) place) false ≡ true
+    → (s : List ℕ × ℕ) × (place ≡ Some s) × (s.0 ≡ set.object.key.name) × (i ≡ s.1)
+named_place set i None h = absurd (true≢false (sym h))
+named_place set i (Some s) h =
+    elim (bytes_eq s.0 set.object.key.name) as (λ b. bytes_eq s.0 set.object.key.name ≡ b → option_map_or (λ (j : ℕ). i == j) (cond b (Some s.1) None) false ≡ true
+    → (t : List ℕ × ℕ) × (Some s ≡ Some t) × (t.0 ≡ set.object.key.name) × (i ≡ t.1)) [
+      | true ↦ λ e k. (s, refl, (bytes_eq-Decides s.0 set.object.key.name).0 e, eqb-true i s.1 k)
+      | false ↦ λ e k. absurd (true≢false (sym k))
+    ] refl h
+
+-- the listed object of that name and UID
+abbrev IsListed : List Object → Kind → List ℕ → List ℕ → ℕ → Type 0
+IsListed os kind namespace name uid = (o : Object) × Among o os × (o.key ≡ key_parts kind namespace name) × (o.meta.uid ≡ uid)
+
+pod_listed : (set : SetParts) (pods : List Object) (i : ℕ) (name : List ℕ) (uid : ℕ) (pod : PodParts) → name ≡ name_at set i → find (is_named set i) (views_of set pods) ≡ Some pod → pod.uid ≡ uid
+    → IsListed pods kinds.Pod set.object.key.namespace name uid
+unfolding views_of place_in
+pod_listed set pods i name uid pod name_is found uid_is =
+    let f = found_in_map (is_named set i) (filter (is_near set) pods) pod found in
+    let o : Object = f.0 in
+    let near = filtered (is_near set) o pods f.1 in
+    let parts = and_parts (is_pod o.key.kind) _ near.1 in
+    let space : o.key.namespace ≡ set.object.key.namespace = (bytes_eq-Decides o.key.namespace set.object.key.namespace).0 parts.1 in
+    let place = named_place set i (place_in o.key.name) f.3 in
+    let called : IsPodName o.key.name place.0.0 place.0.1 = found_below o.key.name (length o.key.name) place.0 place.1 in
+    let same : o.key.name ≡ name = called.joined ∙ (λ j. pod_name (place.2 j) (sym place.3 j)) ∙ sym name_is in
+    (o, near.0, (λ j. key_parts (pod_kind o.key.kind parts.0 j) (space j) (same j)), ap (λ (v : PodParts). v.uid) f.2 ∙ uid_is)
+
+-- ---- plans
+
+is_made : {A : Type 0} → Result A PlanError → Bool
+is_made (Ok x) = true
+is_made (Err e) = false
+
+never_made : {A B : Type 0} (r : Result A PlanError) (e : PlanError) (x : B) → (r >>= λ _. Err e) ≡ Ok x → ⊥
+unfolding is_made
+never_made (Ok y) e x is = let clash : false ≡ true = ap is_made is in true≢false (sym clash)
+never_made (Err d) e x is = let clash : false ≡ true = ap is_made is in true≢false (sym clash)
+
+refused : (set : SetParts) (views : List PodParts) (e : PlanError) (actions : List Action) → refusal set views e ≡ Ok actions → ⊥
+unfolding is_made
+refused set views errors.NoRevisionName actions is = never_made (fitting set [] [] views) errors.NoRevisionName actions is
+refused set views e actions is = let clash : false ≡ true = ap is_made is in true≢false (sym clash)
+
+writes_alone : (actions : List Action) (x : Object) (a : Action) → actions ≡ WriteRevision x ∷ [] → Contains actions a → WriteRevision x ≡ a
+writes_alone actions x a is at = alone (WriteRevision x) a (subst (λ (l : List Action). Contains l a) is at)
+
+pod_planned : (set : SetParts) (claims : Claims) (pods : List Object) (p : Result revision_plans.Planned PlanError) (actions : List Action) (name : List ℕ) (uid : ℕ) → plan_by set claims (views_of set pods) p ≡ Ok actions
+    → Contains actions (DeletePod name uid) → IsListed pods kinds.Pod set.object.key.namespace name uid
+unfolding plan_by
+pod_planned set claims pods (Ok (created x)) actions name uid e at =
+    let clash : WriteRevision x ≡ DeletePod name uid = writes_alone actions x (DeletePod name uid) (created_alone set claims (views_of set pods) actions x e) at in absurd (cc)
+pod_planned set claims pods (Ok (renumbered x)) actions name uid e at =
+    let clash : WriteRevision x ≡ DeletePod name uid = writes_alone actions x (DeletePod name uid) (renumbered_alone set claims (views_of set pods) actions x e) at in absurd (cc)
+pod_planned set claims pods (Ok (settled owned current update)) actions name uid e at =
+    let d = deletes_owned set claims (views_of set pods) owned current update actions name uid e at in
+    pod_listed set pods d.0 name uid d.2.0 d.1 d.2.1 d.2.3
+pod_planned set claims pods (Err x) actions name uid e at = absurd (refused set (views_of set pods) x actions e)
+
+-- ---- listed revisions
+
+first_among : (os : List Object) (x : Object) → Among x (first_of_each os) → Among x os
+first_among [] x at = absurd at
+first_among (o ∷ os) x (inl is) = inl is
+first_among (o ∷ os) x (inr at) = inr (first_among os x (filtered (λ (p : Object). not (bytes_eq p.key.name o.key.name)) x (first_of_each os) at).0)
+
+all_among : {X : Type 0} (P : X → Type 0) (xs : List X) → ((x : X) → Among x xs → P x) → AllByRecursion P xs
+all_among P [] f = tt
+all_among P (x ∷ xs) f = (f x (inl refl), all_among P xs (λ y at. f y (inr at)))
+
+among_all : {X : Type 0} (P : X → Type 0) (xs : List X) (x : X) → AllByRecursion P xs → Among x xs → P x
+among_all P [] x all at = absurd at
+among_all P (y ∷ ys) x all (inl is) = subst P (sym is) all.0
+among_all P (y ∷ ys) x all (inr at) = among_all P ys x all.1 at
+
+owned_listed : (set : SetParts) (revisions : List Object) (o : Object) → Contains (owned_of set revisions) o → Among o revisions × (is_listed set o ≡ true)
+unfolding owned_of
+owned_listed set revisions o at =
+    among_all (λ x. Among x revisions × (is_listed set x ≡ true)) (owned_of set revisions) o
+    (all_in_order revision_cmp total _ (owned_among set revisions) (all_among _ (owned_among set revisions) (λ x h.
+    filtered (is_listed set) x revisions (first_among (listed set revisions) x (filtered (is_owned set) x (first_of_each (listed set revisions)) h).0))))
+    (among_contained (owned_of set revisions) o at)
+
+owned_in : List Object → Result revision_plans.Planned PlanError → List Object
+owned_in d (Ok (created o)) = d
+owned_in d (Ok (renumbered o)) = d
+owned_in d (Ok (settled owned current update)) = owned
+owned_in d (Err e) = d
+
+created_only : (d : List Object) (r : Result Object PlanError) → owned_in d (r >>= λ o. Ok (created o)) ≡ d
+unfolding owned_in
+created_only d (Ok o) = refl
+created_only d (Err e) = refl
+
+chosen : (set : SetParts) (held : List ℕ → Bool) (digits : ℕ) (owned : List Object) (x : choice.Choice) → owned_in owned (revision_plans.plan_by set held digits owned x) ≡ owned
+unfolding owned_in
+chosen set held digits owned (choice.in_place o) = refl
+chosen set held digits owned (choice.to_renumber o) = refl
+chosen set held digits owned choice.to_create = created_only owned (revision_plans.creation set held digits (choice.greatest owned + 1))
+
+planned_owned : (set : SetParts) (held : List ℕ → Bool) (digits : ℕ) (owned : List Object) → owned_in owned (plan_of set held digits owned) ≡ owned
+unfolding plan_of owned_in
+planned_owned set held digits owned =
+    elim (revision_plans.are_sound set owned) as (λ b. owned_in owned (cond b (Ok owned) (Err errors.BadSpec) >>= λ sound. revision_plans.plan_by set held digits sound (choice.choice_of (choice.data_with set.template) sound)) ≡ owned) [
+      | true ↦ chosen set held digits owned (choice.choice_of (choice.data_with set.template) owned)
+      | false ↦ refl
+    ]
+
+name_in : Action → List ℕ
+name_in (CreateClaim o) = []
+name_in (CreatePod o) = []
+name_in (DeletePod name uid) = name
+name_in (UpdateClaim o) = []
+name_in (WriteRevision o) = []
+name_in (DeleteRevision name uid version) = name
+name_in (WriteStatus o) = []
+name_in (Wait cause name) = []
+
+uid_in : Action → ℕ
+uid_in (CreateClaim o) = 0
+uid_in (CreatePod o) = 0
+uid_in (DeletePod name uid) = uid
+uid_in (UpdateClaim o) = 0
+uid_in (WriteRevision o) = 0
+uid_in (DeleteRevision name uid version) = uid
+uid_in (WriteStatus o) = 0
+uid_in (Wait cause name) = 0
+
+revision_kind : (kind : Kind) → is_revision kind ≡ true → kind ≡ kinds.ControllerRevision
+revision_kind kinds.StatefulSet h = absurd (true≢false (sym h))
+revision_kind kinds.Pod h = absurd (true≢false (sym h))
+revision_kind kinds.PersistentVolumeClaim h = absurd (true≢false (sym h))
+revision_kind kinds.ControllerRevision h = refl
+
+revision_planned : (set : SetParts) (claims : Claims) (views : List PodParts) (revisions : List Object) (p : Result revision_plans.Planned PlanError) (actions : List Action) (name : List ℕ) (uid version : ℕ)
+    → owned_in (owned_of set revisions) p ≡ owned_of set revisions → plan_by set claims views p ≡ Ok actions → Contains actions (DeleteRevision name uid version)
+    → IsListed revisions kinds.ControllerRevision set.object.key.namespace name uid
+unfolding plan_by owned_in name_in uid_in
+revision_planned set claims views revisions (Ok (created x)) actions name uid version own e at =
+    let clash : WriteRevision x ≡ DeleteRevision name uid version = writes_alone actions x (DeleteRevision name uid version) (created_alone set claims views actions x e) at in absurd (cc)
+revision_planned set claims views revisions (Ok (renumbered x)) actions name uid version own e at =
+    let clash : WriteRevision x ≡ DeleteRevision name uid version = writes_alone actions x (DeleteRevision name uid version) (renumbered_alone set claims views actions x e) at in absurd (cc)
+revision_planned set claims views revisions (Ok (settled owned current update)) actions name uid version own e at =
+    let d = deletes_controlled set claims views owned current update actions name uid version e at in
+    let o : Object = d.0 in
+    let there = owned_listed set revisions o (subst (λ (l : List Object). Contains l o) own d.1) in
+    let parts = and_parts (is_revision o.key.kind) _ there.1 in
+    let space : o.key.namespace ≡ set.object.key.namespace = (bytes_eq-Decides o.key.namespace set.object.key.namespace).0 parts.1 in
+    let same : o.key.name ≡ name = ap name_in d.2 in
+    (o, there.0, (λ j. key_parts (revision_kind o.key.kind parts.0 j) (space j) (same j)), ap uid_in d.2)
+revision_planned set claims views revisions (Err x) actions name uid version own e at = absurd (refused set views x actions e)
+
+-- ---- soundness
+
+one_write : (os : List Object) (b : Bool) (x y : Request) (r : Request) → IsAction os x → IsAction os y → r ≡ cond b x y → IsAction os r
+one_write os true x y r at_x at_y is = subst (IsAction os) (sym is) at_x
+one_write os false x y r at_x at_y is = subst (IsAction os) (sym is) at_y
+
+only : (os : List Object) (x r : Request) → IsAction os x → Among r (x ∷ []) → IsAction os r
+only os x r at (inl is) = subst (IsAction os) (sym is) at
+only os x r at (inr none) = absurd none
+
+action_is : (set : SetParts) (digits : ℕ) (moment : List ℕ) (revisions pods claims : List Object) (actions : List Action) (a : Action) (r : Request) → planned set digits revisions pods claims ≡ Ok actions
+    → Contains actions a → Among r (request_of set.object.key.namespace moment a) → IsAction (revisions ++ pods) r
+unfolding planned
+action_is set digits moment revisions pods claims actions (CreateClaim o) r e at h = only (revisions ++ pods) _ r tt h
+action_is set digits moment revisions pods claims actions (CreatePod o) r e at h = only (revisions ++ pods) _ r tt h
+action_is set digits moment revisions pods claims actions (DeletePod name uid) r e at h =
+    let p = pod_planned set (listed_claim set claims) pods (plan_of set (is_held (listed set revisions)) digits (owned_of set revisions)) actions name uid e at in
+    named (revisions ++ pods) kinds.Pod set.object.key.namespace name uid None (Some moment) r p.0 h (among_right p.0 revisions pods p.1) p.2 p.3
+action_is set digits moment revisions pods claims actions (UpdateClaim o) r e at h = only (revisions ++ pods) _ r tt h
+action_is set digits moment revisions pods claims actions (WriteRevision o) r e at h =
+    elim h [ inl is ↦ one_write (revisions ++ pods) (o.meta.uid == 0) (Create (new o)) (Update (as_read o)) r tt tt is | inr none ↦ absurd none ]
+action_is set digits moment revisions pods claims actions (DeleteRevision name uid version) r e at h =
+    let p = revision_planned set (listed_claim set claims) (views_of set pods) revisions (plan_of set (is_held (listed set revisions)) digits (owned_of set revisions)) actions name uid version
+    (planned_owned set (is_held (listed set revisions)) digits (owned_of set revisions)) e at in
+    named (revisions ++ pods) kinds.ControllerRevision set.object.key.namespace name uid _ None r p.0 h (among_left p.0 revisions pods p.1) p.2 p.3
+action_is set digits moment revisions pods claims actions (WriteStatus o) r e at h = only (revisions ++ pods) _ r tt h
+action_is set digits moment revisions pods claims actions (Wait cause name) r e at h = absurd h
+
+plan_is_sound : (set : Object) (digits : ℕ) (moment : List ℕ) (revisions pods claims : List Object) (r : Request) → Among r (or_none (requested set digits moment revisions pods claims)) → IsAction (revisions ++ pods) r
+unfolding requested requested_for
+plan_is_sound o digits moment revisions pods claims r at = read (set_of o) at
+  where
+    made : (set : SetParts) (p : Result (List Action) PlanError) → planned set digits revisions pods claims ≡ p → Among r (or_none (p >>= λ actions. Ok (requests_of set.object.key.namespace moment actions))) → IsAction (revisions ++ pods) r
+    made set (Err e) is h = absurd h
+    made set (Ok actions) is h =
+        let x = in_requests set.object.key.namespace moment actions r h in
+        action_is set digits moment revisions pods claims actions x.0 r is (contains_among x.0 actions x.1) x.2
+    read : (s : Result SetParts PlanError) → Among r (or_none (s >>= λ set. requested_for set digits moment revisions pods claims)) → IsAction (revisions ++ pods) r
+    read (Err e) h = absurd h
+    read (Ok set) h = made set (planned set digits revisions pods claims) refl h
+
+pub is_sound : (set : Key) (digits : ℕ) (moment : List ℕ) → IsSound (reconciler_with set digits moment)
+is_sound set digits moment = record {
+  plans = λ o revisions pods claims r at. plan_is_sound o digits moment revisions pods claims r at;
+  collects = λ claims owners at r there.
+      let c = claim_of claims owners at r there in
+      record { claim = c.0; among = c.1.0; collectable = c.1.1.0; deletes = c.1.1.1 };
+}

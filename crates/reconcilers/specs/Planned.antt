@@ -1,0 +1,104 @@
+-- The plan of a set, over what was listed, and the requests that it comes to (Kubernetes, "StatefulSets"; "Controllers").
+use Rattle.std.specs.Prelude.{ℕ, ◌^◌, ◌==◌, nat_lt, List, [], ◌∷◌, map, filter, decimal, Option, Some, None, Result, Ok, Err, if◌then◌else◌}
+use Rattle.std.specs.List.{flat_map}
+use Rattle.objects.specs.declared.key.Key.{Key}
+use Rattle.objects.specs.declared.kind.Kind.{Kind}
+use Rattle.objects.specs.declared.kind.Kind.TheVariants.{Pod, ControllerRevision}
+use Rattle.objects.specs.declared.object.Draft.{Draft}
+use Rattle.objects.specs.declared.object.Object.{Object}
+use Rattle.objects.specs.Key.{is_key, key_parts}
+use Rattle.objects.specs.Uid.{uid_text}
+use Rattle.requests.specs.declared.request.Request.{Request}
+use Rattle.requests.specs.declared.request.Request.TheVariants.{Create, Update, UpdateStatus, Delete}
+use Rattle.set_views.specs.declared.fault.PlanError.{PlanError}
+use Rattle.set_views.specs.Pod.{PodParts, pod_with}
+use Rattle.set_views.specs.Set.{SetParts}
+use Rattle.set_views.specs.SetReading.{set_of}
+use Rattle.set_views.specs.Steps.{◌>>=◌}
+use Rattle.revisions.specs.Plan.{plan_of}
+use Rattle.revisions.specs.Revision.{is_held, listed, owned_among, revision_cmp}
+use Rattle.scaling.specs.Views.{is_near}
+use Rattle.claims.specs.Listed.{listed_claim}
+use Rattle.collector.specs.Collectable.{given}
+use Rattle.sets.specs.declared.action.Action.{Action}
+use Rattle.sets.specs.declared.action.Action.TheVariants.{CreateClaim, CreatePod, DeletePod, UpdateClaim, WriteRevision, DeleteRevision, WriteStatus, Wait}
+use Rattle.sets.specs.Plan.{plan_by}
+use Rattle.reconcilers.specs.Order.{in_order}
+use Rattle.reconcilers.specs.Place.{place_in}
+
+-- ---- the plan
+
+abbrev pub view_of : Object → PodParts
+view_of o = pod_with (place_in o.key.name) o
+
+-- the pods of the set's namespace, as a plan sees them
+unfoldable pub views_of : SetParts → List Object → List PodParts
+views_of set pods = map view_of (filter (is_near set) pods)
+
+-- the revisions that the set controls, the newest last
+unfoldable pub owned_of : SetParts → List Object → List Object
+owned_of set revisions = in_order revision_cmp (owned_among set revisions)
+
+-- what is to be done, or the first refusal
+unfoldable pub planned : SetParts → ℕ → List Object → List Object → List Object → Result (List Action) PlanError
+planned set digits revisions pods claims =
+    plan_by set (listed_claim set claims) (views_of set pods) (plan_of set (is_held (listed set revisions)) digits (owned_of set revisions))
+
+-- ---- its requests
+
+-- the object as it is to be created
+abbrev pub new : Object → Draft
+new o = record { object = o; uid = None; version = None }
+
+-- the object, to be written if it still has its UID and its version
+abbrev pub as_read : Object → Draft
+as_read o = record { object = o; uid = given uid_text o.meta.uid; version = given decimal o.meta.revision }
+
+-- the key of these parts, if they name an object
+abbrev pub key_of : Kind → List ℕ → List ℕ → Option Key
+key_of kind namespace name = if is_key (key_parts kind namespace name) then Some (key_parts kind namespace name) else None
+
+-- The delete of the object of a key, if it still has the UID. There is none of what no store holds: it has no key, or no UID.
+abbrev pub deletions : Option Key → ℕ → Option (List ℕ) → Option (List ℕ) → List Request
+deletions None uid version at = []
+deletions (Some key) uid version at = if nat_lt uid (2 ^ 48) then Delete key (Some (uid_text uid)) version at ∷ [] else []
+
+abbrev pub deletion_of : Kind → List ℕ → List ℕ → ℕ → Option (List ℕ) → Option (List ℕ) → List Request
+deletion_of kind namespace name uid version at = deletions (key_of kind namespace name) uid version at
+
+-- the version as it stands in a delete; 0 stands there as an empty text
+abbrev pub version_text : ℕ → List ℕ
+version_text n = if n == 0 then [] else decimal n
+
+-- Each action but Wait is one request. A pod is marked with the moment of the controller.
+abbrev pub request_of : List ℕ → List ℕ → Action → List Request
+request_of namespace moment (CreateClaim o) = Create (new o) ∷ []
+request_of namespace moment (CreatePod o) = Create (new o) ∷ []
+request_of namespace moment (DeletePod name uid) = deletion_of Pod namespace name uid None (Some moment)
+request_of namespace moment (UpdateClaim o) = Update (as_read o) ∷ []
+request_of namespace moment (WriteRevision o) = (if o.meta.uid == 0 then Create (new o) else Update (as_read o)) ∷ []
+request_of namespace moment (DeleteRevision name uid version) = deletion_of ControllerRevision namespace name uid (Some (version_text version)) None
+request_of namespace moment (WriteStatus o) = UpdateStatus (as_read o) ∷ []
+request_of namespace moment (Wait cause name) = []
+
+abbrev pub requests_of : List ℕ → List ℕ → List Action → List Request
+requests_of namespace moment actions = flat_map (request_of namespace moment) actions
+
+-- the requests of the plan of a set that was read
+unfoldable pub requested_for : SetParts → ℕ → List ℕ → List Object → List Object → List Object → Result (List Request) PlanError
+requested_for set digits moment revisions pods claims =
+    planned set digits revisions pods claims >>= λ actions. Ok (requests_of set.object.key.namespace moment actions)
+
+-- the requests of the plan of a set, or the refusal
+unfoldable pub requested : Object → ℕ → List ℕ → List Object → List Object → List Object → Result (List Request) PlanError
+requested o digits moment revisions pods claims = set_of o >>= λ set. requested_for set digits moment revisions pods claims
+
+-- none where there is no plan
+abbrev pub or_none : Result (List Request) PlanError → List Request
+or_none (Ok requests) = requests
+or_none (Err e) = []
+
+-- why there is no plan
+abbrev pub why_not : Result (List Request) PlanError → Option PlanError
+why_not (Ok requests) = None
+why_not (Err e) = Some e
