@@ -37,6 +37,7 @@ module _ {X : Type 0} (cmp : X → X → Ordering) (total : IsTotalOrder cmp) wh
       less Less zx yx h = absurd (true≢false h)
       less Equal zx yx h = alike_right total y x z yx ∙ zx
       less Greater zx yx h = total.trans z x y zx (turned y x Greater yx)
+
       go : (o : Ordering) → cmp z x ≡ o → (p : Ordering) → cmp y x ≡ p → is_lt (cmp y x) ≡ false → is_lt o ≡ false
       go Less zx p yx h = absurd (true≢false (sym (ap is_lt (less p zx yx (sym (ap is_lt yx) ∙ h))) ∙ high))
       go Equal zx p yx h = refl

@@ -287,6 +287,7 @@ plan_is_sound o digits moment revisions pods claims r at = read (set_of o) at
     made set (Ok actions) is h =
         let x = in_requests set.object.key.namespace moment actions r h in
         action_is set digits moment revisions pods claims actions x.0 r is (contains_among x.0 actions x.1) x.2
+
     read : (s : Result SetParts PlanError) → Among r (or_none (s >>= λ set. requested_for set digits moment revisions pods claims)) → IsAction (revisions ++ pods) r
     read (Err e) h = absurd h
     read (Ok set) h = made set (planned set digits revisions pods claims) refl h

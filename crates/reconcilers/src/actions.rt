@@ -40,10 +40,7 @@ fn as_read(alloc: Global, object: Object) -> Result<Draft, AllocError>
 }
 
 /// The texts of an object's UID and version, each unless it is 0.
-fn read_texts(
-    alloc: Global,
-    object: &Object,
-) -> Result<(Option<Text>, Option<Text>), AllocError>
+fn read_texts(alloc: Global, object: &Object) -> Result<(Option<Text>, Option<Text>), AllocError>
     ensures { IfOk result (λ texts. (texts.0 ≡ given uid_text object.now.meta.uid) × (texts.1 ≡ given decimal object.now.meta.revision)) }
 {
     let uid = given_uid(alloc, object.meta.uid)?;
@@ -80,12 +77,7 @@ fn version_text(alloc: Global, number: u64) -> Result<Text, AllocError>
 }
 
 /// The key of these parts, if they name an object.
-fn key_of(
-    alloc: Global,
-    kind: Kind,
-    namespace: &str,
-    name: &str,
-) -> Result<Option<Key>, Memory>
+fn key_of(alloc: Global, kind: Kind, namespace: &str, name: &str) -> Result<Option<Key>, Memory>
     ensures { IfOk result (λ key. key ≡ key_of kind namespace.now name.now) }
 {
     match Key::of(alloc, kind, namespace, name) {
@@ -137,12 +129,15 @@ fn put_deletion_by(
     ensures { OnOk result (requests.new.items ≡ requests.old.items ++ Delete key (Some (uid_text uid)) version at ∷ []) }
 {
     match uid_text(alloc, uid) {
-        Ok(uid) => put(requests, Request::Delete {
-            key,
-            uid: Some(Text::from(uid)),
-            version,
-            at,
-        }),
+        Ok(uid) => put(
+            requests,
+            Request::Delete {
+                key,
+                uid: Some(Text::from(uid)),
+                version,
+                at,
+            },
+        ),
         Err(_) => {
             drop((key, version, at));
             Err(Memory)
@@ -241,11 +236,7 @@ fn put_status(requests: &mut Vec<Request>, alloc: Global, set: Object) -> Result
 }
 
 /// Adds the write of a revision: a create where it has no UID yet.
-fn put_revision(
-    requests: &mut Vec<Request>,
-    alloc: Global,
-    revision: Object,
-) -> Result<(), Memory>
+fn put_revision(requests: &mut Vec<Request>, alloc: Global, revision: Object) -> Result<(), Memory>
     ensures { OnOk result (requests.new.items ≡ requests.old.items ++ (if revision.meta.uid == 0 then Create (new revision) else Update (as_read revision)) ∷ []) }
 {
     if revision.meta.uid == 0 {
