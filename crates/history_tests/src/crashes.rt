@@ -1,6 +1,7 @@
 //! A write whose caller is gone before each of its steps, and a get by another caller after it.
 use crate::runs::{CREATE_A, GET_A, Step, add_all, assert_ends};
 use history::{Event, replay};
+use plain::RequestError;
 use std::alloc::Global;
 use std::process::Abort;
 use std::test::Fail;
@@ -34,7 +35,7 @@ static CRASHES: [(usize, &str, &[u64]); 7] = [
 ];
 
 /// The events, with the crash before that step of the write.
-fn add_events(alloc: Global, events: &mut Vec<Event>, before: usize) -> Result<(), Fail> {
+fn add_events(alloc: Global, events: &mut Vec<Event>, before: usize) -> Result<(), RequestError> {
     let (first, last) = WRITE.split_at(before.min(6));
     add_all(alloc, events, first)?;
     add_all(alloc, events, [Step::Crash(1)].as_slice())?;

@@ -1,9 +1,12 @@
 //! Refused growths. `rt try --test --fail-alloc N` refuses the Nth allocation of each test. From 1 on, up to an N that no
 //! test of this file comes to, it has to pass: one call may want memory, and the same call after it is ample.
+use crate::replays::{CRASH_AFTER_RESERVE, EARLY_CONFLICT as CONFLICT, LIST_BESIDE_A_COMPACTION};
+use crate::runs::{Case, add_all};
 use crate::traces::{EARLY_CONFLICT, trace};
-use history::{Trace, check_order};
+use history::{Event, Item, ReplayError, Run, Trace, check_order, replay};
 use objects::Memory;
 use std::alloc::Global;
+use std::process::Abort;
 use std::test::Fail;
 
 /// Whether the order is found legal; else memory ran out.
@@ -23,4 +26,77 @@ fn a_refused_growth_is_answered(rt: HostRuntime) -> Result<(), Fail> {
     let second = is_ample(rt.alloc(), &trace);
     assert!(rt; first || second);
     Ok(())
+}
+
+/// The events of a case, if there is memory for them.
+fn events_of(alloc: Global, case: &Case) -> Option<Vec<Event>> {
+    let mut events = Vec::new(alloc);
+    match add_all(alloc, &mut events, case.steps) {
+        Ok(()) => Some(events),
+        Err(_) => {
+            drop(events);
+            None
+        }
+    }
+}
+
+/// A run of the events, or none where memory ran out.
+fn ample(rt: &impl Abort, alloc: Global, events: &[Event]) -> Option<Run> {
+    match replay(alloc, 2, 100, events) {
+        Ok(run) => Some(run),
+        Err(error) => {
+            assert_eq!(rt; error, ReplayError::Memory);
+            None
+        }
+    }
+}
+
+fn is_same_item(left: &Item, right: &Item) -> bool {
+    match left {
+        Item::Call {
+            place,
+            caller,
+            request: _,
+        } => {
+            matches!(right, Item::Call { place: p, caller: c, request: _ } if *p == *place && *c == *caller)
+        }
+        Item::Reply {
+            place,
+            caller,
+            reply,
+        } => {
+            matches!(right, Item::Reply { place: p, caller: c, reply: r } if *p == *place && *c == *caller && reply.is_same(r))
+        }
+    }
+}
+
+fn assert_same(rt: &impl Abort, left: &Run, right: &Run) {
+    assert_eq!(rt; left.order.as_slice(), right.order.as_slice());
+    assert_eq!(rt; left.trace.items.len(), right.trace.items.len());
+    for (left, right) in left.trace.items.iter().zip(right.trace.items.iter()) {
+        assert!(rt; is_same_item(left, right));
+    }
+}
+
+/// Asserts that of two runs of the events one is ample, and that two which are ample are the same.
+fn assert_ample(rt: &impl Abort, alloc: Global, events: &[Event]) {
+    let first = ample(rt, alloc, events);
+    let second = ample(rt, alloc, events);
+    assert!(rt; first.is_some() || second.is_some());
+    if let (Some(first), Some(second)) = (&first, &second) {
+        assert_same(rt, first, second);
+    }
+}
+
+fn cases() -> [&'static Case; 3] {
+    [&CONFLICT, &CRASH_AFTER_RESERVE, &LIST_BESIDE_A_COMPACTION]
+}
+
+#[test]
+fn a_replay_that_is_refused_a_growth_ends(rt: HostRuntime) {
+    for case in cases() {
+        if let Some(events) = events_of(rt.alloc(), case) {
+            assert_ample(&rt, rt.alloc(), events.as_slice());
+        }
+    }
 }

@@ -7,7 +7,7 @@ use std::test::Fail;
 
 /// The update of the caller 3 comes upon the number 3 while the frontier is at 1, and its conflict waits until the
 /// frontier is there.
-static EARLY_CONFLICT: Case = Case {
+pub(crate) static EARLY_CONFLICT: Case = Case {
     name: "an early conflict",
     capacity: 100,
     steps: &[
@@ -73,7 +73,7 @@ static HOLE: Case = Case {
 };
 
 /// A caller is gone once it has drawn a number. Its write is published.
-static CRASH_AFTER_RESERVE: Case = Case {
+pub(crate) static CRASH_AFTER_RESERVE: Case = Case {
     name: "a crash after Reserve",
     capacity: 100,
     steps: &[
@@ -165,7 +165,7 @@ static LIST_BESIDE_A_WRITE: Case = Case {
 };
 
 /// A list at the number 1, before the frontier is there, beside a compaction to 2, and after it.
-static LIST_BESIDE_A_COMPACTION: Case = Case {
+pub(crate) static LIST_BESIDE_A_COMPACTION: Case = Case {
     name: "an exact list beside a compaction",
     capacity: 10,
     steps: &[

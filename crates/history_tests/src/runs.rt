@@ -1,8 +1,8 @@
 // Runs from lists of steps, and what they are answered as a text.
 use history::{Event, Item, Run, check_order, replay};
-use objects::{Memory, Object};
-use plain::{Reply, read_request};
-use std::alloc::Global;
+use objects::Object;
+use plain::{Reply, RequestError, read_request};
+use std::alloc::{AllocError, Global};
 use std::process::Abort;
 use std::test::Fail;
 
@@ -53,7 +53,7 @@ pub(crate) const LABEL_B: &str =
 pub(crate) const STALE_B: &str =
     r#"{"do":"update","object":{"kind":"Pod","metadata":{"labels":{"x":"z"},"name":"b","resourceVersion":"1"}}}"#;
 
-pub(crate) fn event(alloc: Global, step: &Step) -> Result<Event, Fail> {
+pub(crate) fn event(alloc: Global, step: &Step) -> Result<Event, RequestError> {
     Ok(match step {
         Step::Call(caller, line) => Event::Call(*caller, read_request(alloc, line.as_bytes())?),
         Step::Check(caller) => Event::Check(*caller),
@@ -69,13 +69,17 @@ pub(crate) fn event(alloc: Global, step: &Step) -> Result<Event, Fail> {
     })
 }
 
-fn add(alloc: Global, events: &mut Vec<Event>, step: &Step) -> Result<(), Fail> {
-    events.push(event(alloc, step)?).map_err(Memory::from)?;
+fn add(alloc: Global, events: &mut Vec<Event>, step: &Step) -> Result<(), RequestError> {
+    events.push(event(alloc, step)?).map_err(AllocError::from)?;
     Ok(())
 }
 
 /// Puts the events of the steps behind those that are there.
-pub(crate) fn add_all(alloc: Global, events: &mut Vec<Event>, steps: &[Step]) -> Result<(), Fail> {
+pub(crate) fn add_all(
+    alloc: Global,
+    events: &mut Vec<Event>,
+    steps: &[Step],
+) -> Result<(), RequestError> {
     for step in steps {
         add(alloc, events, step)?;
     }
