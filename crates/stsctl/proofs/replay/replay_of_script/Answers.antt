@@ -9,7 +9,7 @@ use Rattle.stsctl.proofs.replay.replay_of_script.Goals as goal
 pub returns-clause-replayed : goal.returns-clause-replayed
 returns-clause-replayed c =
     let Is : List Event → Type 0 = λ events. IsRunOf (record { capacity = c.args.script.now.capacity; shards = c.args.script.now.shards }) events c.in_ok-run.run' in
-    (c.in_ok-run.run', subst Is c.as_slice.ensures.value c.in_ok-run.ensures, c.in_ok-text.ensures)
+    (c.in_ok-run.run', subst Is c.as_slice.ensures.value c.in_ok-run.ensures.run, c.in_ok-text.ensures)
 
 pub returns-in_err-text-clause-refused : goal.returns-in_err-text-clause-refused
 returns-in_err-text-clause-refused c =
