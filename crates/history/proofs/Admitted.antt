@@ -2,16 +2,16 @@
 use Rattle.std.proofs.Common.{◌≡◌, ℕ, suc, ◌+◌, true, false, cond, Option, Some, None, refl, sym, ap, ◌∙◌, subst, nat_eq, add-one, is_some, option_map}
 use Rattle.requests.specs.declared.reply.Reply.{Reply}
 use Rattle.history.specs.declared.callers.Callers.{Callers}
-use Rattle.history.specs.declared.event.Event.{Event}
+use Rattle.interleavings.specs.declared.event.Event.{Event}
 use Rattle.history.specs.declared.machine.Machine.{Machine}
 use Rattle.history.specs.declared.phase.Phase.{Phase as CodePhase}
 use Rattle.history.specs.declared.phase.Phase.TheVariants as code
-use Rattle.history.specs.declared.event.Event.TheVariants as event
-use Rattle.history.specs.Order.{Arrangement, arranged}
-use Rattle.history.specs.Step.{happens, later}
-use Rattle.history.specs.World.{Phase, Idle, Size, World}
+use Rattle.interleavings.specs.declared.event.Event.TheVariants as event
+use Rattle.interleavings.specs.Order.{Arrangement, arranged}
+use Rattle.interleavings.specs.Step.{happens, later}
+use Rattle.interleavings.specs.World.{Phase, Idle, Size, World}
 use Rattle.history.specs.Replayed.{Does, Enters, IsAnswer, IsShown, IsTracked, Same, Shows, Stays, Steps, Thins, is_idle, named_phase, or_idle, phase_at}
-use Rattle.history.proofs.Basics.{Compared, same, other, compare}
+use Rattle.interleavings.proofs.Basics.{Compared, same, other, compare}
 use Rattle.history.proofs.Showing.{entered_own, entered_other, shows_named}
 
 pub does_after : (e : Event) (m n k : Machine) → Stays m n → Does e n k → Does e m k

@@ -10,11 +10,11 @@ use Rattle.requests.specs.declared.request.Request.{Request}
 use Rattle.plain_store.specs.Store.{Objects}
 use Rattle.history.specs.Begun.{IsLeastOf, is_open}
 use Rattle.history.specs.Mirrors.{IsCompacted}
-use Rattle.history.specs.Order.{Arrangement}
+use Rattle.interleavings.specs.Order.{Arrangement}
 use Rattle.history.specs.Replayed.{AreCompacted, IsShown, IsUnread, Shows, Thins, phase_at, reads_at, shard_at}
-use Rattle.history.specs.Spared.{IsLeastRead, IsSpared}
-use Rattle.history.specs.World.{Phase, Reading, Size, World}
-use Rattle.history.proofs.Basics.{Compared, same, other, compare, eq_self}
+use Rattle.interleavings.specs.Spared.{IsLeastRead, IsSpared}
+use Rattle.interleavings.specs.World.{Phase, Reading, Size, World}
+use Rattle.interleavings.proofs.Basics.{Compared, same, other, compare, eq_self}
 use Rattle.history.proofs.Mirrors.{floor_raised, mirrors_raised}
 
 -- one shard more is compacted

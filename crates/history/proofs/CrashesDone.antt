@@ -3,16 +3,16 @@ use Rattle.std.proofs.Common.{◌≡◌, ℕ, ◌-◌, ◌<◌, List, [], ◌∷
 use Rattle.objects.specs.ShardOf.{shard_of}
 use Rattle.plain_store.specs.Store.{Objects}
 use Rattle.history.specs.declared.callers.Callers.{Callers}
-use Rattle.history.specs.declared.event.Event.TheVariants.{Crash, Part}
+use Rattle.interleavings.specs.declared.event.Event.TheVariants.{Crash, Part}
 use Rattle.history.specs.declared.machine.Machine.{Machine}
 use Rattle.history.specs.declared.phase.Phase.{Phase as CodePhase}
 use Rattle.history.specs.declared.phase.Phase.TheVariants as code
 use Rattle.history.specs.declared.phase.Writing.{Writing as CodeWriting}
-use Rattle.history.specs.Order.{Arrangement, moved, moved_by}
-use Rattle.history.specs.Step.{crashed, enters, part, with_part}
-use Rattle.history.specs.World.{Phase, Idle, Called, Holding, Drawn, Waiting, Reading, Gone, Size, World, changed, shard}
+use Rattle.interleavings.specs.Order.{Arrangement, moved, moved_by}
+use Rattle.interleavings.specs.Step.{crashed, enters, part, with_part}
+use Rattle.interleavings.specs.World.{Phase, Idle, Called, Holding, Drawn, Waiting, Reading, Gone, Size, World, changed, shard}
 use Rattle.history.specs.Replayed.{Does, Enters, IsShown, IsUnread, Shows, gone_phase, holding_in, is_dropped, parted, phase_at, draw_of, writing_of}
-use Rattle.history.proofs.Basics.{Compared, same, other, compare, changed-same}
+use Rattle.interleavings.proofs.Basics.{Compared, same, other, compare, changed-same}
 use Rattle.history.proofs.Showing.{entered_own, entered_other, released, shows_dropped, shows_entered, shows_named}
 use Rattle.history.proofs.Stepping.{holding_code, holding_is, nothing, steps}
 

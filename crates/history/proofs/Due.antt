@@ -14,23 +14,23 @@ use Rattle.objects.specs.ShardOf.{shard_of}
 use Rattle.plain_store.specs.Route.{compacts, lists, lists_at, route, writes}
 use Rattle.plain_store.specs.Store.{Objects, Store, compacted_to, denied, found}
 use Rattle.requests.specs.declared.reply.Reason.{Reason}
-use Rattle.history.proofs.Plainly.{step_routed}
+use Rattle.interleavings.proofs.Plainly.{step_routed}
 use Rattle.versions.specs.Records as versions
-use Rattle.history.specs.declared.event.Event.TheVariants as event
+use Rattle.interleavings.specs.declared.event.Event.TheVariants as event
 use Rattle.history.specs.declared.machine.Machine.{Machine}
 use Rattle.history.specs.declared.phase.Phase.{Phase as CodePhase}
 use Rattle.history.specs.declared.phase.Phase.TheVariants as code
-use Rattle.history.specs.Facts.{Facts}
-use Rattle.history.specs.Log.{state_at}
-use Rattle.history.specs.Order.{Arrangement, moved}
-use Rattle.history.specs.Step.{given, given_if, only, replied}
-use Rattle.history.specs.World.{Phase, Idle, Waiting, Reading, Size, World, shard}
+use Rattle.interleavings.specs.Facts.{Facts}
+use Rattle.interleavings.specs.Log.{state_at}
+use Rattle.interleavings.specs.Order.{Arrangement, moved}
+use Rattle.interleavings.specs.Step.{given, given_if, only, replied}
+use Rattle.interleavings.specs.World.{Phase, Idle, Waiting, Reading, Size, World, shard}
 use Rattle.history.specs.Replayed.{Answers, Does, IsDue, IsNumbered, IsShown, IsTold, IsUnread, Shows, Stands, Tells, compaction_at, is_replying, phase_at, reading_in, records_of, shard_at, waiting_in}
-use Rattle.history.proofs.Basics.{Compared, same, other, compare, Least, atmost, above, least, changed-same}
+use Rattle.interleavings.proofs.Basics.{Compared, same, other, compare, Least, atmost, above, least, changed-same}
 use Rattle.history.specs.Mirrors.{found_in}
 use Rattle.history.proofs.ListAnswers.{list_answer}
 use Rattle.history.proofs.MirrorReads.{get_answer}
-use Rattle.history.proofs.Quiets.{shard_below}
+use Rattle.interleavings.proofs.Quiets.{shard_below}
 use Rattle.history.proofs.Stepping.{nothing, steps}
 
 -- ---- in its phases

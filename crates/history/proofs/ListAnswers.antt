@@ -10,12 +10,12 @@ use Rattle.plain_store.specs.Route.{lists, lists_at, route, writes}
 use Rattle.plain_store.specs.Store.{Objects, collection, is_of, step}
 use Rattle.versions.specs.Records as versions
 use Rattle.versions.specs.Records.{Records}
-use Rattle.history.specs.Facts.{Facts}
-use Rattle.history.specs.Log.{Log, state_at}
-use Rattle.history.specs.Mirrors.{IsFiled, Mirrors, found_in, read_up_to, with_objects}
-use Rattle.history.specs.Step.{only, reads}
-use Rattle.history.specs.World.{Reading, Size, World}
-use Rattle.history.proofs.Basics.{Compared, same, other, compare}
+use Rattle.interleavings.specs.Facts.{Facts}
+use Rattle.interleavings.specs.Log.{IsFiled, Log, state_at}
+use Rattle.history.specs.Mirrors.{Mirrors, found_in, read_up_to, with_objects}
+use Rattle.interleavings.specs.Step.{only, reads}
+use Rattle.interleavings.specs.World.{Reading, Size, World}
+use Rattle.interleavings.proofs.Basics.{Compared, same, other, compare}
 use Rattle.history.proofs.MirrorReads.{list_at_reply, list_reply, listed, none_unwanted, whole_answer}
 
 routed_now : (kind : Kind) (namespace : List ℕ) (exact : ℕ) → exact ≡ 0 → route (request.List kind namespace exact) ≡ lists kind namespace

@@ -22,39 +22,16 @@ use Rattle.versions.specs.Records as versions
 use Rattle.versions.specs.Records.{Records}
 use Rattle.versions.proofs.Found.{is_held}
 use Rattle.versions.proofs.States.{state_is_value}
-use Rattle.history.specs.Log.{Log, Writing, newer, state_at, value}
-use Rattle.history.specs.Mirrors.{IsFiled, Mirrors, read_up_to, with_object, with_objects}
-use Rattle.history.specs.Step.{only, reads, with_part}
-use Rattle.history.specs.World.{Size, shard}
-use Rattle.history.proofs.Basics.{Compared, same, other, compare, ComparedKeys, same_key, other_key, compare_keys, is_key_at, key_self}
-use Rattle.history.proofs.Values.{find_or, get_part, get_retained, get_state, part_of_none, part_of_same}
-use Rattle.history.proofs.Plainly.{denied_self, step_routed}
-use Rattle.history.proofs.Collected.{same_answer}
-use Rattle.history.proofs.Quiets.{shard_below}
-
--- ---- objects under their keys
-
-kept_key : (c : Change) (n : ℕ) (o : Object) → kept c n ≡ Some o → o.key ≡ (change_object c).key
-kept_key (creates x) n o is = ap (λ (y : Object). y.key) (sym (same_Some _ o is))
-kept_key (updates x) n o is = ap (λ (y : Object). y.key) (sym (same_Some _ o is))
-kept_key (marks x) n o is = ap (λ (y : Object). y.key) (sym (same_Some _ o is))
-kept_key (removes x) n o is = absurd (none-some o is)
-
--- what a key is at a number has that key, where each write up to the number is filed
-pub value_key_upto : (log : Log) (n : ℕ) → ((i : ℕ) (t : Writing) → i < n → log i ≡ Some t → (change_object t.change).key ≡ t.key) → (k : Key) (o : Object) → value log n k ≡ Some o → o.key ≡ k
-value_key_upto log zero filed k o is = absurd (none-some o is)
-value_key_upto log (suc n) filed k o is = by_record (log n) refl is (value_key_upto log n (λ i t lt. filed i t (omega arith)) k o)
-  where
-    by_key : (t : Writing) → log n ≡ Some t → ComparedKeys k t.key → cond (is_key_at k t.key) (kept t.change (suc n)) (value log n k) ≡ Some o → (value log n k ≡ Some o → o.key ≡ k) → o.key ≡ k
-    by_key t e (same_key ke kb) is ih = kept_key t.change (suc n) o (sym (ap (λ b. cond b (kept t.change (suc n)) (value log n k)) kb) ∙ is) ∙ filed n t (omega arith) e ∙ sym ke
-    by_key t e (other_key ne kb) is ih = ih (sym (ap (λ b. cond b (kept t.change (suc n)) (value log n k)) kb) ∙ is)
-
-    by_record : (l : Option Writing) → log n ≡ l → newer l n k (value log n k) ≡ Some o → (value log n k ≡ Some o → o.key ≡ k) → o.key ≡ k
-    by_record None e is ih = ih is
-    by_record (Some t) e is ih = by_key t e (compare_keys k t.key) is ih
-
-pub value_key : (log : Log) → IsFiled log → (n : ℕ) (k : Key) (o : Object) → value log n k ≡ Some o → o.key ≡ k
-value_key log filed n = value_key_upto log n (λ i t lt. filed i t)
+use Rattle.interleavings.specs.Log.{IsFiled, Log, Writing, newer, state_at, value}
+use Rattle.history.specs.Mirrors.{Mirrors, read_up_to, with_object, with_objects}
+use Rattle.interleavings.specs.Step.{only, reads, with_part}
+use Rattle.interleavings.specs.World.{Size, shard}
+use Rattle.interleavings.proofs.Basics.{Compared, same, other, compare, ComparedKeys, same_key, other_key, compare_keys, is_key_at, key_self}
+use Rattle.interleavings.proofs.Values.{find_or, get_part, get_retained, get_state, part_of_none, part_of_same}
+use Rattle.interleavings.proofs.Filed.{value_key}
+use Rattle.interleavings.proofs.Plainly.{denied_self, step_routed}
+use Rattle.interleavings.proofs.Collected.{same_answer}
+use Rattle.interleavings.proofs.Quiets.{shard_below}
 
 abbrev AreFiled : List (Key × Object) → Type 0
 AreFiled es = (q : Key) (o : Object) → find key_cmp q es ≡ Some o → o.key ≡ q

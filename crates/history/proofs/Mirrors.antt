@@ -20,12 +20,12 @@ use Rattle.versions.specs.Shard.{Shard, raised}
 use Rattle.versions.proofs.Above.{above_more, above_none, above_pushed, above_raised, raised_from}
 use Rattle.versions.proofs.Found.{equal_numbers}
 use Rattle.versions.proofs.Held.{all_below, no_records, put_last}
-use Rattle.history.specs.Log.{Log, Writing, last_write, newer_number, value}
+use Rattle.interleavings.specs.Log.{Log, Writing, last_write, newer_number, value}
 use Rattle.history.specs.Mirrors.{IsCompacted, IsPublished, Mirrors, last_seen}
-use Rattle.history.specs.World.{Draw, Size, changed, shard}
-use Rattle.history.proofs.Basics.{ComparedKeys, same_key, other_key, compare_keys, Least, atmost, above, least, changed-same, changed-other, is_key_at}
-use Rattle.history.proofs.LastWrites.{last_all, last_other, last_put, value_newest, value_unwritten}
-use Rattle.history.proofs.Values.{value_none, value_put}
+use Rattle.interleavings.specs.World.{Draw, Size, changed, shard}
+use Rattle.interleavings.proofs.Basics.{ComparedKeys, same_key, other_key, compare_keys, Least, atmost, above, least, changed-same, changed-other, is_key_at}
+use Rattle.interleavings.proofs.LastWrites.{last_all, last_other, last_put, value_newest, value_unwritten}
+use Rattle.interleavings.proofs.Values.{value_none, value_put}
 
 -- ---- readings of records
 

@@ -7,10 +7,10 @@ use Rattle.std.specs.BTreeMap.{is_at}
 use Rattle.std.specs.BTreeSet.{insert_key}
 use Rattle.std.specs.Ordering.{is_eq, match_ordering, nat_cmp}
 use Rattle.std.specs.Set.{remove_key}
-use Rattle.history.specs.declared.event.Event.{Event}
+use Rattle.interleavings.specs.declared.event.Event.{Event}
 use Rattle.history.specs.Named.{callers, named, with_named}
 use Rattle.history.specs.Replayed.{named_by}
-use Rattle.history.proofs.Basics.{eq_self}
+use Rattle.interleavings.proofs.Basics.{eq_self}
 use Rattle.history.proofs.Stepping.{lt_false}
 
 pub named_more : (es : List Event) (names : List ℕ) (e : Event) → named names (es ++ e ∷ []) ≡ with_named (named names es) (named_by e)

@@ -5,7 +5,7 @@ use Rattle.std.specs.declared.cmp.Ordering.TheVariants.{Less, Equal, Greater}
 use Rattle.std.specs.Ordering.{is_eq, is_gt, nat_cmp, ordering_then}
 use Rattle.std.specs.BTreeMap.{is_at}
 use Rattle.history.specs.Begun.{read_cmp}
-use Rattle.history.proofs.Basics.{Compared, same, other, compare}
+use Rattle.interleavings.proofs.Basics.{Compared, same, other, compare}
 
 is_eq_nat : (x y : ℕ) → is_eq (nat_cmp x y) ≡ nat_eq x y
 is_eq_nat x y = by (nat_lt x y) refl

@@ -4,8 +4,8 @@ use Rattle.versions.specs.Shard as versions
 use Rattle.versions.specs.Shard.{Shard}
 use Rattle.history.specs.declared.machine.Machine.{Machine}
 use Rattle.history.specs.Mirrors.{Mirrors}
-use Rattle.history.specs.Order.{beginning}
-use Rattle.history.specs.World.{Idle, Size, opening}
+use Rattle.interleavings.specs.Order.{beginning}
+use Rattle.interleavings.specs.World.{Idle, Size, opening}
 use Rattle.history.specs.Replayed.{IsShown, IsTracked, Shows, drops, lot_at, named_phase, or_idle, shard_at, staying}
 use Rattle.history.proofs.Mirrors.{mirrors_opening}
 

@@ -7,16 +7,16 @@ use Rattle.requests.specs.declared.reply.Reply.{Reply}
 use Rattle.history.specs.declared.machine.Machine.{Machine}
 use Rattle.history.specs.declared.phase.Phase.{Phase as CodePhase}
 use Rattle.history.specs.declared.phase.Phase.TheVariants as code
-use Rattle.history.specs.declared.trace.Item.TheVariants as item
+use Rattle.interleavings.specs.declared.trace.Item.TheVariants as item
 use Rattle.plain_store.specs.Store.{denied}
 use Rattle.plain_store.proofs.Denials.{readable}
-use Rattle.history.specs.Facts.{Facts}
-use Rattle.history.specs.Order.{Arrangement, last_or_parked, with_last}
-use Rattle.history.specs.Step.{begun, given}
-use Rattle.history.specs.World.{Phase, Idle, Called, Holding, Waiting, Reading, Size, World, changed}
+use Rattle.interleavings.specs.Facts.{Facts}
+use Rattle.interleavings.specs.Order.{Arrangement, last_or_parked, with_last}
+use Rattle.interleavings.specs.Step.{begun, given}
+use Rattle.interleavings.specs.World.{Phase, Idle, Called, Holding, Waiting, Reading, Size, World, changed}
 use Rattle.history.specs.Replayed.{Begins, Enters, Holds, IsShown, Settles, Shows, Stands, Stays, Tells, Waits, begun_phase, drops, is_called, is_dropped, is_replying, is_undecided, lot_at, or_idle, phase_at, shard_at, staying, waiters_at, writing_of}
 use Rattle.history.specs.declared.phase.Writing.{Writing as CodeWriting}
-use Rattle.history.proofs.Basics.{Least, atmost, above, least}
+use Rattle.interleavings.proofs.Basics.{Least, atmost, above, least}
 use Rattle.history.proofs.Showing.{shows_entered, shows_holder, shows_parked}
 
 pub stays_same : (m : Machine) → Stays m m

@@ -7,18 +7,18 @@ use Rattle.requests.specs.declared.version.Version.{Version}
 use Rattle.versions.specs.Records.{IsAbove, version_at}
 use Rattle.versions.specs.Shard as versions
 use Rattle.versions.specs.Shard.{Shard}
-use Rattle.history.specs.declared.event.Event.TheVariants.{Publish}
+use Rattle.interleavings.specs.declared.event.Event.TheVariants.{Publish}
 use Rattle.history.specs.declared.machine.Machine.{Machine}
 use Rattle.history.specs.declared.phase.Draw.{Draw as CodeDraw}
 use Rattle.history.specs.declared.phase.Phase.{Phase as CodePhase}
 use Rattle.history.specs.declared.phase.Phase.TheVariants as code
-use Rattle.history.specs.Facts.{Facts, draw_in, writing_in}
-use Rattle.history.specs.Log.{Writing}
-use Rattle.history.specs.Order.{Arrangement, moved_by}
-use Rattle.history.specs.Step.{published, told}
-use Rattle.history.specs.World.{Phase, Draw, Drawn, Waiting, Gone, Size, World, changed, shard}
+use Rattle.interleavings.specs.Facts.{Facts, draw_in, writing_in}
+use Rattle.interleavings.specs.Log.{Writing}
+use Rattle.interleavings.specs.Order.{Arrangement, moved_by}
+use Rattle.interleavings.specs.Step.{published, told}
+use Rattle.interleavings.specs.World.{Phase, Draw, Drawn, Waiting, Gone, Size, World, changed, shard}
 use Rattle.history.specs.Replayed.{Does, Enters, Fills, IsShown, IsUnread, Shows, Stands, Stays, draw_of, drawn_in, is_dropped, phase_at, published_phase, shard_at}
-use Rattle.history.proofs.Basics.{changed-same}
+use Rattle.interleavings.proofs.Basics.{changed-same}
 use Rattle.history.proofs.Mirrors.{above_draw}
 use Rattle.history.proofs.Showing.{shows_entered}
 use Rattle.history.proofs.Stepping.{nothing, steps}

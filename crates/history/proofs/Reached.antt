@@ -1,14 +1,14 @@
 -- Machines that runs come to.
 use Rattle.std.proofs.Common.{◌≡◌, ◌+◌, List, [], ◌∷◌, ◌++◌, refl, sym, ap, ◌∙◌, subst, length-append}
-use Rattle.history.specs.declared.event.Event.{Event}
+use Rattle.interleavings.specs.declared.event.Event.{Event}
 use Rattle.history.specs.declared.machine.Machine.{Machine}
-use Rattle.history.specs.Order.{Arrangement, arranged, arrangement, beginning}
-use Rattle.history.specs.Step.{step}
-use Rattle.history.specs.Trace.{after}
-use Rattle.history.specs.World.{Size, World, opening}
+use Rattle.interleavings.specs.Order.{Arrangement, arranged, arrangement, beginning}
+use Rattle.interleavings.specs.Step.{step}
+use Rattle.interleavings.specs.Trace.{after}
+use Rattle.interleavings.specs.World.{Size, World, opening}
 use Rattle.history.specs.Replayed.{IsRun, Shows, Stands, Stays, Steps}
-use Rattle.history.specs.Spared.{IsLeastRead}
-use Rattle.history.proofs.Facts.{facts_after}
+use Rattle.interleavings.specs.Spared.{IsLeastRead}
+use Rattle.interleavings.proofs.Facts.{facts_after}
 
 pub after_more : (z : Size) (es : List Event) (w : World) (e : Event) → after z w (es ++ e ∷ []) ≡ step z (after z w es) e
 after_more z [] w e = refl

@@ -8,14 +8,14 @@ use Rattle.requests.specs.declared.reply.Reason.{Reason}
 use Rattle.plain_store.specs.Route.{Route, compacts, gets, lists, lists_at, route, writes}
 use Rattle.plain_store.specs.Store.{denied}
 use Rattle.plain_store.proofs.Denials.{readable}
-use Rattle.history.specs.declared.event.Event.TheVariants.{Compact, Read, ReadAt}
-use Rattle.history.specs.declared.event.Event.TheVariants as event
+use Rattle.interleavings.specs.declared.event.Event.TheVariants.{Compact, Read, ReadAt}
+use Rattle.interleavings.specs.declared.event.Event.TheVariants as event
 use Rattle.history.specs.declared.machine.Machine.{Machine}
-use Rattle.history.specs.Order.{Arrangement, last_or_parked, moved_by, with_last}
-use Rattle.history.specs.Step.{all_shards, begun, begun_unless, compacted, compacted_by, enters, floored, read, read_at, read_at_by, read_by}
-use Rattle.history.specs.World.{Phase, Called, Waiting, Reading, Size, World, changed, shard}
+use Rattle.interleavings.specs.Order.{Arrangement, last_or_parked, moved_by, with_last}
+use Rattle.interleavings.specs.Step.{all_shards, begun, begun_unless, compacted, compacted_by, enters, floored, read, read_at, read_at_by, read_by}
+use Rattle.interleavings.specs.World.{Phase, Called, Waiting, Reading, Size, World, changed, shard}
 use Rattle.history.specs.Replayed.{Begins, Does, Shows, Waits, called_in, exact_in, floor_in, parts_in, phase_at}
-use Rattle.history.proofs.Basics.{changed-same}
+use Rattle.interleavings.proofs.Basics.{changed-same}
 use Rattle.std.proofs.lemmas.Option.{same_Some}
 use Rattle.history.proofs.Stepping.{called_is, compact_not_called, nothing, read_at_not_called, read_not_called, steps}
 

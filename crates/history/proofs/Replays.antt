@@ -1,19 +1,19 @@
 -- What a replay promises, by its machine.
 use Rattle.std.proofs.Common.{◌≡◌, ℕ, ◌<◌, ◌↔◌, Bool, true, false, IsTrue, List, [], ◌∷◌, ◌++◌, Option, Result, Ok, Err, OnOk, IfOk, refl, sym, ap, ◌∙◌, subst}
 use Rattle.requests.specs.declared.reply.Reply.{Reply}
-use Rattle.history.specs.declared.event.Event.{Event}
-use Rattle.history.specs.declared.event.Event.TheVariants as event
+use Rattle.interleavings.specs.declared.event.Event.{Event}
+use Rattle.interleavings.specs.declared.event.Event.TheVariants as event
 use Rattle.history.specs.declared.machine.Machine.{Machine}
 use Rattle.history.specs.declared.phase.Phase.{Phase as CodePhase}
 use Rattle.history.specs.declared.phase.Phase.TheVariants as code
-use Rattle.history.specs.declared.trace.Item.{Item}
+use Rattle.interleavings.specs.declared.trace.Item.{Item}
 use Rattle.history.specs.After.{IsReplyTo}
-use Rattle.history.specs.Order.{order}
-use Rattle.history.specs.Linearization.{IsLegal}
-use Rattle.history.specs.Trace.{trace}
-use Rattle.history.specs.World.{Phase, Idle, Size}
+use Rattle.interleavings.specs.Order.{order}
+use Rattle.interleavings.specs.Linearization.{IsLegal}
+use Rattle.interleavings.specs.Trace.{trace}
+use Rattle.interleavings.specs.World.{Phase, Idle, Size}
 use Rattle.history.specs.Replayed.{IsAnswer, IsRun, IsShown, is_idle, told_at}
-use Rattle.history.proofs.Runs.{orders_are_legal}
+use Rattle.interleavings.proofs.Runs.{orders_are_legal}
 
 pub on_ok_two : {A E : Type 0} (P Q R : Type 0) (r : Result A E) → (P → Q → R) → OnOk r P → OnOk r Q → OnOk r R
 on_ok_two P Q R (Ok x) f p q = f p q

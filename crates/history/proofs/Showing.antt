@@ -6,10 +6,10 @@ use Rattle.history.specs.declared.machine.Machine.{Machine}
 use Rattle.history.specs.declared.parking.Parking.{Parking}
 use Rattle.history.specs.declared.parking.Waiter.{Waiter}
 use Rattle.history.specs.declared.phase.Phase.{Phase as CodePhase}
-use Rattle.history.specs.Order.{Arrangement, moved, moved_by, rest, without}
-use Rattle.history.specs.World.{Phase, Size, World, changed}
+use Rattle.interleavings.specs.Order.{Arrangement, moved, moved_by, rest, without}
+use Rattle.interleavings.specs.World.{Phase, Size, World, changed}
 use Rattle.history.specs.Replayed.{Enters, IsShown, IsTracked, IsUnread, Shows, ShowsSeats, drops, is_dropped, lot_at, named_phase, or_idle, phase_at, staying, waiters_at}
-use Rattle.history.proofs.Basics.{Compared, same, other, compare, changed-same, changed-other, changed_all, eq_self}
+use Rattle.interleavings.proofs.Basics.{Compared, same, other, compare, changed-same, changed-other, changed_all, eq_self}
 use Rattle.history.proofs.Waiters.{staying_more, staying_same, staying_twice, waiters_more, waiters_passed, waiters_rest, waiters_without}
 
 module _ (old new : Callers) (c : ℕ) (ph : CodePhase) (e : Enters old new c ph) where

@@ -14,12 +14,12 @@ use Rattle.history.specs.declared.machine.Machine.{Machine}
 use Rattle.history.specs.declared.phase.Phase.{Phase as CodePhase}
 use Rattle.history.specs.declared.phase.Phase.TheVariants as code
 use Rattle.history.specs.declared.phase.Writing.{Writing as CodeWriting}
-use Rattle.history.specs.Log.{Writing}
-use Rattle.history.specs.Order.{Arrangement, moved, moved_by}
-use Rattle.history.specs.Step.{checked, checked_by, called, compacted, read, read_at, reserved}
-use Rattle.history.specs.World.{Phase, Idle, Called, Holding, Drawn, Waiting, Reading, Gone, Size, World, changed, shard}
+use Rattle.interleavings.specs.Log.{Writing}
+use Rattle.interleavings.specs.Order.{Arrangement, moved, moved_by}
+use Rattle.interleavings.specs.Step.{checked, checked_by, called, compacted, read, read_at, reserved}
+use Rattle.interleavings.specs.World.{Phase, Idle, Called, Holding, Drawn, Waiting, Reading, Gone, Size, World, changed, shard}
 use Rattle.history.specs.Replayed.{IsShown, Shows, called_in, holding_in, is_called, is_idle, is_undecided, writing_of}
-use Rattle.history.proofs.Arranged.{moved_same}
+use Rattle.interleavings.proofs.Arranged.{moved_same}
 use Rattle.history.proofs.Showing.{goes}
 
 -- ---- where a caller is, by what its code phase has
@@ -92,8 +92,8 @@ module _ (z : Size) (w : World) (c : ℕ) where
   not_idle r code.Dropped ph e h = ap (called w c r) h
 
   -- of a function that is `w` at all phases but Called
-  pub not_called : (f : Phase → World) → f Idle ≡ w → ((t : Writing) → f (Holding t) ≡ w) → ((d : Rattle.history.specs.World.Draw) → f (Drawn d) ≡ w) → ((s p : ℕ) (r : Reply) → f (Waiting s p r) ≡ w)
-      → ((n p : ℕ) (r : Request) (parts : List ℕ) (found : Rattle.plain_store.specs.Store.Objects) → f (Reading n p r parts found) ≡ w) → ((l : Option Rattle.history.specs.World.Draw) → f (Gone l) ≡ w)
+  pub not_called : (f : Phase → World) → f Idle ≡ w → ((t : Writing) → f (Holding t) ≡ w) → ((d : Rattle.interleavings.specs.World.Draw) → f (Drawn d) ≡ w) → ((s p : ℕ) (r : Reply) → f (Waiting s p r) ≡ w)
+      → ((n p : ℕ) (r : Request) (parts : List ℕ) (found : Rattle.plain_store.specs.Store.Objects) → f (Reading n p r parts found) ≡ w) → ((l : Option Rattle.interleavings.specs.World.Draw) → f (Gone l) ≡ w)
       → (p : CodePhase) (ph : Phase) → called_in p ≡ None → IsShown p ph → f ph ≡ w
   not_called f i ho dr wa re go code.Idle ph e h = ap f h ∙ i
   not_called f i ho dr wa re go (code.Called p q) ph e h = absurd cc

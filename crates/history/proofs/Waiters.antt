@@ -1,9 +1,9 @@
 -- Those that are parked, number by number.
 use Rattle.std.proofs.Common.{◌≡◌, ◌≢◌, ℕ, Bool, true, false, cond, List, [], ◌∷◌, ◌++◌, refl, sym, ap, ◌∙◌, nat_eq, ◌+◌, ◌<◌, length, get_or, drop, append_assoc, add-one, drop-cons}
 use Rattle.history.specs.declared.parking.Waiter.{Waiter}
-use Rattle.history.specs.Order.{Parked, places_at, rest, without}
+use Rattle.interleavings.specs.Order.{Parked, places_at, rest, without}
 use Rattle.history.specs.Replayed.{places_in, staying, waiters_at}
-use Rattle.history.proofs.Basics.{Compared, same, other, compare}
+use Rattle.interleavings.proofs.Basics.{Compared, same, other, compare}
 
 -- ---- of one number
 pub waiters_more : (n : ℕ) (ps : List Parked) (p : Parked) → waiters_at n (ps ++ p ∷ []) ≡ waiters_at n ps ++ cond (nat_eq p.number n) (record { caller = p.caller; place = p.place } ∷ []) []

@@ -18,18 +18,18 @@ use Rattle.versions.specs.Records.{IsAbove, current, newest, version_at}
 use Rattle.versions.specs.Shard as versions
 use Rattle.versions.specs.Shard.{Shard, pushed}
 use Rattle.history.specs.declared.callers.Callers.{Callers}
-use Rattle.history.specs.declared.event.Event.TheVariants.{Call, Check, Reserve, Raise}
+use Rattle.interleavings.specs.declared.event.Event.TheVariants.{Call, Check, Reserve, Raise}
 use Rattle.history.specs.declared.machine.Machine.{Machine}
 use Rattle.history.specs.declared.phase.Phase.TheVariants as code
 use Rattle.history.specs.declared.phase.Writing.{Writing as CodeWriting}
-use Rattle.history.specs.declared.trace.Item.TheVariants as item
-use Rattle.history.specs.Log.{Writing, last_write}
+use Rattle.interleavings.specs.declared.trace.Item.TheVariants as item
+use Rattle.interleavings.specs.Log.{Writing, last_write}
 use Rattle.history.specs.Mirrors.{Mirrors}
-use Rattle.history.specs.Order.{Arrangement, passed, places_at}
-use Rattle.history.specs.Step.{called, checked, checked_by, checked_in, drawn_by, enters, judged, raised, reserved}
-use Rattle.history.specs.World.{Phase, Idle, Called, Holding, Drawn, Waiting, Size, World, Draw, changed, shard}
+use Rattle.interleavings.specs.Order.{Arrangement, passed, places_at}
+use Rattle.interleavings.specs.Step.{called, checked, checked_by, checked_in, drawn_by, enters, judged, raised, reserved}
+use Rattle.interleavings.specs.World.{Phase, Idle, Called, Holding, Drawn, Waiting, Size, World, Draw, changed, shard}
 use Rattle.history.specs.Replayed.{Does, Enters, Fills, Holds, Shows, Stays, Waits, called_in, drops, holding_in, is_idle, named_phase, phase_at, shard_at, with_draw, writing_of, is_dropped, ShowsLog, lot_at, places_in, staying}
-use Rattle.history.proofs.Basics.{Compared, same, other, compare, changed-same, changed-other}
+use Rattle.interleavings.proofs.Basics.{Compared, same, other, compare, changed-same, changed-other}
 use Rattle.history.proofs.Mirrors.{last_is, mirrors_beside, mirrors_drawn, mirrors_pushed, verdict_is}
 use Rattle.history.proofs.Showing.{released, shows_entered, shows_holder, shows_passed}
 use Rattle.std.proofs.lemmas.Option.{same_Some}

@@ -1,16 +1,16 @@
 -- What a replay says of the events so far.
 use Rattle.std.specs.Prelude.{◌≡◌, ◌≤◌, ℕ, List, [], ◌∷◌, ◌++◌, length, Option, None}
 use Rattle.requests.specs.declared.reply.Reply.{Reply}
-use Rattle.history.specs.declared.event.Event.{Event}
-use Rattle.history.specs.declared.event.Event.TheVariants as event
+use Rattle.interleavings.specs.declared.event.Event.{Event}
+use Rattle.interleavings.specs.declared.event.Event.TheVariants as event
 use Rattle.history.specs.declared.replaying.Replay.{Replay}
 use Rattle.history.specs.Named.{named}
 use Rattle.history.specs.Replayed.{IsRun, told_at}
-use Rattle.history.specs.declared.trace.Run.{Run}
-use Rattle.history.specs.Linearization.{IsLegal}
-use Rattle.history.specs.Order.{order}
-use Rattle.history.specs.Trace.{trace}
-use Rattle.history.specs.World.{Size}
+use Rattle.interleavings.specs.declared.trace.Run.{Run}
+use Rattle.interleavings.specs.Linearization.{IsLegal}
+use Rattle.interleavings.specs.Order.{order}
+use Rattle.interleavings.specs.Trace.{trace}
+use Rattle.interleavings.specs.World.{Size}
 
 -- the replay has taken these events, and no others
 unfoldable pub IsAfter : Size → List Event → Replay → Type 0

@@ -1,20 +1,17 @@
 -- ---- what public clauses cite
 pub mod After
-pub mod Examples
-pub mod Linearizable
-pub mod Linearization
-pub mod Log
 pub mod Named
-pub mod Order
-pub mod Spared
-pub mod Step
-pub mod Trace
-pub mod World
 -- ---- what only proofs use
 pub mod Begun
-pub mod Facts
-pub mod Following
-pub mod Marks
 pub mod Mirrors
-pub mod Pairing
 pub mod Replayed
+-- ---- of the crate below
+pub use Rattle.interleavings.specs.Examples
+pub use Rattle.interleavings.specs.Linearizable
+pub use Rattle.interleavings.specs.Linearization
+pub use Rattle.interleavings.specs.Log
+pub use Rattle.interleavings.specs.Order
+pub use Rattle.interleavings.specs.Spared
+pub use Rattle.interleavings.specs.Step
+pub use Rattle.interleavings.specs.Trace
+pub use Rattle.interleavings.specs.World

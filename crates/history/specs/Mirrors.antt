@@ -10,9 +10,9 @@ use Rattle.plain_store.specs.Store.{Objects, collection}
 use Rattle.versions.specs.Records as versions
 use Rattle.versions.specs.Records.{IsAbove, Records}
 use Rattle.versions.specs.Shard.{Shard, raised}
-use Rattle.history.specs.Log.{Log, Writing, last_write, value}
-use Rattle.history.specs.Step.{with_part}
-use Rattle.history.specs.World.{Size, shard}
+use Rattle.interleavings.specs.Log.{Log, Writing, last_write, value}
+use Rattle.interleavings.specs.Step.{with_part}
+use Rattle.interleavings.specs.World.{Size, shard}
 
 -- the number of the last write, and what it left; nothing where the number is 0
 abbrev pub last_seen : ℕ → Option Object → Option (ℕ × Option Object)
@@ -43,10 +43,6 @@ pub record IsCompacted (n : ℕ) (a b : Shard) : Type 0 where
   pub raised_is : b ≡ raised a n
   pub newest_stays : (k : Key) → versions.newest b.records k ≡ versions.newest a.records k
   pub values_stay : (m : ℕ) (k : Key) → b.floor ≤ m → versions.value b.records m k ≡ versions.value a.records m k
-
--- each write is of an object of its key
-abbrev pub IsFiled : Log → Type 0
-IsFiled log = (i : ℕ) (t : Writing) → log i ≡ Some t → (change_object t.change).key ≡ t.key
 
 -- ---- what a caller finds
 

@@ -5,7 +5,7 @@ use Rattle.std.specs.BTreeMap.{is_at}
 use Rattle.std.specs.BTreeSet.{insert_key}
 use Rattle.std.specs.Ordering.{nat_cmp}
 use Rattle.std.specs.Set.{remove_key}
-use Rattle.history.specs.declared.event.Event.{Event}
+use Rattle.interleavings.specs.declared.event.Event.{Event}
 use Rattle.history.specs.Replayed.{named_by}
 
 -- the names with one more, unless it is among them

@@ -19,9 +19,9 @@ use Rattle.versions.specs.Shard.{Shard}
 use Rattle.history.specs.declared.callers.Callers.{Callers}
 use Rattle.history.specs.declared.decision.Decision.{Decision}
 use Rattle.history.specs.declared.decision.Decision.TheVariants.{Hold, Wait}
-use Rattle.history.specs.declared.event.Event.{Event}
-use Rattle.history.specs.declared.event.Event.TheVariants.{Check}
-use Rattle.history.specs.declared.event.Event.TheVariants as event
+use Rattle.interleavings.specs.declared.event.Event.{Event}
+use Rattle.interleavings.specs.declared.event.Event.TheVariants.{Check}
+use Rattle.interleavings.specs.declared.event.Event.TheVariants as event
 use Rattle.history.specs.declared.machine.Machine.{Machine}
 use Rattle.history.specs.declared.parking.Parking.{Parking}
 use Rattle.history.specs.declared.parking.Waiter.{Waiter}
@@ -29,18 +29,18 @@ use Rattle.history.specs.declared.phase.Draw.{Draw as CodeDraw}
 use Rattle.history.specs.declared.phase.Phase.{Phase as CodePhase}
 use Rattle.history.specs.declared.phase.Phase.TheVariants as code
 use Rattle.history.specs.declared.phase.Writing.{Writing as CodeWriting}
-use Rattle.history.specs.declared.trace.Item.{Item}
-use Rattle.history.specs.declared.trace.Item.TheVariants as item
-use Rattle.history.specs.Log.{Log, Writing, state_at}
+use Rattle.interleavings.specs.declared.trace.Item.{Item}
+use Rattle.interleavings.specs.declared.trace.Item.TheVariants as item
+use Rattle.interleavings.specs.Log.{Log, Writing, state_at}
 use Rattle.history.specs.Mirrors.{IsCompacted, Mirrors}
-use Rattle.history.specs.Order.{Arrangement, Parked, arranged, arrangement, beginning, last_or_parked, moved, with_last}
-use Rattle.history.specs.Step.{step as step_world}
-use Rattle.history.specs.Step.{begun, enters, given, happens, only, replied, told}
-use Rattle.history.specs.Trace.{after}
-use Rattle.history.specs.World.{Draw, Phase, Idle, Called, Holding, Drawn, Waiting, Reading, Gone, Size, World, changed, opening, shard}
+use Rattle.interleavings.specs.Order.{Arrangement, Parked, arranged, arrangement, beginning, last_or_parked, moved, with_last}
+use Rattle.interleavings.specs.Step.{step as step_world}
+use Rattle.interleavings.specs.Step.{begun, enters, given, happens, only, replied, told}
+use Rattle.interleavings.specs.Trace.{after}
+use Rattle.interleavings.specs.World.{Draw, Phase, Idle, Called, Holding, Drawn, Waiting, Reading, Gone, Size, World, changed, opening, shard}
 use Rattle.history.specs.Begun.{is_open}
-use Rattle.history.specs.Facts.{Facts}
-use Rattle.history.specs.Spared.{IsLeastRead}
+use Rattle.interleavings.specs.Facts.{Facts}
+use Rattle.interleavings.specs.Spared.{IsLeastRead}
 
 -- ---- callers
 abbrev pub writing_of : CodeWriting → Writing

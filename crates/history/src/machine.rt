@@ -5,7 +5,7 @@ ghost use Rattle.history.specs.Replayed.{Settles, Stays, Waits, is_undecided, ph
 use crate::callers::Callers;
 use crate::parking::{Parking, Waiter};
 use crate::phase::Phase;
-use crate::trace::Item;
+use interleavings::Item;
 use objects::{Key, Memory, shard_of};
 use requests::Reply;
 use std::alloc::Global;

@@ -2,8 +2,8 @@ ghost use Rattle.std.specs.Prelude.{◌≡◌, ◌<◌, ◌≤◌, ◌↔◌, �
 ghost use Rattle.history.specs.Named.{with_named, without};
 ghost use Rattle.history.specs.Replayed.{named_by};
 
-use crate::event::Event;
 use crate::replay_error::ReplayError;
+use interleavings::Event;
 use std::alloc::Global;
 use std::collections::BTreeSet;
 

@@ -11,14 +11,14 @@ ghost use Rattle.requests.specs.declared.request.Request.TheVariants.{Get};
 ghost use Rattle.plain_store.specs.Route.{route, writes};
 ghost use Rattle.objects.specs.declared.key.Key.{Key};
 ghost use Rattle.plain_store.specs.Store.{denied};
-ghost use Rattle.history.specs.declared.event.Event.TheVariants.{Compact, Crash, Part, Read, ReadAt};
-ghost use Rattle.history.specs.declared.event.Event.TheVariants as event;
+ghost use Rattle.interleavings.specs.declared.event.Event.TheVariants.{Compact, Crash, Part, Read, ReadAt};
+ghost use Rattle.interleavings.specs.declared.event.Event.TheVariants as event;
 ghost use Rattle.history.specs.Replayed.{Answers, Begins, Does, IsDue, IsNumbered, Stands, Stays, Tells, compaction_at, exact_in, floor_in, is_called, is_replying, named_phase, parts_in, phase_at, records_of, shard_at, told_at};
 
 use crate::gathered::Gathered;
 use crate::machine::Machine;
 use crate::phase::Phase;
-use crate::trace::Item;
+use interleavings::Item;
 use objects::{Key, Kind, Memory, Object, Text};
 use requests::{Listing, Reason, Reply, Request};
 

@@ -1,8 +1,8 @@
 ghost use Rattle.std.specs.Prelude.{◌≡◌, ◌≢◌, ◌+◌, ◌-◌, ◌^◌, ◌<◌, ◌≤◌, ◌↔◌, ◌⊎◌, ◌++◌, ◌∷◌, [], ℕ, List, length, None, Some, OnOk, OnErr, IfOk, IfSome, IfErr, IsErrOf, IsTrue};
 ghost use Rattle.history.specs.After.{IsAfter, IsReached, IsReplyTo, IsRunOf, taken};
-ghost use Rattle.history.specs.declared.event.Event.{Event};
-ghost use Rattle.history.specs.World.{Idle, Size, opening};
-ghost use Rattle.history.specs.Trace.{after};
+ghost use Rattle.interleavings.specs.declared.event.Event.{Event};
+ghost use Rattle.interleavings.specs.World.{Idle, Size, opening};
+ghost use Rattle.interleavings.specs.Trace.{after};
 ghost use Rattle.history.specs.Named.{callers};
 ghost use Rattle.history.specs.Replayed.{Does, IsAnswer, IsRun, Stands, Stays, Steps, named_by, named_phase, shard_at};
 ghost use Rattle.plain_store.specs.Reached.{most_revisions};
@@ -10,13 +10,12 @@ ghost use Rattle.versions.specs.Shard.{opening as fresh};
 ghost use Rattle.history.specs.declared.replay_error.ReplayError.TheVariants.{Memory as OutOfMemory};
 
 use crate::callers::Callers;
-use crate::event::Event;
 use crate::machine::Machine;
 use crate::names::{Names, caller_of};
 use crate::parking::Parking;
 use crate::replay_error::ReplayError;
 use crate::replaying::Replay;
-use crate::trace::{Run, Trace};
+use interleavings::{Event, Run, Trace};
 use objects::Memory;
 use plain_store::MAX_REVISIONS;
 use requests::Reply;

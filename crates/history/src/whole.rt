@@ -3,10 +3,9 @@ ghost use Rattle.plain_store.specs.Reached.{most_revisions};
 ghost use Rattle.history.specs.After.{IsRunOf};
 ghost use Rattle.history.specs.Named.{callers};
 
-use crate::event::Event;
 use crate::replay_error::ReplayError;
 use crate::replaying::Replay;
-use crate::trace::Run;
+use interleavings::{Event, Run};
 use std::alloc::Global;
 
 /// The run of these events from the opening world: its trace, and the order that is built of its requests. Where the events

@@ -6,14 +6,14 @@ ghost use Rattle.objects.specs.ShardOf.{shard_of};
 ghost use Rattle.std.specs.Option.{option_map_or};
 ghost use Rattle.versions.specs.Records.{IsAbove, current, newest};
 ghost use Rattle.plain_store.specs.Reached.{most_revisions};
-ghost use Rattle.history.specs.declared.event.Event.TheVariants.{Call, Check, Publish, Raise, Reserve};
+ghost use Rattle.interleavings.specs.declared.event.Event.TheVariants.{Call, Check, Publish, Raise, Reserve};
 ghost use Rattle.history.specs.Replayed.{Does, Fills, Holds, IsDecision, Stands, Stays, drops, holding_in, is_called, lot_at, named_phase, phase_at, places_in, shard_at, staying, writing_of};
 
 use crate::decision::Decision;
 use crate::machine::Machine;
 use crate::parking::Waiter;
 use crate::phase::{Phase, Writing};
-use crate::trace::Item;
+use interleavings::Item;
 use objects::{Key, Memory, shard_of};
 use requests::{Reason, Reply, Request, Verdict, Version};
 

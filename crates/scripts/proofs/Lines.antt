@@ -1,8 +1,8 @@
 -- What is written of a run, line by line.
 use Rattle.std.proofs.Common.{◌≡◌, ℕ, suc, ◌+◌, ◌<◌, List, [], ◌∷◌, ◌++◌, length, get_or, drop, refl, sym, ap, ◌∙◌, append_assoc, add-one, drop-cons}
 use Rattle.serde_json.specs.Written.{compact_text}
-use Rattle.history.specs.declared.trace.Item.{Item}
-use Rattle.history.specs.declared.trace.Item.TheVariants as item_is
+use Rattle.interleavings.specs.declared.trace.Item.{Item}
+use Rattle.interleavings.specs.declared.trace.Item.TheVariants as item_is
 use Rattle.scripts.specs.Printing.{reply_data_at, shown}
 use Rattle.plain.specs.ValueLines.{text_lines}
 

@@ -10,7 +10,7 @@ use Rattle.requests.specs.declared.request.Request.{Request}
 use Rattle.plain.specs.declared.lines.request_error.RequestError.{RequestError}
 use Rattle.plain.specs.declared.lines.request_error.RequestError.TheVariants as request
 use Rattle.plain.specs.Requests.{Refuses}
-use Rattle.history.specs.declared.event.Event.TheVariants as event
+use Rattle.interleavings.specs.declared.event.Event.TheVariants as event
 use Rattle.scripts.specs.declared.fault.ScriptError.{ScriptError}
 use Rattle.scripts.specs.declared.fault.ScriptError.TheVariants as errors
 use Rattle.scripts.specs.Events.{◌>>=◌, Fails, Reads, call_in, count_in, request_fault, request_in, unless_refused, value_of}

@@ -2,8 +2,8 @@
 use Rattle.std.proofs.Common.{◌≡◌, ℕ, List, [], ◌∷◌, ◌++◌, Option, Some, None, refl, sym, ap, ◌∙◌, subst, append_assoc, append-nil}
 use Rattle.std.specs.Prelude.{option_map}
 use Rattle.plain.specs.Lines.{lines}
-use Rattle.history.specs.declared.event.Event.{Event}
-use Rattle.history.specs.World.{Size}
+use Rattle.interleavings.specs.declared.event.Event.{Event}
+use Rattle.interleavings.specs.World.{Size}
 use Rattle.scripts.specs.declared.fault.ScriptError.{ScriptError}
 use Rattle.scripts.specs.declared.fault.ScriptError.TheVariants as errors
 use Rattle.scripts.specs.Events.{◌>>=◌, Fails, event_of}

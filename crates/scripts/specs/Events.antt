@@ -9,8 +9,8 @@ use Rattle.objects.specs.declared.fault.ReadError.TheVariants as read
 use Rattle.plain.specs.declared.lines.request_error.RequestError.{RequestError}
 use Rattle.plain.specs.declared.lines.request_error.RequestError.TheVariants as request
 use Rattle.plain.specs.Requests as plain
-use Rattle.history.specs.declared.event.Event.{Event}
-use Rattle.history.specs.declared.event.Event.TheVariants as event
+use Rattle.interleavings.specs.declared.event.Event.{Event}
+use Rattle.interleavings.specs.declared.event.Event.TheVariants as event
 use Rattle.scripts.specs.declared.fault.ScriptError.{ScriptError}
 use Rattle.scripts.specs.declared.fault.ScriptError.TheVariants as errors
 use Rattle.scripts.specs.declared.word.Word.{Word}

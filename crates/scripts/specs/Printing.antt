@@ -5,8 +5,8 @@ use Rattle.serde_json.specs.Written.{compact_text}
 use Rattle.requests.specs.declared.reply.Reply.{Reply}
 use Rattle.plain.specs.Replies.{reply_data}
 use Rattle.plain.specs.ValueLines.{text_lines}
-use Rattle.history.specs.declared.trace.Item.{Item}
-use Rattle.history.specs.declared.trace.Item.TheVariants as item_is
+use Rattle.interleavings.specs.declared.trace.Item.{Item}
+use Rattle.interleavings.specs.declared.trace.Item.TheVariants as item_is
 
 -- `{"at":P,"caller":N,"reply":R}`
 abbrev pub reply_data_at : (place caller : ℕ) → Reply → Data

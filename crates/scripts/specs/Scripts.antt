@@ -3,8 +3,8 @@ use Rattle.std.specs.Prelude.{ℕ, List, [], ◌∷◌, codes, Option, Some, Non
 use Rattle.serde_json.specs.Data.{Members}
 use Rattle.serde_json.specs.Find.{as_object}
 use Rattle.plain.specs.Lines.{lines}
-use Rattle.history.specs.declared.event.Event.{Event}
-use Rattle.history.specs.World.{Size}
+use Rattle.interleavings.specs.declared.event.Event.{Event}
+use Rattle.interleavings.specs.World.{Size}
 use Rattle.scripts.specs.declared.script.Header.{Header}
 use Rattle.scripts.specs.declared.script.Script.{Script}
 use Rattle.scripts.specs.Events.{◌>>=◌, count_in, event_of, value_of}

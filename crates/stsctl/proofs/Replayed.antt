@@ -12,8 +12,8 @@ use Rattle.scripts.specs.declared.fault.ScriptError.{ScriptError}
 use Rattle.scripts.specs.declared.fault.ScriptError.TheVariants.{BadScript, Memory}
 use Rattle.stsctl.specs.Halts.{IsNamed, halt_of, name_of}
 use Rattle.stsctl.specs.Replaying.{IsRefusedBy, IsReplayRefusal, IsReplayText, IsRunRefusal, Replays, script_refusal}
-use Rattle.history.specs.World.{Size}
-use Rattle.history.specs.declared.event.Event.{Event}
+use Rattle.interleavings.specs.World.{Size}
+use Rattle.interleavings.specs.declared.event.Event.{Event}
 
 pub replays : (had left before after : Option (List ℕ)) (text shown : List ℕ)
     → IfSome had (λ input. (left ≡ Some []) × IsReplayText input text) → Puts before shown after → shown ≡ text → Replays had left before after

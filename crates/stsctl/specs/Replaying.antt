@@ -4,9 +4,9 @@ use Rattle.std.specs.Option.{IfSome}
 use Rattle.clap.specs.Words.{Text}
 use Rattle.plain.specs.Streams.{Puts}
 use Rattle.history.specs.After.{IsRunOf}
-use Rattle.history.specs.World.{Size}
-use Rattle.history.specs.declared.event.Event.{Event}
-use Rattle.history.specs.declared.trace.Run.{Run}
+use Rattle.interleavings.specs.World.{Size}
+use Rattle.interleavings.specs.declared.event.Event.{Event}
+use Rattle.interleavings.specs.declared.trace.Run.{Run}
 use Rattle.scripts.specs.Printing.{run_text}
 use Rattle.scripts.specs.Scripts.{script_of}
 use Rattle.scripts.specs.declared.fault.ScriptError.{ScriptError}

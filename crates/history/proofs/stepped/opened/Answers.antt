@@ -1,6 +1,6 @@
 use Rattle.std.proofs.Common.{rules, refl, ap, ◌∙◌, arith, length, get_or, None}
 use Rattle.std.proofs.lemmas.List.{length-replicate}
-use Rattle.history.specs.World.{Size}
+use Rattle.interleavings.specs.World.{Size}
 use Rattle.history.proofs.Opening.{none_of, opening_shown}
 use Rattle.history.proofs.stepped.opened.Goals as goal
 

@@ -2,7 +2,7 @@ use Rattle.std.proofs.Common.{◌∙◌, ap, arith, length, subst}
 use Rattle.std.proofs.lemmas.List.{length-take-le, take_all}
 use Rattle.history.specs.After.{IsAfter, taken}
 use Rattle.history.specs.Named.{callers}
-use Rattle.history.specs.World.{Size}
+use Rattle.interleavings.specs.World.{Size}
 use Rattle.history.proofs.whole.replay.Goals as goal
 
 pub step-requires-clause-room : goal.step-requires-clause-room

@@ -1,6 +1,6 @@
 use Rattle.std.proofs.lemmas.Result.{err_from_is_err_and}
 use Rattle.std.proofs.Common.{Some, codes}
-use Rattle.history.specs.declared.event.Event.TheVariants as event
+use Rattle.interleavings.specs.declared.event.Event.TheVariants as event
 use Rattle.scripts.specs.Events.{◌>>=◌, call_in, count_in, request_in}
 use Rattle.scripts.proofs.Readings.{call_read, call_refused, none_then, refused}
 use Rattle.scripts.proofs.event.call_in.Goals as goal

@@ -1,7 +1,7 @@
 use Rattle.std.proofs.Common.{List, sym, subst}
 use Rattle.std.specs.Option.{IfSome}
 use Rattle.history.specs.After.{IsRunOf}
-use Rattle.history.specs.declared.event.Event.{Event}
+use Rattle.interleavings.specs.declared.event.Event.{Event}
 use Rattle.stsctl.specs.Replaying.{IsRunRefusal}
 use Rattle.stsctl.proofs.Replayed.{error_has}
 use Rattle.stsctl.proofs.replay.replay_of_script.Goals as goal

@@ -1,5 +1,5 @@
 use Rattle.std.proofs.Common.{rules}
-use Rattle.history.specs.Step.{told}
+use Rattle.interleavings.specs.Step.{told}
 use Rattle.history.proofs.callers.Callers.publish.Goals as goal
 
 pub returns-in-Drawn-clause-entered : goal.returns-in-Drawn-clause-entered

@@ -1,6 +1,6 @@
 use Rattle.std.proofs.Common.{◌++◌, ◌∷◌, [], refl, sym, ap, ◌∙◌, subst}
 use Rattle.history.specs.declared.phase.Phase.TheVariants as code
-use Rattle.history.specs.declared.trace.Item.TheVariants as item
+use Rattle.interleavings.specs.declared.trace.Item.TheVariants as item
 use Rattle.history.specs.Replayed.{Enters}
 use Rattle.history.proofs.Pieces.{on_err, stays_by, stays_same}
 use Rattle.history.proofs.WritesDone.{call_done, call_nothing}

@@ -1,7 +1,7 @@
 use Rattle.std.proofs.Common.{◌≡◌, sym, ◌∙◌, subst}
 use Rattle.requests.specs.Verdict.{verdict}
 use Rattle.versions.specs.Records.{current}
-use Rattle.history.specs.Log.{Writing}
+use Rattle.interleavings.specs.Log.{Writing}
 use Rattle.history.specs.Replayed.{Holds, shard_at}
 use Rattle.history.proofs.Pieces.{if_some_at, none_of, seat_of, some_of}
 use Rattle.history.proofs.Stepping.{called_is_called, called_undecided}

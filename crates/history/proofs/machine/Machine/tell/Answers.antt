@@ -1,5 +1,5 @@
 use Rattle.std.proofs.Common.{◌++◌, ◌∷◌, [], refl, ap, ◌∙◌}
-use Rattle.history.specs.declared.trace.Item.TheVariants as item
+use Rattle.interleavings.specs.declared.trace.Item.TheVariants as item
 use Rattle.history.proofs.Pieces.{on_err, stays_by, stays_same, tells_by}
 use Rattle.history.proofs.machine.Machine.tell.Goals as goal
 

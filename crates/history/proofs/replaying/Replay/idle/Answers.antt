@@ -1,7 +1,7 @@
 use Rattle.history.specs.After.{IsAfter}
 use Rattle.history.specs.Replayed.{phase_at}
-use Rattle.history.specs.Trace.{after}
-use Rattle.history.specs.World.{opening}
+use Rattle.interleavings.specs.Trace.{after}
+use Rattle.interleavings.specs.World.{opening}
 use Rattle.history.proofs.Replays.{idle_tells}
 use Rattle.history.proofs.replaying.Replay.idle.Goals as goal
 

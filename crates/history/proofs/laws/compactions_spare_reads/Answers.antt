@@ -1,5 +1,0 @@
-use Rattle.history.proofs.Spared.{spared_still}
-use Rattle.history.proofs.laws.compactions_spare_reads.Goals as goal
-
-pub returns : goal.returns
-returns c = λ size events later number some spared. spared_still size some events later number spared

@@ -1,5 +1,0 @@
-use Rattle.history.proofs.Runs.{runs_are_linearizable}
-use Rattle.history.proofs.laws.runs_are_linearizable.Goals as goal
-
-pub returns : goal.returns
-returns c = runs_are_linearizable

@@ -1,0 +1,12 @@
+-- ---- what public clauses cite
+pub mod Examples
+pub mod Linearizable
+pub mod Linearization
+pub mod Log
+pub mod Order
+pub mod Spared
+pub mod Step
+pub mod Trace
+pub mod World
+-- ---- what only proofs use
+pub mod Facts

@@ -1,0 +1,4 @@
+-- ---- what only proofs use
+pub mod Following
+pub mod Marks
+pub mod Pairing
