@@ -1,5 +1,5 @@
 -- The names of callers, with one more and without it again.
-use Rattle.std.proofs.Common.{◌≡◌, ℕ, zero, suc, ◌+◌, ◌≤◌, Bool, true, false, cond, ◌||◌, nat_eq, List, [], ◌∷◌, ◌++◌, length, take, Option, Some, None, refl, sym, ap, ◌∙◌, arith}
+use Rattle.std.proofs.Common.{◌≡◌, ℕ, zero, suc, ◌+◌, ◌≤◌, Bool, true, false, cond, ◌||◌, nat_eq, List, [], ◌∷◌, ◌++◌, length, take, get_or, ◌<◌, Option, Some, None, refl, sym, ap, ◌∙◌, arith}
 use Rattle.std.specs.List.{list_any}
 use Rattle.std.specs.declared.cmp.Ordering.{Ordering}
 use Rattle.std.specs.declared.cmp.Ordering.TheVariants.{Less, Equal, Greater}
@@ -59,14 +59,17 @@ pub more_named : (es : List Event) (names : List ℕ) → length names ≤ lengt
 more_named [] names = omega arith
 more_named (e ∷ es) names = let a = length_named names (named_by e) in let b = more_named es (with_named names (named_by e)) in omega arith
 
--- the first events name no more callers than all
-pub callers_taken : (i : ℕ) (es : List Event) → callers (take i es) ≤ callers es
-callers_taken i es = go [] i es
+-- the first events and the next name no more callers than all
+pub callers_next : (i : ℕ) (es : List Event) (e : Event) → i < length es → e ≡ get_or es i e → callers (take i es ++ e ∷ []) ≤ callers es
+callers_next i es e lt is = go [] i es lt is
   where
-    go : (names : List ℕ) (i : ℕ) (es : List Event) → length (named names (take i es)) ≤ length (named names es)
-    go names zero es = more_named es names
-    go names (suc i) [] = omega arith
-    go names (suc i) (e ∷ es) = go (with_named names (named_by e)) i es
+    go : (names : List ℕ) (i : ℕ) (es : List Event) → i < length es → e ≡ get_or es i e → length (named names (take i es ++ e ∷ [])) ≤ length (named names es)
+    go names i [] lt is = absurd (omega arith)
+    go names zero (x ∷ es) lt is =
+        let same = ap (λ y. length (named (with_named names (named_by y)) es)) is in
+        let more = more_named es (with_named names (named_by e)) in
+        omega (arith, same, more)
+    go names (suc i) (x ∷ es) lt is = go (with_named names (named_by x)) i es (omega arith) is
 
 pub named_append : (es fs : List Event) (names : List ℕ) → named names (es ++ fs) ≡ named (named names es) fs
 named_append [] fs names = refl

@@ -20,6 +20,7 @@ pub fn replay(
     ensures few { OnOk result (callers events.now ≤ 4096) }
     ensures bad_shards { IsErrOf result ReplayError.BadShards ↔ (1 ≤ shards → 64 < shards) }
     ensures bad_capacity { IsErrOf result ReplayError.BadCapacity ↔ ((1 ≤ shards) × (shards ≤ 64) × (1 ≤ capacity → most_revisions < capacity)) }
+    ensures too_many { IsErrOf result ReplayError.TooManyCallers → 4096 < callers events.now }
 {
     let mut replay = Replay::new(alloc, shards, capacity)?;
     for event in events {

@@ -1,8 +1,9 @@
-use Rattle.std.proofs.Common.{◌∙◌, ap, arith, length, subst}
+use Rattle.std.proofs.Common.{rules, ◌∙◌, ap, arith, length, subst, take}
 use Rattle.std.proofs.lemmas.List.{length-take-le, take_all}
 use Rattle.history.specs.After.{IsAfter, taken}
 use Rattle.history.specs.Named.{callers}
 use Rattle.interleavings.specs.World.{Size}
+use Rattle.history.proofs.Naming.{callers_next}
 use Rattle.history.proofs.whole.replay.Goals as goal
 
 pub step-requires-clause-room : goal.step-requires-clause-room
@@ -12,6 +13,15 @@ step-requires-clause-room c =
     let fits = c.well_formed in
     let at = c.loop-event.invariant.0.count ∙ length-take-le c.loop-event.event-index c.args.events.now (omega (arith, lt)) in
     omega (arith, at, lt, fits)
+
+pub returns-in_err-step-clause-too_many : goal.returns-in_err-step-clause-too_many
+returns-in_err-step-clause-too_many c = λ x.
+    let z : Size = record { capacity = c.args.capacity; shards = c.args.shards } in
+    let i = c.loop-event.event-index in
+    let es = c.args.events.now in
+    let many = (c.in_err-step.ensures.too_many z (take i es) c.loop-event.invariant).0 (search (rules, x)) in
+    let less = callers_next i es c.event-item.result c.loop-event-test.true c.event-item.is in
+    omega (arith, many, less)
 
 pub returns-clause-few : goal.returns-clause-few
 unfolding IsAfter
