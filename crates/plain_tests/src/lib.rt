@@ -9,6 +9,8 @@ mod beside;
 #[cfg(test)]
 mod growths;
 #[cfg(test)]
+mod limits;
+#[cfg(test)]
 mod lists;
 #[cfg(test)]
 mod past;

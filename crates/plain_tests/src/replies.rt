@@ -99,8 +99,18 @@ fn assert_takes_all(
     rows: &[Row],
 ) -> Result<(), Fail> {
     let mut plain = Plain::new(alloc, capacity)?;
+    assert_takes_rows(rt, alloc, &mut plain, rows)
+}
+
+/// Asserts what the replies to the lines come to, by that store.
+pub(crate) fn assert_takes_rows(
+    rt: &impl Abort,
+    alloc: Global,
+    plain: &mut Plain,
+    rows: &[Row],
+) -> Result<(), Fail> {
     for (line, expected) in rows {
-        assert_takes(rt, alloc, &mut plain, line, *expected)?;
+        assert_takes(rt, alloc, plain, line, *expected)?;
     }
     Ok(())
 }
@@ -116,7 +126,7 @@ const CREATE_OTHER: &str = r#"{"do":"create","object":{"kind":"Pod","metadata":{
 
 /// A line, the name of its reply, and the resource version, the number of the UID and the label of the reply's object
 /// (0, 0 and nothing in a refusal).
-type Row = (&'static str, (&'static str, u64, u64, &'static str));
+pub(crate) type Row = (&'static str, (&'static str, u64, u64, &'static str));
 
 /// A pod is looked for, made, made again, read and changed.
 static MADE_AND_CHANGED: [Row; 7] = [

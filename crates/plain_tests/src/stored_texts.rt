@@ -270,3 +270,37 @@ fn a_store_answers_with_the_texts_that_it_keeps(rt: HostRuntime) -> Result<(), F
     }
     Ok(())
 }
+
+/// What a compaction answers: its number, or the name of a refusal.
+fn compacted(plain: &mut Plain, to: u64) -> Result<u64, &'static str> {
+    match plain.compact(to) {
+        StoredReply::Compacted { revision } => Ok(revision),
+        StoredReply::Refused(reason) => Err(reason.name()),
+        StoredReply::Found(_) => Err("Found"),
+        StoredReply::Listed {
+            objects: _,
+            revision: _,
+        } => Err("Listed"),
+    }
+}
+
+#[test]
+fn a_store_is_compacted(rt: HostRuntime) -> Result<(), Fail> {
+    let mut plain = Plain::new(rt.alloc(), 100)?;
+    for name in ["a", "b"] {
+        let line = format!(in rt.alloc();
+            r#"{{"do":"create","object":{{"kind":"Pod","metadata":{{"name":"{name}"}}}}}}"#
+        )?;
+        drop(kept(rt.alloc(), &mut plain, line.as_str())?);
+    }
+    for (to, expected) in [
+        (0, Ok(0)),
+        (3, Err("TooLarge")),
+        (2, Ok(2)),
+        (1, Err("Expired")),
+        (2, Ok(2)),
+    ] {
+        assert_eq!(rt; compacted(&mut plain, to), expected, "to {to}");
+    }
+    Ok(())
+}

@@ -78,6 +78,23 @@ fn each_line_has_an_answer(rt: HostRuntime) -> Result<(), Fail> {
     Ok(assert_answers(&rt, rt.alloc(), b"\n{}\n{}", 1000, Ok(3), expected)?)
 }
 
+#[test]
+fn many_lines_are_answered(rt: HostRuntime) -> Result<(), Fail> {
+    let count = 100_000;
+    let input = "{}\n".repeat(rt.alloc(), count)?;
+    let expected = "{\"code\":400,\"reason\":\"NoVerb\"}\n".repeat(rt.alloc(), count)?;
+    let room = expected.len();
+    let ends = Ok(100_000);
+    Ok(assert_answers(
+        &rt,
+        rt.alloc(),
+        input.as_bytes(),
+        room,
+        ends,
+        expected.as_bytes(),
+    )?)
+}
+
 /// So many spaces, and the bytes behind them.
 fn spaces_before(alloc: Global, count: usize, back: &[u8]) -> Result<Vec<u8>, AllocError> {
     let mut bytes = vec![in alloc; b' '; count]?;

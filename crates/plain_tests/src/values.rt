@@ -49,8 +49,8 @@ fn a_text_is_cut_at_its_line_feeds(rt: HostRuntime) {
 
 #[test]
 fn an_input_is_read_to_its_end(rt: HostRuntime) -> Result<(), Fail> {
-    // More than one read takes.
-    let text = vec![in rt.alloc(); 7u8; 70_000]?;
+    // More than many reads take.
+    let text = vec![in rt.alloc(); 7u8; 3_000_000]?;
     let bytes = read_all(rt.alloc(), &mut ReadSource::new(text.as_slice()))?;
     assert!(rt; bytes.as_slice() == text.as_slice());
     let none = read_all(rt.alloc(), &mut ReadSource::new(b"".as_slice()))?;

@@ -2,7 +2,10 @@
 ghost use Rattle.std.specs.Prelude.{◌≤◌, ◌<◌, ◌^◌};
 
 use objects::Object;
-use plain::{Api, Change, Plain, Reply, Request, Verdict, Version, decide, read_request};
+use plain::{
+    Api, Change, ChangeKind, Judgment, Plain, Reply, Request, Verdict, Version, decide, judge,
+    read_request,
+};
 use std::alloc::Global;
 use std::process::Abort;
 use std::test::Fail;
@@ -12,6 +15,8 @@ const CREATE: &str =
 
 const UPDATE: &str =
     r#"{"do":"update","object":{"kind":"Pod","metadata":{"name":"x","labels":{"a":"b"}}}}"#;
+
+const RELABEL: &str = r#"{"do":"update","object":{"kind":"Pod","metadata":{"name":"x"}}}"#;
 
 const MARK: &str = r#"{"do":"delete","kind":"Pod","name":"x","at":"2024-01-01T00:00:00Z"}"#;
 
@@ -214,6 +219,56 @@ fn what_is_there_decides(rt: HostRuntime) -> Result<(), Fail> {
         (DELETE, "Write"),
     ] {
         assert_eq!(rt; verdict_over_an_object(&rt, rt.alloc(), line)?, name);
+    }
+    Ok(())
+}
+
+/// What a line comes to where an object is there, with nothing copied yet.
+fn judgment_over_an_object(rt: &impl Abort, alloc: Global, line: &str) -> Result<Judgment, Fail> {
+    let object = written(rt, alloc, None, CREATE, 7)?;
+    let judged = judged(rt, alloc, &object, line);
+    drop(object);
+    judged
+}
+
+fn judged(rt: &impl Abort, alloc: Global, current: &Object, line: &str) -> Result<Judgment, Fail> {
+    let request = request(alloc, line)?;
+    if !request.is_write() {
+        panic!(rt; "no write: {line}");
+    }
+    Ok(judge(Some(current), request)?)
+}
+
+/// The reply to what is judged at the number 9, or what it comes to where it draws none, and the object's numbers.
+fn told(judgment: Judgment) -> (&'static str, (u64, u64, u64)) {
+    match judgment {
+        Judgment::Refuse(reason) => (reason.name(), (0, 0, 0)),
+        Judgment::Same(object) => ("Same", numbers(&object)),
+        Judgment::Write(kind, object) => told_change(kind, object),
+    }
+}
+
+fn told_change(kind: ChangeKind, object: Object) -> (&'static str, (u64, u64, u64)) {
+    match kind.accepted(kind.stamped(object, 9)) {
+        Reply::Created(object) => ("Created", numbers(&object)),
+        Reply::Updated(object) => ("Updated", numbers(&object)),
+        Reply::Marked(object) => ("Marked", numbers(&object)),
+        Reply::Removed(object) => ("Removed", numbers(&object)),
+        _ => ("another", (0, 0, 0)),
+    }
+}
+
+#[test]
+fn what_is_there_is_judged(rt: HostRuntime) -> Result<(), Fail> {
+    for (line, expected) in [
+        (CREATE, ("AlreadyExists", (0, 0, 0))),
+        (UPDATE, ("Same", (7, 7, 1))),
+        (RELABEL, ("Updated", (7, 9, 1))),
+        (MARK, ("Marked", (7, 9, 1))),
+        (DELETE, ("Removed", (7, 9, 1))),
+    ] {
+        let judgment = judgment_over_an_object(&rt, rt.alloc(), line)?;
+        assert_eq!(rt; told(judgment), expected, "of {line}");
     }
     Ok(())
 }
