@@ -284,23 +284,28 @@ fn compacted(plain: &mut Plain, to: u64) -> Result<u64, &'static str> {
     }
 }
 
+static CREATIONS: [&str; 2] = [
+    r#"{"do":"create","object":{"kind":"Pod","metadata":{"name":"a"}}}"#,
+    r#"{"do":"create","object":{"kind":"Pod","metadata":{"name":"b"}}}"#,
+];
+
+/// Compactions after two creations: above the counter, and below the floor.
+static COMPACTIONS: [(u64, Result<u64, &str>); 5] = [
+    (0, Ok(0)),
+    (3, Err("TooLarge")),
+    (2, Ok(2)),
+    (1, Err("Expired")),
+    (2, Ok(2)),
+];
+
 #[test]
 fn a_store_is_compacted(rt: HostRuntime) -> Result<(), Fail> {
     let mut plain = Plain::new(rt.alloc(), 100)?;
-    for name in ["a", "b"] {
-        let line = format!(in rt.alloc();
-            r#"{{"do":"create","object":{{"kind":"Pod","metadata":{{"name":"{name}"}}}}}}"#
-        )?;
-        drop(kept(rt.alloc(), &mut plain, line.as_str())?);
+    for line in CREATIONS.iter() {
+        drop(kept(rt.alloc(), &mut plain, line)?);
     }
-    for (to, expected) in [
-        (0, Ok(0)),
-        (3, Err("TooLarge")),
-        (2, Ok(2)),
-        (1, Err("Expired")),
-        (2, Ok(2)),
-    ] {
-        assert_eq!(rt; compacted(&mut plain, to), expected, "to {to}");
+    for (to, expected) in COMPACTIONS.iter() {
+        assert_eq!(rt; compacted(&mut plain, *to), *expected, "to {to}");
     }
     Ok(())
 }
