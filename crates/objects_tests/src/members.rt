@@ -1,7 +1,8 @@
-//! Members that are set, and texts of trees.
-use crate::asserts::{assert_so, is_printed, read, read_some};
-use objects::{ReadError, read_tree, tree_text};
-use std::alloc::Global;
+//! Members that are set, where they stand, and texts of trees.
+use crate::asserts::{assert_so, is_printed, read, read_members, read_some};
+use json::Writer;
+use objects::{ReadError, Text, Tree, place_of, read_tree, tree_text, write_entries};
+use std::alloc::{AllocError, Global};
 
 /// Whether that is printed of the object with that `revision`.
 fn is_printed_with(
@@ -56,4 +57,58 @@ fn trees_have_texts(rt: HostRuntime) {
         has_text(rt.alloc(), text, r#"{"a":{},"b":[1,-2]}"#),
         text,
     );
+}
+
+/// Keys, and where they stand among the keys `a`, `b` and `c`, or would stand.
+static PLACES: [(&str, Result<usize, usize>); 6] = [
+    ("a", Ok(0)),
+    ("b", Ok(1)),
+    ("c", Ok(2)),
+    ("", Err(0)),
+    ("aa", Err(1)),
+    ("d", Err(3)),
+];
+
+fn has_place(alloc: Global, key: &str, expected: Result<usize, usize>) -> Result<bool, ReadError> {
+    let members = read_members(alloc, r#"{"c":3,"a":1,"b":2}"#)?;
+    let is_so = place_of(members.entries(), key) == expected;
+    drop(members);
+    Ok(is_so)
+}
+
+#[test]
+fn members_have_places(rt: HostRuntime) {
+    for (key, expected) in PLACES.iter() {
+        assert_so(&rt, has_place(rt.alloc(), key, *expected), key);
+    }
+}
+
+/// The members of a map that has begun with another one.
+fn written(alloc: Global, entries: &[(Text, Tree)]) -> Result<Vec<u8>, AllocError> {
+    let mut out = Writer::new(Vec::new(alloc));
+    out.begin_object()?;
+    out.key("0")?;
+    out.null()?;
+    write_entries(entries, &mut out)?;
+    Ok(out.into_inner())
+}
+
+fn is_written(alloc: Global, text: &str, expected: &str) -> Result<bool, ReadError> {
+    let members = read_members(alloc, text)?;
+    let bytes = written(alloc, members.entries());
+    drop(members);
+    Ok(bytes?.as_slice() == expected.as_bytes())
+}
+
+#[test]
+fn members_are_written(rt: HostRuntime) {
+    for (text, expected) in [
+        (
+            r#"{"b":[1],"a":{"c":"d"}}"#,
+            r#"{"0":null,"a":{"c":"d"},"b":[1]}"#,
+        ),
+        ("{}", r#"{"0":null}"#),
+    ] {
+        assert_so(&rt, is_written(rt.alloc(), text, expected), text);
+    }
 }

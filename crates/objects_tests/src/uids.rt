@@ -1,5 +1,5 @@
 //! The texts of UIDs and of resource versions, by tables.
-use objects::{is_uid_text, is_version_text, uid_number, uid_text};
+use objects::{is_uid_text, is_version_text, uid_number, uid_text, version_number};
 use std::test::Fail;
 
 /// Numbers of UIDs with their texts.
@@ -43,5 +43,25 @@ static VERSIONS: [(u64, &str, bool); 8] = [
 fn versions_have_texts(rt: HostRuntime) {
     for (revision, text, expected) in VERSIONS.iter() {
         assert_eq!(rt; is_version_text(text, *revision), *expected, "{text}");
+    }
+}
+
+/// Texts, and the numbers of the resource versions that they are; 0 where they are none.
+static NUMBERS: [(&str, u64); 9] = [
+    ("1", 1),
+    ("10", 10),
+    ("18446744073709551615", u64::MAX),
+    ("18446744073709551616", 0),
+    ("0", 0),
+    ("", 0),
+    ("01", 0),
+    ("+1", 0),
+    ("1x", 0),
+];
+
+#[test]
+fn versions_have_numbers(rt: HostRuntime) {
+    for (text, expected) in NUMBERS.iter() {
+        assert_eq!(rt; version_number(text), *expected, "{text}");
     }
 }
