@@ -38,14 +38,15 @@ use Rattle.sets.specs.Plan.{plan_by, plan_of_pods, refusal, unless_refused, fitt
 use Rattle.sets.proofs.Origins.{created_alone, deletes_owned, renumbered_alone}
 use Rattle.rounds.specs.Sound.{HasNamed, IsAction, IsCollection, IsSound}
 use Rattle.rounds.proofs.Lists.{among_contained, among_either, among_left, among_right, contains_among}
-use Rattle.reconcilers.specs.Order.{in_order}
-use Rattle.reconcilers.specs.Planned.{deletions, deletion_of, key_of, or_none, owned_of, planned, new, as_read, request_of, requested, requested_for, requests_of, view_of, views_of}
-use Rattle.reconcilers.specs.Place.{place_in}
+use Rattle.sets.specs.Order.{in_order}
+use Rattle.sets.specs.Planned.{owned_of, planned, view_of, views_of}
+use Rattle.reconcilers.specs.Planned.{deletions, deletion_of, key_of, or_none, new, as_read, request_of, requested, requested_for, requests_of}
+use Rattle.sets.specs.Place.{place_in}
 use Rattle.reconcilers.specs.Reconciler.{reconciler_with}
 use Rattle.reconcilers.proofs.Deletions.{deletes_controlled}
-use Rattle.reconcilers.proofs.Ordered.{all_in_order}
-use Rattle.reconcilers.proofs.Owned.{filtered, total}
-use Rattle.reconcilers.proofs.Places.{found_below}
+use Rattle.sets.proofs.Ordered.{all_among, all_in_order}
+use Rattle.sets.proofs.Owned.{filtered, total}
+use Rattle.sets.proofs.Places.{found_below}
 
 -- ---- requests
 
@@ -163,10 +164,6 @@ first_among : (os : List Object) (x : Object) → Among x (first_of_each os) →
 first_among [] x at = absurd at
 first_among (o ∷ os) x (inl is) = inl is
 first_among (o ∷ os) x (inr at) = inr (first_among os x (filtered (λ (p : Object). not (bytes_eq p.key.name o.key.name)) x (first_of_each os) at).0)
-
-all_among : {X : Type 0} (P : X → Type 0) (xs : List X) → ((x : X) → Among x xs → P x) → AllByRecursion P xs
-all_among P [] f = tt
-all_among P (x ∷ xs) f = (f x (inl refl), all_among P xs (λ y at. f y (inr at)))
 
 among_all : {X : Type 0} (P : X → Type 0) (xs : List X) (x : X) → AllByRecursion P xs → Among x xs → P x
 among_all P [] x all at = absurd at

@@ -1,5 +1,3 @@
 -- ---- what public clauses cite
-pub mod Order
-pub mod Place
 pub mod Planned
 pub mod Reconciler

@@ -1,5 +1,5 @@
--- The plan of a set, over what was listed, and the requests that it comes to (Kubernetes, "StatefulSets"; "Controllers").
-use Rattle.std.specs.Prelude.{ℕ, ◌^◌, ◌==◌, nat_lt, List, [], ◌∷◌, map, filter, decimal, Option, Some, None, Result, Ok, Err, if◌then◌else◌}
+-- The requests that the plan of a set comes to, over what was listed (Kubernetes, "StatefulSets"; "Controllers").
+use Rattle.std.specs.Prelude.{ℕ, ◌^◌, ◌==◌, nat_lt, List, [], ◌∷◌, decimal, Option, Some, None, Result, Ok, Err, if◌then◌else◌}
 use Rattle.std.specs.List.{flat_map}
 use Rattle.objects.specs.declared.key.Key.{Key}
 use Rattle.objects.specs.declared.kind.Kind.{Kind}
@@ -11,40 +11,13 @@ use Rattle.objects.specs.Uid.{uid_text}
 use Rattle.requests.specs.declared.request.Request.{Request}
 use Rattle.requests.specs.declared.request.Request.TheVariants.{Create, Update, UpdateStatus, Delete}
 use Rattle.set_views.specs.declared.fault.PlanError.{PlanError}
-use Rattle.set_views.specs.Pod.{PodParts, pod_with}
 use Rattle.set_views.specs.Set.{SetParts}
 use Rattle.set_views.specs.SetReading.{set_of}
 use Rattle.set_views.specs.Steps.{◌>>=◌}
-use Rattle.revisions.specs.Plan.{plan_of}
-use Rattle.revisions.specs.Revision.{is_held, listed, owned_among, revision_cmp}
-use Rattle.scaling.specs.Views.{is_near}
-use Rattle.claims.specs.Listed.{listed_claim}
 use Rattle.collector.specs.Collectable.{given}
 use Rattle.sets.specs.declared.action.Action.{Action}
 use Rattle.sets.specs.declared.action.Action.TheVariants.{CreateClaim, CreatePod, DeletePod, UpdateClaim, WriteRevision, DeleteRevision, WriteStatus, Wait}
-use Rattle.sets.specs.Plan.{plan_by}
-use Rattle.reconcilers.specs.Order.{in_order}
-use Rattle.reconcilers.specs.Place.{place_in}
-
--- ---- the plan
-
-abbrev pub view_of : Object → PodParts
-view_of o = pod_with (place_in o.key.name) o
-
--- the pods of the set's namespace, as a plan sees them
-unfoldable pub views_of : SetParts → List Object → List PodParts
-views_of set pods = map view_of (filter (is_near set) pods)
-
--- the revisions that the set controls, the newest last
-unfoldable pub owned_of : SetParts → List Object → List Object
-owned_of set revisions = in_order revision_cmp (owned_among set revisions)
-
--- what is to be done, or the first refusal
-unfoldable pub planned : SetParts → ℕ → List Object → List Object → List Object → Result (List Action) PlanError
-planned set digits revisions pods claims =
-    plan_by set (listed_claim set claims) (views_of set pods) (plan_of set (is_held (listed set revisions)) digits (owned_of set revisions))
-
--- ---- its requests
+use Rattle.sets.specs.Planned.{planned}
 
 -- the object as it is to be created
 abbrev pub new : Object → Draft

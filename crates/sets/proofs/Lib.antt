@@ -3,6 +3,10 @@ pub mod ClaimsFirst
 pub mod Cuts
 pub mod FirstObjects
 pub mod Names
+pub mod OnePlan
+pub mod Ordered
 pub mod Origins
+pub mod Owned
+pub mod Places
 pub mod Plans
 pub mod Updates

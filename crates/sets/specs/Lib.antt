@@ -2,6 +2,9 @@
 pub mod Actions
 pub mod Whole
 pub mod Plan
+pub mod Order
+pub mod Place
+pub mod Planned
 pub mod Laws
 -- ---- what private clauses cite
 pub mod Cut

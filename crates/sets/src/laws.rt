@@ -1,5 +1,5 @@
 // Laws of plans, for every set and all lists.
-ghost use Rattle.std.specs.Prelude.{◌≡◌, ◌≤◌, ◌<◌, ◌^◌, ◌+◌, ◌∷◌, ◌++◌, [], ℕ, List, true, false, find, filter, length, None, Ok};
+ghost use Rattle.std.specs.Prelude.{◌≡◌, ◌≤◌, ◌<◌, ◌^◌, ◌+◌, ◌∷◌, ◌++◌, [], ℕ, List, true, false, find, filter, length, None, Ok, Err};
 ghost use Rattle.std.specs.List.{Contains};
 ghost use Rattle.serde_json.specs.Data.{Data};
 ghost use Rattle.serde_json.specs.View.{items_of};
@@ -7,9 +7,11 @@ ghost use Rattle.objects.specs.declared.object.Object.{Object};
 ghost use Rattle.set_views.specs.declared.policies.Policy.TheVariants.{OrderedReady};
 ghost use Rattle.set_views.specs.declared.policies.Retention.TheVariants.{Retain};
 ghost use Rattle.set_views.specs.declared.policies.Strategy.TheVariants.{OnDelete, RollingUpdate};
+ghost use Rattle.set_views.specs.declared.fault.PlanError.{PlanError};
 ghost use Rattle.set_views.specs.Claims.{Claim};
 ghost use Rattle.set_views.specs.Pod.{PodParts};
 ghost use Rattle.set_views.specs.Set.{SetParts};
+ghost use Rattle.set_views.specs.Steps.{is_memory};
 ghost use Rattle.set_views.specs.Words.{in_range, is_healthy, is_owned};
 ghost use Rattle.revisions.specs.History.{has_pod};
 ghost use Rattle.revisions.specs.Plan.{created, renumbered};
@@ -19,9 +21,10 @@ ghost use Rattle.manifests.specs.BuiltClaim.{built_claim};
 ghost use Rattle.claims.specs.Changes.{updated};
 ghost use Rattle.sets.specs.declared.action.Action.{Action};
 ghost use Rattle.sets.specs.declared.action.Action.TheVariants.{CreateClaim, CreatePod, DeletePod, UpdateClaim, WriteRevision};
+ghost use Rattle.sets.specs.declared.action.Plan.{Plan};
 ghost use Rattle.sets.specs.Actions.{Claims, name_at};
 ghost use Rattle.sets.specs.Laws.{AreMade, HasHealthyTarget, IsNextToUpdate, IsPodAt, IsUpdatedClaim, is_on_pod, name_set_or_pod};
-ghost use Rattle.sets.specs.Plan.{plan_by, plan_of_pods};
+ghost use Rattle.sets.specs.Plan.{IsPlan, plan_by, plan_of_pods};
 
 /// A plan deletes a pod only if the set controls it: the first listed one of its name, by its UID.
 pub fn plans_delete_owned_pods()
@@ -107,4 +110,14 @@ pub fn plans_go_by_first_objects()
 pub fn revisions_are_written_alone()
     ensures created { (set : SetParts) (claims : Claims) (listed : List PodParts) (actions : List Action) (o : Object) → plan_by set claims listed (Ok (created o)) ≡ Ok actions → actions ≡ WriteRevision o ∷ [] }
     ensures renumbered { (set : SetParts) (claims : Claims) (listed : List PodParts) (actions : List Action) (o : Object) → plan_by set claims listed (Ok (renumbered o)) ≡ Ok actions → actions ≡ WriteRevision o ∷ [] }
+{}
+
+/// With equal lists the plan is equal: a set, and the pods, claims and revisions that were listed, have one list of actions,
+/// or one refusal, whenever they are planned and memory does not run out.
+pub fn plans_are_equal()
+    ensures actions { (set : SetParts) (pods claims revisions : List Object) (digits : ℕ) (one other : Plan) → IsPlan set pods claims revisions digits (Ok one) → IsPlan set pods claims revisions digits (Ok other)
+        → one.actions.items ≡ other.actions.items }
+    ensures refusals { (set : SetParts) (pods claims revisions : List Object) (digits : ℕ) (one other : PlanError) → is_memory one ≡ false → is_memory other ≡ false → IsPlan set pods claims revisions digits (Err one) → IsPlan set pods claims revisions digits (Err other)
+        → one ≡ other }
+    ensures not_both { (set : SetParts) (pods claims revisions : List Object) (digits : ℕ) (one : Plan) (other : PlanError) → is_memory other ≡ false → IsPlan set pods claims revisions digits (Ok one) → IsPlan set pods claims revisions digits (Err other) → ⊥ }
 {}

@@ -12,7 +12,7 @@ mod steps;
 pub use action::{Action, Plan};
 pub use collector::{collect, collected_claims_are_collectable, owned_claims_stay};
 pub use laws::{
-    plans_change_owners_alone, plans_create_free_names, plans_create_in_turn,
+    plans_are_equal, plans_change_owners_alone, plans_create_free_names, plans_create_in_turn,
     plans_delete_owned_pods, plans_go_by_first_objects, plans_keep_healthy_pods_on_delete,
     plans_make_claims_before_their_pod, plans_replace_one_pod, plans_retain_claims,
     plans_touch_one_pod_in_order, plans_update_downward, plans_update_healthy_sets_in_order,

@@ -1,5 +1,5 @@
 use Rattle.set_views.specs.Set.{set_parts}
-use Rattle.reconcilers.proofs.Plans.{one_plan}
+use Rattle.sets.proofs.OnePlan.{one_plan}
 use Rattle.reconcilers.proofs.plan.planned.Goals as goal
 
 pub returns : goal.returns

@@ -15,8 +15,8 @@ use Rattle.objects.proofs.PodNamesDiffer.{pod_names-differ}
 use Rattle.set_views.specs.declared.pod.PodView.{PodView}
 use Rattle.set_views.specs.Pod.{PodParts, place_of, pod_parts, pod_with}
 use Rattle.scaling.specs.Views.{AreViews, IsViewOf}
-use Rattle.reconcilers.specs.Place.{is_cut, number_behind, place_below, place_in}
-use Rattle.reconcilers.specs.Planned.{view_of}
+use Rattle.sets.specs.Place.{is_cut, number_behind, place_below, place_in}
+use Rattle.sets.specs.Planned.{view_of}
 
 -- a cut is a pod's name
 cut_is : (name : List ℕ) (k : ℕ) → is_cut name k ≡ true → IsPodName name (take k name) (number_behind name k)

@@ -1,16 +1,21 @@
 -- A list has one order, where no two of its elements tie.
-use Rattle.std.proofs.Common.{◌≡◌, ◌+◌, ◌<◌, ◌≤◌, ℕ, zero, suc, Bool, true, false, cond, List, [], ◌∷◌, length, refl, sym, ap, ◌∙◌, subst, arith, add-one, Ordering, Less, Equal, Greater, is_lt, IsPermutation, IsSorted, true≢false}
-use Rattle.std.specs.List.{AllByRecursion, Contains, sum_by}
+use Rattle.std.proofs.Common.{◌≡◌, inl, inr, ◌+◌, ◌<◌, ◌≤◌, ℕ, zero, suc, Bool, true, false, cond, List, [], ◌∷◌, length, refl, sym, ap, ◌∙◌, subst, arith, add-one, Ordering, Less, Equal, Greater, is_lt, IsPermutation, IsSorted, true≢false}
+use Rattle.std.specs.List.{AllByRecursion, sum_by}
 use Rattle.std.specs.Cmp.{IsTotalOrder}
 use Rattle.std.specs.Ordering.{ordering_reverse}
 use Rattle.std.proofs.lemmas.Cmp.{tied_itself, alike_right}
-use Rattle.std.proofs.lemmas.List.Elements.{All-contains_itself, recursion_from_All}
+use Rattle.std.proofs.lemmas.List.Elements.{All-from_recursion, recursion_from_All}
 use Rattle.std.proofs.lemmas.List.Sorted.{All-permutation, sum_by-IsPermutation}
 use Rattle.std.proofs.lemmas.List.Sums.{sum_by-cons}
-use Rattle.reconcilers.specs.Order.{in_order, put_in_order}
+use Rattle.collector.specs.Collectable.{Among}
+use Rattle.sets.specs.Order.{in_order, put_in_order}
 
 abbrev pub HasNoTies : {X : Type 0} → (X → X → Ordering) → List X → Type 0
-HasNoTies {X} cmp base = (x y : X) → Contains base x → Contains base y → cmp x y ≡ Equal → x ≡ y
+HasNoTies {X} cmp base = (x y : X) → Among x base → Among y base → cmp x y ≡ Equal → x ≡ y
+
+pub all_among : {X : Type 0} (P : X → Type 0) (xs : List X) → ((x : X) → Among x xs → P x) → AllByRecursion P xs
+all_among P [] f = tt
+all_among P (x ∷ xs) f = (f x (inl refl), all_among P xs (λ y at. f y (inr at)))
 
 module _ {X : Type 0} (cmp : X → X → Ordering) (total : IsTotalOrder cmp) where
   -- y is not less than x
@@ -135,7 +140,7 @@ module _ {X : Type 0} (cmp : X → X → Ordering) (total : IsTotalOrder cmp) wh
   tied x y Equal is one two = is
   tied x y Greater is one two = absurd (true≢false (sym (ap is_lt (turned x y Greater is)) ∙ two))
 
-  one_order : (base : List X) → HasNoTies cmp base → (xs ys : List X) → AllByRecursion (Contains base) xs → AllByRecursion (Contains base) ys → Ascends xs → Ascends ys → HasSame xs ys → xs ≡ ys
+  one_order : (base : List X) → HasNoTies cmp base → (xs ys : List X) → AllByRecursion (λ x. Among x base) xs → AllByRecursion (λ x. Among x base) ys → Ascends xs → Ascends ys → HasSame xs ys → xs ≡ ys
   one_order base apart [] [] in_x in_y up_x up_y same = refl
   one_order base apart [] (y ∷ ys) in_x in_y up_x up_y same = let a = sum_by-cons (λ (z : X). 1) y ys in let e = same (λ z. 1) in absurd (omega arith)
   one_order base apart (x ∷ xs) [] in_x in_y up_x up_y same = let a = sum_by-cons (λ (z : X). 1) x xs in let e = same (λ z. 1) in absurd (omega arith)
@@ -148,6 +153,7 @@ module _ {X : Type 0} (cmp : X → X → Ordering) (total : IsTotalOrder cmp) wh
   -- what sorts a list puts it in its order
   pub sorted_is_in_order : (base ys : List X) → HasNoTies cmp base → IsPermutation base ys → IsSorted cmp ys → ys ≡ in_order cmp base
   sorted_is_in_order base ys apart same sorted =
-      let all = recursion_from_All (Contains base) base (All-contains_itself base) in
-      one_order base apart ys (in_order cmp base) (recursion_from_All (Contains base) ys (All-permutation (Contains base) base ys same (All-contains_itself base))) (all_in_order (Contains base) base all)
+      let P : X → Type 0 = λ x. Among x base in
+      let all : AllByRecursion P base = all_among P base (λ x at. at) in
+      one_order base apart ys (in_order cmp base) (recursion_from_All P ys (All-permutation P base ys same (All-from_recursion P base all))) (all_in_order P base all)
       (ascends_from_sorted ys sorted) (in_order_ascends base) (λ f. sum_by-IsPermutation f base ys same ∙ sym (in_order_has_same base f))

@@ -11,9 +11,8 @@ use Rattle.objects.specs.declared.object.Object.{Object}
 use Rattle.set_views.specs.Set.{SetParts}
 use Rattle.revisions.specs.Revision.{AreOwned, first_of_each, is_owned, listed, number_of, owned_among, revision_cmp}
 use Rattle.collector.specs.Collectable.{Among}
-use Rattle.rounds.proofs.Lists.{among_contained}
-use Rattle.reconcilers.specs.Planned.{owned_of}
-use Rattle.reconcilers.proofs.Ordered.{HasNoTies, sorted_is_in_order}
+use Rattle.sets.specs.Planned.{owned_of}
+use Rattle.sets.proofs.Ordered.{HasNoTies, sorted_is_in_order}
 
 pub filtered : {X : Type 0} (p : X → Bool) (x : X) (xs : List X) → Among x (filter p xs) → Among x xs × (p x ≡ true)
 filtered p x [] at = absurd at
@@ -49,8 +48,8 @@ second_ties Greater b h = absurd (true≢false (sym (ap is_eq h)))
 
 no_ties : (set : SetParts) (os : List Object) → HasNoTies revision_cmp (owned_among set os)
 no_ties set os x y at_x at_y ties =
-    one_of_a_name (listed set os) x y (filtered (is_owned set) x (first_of_each (listed set os)) (among_contained (owned_among set os) x at_x)).0
-    (filtered (is_owned set) y (first_of_each (listed set os)) (among_contained (owned_among set os) y at_y)).0
+    one_of_a_name (listed set os) x y (filtered (is_owned set) x (first_of_each (listed set os)) at_x).0
+    (filtered (is_owned set) y (first_of_each (listed set os)) at_y).0
     (exact_bytes x.key.name y.key.name (second_ties (nat_cmp (number_of x) (number_of y)) (slice_cmp nat_cmp x.key.name y.key.name) ties))
 
 pub owned_is : (set : SetParts) (os owned : List Object) → AreOwned set os owned → owned ≡ owned_of set os
