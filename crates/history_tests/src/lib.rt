@@ -9,7 +9,7 @@ mod growths;
 #[cfg(test)]
 mod limits;
 #[cfg(test)]
-mod orders;
+mod legal_orders;
 #[cfg(test)]
 mod replays;
 #[cfg(test)]
