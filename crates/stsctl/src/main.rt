@@ -2,19 +2,8 @@
 //! callers that race for one, and plans what a StatefulSet calls for.
 #![tactic(auto)]
 
-mod command;
-mod explain;
-mod halt;
-mod plan;
-mod replay;
-mod serve;
-mod status;
-#[cfg(test)]
-mod tests;
-mod words;
-
+use commands::{Heap, command};
 use plain::{ReadSource, WriteSink};
-use status::Heap;
 use std::process::ExitCode;
 use std::{env, io};
 
@@ -32,7 +21,7 @@ fn main(rt: HostRuntime) -> ExitCode {
     let mut writer = WriteSink::new(rt.stdout());
     let mut faults = WriteSink::new(rt.stderr());
     let mut heap = Heap::new(rt.alloc());
-    let status = command::command(
+    let status = command(
         &mut heap,
         words.as_slice(),
         &mut reader,

@@ -1,0 +1,60 @@
+-- What was made of an input that was read, and written or refused.
+use Rattle.std.proofs.Common.{◌≡◌, ℕ, List, [], Option, Some, None, inl, inr, refl, sym, subst}
+use Rattle.std.specs.Option.{IfSome}
+use Rattle.std.specs.Prelude.{IfErr, Result, Ok, Err}
+use Rattle.std.specs.Result.{IsErrAnd}
+use Rattle.plain.specs.declared.devices.input.InputFault.{InputFault}
+use Rattle.plain.specs.declared.devices.input.InputFault.TheVariants as input
+use Rattle.plain.specs.Streams.{Puts}
+use Rattle.scripts.specs.Events.{Fails}
+use Rattle.scripts.specs.Scripts.{script_of}
+use Rattle.scripts.specs.declared.fault.ScriptError.{ScriptError}
+use Rattle.scripts.specs.declared.fault.ScriptError.TheVariants.{BadScript, Memory}
+use Rattle.commands.specs.Halts.{IsNamed, halt_of, name_of}
+use Rattle.commands.specs.Replaying.{IsRefusedBy, IsReplayRefusal, IsReplayText, IsRunRefusal, Replays, script_refusal}
+use Rattle.interleavings.specs.World.{Size}
+use Rattle.interleavings.specs.declared.event.Event.{Event}
+
+pub replays : (had left before after : Option (List ℕ)) (text shown : List ℕ)
+    → IfSome had (λ input. (left ≡ Some []) × IsReplayText input text) → Puts before shown after → shown ≡ text → Replays had left before after
+replays None left before after text shown replayed puts same = tt
+replays (Some input) left before after text shown replayed puts same =
+    (replayed.0, (text, replayed.1, subst (λ t. Puts before t after) same puts))
+
+-- a text that is no script is refused by that name
+pub refused_script : (error : ScriptError) (name : Option (List ℕ)) (input : List ℕ) → name ≡ script_refusal error → Fails error (script_of input)
+    → IfSome name (IsReplayRefusal input)
+refused_script BadScript name input is fails = subst (λ o. IfSome o (IsReplayRefusal input)) (sym is) (inl (fails, refl))
+refused_script Memory name input is fails = subst (λ o. IfSome o (IsReplayRefusal input)) (sym is) tt
+
+-- a run that is refused is that of the script
+pub refused_run : (name : Option (List ℕ)) (input : List ℕ) (script : Size × List Event) → script_of input ≡ Some script → IfSome name IsRunRefusal
+    → IfSome name (IsReplayRefusal input)
+refused_run None input script is refused = tt
+refused_run (Some name) input script is refused = inr (script, is, refused)
+
+-- a refusal has the name that is told
+pub told_and : (name : Option (List ℕ)) (Is Said : List ℕ → Type 0) → IsNamed name Is → IfSome name Said → (n : List ℕ) × Is n × Said n
+told_and None Is Said named holds = absurd named
+told_and (Some n) Is Said named holds = (n, named, holds)
+
+pub told : (name : Option (List ℕ)) (Is : List ℕ → Type 0) → IsNamed name Is → (n : List ℕ) × Is n
+told None Is named = absurd named
+told (Some n) Is named = (n, named)
+
+-- a fault of the input has no name
+pub unnamed : (fault : InputFault) → name_of (halt_of fault) ≡ None
+unnamed input.Read = refl
+unnamed input.Memory = refl
+
+-- an error that came of another has what follows of that
+pub error_has : {A E : Type 0} (result : Result A E) (From Has : E → Type 0) → IsErrAnd result From → ((e : E) → From e → Has e) → IfErr result Has
+error_has (Ok x) From Has is has = tt
+error_has (Err e) From Has is has = has e is
+
+-- what is refused of the bytes that were read is refused of the input
+pub refused_input : (name : Option (List ℕ)) (had left : Option (List ℕ)) (bytes : List ℕ) → IfSome had (λ i. bytes ≡ i) → IfSome had (λ _. left ≡ Some [])
+    → IfSome name (IsReplayRefusal bytes) → IfSome name (IsRefusedBy had left)
+refused_input None had left bytes all ends refused = tt
+refused_input (Some name) None left bytes all ends refused = tt
+refused_input (Some name) (Some i) left bytes all ends refused = (ends, subst (λ b. IsReplayRefusal b name) all refused)

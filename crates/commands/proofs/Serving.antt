@@ -1,0 +1,171 @@
+-- What `clap` found for a subcommand is what the words ask for.
+use Rattle.std.proofs.Common.{◌≡◌, ◌≤◌, ◌<◌, ◌^◌, ℕ, inl, Bool, true, false, List, [], Option, Some, None, Result, Ok, Err, codes, refl, sym, ap, subst, ◌∙◌, MatchBool, MatchOption, arith, max, min}
+use Rattle.std.specs.Prelude.{Box, length, nat_eq, option_map, unwrap_or, if◌then◌else◌}
+use Rattle.std.specs.Borrow.{Bor}
+use Rattle.std.specs.Box.{box_value}
+use Rattle.std.specs.Str.{bytes_eq}
+use Rattle.std.specs.Str.Parse.{ParsesUnsigned, digits_value, without_leading_plus}
+use Rattle.std.proofs.lemmas.Slice.Eq.{bytes_eq-Decides}
+use Rattle.clap.specs.Words.{App, HasMatchesOf, ReadsOne, Row, Text, first_of, is_simple, one_of, subcommand_name_of, subcommand_of, subcommand_rows_of}
+use Rattle.clap.specs.Simple.{subcommand_rows}
+use Rattle.clap.specs.declared.parser.matches.ArgMatches.{ArgMatches}
+use Rattle.clap.specs.declared.parser.matches.ArgMatches.TheViews.{out-ArgMatches, out-SubCommand}
+use Rattle.clap.specs.declared.parser.matches.SubCommand.{SubCommand}
+use Rattle.clap.proofs.OnLiterals.{clap_on_literals}
+use Rattle.plain.specs.Served.{served_so_far}
+use Rattle.plain.specs.Streams.{PutsPart, Takes}
+use Rattle.plain.proofs.Flows.{PutsPart-none, Takes-none}
+use Rattle.commands.specs.Asked.{IsAsked, IsOther}
+use Rattle.commands.specs.Serving.{ServesSome}
+use Rattle.commands.specs.declared.words.Asked.{Asked}
+use Rattle.commands.specs.declared.words.Asked.TheVariants.{Plan, Replay, Serve}
+use Rattle.commands.specs.Grammar.{IsCapacityBy, IsDigitsBy, asks_to, capacity_text, digits_text, is_under, plan_text, rows_under, stsctl_app}
+
+stsctl-is_simple : is_simple stsctl_app ≡ true
+unfolding clap_on_literals
+stsctl-is_simple = refl
+
+-- the subcommand that was met is that of the words
+pub met : (app : App) (words : List Text) (m : ArgMatches) → app ≡ stsctl_app → HasMatchesOf app words m → subcommand_rows_of m ≡ subcommand_of stsctl_app words
+met app words m same has =
+    let Has : App → Type 0 = λ a. HasMatchesOf a words m in
+    (subst Has same has stsctl-is_simple).1
+
+pub false-true : false ≡ true → ⊥
+false-true is = subst (λ b. MatchBool b ⊥ (Unit {0})) is tt
+
+picked : (b : Bool) (rows : List Row) → b ≡ true → (if b then rows else []) ≡ rows
+picked true rows is = refl
+picked false rows is = absurd (false-true is)
+
+left_out : (b : Bool) (rows : List Row) → (b ≡ true → ⊥) → (if b then rows else []) ≡ []
+left_out true rows not = absurd (not refl)
+left_out false rows not = refl
+
+not_true : (b : Bool) → (b ≡ true → ⊥) → b ≡ false
+not_true true not = absurd (not refl)
+not_true false not = refl
+
+-- where it is that subcommand, its rows are those that are under it
+module _ {Z : Type 0} where
+  here : (word : Text) (o : Option (Box SubCommand Z)) → option_map (λ b. (out-SubCommand (box_value b)).name.now) o ≡ Some word
+      → is_under word (subcommand_rows o) ≡ true
+  here word None name = absurd (subst (λ o. MatchOption o (Unit {0}) (λ _. ⊥)) name tt)
+  here word (Some b) name =
+      let n = (out-SubCommand (box_value b)).name.now in
+      (bytes_eq-Decides n word).1 (ap (λ o. unwrap_or o []) name)
+
+  not_here : (word : Text) (o : Option (Box SubCommand Z)) → (option_map (λ b. (out-SubCommand (box_value b)).name.now) o ≡ Some word → ⊥)
+      → is_under word (subcommand_rows o) ≡ false
+  not_here word None other = refl
+  not_here word (Some b) other =
+      let n = (out-SubCommand (box_value b)).name.now in
+      not_true (bytes_eq n word) (λ same. other (ap (λ t. Some t) ((bytes_eq-Decides n word).0 same)))
+
+  rows_here : (word : Text) (o : Option (Box SubCommand Z)) (rows : List Row) → option_map (λ b. (out-SubCommand (box_value b)).name.now) o ≡ Some word
+      → option_map (λ p. p.1) (subcommand_rows o) ≡ Some rows → rows_under word (subcommand_rows o) ≡ rows
+  rows_here word None rows name found = absurd (subst (λ o. MatchOption o (Unit {0}) (λ _. ⊥)) name tt)
+  rows_here word (Some b) rows name found =
+      let n = (out-SubCommand (box_value b)).name.now in
+      let is : n ≡ word = ap (λ o. unwrap_or o []) name in
+      picked (bytes_eq n word) _ ((bytes_eq-Decides n word).1 is) ∙ ap (λ o. unwrap_or o []) found
+
+  no_rows : (word : Text) (o : Option (Box SubCommand Z)) → (option_map (λ b. (out-SubCommand (box_value b)).name.now) o ≡ Some word → ⊥)
+      → rows_under word (subcommand_rows o) ≡ []
+  no_rows word None other = refl
+  no_rows word (Some b) other =
+      let n = (out-SubCommand (box_value b)).name.now in
+      left_out (bytes_eq n word) _ (λ same. other (ap (λ t. Some t) ((bytes_eq-Decides n word).0 same)))
+
+pub under-met : (word : Text) (m : ArgMatches) → subcommand_name_of m ≡ Some word → is_under word (subcommand_rows_of m) ≡ true
+under-met word m name = here word (out-ArgMatches m).subcommand name
+
+pub under-unmet : (word : Text) (m : ArgMatches) → (subcommand_name_of m ≡ Some word → ⊥) → is_under word (subcommand_rows_of m) ≡ false
+under-unmet word m other = not_here word (out-ArgMatches m).subcommand other
+
+pub rows-met : (word : Text) (m : ArgMatches) (rows : List Row) → subcommand_name_of m ≡ Some word → option_map (λ p. p.1) (subcommand_rows_of m) ≡ Some rows
+    → rows_under word (subcommand_rows_of m) ≡ rows
+rows-met word m rows name found = rows_here word (out-ArgMatches m).subcommand rows name found
+
+pub rows-unmet : (word : Text) (m : ArgMatches) → (subcommand_name_of m ≡ Some word → ⊥) → rows_under word (subcommand_rows_of m) ≡ []
+rows-unmet word m other = no_rows word (out-ArgMatches m).subcommand other
+
+-- what is under a subcommand that was met is what the words say of it
+pub asks-to : (words : List Text) (m : ArgMatches) (word : Text) (b : Bool) → subcommand_rows_of m ≡ subcommand_of stsctl_app words
+    → is_under word (subcommand_rows_of m) ≡ b → asks_to word words ≡ b
+unfolding asks_to
+asks-to words m word b same is = ap (λ e. is_under word e) (sym same) ∙ is
+
+pub capacity-is : (words : List Text) (m : ArgMatches) → subcommand_rows_of m ≡ subcommand_of stsctl_app words
+    → one_of (codes "capacity") (rows_under (codes "serve") (subcommand_rows_of m)) ≡ capacity_text words
+unfolding capacity_text
+capacity-is words m same = ap (λ e. one_of (codes "capacity") (rows_under (codes "serve") e)) same
+
+-- words that name `plan` do not name `replay`
+plan-replay : Some (codes "plan") ≡ Some (codes "replay") → ⊥
+plan-replay is = absurd (false-true (ap (λ o. nat_eq (length (unwrap_or o [])) 6) is))
+
+pub replay-unmet : (m : ArgMatches) → subcommand_name_of m ≡ Some (codes "plan") → is_under (codes "replay") (subcommand_rows_of m) ≡ false
+replay-unmet m plan = under-unmet (codes "replay") m (λ replay. plan-replay (sym plan ∙ replay))
+
+-- what words without a plan ask for
+pub other_asked : (words : List Text) (m : ArgMatches) (asked : Asked) → subcommand_rows_of m ≡ subcommand_of stsctl_app words
+    → asks_to (codes "plan") words ≡ false → IsOther (subcommand_rows_of m) asked → IsAsked words asked
+other_asked words m (Serve capacity) same plan other =
+    (plan, asks-to words m (codes "replay") false same other.0, subst (λ t. IsCapacityBy t capacity) (capacity-is words m same) other.1)
+other_asked words m Replay same plan other = (plan, asks-to words m (codes "replay") true same other)
+other_asked words m (Plan asked) same plan other = absurd other
+
+pub plan-is : (words : List Text) (m : ArgMatches) (option : Text) (rows : List Row) → subcommand_rows_of m ≡ subcommand_of stsctl_app words
+    → rows_under (codes "plan") (subcommand_rows_of m) ≡ rows → first_of option rows ≡ plan_text option words
+unfolding plan_text
+plan-is words m option rows same is = ap (first_of option) (sym is) ∙ ap (λ e. first_of option (rows_under (codes "plan") e)) same
+
+pub digits-is : (words : List Text) (m : ArgMatches) (rows : List Row) → subcommand_rows_of m ≡ subcommand_of stsctl_app words
+    → rows_under (codes "plan") (subcommand_rows_of m) ≡ rows → one_of (codes "digits") rows ≡ digits_text words
+unfolding digits_text
+digits-is words m rows same is = ap (one_of (codes "digits")) (sym is) ∙ ap (λ e. one_of (codes "digits") (rows_under (codes "plan") e)) same
+
+pub now_or : (o : Option (Bor Text)) (d : Bor Text) → (unwrap_or o d).now ≡ unwrap_or (option_map (λ s. s.now) o) d.now
+now_or None d = refl
+now_or (Some t) d = refl
+
+-- a number that was read, or none
+pub read : {E : Type 0} (gives : Text → Result ℕ E → Type 0) (text : Option Text) (given : Option ℕ) (capacity : ℕ)
+    → ((t : Text) (r : Result ℕ E) → gives t r → ParsesUnsigned 64 10 t r) → (text ≡ None → given ≡ None)
+    → ((t : Text) → text ≡ Some t → ReadsOne gives t given) → capacity ≡ unwrap_or given 1048576 → IsCapacityBy text capacity
+read gives None given capacity parses none some is = is ∙ ap (λ g. unwrap_or g 1048576) (none refl)
+read gives (Some t) (Some n) capacity parses none some is = λ numeral low. is ∙ (parses t (Ok n) (some t refl)).1
+read gives (Some t) None capacity parses none some is = λ numeral low.
+    let failed = some t refl in absurd (parses t (Err failed.0) failed.1 (numeral, low))
+
+pub read_digits : {E : Type 0} (gives : Text → Result ℕ E → Type 0) (text : Option Text) (given : Option ℕ) (digits : ℕ)
+    → ((t : Text) (r : Result ℕ E) → gives t r → ParsesUnsigned 64 10 t r) → (text ≡ None → given ≡ None)
+    → ((t : Text) → text ≡ Some t → ReadsOne gives t given) → digits ≡ max 1 (min (unwrap_or given 10) 64) → IsDigitsBy text digits
+read_digits gives None given digits parses none some is = is ∙ ap (λ g. max 1 (min (unwrap_or g 10) 64)) (none refl)
+read_digits gives (Some t) (Some n) digits parses none some is = λ numeral least most.
+    let n_is : n ≡ digits_value 10 (without_leading_plus t) = (parses t (Ok n) (some t refl)).1 in
+    is ∙ (ap (λ k. max 1 (min k 64)) n_is ∙ within (digits_value 10 (without_leading_plus t)) least most)
+  where
+    within : (n : ℕ) → 1 ≤ n → n ≤ 64 → max 1 (min n 64) ≡ n
+    within n least most = omega arith
+read_digits gives (Some t) None digits parses none some is = λ numeral least most.
+    let low : digits_value 10 (without_leading_plus t) < 2 ^ 64 = below (digits_value 10 (without_leading_plus t)) most in
+    let failed = some t refl in absurd (parses t (Err failed.0) failed.1 (numeral, low))
+  where
+    below : (n : ℕ) → n ≤ 64 → n < 2 ^ 64
+    below n most = omega arith
+
+asked-some : (text : Option Text) → (capacity : ℕ) × IsCapacityBy text capacity
+asked-some None = (1048576, refl)
+asked-some (Some text) = (_, λ numeral low. refl)
+
+-- nothing was read, and nothing written
+pub serves_nothing : (words : List Text) (had left before after : Option (List ℕ)) → left ≡ had → after ≡ before → ServesSome words had left before after
+serves_nothing words had left before after same_left same_after =
+    let asked = asked-some (capacity_text words) in
+    let text : List ℕ = served_so_far asked.0 [] in (
+      asked.0,
+      asked.1,
+      ([], subst (λ o. Takes had [] o) (sym same_left) (Takes-none had), inl (subst (λ o. PutsPart before text o) (sym same_after) (PutsPart-none before text))),
+    )

@@ -1,0 +1,44 @@
+use Rattle.std.proofs.Common.{rules, map, inl, inr, refl, ap, subst}
+use Rattle.commands.specs.declared.words.Asked.{Asked}
+use Rattle.commands.specs.Asked.{IsAsked}
+use Rattle.commands.specs.Grammar.{faults_of, is_mistake, is_request}
+use Rattle.commands.proofs.Asked.{list_any-kind, no_kind, only_memory}
+use Rattle.commands.proofs.Serving.{serves_nothing}
+use Rattle.commands.proofs.program.command.Goals as goal
+
+pub returns-in-Ok-Serve-clause-cause : goal.returns-in-Ok-Serve-clause-cause
+returns-in-Ok-Serve-clause-cause g c = λ is.
+    let words = map g.S.AsStr.text c.args.words.now in
+    let asked = subst (λ (a : Asked). IsAsked words a) c.in-Ok-Serve.field-0-is c.in-Ok-Serve.ensures.asked in
+    elim (c.served.ensures.cause (search (rules, is))) [
+      | inl read ↦ inl read
+      | inr (inl wrote) ↦ inr (inl wrote)
+      | inr (inr (inl memory)) ↦ inr (inr (inl memory))
+      | inr (inr (inr out)) ↦ inr (inr (inr (c.in-Ok-Serve.ensures.faults, (c.in-Ok-Serve.capacity, asked.2, out))))
+    ]
+
+pub returns-in-Err-clause-success : goal.returns-in-Err-clause-success
+returns-in-Err-clause-success g c = λ same.
+    inr (list_any-kind is_request c.in-Err.error (faults_of (map g.S.AsStr.text c.args.words.now)) (search rules) c.in-Err.ensures.faults
+    (c.explained.ensures.success same))
+
+pub returns-in-Err-clause-refused : goal.returns-in-Err-clause-refused
+returns-in-Err-clause-refused g c = λ same.
+    list_any-kind is_mistake c.in-Err.error (faults_of (map g.S.AsStr.text c.args.words.now)) (search rules) c.in-Err.ensures.faults
+    (c.explained.ensures.refused same)
+
+pub returns-in-Err-clause-part : goal.returns-in-Err-clause-part
+returns-in-Err-clause-part g c = λ is none no_plan no_replay.
+    let words = map g.S.AsStr.text c.args.words.now in
+    let memory = only_memory c.in-Err.error words c.in-Err.ensures.faults none in
+    serves_nothing words _ _ _ _ refl (ap g.W.Sink.written (c.explained.ensures.untouched (ap is_request memory)))
+
+pub returns-in-Err-clause-mistakes : goal.returns-in-Err-clause-mistakes
+returns-in-Err-clause-mistakes g c = λ some none.
+    c.explained.ensures.mistake
+    (no_kind is_request c.in-Err.error (faults_of (map g.S.AsStr.text c.args.words.now)) (search rules) c.in-Err.ensures.faults none)
+
+pub returns-in-Err-clause-silent : goal.returns-in-Err-clause-silent
+returns-in-Err-clause-silent g c = λ some none.
+    c.explained.ensures.untouched
+    (no_kind is_request c.in-Err.error (faults_of (map g.S.AsStr.text c.args.words.now)) (search rules) c.in-Err.ensures.faults none)

@@ -1,0 +1,16 @@
+use Rattle.std.proofs.Common.{List, sym, subst}
+use Rattle.std.specs.Option.{IfSome}
+use Rattle.history.specs.After.{IsRunOf}
+use Rattle.interleavings.specs.declared.event.Event.{Event}
+use Rattle.commands.specs.Replaying.{IsRunRefusal}
+use Rattle.commands.proofs.Replayed.{error_has}
+use Rattle.commands.proofs.replay.replay_of_script.Goals as goal
+
+pub returns-clause-replayed : goal.returns-clause-replayed
+returns-clause-replayed c =
+    let Is : List Event → Type 0 = λ events. IsRunOf (record { capacity = c.args.script.now.capacity; shards = c.args.script.now.shards }) events c.in_ok-run.run' in
+    (c.in_ok-run.run', subst Is c.as_slice.ensures.value c.in_ok-run.ensures.run, c.in_ok-text.ensures)
+
+pub returns-in_err-text-clause-refused : goal.returns-in_err-text-clause-refused
+returns-in_err-text-clause-refused c =
+    error_has c.from_residual-in_err-text.result _ _ c.from_residual-in_err-text.ensures.1 (λ halt is. subst (λ o. IfSome o IsRunRefusal) (sym is.1) tt)

@@ -1,0 +1,15 @@
+use Rattle.commands.proofs.Replayed.{replays, told_and}
+use Rattle.commands.specs.Halts.{Tells, name_of}
+use Rattle.commands.specs.Replaying.{IsRefusedBy}
+use Rattle.commands.proofs.replay.replayed.Goals as goal
+
+pub returns-in-Ok-clause-replayed : goal.returns-in-Ok-clause-replayed
+returns-in-Ok-clause-replayed g c = λ is.
+    replays (g.R.Source.remaining c.args.reader.now) (g.R.Source.remaining c.replay_of_input.new.reader) (g.W.Sink.written c.args.writer.now)
+    (g.W.Sink.written c.shown.new.writer) c.in-Ok.text.items c.as_slice.result.now c.in-Ok.ensures.replayed (c.shown.ensures.all is) c.as_slice.ensures.value
+
+pub returns-in-Err-clause-named : goal.returns-in-Err-clause-named
+returns-in-Err-clause-named g c = λ is.
+    told_and (name_of c.in-Err.halt)
+    (λ name. Tells name (g.F.Sink.written c.args.faults.now) (g.F.Sink.written c.halted.new.faults) (g.F.Sink.failures c.args.faults.now) (g.F.Sink.failures c.halted.new.faults))
+    (IsRefusedBy (g.R.Source.remaining c.args.reader.now) (g.R.Source.remaining c.replay_of_input.new.reader)) (c.halted.ensures.named is) c.in-Err.ensures.refused

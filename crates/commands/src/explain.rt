@@ -1,0 +1,50 @@
+//! Help, the version, and what is wrong with words.
+ghost use Rattle.std.specs.Prelude.{◌≡◌, ◌≢◌, ◌≤◌, ◌<◌, ◌⊎◌, true, false};
+ghost use Rattle.clap.specs.Words.{kind_of};
+ghost use Rattle.commands.specs.Grammar.{is_mistake, is_request};
+
+use crate::status::{BAD_WORDS, FAILURE, Heap, SUCCESS, shown, told};
+use clap::Error;
+use clap::error::ErrorKind;
+use plain::Sink;
+
+/// Whether the words ask for help or for the version.
+fn is_request(kind: ErrorKind) -> bool
+    ensures { result ≡ is_request kind }
+{
+    matches!(kind, ErrorKind::DisplayHelp | ErrorKind::DisplayVersion)
+}
+
+/// Whether the words are bad.
+fn is_mistake(kind: ErrorKind) -> bool
+    ensures { result ≡ is_mistake kind }
+{
+    !is_request(kind) && kind != ErrorKind::OutOfMemory
+}
+
+/// Says why nothing is done: help and the version on `writer`, a mistake in the words on `faults`.
+pub(crate) fn explained<W: Sink, F: Sink>(
+    heap: &mut Heap,
+    error: &Error,
+    writer: &mut W,
+    faults: &mut F,
+) -> u8
+    ensures status { result ≤ BAD_WORDS }
+    ensures success { result ≡ SUCCESS → is_request (kind_of error.now) ≡ true }
+    ensures refused { result ≡ BAD_WORDS → is_mistake (kind_of error.now) ≡ true }
+    ensures mistake { is_request (kind_of error.now) ≡ false → (result ≡ BAD_WORDS) ⊎ (heap.new.refused ≡ true) }
+    ensures cause { result ≡ FAILURE → (W.failures writer.old < W.failures writer.new) ⊎ (heap.new.refused ≡ true) }
+    ensures memory { result ≢ FAILURE → heap.new.refused ≡ heap.old.refused }
+    ensures quiet { result ≢ BAD_WORDS → faults.new ≡ faults.old }
+    ensures untouched { is_request (kind_of error.now) ≡ false → writer.new ≡ writer.old }
+{
+    let kind = error.kind();
+    match format!(in heap.alloc; "{error}") {
+        Ok(text) if is_request(kind) => shown(writer, text.as_bytes()),
+        Ok(text) if is_mistake(kind) => told(faults, text.as_bytes()),
+        _ => {
+            heap.refused = true;
+            FAILURE
+        }
+    }
+}

@@ -1,0 +1,117 @@
+//! Why a run over a whole input has no output, and its exit status.
+ghost use Rattle.std.specs.Prelude.{◌≡◌, ◌≢◌, ◌<◌, ◌⊎◌, None, false, true, IfSome};
+ghost use Rattle.commands.specs.Halts.{IsNamed, Tells, halt_of, is_read, name_of};
+ghost use Rattle.commands.specs.Replaying.{IsRunRefusal, script_refusal};
+
+use crate::status::{BAD_WORDS, FAILURE, Heap, REFUSED, SUCCESS, refused};
+use history::ReplayError;
+use objects::{Memory, ReadError};
+use plain::{InputFault, RequestError, Sink};
+use plan_lines::plan_error_name;
+use scripts::ScriptError;
+use sets::PlanError;
+use std::alloc::AllocError;
+
+/// Why there is no output.
+#[derive(Clone, Copy, Drop)]
+pub(crate) enum Halt {
+    /// The reader failed.
+    Read,
+    /// An allocation was refused.
+    Memory,
+    /// The input is refused, by this name.
+    Refused(&'static str),
+}
+
+impl From<AllocError> for Halt {
+    ghost from_gives = { λ _ halt. is_read halt ≡ false };
+
+    fn from(_error: AllocError) -> Halt {
+        Halt::Memory
+    }
+}
+
+impl From<Memory> for Halt {
+    ghost from_gives = { λ _ halt. (is_read halt ≡ false) × (name_of halt ≡ None) };
+
+    fn from(_error: Memory) -> Halt {
+        Halt::Memory
+    }
+}
+
+impl From<InputFault> for Halt {
+    ghost from_gives = { λ fault halt. halt ≡ halt_of fault };
+
+    fn from(fault: InputFault) -> Halt {
+        match fault {
+            InputFault::Read => Halt::Read,
+            InputFault::Memory => Halt::Memory,
+        }
+    }
+}
+
+impl From<ReadError> for Halt {
+    ghost from_gives = { λ _ halt. is_read halt ≡ false };
+
+    fn from(error: ReadError) -> Halt {
+        match error {
+            ReadError::Memory => Halt::Memory,
+            error => Halt::Refused(RequestError::Read(error).name()),
+        }
+    }
+}
+
+impl From<PlanError> for Halt {
+    ghost from_gives = { λ _ halt. is_read halt ≡ false };
+
+    fn from(error: PlanError) -> Halt {
+        match error {
+            PlanError::Memory => Halt::Memory,
+            error => Halt::Refused(plan_error_name(&error)),
+        }
+    }
+}
+
+impl From<ScriptError> for Halt {
+    ghost from_gives = { λ error halt. (is_read halt ≡ false) × (name_of halt ≡ script_refusal error) };
+
+    fn from(error: ScriptError) -> Halt {
+        match error {
+            ScriptError::Memory => Halt::Memory,
+            ScriptError::BadScript => Halt::Refused("BadScript"),
+        }
+    }
+}
+
+impl From<ReplayError> for Halt {
+    ghost from_gives = { λ _ halt. (is_read halt ≡ false) × IfSome (name_of halt) IsRunRefusal };
+
+    fn from(error: ReplayError) -> Halt {
+        match error {
+            ReplayError::Memory => Halt::Memory,
+            ReplayError::BadShards => Halt::Refused("BadShards"),
+            ReplayError::BadCapacity => Halt::Refused("BadCapacity"),
+            ReplayError::TooManyCallers => Halt::Refused("TooManyCallers"),
+        }
+    }
+}
+
+/// The exit status of a run that has no output. A refusal goes to `faults`.
+pub(crate) fn halted<F: Sink>(heap: &mut Heap, halt: Halt, faults: &mut F) -> u8
+    ensures status { (result < BAD_WORDS) ⊎ (result ≡ REFUSED) }
+    ensures failed { result ≢ SUCCESS }
+    ensures named { result ≡ REFUSED → IsNamed (name_of halt)
+        (λ name. Tells name (F.written faults.old) (F.written faults.new) (F.failures faults.old) (F.failures faults.new)) }
+    ensures cause { result ≡ FAILURE → (is_read halt ≡ true) ⊎ (heap.new.refused ≡ true) }
+    ensures memory { result ≢ FAILURE → heap.new.refused ≡ heap.old.refused }
+    ensures quiet { result < BAD_WORDS → faults.new ≡ faults.old }
+{
+    match halt {
+        Halt::Read => FAILURE,
+        Halt::Memory => {
+            heap.refused = true;
+            FAILURE
+        }
+        Halt::Refused(name) => refused(faults, name),
+    }
+}

@@ -1,0 +1,70 @@
+//! `stsctl replay`.
+ghost use Rattle.std.specs.Prelude.{◌≡◌, ◌≢◌, ◌<◌, ◌⊎◌, ℕ, List, [], true, false, IfOk, IfErr, IfSome, Some};
+ghost use Rattle.scripts.specs.Scripts.{parts_of};
+ghost use Rattle.commands.specs.Halts.{Tells, is_read, name_of};
+ghost use Rattle.commands.specs.Replaying.{IsRefusedBy, IsReplayRefusal, IsReplayText, IsRunRefusal, IsRunText, Replays};
+
+use crate::halt::{Halt, halted};
+use crate::status::{BAD_WORDS, FAILURE, Heap, REFUSED, SUCCESS, shown};
+use history::replay;
+use plain::{Sink, Source, read_all};
+use scripts::{Script, read_script, run_text};
+use std::alloc::Global;
+
+/// Runs the events of the script that the reader has, and writes the replies and the order.
+pub(crate) fn replayed<R: Source, W: Sink, F: Sink>(
+    heap: &mut Heap,
+    reader: &mut R,
+    writer: &mut W,
+    faults: &mut F,
+) -> u8
+    ensures status { (result < BAD_WORDS) ⊎ (result ≡ REFUSED) }
+    ensures replayed { result ≡ SUCCESS → Replays (R.remaining reader.old) (R.remaining reader.new)
+        (W.written writer.old) (W.written writer.new) }
+    ensures named { result ≡ REFUSED → (name : List ℕ)
+        × (Tells name (F.written faults.old) (F.written faults.new) (F.failures faults.old) (F.failures faults.new))
+        × IsRefusedBy (R.remaining reader.old) (R.remaining reader.new) name }
+    ensures cause { result ≡ FAILURE → (R.failures reader.old < R.failures reader.new) ⊎ ((W.failures writer.old < W.failures writer.new)
+        ⊎ (heap.new.refused ≡ true)) }
+    ensures memory { result ≢ FAILURE → heap.new.refused ≡ heap.old.refused }
+    ensures quiet { result < BAD_WORDS → faults.new ≡ faults.old }
+    ensures silent { result ≡ REFUSED → writer.new ≡ writer.old }
+{
+    match replay_of_input(heap.alloc, reader) {
+        Ok(text) => shown(writer, text.as_slice()),
+        Err(halt) => halted(heap, halt, faults),
+    }
+}
+
+/// The replies and the order, given all that the reader has.
+fn replay_of_input<R: Source>(alloc: Global, reader: &mut R) -> Result<Vec<u8>, Halt>
+    ensures replayed { IfOk result (λ text. IfSome (R.remaining reader.old) (λ input. (R.remaining reader.new ≡ Some []) × IsReplayText input text.items)) }
+    ensures refused { IfErr result (λ halt. IfSome (name_of halt) (IsRefusedBy (R.remaining reader.old) (R.remaining reader.new))) }
+    ensures read { IfErr result (λ halt. is_read halt ≡ true → R.failures reader.old < R.failures reader.new) }
+{
+    let input = read_all(alloc, reader)?;
+    replay_of_lines(alloc, input.as_slice())
+}
+
+/// The replies and the order, given the lines of the script.
+fn replay_of_lines(alloc: Global, input: &[u8]) -> Result<Vec<u8>, Halt>
+    ensures replayed { IfOk result (λ text. IsReplayText input.now text.items) }
+    ensures refused { IfErr result (λ halt. IfSome (name_of halt) (IsReplayRefusal input.now)) }
+    ensures read { IfErr result (λ halt. is_read halt ≡ false) }
+{
+    let script = read_script(alloc, input)?;
+    replay_of_script(alloc, &script)
+}
+
+/// The replies and the order of the run of a script.
+fn replay_of_script(alloc: Global, script: &Script) -> Result<Vec<u8>, Halt>
+    ensures replayed { IfOk result (λ text. IsRunText (parts_of script.now) text.items) }
+    ensures refused { IfErr result (λ halt. IfSome (name_of halt) IsRunRefusal) }
+    ensures read { IfErr result (λ halt. is_read halt ≡ false) }
+{
+    let shards = script.shards as usize;
+    let run = replay(alloc, shards, script.capacity, script.events.as_slice())?;
+    let text = run_text(alloc, &run);
+    drop(run);
+    Ok(text?)
+}

@@ -1,0 +1,33 @@
+//! `stsctl serve`.
+ghost use Rattle.std.specs.Prelude.{◌≡◌, ◌≢◌, ◌≤◌, ◌<◌, ◌⊎◌, true};
+ghost use Rattle.plain.specs.Streams.{ServesPart};
+ghost use Rattle.plain.specs.Served.{served, served_so_far};
+ghost use Rattle.commands.specs.Serving.{IsOutOfRange, ServesAll};
+
+use crate::status::{BAD_WORDS, FAILURE, Heap, SUCCESS};
+use plain::{MAX_REVISIONS, ServeFault, Sink, Source};
+
+/// Serves the lines of the reader.
+pub(crate) fn served<R: Source, W: Sink>(
+    heap: &mut Heap,
+    reader: &mut R,
+    writer: &mut W,
+    capacity: u64,
+) -> u8
+    ensures status { result < BAD_WORDS }
+    ensures range { result ≡ SUCCESS → (1 ≤ capacity) × (capacity ≤ MAX_REVISIONS) }
+    ensures all { result ≡ SUCCESS → ServesAll capacity (R.remaining reader.old) (R.remaining reader.new)
+        (W.written writer.old) (W.written writer.new) }
+    ensures part { result ≢ SUCCESS → ServesPart (served_so_far capacity) (served capacity)
+        (R.remaining reader.old) (R.remaining reader.new) (W.written writer.old) (W.written writer.new) }
+    ensures cause { result ≢ SUCCESS → (R.failures reader.old < R.failures reader.new) ⊎ ((W.failures writer.old < W.failures writer.new)
+        ⊎ ((heap.new.refused ≡ true) ⊎ IsOutOfRange capacity)) }
+    ensures memory { result ≡ SUCCESS → heap.new.refused ≡ heap.old.refused }
+{
+    let ended = plain::serve(heap.alloc, reader, writer, capacity);
+    heap.refused |= matches!(ended, Err(ServeFault::Memory));
+    match ended {
+        Ok(_) => SUCCESS,
+        Err(_) => FAILURE,
+    }
+}

@@ -1,0 +1,79 @@
+//! Exit statuses, and what goes with each.
+ghost use Rattle.std.specs.Prelude.{◌≡◌, ◌≢◌, ◌<◌, ◌⊎◌, ◌++◌, ◌∷◌, [], codes, IfNone, OnSome, false};
+ghost use Rattle.plain.specs.Streams.{Puts};
+ghost use Rattle.commands.specs.Halts.{Tells, refusal_text};
+
+use plain::{Sink, write_all};
+use std::alloc::Global;
+
+/// The exit status of a run that did all that it was asked for.
+pub(crate) const SUCCESS: u8 = 0;
+
+/// The exit status where reading or writing failed, or memory ran out.
+pub(crate) const FAILURE: u8 = 1;
+
+/// The exit status where the words ask for nothing that the program does.
+pub(crate) const BAD_WORDS: u8 = 2;
+
+/// The exit status where the input is refused.
+pub(crate) const REFUSED: u8 = 3;
+
+/// What a run allocates from, and whether it was refused an allocation. The second tells an exit status of 1 for want of
+/// memory from one that nothing called for.
+#[derive(Drop)]
+pub struct Heap {
+    pub(crate) alloc: Global,
+    pub(crate) refused: bool,
+}
+
+impl Heap {
+    /// What allocates from there, and was refused nothing yet.
+    pub fn new(alloc: Global) -> Heap
+        ensures { result.refused ≡ false }
+    {
+        Heap {
+            alloc,
+            refused: false,
+        }
+    }
+}
+
+/// Writes the text that was asked for.
+pub(crate) fn shown<W: Sink>(writer: &mut W, text: &[u8]) -> u8
+    ensures status { result < BAD_WORDS }
+    ensures all { result ≡ SUCCESS → Puts (W.written writer.old) text.now (W.written writer.new) }
+    ensures failed { result ≢ SUCCESS → W.failures writer.old < W.failures writer.new }
+{
+    match write_all(writer, text) {
+        Some(()) => SUCCESS,
+        None => FAILURE,
+    }
+}
+
+/// Writes what is wrong with the words. The status already says that they are bad, so nothing is lost where this fails.
+pub(crate) fn told<F: Sink>(faults: &mut F, text: &[u8]) -> u8
+    ensures status { result ≡ BAD_WORDS }
+    ensures all { (Puts (F.written faults.old) text.now (F.written faults.new)) ⊎ (F.failures faults.old < F.failures faults.new) }
+{
+    let _ = write_all(faults, text);
+    BAD_WORDS
+}
+
+/// Writes by which name the input is refused, as `refused: NAME` and a line end. The status already says that it is
+/// refused, so nothing is lost where this fails.
+pub(crate) fn refused<F: Sink>(faults: &mut F, name: &str) -> u8
+    ensures status { result ≡ REFUSED }
+    ensures all { Tells name.now (F.written faults.old) (F.written faults.new) (F.failures faults.old) (F.failures faults.new) }
+{
+    let _ = put_refusal(faults, name);
+    REFUSED
+}
+
+fn put_refusal<F: Sink>(faults: &mut F, name: &str) -> Option<()>
+    ensures put { OnSome result (Puts (F.written faults.old) (refusal_text name.now) (F.written faults.new)) }
+    ensures failed { IfNone result (F.failures faults.old < F.failures faults.new) }
+{
+    write_all(faults, b"refused: ")?;
+    write_all(faults, name.as_bytes())?;
+    write_all(faults, b"\n")
+}
