@@ -3,6 +3,8 @@
 #![tactic(auto)]
 
 #[cfg(test)]
+mod growths;
+#[cfg(test)]
 mod kept_revisions;
 #[cfg(test)]
 mod limits;
@@ -10,6 +12,8 @@ mod limits;
 mod pod_claims;
 #[cfg(test)]
 mod refusals;
+#[cfg(test)]
+mod retention;
 #[cfg(test)]
 mod sample;
 #[cfg(test)]
