@@ -36,6 +36,13 @@ impl Heap {
             refused: false,
         }
     }
+
+    /// Whether it was refused an allocation.
+    pub fn was_refused(&self) -> bool
+        ensures { result ≡ self.now.refused }
+    {
+        self.refused
+    }
 }
 
 /// Writes the text that was asked for.

@@ -65,7 +65,7 @@ where
         status,
         written,
         faults,
-        is_refused: heap.refused,
+        is_refused: heap.was_refused(),
     }
 }
 
