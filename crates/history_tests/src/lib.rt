@@ -3,17 +3,23 @@
 #![tactic(auto)]
 
 #[cfg(test)]
+mod beside;
+#[cfg(test)]
+mod chance;
+#[cfg(test)]
 mod crashes;
 #[cfg(test)]
 mod growths;
 #[cfg(test)]
-mod limits;
-#[cfg(test)]
 mod legal_orders;
+#[cfg(test)]
+mod limits;
 #[cfg(test)]
 mod replays;
 #[cfg(test)]
 mod runs;
+#[cfg(test)]
+mod slow;
 #[cfg(test)]
 mod strangers;
 #[cfg(test)]
