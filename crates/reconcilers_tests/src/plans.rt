@@ -5,15 +5,20 @@ use requests::Request;
 use std::alloc::Global;
 use std::test::Fail;
 
-const SET: &str = r#"{"kind":"StatefulSet","metadata":{"name":"web","resourceVersion":"7","uid":"00000000-0000-4000-8000-000000000001"},"spec":{"replicas":1,"template":{}}}"#;
+const SET: &str =
+    r#"{"kind":"StatefulSet","metadata":{"name":"web","resourceVersion":"7","uid":"00000000-0000-4000-8000-000000000001"},"spec":{"replicas":1,"template":{}}}"#;
 
-const NO_REPLICAS: &str = r#"{"kind":"StatefulSet","metadata":{"name":"web","resourceVersion":"7","uid":"00000000-0000-4000-8000-000000000001"},"spec":{"replicas":0,"template":{}}}"#;
+const NO_REPLICAS: &str =
+    r#"{"kind":"StatefulSet","metadata":{"name":"web","resourceVersion":"7","uid":"00000000-0000-4000-8000-000000000001"},"spec":{"replicas":0,"template":{}}}"#;
 
-const REVISION: &str = r#"{"data":{"spec":{"template":{}}},"kind":"ControllerRevision","metadata":{"name":"web-x","ownerReferences":[{"controller":true,"uid":"00000000-0000-4000-8000-000000000001"}],"resourceVersion":"5","uid":"00000000-0000-4000-8000-000000000002"},"revision":1}"#;
+const REVISION: &str =
+    r#"{"data":{"spec":{"template":{}}},"kind":"ControllerRevision","metadata":{"name":"web-x","ownerReferences":[{"controller":true,"uid":"00000000-0000-4000-8000-000000000001"}],"resourceVersion":"5","uid":"00000000-0000-4000-8000-000000000002"},"revision":1}"#;
 
-const NEWER: &str = r#"{"data":{"spec":{"template":{"a":1}}},"kind":"ControllerRevision","metadata":{"name":"web-y","ownerReferences":[{"controller":true,"uid":"00000000-0000-4000-8000-000000000001"}],"resourceVersion":"6","uid":"00000000-0000-4000-8000-000000000003"},"revision":2}"#;
+const NEWER: &str =
+    r#"{"data":{"spec":{"template":{"a":1}}},"kind":"ControllerRevision","metadata":{"name":"web-y","ownerReferences":[{"controller":true,"uid":"00000000-0000-4000-8000-000000000001"}],"resourceVersion":"6","uid":"00000000-0000-4000-8000-000000000003"},"revision":2}"#;
 
-const POD: &str = r#"{"kind":"Pod","metadata":{"labels":{"controller-revision-hash":"web-x"},"name":"web-0","ownerReferences":[{"controller":true,"uid":"00000000-0000-4000-8000-000000000001"}],"resourceVersion":"9","uid":"00000000-0000-4000-8000-000000000008"},"status":{"conditions":[{"status":"True","type":"Ready"}],"phase":"Running"}}"#;
+const POD: &str =
+    r#"{"kind":"Pod","metadata":{"labels":{"controller-revision-hash":"web-x"},"name":"web-0","ownerReferences":[{"controller":true,"uid":"00000000-0000-4000-8000-000000000001"}],"resourceVersion":"9","uid":"00000000-0000-4000-8000-000000000008"},"status":{"conditions":[{"status":"True","type":"Ready"}],"phase":"Running"}}"#;
 
 /// The idea, the set, its revisions, its pods, and the requests of its plan.
 type Row = (
@@ -111,7 +116,15 @@ fn plan_text(alloc: Global, row: &Row) -> Result<String, Fail> {
     let revisions = objects(alloc, revisions)?;
     let pods = objects(alloc, pods)?;
     let moment = Text::copy_of(alloc, "2024-01-01T00:00:00Z")?;
-    let requests = requested(alloc, &set, 10, &moment, revisions.as_slice(), pods.as_slice(), &[])?;
+    let requests = requested(
+        alloc,
+        &set,
+        10,
+        &moment,
+        revisions.as_slice(),
+        pods.as_slice(),
+        &[],
+    )?;
     let mut text = String::new(alloc);
     for request in requests.iter() {
         let line = request_text(alloc, request)?;
