@@ -1,9 +1,11 @@
 //! Refused growths. `rt try --test --fail-alloc N` refuses the Nth allocation of each test. From 1 on, up to an N that no
 //! test of this file comes to, it has to pass: one call may want memory, and the same call after it is ample.
+ghost use Rattle.history.specs.After.{IsReached};
+
 use crate::replays::{CRASH_AFTER_RESERVE, EARLY_CONFLICT as CONFLICT, LIST_BESIDE_A_COMPACTION};
 use crate::runs::{Case, add_all};
 use crate::traces::{EARLY_CONFLICT, trace};
-use history::{Event, Item, ReplayError, Run, Trace, check_order, replay};
+use history::{Event, Item, Replay, ReplayError, Run, Trace, check_order, replay};
 use objects::Memory;
 use std::alloc::Global;
 use std::process::Abort;
@@ -97,6 +99,78 @@ fn a_replay_that_is_refused_a_growth_ends(rt: HostRuntime) {
     for case in cases() {
         if let Some(events) = events_of(rt.alloc(), case) {
             assert_ample(&rt, rt.alloc(), events.as_slice());
+        }
+    }
+}
+
+/// How many events a run has taken, and which of the callers from 0 to 3 are idle.
+type Shown = (u64, [bool; 4]);
+
+fn shown(replay: &Replay) -> Shown {
+    let idle = [
+        replay.idle(0),
+        replay.idle(1),
+        replay.idle(2),
+        replay.idle(3),
+    ];
+    (replay.events(), idle)
+}
+
+/// Takes an event. Where a growth is refused all is as it was, and the event is taken once more.
+fn take(rt: &impl Abort, replay: &mut Replay, event: &Event)
+    requires { IsReached replay.old }
+    ensures { IsReached replay.new }
+{
+    assert!(rt; replay.events() < u64::MAX);
+    let before = shown(replay);
+    match replay.step(event) {
+        Ok(told) => drop(told),
+        Err(error) => {
+            assert_eq!(rt; error, ReplayError::Memory);
+            take_again(rt, replay, event, before);
+        }
+    }
+}
+
+/// Takes an event that was refused a growth, and that has changed nothing.
+fn take_again(rt: &impl Abort, replay: &mut Replay, event: &Event, before: Shown)
+    requires { IsReached replay.old }
+    ensures { IsReached replay.new }
+{
+    assert!(rt; replay.events() < u64::MAX);
+    assert_eq!(rt; shown(replay), before);
+    match replay.step(event) {
+        Ok(told) => drop(told),
+        Err(_) => assert!(rt; false, "two growths were refused"),
+    }
+}
+
+/// The run of the events taken one by one, or none where memory ran out before the first.
+fn stepped(rt: &impl Abort, alloc: Global, events: &[Event]) -> Option<Run> {
+    let Ok(mut replay) = Replay::new(alloc, 2, 100) else {
+        return None;
+    };
+    for event in events {
+        take(rt, &mut replay, event);
+    }
+    Some(replay.finish())
+}
+
+/// Asserts that the events taken one by one come to the run of all at once, where neither is refused a growth as it begins.
+fn assert_stepped(rt: &impl Abort, alloc: Global, events: &[Event]) {
+    let stepped = stepped(rt, alloc, events);
+    let whole = ample(rt, alloc, events);
+    assert!(rt; stepped.is_some() || whole.is_some());
+    if let (Some(stepped), Some(whole)) = (&stepped, &whole) {
+        assert_same(rt, stepped, whole);
+    }
+}
+
+#[test]
+fn a_step_that_is_refused_a_growth_changes_nothing(rt: HostRuntime) {
+    for case in cases() {
+        if let Some(events) = events_of(rt.alloc(), case) {
+            assert_stepped(&rt, rt.alloc(), events.as_slice());
         }
     }
 }
