@@ -1,0 +1,50 @@
+/* Preloaded into a program, refuses one of its allocations: the one whose number, from 1, stands in REFUSED_GROWTH.
+   Where it is 0 none is refused, and how many there were is written to the file that GROWTH_COUNT names. */
+#define _GNU_SOURCE
+#include <dlfcn.h>
+#include <errno.h>
+#include <stdio.h>
+#include <stdlib.h>
+
+static long refused, count;
+static void *(*real_malloc)(size_t);
+static void *(*real_realloc)(void *, size_t);
+
+__attribute__((constructor)) static void begin(void) {
+    const char *number = getenv("REFUSED_GROWTH");
+    real_malloc = dlsym(RTLD_NEXT, "malloc");
+    real_realloc = dlsym(RTLD_NEXT, "realloc");
+    count = 0;
+    refused = number ? atol(number) : 0;
+}
+
+__attribute__((destructor)) static void end(void) {
+    const char *name = getenv("GROWTH_COUNT");
+    long counted = count;
+    FILE *file = name && !refused ? fopen(name, "w") : NULL;
+    if (file) {
+        fprintf(file, "%ld\n", counted);
+        fclose(file);
+    }
+}
+
+/* Whether this allocation is the one to refuse. */
+static int refuses(void) {
+    count += 1;
+    if (!refused || count != refused)
+        return 0;
+    errno = ENOMEM;
+    return 1;
+}
+
+void *malloc(size_t size) {
+    if (!real_malloc)
+        real_malloc = dlsym(RTLD_NEXT, "malloc");
+    return refuses() ? NULL : real_malloc(size);
+}
+
+void *realloc(void *block, size_t size) {
+    if (!real_realloc)
+        real_realloc = dlsym(RTLD_NEXT, "realloc");
+    return refuses() ? NULL : real_realloc(block, size);
+}
