@@ -1,0 +1,5 @@
+pub mod Standing
+pub mod Naming
+pub mod Lowest
+pub mod Calling
+pub mod Showing

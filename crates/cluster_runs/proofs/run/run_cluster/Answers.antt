@@ -1,0 +1,113 @@
+use Rattle.std.proofs.Common.{◌<◌, ◌≤◌, ◌+◌, ◌∙◌, ℕ, ap, arith, length, refl, rules, subst, sym, take}
+use Rattle.std.specs.Prelude.{IsErrOf, Ok, slice_index_or}
+use Rattle.std.proofs.lemmas.List.{take_all}
+use Rattle.std.proofs.lemmas.List.FromFn.{length-range_with_len}
+use Rattle.interleavings.specs.Linearization.{IsLegal}
+use Rattle.interleavings.specs.World.{Size}
+use Rattle.interleavings.proofs.Basics.{Least, above, atmost, least}
+use Rattle.plain_store.specs.Reached.{most_revisions}
+use Rattle.history.specs.After.{IsAfter}
+use Rattle.history.specs.declared.replay_error.ReplayError.TheVariants.{BadCapacity, BadShards}
+use Rattle.clusters.specs.Cluster.{Cluster, happens, run, start}
+use Rattle.cluster_runs.specs.Shown.{HasTaken, Shows}
+use Rattle.cluster_runs.proofs.Showing.{run_more, start_shows, used_grow}
+use Rattle.cluster_runs.proofs.run.run_cluster.Goals as goal
+
+pub returns-in_err-callers-clause-too_many : goal.returns-in_err-callers-clause-too_many
+returns-in_err-callers-clause-too_many g c = λ failed reconcilers made.
+    let z : Size = record { capacity = c.args.capacity; shards = c.args.shards } in
+    let count = length c.args.controllers.now in
+    let many = c.in_err-callers.ensures.too_many (search (rules, failed)) in
+    let less = used_grow z count reconcilers (start count) c.args.events.now 0 in
+    let all = length-range_with_len 0 count in
+    omega (arith, many, less, all)
+
+pub loop-event-init : goal.loop-event-init
+unfolding HasTaken
+loop-event-init g c =
+    let z : Size = record { capacity = c.args.capacity; shards = c.args.shards } in
+    let are = c.in_ok-callers.ensures.callers in
+    let opened = c.in_ok-replay.ensures.opened in
+    let none = c.new-2.ensures.items in (
+      refl,
+      sym are.count_is,
+      (z, subst (λ l. IsAfter z l c.in_ok-replay.replay) (sym none) opened),
+      λ reconcilers made.
+          start_shows g.C.Reconcile.reconciler g.C.Reconcile.phase g.C.Reconcile.is_waiting z reconcilers
+          (record { replay = c.in_ok-replay.replay; callers = c.in_ok-callers.callers; events = c.new-2.result }) c.args.controllers.now c.requires made opened none are,
+    )
+
+pub returns-in_err-happen-clause-too_many : goal.returns-in_err-happen-clause-too_many
+returns-in_err-happen-clause-too_many g c = λ failed reconcilers made.
+    let z : Size = record { capacity = c.args.capacity; shards = c.args.shards } in
+    let count = length c.args.controllers.now in
+    let es = c.args.events.now in
+    let i = c.loop-event.event-index in
+    let k = run z count reconcilers (start count) (take i es) in
+    let many = c.in_err-happen.ensures.too_many (search (rules, failed)) z reconcilers k (c.loop-event.invariant.3 reconcilers made) in
+    let next = ap (happens z (length c.loop-event.controllers) reconcilers k) c.event-item.is
+    ∙ ap (λ n. happens z n reconcilers k (slice_index_or es i c.event-item.result)) c.loop-event.invariant.0
+    ∙ run_more z count reconcilers (start count) es i c.event-item.result c.loop-event-test.true in
+    let same = ap (λ (v : Cluster). length v.used) next in
+    let less = used_grow z count reconcilers (start count) es (i + 1) in
+    omega (arith, many, same, less)
+
+pub loop-event-preserved : goal.loop-event-preserved
+loop-event-preserved g c =
+    let z : Size = record { capacity = c.args.capacity; shards = c.args.shards } in
+    let count = length c.args.controllers.now in
+    let es = c.args.events.now in
+    let i = c.loop-event.event-index in
+    let kept = c.loop-event.invariant in
+    let many = c.in_ok-happen.ensures.many in (
+      many ∙ kept.0,
+      many ∙ kept.1 ∙ sym c.in_ok-happen.ensures.present,
+      c.in_ok-happen.ensures.follows,
+      λ reconcilers made.
+          let k = run z count reconcilers (start count) (take i es) in
+          subst (λ v. Shows g.C.Reconcile.reconciler g.C.Reconcile.phase g.C.Reconcile.is_waiting z reconcilers v c.happen.new.self c.happen.new.controllers)
+          (ap (happens z (length c.loop-event.controllers) reconcilers k) c.event-item.is
+          ∙ ap (λ n. happens z n reconcilers k (slice_index_or es i c.event-item.result)) kept.0
+          ∙ run_more z count reconcilers (start count) es i c.event-item.result c.loop-event-test.true)
+          (c.in_ok-happen.ensures.shows z reconcilers k (kept.3 reconcilers made)),
+    )
+
+pub returns-clause-run : goal.returns-clause-run
+returns-clause-run g c = λ reconcilers made.
+    let z : Size = record { capacity = c.args.capacity; shards = c.args.shards } in
+    let count = length c.args.controllers.now in
+    let all = take_all c.loop-event.event-index c.args.events.now c.loop-event-test.false in
+    let shows = subst (λ l. Shows g.C.Reconcile.reconciler g.C.Reconcile.phase g.C.Reconcile.is_waiting z reconcilers (run z count reconcilers (start count) l) c.loop-event.cluster c.loop-event.controllers)
+    all (c.loop-event.invariant.3 reconcilers made) in
+    record {
+      handed = shows.0.0.events_are;
+      run_is = c.finish.ensures z _ shows.0.0.taken;
+      few = shows.0.1.few;
+    }
+
+not_err : {T E : Type 0} (x : T) (e : E) → IsErrOf (Ok x) e → ⊥
+not_err x e is = cc
+
+in_range : (n most : ℕ) → ((1 ≤ n → most < n) → ⊥) → (1 ≤ n) × (n ≤ most)
+in_range n most refused = (low (least 1 n), high (least n most))
+  where
+    low : Least 1 n → 1 ≤ n
+    low (atmost le e) = le
+    low (above lt e) = absurd (refused (λ le. absurd (omega arith)))
+
+    high : Least n most → n ≤ most
+    high (atmost le e) = le
+    high (above lt e) = absurd (refused (λ le. lt))
+
+pub returns-clause-promises : goal.returns-clause-promises
+returns-clause-promises g c = λ reconcilers made sound.
+    let z : Size = record { capacity = c.args.capacity; shards = c.args.shards } in
+    let count = length c.args.controllers.now in
+    let all = take_all c.loop-event.event-index c.args.events.now c.loop-event-test.false in
+    let shows = subst (λ l. Shows g.C.Reconcile.reconciler g.C.Reconcile.phase g.C.Reconcile.is_waiting z reconcilers (run z count reconcilers (start count) l) c.loop-event.cluster c.loop-event.controllers)
+    all (c.loop-event.invariant.3 reconcilers made) in
+    let run_is = c.finish.ensures z _ shows.0.0.taken in
+    let some = in_range z.shards 64 (λ bad. not_err c.in_ok-replay.replay BadShards (c.in_ok-replay.ensures.bad_shards.1 bad)) in
+    let room = in_range z.capacity most_revisions (λ bad. not_err c.in_ok-replay.replay BadCapacity (c.in_ok-replay.ensures.bad_capacity.1 (some.0, some.1, bad))) in
+    c.clusters_keep_promises.ensures z count reconcilers c.args.events.now c.finish.result.order.items some.0 room.0 room.1 sound
+    (subst (λ l. IsLegal z.capacity l c.finish.result.order.items) run_is.trace_is run_is.legal)

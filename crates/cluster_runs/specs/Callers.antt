@@ -1,0 +1,27 @@
+-- What the program holds of the callers that were used.
+use Rattle.std.specs.Prelude.{◌≡◌, ◌==◌, ◌<◌, ◌≤◌, ℕ, false, true, List, length, Option, Some, None, option_map, slice_index, IfSome, if◌then◌else◌}
+use Rattle.std.specs.BTreeMap.{btree_map_len, get}
+use Rattle.std.specs.List.{list_any}
+use Rattle.std.specs.Ordering.{nat_cmp}
+use Rattle.rounds.specs.Transcript.{Life}
+use Rattle.clusters.specs.Cluster.{Cluster}
+use Rattle.cluster_runs.specs.declared.callers.Callers.{Callers}
+
+-- the controller that is or was this caller, if one is or was
+abbrev pub owner : (ℕ → Option Life) → ℕ → Option ℕ
+owner lives n = option_map (λ (life : Life). life.controller) (lives n)
+
+-- Each controller's caller is its own, each owner is there, and a caller that was not used has no life.
+pub record HoldsCallers (count : ℕ) (present : ℕ → ℕ) (used : List ℕ) (lives : ℕ → Option Life) (callers : Callers) : Type 0 where
+  pub count_is : length callers.present.items ≡ count
+  pub present_is : (c : ℕ) → c < count → slice_index callers.present.items c ≡ present c
+  pub owners : (n : ℕ) → get nat_cmp callers.owners n ≡ (if list_any (λ m. m == n) used then Some (owner lives n) else None)
+  pub many : btree_map_len callers.owners ≡ length used
+  pub few : length used ≤ 4096
+  pub below : (n : ℕ) → n < callers.unused → list_any (λ m. m == n) used ≡ true
+  pub own : (c : ℕ) → c < count → owner lives (present c) ≡ Some c
+  pub there : (n : ℕ) → IfSome (owner lives n) (λ c. c < count)
+  pub unborn : (n : ℕ) → list_any (λ m. m == n) used ≡ false → lives n ≡ None
+
+abbrev pub AreCallers : ℕ → Cluster → Callers → Type 0
+AreCallers count k callers = HoldsCallers count k.callers k.used k.lives callers

@@ -1,0 +1,133 @@
+ghost use Rattle.std.specs.Prelude.{◌≡◌, ◌==◌, ◌+◌, ◌<◌, ◌≤◌, ◌≢◌, ℕ, true, false, length, None, Some, is_some, IfSome, IfOk, IfErr, OnOk, IsErrOf, if◌then◌else◌};
+ghost use Rattle.std.specs.BTreeMap.{btree_map_len, get};
+ghost use Rattle.std.specs.Ordering.{nat_cmp};
+ghost use Rattle.clusters.specs.Cluster.{Cluster, controller_at, is_used, lowest_unused, start, with_crash, with_used};
+ghost use Rattle.cluster_runs.specs.Callers.{AreCallers};
+ghost use Rattle.cluster_runs.specs.Faults.{IsShort};
+
+use crate::fault::ClusterFault;
+use std::alloc::Global;
+use std::collections::BTreeMap;
+
+/// The most callers that may be used, as the store may have no more.
+const MAX_CALLERS: usize = 4096;
+
+/// The callers that were used.
+#[derive(Drop)]
+pub(crate) struct Callers {
+    /// By each controller's number: as which caller it asks.
+    pub present: Vec<u64>,
+    /// By each caller that was used: the number of the controller that it is or was, if it was one.
+    pub owners: BTreeMap<u64, Option<usize>>,
+    /// All callers below were used.
+    pub unused: u64,
+}
+
+impl Callers {
+    /// So many controllers, each a caller of its own number.
+    pub(crate) fn of(alloc: Global, count: usize) -> Result<Callers, ClusterFault>
+        ensures callers { IfOk result (λ callers. AreCallers count (start count) callers) }
+        ensures too_many { IsErrOf result ClusterFault.TooManyCallers → 4096 < count }
+        ensures reasons { IfErr result IsShort }
+    {
+        if MAX_CALLERS < count {
+            return Err(ClusterFault::TooManyCallers);
+        }
+        let mut callers = Callers {
+            present: Vec::new(alloc),
+            owners: BTreeMap::new(alloc),
+            unused: 0,
+        };
+        for number in 0..count {
+            callers.present.push(number as u64)?;
+            callers.owners.insert(number as u64, Some(number))?;
+        }
+        Ok(callers)
+    }
+
+    pub(crate) fn is_used(&self, caller: u64) -> bool
+        ensures known { result ≡ is_some (get nat_cmp self.now.owners caller) }
+        ensures used { (count : ℕ) (k : Cluster) → AreCallers count k self.now → result ≡ is_used k caller }
+    {
+        self.owners.contains_key(&caller)
+    }
+
+    /// Whether a controller is or was that caller.
+    pub(crate) fn is_controllers(&self, caller: u64) -> bool
+        ensures { (count : ℕ) (k : Cluster) → AreCallers count k self.now → result ≡ is_some (k.lives caller) }
+    {
+        matches!(self.owners.get(&caller), Some(Some(_)))
+    }
+
+    /// The controller that asks as that caller now.
+    pub(crate) fn controller_at(&self, caller: u64) -> Option<usize>
+        ensures there { IfSome result (λ c. c < length self.now.present.items) }
+        ensures controller { (count : ℕ) (k : Cluster) → AreCallers count k self.now → result ≡ controller_at k caller }
+    {
+        let number = (*self.owners.get(&caller)?)?;
+        if self.present.get(number) == Some(&caller) {
+            Some(number)
+        } else {
+            None
+        }
+    }
+
+    /// Somebody who is no controller uses the caller.
+    pub(crate) fn admit(&mut self, caller: u64) -> Result<(), ClusterFault>
+        ensures present { self.new.present ≡ self.old.present }
+        ensures callers { OnOk result ((count : ℕ) (k : Cluster) → AreCallers count k self.old → k.lives caller ≡ None → AreCallers count (with_used k caller) self.new) }
+        ensures too_many { IsErrOf result ClusterFault.TooManyCallers → (count : ℕ) (k : Cluster) → AreCallers count k self.old → 4096 < length (with_used k caller).used }
+        ensures reasons { IfErr result IsShort }
+    {
+        if self.is_used(caller) {
+            return Ok(());
+        }
+        self.put(caller, None)
+    }
+
+    /// The controller goes on as the lowest caller that was not used.
+    pub(crate) fn renew(&mut self, number: usize) -> Result<(), ClusterFault>
+        requires { number < length self.old.present.items }
+        ensures count { length self.new.present.items ≡ length self.old.present.items }
+        ensures callers { OnOk result ((count : ℕ) (k : Cluster) → AreCallers count k self.old → AreCallers count (with_crash k number) self.new) }
+        ensures fresh { OnOk result ((count : ℕ) (k : Cluster) → AreCallers count k self.old → is_used k (lowest_unused k) ≡ false) }
+        ensures too_many { IsErrOf result ClusterFault.TooManyCallers → (count : ℕ) (k : Cluster) → AreCallers count k self.old → 4096 < length (with_crash k number).used }
+        ensures reasons { IfErr result IsShort }
+    {
+        let Some(caller) = self.lowest_unused() else {
+            return Err(ClusterFault::TooManyCallers);
+        };
+        self.put(caller, Some(number))?;
+        self.unused = caller;
+        self.present[number] = caller;
+        Ok(())
+    }
+
+    /// The lowest caller that was not used, if it is below the most that may be.
+    fn lowest_unused(&self) -> Option<u64>
+        ensures fresh { IfSome result (λ n. get nat_cmp self.now.owners n ≡ None) }
+        ensures lowest { IfSome result (λ n. (m : ℕ) → self.now.unused ≤ m → m < n → is_some (get nat_cmp self.now.owners m) ≡ true) }
+        ensures none { result ≡ None → (m : ℕ) → self.now.unused ≤ m → m < 4096 → is_some (get nat_cmp self.now.owners m) ≡ true }
+    {
+        let limit = MAX_CALLERS as u64;
+        (self.unused..limit).find(|caller| !self.owners.contains_key(caller))
+    }
+
+    /// Uses a caller that was not used.
+    fn put(&mut self, caller: u64, owner: Option<usize>) -> Result<(), ClusterFault>
+        requires { get nat_cmp self.old.owners caller ≡ None }
+        ensures present { self.new.present ≡ self.old.present }
+        ensures unused { self.new.unused ≡ self.old.unused }
+        ensures owners { OnOk result ((n : ℕ) → get nat_cmp self.new.owners n ≡ (if n == caller then Some owner else get nat_cmp self.old.owners n)) }
+        ensures many { OnOk result (btree_map_len self.new.owners ≡ btree_map_len self.old.owners + 1) }
+        ensures few { OnOk result (btree_map_len self.old.owners ≢ 4096) }
+        ensures too_many { IsErrOf result ClusterFault.TooManyCallers → btree_map_len self.old.owners ≡ 4096 }
+        ensures reasons { IfErr result IsShort }
+    {
+        if self.owners.len() == MAX_CALLERS {
+            return Err(ClusterFault::TooManyCallers);
+        }
+        self.owners.insert(caller, owner)?;
+        Ok(())
+    }
+}

@@ -1,0 +1,264 @@
+ghost use Rattle.std.specs.Prelude.{◌≡◌, ◌<◌, ◌&&◌, ◌++◌, ◌∷◌, [], ℕ, true, List, length, IfOk, IfErr, IfSome, OnOk, IsErrOf, Some};
+ghost use Rattle.interleavings.specs.declared.event.Event.{Event};
+ghost use Rattle.interleavings.specs.declared.event.Event.TheVariants as event;
+ghost use Rattle.interleavings.specs.World.{Size};
+ghost use Rattle.history.specs.After.{IsAfter, IsReplyTo};
+ghost use Rattle.history.specs.Named.{callers};
+ghost use Rattle.history.specs.Replayed.{named_by};
+ghost use Rattle.clusters.specs.declared.event.ClusterEvent.TheVariants.{Next, Step, Crash};
+ghost use Rattle.clusters.specs.Cluster.{controller_at, hand_if, is_nobody, is_used, with_outside};
+ghost use Rattle.cluster_runs.specs.Faults.{IsShort};
+ghost use Rattle.cluster_runs.specs.Shown.{Becomes, Exceeds, Follows, Hands, Happens, Hears, Overfills};
+ghost use Rattle.cluster_runs.specs.declared.fault.ClusterFault.TheVariants.{Memory as OutOfMemory};
+
+use crate::cluster::Cluster;
+use crate::fault::ClusterFault;
+use clusters::ClusterEvent;
+use interleavings::Event;
+use requests::{Reply, Request};
+use rounds::Reconcile;
+
+impl Cluster {
+    /// One event. One that is not enabled changes nothing.
+    pub(crate) fn happen<C: Reconcile>(
+        &mut self,
+        controllers: &mut [C],
+        event: &ClusterEvent,
+    ) -> Result<(), ClusterFault>
+        requires present { length controllers.old ≡ length self.old.callers.present.items }
+        requires follows { Follows self.old }
+        ensures many { length controllers.new ≡ length controllers.old }
+        ensures present { length self.new.callers.present.items ≡ length self.old.callers.present.items }
+        ensures follows { OnOk result (Follows self.new) }
+        ensures shows { OnOk result (Happens C.reconciler C.phase C.is_waiting event.now self.old self.new controllers.old controllers.new) }
+        ensures too_many { IsErrOf result ClusterFault.TooManyCallers → Exceeds C.reconciler C.phase C.is_waiting event.now self.old controllers.old }
+        ensures reasons { IfErr result IsShort }
+    {
+        match event {
+            ClusterEvent::Next(number) => {
+                if *number < controllers.len() {
+                    return self.call_next(controllers, *number);
+                }
+                Ok(())
+            }
+            ClusterEvent::Outside(caller, request) => self.call_outside(*caller, request),
+            ClusterEvent::Step(event) => self.step(controllers, event),
+            ClusterEvent::Crash(number) => {
+                if *number < controllers.len() {
+                    return self.crash(controllers, *number);
+                }
+                Ok(())
+            }
+        }
+    }
+
+    /// The controller calls its next request, if its caller is idle.
+    fn call_next<C: Reconcile>(
+        &mut self,
+        controllers: &mut [C],
+        number: usize,
+    ) -> Result<(), ClusterFault>
+        requires present { length controllers.old ≡ length self.old.callers.present.items }
+        requires there { number < length controllers.old }
+        requires follows { Follows self.old }
+        ensures many { length controllers.new ≡ length controllers.old }
+        ensures present { length self.new.callers.present.items ≡ length self.old.callers.present.items }
+        ensures follows { OnOk result (Follows self.new) }
+        ensures shows { OnOk result (Happens C.reconciler C.phase C.is_waiting (Next number) self.old self.new controllers.old controllers.new) }
+        ensures too_many { IsErrOf result ClusterFault.TooManyCallers → Exceeds C.reconciler C.phase C.is_waiting (Next number) self.old controllers.old }
+        ensures reasons { IfErr result IsShort }
+    {
+        let caller = self.callers.present[number];
+        if !self.replay.idle(caller) {
+            return Ok(());
+        }
+        let request = controllers[number].next()?;
+        self.hand_quietly(Event::Call(caller, request))
+    }
+
+    /// Somebody else calls, by a caller that no controller is or was.
+    fn call_outside(&mut self, caller: u64, request: &Request) -> Result<(), ClusterFault>
+        requires { Follows self.old }
+        ensures present { self.new.callers.present ≡ self.old.callers.present }
+        ensures follows { OnOk result (Follows self.new) }
+        ensures shows { OnOk result (Becomes (λ k. with_outside k caller request.now (k.lives caller)) self.old self.new) }
+        ensures too_many { IsErrOf result ClusterFault.TooManyCallers → Overfills (λ k. with_outside k caller request.now (k.lives caller)) self.old }
+        ensures reasons { IfErr result IsShort }
+    {
+        if self.callers.is_controllers(caller) {
+            return Ok(());
+        }
+        self.callers.admit(caller)?;
+        let request = request.clone()?;
+        self.hand_quietly(Event::Call(caller, request))
+    }
+
+    /// The controller forgets its round, and goes on as another caller.
+    fn crash<C: Reconcile>(
+        &mut self,
+        controllers: &mut [C],
+        number: usize,
+    ) -> Result<(), ClusterFault>
+        requires present { length controllers.old ≡ length self.old.callers.present.items }
+        requires there { number < length controllers.old }
+        requires follows { Follows self.old }
+        ensures many { length controllers.new ≡ length controllers.old }
+        ensures present { length self.new.callers.present.items ≡ length self.old.callers.present.items }
+        ensures follows { OnOk result (Follows self.new) }
+        ensures shows { OnOk result (Happens C.reconciler C.phase C.is_waiting (Crash number) self.old self.new controllers.old controllers.new) }
+        ensures too_many { IsErrOf result ClusterFault.TooManyCallers → Exceeds C.reconciler C.phase C.is_waiting (Crash number) self.old controllers.old }
+        ensures reasons { IfErr result IsShort }
+    {
+        let caller = self.callers.present[number];
+        self.callers.renew(number)?;
+        controllers[number].crash();
+        self.hand_quietly(Event::Crash(caller))
+    }
+
+    /// A step of the store.
+    fn step<C: Reconcile>(
+        &mut self,
+        controllers: &mut [C],
+        event: &Event,
+    ) -> Result<(), ClusterFault>
+        requires present { length controllers.old ≡ length self.old.callers.present.items }
+        requires follows { Follows self.old }
+        ensures many { length controllers.new ≡ length controllers.old }
+        ensures present { length self.new.callers.present.items ≡ length self.old.callers.present.items }
+        ensures follows { OnOk result (Follows self.new) }
+        ensures shows { OnOk result (Happens C.reconciler C.phase C.is_waiting (Step event.now) self.old self.new controllers.old controllers.new) }
+        ensures too_many { IsErrOf result ClusterFault.TooManyCallers → Exceeds C.reconciler C.phase C.is_waiting (Step event.now) self.old controllers.old }
+        ensures reasons { IfErr result IsShort }
+    {
+        match event {
+            Event::Call(_, _) => Ok(()),
+            Event::Raise => self.hand_quietly(Event::Raise),
+            Event::Check(caller) => self.go_on(*caller, Event::Check(*caller)),
+            Event::Reserve(caller) => self.go_on(*caller, Event::Reserve(*caller)),
+            Event::Publish(caller) => self.go_on(*caller, Event::Publish(*caller)),
+            Event::Read(caller) => self.go_on(*caller, Event::Read(*caller)),
+            Event::ReadAt(caller) => self.go_on(*caller, Event::ReadAt(*caller)),
+            Event::Compact(caller) => self.go_on(*caller, Event::Compact(*caller)),
+            Event::Part(caller) => self.go_on(*caller, Event::Part(*caller)),
+            Event::Reply(caller) => self.reply(controllers, *caller),
+            Event::Crash(caller) => self.crash_outside(*caller),
+        }
+    }
+
+    /// A caller that was used is replied to. The controller that it is takes the reply.
+    fn reply<C: Reconcile>(
+        &mut self,
+        controllers: &mut [C],
+        caller: u64,
+    ) -> Result<(), ClusterFault>
+        requires present { length controllers.old ≡ length self.old.callers.present.items }
+        requires follows { Follows self.old }
+        ensures many { length controllers.new ≡ length controllers.old }
+        ensures present { length self.new.callers.present.items ≡ length self.old.callers.present.items }
+        ensures follows { OnOk result (Follows self.new) }
+        ensures shows { OnOk result (Happens C.reconciler C.phase C.is_waiting (Step (event.Reply caller)) self.old self.new controllers.old controllers.new) }
+        ensures too_many { IsErrOf result ClusterFault.TooManyCallers → Exceeds C.reconciler C.phase C.is_waiting (Step (event.Reply caller)) self.old controllers.old }
+        ensures reasons { IfErr result IsShort }
+    {
+        if !self.callers.is_used(caller) {
+            return Ok(());
+        }
+        let controller = self.callers.controller_at(caller);
+        let told = self.hand(Event::Reply(caller))?;
+        let heard = hear(controllers, controller, &told);
+        drop(told);
+        heard
+    }
+
+    /// A caller that was used goes on.
+    fn go_on(&mut self, caller: u64, event: Event) -> Result<(), ClusterFault>
+        requires named { named_by event ≡ Some caller }
+        requires follows { Follows self.old }
+        ensures present { self.new.callers ≡ self.old.callers }
+        ensures follows { OnOk result (Follows self.new) }
+        ensures shows { OnOk result (Becomes (λ k. hand_if (is_used k caller) k event) self.old self.new) }
+        ensures too_many { IsErrOf result ClusterFault.TooManyCallers → Overfills (λ k. hand_if (is_used k caller) k event) self.old }
+        ensures reasons { IfErr result IsShort }
+    {
+        if self.callers.is_used(caller) {
+            return self.hand_quietly(event);
+        }
+        drop(event);
+        Ok(())
+    }
+
+    /// A caller that was used, and that is no controller's now, crashes.
+    fn crash_outside(&mut self, caller: u64) -> Result<(), ClusterFault>
+        requires { Follows self.old }
+        ensures present { self.new.callers ≡ self.old.callers }
+        ensures follows { OnOk result (Follows self.new) }
+        ensures shows { OnOk result (Becomes (λ k. hand_if (is_used k caller && is_nobody (controller_at k caller)) k (event.Crash caller)) self.old self.new) }
+        ensures too_many { IsErrOf result ClusterFault.TooManyCallers → Overfills (λ k. hand_if (is_used k caller && is_nobody (controller_at k caller)) k (event.Crash caller)) self.old }
+        ensures reasons { IfErr result IsShort }
+    {
+        if self.callers.controller_at(caller).is_some() {
+            return Ok(());
+        }
+        self.go_on(caller, Event::Crash(caller))
+    }
+
+    /// Hands on an event that gives no reply.
+    fn hand_quietly(&mut self, event: Event) -> Result<(), ClusterFault>
+        requires { Follows self.old }
+        ensures callers { self.new.callers ≡ self.old.callers }
+        ensures follows { OnOk result (Follows self.new) }
+        ensures hands { OnOk result (Hands event self.old self.new) }
+        ensures too_many { IsErrOf result ClusterFault.TooManyCallers → (size : Size) (events : List Event) → IsAfter size events self.old.replay → 4096 < callers (events ++ event ∷ []) }
+        ensures reasons { IfErr result IsShort }
+    {
+        drop(self.hand(event)?);
+        Ok(())
+    }
+
+    /// Hands an event on to the store, and gives the reply that it gives.
+    fn hand(&mut self, event: Event) -> Result<Option<Reply>, ClusterFault>
+        requires { Follows self.old }
+        ensures callers { self.new.callers ≡ self.old.callers }
+        ensures follows { OnOk result (Follows self.new) }
+        ensures hands { OnOk result (Hands event self.old self.new) }
+        ensures told { IfOk result (λ told. (size : Size) (events : List Event) → IsAfter size events self.old.replay → IsReplyTo size events event told) }
+        ensures too_many { IsErrOf result ClusterFault.TooManyCallers → (size : Size) (events : List Event) → IsAfter size events self.old.replay → 4096 < callers (events ++ event ∷ []) }
+        ensures reasons { IfErr result IsShort }
+    {
+        if self.events.reserve(1).is_err() {
+            drop(event);
+            return Err(ClusterFault::Memory);
+        }
+        match self.replay.step(&event) {
+            Ok(told) => {
+                self.events.push_reserved(event);
+                Ok(told)
+            }
+            Err(error) => {
+                drop(event);
+                Err(ClusterFault::from(error))
+            }
+        }
+    }
+}
+
+/// The controller of the number takes what was told.
+fn hear<C: Reconcile>(
+    controllers: &mut [C],
+    number: Option<usize>,
+    told: &Option<Reply>,
+) -> Result<(), ClusterFault>
+    requires { IfSome number (λ c. c < length controllers.old) }
+    ensures many { length controllers.new ≡ length controllers.old }
+    ensures hears { OnOk result (Hears C.reconciler C.phase C.is_waiting controllers.old controllers.new number told.now) }
+    ensures memory { IfErr result (λ reason. reason ≡ OutOfMemory) }
+{
+    let Some(number) = number else {
+        return Ok(());
+    };
+    let Some(reply) = told else {
+        return Ok(());
+    };
+    controllers[number].take(reply)?;
+    Ok(())
+}

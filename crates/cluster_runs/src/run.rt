@@ -1,0 +1,73 @@
+ghost use Rattle.std.specs.Prelude.{◌≡◌, ◌<◌, ◌≤◌, ◌↔◌, ℕ, length, IfOk, IsErrOf};
+ghost use Rattle.std.specs.List.{AllByRecursion};
+ghost use Rattle.plain_store.specs.Reached.{most_revisions};
+ghost use Rattle.rounds.specs.Phase.{reading_set};
+ghost use Rattle.rounds.specs.Reconciler.{Reconciler};
+ghost use Rattle.rounds.specs.Sound.{IsSound};
+ghost use Rattle.rounds.specs.World.{AreMadeOf};
+ghost use Rattle.clusters.specs.Ordered.{OrderKeepsPromises};
+ghost use Rattle.cluster_runs.specs.Ran.{IsClusterRun, cluster_after};
+
+use crate::callers::Callers;
+use crate::cluster::Cluster;
+use crate::fault::ClusterFault;
+use clusters::{ClusterEvent, clusters_keep_promises};
+use history::Replay;
+use interleavings::{Event, Run};
+use rounds::Reconcile;
+use std::alloc::Global;
+
+/// The events that were handed on to the store, in order, and the run of them. The places of the run count in these events.
+#[derive(Drop)]
+pub struct ClusterRun {
+    pub events: Vec<Event>,
+    pub run: Run,
+}
+
+/// Lets the events happen, one after another. Each is handed on to the store as exactly one event, unless it is not enabled;
+/// then it changes nothing. What the store's run shows is explained by an order in which one plain store takes the requests
+/// whole, and in that order they keep the promises of sound controllers: between two accepted creates of one key stands an
+/// accepted removal of the first one's UID; what an accepted delete of a plan takes has the UID that was listed for the plan;
+/// each create of a controller comes from its plan over what was answered to it since its last crash, and in that round; and
+/// when a controller's delete removes a claim, no object of its namespace has the UID of an owner of it, and none ever will.
+pub fn run_cluster<C: Reconcile>(
+    alloc: Global,
+    shards: usize,
+    capacity: u64,
+    controllers: &mut [C],
+    events: &[ClusterEvent],
+) -> Result<ClusterRun, ClusterFault>
+    requires { AllByRecursion (λ c. (C.phase c ≡ reading_set)) controllers.old }
+    ensures run { IfOk result (λ found. (reconcilers : ℕ → Reconciler) → AreMadeOf C.reconciler controllers.old reconcilers
+        → IsClusterRun (record { capacity = capacity; shards = shards }) (length controllers.old) reconcilers events.now found) }
+    ensures promises { IfOk result (λ found. (reconcilers : ℕ → Reconciler) → AreMadeOf C.reconciler controllers.old reconcilers
+        → ((c : ℕ) → IsSound (reconcilers c))
+        → OrderKeepsPromises (record { capacity = capacity; shards = shards }) reconcilers
+        (cluster_after (record { capacity = capacity; shards = shards }) (length controllers.old) reconcilers events.now) found.run.order.items) }
+    ensures bad_shards { IsErrOf result ClusterFault.BadShards ↔ (1 ≤ shards → 64 < shards) }
+    ensures bad_capacity { IsErrOf result ClusterFault.BadCapacity ↔ ((1 ≤ shards) × (shards ≤ 64) × (1 ≤ capacity → most_revisions < capacity)) }
+    ensures too_many { IsErrOf result ClusterFault.TooManyCallers → (reconcilers : ℕ → Reconciler) → AreMadeOf C.reconciler controllers.old reconcilers
+        → 4096 < length (cluster_after (record { capacity = capacity; shards = shards }) (length controllers.old) reconcilers events.now).used }
+{
+    clusters_keep_promises();
+    let replay = Replay::new(alloc, shards, capacity)?;
+    let callers = Callers::of(alloc, controllers.len())?;
+    let mut cluster = Cluster {
+        replay,
+        callers,
+        events: Vec::new(alloc),
+    };
+    for event in events {
+        cluster.happen(controllers, event)?;
+    }
+    let Cluster {
+        replay,
+        callers,
+        events,
+    } = cluster;
+    drop(callers);
+    Ok(ClusterRun {
+        events,
+        run: replay.finish(),
+    })
+}
