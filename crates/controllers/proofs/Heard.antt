@@ -1,0 +1,95 @@
+-- What the reply to a request comes to.
+use Rattle.std.proofs.Common.{◌≡◌, ℕ, ap, List, Option, Result, Err, true, false, refl, sym, true≢false}
+use Rattle.objects.specs.declared.object.Object.{Object}
+use Rattle.objects.specs.declared.key.Key.{Key}
+use Rattle.requests.specs.declared.reply.Reply.{Reply}
+use Rattle.requests.specs.declared.reply.Reply.TheVariants.{Listed}
+use Rattle.set_views.specs.declared.fault.PlanError.{PlanError}
+use Rattle.set_views.specs.declared.fault.PlanError.TheVariants as errors
+use Rattle.set_views.specs.Steps.{Fails}
+use Rattle.rounds.specs.Phase as phases
+use Rattle.rounds.specs.Phase.{Phase, acts, from_list, from_set, takes}
+use Rattle.rounds.specs.Reconciler.{Reconciler}
+use Rattle.controllers.specs.declared.progress.Progress.{Progress}
+use Rattle.controllers.specs.declared.progress.Progress.TheVariants.{ReadingSet, ListingRevisions, ListingPods, ListingClaims, Acting, ListingOldClaims, ListingOwnerSets, ListingOwnerPods, ListingOwnerRevisions, ListingOwnerClaims, Deleting}
+use Rattle.controllers.specs.Controller.{refusal_after}
+use Rattle.controllers.specs.Progress.{is_carrying, is_list, is_listing, is_planning, phase_at, planned_at}
+use Rattle.reconcilers.specs.Planned.{or_none, requested, why_not}
+use Rattle.reconcilers.specs.Reconciler.{reconciler_with}
+
+-- a reply without a list ends the round where one is waited for
+from_none : (next : List Object → ℕ → Phase) (reply : Reply) → is_list reply ≡ false → from_list next reply ≡ phases.reading_set
+from_none next (Listed objects at) h = absurd (true≢false h)
+from_none next reply h = refl
+
+pub list_ends : (p : Progress) (c : Reconciler) (reply : Reply) → is_listing p ≡ true → is_list reply ≡ false → takes c (phase_at p) reply ≡ phases.reading_set
+unfolding phase_at takes
+list_ends ReadingSet c reply h none = absurd (true≢false (sym h))
+list_ends (ListingRevisions set) c reply h none = from_none _ reply none
+list_ends (ListingPods set revisions) c reply h none = from_none _ reply none
+list_ends (ListingClaims set revisions pods) c reply h none = absurd (true≢false (sym h))
+list_ends (Acting next later) c reply h none = absurd (true≢false (sym h))
+list_ends ListingOldClaims c reply h none = from_none _ reply none
+list_ends (ListingOwnerSets claims) c reply h none = from_none _ reply none
+list_ends (ListingOwnerPods claims sets at) c reply h none = from_none _ reply none
+list_ends (ListingOwnerRevisions claims sets pods at) c reply h none = from_none _ reply none
+list_ends (ListingOwnerClaims claims sets pods revisions at) c reply h none = from_none _ reply none
+list_ends (Deleting next later) c reply h none = absurd (true≢false (sym h))
+
+pub claims_end : (p : Progress) (c : Reconciler) (reply : Reply) → is_planning p ≡ true → is_list reply ≡ false → takes c (phase_at p) reply ≡ phases.reading_set
+unfolding phase_at takes
+claims_end (ListingClaims set revisions pods) c reply h none = from_none _ reply none
+claims_end _ c reply h none = absurd (true≢false (sym h))
+
+pub claims_heard : (p : Progress) (set : Key) (digits : ℕ) (moment : List ℕ) (claims : List Object) (at : ℕ) (reply : Reply) → is_planning p ≡ true → reply ≡ Listed claims at
+    → takes (reconciler_with set digits moment) (phase_at p) reply ≡ acts (or_none (planned_at digits moment p claims))
+unfolding phase_at takes
+claims_heard (ListingClaims set revisions pods) key digits moment claims at reply h is = ap (λ r. from_list (λ others new. acts (or_none (requested set digits moment revisions pods others))) r) is
+claims_heard _ key digits moment claims at reply h is = absurd (true≢false (sym h))
+
+pub refusal_at_claims : (p : Progress) (digits : ℕ) (moment : List ℕ) (claims : List Object) (at : ℕ) (reply : Reply) (refusal : Option PlanError) → is_planning p ≡ true → reply ≡ Listed claims at
+    → refusal_after digits moment (phase_at p) reply refusal ≡ why_not (planned_at digits moment p claims)
+unfolding phase_at
+refusal_at_claims (ListingClaims set revisions pods) digits moment claims at reply refusal h is = ap (λ r. refusal_after digits moment (phases.listing_claims set revisions pods) r refusal) is
+refusal_at_claims _ digits moment claims at reply refusal h is = absurd (true≢false (sym h))
+
+pub refusal_unheard : (phase : Phase) (digits : ℕ) (moment : List ℕ) (reply : Reply) (refusal : Option PlanError) → is_list reply ≡ false → refusal_after digits moment phase reply refusal ≡ refusal
+refusal_unheard (phases.listing_claims set revisions pods) digits moment (Listed objects at) refusal h = absurd (true≢false h)
+refusal_unheard phase digits moment reply refusal h = refl
+
+pub set_heard : (p : Progress) (c : Reconciler) (reply : Reply) → p ≡ ReadingSet → takes c (phase_at p) reply ≡ from_set reply
+unfolding phase_at takes
+set_heard p c reply is = ap (λ q. takes c (phase_at q) reply) is
+
+pub refusal_at_set : (p : Progress) (digits : ℕ) (moment : List ℕ) (reply : Reply) (refusal : Option PlanError) → p ≡ ReadingSet → refusal_after digits moment (phase_at p) reply refusal ≡ refusal
+unfolding phase_at
+refusal_at_set p digits moment reply refusal is = ap (λ q. refusal_after digits moment (phase_at q) reply refusal) is
+
+pub refusal_stays : (p : Progress) (digits : ℕ) (moment : List ℕ) (reply : Reply) (refusal : Option PlanError) → is_listing p ≡ true → refusal_after digits moment (phase_at p) reply refusal ≡ refusal
+unfolding phase_at
+refusal_stays (ListingClaims set revisions pods) digits moment reply refusal h = absurd (true≢false (sym h))
+refusal_stays p digits moment reply refusal h = refl
+
+pub refusal_carried : (p : Progress) (digits : ℕ) (moment : List ℕ) (reply : Reply) (refusal : Option PlanError) → is_carrying p ≡ true → refusal_after digits moment (phase_at p) reply refusal ≡ refusal
+unfolding phase_at
+refusal_carried (ListingClaims set revisions pods) digits moment reply refusal h = absurd (true≢false (sym h))
+refusal_carried p digits moment reply refusal h = refl
+
+-- what is neither read nor listed
+pub carries : (p : Progress) → is_listing p ≡ false → (p ≡ ReadingSet → ⊥) → ((set : Object) (revisions pods : List Object) → p ≡ ListingClaims set revisions pods → ⊥) → is_carrying p ≡ true
+carries ReadingSet h no_set no_claims = absurd (no_set refl)
+carries (ListingRevisions set) h no_set no_claims = absurd (true≢false h)
+carries (ListingPods set revisions) h no_set no_claims = absurd (true≢false h)
+carries (ListingClaims set revisions pods) h no_set no_claims = absurd (no_claims set revisions pods refl)
+carries (Acting next later) h no_set no_claims = refl
+carries ListingOldClaims h no_set no_claims = absurd (true≢false h)
+carries (ListingOwnerSets claims) h no_set no_claims = absurd (true≢false h)
+carries (ListingOwnerPods claims sets at) h no_set no_claims = absurd (true≢false h)
+carries (ListingOwnerRevisions claims sets pods at) h no_set no_claims = absurd (true≢false h)
+carries (ListingOwnerClaims claims sets pods revisions at) h no_set no_claims = absurd (true≢false h)
+carries (Deleting next later) h no_set no_claims = refl
+
+-- a refusal that is not want of memory is that of the plan
+pub refused_with : {A : Type 0} (e : PlanError) (planned : Result A PlanError) → (e ≡ errors.Memory → ⊥) → Fails e planned → planned ≡ Err e
+refused_with errors.Memory planned other h = absurd (other refl)
+refused_with _ planned other h = h

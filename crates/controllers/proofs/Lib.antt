@@ -1,0 +1,5 @@
+pub mod Heard
+pub mod Later
+pub mod Wholes
+pub mod Named
+pub mod InTurn

@@ -1,0 +1,30 @@
+-- What a controller is made of, and where it stands.
+use Rattle.std.specs.Prelude.{ℕ, Bool, List, Option}
+use Rattle.requests.specs.declared.reply.Reply.{Reply}
+use Rattle.requests.specs.declared.reply.Reply.TheVariants.{Listed}
+use Rattle.set_views.specs.declared.fault.PlanError.{PlanError}
+use Rattle.rounds.specs.Phase.{Phase, listing_claims}
+use Rattle.rounds.specs.Reconciler.{Reconciler}
+use Rattle.controllers.specs.declared.controller.Controller.{Controller}
+use Rattle.reconcilers.specs.Planned.{requested, why_not}
+use Rattle.controllers.specs.Progress.{phase_at}
+use Rattle.reconcilers.specs.Reconciler.{reconciler_with}
+
+unfoldable pub reconciler_of : Controller → Reconciler
+reconciler_of c = reconciler_with c.set c.digits c.moment
+
+unfoldable pub phase_of : Controller → Phase
+phase_of c = phase_at c.progress
+
+-- whether a request of it waits for its reply
+unfoldable pub is_waiting : Controller → Bool
+is_waiting c = c.waits
+
+-- why its last plan was refused
+unfoldable pub refusal_of : Controller → Option PlanError
+refusal_of c = c.refusal
+
+-- The refusal stays until a plan is made, or another one is refused.
+abbrev pub refusal_after : ℕ → List ℕ → Phase → Reply → Option PlanError → Option PlanError
+refusal_after digits moment (listing_claims set revisions pods) (Listed claims at) refusal = why_not (requested set digits moment revisions pods claims)
+refusal_after digits moment phase reply refusal = refusal

@@ -1,0 +1,19 @@
+-- ---- what public clauses cite
+pub mod Cluster
+pub mod Controller
+pub mod Whole
+-- ---- what only proofs use
+pub mod Progress
+-- ---- of the crates below
+pub use Rattle.reconcilers.specs.Planned
+pub use Rattle.reconcilers.specs.Reconciler
+pub use Rattle.rounds.specs.Accepted
+pub use Rattle.rounds.specs.Before
+pub use Rattle.rounds.specs.Life
+pub use Rattle.rounds.specs.Phase
+pub use Rattle.rounds.specs.Planned as Plans
+pub use Rattle.rounds.specs.Promises
+pub use Rattle.rounds.specs.Reconciler as Reconcilers
+pub use Rattle.rounds.specs.Sound
+pub use Rattle.rounds.specs.Transcript
+pub use Rattle.rounds.specs.World

@@ -1,0 +1,65 @@
+// Controllers over the interleaved store, event by event.
+ghost use Rattle.std.specs.Prelude.{◌≡◌, ◌≤◌, ◌<◌, ◌⊎◌, length, map, IfOk, IsErrOf};
+ghost use Rattle.std.specs.List.{AllByRecursion};
+ghost use Rattle.plain_store.specs.Reached.{most_revisions};
+ghost use Rattle.rounds.specs.Phase.{reading_set};
+ghost use Rattle.clusters.specs.Ordered.{OrderKeepsPromises};
+ghost use Rattle.cluster_runs.specs.Ran.{IsClusterRun, cluster_after};
+ghost use Rattle.controllers.specs.Cluster.{reconciler_for, reconciler_named, size_of};
+ghost use Rattle.controllers.specs.Controller.{phase_of, reconciler_of};
+
+use crate::cluster_spec::ClusterSpec;
+use crate::controller::Controller;
+use crate::set_spec::SetSpec;
+use cluster_runs::{ClusterFault, ClusterRun};
+use clusters::ClusterEvent;
+use objects::Memory;
+use std::alloc::Global;
+
+/// Lets the events happen, one after another. Each is handed on to the store as exactly one event, unless it is not enabled;
+/// then it changes nothing. The order of the run is one in which one plain store takes the requests whole, gives exactly the
+/// replies that were given, and keeps four promises, wherever controllers crash. Between two accepted creates of one key
+/// stands an accepted removal of the first one's UID. What an accepted delete of a plan marks or removes has the UID that was
+/// listed for the plan. Each create of a controller comes from its plan over what was answered to it since its last crash,
+/// and in that round. When a controller's delete removes a claim, no object of the claim's namespace has the UID of an owner
+/// of it, and none ever will.
+///
+/// # Errors
+/// `BadShards` and `BadCapacity` where these are out of range, `TooManyCallers` where more than 4,096 callers would be used:
+/// controllers, those that they go on as after a crash, and others. `Memory` where an allocation was refused.
+pub fn run_cluster(
+    alloc: Global,
+    spec: &ClusterSpec,
+    events: &[ClusterEvent],
+) -> Result<ClusterRun, ClusterFault>
+    ensures run { IfOk result (λ found. IsClusterRun (size_of spec.now) (length spec.now.sets.items) (reconciler_named spec.now.sets.items) events.now found) }
+    ensures promises { IfOk result (λ found. OrderKeepsPromises (size_of spec.now) (reconciler_named spec.now.sets.items)
+        (cluster_after (size_of spec.now) (length spec.now.sets.items) (reconciler_named spec.now.sets.items) events.now) found.run.order.items) }
+    ensures bad_shards { IsErrOf result ClusterFault.BadShards → 1 ≤ spec.now.shards → 64 < spec.now.shards }
+    ensures shards { IfOk result (λ found. (1 ≤ spec.now.shards) × (spec.now.shards ≤ 64)) }
+    ensures bad_capacity { IsErrOf result ClusterFault.BadCapacity → 1 ≤ spec.now.capacity → most_revisions < spec.now.capacity }
+    ensures capacity { IfOk result (λ found. (1 ≤ spec.now.capacity) × (spec.now.capacity ≤ most_revisions)) }
+    ensures too_many { IsErrOf result ClusterFault.TooManyCallers
+        → 4096 < length (cluster_after (size_of spec.now) (length spec.now.sets.items) (reconciler_named spec.now.sets.items) events.now).used }
+{
+    let mut controllers = controllers_of(alloc, spec.sets.as_slice())?;
+    cluster_runs::run_cluster(
+        alloc,
+        spec.shards,
+        spec.capacity,
+        controllers.as_mut_slice(),
+        events,
+    )
+}
+
+/// A controller for each of these.
+fn controllers_of(alloc: Global, sets: &[SetSpec]) -> Result<Vec<Controller>, Memory>
+    ensures made { IfOk result (λ controllers. map reconciler_of controllers.items ≡ map reconciler_for sets.now) }
+    ensures begun { IfOk result (λ controllers. AllByRecursion (λ c. (phase_of c ≡ reading_set)) controllers.items) }
+{
+    let mut controllers = Vec::new(alloc);
+    for set in sets {
+        controllers.push(Controller::of(alloc, set)?)?;
+    }
+    Ok(controllers)
+}

@@ -1,0 +1,89 @@
+ghost use Rattle.std.specs.Prelude.{◌≡◌, ◌≤◌, ◌<◌, ℕ, Bool, true, false, length, IfOk, OnOk, OnErr, None, option_map};
+ghost use Rattle.objects.specs.Key.{key_parts};
+ghost use Rattle.objects.specs.Names.{is_dns_label};
+ghost use Rattle.objects.specs.declared.kind.Kind.TheVariants as kinds;
+ghost use Rattle.rounds.specs.Phase.{asks, reading_set, takes};
+
+use crate::progress::Progress;
+use objects::{Key, Kind, Memory, Text};
+use sets::PlanError;
+use std::alloc::Global;
+
+/// The controller of one StatefulSet: it goes round and round, one request at a time (Kubernetes, "Controllers").
+#[derive(Drop)]
+pub struct Controller {
+    pub(crate) set: Key,
+    pub(crate) digits: usize,
+    pub(crate) moment: Text,
+    pub(crate) progress: Progress,
+    pub(crate) waits: bool,
+    pub(crate) refusal: Option<PlanError>,
+    pub(crate) alloc: Global,
+    ghost some: { 1 ≤ digits },
+    ghost most: { digits ≤ 64 },
+}
+
+impl Controller {
+    ghost use Rattle.controllers.specs.Controller.{is_waiting, phase_of, reconciler_of, refusal_of};
+    ghost use Rattle.reconcilers.specs.Reconciler.{reconciler_with};
+
+    /// The controller of the set of that namespace and name. The names of new revisions have that many digits, and pods
+    /// are marked for deletion with that moment.
+    #[tactic(auto, unfolding(crate::specs::Controller::reconciler_of, crate::specs::Controller::phase_of, crate::specs::Controller::is_waiting, crate::specs::Controller::refusal_of, crate::specs::Progress::phase_at))]
+    pub fn new(
+        alloc: Global,
+        namespace: &str,
+        name: &str,
+        digits: usize,
+        moment: &str,
+    ) -> Result<Controller, Memory>
+        requires namespace { is_dns_label namespace.now ≡ true }
+        requires name { is_dns_label name.now ≡ true }
+        requires some { 1 ≤ digits }
+        requires most { digits ≤ 64 }
+        requires moment { 0 < length moment.now }
+        ensures reconciler { IfOk result (λ c. reconciler_of c ≡ reconciler_with (key_parts kinds.StatefulSet namespace.now name.now) digits moment.now) }
+        ensures phase { IfOk result (λ c. phase_of c ≡ reading_set) }
+        ensures idle { IfOk result (λ c. is_waiting c ≡ false) }
+        ensures refusal { IfOk result (λ c. refusal_of c ≡ None) }
+    {
+        let namespace = Text::copy_of(alloc, namespace)?;
+        let name = Text::copy_of(alloc, name)?;
+        let moment = Text::copy_of(alloc, moment)?;
+        let set = Key {
+            kind: Kind::StatefulSet,
+            namespace,
+            name,
+        };
+        Ok(Controller {
+            set,
+            digits,
+            moment,
+            progress: Progress::ReadingSet,
+            waits: false,
+            refusal: None,
+            alloc,
+        })
+    }
+
+    /// Forgets its round, and why its last plan was refused.
+    #[tactic(auto, unfolding(crate::specs::Controller::reconciler_of, crate::specs::Controller::phase_of, crate::specs::Controller::is_waiting, crate::specs::Controller::refusal_of, crate::specs::Progress::phase_at))]
+    pub fn crash(&mut self)
+        ensures phase { phase_of self.new ≡ reading_set }
+        ensures idle { is_waiting self.new ≡ false }
+        ensures refusal { refusal_of self.new ≡ None }
+        ensures reconciler { reconciler_of self.new ≡ reconciler_of self.old }
+    {
+        self.progress = Progress::ReadingSet;
+        self.waits = false;
+        self.refusal = None;
+    }
+
+    /// Why its last plan was refused, unless one has been made since.
+    #[tactic(auto, unfolding(crate::specs::Controller::refusal_of))]
+    pub fn last_refusal(&self) -> Option<&PlanError>
+        ensures { option_map (λ e. e.now) result ≡ refusal_of self.now }
+    {
+        self.refusal.as_ref()
+    }
+}

@@ -1,0 +1,25 @@
+//! Controllers of StatefulSets: each goes round over what it lists of a store, and any number of them may race without a
+//! leader.
+#![tactic(auto)]
+
+mod cluster;
+mod cluster_spec;
+mod controller;
+mod hearing;
+mod laws;
+mod next;
+mod progress;
+mod reconciling;
+mod round;
+mod set_spec;
+mod whole;
+
+pub use cluster::run_cluster;
+pub use cluster_runs::{ClusterFault, ClusterRun};
+pub use cluster_spec::ClusterSpec;
+pub use clusters::ClusterEvent;
+pub use controller::Controller;
+pub use laws::creates_wait_for_lower_pods;
+pub use rounds::{Reconcile, Taken, WholeEvent, WholeRun};
+pub use set_spec::SetSpec;
+pub use whole::run_whole;

@@ -1,0 +1,241 @@
+// A controller's round.
+ghost use Rattle.std.specs.Prelude.{◌≡◌, ℕ, true, false, List, Result, IfOk, OnOk, OnErr};
+ghost use Rattle.requests.specs.declared.request.Request.{Request};
+ghost use Rattle.set_views.specs.declared.fault.PlanError.{PlanError};
+ghost use Rattle.set_views.specs.Steps.{Gives};
+ghost use Rattle.rounds.specs.Phase.{acts, asks, takes};
+ghost use Rattle.rounds.specs.Reconciler.{Reconciler};
+ghost use Rattle.reconcilers.specs.Planned.{or_none, why_not};
+ghost use Rattle.controllers.specs.Progress.{is_carrying, is_listing, is_planning, phase_at, planned_at};
+ghost use Rattle.reconcilers.specs.Reconciler.{reconciler_with};
+ghost use Rattle.objects.specs.declared.key.Key.{Key};
+ghost use Rattle.controllers.specs.declared.progress.Progress.TheVariants.{ReadingSet};
+ghost use Rattle.controllers.specs.Controller.{is_waiting, phase_of, reconciler_of, refusal_after, refusal_of};
+
+use crate::controller::Controller;
+use crate::hearing::{acting, after_action, after_deletion, after_list, after_set, listed};
+use crate::next::asked;
+use crate::progress::Progress;
+use objects::{Memory, Object};
+use reconcilers::requested;
+use requests::{Reply, Request};
+use sets::PlanError;
+use std::alloc::Global;
+use std::mem;
+
+impl Controller {
+    /// The next request. Until its reply is taken, the same again.
+    #[tactic(auto, unfolding(crate::specs::Controller::reconciler_of, crate::specs::Controller::phase_of, crate::specs::Controller::is_waiting, crate::specs::Controller::refusal_of))]
+    pub fn next(&mut self) -> Result<Request, Memory>
+        ensures asked { IfOk result (λ request. request ≡ asks (reconciler_of self.old) (phase_of self.old)) }
+        ensures waiting { OnOk result (is_waiting self.new ≡ true) }
+        ensures phase { phase_of self.new ≡ phase_of self.old }
+        ensures refusal { refusal_of self.new ≡ refusal_of self.old }
+        ensures reconciler { reconciler_of self.new ≡ reconciler_of self.old }
+    {
+        let request = asked(self)?;
+        self.waits = true;
+        Ok(request)
+    }
+
+    /// Takes the reply to its last request. Where none waits, nothing changes; where memory is short, it stays where it
+    /// stands, and goes on waiting.
+    #[tactic(auto, unfolding(crate::specs::Controller::reconciler_of, crate::specs::Controller::phase_of, crate::specs::Controller::is_waiting, crate::specs::Controller::refusal_of))]
+    pub fn take(&mut self, reply: &Reply) -> Result<(), Memory>
+        ensures taken { OnOk result (is_waiting self.old ≡ true → phase_of self.new ≡ takes (reconciler_of self.old) (phase_of self.old) reply.now) }
+        ensures refusal { OnOk result (is_waiting self.old ≡ true → refusal_of self.new ≡ refusal_after self.old.digits self.old.moment (phase_of self.old) reply.now (refusal_of self.old)) }
+        ensures waiting { OnOk result (is_waiting self.new ≡ false) }
+        ensures idle { is_waiting self.old ≡ false → (phase_of self.new ≡ phase_of self.old) × (refusal_of self.new ≡ refusal_of self.old) }
+        ensures memory { OnErr result ((phase_of self.new ≡ phase_of self.old) × (refusal_of self.new ≡ refusal_of self.old) × (is_waiting self.new ≡ is_waiting self.old)) }
+        ensures reconciler { reconciler_of self.new ≡ reconciler_of self.old }
+    {
+        if self.waits {
+            hear(self, reply)?;
+            self.waits = false;
+        }
+        Ok(())
+    }
+}
+
+/// Goes on by the reply to what it asked last.
+#[tactic(auto, using(crate::proofs::Heard::carries))]
+fn hear(controller: &mut Controller, reply: &Reply) -> Result<(), Memory>
+    ensures phase { OnOk result (phase_of controller.new ≡ takes (reconciler_of controller.old) (phase_of controller.old) reply.now) }
+    ensures refusal { OnOk result (refusal_of controller.new ≡ refusal_after controller.old.digits controller.old.moment (phase_of controller.old) reply.now (refusal_of controller.old)) }
+    ensures memory { OnErr result ((phase_of controller.new ≡ phase_of controller.old) × (refusal_of controller.new ≡ refusal_of controller.old)) }
+    ensures reconciler { reconciler_of controller.new ≡ reconciler_of controller.old }
+    ensures waits { controller.new.waits ≡ controller.old.waits }
+{
+    if controller.progress.is_listing() {
+        return hear_list(controller, reply);
+    }
+    match &controller.progress {
+        Progress::ReadingSet => hear_set(controller, reply),
+        Progress::ListingClaims {
+            set: _,
+            revisions: _,
+            pods: _,
+        } => hear_claims(controller, reply),
+        _ => {
+            carry_on(controller, reply);
+            Ok(())
+        }
+    }
+}
+
+/// Goes on by the set, or where there is none.
+#[tactic(auto, using(crate::proofs::Heard::set_heard, crate::proofs::Heard::refusal_at_set), unfolding(crate::specs::Controller::reconciler_of, crate::specs::Controller::phase_of, crate::specs::Controller::refusal_of))]
+fn hear_set(controller: &mut Controller, reply: &Reply) -> Result<(), Memory>
+    requires { controller.old.progress ≡ ReadingSet }
+    ensures phase { OnOk result (phase_of controller.new ≡ takes (reconciler_of controller.old) (phase_of controller.old) reply.now) }
+    ensures refusal { OnOk result (refusal_of controller.new ≡ refusal_after controller.old.digits controller.old.moment (phase_of controller.old) reply.now (refusal_of controller.old)) }
+    ensures memory { OnErr result ((phase_of controller.new ≡ phase_of controller.old) × (refusal_of controller.new ≡ refusal_of controller.old)) }
+    ensures reconciler { reconciler_of controller.new ≡ reconciler_of controller.old }
+    ensures waits { controller.new.waits ≡ controller.old.waits }
+{
+    let progress = after_set(reply)?;
+    stand_at(controller, progress);
+    Ok(())
+}
+
+/// Where the reply to its list takes it, but for that of the claims for its plan.
+fn heard_list(alloc: Global, progress: &Progress, reply: &Reply) -> Result<Progress, Memory>
+    requires { is_listing progress.now ≡ true }
+    ensures { IfOk result (λ p. (set : Key) (digits : ℕ) (moment : List ℕ)
+        → phase_at p ≡ takes (reconciler_with set digits moment) (phase_at progress.now) reply.now) }
+{
+    match listed(reply) {
+        Some((objects, revision)) => after_list(alloc, progress, objects, revision),
+        None => Ok(Progress::ReadingSet),
+    }
+}
+
+/// Goes on by a list, but not by that of the claims for its plan.
+#[tactic(auto, using(crate::proofs::Heard::refusal_stays), unfolding(crate::specs::Controller::reconciler_of, crate::specs::Controller::phase_of, crate::specs::Controller::refusal_of))]
+fn hear_list(controller: &mut Controller, reply: &Reply) -> Result<(), Memory>
+    requires { is_listing controller.old.progress ≡ true }
+    ensures phase { OnOk result (phase_of controller.new ≡ takes (reconciler_of controller.old) (phase_of controller.old) reply.now) }
+    ensures refusal { OnOk result (refusal_of controller.new ≡ refusal_after controller.old.digits controller.old.moment (phase_of controller.old) reply.now (refusal_of controller.old)) }
+    ensures memory { OnErr result ((phase_of controller.new ≡ phase_of controller.old) × (refusal_of controller.new ≡ refusal_of controller.old)) }
+    ensures reconciler { reconciler_of controller.new ≡ reconciler_of controller.old }
+    ensures waits { controller.new.waits ≡ controller.old.waits }
+{
+    let progress = heard_list(controller.alloc, &controller.progress, reply)?;
+    stand_at(controller, progress);
+    Ok(())
+}
+
+/// What it plans, given the claims.
+fn planned(controller: &Controller, claims: &[Object]) -> Result<Vec<Request>, PlanError>
+    requires { is_planning controller.now.progress ≡ true }
+    ensures { Gives (λ requests. requests.items) result (planned_at controller.now.digits controller.now.moment controller.now.progress claims.now) }
+{
+    match &controller.progress {
+        Progress::ListingClaims {
+            set,
+            revisions,
+            pods,
+        } => requested(
+            controller.alloc,
+            set,
+            controller.digits,
+            &controller.moment,
+            revisions.as_slice(),
+            pods.as_slice(),
+            claims,
+        ),
+        _ => unreachable!(),
+    }
+}
+
+/// Goes on by the list of the claims for its plan.
+#[tactic(auto, using(crate::proofs::Heard::claims_heard, crate::proofs::Heard::refusal_at_claims, crate::proofs::Heard::refusal_unheard), unfolding(crate::specs::Controller::reconciler_of, crate::specs::Controller::phase_of, crate::specs::Controller::refusal_of))]
+fn hear_claims(controller: &mut Controller, reply: &Reply) -> Result<(), Memory>
+    requires { is_planning controller.old.progress ≡ true }
+    ensures phase { OnOk result (phase_of controller.new ≡ takes (reconciler_of controller.old) (phase_of controller.old) reply.now) }
+    ensures refusal { OnOk result (refusal_of controller.new ≡ refusal_after controller.old.digits controller.old.moment (phase_of controller.old) reply.now (refusal_of controller.old)) }
+    ensures memory { OnErr result ((phase_of controller.new ≡ phase_of controller.old) × (refusal_of controller.new ≡ refusal_of controller.old)) }
+    ensures reconciler { reconciler_of controller.new ≡ reconciler_of controller.old }
+    ensures waits { controller.new.waits ≡ controller.old.waits }
+{
+    match listed(reply) {
+        Some((claims, _)) => {
+            let found = planned(controller, claims.as_slice());
+            keep(controller, found)
+        }
+        None => {
+            stand_at(controller, Progress::ReadingSet);
+            Ok(())
+        }
+    }
+}
+
+/// Keeps what is planned, or why there is no plan.
+#[tactic(auto, using(crate::proofs::Heard::refused_with), unfolding(crate::specs::Controller::reconciler_of, crate::specs::Controller::phase_of, crate::specs::Controller::refusal_of, crate::specs::Progress::phase_at))]
+fn keep(controller: &mut Controller, found: Result<Vec<Request>, PlanError>) -> Result<(), Memory>
+    ensures phase { OnOk result ((planned : Result (List Request) PlanError) → Gives (λ requests. requests.items) found planned → phase_of controller.new ≡ acts (or_none planned)) }
+    ensures refusal { OnOk result ((planned : Result (List Request) PlanError) → Gives (λ requests. requests.items) found planned → refusal_of controller.new ≡ why_not planned) }
+    ensures memory { OnErr result ((phase_of controller.new ≡ phase_of controller.old) × (refusal_of controller.new ≡ refusal_of controller.old)) }
+    ensures reconciler { reconciler_of controller.new ≡ reconciler_of controller.old }
+    ensures waits { controller.new.waits ≡ controller.old.waits }
+{
+    match found {
+        Ok(requests) => {
+            refuse(controller, None);
+            stand_at(controller, acting(requests));
+            Ok(())
+        }
+        Err(PlanError::Memory) => Err(Memory),
+        Err(error) => {
+            refuse(controller, Some(error));
+            stand_at(controller, Progress::ListingOldClaims);
+            Ok(())
+        }
+    }
+}
+
+fn stand_at(controller: &mut Controller, progress: Progress)
+    ensures { controller.new ≡ record controller.old { progress = progress } }
+{
+    controller.progress = progress;
+}
+
+fn refuse(controller: &mut Controller, refusal: Option<PlanError>)
+    ensures { controller.new ≡ record controller.old { refusal = refusal } }
+{
+    controller.refusal = refusal;
+}
+
+/// Takes what it stands at, and lets it begin a round anew.
+fn begin_anew(controller: &mut Controller) -> Progress
+    ensures was { result ≡ controller.old.progress }
+    ensures stays { controller.new ≡ record controller.old { progress = ReadingSet } }
+{
+    mem::replace(&mut controller.progress, Progress::ReadingSet)
+}
+
+/// Where the reply to the last action or delete takes it.
+#[tactic(auto, unfolding(crate::specs::Progress::phase_at, rounds::specs::Phase::takes))]
+fn carried(progress: Progress, reply: &Reply) -> Progress
+    requires { is_carrying progress ≡ true }
+    ensures { (c : Reconciler) → phase_at result ≡ takes c (phase_at progress) reply.now }
+{
+    match progress {
+        Progress::Acting { next, later } => after_action(next, later, reply),
+        Progress::Deleting { next, later } => after_deletion(next, later, reply),
+        _ => unreachable!(),
+    }
+}
+
+/// Goes on with its plan or its deletes, by the reply to the last one.
+#[tactic(auto, using(crate::proofs::Heard::refusal_carried), unfolding(crate::specs::Controller::reconciler_of, crate::specs::Controller::phase_of, crate::specs::Controller::refusal_of))]
+fn carry_on(controller: &mut Controller, reply: &Reply)
+    requires { is_carrying controller.old.progress ≡ true }
+    ensures phase { phase_of controller.new ≡ takes (reconciler_of controller.old) (phase_of controller.old) reply.now }
+    ensures refusal { refusal_of controller.new ≡ refusal_after controller.old.digits controller.old.moment (phase_of controller.old) reply.now (refusal_of controller.old) }
+    ensures reconciler { reconciler_of controller.new ≡ reconciler_of controller.old }
+    ensures waits { controller.new.waits ≡ controller.old.waits }
+{
+    let progress = begin_anew(controller);
+    stand_at(controller, carried(progress, reply));
+}
