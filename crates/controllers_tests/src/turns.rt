@@ -1,0 +1,91 @@
+//! Controllers, a kubelet and an operator in random turns.
+use crate::checks::first_fault;
+use crate::sample::Step::{Ask, Crash, Line};
+use crate::sample::{Step, taken_of};
+use std::alloc::{AllocError, Global};
+use std::test::Fail;
+
+const MAKE: &str =
+    r#"{"do":"create","object":{"kind":"StatefulSet","metadata":{"name":"web"},"spec":{"replicas":3,"template":{}}}}"#;
+
+static STEPS: [Step; 32] = [
+    Line(MAKE),
+    Line(
+        r#"{"do":"status","object":{"kind":"Pod","metadata":{"name":"web-0"},"status":{"conditions":[{"status":"True","type":"Ready"}],"phase":"Running"}}}"#,
+    ),
+    Line(
+        r#"{"do":"status","object":{"kind":"Pod","metadata":{"name":"web-1"},"status":{"conditions":[{"status":"True","type":"Ready"}],"phase":"Running"}}}"#,
+    ),
+    Line(
+        r#"{"do":"status","object":{"kind":"Pod","metadata":{"name":"web-2"},"status":{"conditions":[{"status":"True","type":"Ready"}],"phase":"Running"}}}"#,
+    ),
+    Line(
+        r#"{"do":"status","object":{"kind":"Pod","metadata":{"name":"web-0"},"status":{"phase":"Failed"}}}"#,
+    ),
+    Line(r#"{"do":"delete","kind":"Pod","name":"web-0"}"#),
+    Line(r#"{"do":"delete","kind":"Pod","name":"web-1"}"#),
+    Line(r#"{"do":"delete","kind":"Pod","name":"web-2"}"#),
+    Line(
+        r#"{"do":"update","object":{"kind":"StatefulSet","metadata":{"name":"web"},"spec":{"replicas":3,"template":{}}}}"#,
+    ),
+    Line(
+        r#"{"do":"update","object":{"kind":"StatefulSet","metadata":{"name":"web"},"spec":{"replicas":1,"template":{}}}}"#,
+    ),
+    Line(
+        r#"{"do":"update","object":{"kind":"StatefulSet","metadata":{"name":"web"},"spec":{"replicas":3,"template":{"metadata":{"labels":{"a":"b"}}}}}}"#,
+    ),
+    Line(r#"{"do":"delete","kind":"StatefulSet","name":"web"}"#),
+    Crash(0),
+    Crash(1),
+    Ask(0, 4),
+    Ask(1, 4),
+    Ask(2, 4),
+    Ask(0, 1),
+    Ask(1, 1),
+    Ask(2, 1),
+    Ask(0, 5),
+    Ask(1, 5),
+    Ask(2, 5),
+    Ask(0, 2),
+    Ask(1, 2),
+    Ask(2, 2),
+    Ask(0, 10),
+    Ask(1, 10),
+    Ask(2, 10),
+    Ask(0, 3),
+    Ask(1, 3),
+    Ask(2, 3),
+];
+
+/// The next number of a sequence (a linear congruential generator).
+fn next_number(number: u64) -> u64 {
+    number
+        .wrapping_mul(6_364_136_223_846_793_005)
+        .wrapping_add(1_442_695_040_888_963_407)
+}
+
+/// Steps in random turns, after the set was made.
+fn random_steps(alloc: Global, seed: u64, count: usize) -> Result<Vec<Step>, AllocError> {
+    let mut steps = Vec::new(alloc);
+    steps.push(STEPS[0])?;
+    let mut number = seed;
+    for _ in 0..count {
+        number = next_number(number);
+        let place = (number >> 33) as usize % STEPS.len();
+        steps.push(STEPS[place])?;
+    }
+    Ok(steps)
+}
+
+#[test]
+fn random_clusters_keep_the_promises(rt: HostRuntime) -> Result<(), Fail> {
+    for seed in 1..9u64 {
+        let steps = random_steps(rt.alloc(), seed, 200)?;
+        let taken = taken_of(rt.alloc(), &["web", "web", "web"], steps.as_slice())?;
+        assert!(rt; taken.len() > 200);
+        if let Some(fault) = first_fault(taken.as_slice()) {
+            assert!(rt; false, "seed {seed}: {fault}");
+        }
+    }
+    Ok(())
+}
