@@ -1,8 +1,11 @@
 //! A check of what a store took from controllers, that knows nothing of them: it looks at requests and replies alone.
+use crate::sample::Step::{Ask, Line};
+use crate::sample::{Step, taken_of};
 use controllers::Taken;
-use objects::{Key, Kind, Object};
+use objects::{Key, Kind, Object, Tree, uid_number};
 use plain::{Reply, Request};
 use set_views::{PodView, Readiness, read_pod};
+use std::test::Fail;
 
 fn created(entry: &Taken) -> Option<&Object> {
     match &entry.2 {
@@ -11,7 +14,7 @@ fn created(entry: &Taken) -> Option<&Object> {
     }
 }
 
-fn removed(entry: &Taken) -> Option<&Object> {
+pub(crate) fn removed(entry: &Taken) -> Option<&Object> {
     match &entry.2 {
         Reply::Removed(object) => Some(object),
         _ => None,
@@ -113,53 +116,96 @@ fn lists_pods(request: &Request) -> bool {
     }
 }
 
-fn is_healthy(pod: &PodView<'_>, ordinal: u32) -> bool {
+fn is_healthy(pod: &PodView<'_>, set: &str, ordinal: u32) -> bool {
     let ready = matches!(pod.readiness, Readiness::Ready) && !pod.terminating;
     match pod.place {
-        Some((set, place)) => ready && set == "web" && place == ordinal,
+        Some((found, place)) => ready && found == set && place == ordinal,
         None => false,
     }
 }
 
-fn has_healthy(pods: &[Object], ordinal: u32) -> bool {
+fn has_healthy(pods: &[Object], set: &str, ordinal: u32) -> bool {
     for pod in pods {
-        if is_healthy(&read_pod(pod), ordinal) {
+        if is_healthy(&read_pod(pod), set, ordinal) {
             return true;
         }
     }
     false
 }
 
-/// Whether each ordinal below that of the pod has a healthy pod.
+/// Whether each ordinal of the set below that of the pod has a healthy pod.
 fn is_in_turn(pods: &[Object], pod: &Object) -> bool {
-    let Some((_, ordinal)) = read_pod(pod).place else {
+    let Some((set, ordinal)) = read_pod(pod).place else {
         return false;
     };
     for lower in 0..ordinal {
-        if !has_healthy(pods, lower) {
+        if !has_healthy(pods, set, lower) {
             return false;
         }
     }
     true
 }
 
+/// The number of the UID of an owner, if it is one that the store gives.
+fn owner_number(owner: &Tree) -> Option<u64> {
+    uid_number(owner.as_map()?.get("uid")?.as_text()?)
+}
+
+fn was_created(taken: &[Taken], uid: u64) -> bool {
+    for entry in taken {
+        if let Some(object) = created(entry) {
+            if object.meta.uid == uid {
+                return true;
+            }
+        }
+    }
+    false
+}
+
+/// Whether an owner of the object was created and not removed.
+fn has_live_owner(before: &[Taken], object: &Object) -> bool {
+    for owner in object.owners() {
+        if let Some(uid) = owner_number(owner) {
+            if was_created(before, uid) && !is_removed(before, uid) {
+                return true;
+            }
+        }
+    }
+    false
+}
+
+/// What is wrong with what the entry created.
+fn fault_of_create(before: &[Taken], who: Option<usize>, object: &Object) -> Option<&'static str> {
+    if !is_freed(before, object) {
+        return Some("a name has two live objects");
+    }
+    let by_controller = who.is_some() && object.key.kind == Kind::Pod;
+    if by_controller && !is_in_turn(last_pods(before, who), object) {
+        return Some("a pod is created out of turn");
+    }
+    None
+}
+
+/// What is wrong with what a controller marked or removed.
+fn fault_of_delete(before: &[Taken], who: Option<usize>, object: &Object) -> Option<&'static str> {
+    if !was_listed(before, who, object) {
+        return Some("a delete took what was not listed");
+    }
+    if object.key.kind == Kind::PersistentVolumeClaim && has_live_owner(before, object) {
+        return Some("a claim is deleted that has a live owner");
+    }
+    None
+}
+
 /// What is wrong with this entry, after those before it.
 fn fault_of(before: &[Taken], entry: &Taken) -> Option<&'static str> {
     if let Some(object) = created(entry) {
-        if !is_freed(before, object) {
-            return Some("a name has two live objects");
-        }
-        let by_controller = entry.0.is_some() && object.key.kind == Kind::Pod;
-        if by_controller && !is_in_turn(last_pods(before, entry.0), object) {
-            return Some("a pod is created out of turn");
-        }
+        return fault_of_create(before, entry.0, object);
     }
-    if let Some(object) = taken_away(entry) {
-        if entry.0.is_some() && !was_listed(before, entry.0, object) {
-            return Some("a delete took what was not listed");
-        }
+    match taken_away(entry) {
+        Some(object) if entry.0.is_some() => fault_of_delete(before, entry.0, object),
+        _ => None,
     }
-    None
 }
 
 /// The first fault of what was taken.
@@ -170,4 +216,65 @@ pub(crate) fn first_fault(taken: &[Taken]) -> Option<&'static str> {
         }
     }
     None
+}
+
+const WEB: &str =
+    r#"{"do":"create","object":{"kind":"StatefulSet","metadata":{"name":"web"},"spec":{"persistentVolumeClaimRetentionPolicy":{"whenDeleted":"Delete"},"replicas":2,"template":{},"volumeClaimTemplates":[{"metadata":{"name":"data"}}]}}}"#;
+
+/// What is at fault where somebody else's last request counts as the first controller's.
+static FAULTS: [(&str, &[Step]); 3] = [
+    (
+        "a pod is created out of turn",
+        &[
+            Line(WEB),
+            Ask(0, 22),
+            Line(r#"{"do":"create","object":{"kind":"Pod","metadata":{"name":"web-1"}}}"#),
+        ],
+    ),
+    (
+        "a delete took what was not listed",
+        &[
+            Line(WEB),
+            Line(r#"{"do":"delete","kind":"StatefulSet","name":"web"}"#),
+        ],
+    ),
+    (
+        "a claim is deleted that has a live owner",
+        &[
+            Line(WEB),
+            Ask(0, 22),
+            Line(r#"{"do":"delete","kind":"PersistentVolumeClaim","name":"data-web-0"}"#),
+        ],
+    ),
+];
+
+#[test]
+fn faults_are_found(rt: HostRuntime) -> Result<(), Fail> {
+    for (fault, steps) in FAULTS.iter() {
+        let mut taken = taken_of(rt.alloc(), &["web"], steps)?;
+        assert_eq!(rt; first_fault(taken.as_slice()), None, "{fault}");
+        if let Some(last) = taken.last_mut() {
+            last.0 = Some(0);
+        }
+        assert_eq!(rt; first_fault(taken.as_slice()), Some(*fault));
+    }
+    Ok(())
+}
+
+#[test]
+fn two_objects_of_one_name_are_found(rt: HostRuntime) -> Result<(), Fail> {
+    let steps = [
+        Line(r#"{"do":"create","object":{"kind":"Pod","metadata":{"name":"web-0"}}}"#),
+        Line(r#"{"do":"delete","kind":"Pod","name":"web-0"}"#),
+        Line(r#"{"do":"create","object":{"kind":"Pod","metadata":{"name":"web-0"}}}"#),
+    ];
+    let mut taken = taken_of(rt.alloc(), &[], &steps)?;
+    assert_eq!(rt; first_fault(taken.as_slice()), None);
+    assert_eq!(rt; taken.len(), 3);
+    taken.swap(1, 2);
+    assert_eq!(rt;
+        first_fault(taken.as_slice()),
+        Some("a name has two live objects")
+    );
+    Ok(())
 }

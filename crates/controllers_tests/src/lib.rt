@@ -7,12 +7,20 @@ mod checks;
 #[cfg(test)]
 mod growths;
 #[cfg(test)]
+mod old_plans;
+#[cfg(test)]
 mod one_controller;
 #[cfg(test)]
 mod racing;
 #[cfg(test)]
+mod remade_sets;
+#[cfg(test)]
+mod rows;
+#[cfg(test)]
 mod runs;
 #[cfg(test)]
 mod sample;
+#[cfg(test)]
+mod shared_claims;
 #[cfg(test)]
 mod turns;

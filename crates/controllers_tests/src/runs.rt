@@ -1,15 +1,8 @@
 //! Runs of controllers over one store.
+use crate::rows::Row;
 use crate::sample::Step::{Ask, Crash, Line};
-use crate::sample::{Step, taken_of, taken_text};
+use crate::sample::{taken_of, taken_text};
 use std::test::Fail;
-
-/// The idea, the sets of the controllers, what happens, and what the store takes.
-type Row = (
-    &'static str,
-    &'static [&'static str],
-    &'static [Step],
-    &'static str,
-);
 
 const WEB: &str =
     r#"{"do":"create","object":{"kind":"StatefulSet","metadata":{"name":"web"},"spec":{"replicas":1,"template":{}}}}"#;

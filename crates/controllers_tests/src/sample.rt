@@ -27,6 +27,7 @@ pub(crate) fn controller(alloc: Global, name: &'static str) -> Result<Controller
 {
     match name {
         "web" => Controller::new(alloc, "default", "web", 10, MOMENT),
+        "web-db" => Controller::new(alloc, "default", "web-db", 10, MOMENT),
         _ => Controller::new(alloc, "default", "db", 10, MOMENT),
     }
 }
@@ -153,6 +154,29 @@ pub(crate) fn taken_text(alloc: Global, taken: &[Taken]) -> Result<String, Memor
     for entry in taken {
         let line = entry_text(alloc, entry)?;
         text.push_str(line.as_str())?;
+    }
+    Ok(text)
+}
+
+fn is_list(request: &Request) -> bool {
+    matches!(
+        request,
+        Request::List {
+            kind: _,
+            namespace: _,
+            exact: _
+        }
+    )
+}
+
+/// The same without the lists.
+pub(crate) fn told_text(alloc: Global, taken: &[Taken]) -> Result<String, Memory> {
+    let mut text = String::new(alloc);
+    for entry in taken {
+        if !is_list(&entry.1) {
+            let line = entry_text(alloc, entry)?;
+            text.push_str(line.as_str())?;
+        }
     }
     Ok(text)
 }

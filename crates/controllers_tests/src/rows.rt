@@ -1,0 +1,25 @@
+//! Runs of controllers over one store, as rows of tables.
+use crate::checks::first_fault;
+use crate::sample::{Step, taken_of, told_text};
+use objects::Memory;
+use std::alloc::Global;
+use std::process::Abort;
+
+/// The idea, the sets of the controllers, what happens, and what the store takes.
+pub(crate) type Row = (
+    &'static str,
+    &'static [&'static str],
+    &'static [Step],
+    &'static str,
+);
+
+/// Asserts that the store takes what each row says, where the lists are left out, and that no promise is broken.
+pub(crate) fn assert_rows(rt: &impl Abort, alloc: Global, rows: &[Row]) -> Result<(), Memory> {
+    for (idea, names, steps, expected) in rows {
+        let taken = taken_of(alloc, names, steps)?;
+        let told = told_text(alloc, taken.as_slice())?;
+        assert_eq!(rt; told.as_str(), *expected, "{idea}");
+        assert_eq!(rt; first_fault(taken.as_slice()), None, "{idea}");
+    }
+    Ok(())
+}
