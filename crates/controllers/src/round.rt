@@ -197,7 +197,7 @@ fn keep(controller: &mut Controller, found: Result<Vec<Request>, PlanError>) -> 
 fn stand_at(controller: &mut Controller, progress: Progress)
     ensures { controller.new ≡ record controller.old { progress = progress } }
 {
-    controller.progress = progress;
+    drop(mem::replace(&mut controller.progress, progress));
 }
 
 fn refuse(controller: &mut Controller, refusal: Option<PlanError>)
