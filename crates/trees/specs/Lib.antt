@@ -11,3 +11,4 @@ pub mod Proper
 -- What only types and proofs use.
 pub mod Codes
 pub mod TreeFalls
+pub mod Text

@@ -21,7 +21,7 @@ pub(crate) fn by_key(
 {
     let mut found = BTreeMap::new(alloc);
     for (name, value) in entries {
-        drop(found.insert(name.into_string(), Some(value))?);
+        drop(found.insert(name.into_string(alloc)?, Some(value))?);
     }
     Ok(found)
 }

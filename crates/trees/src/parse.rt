@@ -137,7 +137,7 @@ fn members_in(
             Some(value) if entries.len() < FEW => put_entry(&mut entries, key, value)?,
             value => {
                 let mut found = by_key(alloc, entries)?;
-                drop(found.insert(key.into_string(), value)?);
+                drop(found.insert(key.into_string(alloc)?, value)?);
                 return members_after(alloc, reader, depth, found);
             }
         }

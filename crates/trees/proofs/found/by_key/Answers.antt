@@ -16,5 +16,5 @@ pub loop-name-preserved : goal.loop-name-preserved
 loop-name-preserved c = record {
   can = tt;
   finite = tt;
-  found = by_key_more _ _ _ _ _ _ _ c.into_string.result c.in-Some.ensures.steps.0 c.into_string.ensures c.in_ok-insert.ensures.entries c.loop-name.invariant.found;
+  found = by_key_more _ _ _ _ _ _ _ _ c.in-Some.ensures.steps.0 c.in_ok-into_string.ensures c.in_ok-insert.ensures.entries c.loop-name.invariant.found;
 }

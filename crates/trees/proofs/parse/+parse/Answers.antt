@@ -207,13 +207,13 @@ members_in-returns-in_default-2-clause-members t c =
     let s = c.next_key.new.self in
     let r = c.value_in.new.reader in
     let named : read_key l.reader ≡ Some (Some k, s) = grind arith in
-    let copied : string_bytes c.into_string.result ≡ k = c.into_string.ensures ∙ c.in_ok-key.ensures in
+    let copied = c.in_ok-into_string-in_default-2.ensures ∙ c.in_ok-key.ensures in
     let v = c.in_default-2-1.value in
     let kept : v ≡ c.in_ok-value.value = elim c.in_default-2-1.branch [ members_in-in_default-2-via-in-Some-2-2+else-len-lt-FEW w ↦ w.value-is ∙ sym w.in-Some-2.is | members_in-in_default-2-via-in-None-1 w ↦ w.value-is ] in
     let d = was_read if_whole (converted of_json (p s)) (option_map data_of c.in_ok-value.value) r c.in_ok-value.ensures.value in
     let before = put k d.0 (members_of l.entries.items) in
     let turn = members_turn p _ (members_of l.entries.items) l.reader l.invariant.so_far k s r d.0 before named d.1 c.in_ok-value.ensures.shorter refl in
-    let same = found_more c.in_ok-found-in_default-2.found.entries c.insert.new.self.entries c.into_string.result v k d.0 (members_of l.entries.items)
+    let same = found_more c.in_ok-found-in_default-2.found.entries c.insert.new.self.entries _ v k d.0 (members_of l.entries.items)
     c.in_ok-insert-in_default-2.ensures.entries copied (d.2 ∙ ap (option_map data_of) (sym kept)) (sym c.in_ok-found-in_default-2.ensures) in
     gives_same _ c.members_after.result _ _ (ap (λ o. required NotJson (parse_map members_if_whole o)) turn.2) (c.members_after.ensures.members before same turn.0 turn.1)
 
