@@ -41,7 +41,7 @@ impl Text {
         Ok(Text { form })
     }
 
-    /// The text as a `String`.
+    /// The text as a `String`, copied.
     pub(crate) fn into_string(self, alloc: Global) -> Result<String, AllocError>
         ensures { IfOk result (λ s. string_bytes s ≡ self) }
     {
