@@ -2,6 +2,7 @@
 use crate::asserts::{assert_so, read_members};
 use objects::{Items, Members, ReadError, Text, Tree, Whole, read_tree};
 use std::alloc::{AllocError, Global};
+use std::cmp::Ordering;
 
 /// A map of a list, a null and a truth value.
 static MAP: &str = r#"{"b":["x",-7,18446744073709551615],"a":null,"c":true}"#;
@@ -126,6 +127,34 @@ fn trees_have_one_shape(rt: HostRuntime) {
 fn copies_text(alloc: Global) -> Result<bool, ReadError> {
     let text = Text::copy_of(alloc, "x")?.clone()?;
     Ok(text.as_str() == "x")
+}
+
+/// Texts in byte order: as long as they lie in their own values, past that, and each beside a beginning of it.
+const ASCENDING: [&str; 6] = [
+    "",
+    "Z",
+    "a",
+    "a234567890123456",
+    "a2345678901234567",
+    "\u{e9}",
+];
+
+/// Whether the texts stand in that order, and are equal where it says so.
+fn stand_so(alloc: Global, text: &str, other: &str, order: Ordering) -> Result<bool, ReadError> {
+    let text = Text::copy_of(alloc, text)?;
+    let other = Text::copy_of(alloc, other)?;
+    let is_same = order == Ordering::Equal;
+    Ok(text.cmp(&other) == order && (text == other) == is_same)
+}
+
+#[test]
+fn texts_ascend_by_their_bytes(rt: HostRuntime) {
+    for (place, text) in ASCENDING.iter().enumerate() {
+        for (other_place, other) in ASCENDING.iter().enumerate() {
+            let answer = stand_so(rt.alloc(), text, other, place.cmp(&other_place));
+            assert_so(&rt, answer, text);
+        }
+    }
 }
 
 fn is_number(number: Whole, expected: Option<u64>) -> Result<bool, ReadError> {

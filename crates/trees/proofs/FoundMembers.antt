@@ -1,6 +1,5 @@
 -- Members that were found, and the entries of a map that stand for them.
-use Rattle.std.proofs.Common.{◌≡◌, ℕ, List, [], ◌∷◌, ◌++◌, Bool, true, false, ◌||◌, cond, Option, Some, None, option_map, option_and_then, map, String, string_bytes, string_cmp, nat_cmp, Ordering, Less, Equal, Greater, refl, sym, ap, ◌∙◌, subst}
-use Rattle.std.specs.declared.alloc.Global.{Global}
+use Rattle.std.proofs.Common.{◌≡◌, ℕ, List, [], ◌∷◌, ◌++◌, Bool, true, false, ◌||◌, cond, Option, Some, None, option_map, option_and_then, map, nat_cmp, Ordering, Less, Equal, Greater, refl, sym, ap, ◌∙◌, subst}
 use Rattle.std.specs.BTreeMap.{insert_entry}
 use Rattle.std.specs.Cmp.Lexicographic.{slice_cmp}
 use Rattle.std.specs.List.Sorted.{IsStrictlySortedBy}
@@ -15,7 +14,7 @@ use Rattle.trees.proofs.Joining.{join_members, join_members-none, join_members-p
 use Rattle.trees.proofs.PutOrder.{put_all, put_all-none}
 
 abbrev pub Entry : Type 0
-Entry = String Global × Option Tree
+Entry = List ℕ × Option Tree
 
 found_in-match : (o : Ordering) (a b c : Members) → found_in (match_ordering o a b c) ≡ match_ordering o (found_in a) (found_in b) (found_in c)
 found_in-match Less a b c = refl
@@ -31,12 +30,12 @@ found_in-put : (k : List ℕ) (d : Data) (ms : Members) → found_in (put k d ms
 found_in-put k d no_members = refl
 found_in-put k d (member l e ms) = found_in-match (slice_cmp nat_cmp k l) _ _ _ ∙ rw (found_in-put k d ms)
 
-found_of-insert : (es : List Entry) (k : String Global) (v : Option Tree) → found_of (insert_entry string_cmp es k v) ≡ insert_entry (slice_cmp nat_cmp) (found_of es) (string_bytes k) (option_map data_of v)
+found_of-insert : (es : List Entry) (k : List ℕ) (v : Option Tree) → found_of (insert_entry (slice_cmp nat_cmp) es k v) ≡ insert_entry (slice_cmp nat_cmp) (found_of es) k (option_map data_of v)
 found_of-insert [] k v = refl
-found_of-insert (e ∷ es) k v = found_of-match (string_cmp k e.0) _ _ _ ∙ rw (found_of-insert es k v)
+found_of-insert (e ∷ es) k v = found_of-match (slice_cmp nat_cmp k e.0) _ _ _ ∙ rw (found_of-insert es k v)
 
 -- one more was found, and went to its place
-pub found_more : (es new : List Entry) (name : String Global) (v : Option Tree) (k : List ℕ) (d : Data) (ms : Members) → new ≡ insert_entry string_cmp es name v → string_bytes name ≡ k → if_whole d ≡ option_map data_of v
+pub found_more : (es new : List Entry) (name : List ℕ) (v : Option Tree) (k : List ℕ) (d : Data) (ms : Members) → new ≡ insert_entry (slice_cmp nat_cmp) es name v → name ≡ k → if_whole d ≡ option_map data_of v
     → found_in ms ≡ found_of es → found_in (put k d ms) ≡ found_of new
 found_more es new name v k d ms is named whole same =
     found_in-put k d ms ∙ ap (λ fs. insert_entry (slice_cmp nat_cmp) fs k (if_whole d)) same ∙ ap (λ o. insert_entry (slice_cmp nat_cmp) (found_of es) k o) whole
@@ -58,18 +57,18 @@ taken_by k (Some t) None ms is = absurd cc
 taken_by k (Some t) (Some rest) ms is = (data_of t, rest, refl, cc)
 
 -- the members of a map ascend
-pub ascending_found : (es : List Entry) (ms : Members) → IsStrictlySortedBy string_cmp (map (λ e. e.0) es) → all_whole (found_of es) ≡ Some ms → AreAscending ms
+pub ascending_found : (es : List Entry) (ms : Members) → IsStrictlySortedBy (slice_cmp nat_cmp) (map (λ e. e.0) es) → all_whole (found_of es) ≡ Some ms → AreAscending ms
 unfolding IsStrictlySortedBy
 ascending_found [] ms h is = let none : no_members ≡ ms = cc in subst AreAscending none tt
 ascending_found (e ∷ []) ms h is =
-    let t = taken_by (string_bytes e.0) e.1 (Some no_members) ms is in
+    let t = taken_by e.0 e.1 (Some no_members) ms is in
     let none : no_members ≡ t.1 = cc in
-    subst AreAscending (ap (member (string_bytes e.0) t.0) none ∙ sym t.3) (tt, tt)
+    subst AreAscending (ap (member e.0 t.0) none ∙ sym t.3) (tt, tt)
 ascending_found (e ∷ f ∷ es) ms h is =
-    let t = taken_by (string_bytes e.0) e.1 (all_whole (found_of (f ∷ es))) ms is in
-    let u = taken_by (string_bytes f.0) f.1 (all_whole (found_of es)) t.1 t.2 in
+    let t = taken_by e.0 e.1 (all_whole (found_of (f ∷ es))) ms is in
+    let u = taken_by f.0 f.1 (all_whole (found_of es)) t.1 t.2 in
     let later = ascending_found (f ∷ es) t.1 h.1 t.2 in
-    subst AreAscending (sym t.3) (subst (ComesBefore (string_bytes e.0)) (sym u.3) h.0.0, later)
+    subst AreAscending (sym t.3) (subst (ComesBefore e.0) (sym u.3) h.0.0, later)
 
 -- ---- entries that go into a map
 
@@ -85,7 +84,7 @@ pub by_key_none : (all left : List (List ℕ × Tree)) (es : List Entry) → lef
 by_key_none all left es same none ascending whole =
     (no_members, ap (λ xs. put_all (members_of xs) no_members) same ∙ put_all-none (members_of all) ascending, sym (ap found_of none), ap (λ xs. members_have_float (members_of xs)) same ∙ whole)
 
-pub by_key_more : (all left rest : List (List ℕ × Tree)) (es new : List Entry) (k : List ℕ) (t : Tree) (name : String Global) → left ≡ (k, t) ∷ rest → string_bytes name ≡ k → new ≡ insert_entry string_cmp es name (Some t)
+pub by_key_more : (all left rest : List (List ℕ × Tree)) (es new : List Entry) (k : List ℕ) (t : Tree) (name : List ℕ) → left ≡ (k, t) ∷ rest → name ≡ k → new ≡ insert_entry (slice_cmp nat_cmp) es name (Some t)
     → IsByKey all es left → IsByKey all new rest
 by_key_more all left rest es new k t name taken named is (done, joined, same, whole) =
     let both = or_parts (has_float (data_of t)) (members_have_float (members_of rest)) (ap (λ xs. members_have_float (members_of xs)) (sym taken) ∙ whole) in (
@@ -105,7 +104,7 @@ join_more : (es : List (List ℕ × Tree)) (k : List ℕ) (t : Tree) (o : Option
 join_more es k t None = refl
 join_more es k t (Some ms) = ap Some (sym (join_members-push es (k, t) ms))
 
-pub taken_more : (all left rest : List Entry) (es new : List (List ℕ × Tree)) (name : String Global) (k : List ℕ) (v : Option Tree) (t : Tree) → left ≡ (name, v) ∷ rest → v ≡ Some t → k ≡ string_bytes name → new ≡ es ++ (k, t) ∷ []
+pub taken_more : (all left rest : List Entry) (es new : List (List ℕ × Tree)) (name : List ℕ) (k : List ℕ) (v : Option Tree) (t : Tree) → left ≡ (name, v) ∷ rest → v ≡ Some t → k ≡ name → new ≡ es ++ (k, t) ∷ []
     → IsTaken all es left → IsTaken all new rest
 taken_more all left rest es new name k v t taken whole named is joined =
     joined ∙ ap (λ xs. option_map (join_members (members_of es)) (all_whole (found_of xs))) (taken ∙ ap (λ w. (name, w) ∷ rest) whole)

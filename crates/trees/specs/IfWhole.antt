@@ -1,6 +1,5 @@
 -- Data whose numbers are whole, and members as they are found while some value may still take the place of another.
-use Rattle.std.specs.Prelude.{ℕ, List, [], ◌∷◌, Option, Some, None, option_map, option_and_then, String, string_bytes, if◌then◌else◌}
-use Rattle.std.specs.declared.alloc.Global.{Global}
+use Rattle.std.specs.Prelude.{ℕ, List, [], ◌∷◌, Option, Some, None, option_map, option_and_then, if◌then◌else◌}
 use Rattle.serde_json.specs.Data.{Num, Data, Items, Members, no_members, member}
 use Rattle.serde_json.specs.Find.{is_float}
 use Rattle.serde_json.specs.Written.{has_float, items_have_float, members_have_float}
@@ -31,9 +30,9 @@ found_in no_members = []
 found_in (member k d ms) = (k, if_whole d) ∷ found_in ms
 
 -- the same of a map's entries
-abbrev pub found_of : List (String Global × Option Tree) → List Found
+abbrev pub found_of : List (List ℕ × Option Tree) → List Found
 found_of [] = []
-found_of (e ∷ es) = (string_bytes e.0, option_map data_of e.1) ∷ found_of es
+found_of (e ∷ es) = (e.0, option_map data_of e.1) ∷ found_of es
 
 -- the members that were found, if all are whole
 abbrev pub all_whole : List Found → Option Members

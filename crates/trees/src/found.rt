@@ -14,14 +14,14 @@ use std::collections::BTreeMap;
 pub(crate) fn by_key(
     alloc: Global,
     entries: Vec<(Text, Tree)>,
-) -> Result<BTreeMap<String, Option<Tree>>, Memory>
+) -> Result<BTreeMap<Text, Option<Tree>>, Memory>
     requires ascending { AreAscending (members_of entries.items) }
     requires whole { members_have_float (members_of entries.items) ≡ false }
     ensures { IfOk result (λ found. found_of found.entries ≡ found_in (members_of entries.items)) }
 {
     let mut found = BTreeMap::new(alloc);
     for (name, value) in entries {
-        drop(found.insert(name.into_string(alloc)?, Some(value))?);
+        drop(found.insert(name, Some(value))?);
     }
     Ok(found)
 }
@@ -29,7 +29,7 @@ pub(crate) fn by_key(
 /// The entries of these members, or `None` where a value is not whole.
 pub(crate) fn whole_entries(
     alloc: Global,
-    found: BTreeMap<String, Option<Tree>>,
+    found: BTreeMap<Text, Option<Tree>>,
 ) -> Result<Option<Vec<(Text, Tree)>>, AllocError>
     ensures entries { IfOk result (λ v. option_map (λ es. members_of es.items) v ≡ all_whole (found_of found.entries)) }
     ensures ascending { IfOk result (λ v. IfSome v (λ es. AreAscending (members_of es.items))) }
@@ -37,7 +37,7 @@ pub(crate) fn whole_entries(
     let mut entries = Vec::with_capacity(alloc, found.len())?;
     for (key, value) in found {
         match value {
-            Some(value) => entries.push((Text::from(key), value))?,
+            Some(value) => entries.push((key, value))?,
             None => return Ok(None),
         }
     }

@@ -137,7 +137,7 @@ fn members_in(
             Some(value) if entries.len() < FEW => put_entry(&mut entries, key, value)?,
             value => {
                 let mut found = by_key(alloc, entries)?;
-                drop(found.insert(key.into_string(alloc)?, value)?);
+                drop(found.insert(key, value)?);
                 return members_after(alloc, reader, depth, found);
             }
         }
@@ -151,7 +151,7 @@ fn members_after(
     alloc: Global,
     reader: &mut Reader<'_>,
     depth: usize,
-    mut found: BTreeMap<String, Option<Tree>>,
+    mut found: BTreeMap<Text, Option<Tree>>,
 ) -> Result<Option<Vec<(Text, Tree)>>, TreeError>
     ensures members { (before : DataMembers) → found_in before ≡ found_of found.entries
         → (most : ℕ) → length reader.old ≤ most
@@ -162,7 +162,7 @@ fn members_after(
     ensures shorter { OnOk result (length reader.new < length reader.old) }
 {
     'members: while let Some(name) = reader.next_key()? {
-        let key = String::from_str(alloc, name)?;
+        let key = Text::copy_of(alloc, name)?;
         let value = value_in(alloc, reader, depth)?;
         drop(found.insert(key, value)?);
     }

@@ -1,5 +1,5 @@
 -- Names that are added to borrowed texts, one after another.
-use Rattle.std.proofs.Common.{◌≡◌, ℕ, Bool, true, false, cond, List, [], ◌∷◌, map, bytes_eq, Option, Some, None, string_bytes, string_cmp, refl, sym, ap, subst, ◌∙◌}
+use Rattle.std.proofs.Common.{◌≡◌, ℕ, Bool, true, false, cond, List, [], ◌∷◌, map, bytes_eq, Option, Some, None, refl, sym, ap, subst, ◌∙◌}
 use Rattle.std.specs.Borrow.{Bor}
 use Rattle.std.specs.List.{AllByRecursion}
 use Rattle.std.specs.List.Sorted.{IsStrictlySortedBy}
@@ -9,10 +9,10 @@ use Rattle.std.specs.Ordering.{is_eq, nat_cmp}
 use Rattle.std.specs.declared.cmp.Ordering.{Ordering}
 use Rattle.std.specs.declared.cmp.Ordering.TheVariants.{Less}
 use Rattle.std.specs.Cmp.Lexicographic.{slice_cmp}
-use Rattle.std.specs.BTreeMap.{BTreeMap, IsOrdered, Updates, get_by_text}
+use Rattle.std.specs.BTreeMap.{BTreeMap, IsOrdered, Updates}
 use Rattle.std.proofs.lemmas.Map.Text.{btree_map_updates_str, is_eq-slice_cmp}
 use Rattle.std.proofs.lemmas.Slice.Eq.{bytes_eq-Decides}
-use Rattle.version_map.specs.Named.{AreValues, Names, place_at_text}
+use Rattle.version_map.specs.Named.{AreValues, Names, at_text, place_at_text}
 use Rattle.version_map.proofs.Named.{Text, by_bytes, by_name}
 
 abbrev pub Texts : Type 0
@@ -26,21 +26,21 @@ by_text es word = by_bytes (λ (k : Bor (List ℕ)). k.now) es word
 
 -- with the names that are left all names are added
 pub record IsAdding (old all : Texts) (names : Names) (rest : List (Text × ℕ)) : Type 0 where
-  pub ordered : IsStrictlySortedBy string_cmp (keys_of rest)
-  pub same : (word : List ℕ) → option_or (by_name rest word) (place_at_text all word) ≡ option_or (get_by_text names word) (place_at_text old word)
+  pub ordered : IsStrictlySortedBy (slice_cmp nat_cmp) (keys_of rest)
+  pub same : (word : List ℕ) → option_or (by_name rest word) (place_at_text all word) ≡ option_or (at_text names word) (place_at_text old word)
 
-pub none_added : (old : Texts) (names : Names) (rest : List (Text × ℕ)) → rest ≡ names.entries → IsOrdered string_cmp names → IsAdding old old names rest
+pub none_added : (old : Texts) (names : Names) (rest : List (Text × ℕ)) → rest ≡ names.entries → IsOrdered (slice_cmp nat_cmp) names → IsAdding old old names rest
 none_added old names rest is ordered = record {
-  ordered = subst (λ es. IsStrictlySortedBy string_cmp (keys_of es)) (sym is) ordered;
+  ordered = subst (λ es. IsStrictlySortedBy (slice_cmp nat_cmp) (keys_of es)) (sym is) ordered;
   same = λ word. ap (λ es. option_or (by_name es word) (place_at_text old word)) is;
 }
 
 not_less : (r : Ordering) → r ≡ Less → is_eq r ≡ false
 not_less r is = ap is_eq is
 
-above_none : (n : Text) (es : List (Text × ℕ)) → AllByRecursion (λ q. string_cmp n q ≡ Less) (keys_of es) → by_name es (string_bytes n) ≡ None
+above_none : (n : Text) (es : List (Text × ℕ)) → AllByRecursion (λ q. slice_cmp nat_cmp n q ≡ Less) (keys_of es) → by_name es n ≡ None
 above_none n [] h = refl
-above_none n (e ∷ es) h = ap (λ b. cond b (Some e.1) (by_name es (string_bytes n))) (not_less (string_cmp n e.0) h.0) ∙ above_none n es h.1
+above_none n (e ∷ es) h = ap (λ b. cond b (Some e.1) (by_name es n)) (not_less (slice_cmp nat_cmp n e.0) h.0) ∙ above_none n es h.1
 
 turned : (xs ys : List ℕ) (b : Bool) → bytes_eq xs ys ≡ b → bytes_eq ys xs ≡ b
 turned xs ys true is = (bytes_eq-Decides ys xs).1 (sym ((bytes_eq-Decides xs ys).0 is))
@@ -50,37 +50,37 @@ turned xs ys false is = by (bytes_eq ys xs) refl
     by false other = refl
     by true other = let both : true ≡ false = sym ((bytes_eq-Decides xs ys).1 (sym ((bytes_eq-Decides ys xs).0 other))) ∙ is in cc
 
-later : (n : Text) (p : ℕ) (es : List (Text × ℕ)) → IsStrictlySortedBy string_cmp (keys_of ((n, p) ∷ es)) → AllByRecursion (λ q. string_cmp n q ≡ Less) (keys_of es) × IsStrictlySortedBy string_cmp (keys_of es)
+later : (n : Text) (p : ℕ) (es : List (Text × ℕ)) → IsStrictlySortedBy (slice_cmp nat_cmp) (keys_of ((n, p) ∷ es)) → AllByRecursion (λ q. slice_cmp nat_cmp n q ≡ Less) (keys_of es) × IsStrictlySortedBy (slice_cmp nat_cmp) (keys_of es)
 unfolding IsStrictlySortedBy
 later n p es h = h
 
-pub one_added : (old all next : Texts) (names : Names) (rest more : List (Text × ℕ)) (n : Text) (p : ℕ) (key : Bor (List ℕ)) → rest ≡ (n, p) ∷ more → key.now ≡ string_bytes n
+pub one_added : (old all next : Texts) (names : Names) (rest more : List (Text × ℕ)) (n : Text) (p : ℕ) (key : Bor (List ℕ)) → rest ≡ (n, p) ∷ more → key.now ≡ n
     → Updates text_cmp all next key (Some p) → IsAdding old all names rest → IsAdding old next names more
 one_added old all next names rest more n p key is text written adding = record {
   ordered = parts.1;
-  same = λ word. by word (bytes_eq (string_bytes n) word) refl ∙ adding.same word;
+  same = λ word. by word (bytes_eq n word) refl ∙ adding.same word;
 }
   where
-    parts : AllByRecursion (λ q. string_cmp n q ≡ Less) (keys_of more) × IsStrictlySortedBy string_cmp (keys_of more)
-    parts = later n p more (subst (λ es. IsStrictlySortedBy string_cmp (keys_of es)) is adding.ordered)
+    parts : AllByRecursion (λ q. slice_cmp nat_cmp n q ≡ Less) (keys_of more) × IsStrictlySortedBy (slice_cmp nat_cmp) (keys_of more)
+    parts = later n p more (subst (λ es. IsStrictlySortedBy (slice_cmp nat_cmp) (keys_of es)) is adding.ordered)
 
-    now : (word : List ℕ) → place_at_text next word ≡ cond (bytes_eq (string_bytes n) word) (Some p) (place_at_text all word)
+    now : (word : List ℕ) → place_at_text next word ≡ cond (bytes_eq n word) (Some p) (place_at_text all word)
     now word = btree_map_updates_str key.now all next (Some p) written word ∙ ap (λ b. cond (bytes_eq b word) (Some p) (place_at_text all word)) text
 
-    here : (word : List ℕ) (b : Bool) → bytes_eq (string_bytes n) word ≡ b → by_name rest word ≡ cond b (Some p) (by_name more word)
-    here word b same = ap (λ es. by_name es word) is ∙ ap (λ c. cond c (Some p) (by_name more word)) (is_eq-slice_cmp word (string_bytes n) ∙ turned (string_bytes n) word b same)
+    here : (word : List ℕ) (b : Bool) → bytes_eq n word ≡ b → by_name rest word ≡ cond b (Some p) (by_name more word)
+    here word b same = ap (λ es. by_name es word) is ∙ ap (λ c. cond c (Some p) (by_name more word)) (is_eq-slice_cmp word n ∙ turned n word b same)
 
-    by : (word : List ℕ) (b : Bool) → bytes_eq (string_bytes n) word ≡ b
+    by : (word : List ℕ) (b : Bool) → bytes_eq n word ≡ b
         → option_or (by_name more word) (place_at_text next word) ≡ option_or (by_name rest word) (place_at_text all word)
     by word true same =
-        ap (λ w. option_or (by_name more w) (place_at_text next word)) (sym ((bytes_eq-Decides (string_bytes n) word).0 same))
+        ap (λ w. option_or (by_name more w) (place_at_text next word)) (sym ((bytes_eq-Decides n word).0 same))
         ∙ ap (λ o. option_or o (place_at_text next word)) (above_none n more parts.0) ∙ now word ∙ ap (λ b. cond b (Some p) (place_at_text all word)) same
         ∙ sym (ap (λ o. option_or o (place_at_text all word)) (here word true same))
     by word false same =
         ap (option_or (by_name more word)) (now word ∙ ap (λ b. cond b (Some p) (place_at_text all word)) same) ∙ sym (ap (λ o. option_or o (place_at_text all word)) (here word false same))
 
 pub all_added : (old all : Texts) (names : Names) (rest : List (Text × ℕ)) → rest ≡ [] → IsAdding old all names rest
-    → (word : List ℕ) → place_at_text all word ≡ option_or (get_by_text names word) (place_at_text old word)
+    → (word : List ℕ) → place_at_text all word ≡ option_or (at_text names word) (place_at_text old word)
 all_added old all names rest none adding word = ap (λ es. option_or (by_name es word) (place_at_text all word)) (sym none) ∙ adding.same word
 
 or_none : (o : Option ℕ) → option_or o None ≡ o
@@ -89,15 +89,15 @@ or_none (Some p) = refl
 
 -- the names of two
 pub two_added : (none some all : Texts) (names more : Names) (values : List ℕ) → none.entries ≡ [] → IsOrdered text_cmp all → values ≡ map (λ e. e.1) all.entries
-    → ((word : List ℕ) → place_at_text some word ≡ option_or (get_by_text more word) (place_at_text none word))
-    → ((word : List ℕ) → place_at_text all word ≡ option_or (get_by_text names word) (place_at_text some word))
-    → AreValues values (λ word. option_or (get_by_text names word) (get_by_text more word))
+    → ((word : List ℕ) → place_at_text some word ≡ option_or (at_text more word) (place_at_text none word))
+    → ((word : List ℕ) → place_at_text all word ≡ option_or (at_text names word) (place_at_text some word))
+    → AreValues values (λ word. option_or (at_text names word) (at_text more word))
 two_added none some all names more values empty ordered are first second = (
   all,
   ordered,
   sym are,
   λ word.
-      second word ∙ ap (option_or (get_by_text names word)) (first word ∙ ap (option_or (get_by_text more word)) (nothing word) ∙ or_none (get_by_text more word)),
+      second word ∙ ap (option_or (at_text names word)) (first word ∙ ap (option_or (at_text more word)) (nothing word) ∙ or_none (at_text more word)),
 )
   where
     nothing : (word : List ℕ) → place_at_text none word ≡ None

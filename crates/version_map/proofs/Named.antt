@@ -1,8 +1,7 @@
 -- The places of keys as one map: what it has at a key is what is found by kind, by namespace and by name.
-use Rattle.std.proofs.Common.{◌≡◌, ℕ, ◌==◌, ◌<◌, length, get_or, Bool, true, false, ◌&&◌, not, cond, List, [], ◌∷◌, bytes_eq, Option, Some, None, option_and_then, String, string_bytes, refl, sym, ap, ◌∙◌, arith}
+use Rattle.std.proofs.Common.{◌≡◌, ℕ, ◌==◌, ◌<◌, length, get_or, Bool, true, false, ◌&&◌, not, cond, List, [], ◌∷◌, bytes_eq, Option, Some, None, option_and_then, refl, sym, ap, ◌∙◌, arith}
 use Rattle.std.specs.Prelude.{slice_get}
-use Rattle.std.specs.declared.alloc.Global.{Global}
-use Rattle.std.specs.BTreeMap.{get_by_text, is_at}
+use Rattle.std.specs.BTreeMap.{BTreeMap, UpdatesBy, is_at}
 use Rattle.std.specs.Cmp.{both_tied}
 use Rattle.std.specs.Cmp.Lexicographic.{slice_cmp}
 use Rattle.std.specs.Map.{lookup}
@@ -18,10 +17,10 @@ use Rattle.objects.specs.declared.kind.Kind.TheVariants.{StatefulSet, Pod, Persi
 use Rattle.objects.specs.Key.{key_cmp, key_parts, kind_index}
 use Rattle.objects.specs.KeyOrder.{exact_keys, key_cmp_total}
 use Rattle.version_map.specs.Keys.{is_of}
-use Rattle.version_map.specs.Named.{Names, Namespaces, Places, all_kinds, both, in_namespaces, is_kind, joined, named, of_kind, of_kinds, place_in, placed, put_all}
+use Rattle.version_map.specs.Named.{at_text, Names, Namespaces, Places, all_kinds, both, in_namespaces, is_kind, joined, named, of_kind, of_kinds, place_in, placed, put_all}
 
 abbrev pub Text : Type 0
-Text = String Global
+Text = List ℕ
 
 -- ---- when keys are equal
 
@@ -58,7 +57,12 @@ module _ {K : Type 0} (bytes : K → List ℕ) where
 
 -- what stands at a text
 abbrev pub by_name : {X : Type 0} → List (Text × X) → List ℕ → Option X
-by_name es name = by_bytes string_bytes es name
+by_name es name = by_bytes (λ w. w) es name
+
+-- a change at a text, at any text
+pub updates_text : {X : Type 0} (text : List ℕ) (m n : BTreeMap Text X) (w : Option X) → UpdatesBy (slice_cmp nat_cmp) (slice_cmp nat_cmp text) m n w
+    → (q : List ℕ) → at_text n q ≡ cond (bytes_eq text q) w (at_text m q)
+updates_text text m n w written q = written.0 q ∙ ap (λ b. cond b w (at_text m q)) (is_eq-slice_cmp text q)
 
 -- ---- maps that are joined
 
@@ -98,30 +102,30 @@ either true o = refl
 either false o = refl
 
 abbrev first_of : Kind → Text × Names → Places
-first_of kind e = from_entries (named string_bytes kind (string_bytes e.0) e.1.entries)
+first_of kind e = from_entries (named (λ w. w) kind e.0 e.1.entries)
 
 get_namespaces : (kind : Kind) (es : List (Text × Names)) (k : Key) → get (in_namespaces kind es) k ≡ cond (is_kind kind k) (place_by es k) None
 get_namespaces kind [] k = get-empty key_cmp k ∙ either (is_kind kind k) None
-get_namespaces kind (e ∷ es) k = get_joined (is_of kind (string_bytes e.0)) (first_of kind e) (in_namespaces kind es) k ∙ by (is_kind kind k) refl (bytes_eq k.namespace (string_bytes e.0)) refl (get_namespaces kind es k)
+get_namespaces kind (e ∷ es) k = get_joined (is_of kind e.0) (first_of kind e) (in_namespaces kind es) k ∙ by (is_kind kind k) refl (bytes_eq k.namespace e.0) refl (get_namespaces kind es k)
   where
     -- the first namespace, if it is the key's
-    first : (b : Bool) → bytes_eq k.namespace (string_bytes e.0) ≡ b → place_by (e ∷ es) k ≡ cond b (by_name e.1.entries k.name) (place_by es k)
-    first b is = ap (λ c. option_and_then (λ (names : Names). by_name names.entries k.name) (cond c (Some e.1) (by_name es k.namespace))) (is_eq-slice_cmp k.namespace (string_bytes e.0) ∙ is)
+    first : (b : Bool) → bytes_eq k.namespace e.0 ≡ b → place_by (e ∷ es) k ≡ cond b (by_name e.1.entries k.name) (place_by es k)
+    first b is = ap (λ c. option_and_then (λ (names : Names). by_name names.entries k.name) (cond c (Some e.1) (by_name es k.namespace))) (is_eq-slice_cmp k.namespace e.0 ∙ is)
         ∙ elim b as (λ c. option_and_then (λ (names : Names). by_name names.entries k.name) (cond c (Some e.1) (by_name es k.namespace)) ≡ cond c (by_name e.1.entries k.name) (place_by es k)) [ true ↦ refl | false ↦ refl ]
 
-    by : (a : Bool) → is_kind kind k ≡ a → (b : Bool) → bytes_eq k.namespace (string_bytes e.0) ≡ b
+    by : (a : Bool) → is_kind kind k ≡ a → (b : Bool) → bytes_eq k.namespace e.0 ≡ b
         → get (in_namespaces kind es) k ≡ cond (is_kind kind k) (place_by es k) None
-        → cond (is_of kind (string_bytes e.0) k) (get (first_of kind e) k) (get (in_namespaces kind es) k) ≡ cond (is_kind kind k) (place_by (e ∷ es) k) None
+        → cond (is_of kind e.0 k) (get (first_of kind e) k) (get (in_namespaces kind es) k) ≡ cond (is_kind kind k) (place_by (e ∷ es) k) None
     by true kinds true spaces rest =
-        let is : is_of kind (string_bytes e.0) k ≡ true = rw (kinds, spaces) refl in
-        ap (λ c. cond c (get (first_of kind e) k) (get (in_namespaces kind es) k)) is ∙ get-from_entries key_cmp_total (named string_bytes kind (string_bytes e.0) e.1.entries) k
-        ∙ find_named string_bytes kind (string_bytes e.0) k e.1.entries is ∙ sym (ap (λ c. cond c (place_by (e ∷ es) k) None) kinds ∙ first true spaces)
+        let is : is_of kind e.0 k ≡ true = rw (kinds, spaces) refl in
+        ap (λ c. cond c (get (first_of kind e) k) (get (in_namespaces kind es) k)) is ∙ get-from_entries key_cmp_total (named (λ w. w) kind e.0 e.1.entries) k
+        ∙ find_named (λ w. w) kind e.0 k e.1.entries is ∙ sym (ap (λ c. cond c (place_by (e ∷ es) k) None) kinds ∙ first true spaces)
     by true kinds false spaces rest =
-        let is : is_of kind (string_bytes e.0) k ≡ false = rw (kinds, spaces) refl in
+        let is : is_of kind e.0 k ≡ false = rw (kinds, spaces) refl in
         ap (λ c. cond c (get (first_of kind e) k) (get (in_namespaces kind es) k)) is ∙ rest ∙ ap (λ c. cond c (place_by es k) None) kinds
         ∙ sym (ap (λ c. cond c (place_by (e ∷ es) k) None) kinds ∙ first false spaces)
     by false kinds b spaces rest =
-        let is : is_of kind (string_bytes e.0) k ≡ false = rw kinds refl in
+        let is : is_of kind e.0 k ≡ false = rw kinds refl in
         ap (λ c. cond c (get (first_of kind e) k) (get (in_namespaces kind es) k)) is ∙ rest ∙ ap (λ c. cond c (place_by es k) None) kinds
         ∙ sym (ap (λ c. cond c (place_by (e ∷ es) k) None) kinds)
 
@@ -177,8 +181,8 @@ module _ (ms : List Namespaces) (m : Places) (i : ℕ) (d : Namespaces) (view : 
   pub key_read : (k : Key) (kind : Kind) (space name : List ℕ) → key_parts kind space name ≡ k → i ≡ kind_index kind → get m k ≡ place_in (get_or ms i d) space name
   key_read k kind space name parts is = sym (ap (λ q. get m q) parts) ∙ place_read (key_parts kind space name) is
 
-pub name_read : (x : Namespaces) (names : Names) (a space name : List ℕ) → a ≡ space → Some names ≡ get_by_text x a → place_in x space name ≡ get_by_text names name
-name_read x names a space name same is = ap (option_and_then (λ (y : Names). get_by_text y name)) (ap (get_by_text x) (sym same) ∙ sym is)
+pub name_read : (x : Namespaces) (names : Names) (a space name : List ℕ) → a ≡ space → Some names ≡ at_text x a → place_in x space name ≡ at_text names name
+name_read x names a space name same is = ap (option_and_then (λ (y : Names). at_text y name)) (ap (at_text x) (sym same) ∙ sym is)
 
-pub none_read : (x : Namespaces) (a space name : List ℕ) → a ≡ space → None ≡ get_by_text x a → place_in x space name ≡ None
-none_read x a space name same is = ap (option_and_then (λ (y : Names). get_by_text y name)) (ap (get_by_text x) (sym same) ∙ sym is)
+pub none_read : (x : Namespaces) (a space name : List ℕ) → a ≡ space → None ≡ at_text x a → place_in x space name ≡ None
+none_read x a space name same is = ap (option_and_then (λ (y : Names). at_text y name)) (ap (at_text x) (sym same) ∙ sym is)

@@ -1,7 +1,6 @@
 -- The places of keys: for each kind, for each namespace, the place of each name.
-use Rattle.std.specs.Prelude.{◌≡◌, ℕ, Bool, ◌==◌, ◌&&◌, not, List, [], ◌∷◌, map, bytes_eq, Option, option_and_then, slice_get, String, string_bytes, if◌then◌else◌}
-use Rattle.std.specs.declared.alloc.Global.{Global}
-use Rattle.std.specs.BTreeMap.{BTreeMap, IsOrdered, get_by, get_by_text}
+use Rattle.std.specs.Prelude.{◌≡◌, ℕ, Bool, ◌==◌, ◌&&◌, not, List, [], ◌∷◌, map, bytes_eq, Option, option_and_then, slice_get, if◌then◌else◌}
+use Rattle.std.specs.BTreeMap.{BTreeMap, IsOrdered, get_by}
 use Rattle.std.specs.Borrow.{Bor}
 use Rattle.std.specs.Cmp.Lexicographic.{slice_cmp}
 use Rattle.std.specs.Ordering.{nat_cmp}
@@ -15,17 +14,21 @@ use Rattle.objects.specs.Key.{key_cmp, key_parts, kind_index}
 use Rattle.version_map.specs.Keys.{is_of}
 
 abbrev pub Names : Type 0
-Names = BTreeMap (String Global) ℕ
+Names = BTreeMap (List ℕ) ℕ
 
 abbrev pub Namespaces : Type 0
-Namespaces = BTreeMap (String Global) Names
+Namespaces = BTreeMap (List ℕ) Names
 
 abbrev pub Places : Type 0
 Places = FinMap key_cmp ℕ
 
+-- what stands at a text
+abbrev pub at_text : {X : Type 0} → BTreeMap (List ℕ) X → List ℕ → Option X
+at_text m word = get_by (slice_cmp nat_cmp word) m
+
 -- the place of a name of a namespace
 abbrev pub place_in : Namespaces → List ℕ → List ℕ → Option ℕ
-place_in m namespace name = option_and_then (λ names. get_by_text names name) (get_by_text m namespace)
+place_in m namespace name = option_and_then (λ names. at_text names name) (at_text m namespace)
 
 -- each name of each namespace has the place that it had, but for the one that was given another, or none
 abbrev pub HasNow : Namespaces → Namespaces → List ℕ → List ℕ → Option ℕ → Type 0
@@ -34,7 +37,7 @@ HasNow old new namespace name place =
 
 -- the place of a name, where there are names
 abbrev pub place_among : Option Names → List ℕ → Option ℕ
-place_among names name = option_and_then (λ (x : Names). get_by_text x name) names
+place_among names name = option_and_then (λ (x : Names). at_text x name) names
 
 -- the keys of the kind in the namespace have the places of these names
 abbrev pub AreNames : FinMap key_cmp ℕ → Kind → List ℕ → Option Names → Type 0
@@ -68,9 +71,9 @@ joined holds m n = put_all (entries (finite.retain_keys m holds)) (finite.retain
 abbrev pub named : {K : Type 0} → (K → List ℕ) → Kind → List ℕ → List (K × ℕ) → List (Key × ℕ)
 named bytes kind namespace es = map (λ e. (key_parts kind namespace (bytes e.0), e.1)) es
 
-abbrev pub in_namespaces : Kind → List (String Global × Names) → Places
+abbrev pub in_namespaces : Kind → List (List ℕ × Names) → Places
 in_namespaces kind [] = finite.empty
-in_namespaces kind (e ∷ es) = joined (is_of kind (string_bytes e.0)) (finite.from_entries (named string_bytes kind (string_bytes e.0) e.1.entries)) (in_namespaces kind es)
+in_namespaces kind (e ∷ es) = joined (is_of kind e.0) (finite.from_entries (named (λ w. w) kind e.0 e.1.entries)) (in_namespaces kind es)
 
 abbrev pub of_kind : List Namespaces → Kind → Places
 of_kind ms kind = in_namespaces kind (option_map_or (λ m. m.entries) (slice_get ms (kind_index kind)) [])

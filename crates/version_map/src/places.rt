@@ -1,10 +1,10 @@
 ghost use Rattle.std.specs.Prelude.{◌≡◌, ◌<◌, ℕ, List, Some, None, IfOk, OnOk, OnErr};
-ghost use Rattle.std.specs.BTreeMap.{IsOrdered, get_by_text, values};
+ghost use Rattle.std.specs.BTreeMap.{IsOrdered, values};
 ghost use Rattle.std.specs.Option.{option_copied, option_or};
 ghost use Rattle.std.specs.FinMap as map;
 ghost use Rattle.objects.specs.Key.{kind_index};
 ghost use Rattle.version_map.specs.Keyed.{collection};
-ghost use Rattle.version_map.specs.Named.{AreAsBefore, AreNames, AreValues, HasNow, both, place_at_text};
+ghost use Rattle.version_map.specs.Named.{at_text, AreAsBefore, AreNames, AreValues, HasNow, both, place_at_text};
 
 use objects::{Key, Kind, Text};
 use std::alloc::{AllocError, Global};
@@ -12,10 +12,10 @@ use std::collections::BTreeMap;
 use std::marker::Model;
 
 /// The place of each name.
-type Names = BTreeMap<String, usize>;
+type Names = BTreeMap<Text, usize>;
 
 /// The names of each namespace.
-type Namespaces = BTreeMap<String, Names>;
+type Namespaces = BTreeMap<Text, Names>;
 
 /// How many kinds of objects there are.
 const KINDS: usize = 4;
@@ -61,8 +61,8 @@ impl Places {
     pub(crate) fn get(&self, key: &Key) -> Option<usize>
         ensures { result ≡ map.get self.now key.now }
     {
-        let names = self.kinds[index_of(key.kind)].get(key.namespace.as_str())?;
-        names.get(key.name.as_str()).copied()
+        let names = self.kinds[index_of(key.kind)].get(&key.namespace)?;
+        names.get(&key.name).copied()
     }
 
     pub(crate) fn insert(
@@ -75,20 +75,14 @@ impl Places {
         ensures err { OnErr result (self.new ≡ self.old) }
     {
         let namespaces = &mut self.kinds[index_of(key.kind)];
-        insert_name(
-            alloc,
-            namespaces,
-            key.namespace.as_str(),
-            key.name.as_str(),
-            place,
-        )
+        insert_name(alloc, namespaces, &key.namespace, &key.name, place)
     }
 
     pub(crate) fn remove(&mut self, key: &Key)
         ensures { self.new ≡ map.remove self.old key.now }
     {
         let namespaces = &mut self.kinds[index_of(key.kind)];
-        remove_name(namespaces, key.namespace.as_str(), key.name.as_str());
+        remove_name(namespaces, &key.namespace, &key.name);
     }
 
     /// The places of the keys of a kind in a namespace, in the order of the keys.
@@ -129,7 +123,7 @@ impl Places {
     fn names(&self, kind: Kind, namespace: &Text) -> Option<&Names>
         ensures { AreNames self.now kind namespace.now (option_copied result) }
     {
-        self.kinds[index_of(kind)].get(namespace.as_str())
+        self.kinds[index_of(kind)].get(namespace)
     }
 }
 
@@ -151,7 +145,7 @@ fn places_in<N: Ord>(alloc: Global, names: &BTreeMap<N, usize>) -> Result<Vec<us
 
 /// The places of the names of both, in byte order of the names.
 fn places_in_both(alloc: Global, names: &Names, more: &Names) -> Result<Vec<usize>, AllocError>
-    ensures { IfOk result (λ places. AreValues places.items (λ word. option_or (get_by_text names.now word) (get_by_text more.now word))) }
+    ensures { IfOk result (λ places. AreValues places.items (λ word. option_or (at_text names.now word) (at_text more.now word))) }
 {
     let mut all = BTreeMap::new(alloc);
     add(&mut all, more)?;
@@ -161,7 +155,7 @@ fn places_in_both(alloc: Global, names: &Names, more: &Names) -> Result<Vec<usiz
 
 /// Adds names with their places.
 fn add<'a>(all: &mut BTreeMap<&'a str, usize>, names: &'a Names) -> Result<(), AllocError>
-    ensures { OnOk result ((word : List ℕ) → place_at_text all.new word ≡ option_or (get_by_text names.now word) (place_at_text all.old word)) }
+    ensures { OnOk result ((word : List ℕ) → place_at_text all.new word ≡ option_or (at_text names.now word) (place_at_text all.old word)) }
 {
     for (name, place) in names.iter() {
         all.insert(name.as_str(), *place)?;
@@ -173,14 +167,14 @@ fn add<'a>(all: &mut BTreeMap<&'a str, usize>, names: &'a Names) -> Result<(), A
 fn insert_name(
     alloc: Global,
     namespaces: &mut Namespaces,
-    namespace: &str,
-    name: &str,
+    namespace: &Text,
+    name: &Text,
     place: usize,
 ) -> Result<(), AllocError>
     ensures ok { OnOk result (HasNow namespaces.old namespaces.new namespace.now name.now (Some place)) }
     ensures err { OnErr result (AreAsBefore namespaces.old namespaces.new) }
 {
-    let name = String::from_str(alloc, name)?;
+    let name = name.clone()?;
     match namespaces.get_mut(namespace) {
         Some(names) => {
             names.insert(name, place)?;
@@ -188,14 +182,14 @@ fn insert_name(
         None => {
             let mut names = BTreeMap::new(alloc);
             names.insert(name, place)?;
-            namespaces.insert(String::from_str(alloc, namespace)?, names)?;
+            namespaces.insert(namespace.clone()?, names)?;
         }
     }
     Ok(())
 }
 
 /// Takes the place of a name of a namespace away.
-fn remove_name(namespaces: &mut Namespaces, namespace: &str, name: &str)
+fn remove_name(namespaces: &mut Namespaces, namespace: &Text, name: &Text)
     ensures { HasNow namespaces.old namespaces.new namespace.now name.now None }
 {
     if let Some(names) = namespaces.get_mut(namespace) {

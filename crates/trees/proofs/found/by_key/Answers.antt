@@ -1,4 +1,4 @@
-use Rattle.std.proofs.Common.{◌≡◌, rules}
+use Rattle.std.proofs.Common.{◌≡◌, refl, rules}
 use Rattle.std.specs.Vec.Iter.{into_iter_items}
 use Rattle.trees.proofs.FoundMembers.{by_key_none, by_key_more}
 use Rattle.trees.proofs.found.by_key.Goals as goal
@@ -16,5 +16,5 @@ pub loop-name-preserved : goal.loop-name-preserved
 loop-name-preserved c = record {
   can = tt;
   finite = tt;
-  found = by_key_more _ _ _ _ _ _ _ _ c.in-Some.ensures.steps.0 c.in_ok-into_string.ensures c.in_ok-insert.ensures.entries c.loop-name.invariant.found;
+  found = by_key_more _ _ _ _ _ _ _ _ c.in-Some.ensures.steps.0 refl c.in_ok-insert.ensures.entries c.loop-name.invariant.found;
 }

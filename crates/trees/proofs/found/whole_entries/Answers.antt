@@ -1,4 +1,4 @@
-use Rattle.std.proofs.Common.{sym}
+use Rattle.std.proofs.Common.{refl, sym}
 use Rattle.trees.proofs.FoundMembers.{taken_more, taken_all, ascending_found}
 use Rattle.trees.proofs.found.whole_entries.Goals as goal
 
@@ -6,7 +6,7 @@ pub loop-key-preserved : goal.loop-key-preserved
 loop-key-preserved c = record {
   can = tt;
   finite = tt;
-  taken = taken_more c.args.found.entries _ _ _ _ _ _ _ _ c.in-Some.ensures.steps c.in-Some-value.is c.from.ensures c.in_ok-push-in-Some-value.ensures.items c.loop-key.invariant.taken;
+  taken = taken_more c.args.found.entries _ _ _ _ _ _ _ _ c.in-Some.ensures.steps c.in-Some-value.is refl c.in_ok-push-in-Some-value.ensures.items c.loop-key.invariant.taken;
 }
 
 pub returns-clause-entries : goal.returns-clause-entries

@@ -1,4 +1,4 @@
-use Rattle.std.proofs.Common.{◌≡◌, true, ◌<◌, ◌∷◌, [], length, Some, None, option_map, Ok, string_bytes, refl, sym, ap, ◌∙◌, subst, arith, rules}
+use Rattle.std.proofs.Common.{◌≡◌, true, ◌<◌, ◌∷◌, [], length, Some, None, option_map, Ok, refl, sym, ap, ◌∙◌, subst, arith, rules}
 use Rattle.json.specs.Json.{parse_map, after_end_array, read_key, value}
 use Rattle.json.proofs.Grammar.{read_key-shorter, value_is}
 use Rattle.json.specs.Reads.{token_of}
@@ -128,7 +128,7 @@ members_after-members-preserved t c =
     let r = c.value_in.new.reader in
     let named : read_key l.reader ≡ Some (Some k, s) = grind arith in
     let less = read_key-shorter l.reader (Some k) s named in
-    let copied : string_bytes c.in_ok-key.key ≡ k = search rules in
+    let copied : c.in_ok-key.key ≡ k = search rules in
     let d = was_read if_whole (converted of_json (value c.args.depth s)) (option_map data_of c.in_ok-value.value) r c.in_ok-value.ensures.value in
     record {
       so_far = λ before same most enough.
@@ -207,7 +207,7 @@ members_in-returns-in_default-2-clause-members t c =
     let s = c.next_key.new.self in
     let r = c.value_in.new.reader in
     let named : read_key l.reader ≡ Some (Some k, s) = grind arith in
-    let copied = c.in_ok-into_string-in_default-2.ensures ∙ c.in_ok-key.ensures in
+    let copied = c.in_ok-key.ensures in
     let v = c.in_default-2-1.value in
     let kept : v ≡ c.in_ok-value.value = elim c.in_default-2-1.branch [ members_in-in_default-2-via-in-Some-2-2+else-len-lt-FEW w ↦ w.value-is ∙ sym w.in-Some-2.is | members_in-in_default-2-via-in-None-1 w ↦ w.value-is ] in
     let d = was_read if_whole (converted of_json (p s)) (option_map data_of c.in_ok-value.value) r c.in_ok-value.ensures.value in

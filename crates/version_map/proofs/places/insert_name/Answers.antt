@@ -1,7 +1,6 @@
-use Rattle.std.proofs.Common.{Some, None, cond, bytes_eq, rules, string_bytes, ap, ◌∙◌}
-use Rattle.std.specs.BTreeMap.{get_by_text}
-use Rattle.std.proofs.lemmas.Map.Text.{btree_map_updates_text}
-use Rattle.version_map.proofs.Named.{by_name}
+use Rattle.std.proofs.Common.{◌≡◌, Some, None, cond, bytes_eq, rules, ap, ◌∙◌}
+use Rattle.version_map.specs.Named.{at_text}
+use Rattle.version_map.proofs.Named.{by_name, updates_text}
 use Rattle.version_map.proofs.NewNames.{as_before, one_more}
 use Rattle.version_map.proofs.Steps.{on_err}
 use Rattle.version_map.proofs.places.insert_name.Goals as goal
@@ -11,27 +10,30 @@ returns-in_err-insert-in-Some-clause-err c =
     let names = c.insert.new.self in
     let spaces = c.get_mut.follows.lender names in
     on_err c.from_residual-in_err-insert-in-Some.result (as_before c.args.namespaces.now spaces c.args.namespace.now names (Some c.in-Some.names.now) c.in-Some.ensures.value
-    (btree_map_updates_text c.args.namespace.now c.args.namespaces.now spaces (Some names) ((c.get_mut.follows.holds names).3 (search rules)))
+    (updates_text c.args.namespace.now c.args.namespaces.now spaces (Some names) ((c.get_mut.follows.holds names).3 (search rules)))
     (λ word. ap (λ es. by_name es word) c.in_err-insert-in-Some.ensures.err))
 
 pub returns-in_ok-insert-in-Some-clause-ok : goal.returns-in_ok-insert-in-Some-clause-ok
 returns-in_ok-insert-in-Some-clause-ok c =
+    let named : c.in_ok-name.name ≡ c.args.name.now = search rules in
     let names = c.insert.new.self in
     let spaces = c.get_mut.follows.lender names in
     one_more c.args.namespaces.now spaces c.args.namespace.now names (Some c.in-Some.names.now) c.in-Some.ensures.value
-    (btree_map_updates_text c.args.namespace.now c.args.namespaces.now spaces (Some names) ((c.get_mut.follows.holds names).3 (search rules))) c.args.name.now (Some c.args.place)
-    (λ word. btree_map_updates_text (string_bytes c.in_ok-name.name) c.in-Some.names.now names (Some c.args.place) c.in_ok-insert-in-Some.ensures.updates word
-    ∙ ap (λ b. cond (bytes_eq b word) (Some c.args.place) (get_by_text c.in-Some.names.now word)) c.in_ok-name.ensures.ok)
+    (updates_text c.args.namespace.now c.args.namespaces.now spaces (Some names) ((c.get_mut.follows.holds names).3 (search rules))) c.args.name.now (Some c.args.place)
+    (λ word. updates_text c.in_ok-name.name c.in-Some.names.now names (Some c.args.place) c.in_ok-insert-in-Some.ensures.updates word
+    ∙ ap (λ b. cond (bytes_eq b word) (Some c.args.place) (at_text c.in-Some.names.now word)) named)
 
 pub returns-in_ok-insert-in-None-2-clause-ok : goal.returns-in_ok-insert-in-None-2-clause-ok
 returns-in_ok-insert-in-None-2-clause-ok c =
+    let named : c.in_ok-name.name ≡ c.args.name.now = search rules in
+    let spaced : c.in_ok-clone-in-None.field-0 ≡ c.args.namespace.now = search rules in
     let names = c.insert-in-None.new.self in
     let spaces = c.insert-in-None-2.new.self in
     one_more c.args.namespaces.now spaces c.args.namespace.now names None c.in-None.ensures.value
-    (λ q. btree_map_updates_text (string_bytes c.in_ok-from_str-in-None.field-0) c.get_mut.follows.lender-at-none spaces (Some names) c.in_ok-insert-in-None-2.ensures.updates q
-    ∙ ap (λ b. cond (bytes_eq b q) (Some names) (get_by_text c.get_mut.follows.lender-at-none q)) c.in_ok-from_str-in-None.ensures.ok
-    ∙ ap (λ m. cond (bytes_eq c.args.namespace.now q) (Some names) (get_by_text m q)) c.get_mut.follows.holds-at-none)
+    (λ q. updates_text c.in_ok-clone-in-None.field-0 c.get_mut.follows.lender-at-none spaces (Some names) c.in_ok-insert-in-None-2.ensures.updates q
+    ∙ ap (λ b. cond (bytes_eq b q) (Some names) (at_text c.get_mut.follows.lender-at-none q)) spaced
+    ∙ ap (λ m. cond (bytes_eq c.args.namespace.now q) (Some names) (at_text m q)) c.get_mut.follows.holds-at-none)
     c.args.name.now (Some c.args.place)
-    (λ word. btree_map_updates_text (string_bytes c.in_ok-name.name) c.new-names.result names (Some c.args.place) c.in_ok-insert-in-None.ensures.updates word
-    ∙ ap (λ b. cond (bytes_eq b word) (Some c.args.place) (get_by_text c.new-names.result word)) c.in_ok-name.ensures.ok
+    (λ word. updates_text c.in_ok-name.name c.new-names.result names (Some c.args.place) c.in_ok-insert-in-None.ensures.updates word
+    ∙ ap (λ b. cond (bytes_eq b word) (Some c.args.place) (at_text c.new-names.result word)) named
     ∙ ap (λ es. cond (bytes_eq c.args.name.now word) (Some c.args.place) (by_name es word)) c.new-names.ensures.empty)

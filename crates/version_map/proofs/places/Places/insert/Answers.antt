@@ -1,10 +1,10 @@
-use Rattle.std.proofs.Common.{Some}
+use Rattle.std.proofs.Common.{Some, refl}
 use Rattle.version_map.proofs.NewNames.{on_error, on_ok, placed_as_before, placed_now}
 use Rattle.version_map.proofs.places.Places.insert.Goals as goal
 
 pub returns-clause-ok : goal.returns-clause-ok
 returns-clause-ok c = on_ok c.insert_name.result (placed_now c.self.inside.kinds _ c.index_of.result c.index-self-index_of.result c.insert_name.new.namespaces c.self.view_is c.self.invariant c.index_of.ensures.within
-    _ c.key.inside.kind c.key.inside.namespace c.key.inside.name c.as_str.result.now c.as_str-2.result.now (Some c.args.place) c.key.view_is c.index_of.ensures.index c.as_str.ensures c.as_str-2.ensures) c.insert_name.ensures.ok
+    _ c.key.inside.kind c.key.inside.namespace c.key.inside.name _ _ (Some c.args.place) c.key.view_is c.index_of.ensures.index refl refl) c.insert_name.ensures.ok
 
 pub returns-clause-err : goal.returns-clause-err
 returns-clause-err c = on_error c.insert_name.result (placed_as_before c.self.inside.kinds _ c.index_of.result c.index-self-index_of.result c.insert_name.new.namespaces c.self.view_is c.self.invariant c.index_of.ensures.within) c.insert_name.ensures.err
