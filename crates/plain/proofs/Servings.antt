@@ -18,6 +18,14 @@ pub on_err : {A E : Type 0} (P : Type 0) (r : Result A E) → P → OnErr r P
 on_err P (Ok x) p = tt
 on_err P (Err e) p = p
 
+-- nothing was read, and nothing written
+pub none_served : {A E : Type 0} (r : Result A E) (ended all : List ℕ → List ℕ) (had before : Option (List ℕ)) → OnErr r (ServesPart ended all had had before before)
+none_served r ended all had before = on_err _ r ([], none had, inl (PutsPart-none before (ended [])))
+  where
+    none : (left : Option (List ℕ)) → Takes left [] left
+    none None = tt
+    none (Some left) = (left, refl, refl)
+
 -- a beginning of the bytes is one of more bytes
 pub PutsPart-more : (old new : Option (List ℕ)) (bytes more : List ℕ) → PutsPart old bytes new → PutsPart old (bytes ++ more) new
 PutsPart-more old new bytes more (text, rest, e, p) = (text, rest ++ more, ap (λ b. b ++ more) e ∙ append_assoc text rest more, p)

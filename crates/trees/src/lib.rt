@@ -9,6 +9,7 @@ mod parse;
 mod places;
 mod reader;
 mod same;
+mod spares;
 mod text;
 mod tree;
 mod whole;

@@ -15,6 +15,7 @@ use crate::fault::TreeError;
 use crate::found::{by_key, whole_entries};
 use crate::number::number_in;
 use crate::places::{goes_last, put_entry};
+use crate::spares::Spares;
 use crate::text::Text;
 use crate::tree::{Items, Members, Tree};
 use json::{Reader, Scratch, Token};
@@ -31,11 +32,12 @@ pub(crate) fn tree_in(
     text: &str,
     depth: usize,
     scratch: &mut Scratch,
+    spares: &mut Spares,
 ) -> Result<Option<Tree>, TreeError>
     ensures { Gives (option_map data_of) result (required NotJson (option_map if_whole (read_within depth text.now))) }
 {
     let mut reader = Reader::new(text, scratch)?;
-    let tree = value_in(alloc, &mut reader, depth)?;
+    let tree = value_in(alloc, &mut reader, depth, spares)?;
     if reader.next().is_some() {
         return Err(TreeError::NotJson);
     }
@@ -43,7 +45,12 @@ pub(crate) fn tree_in(
 }
 
 #[cycle(parse)]
-fn value_in(alloc: Global, reader: &mut Reader<'_>, depth: usize) -> Result<Option<Tree>, TreeError>
+fn value_in(
+    alloc: Global,
+    reader: &mut Reader<'_>,
+    depth: usize,
+    spares: &mut Spares,
+) -> Result<Option<Tree>, TreeError>
     ensures value { Gives (λ t. (option_map data_of t, reader.new)) result
         (required NotJson (parse_map if_whole (converted of_json (value depth reader.old)))) }
     ensures shorter { OnOk result (length reader.new < length reader.old) }
@@ -53,14 +60,19 @@ fn value_in(alloc: Global, reader: &mut Reader<'_>, depth: usize) -> Result<Opti
         Token::Bool(truth) => Ok(Some(Tree::Truth(truth))),
         Token::Number(text) => Ok(number_in(text)?.map(Tree::Whole)),
         Token::String(text) => Ok(Some(Tree::Text(Text::copy_of(alloc, text)?))),
-        Token::BeginArray => list_in(alloc, reader, depth),
-        Token::BeginObject => map_in(alloc, reader, depth),
+        Token::BeginArray => list_in(alloc, reader, depth, spares),
+        Token::BeginObject => map_in(alloc, reader, depth, spares),
         Token::EndObject | Token::EndArray | Token::Key(_) | Token::Bad => Err(TreeError::NotJson),
     }
 }
 
 #[cycle(parse)]
-fn list_in(alloc: Global, reader: &mut Reader<'_>, depth: usize) -> Result<Option<Tree>, TreeError>
+fn list_in(
+    alloc: Global,
+    reader: &mut Reader<'_>,
+    depth: usize,
+    spares: &mut Spares,
+) -> Result<Option<Tree>, TreeError>
     ensures value { Gives (λ t. (option_map data_of t, reader.new)) result
         (required NotJson (parse_map if_whole (converted of_json (value depth (begin_array ∷ reader.old))))) }
     ensures shorter { OnOk result (length reader.new < length reader.old) }
@@ -68,14 +80,19 @@ fn list_in(alloc: Global, reader: &mut Reader<'_>, depth: usize) -> Result<Optio
     if depth == 0 {
         return Err(TreeError::NotJson);
     }
-    match items_in(alloc, reader, depth - 1)? {
+    match items_in(alloc, reader, depth - 1, spares)? {
         Some(items) => Ok(Some(Tree::List(Items::of(alloc, items)?))),
         None => Ok(None),
     }
 }
 
 #[cycle(parse)]
-fn map_in(alloc: Global, reader: &mut Reader<'_>, depth: usize) -> Result<Option<Tree>, TreeError>
+fn map_in(
+    alloc: Global,
+    reader: &mut Reader<'_>,
+    depth: usize,
+    spares: &mut Spares,
+) -> Result<Option<Tree>, TreeError>
     ensures value { Gives (λ t. (option_map data_of t, reader.new)) result
         (required NotJson (parse_map if_whole (converted of_json (value depth (begin_object ∷ reader.old))))) }
     ensures shorter { OnOk result (length reader.new < length reader.old) }
@@ -83,7 +100,7 @@ fn map_in(alloc: Global, reader: &mut Reader<'_>, depth: usize) -> Result<Option
     if depth == 0 {
         return Err(TreeError::NotJson);
     }
-    match members_in(alloc, reader, depth - 1)? {
+    match members_in(alloc, reader, depth - 1, spares)? {
         Some(entries) => Ok(Some(Tree::Map(Members::of(alloc, entries)?))),
         None => Ok(None),
     }
@@ -95,22 +112,23 @@ fn items_in(
     alloc: Global,
     reader: &mut Reader<'_>,
     depth: usize,
+    spares: &mut Spares,
 ) -> Result<Option<Vec<Tree>>, TreeError>
     ensures items { Gives (λ v. (option_map (λ ts. items_of ts.items) v, reader.new)) result
         (required NotJson (parse_map items_if_whole
         (converted of_items (items (value depth) (length reader.old) reader.old)))) }
     ensures shorter { OnOk result (length reader.new < length reader.old) }
 {
-    let mut items = Vec::new(alloc);
+    let mut items = spares.items.take(alloc);
     let mut are_whole = true;
     'items: while !reader.take_end_array() {
-        match value_in(alloc, reader, depth)? {
+        match value_in(alloc, reader, depth, spares)? {
             Some(item) => items.push(item)?,
             None => are_whole = false,
         }
     }
     Ok(if are_whole {
-        Some(tight(alloc, items)?)
+        Some(spares.items.tight(alloc, items)?)
     } else {
         None
     })
@@ -122,6 +140,7 @@ fn members_in(
     alloc: Global,
     reader: &mut Reader<'_>,
     depth: usize,
+    spares: &mut Spares,
 ) -> Result<Option<Vec<(Text, Tree)>>, TreeError>
     ensures members { Gives (λ v. (option_map (λ es. members_of es.items) v, reader.new)) result
         (required NotJson (parse_map members_if_whole
@@ -129,20 +148,20 @@ fn members_in(
     ensures ascending { IfOk result (λ v. IfSome v (λ es. AreAscending (members_of es.items))) }
     ensures shorter { OnOk result (length reader.new < length reader.old) }
 {
-    let mut entries = Vec::new(alloc);
+    let mut entries = spares.entries.take(alloc);
     'members: while let Some(name) = reader.next_key()? {
         let key = Text::copy_of(alloc, name)?;
-        match value_in(alloc, reader, depth)? {
+        match value_in(alloc, reader, depth, spares)? {
             Some(value) if goes_last(&entries, name) => entries.push((key, value))?,
             Some(value) if entries.len() < FEW => put_entry(&mut entries, key, value)?,
             value => {
                 let mut found = by_key(alloc, entries)?;
                 drop(found.insert(key, value)?);
-                return members_after(alloc, reader, depth, found);
+                return members_after(alloc, reader, depth, spares, found);
             }
         }
     }
-    Ok(Some(tight(alloc, entries)?))
+    Ok(Some(spares.entries.tight(alloc, entries)?))
 }
 
 /// The members up to the end of the map, with those that were found before.
@@ -151,6 +170,7 @@ fn members_after(
     alloc: Global,
     reader: &mut Reader<'_>,
     depth: usize,
+    spares: &mut Spares,
     mut found: BTreeMap<Text, Option<Tree>>,
 ) -> Result<Option<Vec<(Text, Tree)>>, TreeError>
     ensures members { (before : DataMembers) → found_in before ≡ found_of found.entries
@@ -163,17 +183,8 @@ fn members_after(
 {
     'members: while let Some(name) = reader.next_key()? {
         let key = Text::copy_of(alloc, name)?;
-        let value = value_in(alloc, reader, depth)?;
+        let value = value_in(alloc, reader, depth, spares)?;
         drop(found.insert(key, value)?);
     }
     Ok(whole_entries(alloc, found)?)
-}
-
-/// The same in no more memory than they need. What they came in lies among their own parts: it is given back whole.
-fn tight<T: Drop>(alloc: Global, mut parts: Vec<T>) -> Result<Vec<T>, AllocError>
-    ensures { IfOk result (λ kept. kept.items ≡ parts.items) }
-{
-    let mut kept = Vec::with_capacity(alloc, parts.len())?;
-    kept.append(&mut parts)?;
-    Ok(kept)
 }

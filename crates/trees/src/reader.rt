@@ -9,6 +9,7 @@ ghost use Rattle.trees.specs.declared.fault.TreeError.TheVariants.{NotJson};
 
 use crate::fault::TreeError;
 use crate::parse::tree_in;
+use crate::spares::Spares;
 use crate::tree::Tree;
 use json::Scratch;
 use memory::Memory;
@@ -21,11 +22,13 @@ pub const MAX_BYTES: usize = 1_048_576;
 /// How deep lists and maps of a text may nest.
 const MAX_DEPTH: usize = 127;
 
-/// Reads texts one after another, in memory that it keeps from text to text: a few pages, and the longest text's length.
+/// Reads texts one after another, in memory that it keeps from text to text: a few pages, the longest text's length, and
+/// for each depth that a text had, room for 64 items and 64 members at most.
 #[derive(Drop)]
 pub struct TreeReader {
     alloc: Global,
     scratch: Scratch,
+    spares: Spares,
 }
 
 impl TreeReader {
@@ -34,6 +37,7 @@ impl TreeReader {
         TreeReader {
             alloc,
             scratch: Scratch::new(alloc),
+            spares: Spares::new(alloc),
         }
     }
 
@@ -57,7 +61,13 @@ impl TreeReader {
             (required NotJson (option_map if_whole (json_value bytes.now))) }
     {
         match from_utf8(bytes) {
-            Ok(text) => tree_in(self.alloc, text, MAX_DEPTH, &mut self.scratch),
+            Ok(text) => tree_in(
+                self.alloc,
+                text,
+                MAX_DEPTH,
+                &mut self.scratch,
+                &mut self.spares,
+            ),
             Err(_) => Err(TreeError::NotJson),
         }
     }
@@ -67,7 +77,13 @@ impl TreeReader {
         requires { IsSomeAnd (read_within (length text.now) text.now) (λ value. has_float value ≡ false) }
         ensures { IfOk result (λ tree. read_within (length text.now) text.now ≡ Some (data_of tree)) }
     {
-        match tree_in(self.alloc, text, text.len(), &mut self.scratch) {
+        match tree_in(
+            self.alloc,
+            text,
+            text.len(),
+            &mut self.scratch,
+            &mut self.spares,
+        ) {
             Ok(Some(tree)) => Ok(tree),
             Err(TreeError::Memory) => Err(Memory),
             _ => unreachable!(),

@@ -2,10 +2,14 @@ use Rattle.std.proofs.Common.{subst}
 use Rattle.std.specs.Option.{IfSome}
 use Rattle.std.specs.Result.{OnOk, OnErr}
 use Rattle.plain.specs.Lines.{ended_lines, lines}
-use Rattle.plain.specs.Served.{answers}
+use Rattle.plain.specs.Served.{answers, served, served_so_far}
 use Rattle.plain.specs.Streams.{Puts, ServesEnded, ServesPart}
-use Rattle.plain.proofs.Servings.{in_range}
+use Rattle.plain.proofs.Servings.{in_range, none_served}
 use Rattle.plain.proofs.server.serve.Goals as goal
+
+pub returns-in_err-plain-clause-fault : goal.returns-in_err-plain-clause-fault
+returns-in_err-plain-clause-fault g c =
+    none_served c.from_residual.result (served_so_far c.args.capacity) (served c.args.capacity) (g.R.Source.remaining c.args.reader.now) (g.W.Sink.written c.args.writer.now)
 
 pub returns-clause-text : goal.returns-clause-text
 returns-clause-text g c =

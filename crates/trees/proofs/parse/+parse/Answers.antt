@@ -20,7 +20,7 @@ use Rattle.trees.proofs.parse.+parse.Goals.{items_in-then-are_whole+in_ok-tight,
 
 pub items_in-items-init : goal.items_in-items-init
 items_in-items-init t c = record {
-  so_far = items_begin (value c.args.depth) c.args.reader.now c.new-items.result.items c.new-items.ensures.items;
+  so_far = items_begin (value c.args.depth) c.args.reader.now c.take-items.result.items c.take-items.ensures;
   shorter = omega arith;
 }
 
