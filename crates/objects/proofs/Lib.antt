@@ -9,6 +9,11 @@ pub mod UidRound
 pub mod KeyTexts
 pub mod PodNamesDiffer
 pub mod Merging
+pub mod HeldSteps
+pub mod HeadWritten
+pub mod PlainDigits
+pub mod CutTexts
+pub mod SplicedTexts
 pub mod WholeObjects
 pub mod PrintedObjects
 pub mod DraftAgain

@@ -17,14 +17,9 @@ use Rattle.objects.specs.Object.{is_held, has_held}
 use Rattle.objects.specs.Text.{put_some}
 use Rattle.trees.specs.Places.{IsAbove}
 use Rattle.trees.specs.Proper.{IsProper, AreProperMembers}
-use Rattle.objects.specs.Merged.{puts, IsBelowAll, entry_tokens, some_tokens, StopsAt, WritesFront, WritesStep}
+use Rattle.objects.specs.Merged.{puts, IsBelowAll, IsFront, entry_tokens, some_tokens, StopsAt, WritesFront, WritesStep}
 use Rattle.trees.proofs.Joining.{join_members}
 use Rattle.trees.proofs.EntryPlaces.{before_put}
-
--- each entry of the front has a key below k
-abbrev pub IsFront : List ℕ → List (List ℕ × Tree) → Type 0
-IsFront k [] = Unit {0}
-IsFront k (e ∷ es) = (slice_cmp nat_cmp k e.0 ≡ Greater) × IsFront k es
 
 pub front_of : (k : List ℕ) (n : ℕ) (es : List (List ℕ × Tree)) → IsAbove k n es → IsFront k (take n es)
 front_of k zero es h = tt
@@ -37,7 +32,7 @@ above_trans j k l first second =
     let down : slice_cmp nat_cmp l k ≡ Less = nat_list_cmp_total.antisymm l k ∙ ap ordering_reverse second in
     nat_list_cmp_total.antisymm j l ∙ ap ordering_reverse (nat_list_cmp_total.trans l k j down first)
 
-front_above : (j k : List ℕ) (es : List (List ℕ × Tree)) → slice_cmp nat_cmp k j ≡ Less → IsFront k es → IsFront j es
+pub front_above : (j k : List ℕ) (es : List (List ℕ × Tree)) → slice_cmp nat_cmp k j ≡ Less → IsFront k es → IsFront j es
 front_above j k [] first h = tt
 front_above j k (e ∷ es) first h = (above_trans j k e.0 first h.0, front_above j k es first h.1)
 

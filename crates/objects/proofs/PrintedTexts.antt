@@ -7,7 +7,7 @@ use Rattle.serde_json.specs.Written.{outline, compact_text}
 use Rattle.objects.specs.declared.object.Object.{Object}
 use Rattle.objects.specs.Object.{KeepsRules}
 use Rattle.trees.specs.Proper.{IsProper}
-use Rattle.objects.specs.PrintedText.{IsTextOf, IsPrinted, object_of_text}
+use Rattle.objects.specs.PrintedText.{IsTextOf, object_of_text}
 use Rattle.objects.specs.Text.{text, printed}
 use Rattle.trees.proofs.ProperText.{read_back_within}
 use Rattle.trees.proofs.WholeTokens.{no_float}
@@ -30,6 +30,3 @@ text_of o rules proper t is same =
 pub reads_as : (o : Object) (t : List ℕ) → IsTextOf o t → object_of_text t ≡ o
 unfolding object_of_text
 reads_as o t h = rw (h.value, h.draft) refl
-
-pub is_printed : (o : Object) (t : List ℕ) → IsTextOf o t → IsPrinted t
-is_printed o t h = subst (λ x. IsTextOf x t) (sym (reads_as o t h)) h

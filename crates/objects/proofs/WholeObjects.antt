@@ -1,6 +1,6 @@
 -- An object's tokens: its metadata with the held members, among its other members.
-use Rattle.std.proofs.Common.{◌≡◌, ◌≢◌, ℕ, zero, suc, List, [], ◌∷◌, ◌++◌, length, take, drop, Option, Some, None, Result, Ok, Err, codes, decimal, refl, sym, ap, ◌∙◌, subst, arith, append_assoc}
-use Rattle.std.specs.Prelude.{OnOk, option_map}
+use Rattle.std.proofs.Common.{◌≡◌, ◌≢◌, ℕ, zero, suc, List, [], ◌∷◌, ◌++◌, length, take, drop, Some, None, Result, Ok, Err, codes, refl, sym, ap, ◌∙◌, subst, arith, append_assoc}
+use Rattle.std.specs.Prelude.{OnOk}
 use Rattle.std.proofs.lemmas.Slice.Eq.{bytes_eq-Decides}
 use Rattle.std.proofs.lemmas.Map.Text.{is_eq-slice_cmp}
 use Rattle.std.specs.Ordering.{nat_cmp, is_eq}
@@ -9,7 +9,7 @@ use Rattle.std.specs.declared.cmp.Ordering.TheVariants.{Less, Equal, Greater}
 use Rattle.std.specs.Cmp.Lexicographic.{slice_cmp}
 use Rattle.json.specs.Token.{Token, key, begin_object}
 use Rattle.json.specs.Tree.{json_tokens, members_tokens}
-use Rattle.serde_json.specs.Data.{Data, number, unsigned, string, object, Members, member, put}
+use Rattle.serde_json.specs.Data.{Data, object, Members, member, put}
 use Rattle.serde_json.specs.Find.{get_member}
 use Rattle.serde_json.specs.Written.{outline, members_outline}
 use Rattle.objects.specs.declared.kind.Kind.{Kind}
@@ -19,9 +19,8 @@ use Rattle.trees.specs.declared.tree.Tree.TheVariants as tree
 use Rattle.trees.specs.Tree.{data_of, members_of, AreAscending}
 use Rattle.objects.specs.Object.{IsBody}
 use Rattle.trees.specs.Places.{IsAbove}
-use Rattle.objects.specs.Text.{printed, whole_metadata, unless_zero}
-use Rattle.objects.specs.Uid.{uid_text}
-use Rattle.objects.specs.Merged.{puts, entry_tokens, StopsAt, WritesFront, WritesStep}
+use Rattle.objects.specs.Text.{printed, whole_metadata}
+use Rattle.objects.specs.Merged.{entry_tokens, StopsAt, WritesFront}
 use Rattle.trees.proofs.Joining.{join_members}
 use Rattle.trees.proofs.PutOrder.{none_before}
 use Rattle.objects.proofs.PrintedObjects.{printed_is}
@@ -30,32 +29,6 @@ use Rattle.objects.proofs.Merging.{put_past, tokens_join, front_of, members_of-s
 pub on_ok : {T E : Type 0} {P Q : Type 0} (r : Result T E) → (P → Q) → OnOk r P → OnOk r Q
 on_ok (Ok x) f h = f h
 on_ok (Err e) f h = tt
-
-abbrev pub held_list : Option Data → Option Data → Data → Data → Option Data → Option Data → List (List ℕ × Option Data)
-held_list deletion generation name namespace version uid =
-    (codes "deletionTimestamp", deletion) ∷ (codes "generation", generation) ∷ (codes "name", Some name) ∷ (codes "namespace", Some namespace)
-    ∷ (codes "resourceVersion", version) ∷ (codes "uid", uid) ∷ []
-
--- step by step, the metadata was written with all that is held
-pub steps_written : (deletion generation : Option Data) (name namespace : Data) (version uid : Option Data) (es r1 r2 r3 r4 r5 r6 : List (List ℕ × Tree)) (t0 t1 t2 t3 t4 t5 t6 new : List Token)
-    → WritesStep (codes "deletionTimestamp") deletion es r1 t0 t1 → WritesStep (codes "generation") generation r1 r2 t1 t2 → WritesStep (codes "name") (Some name) r2 r3 t2 t3
-    → WritesStep (codes "namespace") (Some namespace) r3 r4 t3 t4 → WritesStep (codes "resourceVersion") version r4 r5 t4 t5 → WritesStep (codes "uid") uid r5 r6 t5 t6
-    → new ≡ t6 ++ members_tokens (members_outline (members_of r6)) → new ≡ t0 ++ members_tokens (members_outline (puts (held_list deletion generation name namespace version uid) (members_of es)))
-steps_written deletion generation name namespace version uid es r1 r2 r3 r4 r5 r6 t0 t1 t2 t3 t4 t5 t6 new s1 s2 s3 s4 s5 s6 last =
-    let h5 : List (List ℕ × Option Data) = (codes "uid", uid) ∷ [] in
-    let h4 : List (List ℕ × Option Data) = (codes "resourceVersion", version) ∷ h5 in
-    let h3 : List (List ℕ × Option Data) = (codes "namespace", Some namespace) ∷ h4 in
-    let h2 : List (List ℕ × Option Data) = (codes "name", Some name) ∷ h3 in
-    let h1 : List (List ℕ × Option Data) = (codes "generation", generation) ∷ h2 in
-    last ∙ sym (s6 [] tt) ∙ sym (s5 h5 (refl, tt)) ∙ sym (s4 h4 (refl, (refl, tt))) ∙ sym (s3 h3 (refl, (refl, (refl, tt)))) ∙ sym (s2 h2 (refl, (refl, (refl, (refl, tt)))))
-    ∙ sym (s1 h1 (refl, (refl, (refl, (refl, (refl, tt))))))
-
--- what is held is what the key and the meta hold
-pub held_is : (o : Object) (ms : Members) (deletion generation : Option Data) (name namespace : Data) (version uid : Option Data) → deletion ≡ option_map string o.meta.deletion
-    → generation ≡ unless_zero o.meta.generation (number (unsigned o.meta.generation)) → name ≡ string o.key.name → namespace ≡ string o.key.namespace
-    → version ≡ unless_zero o.meta.revision (string (decimal o.meta.revision)) → uid ≡ unless_zero o.meta.uid (string (uid_text o.meta.uid))
-    → puts (held_list deletion generation name namespace version uid) ms ≡ whole_metadata o ms
-held_is o ms deletion generation name namespace version uid a b c d e f = rw (a, b, c, d, e, f) refl
 
 -- ---- the entry of the metadata among the others
 get_past : (k : List ℕ) (n : ℕ) (es : List (List ℕ × Tree)) → IsAbove k n es → get_member k (members_of es) ≡ get_member k (members_of (drop n es))

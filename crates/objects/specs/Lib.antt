@@ -16,6 +16,7 @@ pub mod MetadataShape
 pub mod Object
 pub mod New
 pub mod Status
+pub mod Rewrites
 pub mod Metadata
 pub mod Steps
 pub mod Reading
@@ -27,3 +28,4 @@ pub mod Uid
 -- What only types and proofs use.
 pub mod PrintedText
 pub mod Merged
+pub mod Cuts

@@ -1,5 +1,5 @@
 -- Members that are written in order among others.
-use Rattle.std.specs.Prelude.{◌≡◌, ◌≢◌, ℕ, List, [], ◌∷◌, ◌++◌, take, drop, Option, Some, None, ⊤}
+use Rattle.std.specs.Prelude.{◌≡◌, ◌≢◌, ℕ, List, [], ◌∷◌, ◌++◌, take, drop, codes, Option, Some, None, option_map, ⊤}
 use Rattle.std.specs.Ordering.{nat_cmp}
 use Rattle.std.specs.declared.cmp.Ordering.TheVariants.{Less, Greater}
 use Rattle.std.specs.Cmp.Lexicographic.{slice_cmp}
@@ -11,7 +11,9 @@ use Rattle.trees.specs.declared.tree.Tree.{Tree}
 use Rattle.objects.specs.declared.print.Held.{Held}
 use Rattle.objects.specs.declared.print.Held.TheVariants.{Text, Whole}
 use Rattle.trees.specs.Tree.{data_of, members_of}
-use Rattle.objects.specs.Text.{put_some}
+use Rattle.objects.specs.declared.object.Object.{Object}
+use Rattle.objects.specs.Text.{put_some, unless_zero}
+use Rattle.objects.specs.Uid.{uid_text}
 use Rattle.trees.specs.Places.{IsAbove}
 use Rattle.trees.specs.Proper.{AreProperMembers}
 
@@ -28,6 +30,11 @@ puts (h ∷ hs) ms = put_some h.0 h.1 (puts hs ms)
 abbrev pub IsBelowAll : List ℕ → List (List ℕ × Option Data) → Type 0
 IsBelowAll k [] = ⊤
 IsBelowAll k (h ∷ hs) = (slice_cmp nat_cmp k h.0 ≡ Less) × IsBelowAll k hs
+
+-- each entry of the front has a key below k
+abbrev pub IsFront : List ℕ → List (List ℕ × Tree) → Type 0
+IsFront k [] = ⊤
+IsFront k (e ∷ es) = (slice_cmp nat_cmp k e.0 ≡ Greater) × IsFront k es
 
 -- the members without the braces, each with its key
 abbrev pub entry_tokens : List (List ℕ × Tree) → List Token
@@ -58,3 +65,18 @@ rest_tokens hs es = members_tokens (members_outline (puts hs (members_of es)))
 -- the entries below k and the held member were written, whatever comes after them
 abbrev pub WritesStep : List ℕ → Option Data → List (List ℕ × Tree) → List (List ℕ × Tree) → List Token → List Token → Type 0
 WritesStep k d es rest old new = (hs : List (List ℕ × Option Data)) → IsBelowAll k hs → old ++ rest_tokens ((k, d) ∷ hs) es ≡ new ++ rest_tokens hs rest
+
+-- the held members, with these two
+abbrev pub held_with : Object → Option Data → Option Data → List (List ℕ × Option Data)
+held_with o version uid =
+    (codes "deletionTimestamp", option_map string o.meta.deletion) ∷ (codes "generation", unless_zero o.meta.generation (number (unsigned o.meta.generation)))
+    ∷ (codes "name", Some (string o.key.name)) ∷ (codes "namespace", Some (string o.key.namespace)) ∷ (codes "resourceVersion", version) ∷ (codes "uid", uid) ∷ []
+
+-- the entries of the metadata below the resource version were written with the held members below it, whatever version and UID come next
+abbrev pub WritesToVersion : Object → List (List ℕ × Tree) → List (List ℕ × Tree) → List Token → List Token → Type 0
+WritesToVersion o es rest old new = (version uid : Option Data)
+    → old ++ rest_tokens (held_with o version uid) es ≡ new ++ (some_tokens (codes "resourceVersion") version ++ rest_tokens ((codes "uid", uid) ∷ []) rest)
+
+-- what comes after the resource version in the metadata, with the closing brace
+abbrev pub after_version : Object → List (List ℕ × Tree) → List Token
+after_version o rest = rest_tokens ((codes "uid", unless_zero o.meta.uid (string (uid_text o.meta.uid))) ∷ []) rest

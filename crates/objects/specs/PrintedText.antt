@@ -37,7 +37,3 @@ object_of_data None = no_object
 -- the object that a text reads as
 unfoldable pub object_of_text : List ℕ → Object
 object_of_text t = object_of_data (read_within (length t) t)
-
--- the text is that of the object that it reads as
-abbrev pub IsPrinted : List ℕ → Type 0
-IsPrinted t = IsTextOf (object_of_text t) t

@@ -3,6 +3,7 @@
 #![tactic(auto)]
 
 mod body;
+mod cut;
 mod draft;
 mod fault;
 mod key;
@@ -15,8 +16,10 @@ mod pod_names;
 mod print;
 mod printed;
 mod read;
+mod rewrite;
 mod shape;
 mod shard;
+mod splice;
 mod status;
 mod uid;
 
@@ -33,6 +36,7 @@ pub use pod_names::{
 pub use print::{print_object, write_object};
 pub use printed::{Printed, Printer};
 pub use read::{read_collection, read_draft, read_key, read_object};
+pub use rewrite::same_found;
 pub use shape::{are_owners, are_texts};
 pub use shard::shard_of;
 pub use status::only_the_set_member_changes;

@@ -1,8 +1,8 @@
-ghost use Rattle.std.specs.Prelude.{◌≡◌, ◌≤◌, ◌++◌, [], length, IfOk, OnOk, Ok, Some, codes, true, false, option_map, decimal, string_bytes};
+ghost use Rattle.std.specs.Prelude.{◌≡◌, ◌≤◌, ◌++◌, [], length, IfOk, OnOk, Ok, Option, Some, codes, true, false, option_map, decimal, string_bytes};
 ghost use Rattle.std.specs.Option.{option_copied};
 ghost use Rattle.std.specs.Str.{IsUtf8};
 ghost use Rattle.json.specs.Tree.{json_tokens, members_tokens};
-ghost use Rattle.serde_json.specs.Data.{Members as DataMembers, object as map, string, number as number_data, unsigned, depth, put};
+ghost use Rattle.serde_json.specs.Data.{Data, Members as DataMembers, object as map, string, number as number_data, unsigned, depth, put};
 ghost use Rattle.serde_json.specs.Find.{get_member};
 ghost use Rattle.serde_json.specs.Written.{outline, members_outline};
 ghost use Rattle.trees.specs.Tree.{data_of, members_of, AreAscending};
@@ -16,7 +16,7 @@ ghost use Rattle.objects.specs.Uid.{uid_text, uid_prefix, twelve_digits};
 ghost use Rattle.objects.specs.Reading.{reading, most_bytes};
 ghost use Rattle.objects.specs.Again.{draft_again_of};
 ghost use Rattle.serde_json.specs.Read.{max_depth};
-ghost use Rattle.objects.specs.Merged.{held_data, some_tokens, WritesFront, WritesStep};
+ghost use Rattle.objects.specs.Merged.{after_version, held_data, some_tokens, WritesFront, WritesStep, WritesToVersion};
 
 use crate::object::Object;
 use crate::uid::uid_bytes;
@@ -34,7 +34,7 @@ enum Held<'a> {
 }
 
 // Writes the entries whose keys are below the key, and answers the others.
-fn write_front<'a>(
+pub(crate) fn write_front<'a>(
     entries: &'a [(Text, Tree)],
     key: &str,
     out: &mut Writer,
@@ -137,25 +137,22 @@ fn held_uid<'a>(text: &'a [u8; 36], number: u64) -> Option<Held<'a>>
     }
 }
 
-// Writes the metadata with the members that the key and the meta hold, each at its place; with the closing brace.
-fn write_metadata(
+// Writes the metadata up to the resource version, with the members that the key and the meta hold, and answers the entries
+// that are left.
+pub(crate) fn write_to_version<'a>(
     object: &Object,
-    entries: &[(Text, Tree)],
+    entries: &'a [(Text, Tree)],
     out: &mut Writer,
-) -> Result<(), AllocError>
+) -> Result<&'a [(Text, Tree)], AllocError>
     requires { has_held (members_of entries.now) ≡ false }
-    ensures tokens { OnOk result (out.new.tokens ≡ out.old.tokens ++ members_tokens (members_outline (whole_metadata object.now (members_of entries.now)))) }
+    ensures written { IfOk result (λ rest. WritesToVersion object.now entries.now rest.now out.old.tokens out.new.tokens) }
+    ensures none { IfOk result (λ rest. has_held (members_of rest.now) ≡ false) }
     ensures before { out.new.before ≡ out.old.before }
-    ensures proper { OnOk result (AreProperMembers (members_of entries.now)) }
+    ensures proper { IfOk result (λ rest. AreProperMembers (members_of rest.now) → AreProperMembers (members_of entries.now)) }
     ensures rules { OnOk result ((is_key object.now.key ≡ true) × IsMeta object.now.meta) }
 {
     let meta = &object.meta;
     let key = &object.key;
-    let mut buffer = itoa::Buffer::new();
-    let version = held_version(&mut buffer, meta.revision);
-    let text = uid_bytes(meta.uid);
-    let uid = held_uid(&text, meta.uid);
-
     let deleted = write_step(
         entries,
         "deletionTimestamp",
@@ -170,9 +167,62 @@ fn write_metadata(
         Some(Held::Text(key.namespace.as_str())),
         out,
     )?;
-    let versioned = write_step(spaced, "resourceVersion", version, out)?;
-    let known = write_step(versioned, "uid", uid, out)?;
+    let rest = write_step_front(spaced, "resourceVersion", out)?;
+    Ok(rest)
+}
+
+// Writes the entries below the key, and answers the others.
+fn write_step_front<'a>(
+    entries: &'a [(Text, Tree)],
+    key: &str,
+    out: &mut Writer,
+) -> Result<&'a [(Text, Tree)], AllocError>
+    requires held { is_held key.now ≡ true }
+    requires none { has_held (members_of entries.now) ≡ false }
+    ensures step { IfOk result (λ rest. (value : Option Data) → WritesStep key.now value entries.now rest.now out.old.tokens (out.new.tokens ++ some_tokens key.now value)) }
+    ensures none { IfOk result (λ rest. has_held (members_of rest.now) ≡ false) }
+    ensures before { out.new.before ≡ out.old.before }
+    ensures proper { IfOk result (λ rest. AreProperMembers (members_of rest.now) → AreProperMembers (members_of entries.now)) }
+{
+    let rest = write_front(entries, key, out)?;
+    Ok(rest)
+}
+
+// Writes what comes after the resource version in the metadata, with the closing brace.
+pub(crate) fn write_after_version(
+    object: &Object,
+    entries: &[(Text, Tree)],
+    out: &mut Writer,
+) -> Result<(), AllocError>
+    requires { has_held (members_of entries.now) ≡ false }
+    ensures tokens { OnOk result (out.new.tokens ≡ out.old.tokens ++ after_version object.now entries.now) }
+    ensures before { out.new.before ≡ out.old.before }
+    ensures proper { OnOk result (AreProperMembers (members_of entries.now)) }
+{
+    let meta = &object.meta;
+    let text = uid_bytes(meta.uid);
+    let known = write_step(entries, "uid", held_uid(&text, meta.uid), out)?;
     write_entries(known, out)
+}
+
+// Writes the metadata with the members that the key and the meta hold, each at its place; with the closing brace.
+fn write_metadata(
+    object: &Object,
+    entries: &[(Text, Tree)],
+    out: &mut Writer,
+) -> Result<(), AllocError>
+    requires { has_held (members_of entries.now) ≡ false }
+    ensures tokens { OnOk result (out.new.tokens ≡ out.old.tokens ++ members_tokens (members_outline (whole_metadata object.now (members_of entries.now)))) }
+    ensures before { out.new.before ≡ out.old.before }
+    ensures proper { OnOk result (AreProperMembers (members_of entries.now)) }
+    ensures rules { OnOk result ((is_key object.now.key ≡ true) × IsMeta object.now.meta) }
+{
+    let meta = &object.meta;
+    let mut buffer = itoa::Buffer::new();
+    let version = held_version(&mut buffer, meta.revision);
+    let versioned = write_to_version(object, entries, out)?;
+    write_held("resourceVersion", version, out)?;
+    write_after_version(object, versioned, out)
 }
 
 // Writes the members of the body, the metadata whole; with the closing brace.

@@ -1,11 +1,14 @@
-ghost use Rattle.std.specs.Prelude.{◌≡◌, [], IfOk};
+ghost use Rattle.std.specs.Prelude.{◌≡◌, ◌≢◌, [], IfOk, IfSome};
+ghost use Rattle.std.specs.Option.{IsSomeAnd};
 ghost use Rattle.std.specs.Str.{IsUtf8};
+ghost use Rattle.objects.specs.declared.object.Object.{Object as SpecObject};
+ghost use Rattle.objects.specs.Cuts.{IsCutAt, IsSheet};
 ghost use Rattle.objects.specs.PrintedText.{IsTextOf};
 ghost use Rattle.objects.specs.Text.{text};
 
+use crate::cut::{Cut, CutText, print_cut};
 use crate::fault::ReadError;
 use crate::object::Object;
-use crate::print::print_into;
 use crate::read::read_draft;
 use simdutf8::basic::from_utf8;
 use std::alloc::{AllocError, Global};
@@ -17,21 +20,33 @@ use trees::{Memory, TreeReader};
 /// An object as its text, which a clause sees as the object. A copy shares the text.
 #[derive(Drop)]
 pub struct Printed {
-    text: Arc<String>,
+    sheet: Arc<Sheet>,
+}
+
+/// A text of an object, and what is read of it without a look at the text.
+#[derive(Drop)]
+pub(crate) struct Sheet {
+    pub(crate) text: String,
+    pub(crate) uid: u64,
+    pub(crate) revision: u64,
+    /// Where the text can be cut, in bytes: before the resource version and before the status. The first is 0 where it can't.
+    pub(crate) version: u32,
+    pub(crate) status: u32,
 }
 
 impl Model for Printed {
     ghost use Rattle.std.specs.Prelude.{string_bytes};
+    ghost use Rattle.objects.specs.Cuts.{IsSheet};
     ghost use Rattle.objects.specs.Object.{ObjectParts, object_coded};
-    ghost use Rattle.objects.specs.PrintedText.{object_of_text, IsPrinted};
+    ghost use Rattle.objects.specs.PrintedText.{object_of_text};
 
     ghost Value = { ObjectParts };
 
     ghost coded = { object_coded };
 
-    ghost view = { λ p. object_of_text (string_bytes p.text.value) };
+    ghost view = { λ p. object_of_text (string_bytes p.sheet.value.text) };
 
-    ghost invariant = { λ p. IsPrinted (string_bytes p.text.value) };
+    ghost invariant = { λ p. IsSheet (object_of_text (string_bytes p.sheet.value.text)) p.sheet.value };
 }
 
 impl Printed {
@@ -42,19 +57,49 @@ impl Printed {
         Printer::new(alloc).print(object)
     }
 
+    /// The object of a sheet.
+    pub(crate) fn of_sheet(alloc: Global, sheet: Sheet) -> Result<Printed, Memory>
+        requires { (o : SpecObject) × IsSheet o sheet }
+        ensures { (o : SpecObject) → IsSheet o sheet → IfOk result (λ printed. printed ≡ o) }
+    {
+        Ok(Printed {
+            sheet: Arc::new(alloc, sheet)?,
+        })
+    }
+
+    pub(crate) fn sheet(&self) -> &Sheet
+        ensures { IsSheet self.now result.now }
+    {
+        &self.sheet
+    }
+
     /// The text of the object.
     pub fn as_str(&self) -> &str
         ensures { result.now ≡ text self.now }
     {
-        self.text.as_str()
+        self.sheet.text.as_str()
+    }
+
+    /// The number of the object's `uid`.
+    pub fn uid(&self) -> u64
+        ensures { result ≡ self.now.meta.uid }
+    {
+        self.sheet.uid
+    }
+
+    /// The number of the object's `resourceVersion`.
+    pub fn revision(&self) -> u64
+        ensures { result ≡ self.now.meta.revision }
+    {
+        self.sheet.revision
     }
 
     /// The object, read back from its text.
     pub fn object(&self, reader: &mut TreeReader) -> Result<Object, Memory>
         ensures { IfOk result (λ object. object ≡ self.now) }
     {
-        let tree = reader.read_back(self.text.as_str())?;
-        match read_draft(*self.text.allocator(), tree) {
+        let tree = reader.read_back(self.sheet.text.as_str())?;
+        match read_draft(*self.sheet.text.allocator(), tree) {
             Ok(draft) => Ok(draft.object),
             Err(ReadError::Memory) => Err(Memory),
             Err(_) => unreachable!(),
@@ -67,7 +112,7 @@ impl Clone for Printed {
 
     fn clone(&self) -> Result<Printed, AllocError> {
         Ok(Printed {
-            text: Arc::try_clone(&self.text)?,
+            sheet: Arc::try_clone(&self.sheet)?,
         })
     }
 }
@@ -93,27 +138,77 @@ impl Printer {
     pub fn print(&mut self, object: &Object) -> Result<Printed, Memory>
         ensures { IfOk result (λ printed. printed ≡ object.now) }
     {
-        let mut bytes = print_into(object, mem::replace(&mut self.buffer, Vec::new(self.alloc)))?;
-        let printed = printed_as(self.alloc, object, &bytes);
+        let CutText { bytes, cut } = print_cut(object, self.lent())?;
+        let printed = printed_as(self.alloc, object, &bytes, cut);
+        self.keep(bytes);
+        printed
+    }
+
+    /// The memory for a text, with nothing in it.
+    pub(crate) fn lent(&mut self) -> Vec<u8>
+        ensures { result.items ≡ [] }
+    {
+        mem::replace(&mut self.buffer, Vec::new(self.alloc))
+    }
+
+    /// Takes the memory for a text back.
+    pub(crate) fn keep(&mut self, mut bytes: Vec<u8>) {
         bytes.clear();
         self.buffer = bytes;
-        printed
     }
 }
 
 // The object, whose text these bytes are, in no more memory than they need.
-fn printed_as(alloc: Global, object: &Object, bytes: &[u8]) -> Result<Printed, Memory>
+fn printed_as(
+    alloc: Global,
+    object: &Object,
+    bytes: &[u8],
+    cut: Option<Cut>,
+) -> Result<Printed, Memory>
     requires text { IsTextOf object.now bytes.now }
     requires utf8 { IsUtf8 bytes.now }
+    requires cut { IfSome cut (λ cut. IsCutAt object.now cut.version cut.status) }
     ensures { IfOk result (λ printed. printed ≡ object.now) }
 {
     match from_utf8(bytes) {
         Ok(text) => {
-            let tight = String::from_str(alloc, text)?;
-            Ok(Printed {
-                text: Arc::new(alloc, tight)?,
-            })
+            let (uid, revision) = numbers_of(object);
+            let (version, status) = short_places(cut);
+            let text = String::from_str(alloc, text)?;
+            Printed::of_sheet(
+                alloc,
+                Sheet {
+                    text,
+                    uid,
+                    revision,
+                    version,
+                    status,
+                },
+            )
         }
         Err(_) => unreachable!(),
     }
+}
+
+// The numbers of the UID and of the resource version.
+fn numbers_of(object: &Object) -> (u64, u64)
+    ensures { result ≡ (object.now.meta.uid, object.now.meta.revision) }
+{
+    (object.meta.uid, object.meta.revision)
+}
+
+// The places in fewer bits, or 0 and 0 where there are none or they do not fit.
+pub(crate) fn short_places(cut: Option<Cut>) -> (u32, u32)
+    ensures { result.0 ≢ 0 → IsSomeAnd cut (λ cut. (result.0 ≡ cut.version) × (result.1 ≡ cut.status)) }
+{
+    let Some(cut) = cut else {
+        return (0, 0);
+    };
+    let Ok(version) = u32::try_from(cut.version) else {
+        return (0, 0);
+    };
+    let Ok(status) = u32::try_from(cut.status) else {
+        return (0, 0);
+    };
+    (version, status)
 }

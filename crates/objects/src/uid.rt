@@ -25,7 +25,6 @@ pub fn uid_text(alloc: Global, number: u64) -> Result<String, AllocError>
 /// Whether the text is that of the UID.
 #[tactic(auto, unfolding(crate::specs::Uid::uid_text))]
 pub fn is_uid_text(text: &str, number: u64) -> bool
-    requires { number < 2 ^ 48 }
     ensures { result ≡ bytes_eq text.now (uid_text number) }
 {
     if number == 0 {

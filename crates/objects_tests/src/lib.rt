@@ -23,6 +23,8 @@ mod pod_names;
 #[cfg(test)]
 mod printed;
 #[cfg(test)]
+mod rewrites;
+#[cfg(test)]
 mod status;
 #[cfg(test)]
 mod texts;

@@ -1,11 +1,5 @@
 -- The text of a reply, piece by piece.
-use Rattle.std.proofs.Common.{◌≡◌, ℕ, ◌≤◌, ◌<◌, ◌^◌, List, [], ◌∷◌, ◌++◌, codes, decimal, true, false, nat_le, refl, sym, ap, ◌∙◌, append_assoc, arith}
-use Rattle.std.specs.Char.{is_ascii_digit}
-use Rattle.std.specs.Str.{all_ascii_digits}
-use Rattle.std.proofs.lemmas.Bool.{and_parts, leb-true}
-use Rattle.std.proofs.lemmas.Fmt.{digits_decimal}
-use Rattle.std.proofs.lemmas.Str.Parse.{numerals_by_value, tells_all_ascii_digits}
-use Rattle.json.proofs.Printed.Strings.{escape_byte_plain}
+use Rattle.std.proofs.Common.{◌≡◌, ℕ, ◌<◌, ◌^◌, List, [], ◌∷◌, ◌++◌, codes, decimal, false, refl, sym, ap, ◌∙◌, append_assoc}
 use Rattle.json.specs.Print.{escape, escape_byte, print}
 use Rattle.json.specs.Token.{Token}
 use Rattle.json.specs.Tree.{json_tokens}
@@ -14,6 +8,7 @@ use Rattle.serde_json.specs.Written.{compact_text, items_text, outline}
 use Rattle.serde_json.proofs.Texts.{print-outline}
 use Rattle.objects.specs.declared.object.Object.{Object}
 use Rattle.objects.specs.Text.{text}
+use Rattle.objects.proofs.PlainDigits.{plain_decimal}
 use Rattle.requests.specs.declared.reply.Reason.{Reason}
 use Rattle.requests.specs.declared.reply.Reason.TheVariants.{NotFound, AlreadyExists, Conflict, Invalid, StoreFull, Expired, TooLarge}
 use Rattle.plain.specs.declared.lines.request_error.RequestError.{RequestError}
@@ -54,17 +49,6 @@ reason_text code reason plain =
     let said = codes ",\"reason\":\"" ++ ((escape reason ++ 34 ∷ []) ++ 125 ∷ []) in
     ap (λ x. codes "{\"code\":" ++ x) (feed_last (decimal code) _ said
     (ap (λ x. codes ",\"reason\":\"" ++ x) (quoted_last reason (125 ∷ []) plain)))
-
-plain_digits : (s : List ℕ) → all_ascii_digits s ≡ true → escape s ≡ s
-plain_digits [] h = refl
-plain_digits (x ∷ s) h =
-    let parts = and_parts (is_ascii_digit x) (all_ascii_digits s) h in
-    let ends = and_parts (nat_le 48 x) (nat_le x 57) parts.0 in
-    let low : 48 ≤ x = leb-true 48 x ends.0 in
-    ap (λ e. e ++ escape s) (escape_byte_plain x (λ e. omega (arith, e, low)) (λ e. omega (arith, e, leb-true x 57 ends.1)) (omega arith)) ∙ ap (λ r. x ∷ r) (plain_digits s parts.1)
-
-plain_decimal : (n : ℕ) → n < 2 ^ 64 → escape (decimal n) ≡ decimal n
-plain_decimal n small = plain_digits (decimal n) (digits_decimal (numerals_by_value (λ ds. all_ascii_digits ds ≡ true) tells_all_ascii_digits) n small)
 
 pub list_text : (os : List Object) (revision : ℕ) → revision < 2 ^ 64
     → code_text 200 ++ (codes ",\"items\":[" ++ (items_text false (printed_items os) ++ (codes ",\"resourceVersion\":\"" ++ (decimal revision ++ last_text (codes "\",\"result\":\"") (codes "Listed")))))

@@ -4,6 +4,7 @@ use Rattle.std.specs.Prelude.{◌≡◌, ℕ, ◌==◌, Option, Some, None, refl
 use Rattle.std.specs.Coded.{Coded, code_by, coded×, coded_ℕ}
 use Rattle.objects.specs.declared.object.Object.{Object}
 use Rattle.objects.specs.Object.{object_coded}
+pub use Rattle.objects.specs.Rewrites.{at_version}
 use Rattle.requests.specs.declared.reply.Reply.{Reply}
 use Rattle.requests.specs.declared.reply.Reply.TheVariants.{Created, Updated, Marked, Removed}
 use Rattle.requests.specs.declared.version.Version.{Version}
@@ -40,14 +41,6 @@ change_at-form_index (removes o) = refl
 
 abbrev pub change_coded : Coded Change
 change_coded = code_by (ℕ × Object) (coded× coded_ℕ object_coded) (λ c. (form_index c, change_object c)) (λ p. change_at p.0 p.1) change_at-form_index
-
--- the object at another resource version
-abbrev pub at_version : Object → ℕ → Object
-at_version o n = record {
-  key = o.key;
-  meta = record { uid = o.meta.uid; revision = n; generation = o.meta.generation; deletion = o.meta.deletion };
-  body = o.body;
-}
 
 -- The object of a change that draws the number n: a creation has n as its UID too, generation 1 and no deletion. What is
 -- taken away is answered at the number of its removal.

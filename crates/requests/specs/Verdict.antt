@@ -9,6 +9,7 @@ use Rattle.objects.specs.declared.object.Object.{Object}
 use Rattle.objects.specs.declared.object.Draft.{Draft}
 use Rattle.serde_json.specs.Data.{Data}
 use Rattle.objects.specs.Same.{same_data}
+pub use Rattle.objects.specs.Status.{same_found}
 use Rattle.objects.specs.Status.{member_of, with_member}
 use Rattle.objects.specs.Uid.{uid_text}
 use Rattle.requests.specs.declared.reply.Reason.TheVariants.{NotFound, AlreadyExists, Conflict, Invalid}
@@ -47,13 +48,6 @@ body_with_status kind status body = if has_status kind then with_member (codes "
 -- the object that a create makes: its status comes later, by a request of its own
 abbrev pub born : Object → Object
 born o = record { key = o.key; meta = o.meta; body = body_with_status o.key.kind None o.body }
-
--- a missing value differs from one that is there
-abbrev pub same_found : Option Data → Option Data → Bool
-same_found None None = true
-same_found None (Some e) = false
-same_found (Some d) None = false
-same_found (Some d) (Some e) = same_data d e
 
 abbrev pub same_member : List ℕ → Data → Data → Bool
 same_member k a b = same_found (member_of k a) (member_of k b)

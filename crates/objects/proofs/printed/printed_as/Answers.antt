@@ -1,17 +1,33 @@
-use Rattle.std.proofs.Common.{string_bytes, sym, ap, ◌∙◌, subst}
+use Rattle.std.proofs.Common.{◌≡◌, ℕ, Option, None, Some, IfSome, sym, ap, ◌∙◌, subst}
+use Rattle.std.specs.Option.{IsSomeAnd}
+use Rattle.objects.specs.declared.cut.Cut.{Cut}
+use Rattle.objects.specs.declared.object.Object.{Object}
+use Rattle.objects.specs.Cuts.{IsCutAt}
 use Rattle.objects.specs.PrintedText.{IsTextOf}
-use Rattle.objects.proofs.PrintedTexts.{reads_as, is_printed}
 use Rattle.objects.proofs.printed.printed_as.Goals as goal
 
-pub invariant_of-result : goal.invariant_of-result
-invariant_of-result c =
-    let same = ap string_bytes c.in_ok-new-in-Ok.ensures.ok ∙ c.in_ok-tight-in-Ok.ensures.ok ∙ c.in-Ok.ensures.0 in
-    is_printed c.args.object.now _ (subst (IsTextOf c.args.object.now) (sym same) c.requires.text)
+cut_there : (o : Object) (found : Option Cut) (places : ℕ × ℕ) → IfSome found (λ cut. IsCutAt o cut.version cut.status) → IsSomeAnd found (λ cut. (places.0 ≡ cut.version) × (places.1 ≡ cut.status)) → IsCutAt o places.0 places.1
+cut_there o None places h is = absurd is
+cut_there o (Some cut) places h is = subst (λ v. IsCutAt o v places.1) (sym is.0) (subst (λ s. IsCutAt o cut.version s) (sym is.1) h)
+
+pub of_sheet-requires : goal.of_sheet-requires
+of_sheet-requires c = (
+  c.args.object.now,
+  record {
+    text = subst (IsTextOf c.args.object.now) (sym (c.in_ok-text-in-Ok.ensures.ok ∙ c.in-Ok.ensures.0)) c.requires.text;
+    uid = ap (λ (p : ℕ × ℕ). p.0) c.numbers_of-uid.ensures;
+    revision = ap (λ (p : ℕ × ℕ). p.1) c.numbers_of-uid.ensures;
+    cut = λ some. cut_there c.args.object.now c.args.cut _ c.requires.cut (c.short_places-version.ensures some);
+  },
+)
 
 pub returns : goal.returns
-returns c =
-    let same = ap string_bytes c.in_ok-new-in-Ok.ensures.ok ∙ c.in_ok-tight-in-Ok.ensures.ok ∙ c.in-Ok.ensures.0 in
-    reads_as c.args.object.now _ (subst (IsTextOf c.args.object.now) (sym same) c.requires.text)
+returns c = c.of_sheet.ensures c.args.object.now (record {
+  text = subst (IsTextOf c.args.object.now) (sym (c.in_ok-text-in-Ok.ensures.ok ∙ c.in-Ok.ensures.0)) c.requires.text;
+  uid = ap (λ (p : ℕ × ℕ). p.0) c.numbers_of-uid.ensures;
+  revision = ap (λ (p : ℕ × ℕ). p.1) c.numbers_of-uid.ensures;
+  cut = λ some. cut_there c.args.object.now c.args.cut _ c.requires.cut (c.short_places-version.ensures some);
+})
 
 pub unreachable-requires : goal.unreachable-requires
 unreachable-requires c = absurd (c.in-Err.ensures c.requires.utf8)

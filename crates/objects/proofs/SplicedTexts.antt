@@ -1,0 +1,295 @@
+-- A text with another resource version and another status put in.
+use Rattle.std.proofs.Common.{◌≡◌, ◌≢◌, ℕ, ◌+◌, ◌-◌, ◌<◌, ◌^◌, List, [], ◌∷◌, ◌++◌, length, take, drop, Bool, true, false, cond, bytes_eq, codes, decimal, Option, Some, None, Result, Ok, Err, IfOk, IfSome, string_bytes, refl, sym, ap, ◌∙◌, subst, append_assoc, length-append, arith}
+use Rattle.std.proofs.Math.Seq.{take-append_seam, drop-append_seam}
+use Rattle.std.proofs.lemmas.Slice.Eq.{bytes_eq-Decides}
+use Rattle.json.specs.Lex.{tokens}
+use Rattle.json.specs.Print.{ArePrintableOrBad, print, print_from}
+use Rattle.json.specs.Token.{Token, end_object, key}
+use Rattle.json.specs.Tree.{json_tokens}
+use Rattle.serde_json.specs.Data.{Data, object, Members, no_members, member}
+use Rattle.serde_json.specs.Find.{get_member}
+use Rattle.serde_json.specs.Written.{outline, has_float}
+use Rattle.trees.specs.Members.{without_member, set_member}
+use Rattle.trees.specs.Proper.{IsProper, AreProperMembers}
+use Rattle.trees.specs.Tree.{AreAscending}
+use Rattle.trees.proofs.PutOrder.{proper_found, proper_put}
+use Rattle.trees.proofs.Sameness.{same-itself, same-equal}
+use Rattle.trees.proofs.SetMembers.{ascending_set}
+use Rattle.trees.proofs.WholeTokens.{no_float_printable}
+use Rattle.objects.specs.declared.object.Object.{Object}
+use Rattle.objects.specs.Object.{IsBody, KeepsRules}
+use Rattle.objects.specs.declared.printed.Sheet.{Sheet}
+use Rattle.objects.specs.Cuts.{AreParts, IsCut, IsCutAt, IsProperStatus, IsSheet, IsSpliced, rewritten, status_text, status_tokens, version_text}
+use Rattle.objects.specs.PrintedText.{IsTextOf}
+use Rattle.objects.specs.Rewrites.{at_version, with_status}
+use Rattle.objects.specs.Status.{member_of, same_found, with_member}
+use Rattle.objects.specs.Text.{text}
+use Rattle.objects.proofs.Bodies.{body_with_status}
+use Rattle.objects.proofs.BodyMembers.{set_found}
+use Rattle.objects.proofs.CutTexts.{printable_again, set_again, status_bytes}
+use Rattle.objects.proofs.PrintedTexts.{reads_as, text_of}
+
+apart_by : (b : Bool) → (b ≡ true → ⊥) → b ≡ false
+apart_by true h = absurd (h refl)
+apart_by false h = refl
+
+-- ---- the bytes
+
+front_of_parts : (t : List ℕ) (old v s : ℕ) (parts : AreParts t old v s) → take v t ≡ parts.front
+front_of_parts t old v s parts = rw (parts.version_at) (ap (take (length parts.front)) parts.text ∙ take-append_seam parts.front (version_text old ++ (parts.middle ++ parts.rest)))
+
+regroup : (front version middle rest : List ℕ) → front ++ (version ++ (middle ++ rest)) ≡ (front ++ version) ++ (middle ++ rest)
+regroup front version middle rest = sym (append_assoc front version (middle ++ rest))
+
+middle_of_parts : (t : List ℕ) (old v s behind : ℕ) (parts : AreParts t old v s) → behind ≡ v + 2 + length (decimal old) → take (s - behind) (drop behind t) ≡ parts.middle
+middle_of_parts t old v s behind parts is =
+    let first = parts.front ++ version_text old in
+    let here : behind ≡ length first = omega (arith, is, parts.version_at, length-append parts.front (version_text old), length-append (decimal old) (34 ∷ [])) in
+    let whole : s ≡ length first + length parts.middle =
+    parts.status_at ∙ ap length (sym (append_assoc parts.front (version_text old) parts.middle)) ∙ length-append first parts.middle in
+    let left : s - behind ≡ length parts.middle = omega (arith, here, whole) in
+    rw (left, here) (
+    ap (λ x. take (length parts.middle) (drop (length first) x)) (parts.text ∙ regroup parts.front (version_text old) parts.middle parts.rest)
+    ∙ ap (take (length parts.middle)) (drop-append_seam first (parts.middle ++ parts.rest)) ∙ take-append_seam parts.middle parts.rest
+    )
+
+pub splice_is : (t : List ℕ) (old new v s behind : ℕ) (parts : AreParts t old v s) (o0 o1 o2 o3 o4 o5 digits : List ℕ) → o0 ≡ [] → o1 ≡ o0 ++ take v t → o2 ≡ o1 ++ 34 ∷ [] → o3 ≡ o2 ++ digits → o4 ≡ o3 ++ 34 ∷ []
+    → o5 ≡ o4 ++ take (s - behind) (drop behind t) → digits ≡ decimal new → behind ≡ v + 2 + length (decimal old)
+    → o5 ≡ parts.front ++ (version_text new ++ parts.middle)
+splice_is t old new v s behind parts o0 o1 o2 o3 o4 o5 digits p0 p1 p2 p3 p4 p5 is place =
+    rw (p5, p4, p3, p2, p1, p0, is, front_of_parts t old v s parts, middle_of_parts t old v s behind parts place) (
+    append_assoc ((parts.front ++ 34 ∷ []) ++ decimal new) (34 ∷ []) parts.middle
+    ∙ append_assoc (parts.front ++ 34 ∷ []) (decimal new) (34 ∷ parts.middle)
+    ∙ append_assoc parts.front (34 ∷ []) (decimal new ++ 34 ∷ parts.middle)
+    ∙ ap (λ x. parts.front ++ 34 ∷ x) (sym (append_assoc (decimal new) (34 ∷ []) parts.middle))
+    )
+
+pub with_end : (front version middle end o5 o6 : List ℕ) → o5 ≡ front ++ (version ++ middle) → o6 ≡ o5 ++ end → o6 ≡ front ++ (version ++ (middle ++ end))
+with_end front version middle end o5 o6 is last =
+    last ∙ ap (λ o. o ++ end) is ∙ append_assoc front (version ++ middle) end ∙ ap (λ o. front ++ o) (append_assoc version middle end)
+
+-- ---- the end
+
+comma_status : (d : Data) → 44 ∷ print (status_tokens (Some d)) ≡ status_text (Some d)
+unfolding print_from
+comma_status d = status_bytes (Some d)
+
+pub status_written : (d : Data) (out begun before result : List ℕ) (start keyed valued ended : List Token) → begun ≡ out ++ 44 ∷ [] → before ≡ begun → start ≡ [] → keyed ≡ start ++ key (codes "status") ∷ []
+    → valued ≡ keyed ++ json_tokens (outline d) → ended ≡ valued ++ end_object ∷ [] → result ≡ before ++ print ended → result ≡ out ++ status_text (Some d)
+status_written d out begun before result start keyed valued ended p same a b c e last =
+    last ∙ rw (e, c, b, a, same, p) (
+    ap (λ ts. (out ++ 44 ∷ []) ++ print ts) (append_assoc (key (codes "status") ∷ []) (json_tokens (outline d)) (end_object ∷ []))
+    ∙ append_assoc out (44 ∷ []) (print (status_tokens (Some d))) ∙ ap (λ x. out ++ x) (comma_status d)
+    )
+
+pub status_printable : (d : Data) (start keyed valued ended : List Token) → start ≡ [] → keyed ≡ start ++ key (codes "status") ∷ [] → valued ≡ keyed ++ json_tokens (outline d) → ended ≡ valued ++ end_object ∷ []
+    → tokens (print ended) ≡ ended → ArePrintableOrBad (status_tokens (Some d))
+status_printable d start keyed valued ended a b c e again =
+    let is : ended ≡ status_tokens (Some d) = e ∙ ap (λ ts. ts ++ end_object ∷ []) (c ∙ ap (λ ts. ts ++ json_tokens (outline d)) (b ∙ ap (λ ts. ts ++ key (codes "status") ∷ []) a)) in
+    subst ArePrintableOrBad is (printable_again ended again)
+
+-- ---- the object that such a text is of
+
+-- the body with that status
+body_is : (o : Object) (front middle : List ℕ) (cut : IsCut o front middle) (value : Option Data) → with_member (codes "status") value o.body ≡ object (set_member (codes "status") value cut.others)
+body_is o front middle cut value = ap (with_member (codes "status") value) cut.body ∙ ap object (set_again value cut.status cut.others cut.below)
+
+rewritten_is : (o : Object) (front middle : List ℕ) (cut : IsCut o front middle) (n : ℕ) (value : Option Data) → at_version (with_status value o) n ≡ rewritten o cut.others n value
+rewritten_is o front middle cut n value = ap (λ b. at_version (record { key = o.key; meta = o.meta; body = b }) n) (body_is o front middle cut value)
+
+proper_without_by : (b : Bool) (l : List ℕ) (d : Data) (ms rest : Members) → IsProper d → AreProperMembers rest → AreProperMembers (cond b rest (member l d rest))
+proper_without_by true l d ms rest one all = all
+proper_without_by false l d ms rest one all = (one, all)
+
+proper_without : (k : List ℕ) (ms : Members) → AreProperMembers ms → AreProperMembers (without_member k ms)
+proper_without k no_members h = tt
+proper_without k (member l d ms) h = proper_without_by (bytes_eq k l) l d ms (without_member k ms) h.0 (proper_without k ms h.1)
+
+proper_set : (value : Option Data) (ms : Members) → IsProperStatus value → AreProperMembers ms → AreProperMembers (set_member (codes "status") value ms)
+proper_set None ms one all = proper_without (codes "status") ms all
+proper_set (Some d) ms one all = proper_put (codes "status") d ms one all
+
+proper_body : (o : Object) (front middle : List ℕ) (cut : IsCut o front middle) (value : Option Data) → IsProperStatus value → IsProper (object (set_member (codes "status") value cut.others))
+proper_body o front middle cut value one =
+    let now = set_member (codes "status") cut.status cut.others in
+    let again = set_again value cut.status cut.others cut.below in
+    let proper : AreAscending now × AreProperMembers now = subst IsProper cut.body cut.proper in
+    (subst AreAscending again (ascending_set (codes "status") value now proper.0), subst AreProperMembers again (proper_set value now one proper.1))
+
+keeps_rules : (o : Object) (front middle : List ℕ) (cut : IsCut o front middle) (n : ℕ) (value : Option Data) → n < 2 ^ 64 → KeepsRules (rewritten o cut.others n value)
+keeps_rules o front middle cut n value small = record {
+  key = cut.rules.key;
+  meta = record { uid = cut.rules.meta.uid; revision = small; generation = cut.rules.meta.generation };
+  body = subst (IsBody o.key.kind) (body_is o front middle cut value) (body_with_status o.key.kind value o.body cut.rules.body);
+}
+
+-- the text is that of the object with that status at that version
+pub spliced_text : (o : Object) (version status : ℕ) (at : IsCutAt o version status) (n : ℕ) (value : Option Data) (t : List ℕ) → n ≢ 0 → n < 2 ^ 64 → ArePrintableOrBad (status_tokens value) → IsProperStatus value
+    → t ≡ at.front ++ (version_text n ++ (at.middle ++ status_text value)) → IsTextOf (at_version (with_status value o) n) t
+spliced_text o version status at n value t some small printable one is =
+    let cut = at.cut in
+    let text_is = is ∙ sym (cut.texts n value some small) in
+    subst (λ p. IsTextOf p t) (sym (rewritten_is o at.front at.middle cut n value))
+    (text_of (rewritten o cut.others n value) (keeps_rules o at.front at.middle cut n value small) (proper_body o at.front at.middle cut value one) t text_is (ap tokens text_is ∙ cut.tokens n value some small printable))
+
+-- and can be cut again
+pub spliced_cut : (o : Object) (version status : ℕ) (at : IsCutAt o version status) (n : ℕ) (value : Option Data) (here there : ℕ) → n ≢ 0 → n < 2 ^ 64 → ArePrintableOrBad (status_tokens value) → IsProperStatus value
+    → here ≡ length at.front → there ≡ length (at.front ++ (version_text n ++ at.middle)) → IsCutAt (at_version (with_status value o) n) here there
+spliced_cut o version status at n value here there some small printable one here_is there_is =
+    let cut = at.cut in
+    subst (λ p. IsCutAt p here there) (sym (rewritten_is o at.front at.middle cut n value)) (record {
+      front = at.front;
+      middle = at.middle;
+      cut = record {
+        others = cut.others;
+        status = value;
+        below = cut.below;
+        body = refl;
+        texts = cut.texts;
+        tokens = cut.tokens;
+        printable = printable;
+        rules = keeps_rules o at.front at.middle cut n value small;
+        proper = proper_body o at.front at.middle cut value one;
+        written = some;
+      };
+      version_at = here_is;
+      status_at = there_is;
+    })
+
+-- the status that the object has
+pub status_of_cut : (o : Object) (front middle : List ℕ) (cut : IsCut o front middle) → member_of (codes "status") o.body ≡ cut.status
+status_of_cut o front middle cut = ap (member_of (codes "status")) cut.body ∙ set_found (codes "status") cut.status cut.others
+
+proper_status_by : (ms : Members) (value : Option Data) → AreProperMembers ms → get_member (codes "status") ms ≡ value → IsProperStatus value
+proper_status_by ms None all found = tt
+proper_status_by ms (Some d) all found = proper_found (codes "status") d ms all found
+
+pub status_proper : (o : Object) (front middle : List ℕ) (cut : IsCut o front middle) → IsProperStatus cut.status
+status_proper o front middle cut =
+    let now = set_member (codes "status") cut.status cut.others in
+    let proper : AreAscending now × AreProperMembers now = subst IsProper cut.body cut.proper in
+    proper_status_by now cut.status proper.1 (set_found (codes "status") cut.status cut.others)
+
+-- with that one it stays as it is
+pub status_kept : (o : Object) (front middle : List ℕ) (cut : IsCut o front middle) (n : ℕ) → at_version (with_status cut.status o) n ≡ at_version o n
+status_kept o front middle cut n = ap (λ b. at_version (record { key = o.key; meta = o.meta; body = b }) n) (body_is o front middle cut cut.status ∙ sym cut.body)
+
+-- the parts of a text that can be cut
+abbrev pub parts_of : (o : Object) (version status : ℕ) (at : IsCutAt o version status) (t : List ℕ) → t ≡ text o → AreParts t o.meta.revision version status
+parts_of o version status at t is =
+    let cut = at.cut in
+    record {
+      front = at.front;
+      middle = at.middle;
+      rest = status_text cut.status;
+      text = is ∙ ap text (ap (λ b. at_version (record { key = o.key; meta = o.meta; body = b }) o.meta.revision) cut.body) ∙ cut.texts o.meta.revision cut.status cut.written cut.rules.meta.revision;
+      version_at = at.version_at;
+      status_at = at.status_at;
+    }
+
+-- the same of an equal text
+abbrev pub parts_as : (t u : List ℕ) (revision version status : ℕ) → u ≡ t → AreParts t revision version status → AreParts u revision version status
+parts_as t u revision version status same parts = record {
+  front = parts.front;
+  middle = parts.middle;
+  rest = parts.rest;
+  text = same ∙ parts.text;
+  version_at = parts.version_at;
+  status_at = parts.status_at;
+}
+
+-- ---- whether the text ends in a status
+
+printable_front : (ts rest : List Token) → ArePrintableOrBad (ts ++ rest) → ArePrintableOrBad ts
+printable_front [] rest h = tt
+printable_front (t ∷ ts) rest h = (h.0, printable_front ts rest h.1)
+
+no_float_before : (d : Data) (rest : List Token) → ArePrintableOrBad (json_tokens (outline d) ++ rest) → has_float d ≡ false
+no_float_before d rest h = no_float_printable d (printable_front (json_tokens (outline d)) rest h)
+
+same_by : (value : Option Data) → ArePrintableOrBad (status_tokens value) → same_found value value ≡ true
+same_by None h = refl
+same_by (Some d) h = same-itself d (no_float_before d (end_object ∷ []) h.1)
+
+found_equal : (a b : Option Data) → same_found a b ≡ true → a ≡ b
+found_equal None None h = refl
+found_equal None (Some e) h = absurd cc
+found_equal (Some d) None h = absurd cc
+found_equal (Some d) (Some e) h = ap Some (same-equal d e h)
+
+pub ends_alike : (o : Object) (version status : ℕ) (at : IsCutAt o version status) (value : Option Data) (t : List ℕ) → IsTextOf o t → ArePrintableOrBad (status_tokens value) → IsProperStatus value
+    → status_text at.cut.status ≡ status_text value → same_found (member_of (codes "status") o.body) value ≡ true
+ends_alike o version status at value t whole printable one same =
+    let cut = at.cut in
+    let parts = parts_of o version status at t whole.text in
+    let other = spliced_text o version status at o.meta.revision value t cut.written cut.rules.meta.revision printable one
+    (parts.text ∙ ap (λ e. at.front ++ (version_text o.meta.revision ++ (at.middle ++ e))) same) in
+    let equal : at_version (with_status value o) o.meta.revision ≡ o = sym (reads_as _ t other) ∙ reads_as o t whole in
+    let found : member_of (codes "status") o.body ≡ value =
+    ap (λ (p : Object). member_of (codes "status") p.body) (sym equal) ∙ ap (member_of (codes "status")) (body_is o at.front at.middle cut value) ∙ set_found (codes "status") value cut.others in
+    ap (λ v. same_found v value) found ∙ same_by value printable
+
+pub ends_apart : (o : Object) (version status : ℕ) (at : IsCutAt o version status) (value : Option Data) → (status_text at.cut.status ≡ status_text value → ⊥) → same_found (member_of (codes "status") o.body) value ≡ false
+ends_apart o version status at value differ = apart_by _ (λ h. differ (ap status_text (sym (status_of_cut o at.front at.middle at.cut) ∙ found_equal (member_of (codes "status") o.body) value h)))
+
+-- ---- sheets
+
+-- what holds of a sheet that is found holds of the one that is answered
+pub if_found : {E : Type 0} (P Q : Sheet → Type 0) (r : Result (Option Sheet) E) → ((s : Sheet) → P s → Q s) → IfOk r (λ f. IfSome f P) → IfOk r (λ f. IfSome f Q)
+if_found P Q (Ok None) f h = h
+if_found P Q (Ok (Some s)) f h = f s h
+if_found P Q (Err e) f h = h
+
+-- the parts of a sheet that can be cut
+abbrev pub sheet_parts : (o : Object) (s : Sheet) (sheet : IsSheet o s) → s.version ≢ 0 → AreParts (string_bytes s.text) s.revision s.version s.status
+sheet_parts o s sheet some =
+    let at = sheet.cut some in
+    let parts = parts_of o s.version s.status at (string_bytes s.text) sheet.text.text in
+    record {
+      front = at.front;
+      middle = at.middle;
+      rest = status_text at.cut.status;
+      text = parts.text ∙ ap (λ r. at.front ++ (version_text r ++ (at.middle ++ status_text at.cut.status))) (sym sheet.revision);
+      version_at = at.version_at;
+      status_at = at.status_at ∙ ap (λ r. length (at.front ++ (version_text r ++ at.middle))) (sym sheet.revision);
+    }
+
+-- a spliced sheet is that of the object with that status at that version
+pub spliced_sheet : (o : Object) (s : Sheet) (value : Option Data) (end : List ℕ) (n : ℕ) (new : Sheet) → IsSheet o s → n < 2 ^ 64 → ArePrintableOrBad (status_tokens value) → IsProperStatus value
+    → end ≡ status_text value → IsSpliced s end n new → IsSheet (at_version (with_status value o) n) new
+spliced_sheet o s value end n new sheet small printable one ends h =
+    let at = sheet.cut h.cut in
+    let parts = sheet_parts o s sheet h.cut in
+    record {
+      text = spliced_text o s.version s.status at n value (string_bytes new.text) h.written small printable one (h.text parts ∙ ap (λ e. at.front ++ (version_text n ++ (at.middle ++ e))) ends);
+      uid = h.uid ∙ sheet.uid;
+      revision = h.revision;
+      cut = λ some. let there = h.places parts some in spliced_cut o s.version s.status at n value new.version new.status h.written small printable one there.0 there.1;
+    }
+
+-- with the status that it has, it is that of the object at that version
+pub spliced_again : (o : Object) (s : Sheet) (end : List ℕ) (n : ℕ) (new : Sheet) (sheet : IsSheet o s) → n < 2 ^ 64 → ((some : s.version ≢ 0) → end ≡ (sheet_parts o s sheet some).rest) → IsSpliced s end n new → IsSheet (at_version o n) new
+spliced_again o s end n new sheet small ends h =
+    let at = sheet.cut h.cut in
+    subst (λ p. IsSheet p new) (status_kept o at.front at.middle at.cut n)
+    (spliced_sheet o s at.cut.status end n new sheet small at.cut.printable (status_proper o at.front at.middle at.cut) (ends h.cut) h)
+
+-- the text ends as one with that status exactly where the object has it
+ends_by : (b : Bool) (o : Object) (s : Sheet) (sheet : IsSheet o s) (some : s.version ≢ 0) (value : Option Data) → ArePrintableOrBad (status_tokens value) → IsProperStatus value
+    → bytes_eq (status_text (sheet.cut some).cut.status) (status_text value) ≡ b → b ≡ same_found (member_of (codes "status") o.body) value
+ends_by true o s sheet some value printable one is =
+    sym (ends_alike o s.version s.status (sheet.cut some) value (string_bytes s.text) sheet.text printable one ((bytes_eq-Decides (status_text (sheet.cut some).cut.status) (status_text value)).0 is))
+ends_by false o s sheet some value printable one is =
+    sym (ends_apart o s.version s.status (sheet.cut some) value (λ same. let both : true ≡ false = sym ((bytes_eq-Decides (status_text (sheet.cut some).cut.status) (status_text value)).1 same) ∙ is in absurd cc))
+
+pub ends_same : (o : Object) (s : Sheet) (sheet : IsSheet o s) (some : s.version ≢ 0) (value : Option Data) (end : List ℕ) → ArePrintableOrBad (status_tokens value) → IsProperStatus value → end ≡ status_text value
+    → bytes_eq (sheet_parts o s sheet some).rest end ≡ same_found (member_of (codes "status") o.body) value
+ends_same o s sheet some value end printable one ends =
+    ap (bytes_eq (status_text (sheet.cut some).cut.status)) ends ∙ ends_by _ o s sheet some value printable one refl
+
+pub end_is : (value : Option Data) (out items end : List ℕ) → end ≡ items → items ≡ out ++ status_text value → out ≡ [] → end ≡ status_text value
+end_is value out items end same is empty = same ∙ is ∙ ap (λ o. o ++ status_text value) empty
+
+pub if_told : (P Q : Bool → Type 0) (o : Option Bool) → ((b : Bool) → P b → Q b) → IfSome o P → IfSome o Q
+if_told P Q None f h = h
+if_told P Q (Some b) f h = f b h

@@ -1,0 +1,149 @@
+// A text of an object with another resource version and another end put in.
+ghost use Rattle.std.specs.Prelude.{◌≡◌, ◌≢◌, ◌++◌, [], None, Some, IfOk, IfSome, OnOk, bytes_eq, length, option_map, string_bytes};
+ghost use Rattle.json.specs.Print.{ArePrintableOrBad};
+ghost use Rattle.trees.specs.Tree.{data_of};
+ghost use Rattle.objects.specs.Cuts.{AreParts, IsProperStatus, IsSpliced, status_text, status_tokens, version_text};
+
+use crate::cut::Cut;
+use crate::printed::{Printer, Sheet, short_places};
+use json::Writer;
+use simdutf8::basic::from_utf8;
+use std::alloc::{AllocError, Global};
+use trees::{Memory, Tree, write_tree};
+
+/// The text with another resource version and another end, from its status on, if it can be cut.
+pub(crate) fn spliced(
+    sheet: &Sheet,
+    printer: &mut Printer,
+    end: &[u8],
+    revision: u64,
+) -> Result<Option<Sheet>, Memory>
+    requires { sheet.now.version ≢ 0 → AreParts (string_bytes sheet.now.text) sheet.now.revision sheet.now.version sheet.now.status }
+    ensures { IfOk result (λ found. IfSome found (λ new. IsSpliced sheet.now end.now revision new)) }
+{
+    if sheet.version == 0 || revision == 0 {
+        return Ok(None);
+    }
+    let cut = Cut {
+        version: sheet.version as usize,
+        status: sheet.status as usize,
+    };
+    let text = sheet.text.as_str().as_bytes();
+    let (bytes, status) = splice(text, cut, sheet.revision, revision, end, printer.lent())?;
+    let places = short_places(Some(Cut {
+        version: cut.version,
+        status,
+    }));
+    let new = sheet_of(*sheet.text.allocator(), &bytes, sheet.uid, revision, places);
+    printer.keep(bytes);
+    new
+}
+
+// The sheet of these bytes, if they are a text.
+fn sheet_of(
+    alloc: Global,
+    bytes: &[u8],
+    uid: u64,
+    revision: u64,
+    places: (u32, u32),
+) -> Result<Option<Sheet>, Memory>
+    ensures { IfOk result (λ found. IfSome found (λ sheet. (string_bytes sheet.text ≡ bytes.now) × (sheet.uid ≡ uid) × (sheet.revision ≡ revision)
+        × (sheet.version ≡ places.0) × (sheet.status ≡ places.1))) }
+{
+    let Ok(text) = from_utf8(bytes) else {
+        return Ok(None);
+    };
+    let (version, status) = places;
+    Ok(Some(Sheet {
+        text: String::from_str(alloc, text)?,
+        uid,
+        revision,
+        version,
+        status,
+    }))
+}
+
+/// The text from its status on, if it can be cut.
+pub(crate) fn status_end(sheet: &Sheet) -> &[u8]
+    requires { sheet.now.version ≢ 0 → AreParts (string_bytes sheet.now.text) sheet.now.revision sheet.now.version sheet.now.status }
+    ensures { sheet.now.version ≢ 0 → (parts : AreParts (string_bytes sheet.now.text) sheet.now.revision sheet.now.version sheet.now.status) → result.now ≡ parts.rest }
+{
+    if sheet.version == 0 {
+        return &[];
+    }
+    &sheet.text.as_str().as_bytes()[sheet.status as usize..]
+}
+
+/// Whether the text ends so from its status on, if it can be cut.
+pub(crate) fn ends_so(sheet: &Sheet, end: &[u8]) -> Option<bool>
+    requires { sheet.now.version ≢ 0 → AreParts (string_bytes sheet.now.text) sheet.now.revision sheet.now.version sheet.now.status }
+    ensures { IfSome result (λ same. (sheet.now.version ≢ 0)
+        × ((parts : AreParts (string_bytes sheet.now.text) sheet.now.revision sheet.now.version sheet.now.status) → same ≡ bytes_eq parts.rest end.now)) }
+{
+    if sheet.version == 0 {
+        return None;
+    }
+    Some(status_end(sheet) == end)
+}
+
+// Writes the text with another resource version and another end, from its status on, and answers where that is.
+fn splice(
+    text: &[u8],
+    cut: Cut,
+    old: u64,
+    new: u64,
+    end: &[u8],
+    mut out: Vec<u8>,
+) -> Result<(Vec<u8>, usize), AllocError>
+    requires parts { AreParts text.now old cut.version cut.status }
+    requires empty { out.items ≡ [] }
+    ensures bytes { (parts : AreParts text.now old cut.version cut.status)
+        → IfOk result (λ p. p.0.items ≡ parts.front ++ (version_text new ++ (parts.middle ++ end.now))) }
+    ensures status { (parts : AreParts text.now old cut.version cut.status)
+        → IfOk result (λ p. p.1 ≡ length (parts.front ++ (version_text new ++ parts.middle))) }
+{
+    let mut buffer = itoa::Buffer::new();
+    let behind = cut.version + 2 + buffer.format(old).len();
+    out.extend_from_slice(&text[..cut.version])?;
+    out.push(b'"')?;
+    out.extend_from_slice(buffer.format(new).as_bytes())?;
+    out.push(b'"')?;
+    out.extend_from_slice(&text[behind..cut.status])?;
+    let status = out.len();
+    out.extend_from_slice(end)?;
+    Ok((out, status))
+}
+
+/// Writes the end of a text, from its status on.
+pub(crate) fn write_end(status: Option<&Tree>, out: Vec<u8>) -> Result<Vec<u8>, AllocError>
+    ensures bytes { IfOk result (λ v. v.items ≡ out.items ++ status_text (option_map (λ t. data_of t.now) status.entry)) }
+    ensures printable { OnOk result (ArePrintableOrBad (status_tokens (option_map (λ t. data_of t.now) status.entry))) }
+    ensures proper { OnOk result (IsProperStatus (option_map (λ t. data_of t.now) status.entry)) }
+{
+    match status {
+        Some(status) => write_status(status, out),
+        None => write_brace(out),
+    }
+}
+
+fn write_status(status: &Tree, mut out: Vec<u8>) -> Result<Vec<u8>, AllocError>
+    ensures bytes { IfOk result (λ v. v.items ≡ out.items ++ status_text (Some (data_of status.now))) }
+    ensures printable { OnOk result (ArePrintableOrBad (status_tokens (Some (data_of status.now)))) }
+    ensures proper { OnOk result (IsProperStatus (Some (data_of status.now))) }
+{
+    out.push(b',')?;
+    let mut writer = Writer::new(out);
+    writer.key("status")?;
+    write_tree(status, &mut writer)?;
+    writer.end_object()?;
+    Ok(writer.into_inner())
+}
+
+fn write_brace(mut out: Vec<u8>) -> Result<Vec<u8>, AllocError>
+    ensures bytes { IfOk result (λ v. v.items ≡ out.items ++ status_text None) }
+    ensures printable { OnOk result (ArePrintableOrBad (status_tokens None)) }
+    ensures proper { OnOk result (IsProperStatus None) }
+{
+    out.push(b'}')?;
+    Ok(out)
+}
