@@ -1,17 +1,19 @@
 -- A step by a write request goes by its verdict, and the others by what they are about.
-use Rattle.std.proofs.Common.{◌≡◌, ◌==◌, ℕ, List, true, false, cond, Option, Some, None, refl, sym, ap, subst, ◌∙◌, arith}
+use Rattle.std.proofs.Common.{◌≡◌, ◌==◌, ℕ, List, true, false, cond, is_some, Option, Some, None, refl, sym, ap, subst, ◌∙◌, arith}
 use Rattle.std.specs.FinMap as map
 use Rattle.std.proofs.lemmas.Bool.Decides.{nat_tests}
 use Rattle.objects.specs.declared.key.Key.{Key}
 use Rattle.objects.specs.declared.object.Object.{Object}
 use Rattle.objects.specs.declared.kind.Kind.{Kind}
+use Rattle.objects.specs.declared.kind.Kind.TheVariants.{StatefulSet, Pod, PersistentVolumeClaim, ControllerRevision}
 use Rattle.requests.specs.declared.request.Request.{Request}
 use Rattle.requests.specs.declared.request.Request.TheVariants as request
-use Rattle.requests.specs.declared.request.Request.TheVariants.{Compact}
+use Rattle.requests.specs.declared.request.Request.TheVariants.{Compact, Delete}
 use Rattle.requests.specs.declared.reply.Reason.{Reason}
+use Rattle.requests.specs.declared.reply.Reason.TheVariants.{Conflict}
 use Rattle.requests.specs.declared.reply.Reply.TheVariants.{Listed}
 use Rattle.requests.specs.declared.verdict.Verdict.{Verdict}
-use Rattle.requests.specs.declared.verdict.Verdict.TheVariants.{Write}
+use Rattle.requests.specs.declared.verdict.Verdict.TheVariants.{Refuse, Write}
 use Rattle.requests.specs.Change.{Change, change_object}
 use Rattle.requests.specs.declared.change_kind.ChangeKind.{ChangeKind}
 use Rattle.requests.specs.declared.change_kind.ChangeKind.TheVariants.{Creation, Update as Updating, Mark, Removal}
@@ -20,7 +22,7 @@ use Rattle.requests.specs.ChangeKinds.{change_by}
 use Rattle.requests.specs.Keys.{key_named}
 use Rattle.plain_store.specs.Route.{lists, lists_at, route}
 use Rattle.plain_store.specs.Store.{Store, carried_out, collection, compacted_to, denied, listed_at, map_at, routed, step, written}
-use Rattle.requests.specs.Verdict.{is_write, verdict}
+use Rattle.requests.specs.Verdict.{conflicts, deleted, graceful, is_write, verdict}
 use Rattle.plain_store.proofs.ChangedKeys.{IsFiled, IsOfKey, changes_its_key}
 use Rattle.plain_store.proofs.Routes.{routes_to_its_key}
 
@@ -71,3 +73,30 @@ list_at_step s kind namespace exact some =
 pub compaction_step : (s : Store) (n : ℕ) (denial : Option Reason) → denial ≡ denied s.floor s.counter n → compacted_to s n denial ≡ step s (Compact n)
 unfolding step route
 compaction_step s n denial is = ap (compacted_to s n) is
+
+-- ---- deletes that are not graceful
+
+no_time : (at : Option (List ℕ)) → is_some at ≡ false → at ≡ None
+no_time None not = refl
+no_time (Some time) not = cc
+
+not_timed : (kind : Kind) → graceful kind None ≡ None
+not_timed StatefulSet = refl
+not_timed Pod = refl
+not_timed PersistentVolumeClaim = refl
+not_timed ControllerRevision = refl
+
+-- a time that is passed over is as good as none
+timeless : (k : Key) (uid version at : Option (List ℕ)) (current : Option Object) → IsFiled k current → is_some (graceful k.kind at) ≡ false
+    → verdict (Delete k uid version None) current ≡ verdict (Delete k uid version at) current
+timeless k uid version at None filed not = refl
+timeless k uid version at (Some o) filed not =
+    ap (λ time. cond (conflicts version uid o) (Refuse Conflict) (deleted time o))
+    (not_timed o.key.kind ∙ sym (ap (λ (q : Key). graceful q.kind at) filed ∙ no_time (graceful k.kind at) not))
+
+pub timeless_step : (s : Store) (k : Key) (uid version at : Option (List ℕ)) → AreFiled s.objects → is_some (graceful k.kind at) ≡ false
+    → step s (Delete k uid version None) ≡ step s (Delete k uid version at)
+timeless_step s k uid version at filed not =
+    sym (by_verdict s (Delete k uid version None) k (map.get s.objects k) (verdict (Delete k uid version None) (map.get s.objects k)) refl refl refl refl)
+    ∙ by_verdict s (Delete k uid version at) k (map.get s.objects k) (verdict (Delete k uid version None) (map.get s.objects k)) refl refl refl
+    (timeless k uid version at (map.get s.objects k) (filed_now s k _ filed refl) not)

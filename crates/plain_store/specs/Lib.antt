@@ -20,6 +20,7 @@ pub use Rattle.requests.specs.ChangeKinds
 pub use Rattle.requests.specs.Judgments
 pub use Rattle.requests.specs.Keys
 pub use Rattle.requests.specs.Reasons
+pub use Rattle.requests.specs.TextJudgments
 pub use Rattle.requests.specs.Verdict
 pub use Rattle.version_map.specs.Keyed
 pub use Rattle.version_map.specs.Keys as KeyRuns

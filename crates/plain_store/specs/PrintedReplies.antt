@@ -3,6 +3,8 @@ use Rattle.std.specs.Prelude.{Bool, true, false, Option, Some, None}
 use Rattle.objects.specs.declared.object.Object.{Object}
 use Rattle.requests.specs.declared.reply.Reply.{Reply}
 use Rattle.requests.specs.declared.reply.Reply.TheVariants as reply
+use Rattle.plain_store.specs.declared.printed_reply.PrintedReply.{PrintedReply}
+use Rattle.plain_store.specs.declared.printed_reply.PrintedReply.TheVariants as printed
 use Rattle.plain_store.specs.declared.stored_reply.StoredReply.{StoredReply}
 use Rattle.plain_store.specs.declared.stored_reply.StoredReply.TheVariants as stored
 
@@ -12,6 +14,15 @@ reply_stored (stored.Found o) = reply.Found o
 reply_stored (stored.Listed objects revision) = reply.Listed objects.items revision
 reply_stored (stored.Compacted revision) = reply.Compacted revision
 reply_stored (stored.Refused reason) = reply.Refused reason
+
+-- what is answered to a write
+abbrev pub reply_printed : PrintedReply → Reply
+reply_printed (printed.Created o) = reply.Created o
+reply_printed (printed.Updated o) = reply.Updated o
+reply_printed (printed.Unchanged o) = reply.Unchanged o
+reply_printed (printed.Marked o) = reply.Marked o
+reply_printed (printed.Removed o) = reply.Removed o
+reply_printed (printed.Refused reason) = reply.Refused reason
 
 -- the one object that a reply has
 abbrev pub reply_object : Reply → Option Object
@@ -25,14 +36,14 @@ reply_object (reply.Removed o) = Some o
 reply_object (reply.Compacted revision) = None
 reply_object (reply.Refused reason) = None
 
--- the reply is one to a write: it has no list, and no number but that of its object
-abbrev pub is_single : Reply → Bool
-is_single (reply.Created o) = true
-is_single (reply.Found o) = true
-is_single (reply.Listed os revision) = false
-is_single (reply.Updated o) = true
-is_single (reply.Unchanged o) = true
-is_single (reply.Marked o) = true
-is_single (reply.Removed o) = true
-is_single (reply.Compacted revision) = false
-is_single (reply.Refused reason) = true
+-- the reply is one to a write
+abbrev pub is_to_write : Reply → Bool
+is_to_write (reply.Created o) = true
+is_to_write (reply.Found o) = false
+is_to_write (reply.Listed os revision) = false
+is_to_write (reply.Updated o) = true
+is_to_write (reply.Unchanged o) = true
+is_to_write (reply.Marked o) = true
+is_to_write (reply.Removed o) = true
+is_to_write (reply.Compacted revision) = false
+is_to_write (reply.Refused reason) = true

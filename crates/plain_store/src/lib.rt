@@ -6,6 +6,7 @@ mod laws;
 mod printed_reply;
 mod store;
 mod stored_reply;
+mod whole_reply;
 
 pub use api::{Api, ApiFault};
 pub use laws::changes::{

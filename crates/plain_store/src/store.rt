@@ -1,23 +1,30 @@
-ghost use Rattle.std.specs.Prelude.{◌≡◌, ◌≢◌, ◌≤◌, ◌<◌, ◌↔◌, ◌==◌, ◌+◌, true, false, IfOk, IfSome, OnOk, OnErr, IsErrOf, map, option_map};
+ghost use Rattle.std.specs.Prelude.{◌≡◌, ◌≢◌, ◌≤◌, ◌<◌, ◌↔◌, ◌==◌, ◌+◌, true, false, None, IfOk, IfSome, OnOk, OnErr, IsErrOf, map, option_map};
 ghost use Rattle.std.specs.FinMap as finite;
 ghost use Rattle.std.specs.Option.{option_copied};
 ghost use Rattle.plain_store.specs.Reached.{IsReached, most_revisions};
 ghost use Rattle.plain_store.specs.Route.{is_read};
 ghost use Rattle.plain_store.specs.Store.{carried_out, compacted_to, denied, found, listed_at, map_at, opening, step, with_next};
 ghost use Rattle.version_map.specs.Keyed.{collection};
-ghost use Rattle.requests.specs.Change.{accepted, stamp};
+ghost use Rattle.requests.specs.Change.{accepted, removes, stamp, updates};
 ghost use Rattle.requests.specs.ChangeKinds.{change_by, stored_by};
 ghost use Rattle.requests.specs.Judgments.{verdict_of};
-ghost use Rattle.plain_store.specs.PrintedReplies.{is_single, reply_object, reply_stored};
+ghost use Rattle.requests.specs.TextJudgments.{status_verdict};
+ghost use Rattle.objects.specs.Rewrites.{with_status};
+ghost use Rattle.objects.specs.Tree.{data_of};
+ghost use Rattle.plain_store.specs.PrintedReplies.{is_to_write, reply_object, reply_printed, reply_stored};
 ghost use Rattle.requests.specs.Verdict.{is_write, verdict};
 ghost use Rattle.requests.specs.declared.reply.Reply.TheVariants.{Listed};
-ghost use Rattle.requests.specs.declared.request.Request.TheVariants.{Compact};
+ghost use Rattle.requests.specs.declared.request.Request.TheVariants.{Compact, Delete, UpdateStatus};
 ghost use Rattle.requests.specs.declared.verdict.Verdict.TheVariants.{Write};
 
 use crate::printed_reply::PrintedReply;
 use crate::stored_reply::StoredReply;
-use objects::{Key, Kind, Memory, Object, Printed, Printer, Text, TreeReader};
-use requests::{ChangeKind, Judgment, Reason, Reply, Request, judge};
+use crate::whole_reply::WholeReply;
+use objects::{Draft, Key, Kind, Memory, Object, Printed, Printer, Text, Tree, TreeReader};
+use requests::{
+    ChangeKind, Judgment, Reason, RemovalJudgment, Reply, Request, StatusJudgment, is_graceful,
+    judge, judge_removal, judge_status,
+};
 use std::alloc::{AllocError, Global};
 use std::marker::Model;
 use thiserror::Error;
@@ -88,7 +95,7 @@ impl Plain {
     {
         let _ = &self.versions;
         if request.is_write() {
-            return Ok(self.write(request)?.into_reply());
+            return Ok(self.write_whole(request)?.into_reply());
         }
         let reply = self.answer(&request);
         drop(request);
@@ -253,7 +260,184 @@ impl Plain {
     /// has changed.
     pub fn write(&mut self, request: Request) -> Result<PrintedReply, Memory>
         requires { is_write request ≡ true }
-        ensures step { IfOk result (λ printed. (self.new, printed.reply) ≡ step self.old request) }
+        ensures step { IfOk result (λ printed. (self.new, reply_printed printed) ≡ step self.old request) }
+        ensures memory { OnErr result (self.new ≡ self.old) }
+    {
+        let _ = &self.versions;
+        match request {
+            Request::UpdateStatus(draft) => {
+                let printed = self.write_status(&draft);
+                drop(draft);
+                printed
+            }
+            Request::Delete {
+                key,
+                uid,
+                version,
+                at,
+            } => self.delete(key, uid, version, at),
+            request => Ok(self.write_whole(request)?.into_printed()),
+        }
+    }
+
+    /// Takes a status request.
+    fn write_status(&mut self, draft: &Draft) -> Result<PrintedReply, Memory>
+        ensures step { IfOk result (λ printed. (self.new, reply_printed printed) ≡ step self.old (UpdateStatus draft.now)) }
+        ensures memory { OnErr result (self.new ≡ self.old) }
+    {
+        let _ = &self.versions;
+        match self.judge_status(draft)? {
+            StatusJudgment::Refuse(reason) => Ok(PrintedReply::Refused(reason)),
+            StatusJudgment::Same(current) => Ok(PrintedReply::Unchanged(current)),
+            StatusJudgment::Write(current, status) => {
+                self.put_status(&draft.object.key, current, status)
+            }
+        }
+    }
+
+    fn judge_status(&mut self, draft: &Draft) -> Result<StatusJudgment, Memory>
+        ensures judged { IfOk result (λ judged. status_verdict judged ≡ verdict (UpdateStatus draft.now) (finite.get self.old.objects draft.now.object.key)) }
+        ensures same { self.new ≡ self.old }
+    {
+        judge_status(
+            self.versions.at(&draft.object.key, self.counter),
+            draft,
+            &mut self.reader,
+        )
+    }
+
+    /// Gives the object that status, or takes its own away, at the next number, if there is one left.
+    fn put_status(
+        &mut self,
+        key: &Key,
+        current: Printed,
+        status: Option<Tree>,
+    ) -> Result<PrintedReply, Memory>
+        requires { IsReached (carried_out self.old key.now (Write (updates (with_status (option_map data_of status) current)))).0 }
+        ensures step { IfOk result (λ printed. (self.new, reply_printed printed) ≡ carried_out self.old key.now (Write (updates (with_status (option_map data_of status) current)))) }
+        ensures memory { OnErr result (self.new ≡ self.old) }
+    {
+        if self.is_full() {
+            drop(current);
+            drop(status);
+            return Ok(PrintedReply::Refused(Reason::StoreFull));
+        }
+        let text = self.text_with_status(&current, status);
+        drop(current);
+        self.put_text(ChangeKind::Update, key, text?)
+    }
+
+    /// The text of the object with that status at the next number.
+    fn text_with_status(
+        &mut self,
+        current: &Printed,
+        status: Option<Tree>,
+    ) -> Result<Printed, Memory>
+        requires { self.old.counter ≢ self.old.capacity }
+        ensures text { IfOk result (λ text. text ≡ stamp (updates (with_status (option_map data_of status) current.now)) (self.old.counter + 1)) }
+        ensures same { self.new ≡ self.old }
+    {
+        let next = self.counter + 1;
+        current.with_status(&mut self.reader, &mut self.printer, status, next)
+    }
+
+    /// Takes a delete.
+    fn delete(
+        &mut self,
+        key: Key,
+        uid: Option<Text>,
+        version: Option<Text>,
+        at: Option<Text>,
+    ) -> Result<PrintedReply, Memory>
+        ensures step { IfOk result (λ printed. (self.new, reply_printed printed) ≡ step self.old (Delete key uid version at)) }
+        ensures memory { OnErr result (self.new ≡ self.old) }
+    {
+        let _ = &self.versions;
+        if is_graceful(key.kind, at.as_ref()) {
+            let request = Request::Delete {
+                key,
+                uid,
+                version,
+                at,
+            };
+            return Ok(self.write_whole(request)?.into_printed());
+        }
+        drop(at);
+        let printed = self.remove(&key, uid.as_ref(), version.as_ref());
+        drop(version);
+        drop(uid);
+        drop(key);
+        printed
+    }
+
+    /// Takes a delete that names no time.
+    fn remove(
+        &mut self,
+        key: &Key,
+        uid: Option<&Text>,
+        version: Option<&Text>,
+    ) -> Result<PrintedReply, Memory>
+        ensures step { IfOk result (λ printed. (self.new, reply_printed printed) ≡ step self.old (Delete key.now (option_copied uid.entry) (option_copied version.entry) None)) }
+        ensures memory { OnErr result (self.new ≡ self.old) }
+    {
+        let _ = &self.versions;
+        match judge_removal(self.find(key), version, uid)? {
+            RemovalJudgment::Refuse(reason) => Ok(PrintedReply::Refused(reason)),
+            RemovalJudgment::Remove(current) => self.put_removal(key, current),
+        }
+    }
+
+    /// Takes the object away at the next number, if there is one left.
+    fn put_removal(&mut self, key: &Key, current: Printed) -> Result<PrintedReply, Memory>
+        requires { IsReached (carried_out self.old key.now (Write (removes current))).0 }
+        ensures step { IfOk result (λ printed. (self.new, reply_printed printed) ≡ carried_out self.old key.now (Write (removes current))) }
+        ensures memory { OnErr result (self.new ≡ self.old) }
+    {
+        if self.is_full() {
+            drop(current);
+            return Ok(PrintedReply::Refused(Reason::StoreFull));
+        }
+        let text = self.text_of_removed(&current);
+        drop(current);
+        self.put_text(ChangeKind::Removal, key, text?)
+    }
+
+    /// The text of the object at the next number.
+    fn text_of_removed(&mut self, current: &Printed) -> Result<Printed, Memory>
+        requires { self.old.counter ≢ self.old.capacity }
+        ensures text { IfOk result (λ text. text ≡ stamp (removes current.now) (self.old.counter + 1)) }
+        ensures same { self.new ≡ self.old }
+    {
+        let next = self.counter + 1;
+        current.at_version(&mut self.reader, &mut self.printer, next)
+    }
+
+    /// Draws the next number for a change of that kind, whose reply has this text.
+    fn put_text(
+        &mut self,
+        kind: ChangeKind,
+        key: &Key,
+        text: Printed,
+    ) -> Result<PrintedReply, Memory>
+        requires room { self.old.counter ≢ self.old.capacity }
+        requires reached { IsReached (with_next self.old key.now (stored_by kind text)) }
+        ensures put { OnOk result (self.new ≡ with_next self.old key.now (stored_by kind text)) }
+        ensures reply { IfOk result (λ printed. reply_printed printed ≡ accepted (change_by kind text) text) }
+        ensures memory { OnErr result (self.new ≡ self.old) }
+    {
+        match self.put(kind, key, &text) {
+            Ok(()) => Ok(PrintedReply::accepted(kind, text)),
+            Err(error) => {
+                drop(text);
+                Err(error)
+            }
+        }
+    }
+
+    /// Takes a write request by way of the whole object that now has its key. The reply has the object and its text.
+    fn write_whole(&mut self, request: Request) -> Result<WholeReply, Memory>
+        requires { is_write request ≡ true }
+        ensures step { IfOk result (λ whole. (self.new, whole.reply) ≡ step self.old request) }
         ensures memory { OnErr result (self.new ≡ self.old) }
     {
         let _ = &self.versions;
@@ -269,12 +453,12 @@ impl Plain {
     }
 
     /// The reply with the text of its object.
-    fn print(&mut self, reply: Reply) -> Result<PrintedReply, Memory>
-        requires { is_single reply ≡ true }
-        ensures reply { IfOk result (λ printed. printed.reply ≡ reply) }
+    fn print(&mut self, reply: Reply) -> Result<WholeReply, Memory>
+        requires { is_to_write reply ≡ true }
+        ensures reply { IfOk result (λ whole. whole.reply ≡ reply) }
         ensures same { self.new ≡ self.old }
     {
-        PrintedReply::of(&mut self.printer, reply)
+        WholeReply::of(&mut self.printer, reply)
     }
 
     /// The object of that key, read back from its text.
@@ -286,32 +470,32 @@ impl Plain {
     }
 
     /// Makes the change at the next number, if there is one left.
-    fn carry_out(&mut self, kind: ChangeKind, object: Object) -> Result<PrintedReply, Memory>
+    fn carry_out(&mut self, kind: ChangeKind, object: Object) -> Result<WholeReply, Memory>
         requires { IsReached (carried_out self.old object.key (Write (change_by kind object))).0 }
-        ensures step { IfOk result (λ printed. (self.new, printed.reply) ≡ carried_out self.old object.key (Write (change_by kind object))) }
+        ensures step { IfOk result (λ whole. (self.new, whole.reply) ≡ carried_out self.old object.key (Write (change_by kind object))) }
         ensures memory { OnErr result (self.new ≡ self.old) }
     {
         if self.is_full() {
             drop(object);
             return self.print(Reply::Refused(Reason::StoreFull));
         }
-        let printed = self.ready(kind, object)?;
-        let (Some(key), Some(text)) = (printed.key(), printed.text()) else {
+        let whole = self.ready(kind, object)?;
+        let (Some(key), Some(text)) = (whole.key(), whole.text()) else {
             unreachable!();
         };
         match self.put(kind, key, text) {
-            Ok(()) => Ok(printed),
+            Ok(()) => Ok(whole),
             Err(error) => {
-                drop(printed);
+                drop(whole);
                 Err(error)
             }
         }
     }
 
     /// What a change answers at the next number.
-    fn ready(&mut self, kind: ChangeKind, object: Object) -> Result<PrintedReply, Memory>
+    fn ready(&mut self, kind: ChangeKind, object: Object) -> Result<WholeReply, Memory>
         requires { self.old.counter ≢ self.old.capacity }
-        ensures reply { IfOk result (λ printed. printed.reply ≡ accepted (change_by kind object) (stamp (change_by kind object) (self.old.counter + 1))) }
+        ensures reply { IfOk result (λ whole. whole.reply ≡ accepted (change_by kind object) (stamp (change_by kind object) (self.old.counter + 1))) }
         ensures same { self.new ≡ self.old }
     {
         let object = kind.stamped(object, self.counter + 1);

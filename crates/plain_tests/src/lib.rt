@@ -9,6 +9,8 @@ mod beside;
 #[cfg(test)]
 mod growths;
 #[cfg(test)]
+mod judged_texts;
+#[cfg(test)]
 mod limits;
 #[cfg(test)]
 mod lists;

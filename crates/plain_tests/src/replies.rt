@@ -7,7 +7,7 @@ use std::process::Abort;
 use std::test::Fail;
 
 /// What a reply comes to: its name, or the reason of a refusal.
-fn outcome(reply: &Reply) -> &'static str {
+pub(crate) fn outcome(reply: &Reply) -> &'static str {
     match reply {
         Reply::Created(_) => "Created",
         Reply::Found(_) => "Found",

@@ -207,7 +207,7 @@ fn stored_texts(alloc: Global, stored: &StoredReply) -> Result<String, AllocErro
     }
 }
 
-fn printed_text(alloc: Global, printed: &PrintedReply) -> Result<String, AllocError> {
+pub(crate) fn printed_text(alloc: Global, printed: &PrintedReply) -> Result<String, AllocError> {
     let texts = String::new(alloc);
     match printed.text() {
         Some(text) => with_text(texts, text.as_str()),

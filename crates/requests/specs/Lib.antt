@@ -5,4 +5,5 @@ pub mod Judgments
 pub mod Keys
 pub mod Reasons
 pub mod Same
+pub mod TextJudgments
 pub mod Verdict

@@ -30,9 +30,13 @@ stated (Some (c ∷ cs)) = Some (c ∷ cs)
 abbrev pub differs : Option (List ℕ) → List ℕ → Bool
 differs given current = option_map_or (λ t. not (bytes_eq t current)) (stated given) false
 
+-- the resource version or the UID that was given is not the text of its number
+abbrev pub conflicts_with : Option (List ℕ) → Option (List ℕ) → (revision number : ℕ) → Bool
+conflicts_with version uid revision number = differs version (decimal revision) || differs uid (uid_text number)
+
 -- the resource version or the UID that was given is not that of the current object
 abbrev pub conflicts : Option (List ℕ) → Option (List ℕ) → Object → Bool
-conflicts version uid o = differs version (decimal o.meta.revision) || differs uid (uid_text o.meta.uid)
+conflicts version uid o = conflicts_with version uid o.meta.revision o.meta.uid
 
 -- A ControllerRevision has no status, and keeps all of its members.
 abbrev pub has_status : Kind → Bool

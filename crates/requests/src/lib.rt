@@ -1,6 +1,7 @@
 //! Requests to a store of objects, what they come to, and the replies to them.
 #![tactic(auto)]
 
+mod by_text;
 mod change;
 mod change_kind;
 mod listing;
@@ -13,9 +14,11 @@ mod table;
 mod verdict;
 mod version;
 
+pub use by_text::{RemovalJudgment, StatusJudgment, judge_removal, judge_status};
 pub use change::Change;
 pub use change_kind::ChangeKind;
 pub use listing::Listing;
+pub use preconditions::is_graceful;
 pub use reply::{Reason, Reply};
 pub use request::Request;
 pub use table::{decide, judge};

@@ -31,7 +31,7 @@ fn with_own_status(object: Object, status: Option<Tree>) -> Result<Object, Alloc
 }
 
 /// A copy of the object's status, which shares what it holds.
-fn status_of(object: &Object) -> Result<Option<Tree>, AllocError>
+pub(crate) fn status_of(object: &Object) -> Result<Option<Tree>, AllocError>
     ensures { IfOk result (λ status. option_map data_of status ≡ member_of (codes "status") object.now.body) }
 {
     match object.member("status") {

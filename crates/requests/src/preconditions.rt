@@ -1,12 +1,11 @@
 // What the verdicts turn on: the preconditions of a request, and whether it would change anything.
 ghost use Rattle.std.specs.Prelude.{◌≡◌, List, ℕ, Option, codes, is_some, option_map, decimal, ◌<◌, ◌^◌};
 ghost use Rattle.std.specs.Option.{option_copied};
-ghost use Rattle.requests.specs.Verdict.{changes_data, conflicts, differs, generation_after, graceful, has_status, same_found, same_member, stated};
-ghost use Rattle.objects.specs.Tree.{data_of};
+ghost use Rattle.requests.specs.Verdict.{changes_data, conflicts, conflicts_with, differs, generation_after, graceful, has_status, same_member, stated};
 ghost use Rattle.objects.specs.Same.{same_data};
 ghost use Rattle.objects.specs.Uid.{uid_text};
 
-use objects::{Draft, Kind, Object, Text, Tree, is_uid_text, is_version_text};
+use objects::{Draft, Kind, Object, Text, is_uid_text, is_version_text, same_found};
 
 /// The text that was given. An empty one counts as none, as it does in a request line.
 pub(crate) fn stated(given: Option<&Text>) -> Option<&str>
@@ -20,8 +19,19 @@ pub(crate) fn stated(given: Option<&Text>) -> Option<&str>
 pub(crate) fn conflicts(version: Option<&Text>, uid: Option<&Text>, current: &Object) -> bool
     ensures { result ≡ conflicts (option_copied version.entry) (option_copied uid.entry) current.now }
 {
-    let meta = &current.meta;
-    differs_in_version(version, meta.revision) || differs_in_uid(uid, meta.uid)
+    conflicts_with(version, uid, current.meta.revision, current.meta.uid)
+}
+
+/// Whether a resource version or a UID is given that is not the text of its number.
+pub(crate) fn conflicts_with(
+    version: Option<&Text>,
+    uid: Option<&Text>,
+    revision: u64,
+    number: u64,
+) -> bool
+    ensures { result ≡ conflicts_with (option_copied version.entry) (option_copied uid.entry) revision number }
+{
+    differs_in_version(version, revision) || differs_in_uid(uid, number)
 }
 
 fn differs_in_version(given: Option<&Text>, revision: u64) -> bool
@@ -34,7 +44,6 @@ fn differs_in_version(given: Option<&Text>, revision: u64) -> bool
 }
 
 fn differs_in_uid(given: Option<&Text>, number: u64) -> bool
-    requires { number < 2 ^ 48 }
     ensures { result ≡ differs (option_copied given.entry) (uid_text number) }
 {
     match stated(given) {
@@ -67,18 +76,6 @@ pub(crate) fn same_member(left: &Object, right: &Object, name: &str) -> bool
     same_found(left.member(name), right.member(name))
 }
 
-fn same_found(left: Option<&Tree>, right: Option<&Tree>) -> bool
-    ensures { result ≡ same_found (option_map (λ t. data_of t.now) left.entry) (option_map (λ t. data_of t.now) right.entry) }
-{
-    match left {
-        Some(left) => match right {
-            Some(right) => left.is_same(right),
-            None => false,
-        },
-        None => right.is_none(),
-    }
-}
-
 /// Whether the draft's object has the same status as the one that now has its key.
 pub(crate) fn is_same_status(draft: &Draft, current: &Object) -> bool
     ensures { result ≡ same_member (codes "status") current.now.body draft.now.object.body }
@@ -106,22 +103,24 @@ pub(crate) fn generation_after(generation: u64, same_spec: bool) -> u64
     }
 }
 
-fn stated_time(at: Option<Text>) -> Option<Text>
-    ensures { result ≡ stated at }
-{
-    match stated(at.as_ref()) {
-        Some(_) => at,
-        None => None,
-    }
-}
-
 /// The time of a graceful deletion, which only a pod has.
 pub(crate) fn graceful(current: &Object, at: Option<Text>) -> Option<Text>
     ensures { result ≡ graceful current.now.key.kind at }
 {
-    match current.key.kind {
-        Kind::Pod => stated_time(at),
-        Kind::StatefulSet | Kind::PersistentVolumeClaim | Kind::ControllerRevision => None,
+    if is_graceful(current.key.kind, at.as_ref()) {
+        at
+    } else {
+        None
+    }
+}
+
+/// Whether a delete with that time leaves an object of the kind, marked with the time. Only pods are deleted so.
+pub fn is_graceful(kind: Kind, at: Option<&Text>) -> bool
+    ensures { result ≡ is_some (graceful kind (option_copied at.entry)) }
+{
+    match kind {
+        Kind::Pod => stated(at).is_some(),
+        Kind::StatefulSet | Kind::PersistentVolumeClaim | Kind::ControllerRevision => false,
     }
 }
 

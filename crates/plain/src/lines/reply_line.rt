@@ -1,28 +1,29 @@
 // The line of a reply: its text, with those of its objects copied in, and a line feed.
-ghost use Rattle.std.specs.Prelude.{◌≡◌, ◌++◌, ◌∷◌, [], Some, true, false, codes, decimal, OnOk};
+ghost use Rattle.std.specs.Prelude.{◌≡◌, ◌++◌, ◌∷◌, [], true, false, codes, decimal, OnOk};
 ghost use Rattle.json.specs.Print.{escape};
 ghost use Rattle.serde_json.specs.Written.{compact_text, comma_if, items_text};
 ghost use Rattle.objects.specs.Text.{text};
 ghost use Rattle.plain.specs.Replies.{error_data, printed_items, reply_data, with_items, with_object, with_reason, with_revision};
 ghost use Rattle.requests.specs.Reasons.{reason_code, reason_name};
-ghost use Rattle.plain_store.specs.PrintedReplies.{reply_object, reply_stored};
+ghost use Rattle.plain_store.specs.PrintedReplies.{reply_printed, reply_stored};
 
 use crate::lines::request_error::RequestError;
 use objects::Printed;
 use plain_store::{PrintedReply, StoredReply};
-use requests::{Reason, Reply};
+use requests::Reason;
 use std::alloc::AllocError;
 
 /// Writes the line of what a write is answered.
 pub(crate) fn printed_line(printed: &PrintedReply, out: &mut Vec<u8>) -> Result<(), AllocError>
-    ensures { OnOk result (out.new.items ≡ out.old.items ++ (compact_text (reply_data printed.now.reply) ++ 10 ∷ [])) }
+    ensures { OnOk result (out.new.items ≡ out.old.items ++ (compact_text (reply_data (reply_printed printed.now)) ++ 10 ∷ [])) }
 {
-    match printed.text() {
-        Some(text) => one_line(&printed.reply, text, out),
-        None => match &printed.reply {
-            Reply::Refused(reason) => refused_line(*reason, out),
-            _ => unreachable!(),
-        },
+    match printed {
+        PrintedReply::Created(text) => object_line(201, text, "Created", out),
+        PrintedReply::Updated(text) => object_line(200, text, "Updated", out),
+        PrintedReply::Unchanged(text) => object_line(200, text, "Unchanged", out),
+        PrintedReply::Marked(text) => object_line(200, text, "Marked", out),
+        PrintedReply::Removed(text) => object_line(200, text, "Removed", out),
+        PrintedReply::Refused(reason) => refused_line(*reason, out),
     }
 }
 
@@ -47,26 +48,6 @@ pub(crate) fn error_line(error: RequestError, out: &mut Vec<u8>) -> Result<(), A
     ensures { OnOk result (out.new.items ≡ out.old.items ++ (compact_text (error_data error) ++ 10 ∷ [])) }
 {
     reason_line(400, error.name(), out)
-}
-
-fn one_line(reply: &Reply, text: &Printed, out: &mut Vec<u8>) -> Result<(), AllocError>
-    requires { reply_object reply.now ≡ Some text.now }
-    ensures { OnOk result (out.new.items ≡ out.old.items ++ (compact_text (reply_data reply.now) ++ 10 ∷ [])) }
-{
-    match reply {
-        Reply::Created(_) => object_line(201, text, "Created", out),
-        Reply::Found(_) => object_line(200, text, "Found", out),
-        Reply::Updated(_) => object_line(200, text, "Updated", out),
-        Reply::Unchanged(_) => object_line(200, text, "Unchanged", out),
-        Reply::Marked(_) => object_line(200, text, "Marked", out),
-        Reply::Removed(_) => object_line(200, text, "Removed", out),
-        Reply::Listed {
-            objects: _,
-            revision: _,
-        }
-        | Reply::Compacted { revision: _ }
-        | Reply::Refused(_) => unreachable!(),
-    }
 }
 
 fn object_line(

@@ -1,14 +1,10 @@
 use Rattle.std.proofs.Common.{refl}
 use Rattle.json.specs.Print.{escape_byte}
-use Rattle.plain.proofs.lines.reply_line.one_line.Goals as goal
+use Rattle.plain.proofs.lines.reply_line.printed_line.Goals as goal
 
 pub object_line-requires : goal.object_line-requires
 unfolding escape_byte
 object_line-requires c = refl
-
-pub object_line-requires-in-Found : goal.object_line-requires-in-Found
-unfolding escape_byte
-object_line-requires-in-Found c = refl
 
 pub object_line-requires-in-Updated : goal.object_line-requires-in-Updated
 unfolding escape_byte

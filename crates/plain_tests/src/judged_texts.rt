@@ -1,0 +1,179 @@
+//! Writes that the store judges by the texts that it keeps, beside the same writes as it judges them by whole objects.
+ghost use Rattle.std.specs.Prelude.{◌≡◌, true};
+ghost use Rattle.plain.specs.Verdict.{is_write};
+
+use crate::replies::outcome;
+use crate::stored_texts::{printed_text, texts_in};
+use objects::Memory;
+use plain::{Plain, PrintedReply, Request, read_request};
+use std::alloc::Global;
+use std::process::Abort;
+use std::test::Fail;
+
+/// Lines to a new store of six revisions, and what each comes to.
+static ROWS: [(&str, &str); 20] = [
+    (
+        r#"{"do":"create","object":{"kind":"Pod","metadata":{"name":"p"},"spec":{"a":1}}}"#,
+        "Created",
+    ),
+    (
+        r#"{"do":"create","object":{"kind":"Pod","metadata":{"name":"q"}}}"#,
+        "Created",
+    ),
+    (
+        r#"{"do":"create","object":{"kind":"PersistentVolumeClaim","metadata":{"name":"c"}}}"#,
+        "Created",
+    ),
+    (
+        r#"{"do":"status","object":{"kind":"Pod","metadata":{"name":"p"},"status":{"phase":"Running"}}}"#,
+        "Updated",
+    ),
+    (
+        r#"{"do":"status","object":{"kind":"Pod","metadata":{"name":"p"},"status":{"phase":"Running"}}}"#,
+        "Unchanged",
+    ),
+    // Of another version, and of another UID.
+    (
+        r#"{"do":"status","object":{"kind":"Pod","metadata":{"name":"p","resourceVersion":"1"},"status":{}}}"#,
+        "Conflict",
+    ),
+    (
+        r#"{"do":"status","object":{"kind":"Pod","metadata":{"name":"p","uid":"00000000-0000-4000-8000-000000000002"},"status":{}}}"#,
+        "Conflict",
+    ),
+    (
+        r#"{"do":"status","object":{"kind":"Pod","metadata":{"name":"r"},"status":{}}}"#,
+        "NotFound",
+    ),
+    (
+        r#"{"do":"status","object":{"kind":"ControllerRevision","metadata":{"name":"r"},"status":{}}}"#,
+        "Invalid",
+    ),
+    (
+        r#"{"do":"delete","kind":"Pod","name":"q","resourceVersion":"1"}"#,
+        "Conflict",
+    ),
+    (
+        r#"{"do":"delete","kind":"Pod","name":"q","uid":"00000000-0000-4000-8000-000000000001"}"#,
+        "Conflict",
+    ),
+    (r#"{"do":"delete","kind":"Pod","name":"r"}"#, "NotFound"),
+    (
+        r#"{"do":"delete","kind":"Pod","name":"q","resourceVersion":"2","uid":"00000000-0000-4000-8000-000000000002"}"#,
+        "Removed",
+    ),
+    (
+        r#"{"do":"status","object":{"kind":"Pod","metadata":{"name":"q"},"status":{}}}"#,
+        "NotFound",
+    ),
+    // Only a pod is marked.
+    (
+        r#"{"at":"2024-01-01T00:00:00Z","do":"delete","kind":"PersistentVolumeClaim","name":"c"}"#,
+        "Removed",
+    ),
+    // All revisions are drawn now.
+    (
+        r#"{"do":"status","object":{"kind":"Pod","metadata":{"name":"p"}}}"#,
+        "StoreFull",
+    ),
+    (
+        r#"{"do":"status","object":{"kind":"Pod","metadata":{"name":"p","resourceVersion":"4","uid":"00000000-0000-4000-8000-000000000001"},"status":{"phase":"Running"}}}"#,
+        "Unchanged",
+    ),
+    (r#"{"do":"delete","kind":"Pod","name":"p"}"#, "StoreFull"),
+    (
+        r#"{"at":"2024-01-01T00:00:00Z","do":"delete","kind":"Pod","name":"p"}"#,
+        "StoreFull",
+    ),
+    (
+        r#"{"do":"delete","kind":"Pod","name":"p","resourceVersion":"3"}"#,
+        "Conflict",
+    ),
+];
+
+static LISTS: [&str; 2] = [
+    r#"{"do":"list","kind":"Pod"}"#,
+    r#"{"do":"list","kind":"PersistentVolumeClaim"}"#,
+];
+
+/// What a request is answered: the name of the reply or of the refusal, and the texts of its objects.
+#[derive(Drop)]
+struct Answer {
+    name: &'static str,
+    texts: String,
+}
+
+/// What the store answers by way of whole objects, which it reads back from their texts.
+fn by_objects(alloc: Global, plain: &mut Plain, line: &str) -> Result<Answer, Fail> {
+    let reply = plain.take(read_request(alloc, line.as_bytes())?)?;
+    let name = outcome(&reply);
+    let texts = texts_in(alloc, &reply);
+    drop(reply);
+    Ok(Answer {
+        name,
+        texts: texts?,
+    })
+}
+
+fn printed_outcome(printed: &PrintedReply) -> &'static str {
+    match printed {
+        PrintedReply::Created(_) => "Created",
+        PrintedReply::Updated(_) => "Updated",
+        PrintedReply::Unchanged(_) => "Unchanged",
+        PrintedReply::Marked(_) => "Marked",
+        PrintedReply::Removed(_) => "Removed",
+        PrintedReply::Refused(reason) => reason.name(),
+    }
+}
+
+fn written(alloc: Global, plain: &mut Plain, request: Request) -> Result<Answer, Memory>
+    requires { is_write request ≡ true }
+{
+    let printed = plain.write(request)?;
+    let name = printed_outcome(&printed);
+    let texts = printed_text(alloc, &printed);
+    drop(printed);
+    Ok(Answer {
+        name,
+        texts: texts?,
+    })
+}
+
+/// What the store answers a write by way of the texts that it keeps.
+fn by_texts(alloc: Global, plain: &mut Plain, line: &str) -> Result<Answer, Fail> {
+    let request = read_request(alloc, line.as_bytes())?;
+    if request.is_write() {
+        return Ok(written(alloc, plain, request)?);
+    }
+    drop(request);
+    Ok(Answer {
+        name: "no write",
+        texts: String::new(alloc),
+    })
+}
+
+fn assert_same(rt: &impl Abort, line: &str, left: Answer, right: Answer) {
+    assert_eq!(rt; left.name, right.name, "of {line}");
+    assert_eq!(rt; left.texts.as_str(), right.texts.as_str(), "of {line}");
+}
+
+#[test]
+fn texts_are_judged_as_the_objects_that_they_are(rt: HostRuntime) -> Result<(), Fail> {
+    let mut objects = Plain::new(rt.alloc(), 6)?;
+    let mut texts = Plain::new(rt.alloc(), 6)?;
+    for (line, expected) in ROWS.iter() {
+        let answer = by_texts(rt.alloc(), &mut texts, line)?;
+        assert_eq!(rt; answer.name, *expected, "of {line}");
+        assert_same(
+            &rt,
+            line,
+            answer,
+            by_objects(rt.alloc(), &mut objects, line)?,
+        );
+        for list in LISTS.iter() {
+            let left = by_objects(rt.alloc(), &mut texts, list)?;
+            assert_same(&rt, line, left, by_objects(rt.alloc(), &mut objects, list)?);
+        }
+    }
+    Ok(())
+}
