@@ -41,11 +41,11 @@ join_assoc : (ms ns rest : Members) → join_members (join_members ms ns) rest �
 join_assoc no_members ns rest = refl
 join_assoc (member k d ms) ns rest = ap (member k d) (join_assoc ms ns rest)
 
-members_of-append : (xs ys : List (List ℕ × Tree)) → members_of (xs ++ ys) ≡ join_members (members_of xs) (members_of ys)
+pub members_of-append : (xs ys : List (List ℕ × Tree)) → members_of (xs ++ ys) ≡ join_members (members_of xs) (members_of ys)
 members_of-append [] ys = refl
 members_of-append (x ∷ xs) ys = ap (member x.0 (data_of x.1)) (members_of-append xs ys)
 
-get_front : (k : List ℕ) (es : List (List ℕ × Tree)) (ms : Members) → IsFront k es → get_member k (join_members (members_of es) ms) ≡ get_member k ms
+pub get_front : (k : List ℕ) (es : List (List ℕ × Tree)) (ms : Members) → IsFront k es → get_member k (join_members (members_of es) ms) ≡ get_member k ms
 get_front k [] ms h = refl
 get_front k (e ∷ es) ms h = rw h.0 (get_front k es ms h.1)
 
@@ -124,7 +124,7 @@ twin_tokens o first mid entry metadata n value front named holds below =
 
 -- ---- the tokens of a value end a value
 
-abbrev ended : Bool → List Token → Bool
+abbrev pub ended : Bool → List Token → Bool
 ended c ts = fold (λ _ t. ends t) c ts
 
 mutual
@@ -200,7 +200,7 @@ mutual
       let others = numbers_members ms rest first.1 in
       ((first.0, others.0), others.1)
 
-printable-append : (ts us : List Token) → ArePrintableOrBad ts → ArePrintableOrBad us → ArePrintableOrBad (ts ++ us)
+pub printable-append : (ts us : List Token) → ArePrintableOrBad ts → ArePrintableOrBad us → ArePrintableOrBad (ts ++ us)
 printable-append [] us h k = k
 printable-append (t ∷ ts) us h k = (h.0, printable-append ts us h.1 k)
 
@@ -209,7 +209,7 @@ pub printable_again : (ts : List Token) → tokens (print ts) ≡ ts → ArePrin
 printable_again ts again = subst ArePrintableOrBad again (ArePrintableOrBad-tokens (print ts))
 
 -- the text of a value whose tokens can be written has these tokens
-printable_text : (d : Data) → ArePrintableOrBad (json_tokens (outline d)) → tokens (compact_text d) ≡ json_tokens (outline d)
+pub printable_text : (d : Data) → ArePrintableOrBad (json_tokens (outline d)) → tokens (compact_text d) ≡ json_tokens (outline d)
 printable_text d h =
     ap tokens (sym (print-outline d))
     ∙ tokens-print (json_tokens (outline d)) (ArePrintable-json_tokens (outline d) (numbers_before (outline d) [] (subst ArePrintableOrBad (sym (append-nil (json_tokens (outline d)))) h)).0)
@@ -217,12 +217,15 @@ printable_text d h =
 -- ---- an object that was written in parts
 
 -- what stands between the version and the status
-abbrev between : Object → List (List ℕ × Tree) → List (List ℕ × Tree) → List Token
+abbrev pub between : Object → List (List ℕ × Tree) → List (List ℕ × Tree) → List Token
 between o versioned mid = after_version o versioned ++ entry_tokens mid
+
+pub ends_after_version : (o : Object) (versioned : List (List ℕ × Tree)) → ended true (after_version o versioned) ≡ true
+ends_after_version o versioned = ends_members true (members_outline (puts ((codes "uid", unless_zero o.meta.uid (string_data (uid_text o.meta.uid))) ∷ []) (members_of versioned)))
 
 ends_between : (o : Object) (versioned mid : List (List ℕ × Tree)) → ended true (between o versioned mid) ≡ true
 ends_between o versioned mid =
-    fold-append (λ _ t. ends t) true (after_version o versioned) (entry_tokens mid) ∙ ap (λ c. ended c (entry_tokens mid)) (ends_members true (members_outline (puts ((codes "uid", unless_zero o.meta.uid (string_data (uid_text o.meta.uid))) ∷ []) (members_of versioned)))) ∙ ends_entries mid
+    fold-append (λ _ t. ends t) true (after_version o versioned) (entry_tokens mid) ∙ ap (λ c. ended c (entry_tokens mid)) (ends_after_version o versioned) ∙ ends_entries mid
 
 abbrev tail_tokens : List (List ℕ × Tree) → List Token
 tail_tokens tail = members_tokens (members_outline (members_of tail))
@@ -330,7 +333,7 @@ tail_written tail old begun before new start ts is same wrote empty last =
     last ∙ ap (λ b. b ++ print ts) (same ∙ is) ∙ ap (λ t. (old ++ comma_before tail) ++ print t) (wrote ∙ ap (λ s. s ++ tail_tokens tail) empty)
     ∙ append_assoc old (comma_before tail) (print (tail_tokens tail)) ∙ ap (λ t. old ++ t) (tail_text tail)
 
-utf8_comma : (tail : List (List ℕ × Tree)) → IsUtf8 (comma_before tail)
+pub utf8_comma : (tail : List (List ℕ × Tree)) → IsUtf8 (comma_before tail)
 utf8_comma [] = IsUtf8-are_ascii [] refl
 utf8_comma (e ∷ es) = IsUtf8-are_ascii (44 ∷ []) refl
 
@@ -345,11 +348,6 @@ tail_printable tail start ts wrote empty again = subst ArePrintableOrBad (wrote 
 
 pub front_bytes : (h keyed_tokens : List Token) (before front : List ℕ) → keyed_tokens ≡ keyed h → before ≡ [] → front ≡ before ++ print keyed_tokens → front ≡ print (keyed h)
 front_bytes h keyed_tokens before front is empty last = last ∙ ap (λ b. b ++ print keyed_tokens) empty ∙ ap print is
-
-pub middle_bytes : (o : Object) (versioned after tail : List (List ℕ × Tree)) (m : List Token) (middle : WritesMiddle o versioned after tail [] m) (before front bytes : List ℕ) → before ≡ front → bytes ≡ before ++ print m
-    → bytes ≡ front ++ (quoted (decimal o.meta.revision) ++ print_from true (between o versioned (take middle.count after)))
-unfolding print_from
-middle_bytes o versioned after tail m middle before front bytes same last = last ∙ ap (λ b. b ++ print m) same ∙ ap (λ t. front ++ print t) middle.tokens
 
 pub whole_bytes : (o : Object) (versioned after tail : List (List ℕ × Tree)) (h m : List Token) (head : WritesHead o versioned after [] h) (middle : WritesMiddle o versioned after tail [] m) (front bytes whole : List ℕ) → o.meta.revision ≢ 0
     → front ≡ print (keyed h) → bytes ≡ front ++ (quoted (decimal o.meta.revision) ++ print_from true (between o versioned (take middle.count after)))
@@ -367,7 +365,7 @@ whole_utf8 first before front second before_second bytes last whole empty is sam
     subst IsUtf8 (sym (third ∙ ap (λ x. x ++ last) (then ∙ ap (λ x. x ++ second) (same ∙ is ∙ ap (λ x. x ++ first) empty))))
     (IsUtf8-append (first ++ second) last (IsUtf8-append first second a b) c)
 
-pub cut_at : (o : Object) (versioned after tail : List (List ℕ × Tree)) (h m : List Token) (head : WritesHead o versioned after [] h) (middle : WritesMiddle o versioned after tail [] m) (front bytes : List ℕ) (version status : ℕ) → o.meta.revision ≢ 0
+abbrev pub cut_at : (o : Object) (versioned after tail : List (List ℕ × Tree)) (h m : List Token) (head : WritesHead o versioned after [] h) (middle : WritesMiddle o versioned after tail [] m) (front bytes : List ℕ) (version status : ℕ) → o.meta.revision ≢ 0
     → front ≡ print (keyed h) → bytes ≡ front ++ (quoted (decimal o.meta.revision) ++ print_from true (between o versioned (take middle.count after)))
     → version ≡ length front → status ≡ length bytes → ArePrintableOrBad (keyed h) → ArePrintableOrBad m → ArePrintableOrBad (tail_tokens tail) → KeepsRules o → IsProper o.body → IsStatusAlone tail → IsCutAt o version status
 cut_at o versioned after tail h m head middle front bytes version status written first second version_is status_is a b c rules proper last =

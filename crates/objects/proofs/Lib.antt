@@ -13,7 +13,9 @@ pub mod HeldSteps
 pub mod HeadWritten
 pub mod PlainDigits
 pub mod CutTexts
+pub mod SpecTexts
 pub mod SplicedTexts
+pub mod ReplacedTexts
 pub mod WholeObjects
 pub mod PrintedObjects
 pub mod DraftAgain

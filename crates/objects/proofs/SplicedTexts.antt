@@ -14,12 +14,12 @@ use Rattle.trees.specs.Proper.{IsProper, AreProperMembers}
 use Rattle.trees.specs.Tree.{AreAscending}
 use Rattle.trees.proofs.PutOrder.{proper_found, proper_put}
 use Rattle.trees.proofs.Sameness.{same-itself, same-equal}
-use Rattle.trees.proofs.SetMembers.{ascending_set}
+use Rattle.trees.proofs.SetMembers.{ascending_set, get_member-set_member}
 use Rattle.trees.proofs.WholeTokens.{no_float_printable}
 use Rattle.objects.specs.declared.object.Object.{Object}
 use Rattle.objects.specs.Object.{IsBody, KeepsRules}
 use Rattle.objects.specs.declared.printed.Sheet.{Sheet}
-use Rattle.objects.specs.Cuts.{AreParts, IsCut, IsCutAt, IsProperStatus, IsSheet, IsSpliced, rewritten, status_text, status_tokens, version_text}
+use Rattle.objects.specs.Cuts.{AreParts, IsCut, IsCutAt, IsOpen, IsProperStatus, IsSheet, IsSpecAt, IsSpliced, rewritten, spec_text, spec_tokens, status_text, status_tokens, version_text}
 use Rattle.objects.specs.PrintedText.{IsTextOf}
 use Rattle.objects.specs.Rewrites.{at_version, with_status}
 use Rattle.objects.specs.Status.{member_of, same_found, with_member}
@@ -29,7 +29,7 @@ use Rattle.objects.proofs.BodyMembers.{set_found}
 use Rattle.objects.proofs.CutTexts.{printable_again, set_again, status_bytes}
 use Rattle.objects.proofs.PrintedTexts.{reads_as, text_of}
 
-apart_by : (b : Bool) → (b ≡ true → ⊥) → b ≡ false
+pub apart_by : (b : Bool) → (b ≡ true → ⊥) → b ≡ false
 apart_by true h = absurd (h refl)
 apart_by false h = refl
 
@@ -133,11 +133,11 @@ spliced_text o version status at n value t some small printable one is =
     (text_of (rewritten o cut.others n value) (keeps_rules o at.front at.middle cut n value small) (proper_body o at.front at.middle cut value one) t text_is (ap tokens text_is ∙ cut.tokens n value some small printable))
 
 -- and can be cut again
-pub spliced_cut : (o : Object) (version status : ℕ) (at : IsCutAt o version status) (n : ℕ) (value : Option Data) (here there : ℕ) → n ≢ 0 → n < 2 ^ 64 → ArePrintableOrBad (status_tokens value) → IsProperStatus value
-    → here ≡ length at.front → there ≡ length (at.front ++ (version_text n ++ at.middle)) → IsCutAt (at_version (with_status value o) n) here there
-spliced_cut o version status at n value here there some small printable one here_is there_is =
+abbrev rewritten_cut : (o : Object) (version status : ℕ) (at : IsCutAt o version status) (n : ℕ) (value : Option Data) (here there : ℕ) → n ≢ 0 → n < 2 ^ 64 → ArePrintableOrBad (status_tokens value) → IsProperStatus value
+    → here ≡ length at.front → there ≡ length (at.front ++ (version_text n ++ at.middle)) → IsCutAt (rewritten o at.cut.others n value) here there
+rewritten_cut o version status at n value here there some small printable one here_is there_is =
     let cut = at.cut in
-    subst (λ p. IsCutAt p here there) (sym (rewritten_is o at.front at.middle cut n value)) (record {
+    record {
       front = at.front;
       middle = at.middle;
       cut = record {
@@ -154,21 +154,47 @@ spliced_cut o version status at n value here there some small printable one here
       };
       version_at = here_is;
       status_at = there_is;
+    }
+
+pub spliced_cut : (o : Object) (version status : ℕ) (at : IsCutAt o version status) (n : ℕ) (value : Option Data) (here there : ℕ) → n ≢ 0 → n < 2 ^ 64 → ArePrintableOrBad (status_tokens value) → IsProperStatus value
+    → here ≡ length at.front → there ≡ length (at.front ++ (version_text n ++ at.middle)) → IsCutAt (at_version (with_status value o) n) here there
+spliced_cut o version status at n value here there some small printable one here_is there_is =
+    subst (λ p. IsCutAt p here there) (sym (rewritten_is o at.front at.middle at.cut n value)) (rewritten_cut o version status at n value here there some small printable one here_is there_is)
+
+-- the spec stays with each status
+spec_stays : (o : Object) (front middle : List ℕ) (cut : IsCut o front middle) (n : ℕ) (value : Option Data) → member_of (codes "spec") o.body ≡ member_of (codes "spec") (rewritten o cut.others n value).body
+spec_stays o front middle cut n value =
+    ap (member_of (codes "spec")) cut.body ∙ get_member-set_member (codes "spec") (codes "status") cut.status cut.others (λ same. absurd cc)
+    ∙ sym (get_member-set_member (codes "spec") (codes "status") value cut.others (λ same. absurd cc))
+
+-- and where it stands
+pub spliced_spec : (o : Object) (version status size : ℕ) (spec : IsSpecAt o version status size) (n : ℕ) (value : Option Data) (here there : ℕ) → n ≢ 0 → n < 2 ^ 64 → ArePrintableOrBad (status_tokens value)
+    → IsProperStatus value → here ≡ length spec.at.front → there ≡ length (spec.at.front ++ (version_text n ++ spec.at.middle)) → IsSpecAt (at_version (with_status value o) n) here there size
+spliced_spec o version status size spec n value here there some small printable one here_is there_is =
+    let at = spec.at in
+    let cut = at.cut in
+    let stays = spec_stays o at.front at.middle cut n value in
+    subst (λ p. IsSpecAt p here there size) (sym (rewritten_is o at.front at.middle cut n value)) (record {
+      at = rewritten_cut o version status at n value here there some small printable one here_is there_is;
+      before = spec.before;
+      middle = spec.middle ∙ ap (λ s. spec.before ++ spec_text s) stays;
+      size = spec.size ∙ ap (λ s. length (spec_text s)) stays;
+      printable = subst (λ s. ArePrintableOrBad (spec_tokens s)) stays spec.printable;
     })
 
 -- the status that the object has
 pub status_of_cut : (o : Object) (front middle : List ℕ) (cut : IsCut o front middle) → member_of (codes "status") o.body ≡ cut.status
 status_of_cut o front middle cut = ap (member_of (codes "status")) cut.body ∙ set_found (codes "status") cut.status cut.others
 
-proper_status_by : (ms : Members) (value : Option Data) → AreProperMembers ms → get_member (codes "status") ms ≡ value → IsProperStatus value
-proper_status_by ms None all found = tt
-proper_status_by ms (Some d) all found = proper_found (codes "status") d ms all found
+pub proper_member : (k : List ℕ) (ms : Members) (value : Option Data) → AreProperMembers ms → get_member k ms ≡ value → IsProperStatus value
+proper_member k ms None all found = tt
+proper_member k ms (Some d) all found = proper_found k d ms all found
 
 pub status_proper : (o : Object) (front middle : List ℕ) (cut : IsCut o front middle) → IsProperStatus cut.status
 status_proper o front middle cut =
     let now = set_member (codes "status") cut.status cut.others in
     let proper : AreAscending now × AreProperMembers now = subst IsProper cut.body cut.proper in
-    proper_status_by now cut.status proper.1 (set_found (codes "status") cut.status cut.others)
+    proper_member (codes "status") now cut.status proper.1 (set_found (codes "status") cut.status cut.others)
 
 -- with that one it stays as it is
 pub status_kept : (o : Object) (front middle : List ℕ) (cut : IsCut o front middle) (n : ℕ) → at_version (with_status cut.status o) n ≡ at_version o n
@@ -211,7 +237,7 @@ same_by : (value : Option Data) → ArePrintableOrBad (status_tokens value) → 
 same_by None h = refl
 same_by (Some d) h = same-itself d (no_float_before d (end_object ∷ []) h.1)
 
-found_equal : (a b : Option Data) → same_found a b ≡ true → a ≡ b
+pub found_equal : (a b : Option Data) → same_found a b ≡ true → a ≡ b
 found_equal None None h = refl
 found_equal None (Some e) h = absurd cc
 found_equal (Some d) None h = absurd cc
@@ -240,10 +266,9 @@ if_found P Q (Ok None) f h = h
 if_found P Q (Ok (Some s)) f h = f s h
 if_found P Q (Err e) f h = h
 
--- the parts of a sheet that can be cut
-abbrev pub sheet_parts : (o : Object) (s : Sheet) (sheet : IsSheet o s) → s.version ≢ 0 → AreParts (string_bytes s.text) s.revision s.version s.status
-sheet_parts o s sheet some =
-    let at = sheet.cut some in
+-- the parts of a sheet's text that is cut so
+abbrev pub parts_at : (o : Object) (s : Sheet) (sheet : IsSheet o s) → IsCutAt o s.version s.status → AreParts (string_bytes s.text) s.revision s.version s.status
+parts_at o s sheet at =
     let parts = parts_of o s.version s.status at (string_bytes s.text) sheet.text.text in
     record {
       front = at.front;
@@ -252,6 +277,22 @@ sheet_parts o s sheet some =
       text = parts.text ∙ ap (λ r. at.front ++ (version_text r ++ (at.middle ++ status_text at.cut.status))) (sym sheet.revision);
       version_at = at.version_at;
       status_at = at.status_at ∙ ap (λ r. length (at.front ++ (version_text r ++ at.middle))) (sym sheet.revision);
+    }
+
+-- the parts of a sheet that can be cut
+abbrev pub sheet_parts : (o : Object) (s : Sheet) (sheet : IsSheet o s) → s.version ≢ 0 → AreParts (string_bytes s.text) s.revision s.version s.status
+sheet_parts o s sheet some = parts_at o s sheet (sheet.cut some)
+
+-- a spliced sheet knows the spec and the generation where the old one does
+spliced_known : (o : Object) (s : Sheet) (value : Option Data) (end : List ℕ) (n : ℕ) (new : Sheet) → IsSheet o s → n < 2 ^ 64 → ArePrintableOrBad (status_tokens value) → IsProperStatus value
+    → IsSpliced s end n new → new.version ≢ 0 → new.generation ≢ 0 → IsOpen (at_version (with_status value o) n) new
+spliced_known o s value end n new sheet small printable one h some told =
+    let old = sheet.known h.cut (λ none. told (h.generation ∙ none)) in
+    let there = h.places (parts_at o s sheet old.spec.at) some in
+    record {
+      spec = subst (IsSpecAt (at_version (with_status value o) n) new.version new.status) (sym h.spec) (spliced_spec o s.version s.status s.spec old.spec n value new.version new.status h.written small printable one there.0 there.1);
+      generation = h.generation ∙ old.generation;
+      unmarked = old.unmarked;
     }
 
 -- a spliced sheet is that of the object with that status at that version
@@ -265,6 +306,7 @@ spliced_sheet o s value end n new sheet small printable one ends h =
       uid = h.uid ∙ sheet.uid;
       revision = h.revision;
       cut = λ some. let there = h.places parts some in spliced_cut o s.version s.status at n value new.version new.status h.written small printable one there.0 there.1;
+      known = spliced_known o s value end n new sheet small printable one h;
     }
 
 -- with the status that it has, it is that of the object at that version

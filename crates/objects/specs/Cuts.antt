@@ -1,10 +1,11 @@
 -- Where the text of an object can be cut, so that another resource version or another status can be put in.
-use Rattle.std.specs.Prelude.{◌≡◌, ◌≢◌, ℕ, ◌<◌, ◌^◌, List, [], ◌∷◌, ◌++◌, length, take, drop, codes, decimal, Option, Some, None, string_bytes, ⊤}
+use Rattle.std.specs.Prelude.{◌≡◌, ◌≢◌, ℕ, ◌<◌, ◌^◌, List, [], ◌∷◌, ◌++◌, length, take, drop, true, codes, decimal, Option, Some, None, string_bytes, ⊤}
 use Rattle.std.specs.Ordering.{nat_cmp}
 use Rattle.std.specs.declared.cmp.Ordering.TheVariants.{Greater}
 use Rattle.std.specs.Cmp.Lexicographic.{slice_cmp}
 use Rattle.json.specs.Lex.{tokens}
-use Rattle.json.specs.Print.{ArePrintableOrBad}
+use Rattle.std.specs.Str.{IsUtf8}
+use Rattle.json.specs.Print.{ArePrintableOrBad, print_from}
 use Rattle.json.specs.Token.{Token, begin_object, end_object, key, string as string_token}
 use Rattle.json.specs.Tree.{json_tokens, members_tokens}
 use Rattle.serde_json.specs.Data.{Data, object, Members, no_members, member}
@@ -13,13 +14,14 @@ use Rattle.trees.specs.declared.tree.Tree.{Tree}
 use Rattle.trees.specs.Tree.{data_of, members_of}
 use Rattle.trees.specs.Members.{set_member}
 use Rattle.trees.specs.Places.{IsAbove}
-use Rattle.trees.specs.Proper.{IsProper}
+use Rattle.trees.specs.Proper.{AreProperMembers, IsProper}
 use Rattle.objects.specs.declared.object.Object.{Object}
 use Rattle.objects.specs.declared.printed.Sheet.{Sheet}
 use Rattle.objects.specs.Object.{KeepsRules}
 use Rattle.objects.specs.Merged.{IsFront, StopsAt, after_version, entry_tokens}
 use Rattle.objects.specs.PrintedText.{IsTextOf}
 use Rattle.objects.specs.Rewrites.{at_version}
+use Rattle.objects.specs.Status.{member_of}
 use Rattle.objects.specs.Text.{text, printed, whole_metadata}
 
 -- each key is below that of the status
@@ -81,6 +83,23 @@ pub record WritesHead (o : Object) (versioned after : List (List ℕ × Tree)) (
       → old ++ begin_object ∷ (entry_tokens first ++ key (codes "metadata") ∷ begin_object ∷ (members_tokens (members_outline (whole_metadata (at_version o n) metadata)) ++ next))
       ≡ (new ++ key (codes "resourceVersion") ∷ []) ++ string_token (decimal n) ∷ (after_version o versioned ++ next)
 
+-- the entries up to the status were written behind those bytes
+pub record WritesBetween (after tail : List (List ℕ × Tree)) (old new : List ℕ) : Type 0 where
+  pub count : ℕ
+  pub left : tail ≡ drop count after
+  pub above : IsAbove (codes "status") count after
+  pub stops : StopsAt (codes "status") tail
+  pub bytes : new ≡ old ++ print_from true (entry_tokens (take count after))
+  pub utf8 : IsUtf8 (print_from true (entry_tokens (take count after)))
+  pub printable : ArePrintableOrBad (entry_tokens (take count after))
+  pub proper : AreProperMembers (members_of tail) → AreProperMembers (members_of after)
+
+-- there is no entry, or the spec alone
+abbrev pub IsSpecAlone : List (List ℕ × Tree) → Type 0
+IsSpecAlone [] = ⊤
+IsSpecAlone (e ∷ []) = e.0 ≡ codes "spec"
+IsSpecAlone (e ∷ f ∷ es) = ⊥
+
 -- the version and all up to the status was written
 pub record WritesMiddle (o : Object) (versioned after tail : List (List ℕ × Tree)) (old new : List Token) : Type 0 where
   pub count : ℕ
@@ -100,6 +119,29 @@ abbrev pub comma_before : List (List ℕ × Tree) → List ℕ
 comma_before [] = []
 comma_before (e ∷ es) = 44 ∷ []
 
+-- the spec as it stands behind the metadata, with the comma before it
+abbrev pub spec_text : Option Data → List ℕ
+spec_text None = []
+spec_text (Some d) = codes ",\"spec\":" ++ compact_text d
+
+abbrev pub spec_tokens : Option Data → List Token
+spec_tokens None = []
+spec_tokens (Some d) = key (codes "spec") ∷ json_tokens (outline d)
+
+-- the text can be cut there, and between the metadata and the status it has the spec alone, in that many bytes
+pub record IsSpecAt (o : Object) (version status spec : ℕ) : Type 0 where
+  pub at : IsCutAt o version status
+  pub before : List ℕ
+  pub middle : at.middle ≡ before ++ spec_text (member_of (codes "spec") o.body)
+  pub size : spec ≡ length (spec_text (member_of (codes "spec") o.body))
+  pub printable : ArePrintableOrBad (spec_tokens (member_of (codes "spec") o.body))
+
+-- the sheet has what an update needs to know of the object
+pub record IsOpen (o : Object) (s : Sheet) : Type 0 where
+  pub spec : IsSpecAt o s.version s.status s.spec
+  pub generation : s.generation ≡ o.meta.generation
+  pub unmarked : o.meta.deletion ≡ None
+
 -- the parts of a text that is cut
 pub record AreParts (t : List ℕ) (revision version status : ℕ) : Type 0 where
   pub front : List ℕ
@@ -115,6 +157,7 @@ pub record IsSheet (o : Object) (s : Sheet) : Type 0 where
   pub uid : s.uid ≡ o.meta.uid
   pub revision : s.revision ≡ o.meta.revision
   pub cut : s.version ≢ 0 → IsCutAt o s.version s.status
+  pub known : s.version ≢ 0 → s.generation ≢ 0 → IsOpen o s
 
 -- the sheet has that version and that end
 pub record IsSpliced (old : Sheet) (end : List ℕ) (n : ℕ) (new : Sheet) : Type 0 where
@@ -122,6 +165,8 @@ pub record IsSpliced (old : Sheet) (end : List ℕ) (n : ℕ) (new : Sheet) : Ty
   pub written : n ≢ 0
   pub uid : new.uid ≡ old.uid
   pub revision : new.revision ≡ n
+  pub generation : new.generation ≡ old.generation
+  pub spec : new.spec ≡ old.spec
   pub text : (parts : AreParts (string_bytes old.text) old.revision old.version old.status) → string_bytes new.text ≡ parts.front ++ (version_text n ++ (parts.middle ++ end))
   pub places : (parts : AreParts (string_bytes old.text) old.revision old.version old.status) → new.version ≢ 0
       → (new.version ≡ length parts.front) × (new.status ≡ length (parts.front ++ (version_text n ++ parts.middle)))

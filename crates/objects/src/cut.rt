@@ -1,13 +1,16 @@
 // Printing an object with the places where its text can be cut, so that another resource version or another status can be
 // put in.
-ghost use Rattle.std.specs.Prelude.{◌≡◌, ◌≢◌, ◌++◌, [], true, false, IfOk, IfSome, OnOk, IsTrue};
+ghost use Rattle.std.specs.Prelude.{◌≡◌, ◌≢◌, ◌≤◌, ◌-◌, ◌++◌, ◌∷◌, ℕ, [], codes, length, take, drop, decimal, true, false, IfOk, IfSome, OnOk, IsTrue};
 ghost use Rattle.std.specs.Str.{IsUtf8};
 ghost use Rattle.json.specs.Print.{ArePrintableOrBad, print_from};
+ghost use Rattle.json.specs.Token.{string as string_token};
 ghost use Rattle.json.specs.Tree.{members_tokens};
 ghost use Rattle.serde_json.specs.Written.{members_outline};
+ghost use Rattle.trees.specs.Places.{IsAbove};
 ghost use Rattle.trees.specs.Proper.{AreProperMembers, IsProper};
 ghost use Rattle.trees.specs.Tree.{members_of};
-ghost use Rattle.objects.specs.Cuts.{IsCutAt, IsStatusAlone, WritesHead, WritesMiddle, comma_before};
+ghost use Rattle.objects.specs.Cuts.{IsCutAt, IsSpecAlone, IsSpecAt, IsStatusAlone, WritesBetween, WritesHead, comma_before};
+ghost use Rattle.objects.specs.Merged.{StopsAt, after_version};
 ghost use Rattle.objects.specs.Object.{KeepsRules, has_held};
 ghost use Rattle.objects.specs.PrintedText.{IsTextOf};
 
@@ -15,6 +18,7 @@ use crate::object::Object;
 use crate::print::{print_into, write_after_version, write_front, write_to_version};
 use json::Writer;
 use std::alloc::AllocError;
+use std::cmp::Ordering;
 use trees::{Text, Tree, write_entries};
 
 /// A text, with the places where it can be cut, if it can.
@@ -29,6 +33,8 @@ pub(crate) struct CutText {
 pub(crate) struct Cut {
     pub(crate) version: usize,
     pub(crate) status: usize,
+    /// How many bytes of the spec end at the status, with the comma before it; none where other members stand there.
+    pub(crate) spec: Option<usize>,
 }
 
 // The entries of the metadata that are not written yet, and those of the body after it.
@@ -64,25 +70,53 @@ fn write_head<'a>(object: &'a Object, out: &mut Writer) -> Result<Head<'a>, Allo
     Ok(Head { versioned, after })
 }
 
-// Writes the resource version and all up to the status, and answers the entries that are left.
-fn write_middle<'a>(
+// Writes the resource version and the end of the metadata.
+fn write_version(
     object: &Object,
     versioned: &[(Text, Tree)],
-    after: &'a [(Text, Tree)],
     out: &mut Writer,
-) -> Result<&'a [(Text, Tree)], AllocError>
+) -> Result<(), AllocError>
     requires { has_held (members_of versioned.now) ≡ false }
-    ensures written { IfOk result (λ tail. WritesMiddle object.now versioned.now after.now tail.now out.old.tokens out.new.tokens) }
+    ensures tokens { OnOk result (out.new.tokens ≡ out.old.tokens ++ string_token (decimal object.now.meta.revision) ∷ after_version object.now versioned.now) }
     ensures before { out.new.before ≡ out.old.before }
     ensures versioned { OnOk result (AreProperMembers (members_of versioned.now)) }
-    ensures after { IfOk result (λ tail. AreProperMembers (members_of tail.now) → AreProperMembers (members_of after.now)) }
 {
     let meta = &object.meta;
     let mut buffer = itoa::Buffer::new();
     out.string(buffer.format(meta.revision))?;
-    write_after_version(object, versioned, out)?;
-    let tail = write_front(after, "status", out)?;
-    Ok(tail)
+    write_after_version(object, versioned, out)
+}
+
+// A text up to its status, and the entries that are left.
+#[derive(Drop)]
+struct Between<'a> {
+    bytes: Vec<u8>,
+    tail: &'a [(Text, Tree)],
+}
+
+// Writes the comma that comes before the entries below the status, if there are any.
+fn begin_between(after: &[(Text, Tree)], mut bytes: Vec<u8>) -> Result<Vec<u8>, AllocError>
+    ensures { (count : ℕ) → IsAbove (codes "status") count after.now → StopsAt (codes "status") (drop count after.now)
+        → IfOk result (λ v. v.items ≡ bytes.items ++ comma_before (take count after.now)) }
+{
+    if let Some((entry, _)) = after.split_first() {
+        match "status".cmp(entry.0.as_str()) {
+            Ordering::Greater => bytes.push(b',')?,
+            Ordering::Less | Ordering::Equal => {}
+        }
+    }
+    Ok(bytes)
+}
+
+// Writes the entries behind the metadata up to the status.
+fn write_between<'a>(after: &'a [(Text, Tree)], bytes: Vec<u8>) -> Result<Between<'a>, AllocError>
+    ensures { IfOk result (λ between. WritesBetween after.now between.tail.now bytes.items between.bytes.items) }
+{
+    let begun = begin_between(after, bytes)?;
+    let mut writer = Writer::new(begun);
+    let tail = write_front(after, "status", &mut writer)?;
+    let bytes = writer.into_inner();
+    Ok(Between { bytes, tail })
 }
 
 // Writes the comma that comes before entries.
@@ -109,11 +143,20 @@ fn write_tail(tail: &[(Text, Tree)], bytes: Vec<u8>) -> Result<Vec<u8>, AllocErr
 }
 
 // The places, where the text ends with no entry but the status.
-fn cut_before(tail: &[(Text, Tree)], version: usize, status: usize) -> Option<Cut>
-    ensures { IfSome result (λ cut. (cut.version ≡ version) × (cut.status ≡ status) × IsStatusAlone tail.now) }
+fn cut_before(
+    tail: &[(Text, Tree)],
+    version: usize,
+    status: usize,
+    spec: Option<usize>,
+) -> Option<Cut>
+    ensures { IfSome result (λ cut. (cut.version ≡ version) × (cut.status ≡ status) × (cut.spec ≡ spec) × IsStatusAlone tail.now) }
 {
     if is_status_alone(tail) {
-        Some(Cut { version, status })
+        Some(Cut {
+            version,
+            status,
+            spec,
+        })
     } else {
         None
     }
@@ -129,6 +172,34 @@ fn is_status_alone(tail: &[(Text, Tree)]) -> bool
     }
 }
 
+// How many bytes the spec takes, where nothing else stands between the metadata and the last entries.
+fn spec_between(
+    after: &[(Text, Tree)],
+    tail: &[(Text, Tree)],
+    begin: usize,
+    end: usize,
+) -> Option<usize>
+    requires order { begin ≤ end }
+    requires part { length tail.now ≤ length after.now }
+    ensures { IfSome result (λ size. (size ≡ end - begin) × IsSpecAlone (take (length after.now - length tail.now) after.now)) }
+{
+    if is_spec_alone(&after[..after.len() - tail.len()]) {
+        Some(end - begin)
+    } else {
+        None
+    }
+}
+
+// Whether there is no entry but the spec.
+fn is_spec_alone(entries: &[(Text, Tree)]) -> bool
+    ensures { IsTrue result → IsSpecAlone entries.now }
+{
+    match entries.split_first() {
+        None => true,
+        Some((entry, rest)) => rest.is_empty() && entry.0.as_str() == "spec",
+    }
+}
+
 // The bytes of the text of an object that has a resource version, in an empty vector.
 fn print_parts(object: &Object, out: Vec<u8>) -> Result<CutText, AllocError>
     requires empty { out.items ≡ [] }
@@ -136,6 +207,7 @@ fn print_parts(object: &Object, out: Vec<u8>) -> Result<CutText, AllocError>
     ensures text { IfOk result (λ text. IsTextOf object.now text.bytes.items) }
     ensures utf8 { IfOk result (λ text. IsUtf8 text.bytes.items) }
     ensures cut { IfOk result (λ text. IfSome text.cut (λ cut. IsCutAt object.now cut.version cut.status)) }
+    ensures spec { IfOk result (λ text. IfSome text.cut (λ cut. IfSome cut.spec (IsSpecAt object.now cut.version cut.status))) }
 {
     let mut front = Writer::new(out);
     let head = write_head(object, &mut front)?;
@@ -143,11 +215,15 @@ fn print_parts(object: &Object, out: Vec<u8>) -> Result<CutText, AllocError>
     let bytes = front.into_inner();
     let version = bytes.len();
     let mut middle = Writer::new(bytes);
-    let tail = write_middle(object, head.versioned, head.after, &mut middle)?;
+    write_version(object, head.versioned, &mut middle)?;
     let bytes = middle.into_inner();
-    let status = bytes.len();
-    let bytes = write_tail(tail, bytes)?;
-    let cut = cut_before(tail, version, status);
+    let begin = bytes.len();
+    let between = write_between(head.after, bytes)?;
+    let tail = between.tail;
+    let status = between.bytes.len();
+    let bytes = write_tail(tail, between.bytes)?;
+    let spec = spec_between(head.after, tail, begin, status);
+    let cut = cut_before(tail, version, status, spec);
     Ok(CutText { bytes, cut })
 }
 
@@ -157,6 +233,7 @@ pub(crate) fn print_cut(object: &Object, out: Vec<u8>) -> Result<CutText, AllocE
     ensures text { IfOk result (λ text. IsTextOf object.now text.bytes.items) }
     ensures utf8 { IfOk result (λ text. IsUtf8 text.bytes.items) }
     ensures cut { IfOk result (λ text. IfSome text.cut (λ cut. IsCutAt object.now cut.version cut.status)) }
+    ensures spec { IfOk result (λ text. IfSome text.cut (λ cut. IfSome cut.spec (IsSpecAt object.now cut.version cut.status))) }
 {
     let meta = &object.meta;
     if meta.revision == 0 {

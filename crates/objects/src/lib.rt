@@ -16,6 +16,7 @@ mod pod_names;
 mod print;
 mod printed;
 mod read;
+mod replace;
 mod rewrite;
 mod shape;
 mod shard;
@@ -36,6 +37,7 @@ pub use pod_names::{
 pub use print::{print_object, write_object};
 pub use printed::{Printed, Printer};
 pub use read::{read_collection, read_draft, read_key, read_object};
+pub use replace::Replacement;
 pub use rewrite::same_found;
 pub use shape::{are_owners, are_texts};
 pub use shard::shard_of;

@@ -1,8 +1,8 @@
-ghost use Rattle.std.specs.Prelude.{◌≡◌, ◌≢◌, [], IfOk, IfSome};
+ghost use Rattle.std.specs.Prelude.{◌≡◌, ◌≢◌, [], None, Some, IfOk, IfSome};
 ghost use Rattle.std.specs.Option.{IsSomeAnd};
 ghost use Rattle.std.specs.Str.{IsUtf8};
 ghost use Rattle.objects.specs.declared.object.Object.{Object as SpecObject};
-ghost use Rattle.objects.specs.Cuts.{IsCutAt, IsSheet};
+ghost use Rattle.objects.specs.Cuts.{IsCutAt, IsSheet, IsSpecAt};
 ghost use Rattle.objects.specs.PrintedText.{IsTextOf};
 ghost use Rattle.objects.specs.Text.{text};
 
@@ -32,6 +32,10 @@ pub(crate) struct Sheet {
     /// Where the text can be cut, in bytes: before the resource version and before the status. The first is 0 where it can't.
     pub(crate) version: u32,
     pub(crate) status: u32,
+    /// How many bytes of the spec end at the status, and the object's generation: 0 where other members stand there too,
+    /// where the object has a time of deletion, or where it is not known.
+    pub(crate) spec: u32,
+    pub(crate) generation: u32,
 }
 
 impl Model for Printed {
@@ -168,12 +172,14 @@ fn printed_as(
     requires text { IsTextOf object.now bytes.now }
     requires utf8 { IsUtf8 bytes.now }
     requires cut { IfSome cut (λ cut. IsCutAt object.now cut.version cut.status) }
+    requires spec { IfSome cut (λ cut. IfSome cut.spec (IsSpecAt object.now cut.version cut.status)) }
     ensures { IfOk result (λ printed. printed ≡ object.now) }
 {
     match from_utf8(bytes) {
         Ok(text) => {
             let (uid, revision) = numbers_of(object);
             let (version, status) = short_places(cut);
+            let (spec, generation) = short_spec(object, cut);
             let text = String::from_str(alloc, text)?;
             Printed::of_sheet(
                 alloc,
@@ -183,6 +189,8 @@ fn printed_as(
                     revision,
                     version,
                     status,
+                    spec,
+                    generation,
                 },
             )
         }
@@ -211,4 +219,28 @@ pub(crate) fn short_places(cut: Option<Cut>) -> (u32, u32)
         return (0, 0);
     };
     (version, status)
+}
+
+// How many bytes the spec takes, and the generation, or 0 and 0 where they are not known, do not fit, or the object has a
+// time of deletion.
+fn short_spec(object: &Object, cut: Option<Cut>) -> (u32, u32)
+    ensures { result.1 ≢ 0 → IsSomeAnd cut (λ cut. cut.spec ≡ Some result.0) × (result.1 ≡ object.now.meta.generation) × (object.now.meta.deletion ≡ None) }
+{
+    let meta = &object.meta;
+    if meta.deletion.is_some() {
+        return (0, 0);
+    }
+    let Some(cut) = cut else {
+        return (0, 0);
+    };
+    let Some(size) = cut.spec else {
+        return (0, 0);
+    };
+    let Ok(spec) = u32::try_from(size) else {
+        return (0, 0);
+    };
+    match u32::try_from(meta.generation) {
+        Ok(generation) => (spec, generation),
+        Err(_) => (0, 0),
+    }
 }

@@ -112,7 +112,7 @@ impl Printed {
     }
 }
 
-fn alloc_of(sheet: &Sheet) -> Global {
+pub(crate) fn alloc_of(sheet: &Sheet) -> Global {
     *sheet.text.allocator()
 }
 

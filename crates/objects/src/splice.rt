@@ -27,39 +27,42 @@ pub(crate) fn spliced(
     let cut = Cut {
         version: sheet.version as usize,
         status: sheet.status as usize,
+        spec: None,
     };
     let text = sheet.text.as_str().as_bytes();
     let (bytes, status) = splice(text, cut, sheet.revision, revision, end, printer.lent())?;
     let places = short_places(Some(Cut {
         version: cut.version,
         status,
+        spec: None,
     }));
-    let new = sheet_of(*sheet.text.allocator(), &bytes, sheet.uid, revision, places);
+    let new = sheet_of(sheet, &bytes, revision, places);
     printer.keep(bytes);
     new
 }
 
-// The sheet of these bytes, if they are a text.
+// The sheet of these bytes, if they are a text, which has the UID, the spec and the generation of the old one.
 fn sheet_of(
-    alloc: Global,
+    old: &Sheet,
     bytes: &[u8],
-    uid: u64,
     revision: u64,
     places: (u32, u32),
 ) -> Result<Option<Sheet>, Memory>
-    ensures { IfOk result (λ found. IfSome found (λ sheet. (string_bytes sheet.text ≡ bytes.now) × (sheet.uid ≡ uid) × (sheet.revision ≡ revision)
-        × (sheet.version ≡ places.0) × (sheet.status ≡ places.1))) }
+    ensures { IfOk result (λ found. IfSome found (λ sheet. (string_bytes sheet.text ≡ bytes.now) × (sheet.uid ≡ old.now.uid) × (sheet.revision ≡ revision)
+        × (sheet.version ≡ places.0) × (sheet.status ≡ places.1) × (sheet.spec ≡ old.now.spec) × (sheet.generation ≡ old.now.generation))) }
 {
     let Ok(text) = from_utf8(bytes) else {
         return Ok(None);
     };
     let (version, status) = places;
     Ok(Some(Sheet {
-        text: String::from_str(alloc, text)?,
-        uid,
+        text: String::from_str(*old.text.allocator(), text)?,
+        uid: old.uid,
         revision,
         version,
         status,
+        spec: old.spec,
+        generation: old.generation,
     }))
 }
 

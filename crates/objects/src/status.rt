@@ -16,6 +16,16 @@ impl Object {
         self.body.as_map()?.get(name)
     }
 
+    /// A copy of the object's status, which shares what it holds.
+    pub fn status(&self) -> Result<Option<Tree>, AllocError>
+        ensures { IfOk result (λ status. option_map data_of status ≡ member_of (codes "status") self.now.body) }
+    {
+        match self.member("status") {
+            Some(status) => Ok(Some(status.clone()?)),
+            None => Ok(None),
+        }
+    }
+
     /// The object with that status, or without one. `status` is written by a request of its own, which leaves all
     /// else as it was (Kubernetes API conventions, "Spec and Status"). The members of the object are copied only if
     /// another object shares them, and what their values hold never.

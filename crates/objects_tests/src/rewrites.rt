@@ -1,7 +1,7 @@
-//! Texts of objects at another resource version, and with another status.
+//! Texts of objects at another resource version, with another status, and with another object in their place.
 use crate::asserts::{assert_so, is_printed, read, read_some};
 use crate::printed::printed;
-use objects::{Printed, Printer, ReadError, TreeReader};
+use objects::{Object, Printed, Printer, ReadError, Replacement, TreeReader};
 use std::alloc::Global;
 
 /// An object, what a write gives it, and what is printed of it then.
@@ -223,4 +223,236 @@ fn a_version_is_put_in(rt: HostRuntime) {
             before,
         );
     }
+}
+
+/// An object, an update of it, and what the update makes of it.
+struct Update {
+    current: &'static str,
+    by: &'static str,
+    after: &'static str,
+    revision: u64,
+    is_same: bool,
+}
+
+static UPDATES: [Update; 15] = [
+    // another label: the generation and the status stay
+    Update {
+        current: r#"{"kind":"StatefulSet","metadata":{"generation":3,"labels":{"a":"b"},"name":"web","resourceVersion":"41","uid":"00000000-0000-4000-8000-000000000007"},"spec":{"replicas":2},"status":{"replicas":1}}"#,
+        by: r#"{"kind":"StatefulSet","metadata":{"labels":{"a":"c"},"name":"web"},"spec":{"replicas":2}}"#,
+        after: r#"{"kind":"StatefulSet","metadata":{"generation":3,"labels":{"a":"c"},"name":"web","namespace":"default","resourceVersion":"41","uid":"00000000-0000-4000-8000-000000000007"},"spec":{"replicas":2},"status":{"replicas":1}}"#,
+        revision: 41,
+        is_same: false,
+    },
+    // another spec: the generation rises, here by a digit
+    Update {
+        current: r#"{"kind":"StatefulSet","metadata":{"generation":9,"name":"web","resourceVersion":"41","uid":"00000000-0000-4000-8000-000000000007"},"spec":{"replicas":2},"status":{"replicas":1}}"#,
+        by: r#"{"kind":"StatefulSet","metadata":{"name":"web","resourceVersion":"1","uid":"00000000-0000-4000-8000-000000000001"},"spec":{"replicas":30}}"#,
+        after: r#"{"kind":"StatefulSet","metadata":{"generation":10,"name":"web","namespace":"default","resourceVersion":"41","uid":"00000000-0000-4000-8000-000000000007"},"spec":{"replicas":30},"status":{"replicas":1}}"#,
+        revision: 41,
+        is_same: false,
+    },
+    // the same body, with other members of the store, and another order
+    Update {
+        current: r#"{"kind":"StatefulSet","metadata":{"generation":3,"labels":{"a":"b"},"name":"web","resourceVersion":"41","uid":"00000000-0000-4000-8000-000000000007"},"spec":{"replicas":2},"status":{"replicas":1}}"#,
+        by: r#"{"spec":{"replicas":2},"metadata":{"generation":77,"name":"web","labels":{"a":"b"}},"kind":"StatefulSet"}"#,
+        after: r#"{"kind":"StatefulSet","metadata":{"generation":3,"labels":{"a":"b"},"name":"web","namespace":"default","resourceVersion":"41","uid":"00000000-0000-4000-8000-000000000007"},"spec":{"replicas":2},"status":{"replicas":1}}"#,
+        revision: 41,
+        is_same: true,
+    },
+    // a status of its own is dropped, also where there is none
+    Update {
+        current: r#"{"kind":"Pod","metadata":{"generation":1,"name":"b","resourceVersion":"5"},"spec":[1],"status":{"phase":"Running"}}"#,
+        by: r#"{"kind":"Pod","metadata":{"labels":{"a":"b"},"name":"b"},"spec":[1],"status":{"phase":"Failed"}}"#,
+        after: r#"{"kind":"Pod","metadata":{"generation":1,"labels":{"a":"b"},"name":"b","namespace":"default","resourceVersion":"5"},"spec":[1],"status":{"phase":"Running"}}"#,
+        revision: 5,
+        is_same: false,
+    },
+    Update {
+        current: r#"{"kind":"Pod","metadata":{"generation":1,"name":"b","resourceVersion":"5"},"spec":[1]}"#,
+        by: r#"{"kind":"Pod","metadata":{"name":"b"},"spec":[1],"status":{"phase":"Failed"}}"#,
+        after: r#"{"kind":"Pod","metadata":{"generation":1,"name":"b","namespace":"default","resourceVersion":"5"},"spec":[1]}"#,
+        revision: 5,
+        is_same: true,
+    },
+    // a spec that goes, and one that comes
+    Update {
+        current: r#"{"kind":"Pod","metadata":{"generation":1,"name":"b","resourceVersion":"5"},"spec":[1],"status":1}"#,
+        by: r#"{"kind":"Pod","metadata":{"name":"b"}}"#,
+        after: r#"{"kind":"Pod","metadata":{"generation":2,"name":"b","namespace":"default","resourceVersion":"5"},"status":1}"#,
+        revision: 5,
+        is_same: false,
+    },
+    Update {
+        current: r#"{"kind":"Pod","metadata":{"generation":1,"name":"b","resourceVersion":"5"},"status":1}"#,
+        by: r#"{"kind":"Pod","metadata":{"name":"b"},"spec":null}"#,
+        after: r#"{"kind":"Pod","metadata":{"generation":2,"name":"b","namespace":"default","resourceVersion":"5"},"spec":null,"status":1}"#,
+        revision: 5,
+        is_same: false,
+    },
+    // texts that look like the members
+    Update {
+        current: r#"{"kind":"Pod","metadata":{"generation":4,"name":"b","resourceVersion":"5","zone":{"spec":1}},"spec":{"a":",\"status\":1"},"status":{"spec":2}}"#,
+        by: r#"{"kind":"Pod","metadata":{"name":"b","zone":{"spec":2}},"spec":{"a":",\"status\":1"}}"#,
+        after: r#"{"kind":"Pod","metadata":{"generation":4,"name":"b","namespace":"default","resourceVersion":"5","zone":{"spec":2}},"spec":{"a":",\"status\":1"},"status":{"spec":2}}"#,
+        revision: 5,
+        is_same: false,
+    },
+    // a time of deletion stays
+    Update {
+        current: r#"{"kind":"Pod","metadata":{"deletionTimestamp":"2024-01-01T00:00:00Z","generation":2,"name":"b","resourceVersion":"8"},"spec":1,"status":2}"#,
+        by: r#"{"kind":"Pod","metadata":{"name":"b"},"spec":3}"#,
+        after: r#"{"kind":"Pod","metadata":{"deletionTimestamp":"2024-01-01T00:00:00Z","generation":3,"name":"b","namespace":"default","resourceVersion":"8"},"spec":3,"status":2}"#,
+        revision: 8,
+        is_same: false,
+    },
+    // another member behind the metadata, in the object, and in the update
+    Update {
+        current: r#"{"kind":"Pod","metadata":{"generation":2,"name":"b","resourceVersion":"8"},"owner":"x","spec":1,"status":2}"#,
+        by: r#"{"kind":"Pod","metadata":{"name":"b"},"spec":1}"#,
+        after: r#"{"kind":"Pod","metadata":{"generation":2,"name":"b","namespace":"default","resourceVersion":"8"},"spec":1,"status":2}"#,
+        revision: 8,
+        is_same: false,
+    },
+    Update {
+        current: r#"{"kind":"Pod","metadata":{"generation":2,"name":"b","resourceVersion":"8"},"spec":1,"status":2}"#,
+        by: r#"{"kind":"Pod","metadata":{"name":"b"},"owner":"x","spec":4,"zone":5}"#,
+        after: r#"{"kind":"Pod","metadata":{"generation":3,"name":"b","namespace":"default","resourceVersion":"8"},"owner":"x","spec":4,"status":2,"zone":5}"#,
+        revision: 8,
+        is_same: false,
+    },
+    // no resource version, and no generation
+    Update {
+        current: r#"{"kind":"Pod","metadata":{"generation":2,"name":"b"},"spec":1,"status":2}"#,
+        by: r#"{"kind":"Pod","metadata":{"name":"b","resourceVersion":"8"},"spec":3}"#,
+        after: r#"{"kind":"Pod","metadata":{"generation":3,"name":"b","namespace":"default"},"spec":3,"status":2}"#,
+        revision: 0,
+        is_same: false,
+    },
+    Update {
+        current: r#"{"kind":"Pod","metadata":{"name":"b","resourceVersion":"8"},"spec":1,"status":2}"#,
+        by: r#"{"kind":"Pod","metadata":{"name":"b"},"spec":3}"#,
+        after: r#"{"kind":"Pod","metadata":{"generation":1,"name":"b","namespace":"default","resourceVersion":"8"},"spec":3,"status":2}"#,
+        revision: 8,
+        is_same: false,
+    },
+    // a generation past 32 bits, and one at its limit
+    Update {
+        current: r#"{"kind":"Pod","metadata":{"generation":4294967295,"name":"b","resourceVersion":"8"},"spec":1,"status":2}"#,
+        by: r#"{"kind":"Pod","metadata":{"name":"b"},"spec":3}"#,
+        after: r#"{"kind":"Pod","metadata":{"generation":4294967296,"name":"b","namespace":"default","resourceVersion":"8"},"spec":3,"status":2}"#,
+        revision: 8,
+        is_same: false,
+    },
+    Update {
+        current: r#"{"kind":"Pod","metadata":{"generation":9223372036854775807,"name":"b","resourceVersion":"8"},"spec":1,"status":2}"#,
+        by: r#"{"kind":"Pod","metadata":{"name":"b"},"spec":3}"#,
+        after: r#"{"kind":"Pod","metadata":{"generation":9223372036854775807,"name":"b","namespace":"default","resourceVersion":"8"},"spec":3,"status":2}"#,
+        revision: 8,
+        is_same: false,
+    },
+];
+
+/// What the row's update makes of the object.
+fn updated(
+    alloc: Global,
+    tools: &mut Tools,
+    current: &Printed,
+    row: &Update,
+) -> Result<Replacement, ReadError> {
+    let by = read(alloc, row.by)?;
+    Ok(current.replaced(&mut tools.reader, &mut tools.printer, by)?)
+}
+
+fn is_updated(alloc: Global, tools: &mut Tools, row: &Update) -> Result<bool, ReadError> {
+    let current = text_of(alloc, tools, row.current)?;
+    let made = updated(alloc, tools, &current, row)?;
+    Ok(is_text(alloc, tools, &made.text, row.after, row.revision)? && made.is_same == row.is_same)
+}
+
+#[test]
+fn an_object_is_put_in_the_place_of_another(rt: HostRuntime) {
+    let mut tools = new_tools(rt.alloc());
+    for row in UPDATES.iter() {
+        assert_so(&rt, is_updated(rt.alloc(), &mut tools, row), row.by);
+    }
+}
+
+fn stays_when_updated_again(
+    alloc: Global,
+    tools: &mut Tools,
+    row: &Update,
+) -> Result<bool, ReadError> {
+    let current = text_of(alloc, tools, row.current)?;
+    let once = updated(alloc, tools, &current, row)?;
+    let again = updated(alloc, tools, &once.text, row)?;
+    Ok(is_text(alloc, tools, &again.text, row.after, row.revision)? && again.is_same)
+}
+
+#[test]
+fn the_same_update_changes_nothing(rt: HostRuntime) {
+    let mut tools = new_tools(rt.alloc());
+    for row in UPDATES.iter() {
+        assert_so(
+            &rt,
+            stays_when_updated_again(rt.alloc(), &mut tools, row),
+            row.by,
+        );
+    }
+}
+
+/// What the update makes of a whole object, whose kind has a status or none.
+fn replacing(
+    alloc: Global,
+    current: &str,
+    by: &str,
+    has_status: bool,
+) -> Result<Object, ReadError> {
+    let by = read(alloc, by)?;
+    let Ok(current) = read(alloc, current) else {
+        drop(by);
+        return Err(ReadError::NotJson);
+    };
+    let made = if has_status {
+        by.replacing(&current)
+    } else {
+        by.replacing_all(&current)
+    };
+    drop(current);
+    Ok(made?)
+}
+
+fn makes(
+    alloc: Global,
+    current: &str,
+    by: &str,
+    has_status: bool,
+    after: &str,
+) -> Result<bool, ReadError> {
+    let made = replacing(alloc, current, by, has_status)?;
+    let is_so = is_printed(alloc, &made, after);
+    drop(made);
+    is_so
+}
+
+#[test]
+fn a_whole_object_is_put_in_the_place_of_another(rt: HostRuntime) {
+    for row in UPDATES.iter() {
+        assert_so(
+            &rt,
+            makes(rt.alloc(), row.current, row.by, true, row.after),
+            row.by,
+        );
+    }
+}
+
+/// A revision of a set has no status: a member of that name is as any other.
+#[test]
+fn an_object_of_a_kind_with_no_status_is_replaced_whole(rt: HostRuntime) {
+    let current =
+        r#"{"kind":"ControllerRevision","metadata":{"generation":2,"name":"b","resourceVersion":"8","uid":"00000000-0000-4000-8000-000000000009"},"revision":1,"spec":1,"status":2}"#;
+    let by =
+        r#"{"kind":"ControllerRevision","metadata":{"name":"b"},"revision":3,"spec":4,"status":5}"#;
+    let after =
+        r#"{"kind":"ControllerRevision","metadata":{"generation":3,"name":"b","namespace":"default","resourceVersion":"8","uid":"00000000-0000-4000-8000-000000000009"},"revision":3,"spec":4,"status":5}"#;
+    assert_so(&rt, makes(rt.alloc(), current, by, false, after), by);
 }

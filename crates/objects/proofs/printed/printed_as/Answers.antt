@@ -2,13 +2,19 @@ use Rattle.std.proofs.Common.{◌≡◌, ℕ, Option, None, Some, IfSome, sym, a
 use Rattle.std.specs.Option.{IsSomeAnd}
 use Rattle.objects.specs.declared.cut.Cut.{Cut}
 use Rattle.objects.specs.declared.object.Object.{Object}
-use Rattle.objects.specs.Cuts.{IsCutAt}
+use Rattle.objects.specs.Cuts.{IsCutAt, IsSpecAt}
 use Rattle.objects.specs.PrintedText.{IsTextOf}
 use Rattle.objects.proofs.printed.printed_as.Goals as goal
 
 cut_there : (o : Object) (found : Option Cut) (places : ℕ × ℕ) → IfSome found (λ cut. IsCutAt o cut.version cut.status) → IsSomeAnd found (λ cut. (places.0 ≡ cut.version) × (places.1 ≡ cut.status)) → IsCutAt o places.0 places.1
 cut_there o None places h is = absurd is
 cut_there o (Some cut) places h is = subst (λ v. IsCutAt o v places.1) (sym is.0) (subst (λ s. IsCutAt o cut.version s) (sym is.1) h)
+
+spec_there : (o : Object) (found : Option Cut) (places : ℕ × ℕ) (size : ℕ) → IfSome found (λ cut. IfSome cut.spec (IsSpecAt o cut.version cut.status)) → IsSomeAnd found (λ cut. (places.0 ≡ cut.version) × (places.1 ≡ cut.status))
+    → IsSomeAnd found (λ cut. cut.spec ≡ Some size) → IsSpecAt o places.0 places.1 size
+spec_there o None places size h is found = absurd is
+spec_there o (Some cut) places size h is found =
+    subst (λ v. IsSpecAt o v places.1 size) (sym is.0) (subst (λ s. IsSpecAt o cut.version s size) (sym is.1) (subst (λ f. IfSome f (IsSpecAt o cut.version cut.status)) found h))
 
 pub of_sheet-requires : goal.of_sheet-requires
 of_sheet-requires c = (
@@ -18,6 +24,11 @@ of_sheet-requires c = (
     uid = ap (λ (p : ℕ × ℕ). p.0) c.numbers_of-uid.ensures;
     revision = ap (λ (p : ℕ × ℕ). p.1) c.numbers_of-uid.ensures;
     cut = λ some. cut_there c.args.object.now c.args.cut _ c.requires.cut (c.short_places-version.ensures some);
+    known = λ some told. let known = c.short_spec-spec.ensures told in record {
+      spec = spec_there c.args.object.now c.args.cut _ _ c.requires.spec (c.short_places-version.ensures some) known.0;
+      generation = known.1;
+      unmarked = known.2;
+    };
   },
 )
 
@@ -27,6 +38,11 @@ returns c = c.of_sheet.ensures c.args.object.now (record {
   uid = ap (λ (p : ℕ × ℕ). p.0) c.numbers_of-uid.ensures;
   revision = ap (λ (p : ℕ × ℕ). p.1) c.numbers_of-uid.ensures;
   cut = λ some. cut_there c.args.object.now c.args.cut _ c.requires.cut (c.short_places-version.ensures some);
+  known = λ some told. let known = c.short_spec-spec.ensures told in record {
+    spec = spec_there c.args.object.now c.args.cut _ _ c.requires.spec (c.short_places-version.ensures some) known.0;
+    generation = known.1;
+    unmarked = known.2;
+  };
 })
 
 pub unreachable-requires : goal.unreachable-requires

@@ -1,0 +1,147 @@
+-- What an update makes of an object, told from texts.
+use Rattle.std.proofs.Common.{◌≡◌, ◌≢◌, ℕ, ◌+◌, ◌-◌, ◌≤◌, ◌<◌, ◌^◌, List, ◌++◌, length, take, drop, Bool, true, false, bytes_eq, codes, Option, Some, None, IfSome, string_bytes, refl, sym, ap, ◌∙◌, subst, append_assoc, length-append, arith}
+use Rattle.std.proofs.Math.Seq.{take-append_seam, drop-append_seam}
+use Rattle.std.proofs.lemmas.Slice.Eq.{bytes_eq-Decides}
+use Rattle.json.specs.Print.{ArePrintableOrBad}
+use Rattle.serde_json.specs.Data.{Data}
+use Rattle.serde_json.specs.Written.{compact_text}
+use Rattle.trees.specs.Members.{set_member}
+use Rattle.trees.specs.Proper.{IsProper, AreProperMembers}
+use Rattle.trees.specs.Same.{same_data}
+use Rattle.trees.specs.Reading.{read_within}
+use Rattle.trees.specs.Tree.{AreAscending}
+use Rattle.trees.proofs.ProperText.{read_back_within}
+use Rattle.trees.proofs.Sameness.{same-itself, same-equal}
+use Rattle.trees.proofs.TextDepth.{text_depth}
+use Rattle.trees.proofs.WholeTokens.{no_float_printable}
+use Rattle.objects.specs.declared.object.Object.{Object}
+use Rattle.objects.specs.declared.printed.Sheet.{Sheet}
+use Rattle.objects.specs.Cuts.{IsOpen, IsProperStatus, IsSheet, IsSpecAt, IsSpliced, spec_text, spec_tokens, version_text}
+use Rattle.objects.specs.Key.{KeyParts as Key}
+use Rattle.objects.specs.Rewrites.{at_version, generation_after, meta_after, replaced, with_status}
+use Rattle.objects.specs.Status.{member_of, same_found}
+use Rattle.objects.specs.Text.{text}
+use Rattle.objects.proofs.BodyMembers.{member_of-with_other}
+use Rattle.objects.proofs.CutTexts.{printable_text}
+use Rattle.objects.proofs.SplicedTexts.{apart_by, found_equal, parts_at, proper_member, sheet_parts, spliced_sheet, status_of_cut, status_proper}
+
+-- ---- the bytes of the spec
+
+-- a list that stands between others
+pub between : (t lead part rest : List ℕ) (begin end : ℕ) → t ≡ lead ++ (part ++ rest) → begin ≡ length lead → end ≡ length lead + length part → take (end - begin) (drop begin t) ≡ part
+between t lead part rest begin end is here there =
+    let left : end - begin ≡ length part = omega (arith, here, there) in
+    rw (left, here, is) (ap (take (length part)) (drop-append_seam lead (part ++ rest)) ∙ take-append_seam part rest)
+
+-- where the spec stands in the text of a sheet
+pub record IsSpecIn (o : Object) (s : Sheet) : Type 0 where
+  pub lead : List ℕ
+  pub rest : List ℕ
+  pub text : string_bytes s.text ≡ lead ++ (spec_text (member_of (codes "spec") o.body) ++ rest)
+  pub size : s.spec ≡ length (spec_text (member_of (codes "spec") o.body))
+  pub status : s.status ≡ length lead + length (spec_text (member_of (codes "spec") o.body))
+
+pub spec_in : (o : Object) (s : Sheet) → IsSheet o s → IsOpen o s → IsSpecIn o s
+spec_in o s sheet known =
+    let spec = known.spec in
+    let parts = parts_at o s sheet spec.at in
+    let bytes = spec_text (member_of (codes "spec") o.body) in
+    let version = version_text s.revision in
+    let lead = parts.front ++ (version ++ spec.before) in
+    record {
+      lead = lead;
+      rest = parts.rest;
+      text = parts.text ∙ ap (λ m. parts.front ++ (version ++ (m ++ parts.rest))) spec.middle
+          ∙ ap (λ x. parts.front ++ (version ++ x)) (append_assoc spec.before bytes parts.rest)
+          ∙ ap (λ x. parts.front ++ x) (sym (append_assoc version spec.before (bytes ++ parts.rest)))
+          ∙ sym (append_assoc parts.front (version ++ spec.before) (bytes ++ parts.rest));
+      size = spec.size;
+      status = parts.status_at ∙ ap (λ m. length (parts.front ++ (version ++ m))) spec.middle
+          ∙ ap (λ x. length (parts.front ++ x)) (sym (append_assoc version spec.before bytes))
+          ∙ ap length (sym (append_assoc parts.front (version ++ spec.before) bytes))
+          ∙ length-append lead bytes;
+    }
+
+pub spec_taken : (o : Object) (s : Sheet) → IsSpecIn o s → take (s.status - (s.status - s.spec)) (drop (s.status - s.spec) (string_bytes s.text)) ≡ spec_text (member_of (codes "spec") o.body)
+spec_taken o s h =
+    let here : s.status - s.spec ≡ length h.lead = omega (arith, h.size, h.status) in
+    between (string_bytes s.text) h.lead (spec_text (member_of (codes "spec") o.body)) h.rest (s.status - s.spec) s.status h.text here h.status
+
+pub spec_fits : (o : Object) (s : Sheet) → IsSpecIn o s → (s.spec ≤ s.status) × (s.status ≤ length (string_bytes s.text))
+spec_fits o s h =
+    let bytes = spec_text (member_of (codes "spec") o.body) in
+    let whole : length (string_bytes s.text) ≡ length h.lead + (length bytes + length h.rest) =
+    ap length h.text ∙ length-append h.lead (bytes ++ h.rest) ∙ ap (λ n. length h.lead + n) (length-append bytes h.rest) in
+    (omega (arith, h.size, h.status), omega (arith, h.status, whole))
+
+-- ---- the text of a spec tells it
+
+read_again : (d : Data) (t : List ℕ) → IsProper d → ArePrintableOrBad (spec_tokens (Some d)) → t ≡ compact_text d → read_within (length t) t ≡ Some d
+read_again d t proper printable is =
+    subst (λ u. read_within (length u) u ≡ Some d) (sym is) (read_back_within (length (compact_text d)) d (compact_text d) proper (printable_text d printable.1) (text_depth d))
+
+spec_told : (a b : Option Data) → IsProperStatus a → IsProperStatus b → ArePrintableOrBad (spec_tokens a) → ArePrintableOrBad (spec_tokens b) → spec_text a ≡ spec_text b → a ≡ b
+spec_told None None p q g h same = refl
+spec_told None (Some e) p q g h same = absurd cc
+spec_told (Some d) None p q g h same = absurd cc
+spec_told (Some d) (Some e) p q g h same =
+    let texts : compact_text d ≡ compact_text e = ap (drop 8) same in
+    sym (read_again d (compact_text d) p g refl) ∙ read_again e (compact_text d) q h texts
+
+pub same_spec : (a : Option Data) → ArePrintableOrBad (spec_tokens a) → same_found a a ≡ true
+same_spec None h = refl
+same_spec (Some d) h = same-itself d (no_float_printable d h.1)
+
+pub spec_proper : (o : Object) (version status size : ℕ) → IsSpecAt o version status size → IsProperStatus (member_of (codes "spec") o.body)
+spec_proper o version status size spec =
+    let cut = spec.at.cut in
+    let now = set_member (codes "status") cut.status cut.others in
+    let proper : AreAscending now × AreProperMembers now = subst IsProper cut.body cut.proper in
+    proper_member (codes "spec") now (member_of (codes "spec") o.body) proper.1 (sym (ap (member_of (codes "spec")) cut.body))
+
+same_texts_by : (same : Bool) (a b : Option Data) → IsProperStatus a → IsProperStatus b → ArePrintableOrBad (spec_tokens a) → ArePrintableOrBad (spec_tokens b) → bytes_eq (spec_text a) (spec_text b) ≡ same → same ≡ same_found a b
+same_texts_by true a b p q g h is =
+    let equal : a ≡ b = spec_told a b p q g h ((bytes_eq-Decides (spec_text a) (spec_text b)).0 is) in
+    sym (subst (λ x. same_found a x ≡ true) equal (same_spec a g))
+same_texts_by false a b p q g h is =
+    sym (apart_by (same_found a b) (λ same. let both : true ≡ false = sym ((bytes_eq-Decides (spec_text a) (spec_text b)).1 (ap spec_text (found_equal a b same))) ∙ is in absurd cc))
+
+-- the texts of two specs are the same exactly where the specs are
+pub same_texts : (o p : Object) (s t : Sheet) → IsOpen o s → IsOpen p t
+    → bytes_eq (spec_text (member_of (codes "spec") o.body)) (spec_text (member_of (codes "spec") p.body)) ≡ same_found (member_of (codes "spec") o.body) (member_of (codes "spec") p.body)
+same_texts o p s t left right =
+    same_texts_by _ (member_of (codes "spec") o.body) (member_of (codes "spec") p.body) (spec_proper o s.version s.status s.spec left.spec) (spec_proper p t.version t.status t.spec right.spec) left.spec.printable right.spec.printable refl
+
+-- ---- the object in the place of the other
+
+-- the text with the status of the other is that of what the update makes
+pub replaced_sheet : (o u p : Object) (found : Option Object) (s t new : Sheet) (made : Option Sheet) (end : List ℕ) (sheet : IsSheet o s) → IfSome found (λ (q : Object). q ≡ record { key = u.key; meta = meta_after o u; body = u.body }) → found ≡ Some p
+    → IsSheet p t → (some : s.version ≢ 0) → end ≡ (sheet_parts o s sheet some).rest → IfSome made (IsSpliced t end s.revision) → made ≡ Some new → IsSheet (replaced o u) new
+replaced_sheet o u p found s t new made end sheet told found_is printed some ends spliced made_is =
+    let at = sheet.cut some in
+    let cut = at.cut in
+    let own : Object = record { key = u.key; meta = meta_after o u; body = u.body } in
+    let own_sheet : IsSheet own t = subst (λ q. IsSheet q t) (subst (λ f. IfSome f (λ q. q ≡ own)) found_is told) printed in
+    let small : s.revision < 2 ^ 64 = subst (λ n. n < 2 ^ 64) (sym sheet.revision) cut.rules.meta.revision in
+    let h : IsSpliced t end s.revision new = subst (λ f. IfSome f (IsSpliced t end s.revision)) made_is spliced in
+    subst (λ n. IsSheet (at_version (with_status (member_of (codes "status") o.body) own) n) new) sheet.revision
+    (subst (λ v. IsSheet (at_version (with_status v own) s.revision) new) (sym (status_of_cut o at.front at.middle cut))
+    (spliced_sheet own t cut.status end s.revision new own_sheet small cut.printable (status_proper o at.front at.middle cut) ends h))
+
+as_it_was : (o : Object) (k : Key) (g : ℕ) (b : Data) → o.key ≡ k → g ≡ o.meta.generation → o.body ≡ b
+    → record { key = k; meta = record { uid = o.meta.uid; revision = o.meta.revision; generation = g; deletion = o.meta.deletion }; body = b } ≡ o
+as_it_was o k g b key generation body = rw (generation, sym key, sym body) refl
+
+-- with the same key and body, it is as it was
+replaced_same : (o u : Object) (s : Sheet) → IsOpen o s → o.key ≡ u.key → o.body ≡ (replaced o u).body → replaced o u ≡ o
+replaced_same o u s known key body =
+    let status = member_of (codes "status") o.body in
+    let spec : member_of (codes "spec") o.body ≡ member_of (codes "spec") u.body = ap (member_of (codes "spec")) body ∙ member_of-with_other (codes "spec") (codes "status") status u.body (λ same. absurd cc) in
+    let told : same_found (member_of (codes "spec") o.body) (member_of (codes "spec") u.body) ≡ true = subst (λ x. same_found (member_of (codes "spec") o.body) x ≡ true) spec (same_spec (member_of (codes "spec") o.body) known.spec.printable) in
+    as_it_was o u.key _ _ key (ap (generation_after o.meta.generation) told) body
+
+-- another text is that of another key or another body
+pub replaced_apart : (o u : Object) (s new : Sheet) → IsSheet o s → IsOpen o s → IsSheet (replaced o u) new → (string_bytes new.text ≡ string_bytes s.text → ⊥) → o.key ≡ u.key → same_data o.body (replaced o u).body ≡ false
+replaced_apart o u s new sheet known made differ key = apart_by _ (λ same.
+    let whole : replaced o u ≡ o = replaced_same o u s known key (same-equal o.body (replaced o u).body same) in
+    differ (made.text.text ∙ ap text whole ∙ sym sheet.text.text))

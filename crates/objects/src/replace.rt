@@ -1,0 +1,242 @@
+// What an update makes of an object.
+ghost use Rattle.std.specs.Prelude.{◌≡◌, ◌<◌, ◌^◌, None, codes, option_map, false, IfOk, IfSome};
+ghost use Rattle.trees.specs.Tree.{data_of};
+ghost use Rattle.objects.specs.declared.object.Object.{Object as SpecObject};
+ghost use Rattle.objects.specs.Cuts.{IsOpen, IsSheet, spec_text};
+ghost use Rattle.objects.specs.Rewrites.{generation_after, meta_after, replaced};
+ghost use Rattle.objects.specs.Status.{member_of, same_found};
+ghost use Rattle.trees.specs.Same.{same_data};
+
+use crate::meta::Meta;
+use crate::object::Object;
+use crate::printed::{Printed, Printer, Sheet};
+use crate::rewrite::{alloc_of, same_found};
+use crate::splice::{spliced, status_end};
+use std::alloc::AllocError;
+use trees::{Memory, Tree, TreeReader};
+
+/// What an update makes of the object of a text.
+#[derive(Drop)]
+pub struct Replacement {
+    pub text: Printed,
+    /// Whether the body is as it was, where the key is.
+    pub is_same: bool,
+}
+
+impl Object {
+    /// What an update with this object makes of one that has a status: its UID, resource version, deletion and status stay,
+    /// the generation rises with a change of `spec`, and all else is this object (Kubernetes `ObjectMeta`: generation).
+    pub fn replacing(self, current: &Object) -> Result<Object, AllocError>
+        ensures { IfOk result (λ object. object ≡ replaced current.now self) }
+    {
+        match kept_of(current, &self) {
+            Ok((meta, status)) => Ok(with_meta(self.with_status(status)?, meta)),
+            Err(error) => {
+                drop(self);
+                Err(error)
+            }
+        }
+    }
+
+    /// The same of one whose kind has no status.
+    pub fn replacing_all(self, current: &Object) -> Result<Object, AllocError>
+        ensures { IfOk result (λ object. object ≡ record { key = self.key; meta = meta_after current.now self; body = self.body }) }
+    {
+        match meta_after(current, &self) {
+            Ok(meta) => Ok(with_meta(self, meta)),
+            Err(error) => {
+                drop(self);
+                Err(error)
+            }
+        }
+    }
+}
+
+impl Printed {
+    /// What an update with that object makes of this one, which has a status or may have one. This one's text is not read
+    /// back where it tells its spec and its generation, the other's tells its spec, and the update makes another text.
+    pub fn replaced(
+        &self,
+        reader: &mut TreeReader,
+        printer: &mut Printer,
+        object: Object,
+    ) -> Result<Replacement, Memory>
+        ensures text { IfOk result (λ new. new.text ≡ replaced self.now object) }
+        ensures same { self.now.key ≡ object.key → IfOk result (λ new. new.is_same ≡ same_data self.now.body new.text.body) }
+    {
+        let mut object = object;
+        let Ok(found) = self.replaced_by_text(printer, &mut object) else {
+            drop(object);
+            return Err(Memory);
+        };
+        if let Some(text) = found {
+            drop(object);
+            return Ok(Replacement {
+                text,
+                is_same: false,
+            });
+        }
+        let Ok(current) = self.object(reader) else {
+            drop(object);
+            return Err(Memory);
+        };
+        let object = object.replacing(&current)?;
+        Ok(Replacement {
+            is_same: current.body.is_same(&object.body),
+            text: printer.print(&object)?,
+        })
+    }
+
+    /// The text of what an update with that object makes of this one, where it is told without reading this one's text back
+    /// and is another text: with the same key it has another body. The object keeps its key and its body.
+    fn replaced_by_text(
+        &self,
+        printer: &mut Printer,
+        object: &mut Object,
+    ) -> Result<Option<Printed>, Memory>
+        ensures key { object.new.key ≡ object.old.key }
+        ensures body { object.new.body ≡ object.old.body }
+        ensures text { IfOk result (λ found. IfSome found (λ new. new ≡ replaced self.now object.old)) }
+        ensures differs { IfOk result (λ found. IfSome found (λ new. self.now.key ≡ new.key → same_data self.now.body new.body ≡ false)) }
+    {
+        let sheet = self.sheet();
+        if sheet.version == 0 || sheet.generation == 0 {
+            return Ok(None);
+        }
+        let Some(printed) = print_in_place(sheet, printer, object)? else {
+            return Ok(None);
+        };
+        let spliced = spliced(printed.sheet(), printer, status_end(sheet), sheet.revision);
+        drop(printed);
+        let Some(new) = spliced? else {
+            return Ok(None);
+        };
+        if new.text.as_str() == sheet.text.as_str() {
+            return Ok(None);
+        }
+        Ok(Some(Printed::of_sheet(alloc_of(sheet), new)?))
+    }
+}
+
+/// The object as it is once it is in the place of the sheet's, printed with its own status, if its text tells its spec.
+fn print_in_place(
+    sheet: &Sheet,
+    printer: &mut Printer,
+    object: &mut Object,
+) -> Result<Option<Printed>, Memory>
+    requires { (o : SpecObject) × IsSheet o sheet.now × IsOpen o sheet.now }
+    ensures key { object.new.key ≡ object.old.key }
+    ensures body { object.new.body ≡ object.old.body }
+    ensures text { (o : SpecObject) → IsSheet o sheet.now → IsOpen o sheet.now
+        → IfOk result (λ found. IfSome found (λ printed. printed ≡ record { key = object.old.key; meta = meta_after o object.old; body = object.old.body })) }
+{
+    let generation = u64::from(sheet.generation);
+    put_meta(object, kept_meta(sheet, generation));
+    let printed = printer.print(object)?;
+    match has_same_spec(sheet, printed.sheet()) {
+        Some(true) => Ok(Some(printed)),
+        Some(false) => {
+            drop(printed);
+            put_meta(
+                object,
+                kept_meta(sheet, generation_after(generation, false)),
+            );
+            Ok(Some(printer.print(object)?))
+        }
+        None => {
+            drop(printed);
+            Ok(None)
+        }
+    }
+}
+
+/// Gives the object what the store knows of it.
+fn put_meta(object: &mut Object, meta: Meta)
+    ensures { object.new ≡ record { key = object.old.key; meta = meta; body = object.old.body } }
+{
+    object.meta = meta;
+}
+
+/// What stays of the meta of a sheet's object, with that generation.
+fn kept_meta(sheet: &Sheet, generation: u64) -> Meta
+    requires known { (o : SpecObject) × IsSheet o sheet.now × IsOpen o sheet.now }
+    requires generation { generation < 2 ^ 63 }
+    ensures { (o : SpecObject) → IsSheet o sheet.now → IsOpen o sheet.now → result ≡ record { uid = o.meta.uid; revision = o.meta.revision; generation = generation; deletion = o.meta.deletion } }
+{
+    Meta {
+        uid: sheet.uid,
+        revision: sheet.revision,
+        generation,
+        deletion: None,
+    }
+}
+
+/// Whether both objects have the same spec, if the text of the second tells its own.
+fn has_same_spec(left: &Sheet, right: &Sheet) -> Option<bool>
+    requires left { (o : SpecObject) × IsSheet o left.now × IsOpen o left.now }
+    requires right { (p : SpecObject) × IsSheet p right.now }
+    ensures { (o : SpecObject) → (p : SpecObject) → IsSheet o left.now → IsOpen o left.now → IsSheet p right.now
+        → IfSome result (λ same. same ≡ same_found (member_of (codes "spec") o.body) (member_of (codes "spec") p.body)) }
+{
+    if right.version == 0 || right.generation == 0 {
+        return None;
+    }
+    Some(spec_bytes(left) == spec_bytes(right))
+}
+
+/// The bytes of the spec, with the comma before it.
+fn spec_bytes(sheet: &Sheet) -> &[u8]
+    requires { (o : SpecObject) × IsSheet o sheet.now × IsOpen o sheet.now }
+    ensures { (o : SpecObject) → IsSheet o sheet.now → IsOpen o sheet.now → result.now ≡ spec_text (member_of (codes "spec") o.body) }
+{
+    let status = sheet.status as usize;
+    &sheet.text.as_str().as_bytes()[status - sheet.spec as usize..status]
+}
+
+/// What stays of the current object once an update has put this one in its place: what the store knows of it, and its
+/// status.
+fn kept_of(current: &Object, object: &Object) -> Result<(Meta, Option<Tree>), AllocError>
+    ensures meta { IfOk result (λ kept. kept.0 ≡ meta_after current.now object.now) }
+    ensures status { IfOk result (λ kept. option_map data_of kept.1 ≡ member_of (codes "status") current.now.body) }
+{
+    let meta = meta_after(current, object)?;
+    Ok((meta, current.status()?))
+}
+
+/// What the store knows of an object once an update has put this one in the place of the current one.
+fn meta_after(current: &Object, object: &Object) -> Result<Meta, AllocError>
+    ensures { IfOk result (λ meta. meta ≡ meta_after current.now object.now) }
+{
+    let same_spec = same_found(current.member("spec"), object.member("spec"));
+    Ok(Meta {
+        uid: current.meta.uid,
+        revision: current.meta.revision,
+        generation: generation_after(current.meta.generation, same_spec),
+        deletion: current.meta.deletion.clone()?,
+    })
+}
+
+/// The generation after an update, which rises with each change of `spec` up to its limit.
+fn generation_after(generation: u64, same_spec: bool) -> u64
+    requires { generation < 2 ^ 63 }
+    ensures value { result ≡ generation_after generation same_spec }
+    ensures small { result < 2 ^ 63 }
+{
+    if same_spec || generation + 1 >= 1 << 63 {
+        generation
+    } else {
+        generation + 1
+    }
+}
+
+fn with_meta(object: Object, meta: Meta) -> Object
+    ensures { result ≡ record { key = object.key; meta = meta; body = object.body } }
+{
+    let Object {
+        key,
+        meta: old,
+        body,
+    } = object;
+    drop(old);
+    Object { key, meta, body }
+}
