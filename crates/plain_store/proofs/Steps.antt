@@ -1,5 +1,5 @@
 -- A step by a write request goes by its verdict, and the others by what they are about.
-use Rattle.std.proofs.Common.{◌≡◌, ◌==◌, ℕ, List, true, false, cond, is_some, Option, Some, None, refl, sym, ap, subst, ◌∙◌, arith}
+use Rattle.std.proofs.Common.{◌≡◌, ◌==◌, ℕ, List, true, false, cond, is_some, Option, Some, None, IfSome, refl, sym, ap, subst, ◌∙◌, arith}
 use Rattle.std.specs.FinMap as map
 use Rattle.std.proofs.lemmas.Bool.Decides.{nat_tests}
 use Rattle.objects.specs.declared.key.Key.{Key}
@@ -37,6 +37,11 @@ by_verdict s r k current v is named there decided = ap (carried_out s k) (decide
 filed_now : (s : Store) (k : Key) (current : Option Object) → AreFiled s.objects → current ≡ map.get s.objects k → IsFiled k current
 filed_now s k None filed there = tt
 filed_now s k (Some o) filed there = filed k o (sym there)
+
+-- what is found under a key has that key
+pub filed_there : (s : Store) (k : Key) (current : Option Object) → AreFiled s.objects → current ≡ map.get s.objects k → IfSome current (λ o. o.key ≡ k)
+filed_there s k None filed there = tt
+filed_there s k (Some o) filed there = filed k o (sym there)
 
 pub by_change : (s : Store) (r : Request) (k : Key) (current : Option Object) (c : Change) → is_write r ≡ true → key_named r ≡ Some k
     → current ≡ map.get s.objects k → AreFiled s.objects → Write c ≡ verdict r current

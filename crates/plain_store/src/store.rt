@@ -8,13 +8,13 @@ ghost use Rattle.version_map.specs.Keyed.{collection};
 ghost use Rattle.requests.specs.Change.{accepted, removes, stamp, updates};
 ghost use Rattle.requests.specs.ChangeKinds.{change_by, stored_by};
 ghost use Rattle.requests.specs.Judgments.{verdict_of};
-ghost use Rattle.requests.specs.TextJudgments.{status_verdict};
-ghost use Rattle.objects.specs.Rewrites.{with_status};
+ghost use Rattle.requests.specs.TextJudgments.{status_verdict, update_verdict};
+ghost use Rattle.objects.specs.Rewrites.{at_version, with_status};
 ghost use Rattle.objects.specs.Tree.{data_of};
 ghost use Rattle.plain_store.specs.PrintedReplies.{is_to_write, reply_object, reply_printed, reply_stored};
-ghost use Rattle.requests.specs.Verdict.{is_write, verdict};
+ghost use Rattle.requests.specs.Verdict.{has_status, is_write, verdict};
 ghost use Rattle.requests.specs.declared.reply.Reply.TheVariants.{Listed};
-ghost use Rattle.requests.specs.declared.request.Request.TheVariants.{Compact, Delete, UpdateStatus};
+ghost use Rattle.requests.specs.declared.request.Request.TheVariants.{Compact, Delete, Update, UpdateStatus};
 ghost use Rattle.requests.specs.declared.verdict.Verdict.TheVariants.{Write};
 
 use crate::printed_reply::PrintedReply;
@@ -22,8 +22,8 @@ use crate::stored_reply::StoredReply;
 use crate::whole_reply::WholeReply;
 use objects::{Draft, Key, Kind, Memory, Object, Printed, Printer, Text, Tree, TreeReader};
 use requests::{
-    ChangeKind, Judgment, Reason, RemovalJudgment, Reply, Request, StatusJudgment, is_graceful,
-    judge, judge_removal, judge_status,
+    ChangeKind, Judgment, Reason, RemovalJudgment, Reply, Request, StatusJudgment, UpdateJudgment,
+    has_status, is_graceful, judge, judge_removal, judge_status, judge_update,
 };
 use std::alloc::{AllocError, Global};
 use std::marker::Model;
@@ -265,6 +265,13 @@ impl Plain {
     {
         let _ = &self.versions;
         match request {
+            Request::Update(draft) => {
+                if has_status(draft.object.key.kind) {
+                    self.write_update(draft)
+                } else {
+                    Ok(self.write_whole(Request::Update(draft))?.into_printed())
+                }
+            }
             Request::UpdateStatus(draft) => {
                 let printed = self.write_status(&draft);
                 drop(draft);
@@ -278,6 +285,66 @@ impl Plain {
             } => self.delete(key, uid, version, at),
             request => Ok(self.write_whole(request)?.into_printed()),
         }
+    }
+
+    /// Takes an update of an object that may have a status.
+    fn write_update(&mut self, draft: Draft) -> Result<PrintedReply, Memory>
+        requires { has_status draft.object.key.kind ≡ true }
+        ensures step { IfOk result (λ printed. (self.new, reply_printed printed) ≡ step self.old (Update draft)) }
+        ensures memory { OnErr result (self.new ≡ self.old) }
+    {
+        let _ = &self.versions;
+        let Ok(key) = draft.object.key.clone() else {
+            drop(draft);
+            return Err(Memory);
+        };
+        let judged = self.judge_update(draft);
+        let printed = self.put_update(&key, judged?);
+        drop(key);
+        printed
+    }
+
+    fn judge_update(&mut self, draft: Draft) -> Result<UpdateJudgment, Memory>
+        requires { has_status draft.object.key.kind ≡ true }
+        ensures judged { IfOk result (λ judged. update_verdict judged ≡ verdict (Update draft) (finite.get self.old.objects draft.object.key)) }
+        ensures same { self.new ≡ self.old }
+    {
+        let _ = &self.versions;
+        judge_update(
+            self.versions.at(&draft.object.key, self.counter),
+            draft,
+            &mut self.reader,
+            &mut self.printer,
+        )
+    }
+
+    /// Carries out what an update came to.
+    fn put_update(&mut self, key: &Key, judged: UpdateJudgment) -> Result<PrintedReply, Memory>
+        requires { IsReached (carried_out self.old key.now (update_verdict judged)).0 }
+        ensures step { IfOk result (λ printed. (self.new, reply_printed printed) ≡ carried_out self.old key.now (update_verdict judged)) }
+        ensures memory { OnErr result (self.new ≡ self.old) }
+    {
+        let _ = &self.versions;
+        match judged {
+            UpdateJudgment::Refuse(reason) => Ok(PrintedReply::Refused(reason)),
+            UpdateJudgment::Same(current) => Ok(PrintedReply::Unchanged(current)),
+            UpdateJudgment::Write(object) => self.put_updated(key, object),
+        }
+    }
+
+    /// Puts the object at the next number, if there is one left.
+    fn put_updated(&mut self, key: &Key, object: Printed) -> Result<PrintedReply, Memory>
+        requires { IsReached (carried_out self.old key.now (Write (updates object))).0 }
+        ensures step { IfOk result (λ printed. (self.new, reply_printed printed) ≡ carried_out self.old key.now (Write (updates object))) }
+        ensures memory { OnErr result (self.new ≡ self.old) }
+    {
+        if self.is_full() {
+            drop(object);
+            return Ok(PrintedReply::Refused(Reason::StoreFull));
+        }
+        let text = self.text_at_next(&object);
+        drop(object);
+        self.put_text(ChangeKind::Update, key, text?)
     }
 
     /// Takes a status request.
@@ -397,19 +464,19 @@ impl Plain {
             drop(current);
             return Ok(PrintedReply::Refused(Reason::StoreFull));
         }
-        let text = self.text_of_removed(&current);
+        let text = self.text_at_next(&current);
         drop(current);
         self.put_text(ChangeKind::Removal, key, text?)
     }
 
     /// The text of the object at the next number.
-    fn text_of_removed(&mut self, current: &Printed) -> Result<Printed, Memory>
+    fn text_at_next(&mut self, object: &Printed) -> Result<Printed, Memory>
         requires { self.old.counter ≢ self.old.capacity }
-        ensures text { IfOk result (λ text. text ≡ stamp (removes current.now) (self.old.counter + 1)) }
+        ensures text { IfOk result (λ text. text ≡ at_version object.now (self.old.counter + 1)) }
         ensures same { self.new ≡ self.old }
     {
         let next = self.counter + 1;
-        current.at_version(&mut self.reader, &mut self.printer, next)
+        object.at_version(&mut self.reader, &mut self.printer, next)
     }
 
     /// Draws the next number for a change of that kind, whose reply has this text.

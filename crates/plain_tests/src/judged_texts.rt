@@ -91,9 +91,139 @@ static ROWS: [(&str, &str); 20] = [
     ),
 ];
 
-static LISTS: [&str; 2] = [
+/// Lines to a new store of sixteen revisions, and what each comes to.
+static UPDATES: [(&str, &str); 29] = [
+    (
+        r#"{"do":"create","object":{"kind":"Pod","metadata":{"name":"p"},"spec":{"a":1}}}"#,
+        "Created",
+    ),
+    (
+        r#"{"do":"status","object":{"kind":"Pod","metadata":{"name":"p"},"status":{"phase":"Running"}}}"#,
+        "Updated",
+    ),
+    // Another `spec`, and then another label alone.
+    (
+        r#"{"do":"update","object":{"kind":"Pod","metadata":{"name":"p"},"spec":{"a":2}}}"#,
+        "Updated",
+    ),
+    (
+        r#"{"do":"update","object":{"kind":"Pod","metadata":{"labels":{"b":"1"},"name":"p"},"spec":{"a":2}}}"#,
+        "Updated",
+    ),
+    // Nothing new, and no more than a status, which is passed over.
+    (
+        r#"{"do":"update","object":{"kind":"Pod","metadata":{"labels":{"b":"1"},"name":"p"},"spec":{"a":2}}}"#,
+        "Unchanged",
+    ),
+    (
+        r#"{"do":"update","object":{"kind":"Pod","metadata":{"labels":{"b":"1"},"name":"p"},"spec":{"a":2},"status":{"phase":"Failed"}}}"#,
+        "Unchanged",
+    ),
+    // Of another version, and of another UID.
+    (
+        r#"{"do":"update","object":{"kind":"Pod","metadata":{"name":"p","resourceVersion":"3"},"spec":{"a":3}}}"#,
+        "Conflict",
+    ),
+    (
+        r#"{"do":"update","object":{"kind":"Pod","metadata":{"name":"p","uid":"00000000-0000-4000-8000-000000000002"},"spec":{"a":3}}}"#,
+        "Conflict",
+    ),
+    (
+        r#"{"do":"update","object":{"kind":"Pod","metadata":{"name":"r"},"spec":{"a":3}}}"#,
+        "NotFound",
+    ),
+    (
+        r#"{"do":"update","object":{"kind":"Pod","metadata":{"name":"p","resourceVersion":"4","uid":"00000000-0000-4000-8000-000000000001"},"spec":{"a":3}}}"#,
+        "Updated",
+    ),
+    // A marked pod.
+    (
+        r#"{"at":"2024-01-01T00:00:00Z","do":"delete","kind":"Pod","name":"p"}"#,
+        "Marked",
+    ),
+    (
+        r#"{"do":"update","object":{"kind":"Pod","metadata":{"name":"p"},"spec":{"a":4}}}"#,
+        "Updated",
+    ),
+    (
+        r#"{"do":"update","object":{"kind":"Pod","metadata":{"name":"p"},"spec":{"a":4}}}"#,
+        "Unchanged",
+    ),
+    // A member behind the status, and one between the metadata and `spec`.
+    (
+        r#"{"do":"update","object":{"kind":"Pod","metadata":{"name":"p"},"spec":{"a":4},"zone":"x"}}"#,
+        "Updated",
+    ),
+    (
+        r#"{"do":"update","object":{"kind":"Pod","metadata":{"name":"p"},"spec":{"a":5},"zone":"x"}}"#,
+        "Updated",
+    ),
+    (
+        r#"{"do":"update","object":{"kind":"Pod","metadata":{"name":"p"},"spec":{"a":5},"zone":"x"}}"#,
+        "Unchanged",
+    ),
+    (
+        r#"{"do":"update","object":{"kind":"Pod","metadata":{"name":"p"},"other":[1],"spec":{"a":5}}}"#,
+        "Updated",
+    ),
+    // A revision has no status that an update keeps, and its data stays.
+    (
+        r#"{"do":"create","object":{"data":{"a":1},"kind":"ControllerRevision","metadata":{"name":"r"},"revision":1,"status":1}}"#,
+        "Created",
+    ),
+    (
+        r#"{"do":"update","object":{"data":{"a":2},"kind":"ControllerRevision","metadata":{"name":"r"},"revision":1}}"#,
+        "Invalid",
+    ),
+    (
+        r#"{"do":"update","object":{"data":{"a":1},"kind":"ControllerRevision","metadata":{"name":"r"},"revision":2}}"#,
+        "Updated",
+    ),
+    (
+        r#"{"do":"update","object":{"data":{"a":1},"kind":"ControllerRevision","metadata":{"name":"r"},"revision":2}}"#,
+        "Unchanged",
+    ),
+    (
+        r#"{"do":"create","object":{"kind":"PersistentVolumeClaim","metadata":{"name":"c"},"spec":{"a":1}}}"#,
+        "Created",
+    ),
+    // Without a `spec`.
+    (
+        r#"{"do":"update","object":{"kind":"PersistentVolumeClaim","metadata":{"name":"c"}}}"#,
+        "Updated",
+    ),
+    (
+        r#"{"do":"create","object":{"kind":"StatefulSet","metadata":{"name":"s"},"spec":{"replicas":1}}}"#,
+        "Created",
+    ),
+    (
+        r#"{"do":"update","object":{"kind":"StatefulSet","metadata":{"name":"s"},"spec":{"replicas":2}}}"#,
+        "Updated",
+    ),
+    // All revisions are drawn now.
+    (
+        r#"{"do":"update","object":{"kind":"StatefulSet","metadata":{"name":"s"},"spec":{"replicas":3}}}"#,
+        "StoreFull",
+    ),
+    (
+        r#"{"do":"update","object":{"kind":"StatefulSet","metadata":{"name":"s"},"spec":{"replicas":2}}}"#,
+        "Unchanged",
+    ),
+    (
+        r#"{"do":"update","object":{"kind":"StatefulSet","metadata":{"name":"s","resourceVersion":"1"},"spec":{"replicas":3}}}"#,
+        "Conflict",
+    ),
+    (
+        r#"{"do":"update","object":{"kind":"StatefulSet","metadata":{"name":"t"},"spec":{"replicas":3}}}"#,
+        "NotFound",
+    ),
+];
+
+static LISTS: [&str; 4] = [
     r#"{"do":"list","kind":"Pod"}"#,
     r#"{"do":"list","kind":"PersistentVolumeClaim"}"#,
+    r#"{"do":"list","kind":"StatefulSet"}"#,
+    r#"{"do":"list","kind":"ControllerRevision"}"#,
 ];
 
 /// What a request is answered: the name of the reply or of the refusal, and the texts of its objects.
@@ -157,23 +287,34 @@ fn assert_same(rt: &impl Abort, line: &str, left: Answer, right: Answer) {
     assert_eq!(rt; left.texts.as_str(), right.texts.as_str(), "of {line}");
 }
 
-#[test]
-fn texts_are_judged_as_the_objects_that_they_are(rt: HostRuntime) -> Result<(), Fail> {
-    let mut objects = Plain::new(rt.alloc(), 6)?;
-    let mut texts = Plain::new(rt.alloc(), 6)?;
-    for (line, expected) in ROWS.iter() {
-        let answer = by_texts(rt.alloc(), &mut texts, line)?;
+/// Asserts what the lines come to in two stores of so many revisions, of which one judges by texts and one by objects, and
+/// that both hold the same after each.
+fn assert_judged_alike(
+    rt: &impl Abort,
+    alloc: Global,
+    capacity: u64,
+    rows: &[(&str, &str)],
+) -> Result<(), Fail> {
+    let mut objects = Plain::new(alloc, capacity)?;
+    let mut texts = Plain::new(alloc, capacity)?;
+    for (line, expected) in rows {
+        let answer = by_texts(alloc, &mut texts, line)?;
         assert_eq!(rt; answer.name, *expected, "of {line}");
-        assert_same(
-            &rt,
-            line,
-            answer,
-            by_objects(rt.alloc(), &mut objects, line)?,
-        );
+        assert_same(rt, line, answer, by_objects(alloc, &mut objects, line)?);
         for list in LISTS.iter() {
-            let left = by_objects(rt.alloc(), &mut texts, list)?;
-            assert_same(&rt, line, left, by_objects(rt.alloc(), &mut objects, list)?);
+            let left = by_objects(alloc, &mut texts, list)?;
+            assert_same(rt, line, left, by_objects(alloc, &mut objects, list)?);
         }
     }
     Ok(())
+}
+
+#[test]
+fn texts_are_judged_as_the_objects_that_they_are(rt: HostRuntime) -> Result<(), Fail> {
+    assert_judged_alike(&rt, rt.alloc(), 6, ROWS.as_slice())
+}
+
+#[test]
+fn updates_of_texts_are_judged_as_of_objects(rt: HostRuntime) -> Result<(), Fail> {
+    assert_judged_alike(&rt, rt.alloc(), 16, UPDATES.as_slice())
 }

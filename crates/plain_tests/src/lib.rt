@@ -31,6 +31,8 @@ mod stored_texts;
 #[cfg(test)]
 mod streams;
 #[cfg(test)]
+mod updates;
+#[cfg(test)]
 mod values;
 #[cfg(test)]
 mod verdicts;

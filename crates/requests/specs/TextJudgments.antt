@@ -7,8 +7,15 @@ use Rattle.requests.specs.declared.by_text.RemovalJudgment.{RemovalJudgment}
 use Rattle.requests.specs.declared.by_text.RemovalJudgment.TheVariants as removal
 use Rattle.requests.specs.declared.by_text.StatusJudgment.{StatusJudgment}
 use Rattle.requests.specs.declared.by_text.StatusJudgment.TheVariants as status
+use Rattle.requests.specs.declared.by_text.UpdateJudgment.{UpdateJudgment}
+use Rattle.requests.specs.declared.by_text.UpdateJudgment.TheVariants as update
 use Rattle.requests.specs.declared.verdict.Verdict.{Verdict}
 use Rattle.requests.specs.declared.verdict.Verdict.TheVariants.{Refuse, Same, Write}
+
+abbrev pub update_verdict : UpdateJudgment → Verdict
+update_verdict (update.Refuse reason) = Refuse reason
+update_verdict (update.Same o) = Same o
+update_verdict (update.Write o) = Write (updates o)
 
 abbrev pub status_verdict : StatusJudgment → Verdict
 status_verdict (status.Refuse reason) = Refuse reason

@@ -1,13 +1,13 @@
 -- What a request comes to, given the object that now has its key (Kubernetes API concepts: resource versions,
 -- UIDs, and the preconditions of a write).
-use Rattle.std.specs.Prelude.{ℕ, ◌+◌, ◌^◌, nat_lt, Bool, true, false, not, ◌||◌, ◌&&◌, List, [], ◌∷◌, bytes_eq, codes, decimal, Option, Some, None, is_some, if◌then◌else◌}
+use Rattle.std.specs.Prelude.{ℕ, Bool, true, false, not, ◌||◌, ◌&&◌, List, [], ◌∷◌, bytes_eq, codes, decimal, Option, Some, None, is_some, if◌then◌else◌}
 use Rattle.std.specs.Option.{option_map_or}
 use Rattle.objects.specs.declared.kind.Kind.{Kind}
 use Rattle.objects.specs.declared.kind.Kind.TheVariants.{StatefulSet, Pod, PersistentVolumeClaim, ControllerRevision}
-use Rattle.objects.specs.declared.meta.Meta.{Meta}
 use Rattle.objects.specs.declared.object.Object.{Object}
 use Rattle.objects.specs.declared.object.Draft.{Draft}
 use Rattle.serde_json.specs.Data.{Data}
+pub use Rattle.objects.specs.Rewrites.{generation_after, meta_after}
 use Rattle.objects.specs.Same.{same_data}
 pub use Rattle.objects.specs.Status.{same_found}
 use Rattle.objects.specs.Status.{member_of, with_member}
@@ -56,25 +56,12 @@ born o = record { key = o.key; meta = o.meta; body = body_with_status o.key.kind
 abbrev pub same_member : List ℕ → Data → Data → Bool
 same_member k a b = same_found (member_of k a) (member_of k b)
 
--- The generation rises with each change of `spec`, up to its limit.
-abbrev pub generation_after : ℕ → Bool → ℕ
-generation_after g same_spec = if same_spec then g else if nat_lt (g + 1) (2 ^ 63) then g + 1 else g
-
 -- A create may not name a resource version, and its name has to be free.
 abbrev pub on_create : Draft → Option Object → Verdict
 on_create d current =
     if is_some (stated d.version) then Refuse Invalid
     else if is_some current then Refuse AlreadyExists
     else Write (creates (born d.object))
-
--- what the store knows of an object once an update has put the new one in its place
-abbrev pub meta_after : Object → Object → Meta
-meta_after o new = record {
-  uid = o.meta.uid;
-  revision = o.meta.revision;
-  generation = generation_after o.meta.generation (same_member (codes "spec") o.body new.body);
-  deletion = o.meta.deletion;
-}
 
 -- what an update makes of the current object: its UID, deletion and status stay, and all else is what is handed in
 abbrev pub updated : Object → Draft → Object

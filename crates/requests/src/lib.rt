@@ -14,11 +14,13 @@ mod table;
 mod verdict;
 mod version;
 
-pub use by_text::{RemovalJudgment, StatusJudgment, judge_removal, judge_status};
+pub use by_text::{
+    RemovalJudgment, StatusJudgment, UpdateJudgment, judge_removal, judge_status, judge_update,
+};
 pub use change::Change;
 pub use change_kind::ChangeKind;
 pub use listing::Listing;
-pub use preconditions::is_graceful;
+pub use preconditions::{has_status, is_graceful};
 pub use reply::{Reason, Reply};
 pub use request::Request;
 pub use table::{decide, judge};

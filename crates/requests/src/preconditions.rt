@@ -1,7 +1,7 @@
 // What the verdicts turn on: the preconditions of a request, and whether it would change anything.
-ghost use Rattle.std.specs.Prelude.{◌≡◌, List, ℕ, Option, codes, is_some, option_map, decimal, ◌<◌, ◌^◌};
+ghost use Rattle.std.specs.Prelude.{◌≡◌, List, ℕ, Option, codes, is_some, option_map, decimal};
 ghost use Rattle.std.specs.Option.{option_copied};
-ghost use Rattle.requests.specs.Verdict.{changes_data, conflicts, conflicts_with, differs, generation_after, graceful, has_status, same_member, stated};
+ghost use Rattle.requests.specs.Verdict.{changes_data, conflicts, conflicts_with, differs, graceful, has_status, same_member, stated};
 ghost use Rattle.objects.specs.Same.{same_data};
 ghost use Rattle.objects.specs.Uid.{uid_text};
 
@@ -60,7 +60,7 @@ pub(crate) fn changes_data(draft: &Draft, current: &Object) -> bool
 }
 
 /// Whether the objects of a kind have a status. A ControllerRevision has none.
-pub(crate) fn has_status(kind: Kind) -> bool
+pub fn has_status(kind: Kind) -> bool
     ensures { result ≡ has_status kind }
 {
     match kind {
@@ -88,19 +88,6 @@ pub(crate) fn is_same_body(current: &Object, object: &Object) -> bool
     ensures { result ≡ same_data current.now.body object.now.body }
 {
     current.body.is_same(&object.body)
-}
-
-/// The generation after an update, which rises with each change of `spec` up to its limit.
-pub(crate) fn generation_after(generation: u64, same_spec: bool) -> u64
-    requires { generation < 2 ^ 63 }
-    ensures value { result ≡ generation_after generation same_spec }
-    ensures small { result < 2 ^ 63 }
-{
-    if same_spec || generation + 1 >= 1 << 63 {
-        generation
-    } else {
-        generation + 1
-    }
 }
 
 /// The time of a graceful deletion, which only a pod has.
