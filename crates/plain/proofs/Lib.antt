@@ -1,5 +1,6 @@
 pub mod Readings
 pub mod Written
+pub mod CompactGets
 pub mod LineCuts
 pub mod Flows
 pub mod Servings

@@ -10,6 +10,7 @@ pub mod Streams
 pub mod ValueLines
 pub mod Verbs
 -- ---- what only proofs use
+pub mod CompactGets
 pub mod Cuts
 pub mod Serving
 -- ---- of the crates below

@@ -1,6 +1,7 @@
 //! Lines: how input is cut into them, the request that one is, and the reply to it.
 
 mod answer;
+mod compact_get;
 pub(crate) mod cutter;
 pub(crate) mod members;
 mod reply_line;

@@ -7,6 +7,8 @@ mod asserts;
 #[cfg(test)]
 mod beside;
 #[cfg(test)]
+mod compact_gets;
+#[cfg(test)]
 mod growths;
 #[cfg(test)]
 mod judged_texts;
