@@ -275,7 +275,7 @@ fn reserve_for<V: Drop>(
 {
     let place = place_of(alloc, index, chains, key)?;
     let chain = &mut chains[place];
-    chain.reserve(alloc)?;
+    chain.reserve()?;
     Ok(place)
 }
 
@@ -300,7 +300,7 @@ fn place_of<V: Drop>(
             chains.reserve(1)?;
             let place = chains.len();
             index.insert(alloc, key, place)?;
-            chains.push_reserved(Chain::new());
+            chains.push_reserved(Chain::new(alloc));
             Ok(place)
         }
     }
