@@ -11,6 +11,9 @@ use crate::splice::{ends_so, spliced, status_end, write_end};
 use std::alloc::Global;
 use trees::{Memory, Tree, TreeReader};
 
+/// Room for the end of a text, from its status on, which is enough for most.
+const END_ROOM: usize = 256;
+
 impl Printed {
     /// The object at another resource version. Its text is copied, and not read, where the object has a resource version
     /// and no member after its status.
@@ -66,7 +69,7 @@ impl Printed {
         ensures { IfOk result (λ found. IfSome found (λ printed. printed ≡ at_version (with_status (option_map (λ t. data_of t.now) status.entry) self.now) revision)) }
     {
         let sheet = self.sheet();
-        let end = write_end(status, Vec::new(alloc_of(sheet)))?;
+        let end = write_end(status, Vec::with_capacity(alloc_of(sheet), END_ROOM)?)?;
         let spliced = spliced(sheet, printer, &end, revision)?;
         match spliced {
             Some(new) => Ok(Some(Printed::of_sheet(alloc_of(sheet), new)?)),
@@ -107,7 +110,7 @@ impl Printed {
         ensures { IfOk result (λ found. IfSome found (λ same. same ≡ same_found (member_of (codes "status") self.now.body) (option_map (λ t. data_of t.now) status.entry))) }
     {
         let sheet = self.sheet();
-        let end = write_end(status, Vec::new(alloc_of(sheet)))?;
+        let end = write_end(status, Vec::with_capacity(alloc_of(sheet), END_ROOM)?)?;
         Ok(ends_so(sheet, &end))
     }
 }

@@ -10,4 +10,4 @@ returns c =
     if_told _ (λ same. same ≡ _) c.ends_so.result (λ same h.
     h.1 (sheet_parts c.args.self.now c.sheet-sheet.result.now c.sheet-sheet.ensures h.0)
     ∙ ends_same c.args.self.now c.sheet-sheet.result.now c.sheet-sheet.ensures h.0 _ _ c.in_ok-end.ensures.printable c.in_ok-end.ensures.proper
-    (end_is _ _ _ _ c.deref.ensures.value c.in_ok-end.ensures.bytes c.new.ensures.items)) c.ends_so.ensures
+    (end_is _ _ _ _ c.deref.ensures.value c.in_ok-end.ensures.bytes c.in_ok-with_capacity.ensures.items)) c.ends_so.ensures

@@ -11,11 +11,11 @@ of_sheet-requires c =
     let h = subst (λ f. IfSome f (λ new. IsSpliced c.sheet-sheet.result.now c.deref.result.now c.args.revision new)) c.in-Some.is c.in_ok-spliced.ensures in (
       _,
       spliced_sheet c.args.self.now c.sheet-sheet.result.now _ _ c.args.revision c.in-Some.new c.sheet-sheet.ensures c.ranges.revision.fits c.in_ok-end.ensures.printable c.in_ok-end.ensures.proper
-          (end_is _ _ _ _ c.deref.ensures.value c.in_ok-end.ensures.bytes c.new.ensures.items) h,
+          (end_is _ _ _ _ c.deref.ensures.value c.in_ok-end.ensures.bytes c.in_ok-with_capacity.ensures.items) h,
     )
 
 pub returns-in-Some : goal.returns-in-Some
 returns-in-Some c =
     let h = subst (λ f. IfSome f (λ new. IsSpliced c.sheet-sheet.result.now c.deref.result.now c.args.revision new)) c.in-Some.is c.in_ok-spliced.ensures in
     c.in_ok-of_sheet-in-Some.ensures _ (spliced_sheet c.args.self.now c.sheet-sheet.result.now _ _ c.args.revision c.in-Some.new c.sheet-sheet.ensures c.ranges.revision.fits c.in_ok-end.ensures.printable c.in_ok-end.ensures.proper
-    (end_is _ _ _ _ c.deref.ensures.value c.in_ok-end.ensures.bytes c.new.ensures.items) h)
+    (end_is _ _ _ _ c.deref.ensures.value c.in_ok-end.ensures.bytes c.in_ok-with_capacity.ensures.items) h)
