@@ -126,6 +126,7 @@ impl Clone for Printed {
 pub struct Printer {
     alloc: Global,
     buffer: Vec<u8>,
+    expects_same_spec: bool,
     ghost empty: { buffer.items ≡ [] },
 }
 
@@ -135,6 +136,7 @@ impl Printer {
         Printer {
             alloc,
             buffer: Vec::new(alloc),
+            expects_same_spec: true,
         }
     }
 
@@ -159,6 +161,15 @@ impl Printer {
     pub(crate) fn keep(&mut self, mut bytes: Vec<u8>) {
         bytes.clear();
         self.buffer = bytes;
+    }
+
+    /// Whether the next update is taken to leave the spec as it is, because the last one did.
+    pub(crate) fn expects_same_spec(&self) -> bool {
+        self.expects_same_spec
+    }
+
+    pub(crate) fn expect_same_spec(&mut self, is_same: bool) {
+        self.expects_same_spec = is_same;
     }
 }
 

@@ -131,23 +131,26 @@ fn print_in_place(
         → IfOk result (λ found. IfSome found (λ printed. printed ≡ record { key = object.old.key; meta = meta_after o object.old; body = object.old.body })) }
 {
     let generation = u64::from(sheet.generation);
-    put_meta(object, kept_meta(sheet, generation));
+    let expected = printer.expects_same_spec();
+    put_meta(
+        object,
+        kept_meta(sheet, generation_after(generation, expected)),
+    );
     let printed = printer.print(object)?;
-    match has_same_spec(sheet, printed.sheet()) {
-        Some(true) => Ok(Some(printed)),
-        Some(false) => {
-            drop(printed);
-            put_meta(
-                object,
-                kept_meta(sheet, generation_after(generation, false)),
-            );
-            Ok(Some(printer.print(object)?))
-        }
-        None => {
-            drop(printed);
-            Ok(None)
-        }
+    let Some(is_same) = has_same_spec(sheet, printed.sheet()) else {
+        drop(printed);
+        return Ok(None);
+    };
+    if is_same == expected {
+        return Ok(Some(printed));
     }
+    drop(printed);
+    printer.expect_same_spec(is_same);
+    put_meta(
+        object,
+        kept_meta(sheet, generation_after(generation, is_same)),
+    );
+    Ok(Some(printer.print(object)?))
 }
 
 /// Gives the object what the store knows of it.
