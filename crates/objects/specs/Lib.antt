@@ -29,3 +29,4 @@ pub mod Uid
 pub mod PrintedText
 pub mod Merged
 pub mod Cuts
+pub mod Marks

@@ -3,7 +3,7 @@ ghost use Rattle.std.specs.Option.{IsSomeAnd};
 ghost use Rattle.std.specs.Str.{IsUtf8};
 ghost use Rattle.objects.specs.declared.object.Object.{Object as SpecObject};
 ghost use Rattle.objects.specs.Cuts.{IsCutAt, IsSheet, IsSpecAt};
-ghost use Rattle.objects.specs.PrintedText.{IsTextOf};
+ghost use Rattle.objects.specs.PrintedText.{IsTextOf, object_of_text};
 ghost use Rattle.objects.specs.Text.{text};
 
 use crate::cut::{Cut, CutText, print_cut};
@@ -102,12 +102,28 @@ impl Printed {
     pub fn object(&self, reader: &mut TreeReader) -> Result<Object, Memory>
         ensures { IfOk result (λ object. object ≡ self.now) }
     {
-        let tree = reader.read_back(self.sheet.text.as_str())?;
-        match read_draft(*self.sheet.text.allocator(), tree) {
-            Ok(draft) => Ok(draft.object),
-            Err(ReadError::Memory) => Err(Memory),
-            Err(_) => unreachable!(),
-        }
+        object_in(
+            *self.sheet.text.allocator(),
+            self.sheet.text.as_str(),
+            reader,
+        )
+    }
+}
+
+/// The object of a text that one was printed as, read back.
+pub(crate) fn object_in(
+    alloc: Global,
+    text: &str,
+    reader: &mut TreeReader,
+) -> Result<Object, Memory>
+    requires { IsTextOf (object_of_text text.now) text.now }
+    ensures { IfOk result (λ object. object ≡ object_of_text text.now) }
+{
+    let tree = reader.read_back(text)?;
+    match read_draft(alloc, tree) {
+        Ok(draft) => Ok(draft.object),
+        Err(ReadError::Memory) => Err(Memory),
+        Err(_) => unreachable!(),
     }
 }
 
@@ -151,14 +167,14 @@ impl Printer {
     }
 
     /// The memory for a text, with nothing in it.
-    pub(crate) fn lent(&mut self) -> Vec<u8>
+    pub fn lent(&mut self) -> Vec<u8>
         ensures { result.items ≡ [] }
     {
         mem::replace(&mut self.buffer, Vec::new(self.alloc))
     }
 
     /// Takes the memory for a text back.
-    pub(crate) fn keep(&mut self, mut bytes: Vec<u8>) {
+    pub fn keep(&mut self, mut bytes: Vec<u8>) {
         bytes.clear();
         self.buffer = bytes;
     }

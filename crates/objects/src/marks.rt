@@ -1,0 +1,96 @@
+// What is kept of a printed object beside its text, where the text is kept in another form.
+ghost use Rattle.std.specs.Prelude.{◌≡◌, ◌≢◌, IfOk, IfSome};
+ghost use Rattle.objects.specs.Marks.{AreMarks, SameNumbers};
+ghost use Rattle.objects.specs.PrintedText.{object_of_text};
+ghost use Rattle.objects.specs.Text.{text};
+
+use crate::printed::{Printed, Printer, Sheet, object_in};
+use simdutf8::basic::from_utf8;
+use std::alloc::Global;
+use trees::{Memory, TreeReader};
+
+/// What is read of a text without a look at it, in fewer bits; all 0 where they do not fit.
+#[derive(Clone, Copy, Drop)]
+pub struct Marks {
+    pub(crate) uid: u32,
+    pub(crate) revision: u32,
+    pub(crate) version: u16,
+    pub(crate) status: u16,
+    pub(crate) spec: u16,
+    pub(crate) generation: u16,
+}
+
+impl Printed {
+    /// The text, and what is to be kept beside it, so that the object is told from both.
+    pub fn parts(&self) -> (&[u8], Marks)
+        ensures text { result.0.now ≡ text self.now }
+        ensures marks { AreMarks result.0.now result.1 }
+        ensures object { object_of_text result.0.now ≡ self.now }
+    {
+        let sheet = self.sheet();
+        (sheet.text.as_str().as_bytes(), marks_of(sheet))
+    }
+
+    /// The object of a text and its marks. It is not read back unless the marks are 0.
+    pub fn of_marks(
+        alloc: Global,
+        bytes: &[u8],
+        marks: Marks,
+        reader: &mut TreeReader,
+        printer: &mut Printer,
+    ) -> Result<Printed, Memory>
+        requires { AreMarks bytes.now marks }
+        ensures { IfOk result (λ printed. printed ≡ object_of_text bytes.now) }
+    {
+        let Ok(text) = from_utf8(bytes) else {
+            unreachable!();
+        };
+        if marks.version == 0 {
+            let object = object_in(alloc, text, reader)?;
+            return printer.print(&object);
+        }
+        Printed::of_sheet(
+            alloc,
+            Sheet {
+                text: String::from_str(alloc, text)?,
+                uid: u64::from(marks.uid),
+                revision: u64::from(marks.revision),
+                version: u32::from(marks.version),
+                status: u32::from(marks.status),
+                spec: u32::from(marks.spec),
+                generation: u32::from(marks.generation),
+            },
+        )
+    }
+}
+
+/// The numbers of a sheet in fewer bits, or 0 where they do not fit.
+fn marks_of(sheet: &Sheet) -> Marks
+    ensures { result.version ≢ 0 → SameNumbers result sheet.now }
+{
+    match short_marks(sheet) {
+        Some(marks) => marks,
+        None => Marks {
+            uid: 0,
+            revision: 0,
+            version: 0,
+            status: 0,
+            spec: 0,
+            generation: 0,
+        },
+    }
+}
+
+/// The numbers of a sheet in fewer bits, if they fit.
+fn short_marks(sheet: &Sheet) -> Option<Marks>
+    ensures { IfSome result (λ marks. SameNumbers marks sheet.now) }
+{
+    Some(Marks {
+        uid: u32::try_from(sheet.uid).ok()?,
+        revision: u32::try_from(sheet.revision).ok()?,
+        version: u16::try_from(sheet.version).ok()?,
+        status: u16::try_from(sheet.status).ok()?,
+        spec: u16::try_from(sheet.spec).ok()?,
+        generation: u16::try_from(sheet.generation).ok()?,
+    })
+}
