@@ -1,0 +1,161 @@
+// Where a text and its base go on alike, once they have differed. Both are JSON, so this is looked for at the quotes of
+// names and texts.
+ghost use Rattle.std.specs.Prelude.{◌≤◌, ◌<◌, length, IfSome};
+
+use memchr::memchr;
+
+/// How many bytes have to be alike where two texts meet.
+const WINDOW: usize = 8;
+
+/// How many quotes of the base are looked at for each of the text.
+const AHEAD: usize = 24;
+
+/// How many bytes of the base these are at most.
+const REACH: usize = 4_096;
+
+/// How many of these quotes lie behind, in texts that have as many quotes.
+const BEHIND: usize = 12;
+
+/// How many quotes of a text are looked for in vain, before no place is looked for any more. A quote takes no more than the
+/// reach, so what all of them take has a bound, whatever the texts are.
+pub(crate) const PATIENCE: usize = 1_024;
+
+/// How many bytes are looked at one by one for a quote: most values are no longer, and a search for more costs more to begin.
+const NEAR: usize = 16;
+
+/// A place in the text and one in the base, how many bytes of the base lie between it and what was copied last, and how many
+/// more quotes may be looked for in vain.
+#[derive(Clone, Copy, Drop)]
+pub(crate) struct Meeting {
+    pub(crate) text: usize,
+    pub(crate) base: usize,
+    pub(crate) skipped: usize,
+    pub(crate) patience: usize,
+}
+
+/// The first place where they meet; the end of the text where they don't.
+pub(crate) fn next_meeting(base: &[u8], text: &[u8], patience: usize) -> Meeting
+    ensures text { result.text ≤ length text.now }
+    ensures base { result.base ≤ length base.now }
+{
+    let mut near = quote_from(base, 0);
+    let mut place = quote_from(text, 0);
+    for turn in 0..patience {
+        let Some(window) = window_at(text, place) else {
+            break;
+        };
+        if let Some(found) = find_window(base, near, window) {
+            return Meeting {
+                text: place,
+                base: found,
+                skipped: found,
+                patience: patience - turn,
+            };
+        }
+        place = quote_behind(text, place);
+        if turn >= BEHIND {
+            near = quote_behind(base, near);
+        }
+    }
+    Meeting {
+        text: text.len(),
+        base: 0,
+        skipped: 0,
+        patience: 0,
+    }
+}
+
+/// The place of these bytes at a quote of the base, not far from a place on.
+fn find_window(base: &[u8], near: usize, window: u64) -> Option<usize>
+    requires { near ≤ length base.now }
+    ensures { IfSome result (λ place. place ≤ length base.now) }
+{
+    let base = &base[..near + (base.len() - near).min(REACH)];
+    let mut place = near;
+    for _ in 0..AHEAD {
+        match window_at(base, place) {
+            Some(found) => {
+                if found == window {
+                    return Some(place);
+                }
+            }
+            None => return None,
+        }
+        place = quote_behind(base, place);
+    }
+    None
+}
+
+/// The bytes at a place, if they do not end before.
+fn window_at(bytes: &[u8], place: usize) -> Option<u64>
+    requires { place ≤ length bytes.now }
+{
+    let (window, _) = bytes[place..].split_first_chunk::<WINDOW>()?;
+    Some(u64::from_le_bytes(*window))
+}
+
+/// The place of the first quote behind a place, or the end.
+fn quote_behind(bytes: &[u8], place: usize) -> usize
+    requires { place ≤ length bytes.now }
+    ensures { result ≤ length bytes.now }
+{
+    if place < bytes.len() {
+        quote_from(bytes, place + 1)
+    } else {
+        place
+    }
+}
+
+/// The place of the first quote from a place on, or the end.
+fn quote_from(bytes: &[u8], place: usize) -> usize
+    requires { place ≤ length bytes.now }
+    ensures { result ≤ length bytes.now }
+{
+    let (near, far) = bytes[place..].split_at(NEAR.min(bytes.len() - place));
+    for (skipped, byte) in near.iter().enumerate() {
+        if *byte == b'"' {
+            return place + skipped;
+        }
+    }
+    match memchr(b'"', far) {
+        Some(skipped) => place + near.len() + skipped,
+        None => bytes.len(),
+    }
+}
+
+/// How many bytes both begin with.
+pub(crate) fn common_length(left: &[u8], right: &[u8]) -> usize
+    ensures left { result ≤ length left.now }
+    ensures right { result ≤ length right.now }
+{
+    let mut count = 0;
+    let mut left = left;
+    let mut right = right;
+    while let Some((here, behind)) = left.split_first_chunk::<WINDOW>() {
+        let Some((there, beyond)) = right.split_first_chunk::<WINDOW>() else {
+            break;
+        };
+        let differ = u64::from_le_bytes(*here) ^ u64::from_le_bytes(*there);
+        if differ != 0 {
+            // The lowest byte is the first.
+            return count + WINDOW.min((differ.trailing_zeros() / 8) as usize);
+        }
+        count += WINDOW;
+        left = behind;
+        right = beyond;
+    }
+    count + common_rest(left, right)
+}
+
+fn common_rest(left: &[u8], right: &[u8]) -> usize
+    ensures left { result ≤ length left.now }
+    ensures right { result ≤ length right.now }
+{
+    let longest = left.len().min(right.len());
+    for place in 0..longest {
+        if left[place] != right[place] {
+            return place;
+        }
+    }
+    longest
+}
