@@ -1,0 +1,9 @@
+use Rattle.std.proofs.Common.{ap, ◌∙◌, string_bytes}
+use Rattle.deltas.specs.Expanded.{expanded}
+use Rattle.deltas.proofs.Pieces.{expanded_nothing}
+use Rattle.packed.proofs.packer.Packer.pack.Goals as goal
+
+pub of-requires : goal.of-requires
+of-requires c =
+    ap (expanded (string_bytes c.in_ok-base.base.value)) c.new-2.ensures.items ∙ expanded_nothing (string_bytes c.in_ok-base.base.value)
+    ∙ ap string_bytes c.in_ok-base.ensures.ok ∙ c.in_ok-from_str.ensures.ok ∙ c.as_str.ensures

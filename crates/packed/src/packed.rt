@@ -1,0 +1,70 @@
+ghost use Rattle.std.specs.Prelude.{◌≡◌, ◌++◌, IfOk, OnOk, string_bytes};
+ghost use Rattle.deltas.specs.Expanded.{expanded};
+ghost use Rattle.objects.specs.Text.{text};
+
+use deltas::write_expanded;
+use objects::{Marks, Memory, Object, Printed, Printer, TreeReader};
+use std::alloc::AllocError;
+use std::marker::Model;
+use std::sync::Arc;
+
+/// An object as the difference of its text from another text, which a clause sees as the object.
+#[derive(Drop)]
+pub struct Packed {
+    pub(crate) base: Arc<String>,
+    pub(crate) delta: Vec<u8>,
+    pub(crate) marks: Marks,
+}
+
+impl Model for Packed {
+    ghost use Rattle.std.specs.Prelude.{string_bytes};
+    ghost use Rattle.deltas.specs.Expanded.{expanded};
+    ghost use Rattle.objects.specs.Object.{ObjectParts, object_coded};
+    ghost use Rattle.objects.specs.Marks.{AreMarks};
+    ghost use Rattle.objects.specs.PrintedText.{object_of_text};
+
+    ghost Value = { ObjectParts };
+
+    ghost coded = { object_coded };
+
+    ghost view = { λ p. object_of_text (expanded (string_bytes p.base.value) p.delta.items) };
+
+    ghost invariant = { λ p. AreMarks (expanded (string_bytes p.base.value) p.delta.items) p.marks };
+}
+
+impl Packed {
+    /// The object, whose text is what the delta tells.
+    pub(crate) fn of(base: Arc<String>, delta: Vec<u8>, object: &Printed) -> Packed
+        requires { expanded (string_bytes base.value) delta.items ≡ text object.now }
+        ensures { result ≡ object.now }
+    {
+        let (_, marks) = object.parts();
+        Packed { base, delta, marks }
+    }
+
+    /// Appends the text of the object.
+    pub fn write_text(&self, out: &mut Vec<u8>) -> Result<(), AllocError>
+        ensures { OnOk result (out.new.items ≡ out.old.items ++ text self.now) }
+    {
+        write_expanded(self.base.as_bytes(), self.delta.as_slice(), out)
+    }
+
+    /// The object, printed.
+    pub fn printed(&self, reader: &mut TreeReader, printer: &mut Printer) -> Result<Printed, Memory>
+        ensures { IfOk result (λ printed. printed ≡ self.now) }
+    {
+        let mut bytes = printer.lent();
+        self.write_text(&mut bytes)?;
+        let alloc = *self.delta.allocator();
+        let printed = Printed::of_marks(alloc, &bytes, self.marks, reader, printer);
+        printer.keep(bytes);
+        printed
+    }
+
+    /// The object, read back from its text.
+    pub fn object(&self, reader: &mut TreeReader, printer: &mut Printer) -> Result<Object, Memory>
+        ensures { IfOk result (λ object. object ≡ self.now) }
+    {
+        self.printed(reader, printer)?.object(reader)
+    }
+}

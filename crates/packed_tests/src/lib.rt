@@ -1,0 +1,7 @@
+//! What crates `deltas` and `packed` keep of texts, with deltas and texts that were worked out by hand.
+#![tactic(auto)]
+
+#[cfg(test)]
+mod differences;
+#[cfg(test)]
+mod packing;
