@@ -211,6 +211,9 @@ pub fn serve<R: Source, W: Sink>(
     ensures untouched { IsErrOf result ServeFault.BadCapacity → (reader.new ≡ reader.old) × (writer.new ≡ writer.old) }
 {
     let mut plain = Plain::new(alloc, capacity)?;
-    let mut room = vec![in alloc; 0u8; READ_ROOM]?;
+    let Ok(mut room) = vec![in alloc; 0u8; READ_ROOM] else {
+        drop(plain);
+        return Err(ServeFault::Memory);
+    };
     serve_store(alloc, &mut plain, reader, writer, room.as_mut_slice())
 }

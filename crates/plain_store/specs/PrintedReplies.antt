@@ -1,5 +1,5 @@
 -- Replies whose objects are kept as texts, as the replies that they are.
-use Rattle.std.specs.Prelude.{Bool, true, false, Option, Some, None}
+use Rattle.std.specs.Prelude.{Bool, true, false, Option, Some, None, map}
 use Rattle.objects.specs.declared.object.Object.{Object}
 use Rattle.requests.specs.declared.reply.Reply.{Reply}
 use Rattle.requests.specs.declared.reply.Reply.TheVariants as reply
@@ -10,8 +10,8 @@ use Rattle.plain_store.specs.declared.stored_reply.StoredReply.TheVariants as st
 
 -- what is answered to a request that is no write
 abbrev pub reply_stored : StoredReply → Reply
-reply_stored (stored.Found o) = reply.Found o
-reply_stored (stored.Listed objects revision) = reply.Listed objects.items revision
+reply_stored (stored.Found o) = reply.Found o.now
+reply_stored (stored.Listed objects revision) = reply.Listed (map (λ o. o.now) objects.items) revision
 reply_stored (stored.Compacted revision) = reply.Compacted revision
 reply_stored (stored.Refused reason) = reply.Refused reason
 

@@ -1,4 +1,4 @@
-ghost use Rattle.std.specs.Prelude.{◌≡◌, ◌≢◌, ◌≤◌, ◌<◌, ◌↔◌, ◌==◌, ◌+◌, true, false, None, IfOk, IfSome, OnOk, OnErr, IsErrOf, map, option_map};
+ghost use Rattle.std.specs.Prelude.{◌≡◌, ◌≢◌, ◌≤◌, ◌<◌, ◌↔◌, ◌==◌, ◌+◌, true, false, None, IfOk, OnOk, OnErr, IsErrOf, option_map};
 ghost use Rattle.std.specs.FinMap as finite;
 ghost use Rattle.std.specs.Option.{option_copied};
 ghost use Rattle.plain_store.specs.Reached.{IsReached, most_revisions};
@@ -8,10 +8,10 @@ ghost use Rattle.version_map.specs.Keyed.{collection};
 ghost use Rattle.requests.specs.Change.{accepted, removes, stamp, updates};
 ghost use Rattle.requests.specs.ChangeKinds.{change_by, stored_by};
 ghost use Rattle.requests.specs.Judgments.{verdict_of};
-ghost use Rattle.requests.specs.TextJudgments.{status_verdict, update_verdict};
+ghost use Rattle.requests.specs.TextJudgments.{removal_verdict, status_verdict, update_verdict};
 ghost use Rattle.objects.specs.Rewrites.{at_version, with_status};
 ghost use Rattle.objects.specs.Tree.{data_of};
-ghost use Rattle.plain_store.specs.PrintedReplies.{is_to_write, reply_object, reply_printed, reply_stored};
+ghost use Rattle.plain_store.specs.PrintedReplies.{is_to_write, reply_printed, reply_stored};
 ghost use Rattle.requests.specs.Verdict.{has_status, is_write, verdict};
 ghost use Rattle.requests.specs.declared.reply.Reply.TheVariants.{Listed};
 ghost use Rattle.requests.specs.declared.request.Request.TheVariants.{Compact, Delete, Update, UpdateStatus};
@@ -21,11 +21,12 @@ use crate::printed_reply::PrintedReply;
 use crate::stored_reply::StoredReply;
 use crate::whole_reply::WholeReply;
 use objects::{Draft, Key, Kind, Memory, Object, Printed, Printer, Text, Tree, TreeReader};
+use packed::{Packed, Packer};
 use requests::{
     ChangeKind, Judgment, Reason, RemovalJudgment, Reply, Request, StatusJudgment, UpdateJudgment,
     has_status, is_graceful, judge, judge_removal, judge_status, judge_update,
 };
-use std::alloc::{AllocError, Global};
+use std::alloc::Global;
 use std::marker::Model;
 use thiserror::Error;
 use version_map::VersionMap;
@@ -44,12 +45,13 @@ pub enum PlainError {
 /// drawn, and a capacity for them.
 #[derive(Drop)]
 pub struct Plain {
-    versions: VersionMap<Printed>,
+    versions: VersionMap<Packed>,
     counter: u64,
     capacity: u64,
     alloc: Global,
     reader: TreeReader,
     printer: Printer,
+    packer: Packer,
 }
 
 impl Model for Plain {
@@ -84,6 +86,7 @@ impl Plain {
             alloc,
             reader: TreeReader::new(alloc),
             printer: Printer::new(alloc),
+            packer: Packer::new(alloc),
         })
     }
 
@@ -134,14 +137,14 @@ impl Plain {
         }
     }
 
-    /// Answers a get or a list, which change nothing, with the texts that the store keeps. A list at an exact resource
+    /// Answers a get or a list, which change nothing, with the objects that the store keeps. A list at an exact resource
     /// version is refused as TooLarge above the counter, and as Expired below the floor.
-    pub fn read(&self, request: &Request) -> Result<StoredReply, Memory>
+    pub fn read(&self, request: &Request) -> Result<StoredReply<'_>, Memory>
         requires { is_read request.now ≡ true }
         ensures { IfOk result (λ stored. (self.now, reply_stored stored) ≡ step self.now request.now) }
     {
         match request {
-            Request::Get(key) => self.get(key),
+            Request::Get(key) => Ok(self.get(key)),
             Request::List {
                 kind,
                 namespace,
@@ -167,23 +170,28 @@ impl Plain {
     }
 
     /// The object of that key.
-    fn find(&self, key: &Key) -> Option<&Printed>
+    fn find(&self, key: &Key) -> Option<&Packed>
         ensures { option_copied result ≡ finite.get self.now.objects key.now }
     {
         self.versions.at(key, self.counter)
     }
 
-    fn get(&self, key: &Key) -> Result<StoredReply, Memory>
-        ensures { IfOk result (λ stored. reply_stored stored ≡ found (finite.get self.now.objects key.now)) }
+    fn get(&self, key: &Key) -> StoredReply<'_>
+        ensures { reply_stored result ≡ found (finite.get self.now.objects key.now) }
     {
         match self.find(key) {
-            Some(object) => Ok(StoredReply::Found(object.clone()?)),
-            None => Ok(StoredReply::Refused(Reason::NotFound)),
+            Some(object) => StoredReply::Found(object),
+            None => StoredReply::Refused(Reason::NotFound),
         }
     }
 
     /// A list at a number, unless it is denied.
-    fn list_exactly(&self, kind: Kind, namespace: &Text, number: u64) -> Result<StoredReply, Memory>
+    fn list_exactly(
+        &self,
+        kind: Kind,
+        namespace: &Text,
+        number: u64,
+    ) -> Result<StoredReply<'_>, Memory>
         ensures { IfOk result (λ stored. reply_stored stored ≡ listed_at number (collection (map_at self.now number) kind namespace.now) (denied self.now.floor self.now.counter number)) }
     {
         match self.denied(number) {
@@ -194,11 +202,10 @@ impl Plain {
 
     /// The objects of the kind in the namespace as they are. Its time is theirs: it does not walk over those that were
     /// removed.
-    fn list_now(&self, kind: Kind, namespace: &Text) -> Result<StoredReply, Memory>
+    fn list_now(&self, kind: Kind, namespace: &Text) -> Result<StoredReply<'_>, Memory>
         ensures { IfOk result (λ stored. reply_stored stored ≡ Listed (collection self.now.objects kind namespace.now) self.now.counter) }
     {
-        let listed = self.versions.list_newest(kind, namespace, self.counter)?;
-        let objects = shared(self.alloc, listed)?;
+        let objects = self.versions.list_newest(kind, namespace, self.counter)?;
         Ok(StoredReply::Listed {
             objects,
             revision: self.counter,
@@ -206,12 +213,11 @@ impl Plain {
     }
 
     /// The objects of the kind in the namespace as they were at a number that can be read.
-    fn list_at(&self, kind: Kind, namespace: &Text, number: u64) -> Result<StoredReply, Memory>
+    fn list_at(&self, kind: Kind, namespace: &Text, number: u64) -> Result<StoredReply<'_>, Memory>
         requires { (self.now.floor ≤ number) × (number ≤ self.now.counter) }
         ensures { IfOk result (λ stored. reply_stored stored ≡ Listed (collection (map_at self.now number) kind namespace.now) number) }
     {
-        let listed = self.versions.list_at(kind, namespace, number)?;
-        let objects = shared(self.alloc, listed)?;
+        let objects = self.versions.list_at(kind, namespace, number)?;
         Ok(StoredReply::Listed {
             objects,
             revision: number,
@@ -234,7 +240,7 @@ impl Plain {
     /// Gives up the past below a number, and drops what only it needs: no later list reads there. It takes no memory, and
     /// its time is that of the versions dropped and of those that have come up to the floor, each of which is looked at
     /// once. A number above the counter is TooLarge, and one below the floor Expired; then nothing changes.
-    pub fn compact(&mut self, to: u64) -> StoredReply
+    pub fn compact(&mut self, to: u64) -> StoredReply<'static>
         ensures { (self.new, reply_stored result) ≡ step self.old (Compact to) }
     {
         match self.raise_floor(to) {
@@ -309,13 +315,16 @@ impl Plain {
         ensures judged { IfOk result (λ judged. update_verdict judged ≡ verdict (Update draft) (finite.get self.old.objects draft.object.key)) }
         ensures same { self.new ≡ self.old }
     {
-        let _ = &self.versions;
-        judge_update(
+        let current = printed(
             self.versions.at(&draft.object.key, self.counter),
-            draft,
             &mut self.reader,
             &mut self.printer,
-        )
+        );
+        let Ok(current) = current else {
+            drop(draft);
+            return Err(Memory);
+        };
+        judge_update(current.as_ref(), draft, &mut self.reader, &mut self.printer)
     }
 
     /// Carries out what an update came to.
@@ -366,11 +375,12 @@ impl Plain {
         ensures judged { IfOk result (λ judged. status_verdict judged ≡ verdict (UpdateStatus draft.now) (finite.get self.old.objects draft.now.object.key)) }
         ensures same { self.new ≡ self.old }
     {
-        judge_status(
+        let current = printed(
             self.versions.at(&draft.object.key, self.counter),
-            draft,
             &mut self.reader,
-        )
+            &mut self.printer,
+        )?;
+        judge_status(current.as_ref(), draft, &mut self.reader)
     }
 
     /// Gives the object that status, or takes its own away, at the next number, if there is one left.
@@ -448,10 +458,27 @@ impl Plain {
         ensures memory { OnErr result (self.new ≡ self.old) }
     {
         let _ = &self.versions;
-        match judge_removal(self.find(key), version, uid)? {
+        match self.judge_removal(key, uid, version)? {
             RemovalJudgment::Refuse(reason) => Ok(PrintedReply::Refused(reason)),
             RemovalJudgment::Remove(current) => self.put_removal(key, current),
         }
+    }
+
+    fn judge_removal(
+        &mut self,
+        key: &Key,
+        uid: Option<&Text>,
+        version: Option<&Text>,
+    ) -> Result<RemovalJudgment, Memory>
+        ensures judged { IfOk result (λ judged. removal_verdict judged ≡ verdict (Delete key.now (option_copied uid.entry) (option_copied version.entry) None) (finite.get self.old.objects key.now)) }
+        ensures same { self.new ≡ self.old }
+    {
+        let current = printed(
+            self.versions.at(key, self.counter),
+            &mut self.reader,
+            &mut self.printer,
+        )?;
+        Ok(judge_removal(current.as_ref(), version, uid)?)
     }
 
     /// Takes the object away at the next number, if there is one left.
@@ -533,7 +560,11 @@ impl Plain {
         ensures there { IfOk result (λ current. current ≡ finite.get self.old.objects key.now) }
         ensures same { self.new ≡ self.old }
     {
-        read_back(self.versions.at(key, self.counter), &mut self.reader)
+        read_back(
+            self.versions.at(key, self.counter),
+            &mut self.reader,
+            &mut self.printer,
+        )
     }
 
     /// Makes the change at the next number, if there is one left.
@@ -577,7 +608,14 @@ impl Plain {
         ensures put { OnOk result (self.new ≡ with_next self.old key.now (stored_by kind text.now)) }
         ensures memory { OnErr result (self.new ≡ self.old) }
     {
-        let state = stored(kind, text)?;
+        let state = stored(
+            &mut self.packer,
+            &self.versions,
+            self.counter,
+            kind,
+            key,
+            text,
+        )?;
         self.versions.make_room(key)?;
         self.versions.push(self.counter + 1, state);
         self.counter += 1;
@@ -604,12 +642,55 @@ impl Plain {
     }
 }
 
-fn read_back(found: Option<&Printed>, reader: &mut TreeReader) -> Result<Option<Object>, Memory>
+/// The object that was found, read back.
+fn read_back(
+    found: Option<&Packed>,
+    reader: &mut TreeReader,
+    printer: &mut Printer,
+) -> Result<Option<Object>, Memory>
     ensures { IfOk result (λ object. object ≡ option_copied found.entry) }
 {
     match found {
-        Some(printed) => Ok(Some(printed.object(reader)?)),
+        Some(packed) => Ok(Some(packed.object(reader, printer)?)),
         None => Ok(None),
+    }
+}
+
+/// The object that was found, printed.
+fn printed(
+    found: Option<&Packed>,
+    reader: &mut TreeReader,
+    printer: &mut Printer,
+) -> Result<Option<Printed>, Memory>
+    ensures { IfOk result (λ object. object ≡ option_copied found.entry) }
+{
+    match found {
+        Some(packed) => Ok(Some(packed.printed(reader, printer)?)),
+        None => Ok(None),
+    }
+}
+
+/// What a change of that kind leaves of the text of its object, packed beside others of its set, or else beside what its
+/// key was at a number.
+fn stored(
+    packer: &mut Packer,
+    versions: &VersionMap<Packed>,
+    number: u64,
+    kind: ChangeKind,
+    key: &Key,
+    text: &Printed,
+) -> Result<Option<Packed>, Memory>
+    requires { versions.now.floor ≤ number }
+    ensures { IfOk result (λ state. state ≡ stored_by kind text.now) }
+{
+    match kind {
+        ChangeKind::Creation | ChangeKind::Update | ChangeKind::Mark => {
+            if let Some(packed) = packer.pack_in_set(key, text)? {
+                return Ok(Some(packed));
+            }
+            Ok(Some(packer.pack(key, text, versions.at(key, number))?))
+        }
+        ChangeKind::Removal => Ok(None),
     }
 }
 
@@ -621,26 +702,4 @@ fn verdict_on(current: Option<Object>, request: Request) -> Result<Judgment, Mem
     let decided = judge(current.as_ref(), request);
     drop(current);
     Ok(decided?)
-}
-
-/// What a change of that kind leaves of the text of its object.
-fn stored(kind: ChangeKind, text: &Printed) -> Result<Option<Printed>, AllocError>
-    ensures { IfOk result (λ state. state ≡ stored_by kind text.now) }
-{
-    match kind {
-        ChangeKind::Creation | ChangeKind::Update | ChangeKind::Mark => Ok(Some(text.clone()?)),
-        ChangeKind::Removal => Ok(None),
-    }
-}
-
-/// The texts, shared.
-fn shared(alloc: Global, texts: Vec<&Printed>) -> Result<Vec<Printed>, AllocError>
-    ensures { IfOk result (λ copies. copies.items ≡ map (λ t. t.now) texts.entry.items) }
-{
-    let mut copies = Vec::new(alloc);
-    copies.reserve(texts.len())?;
-    for text in texts {
-        copies.push(text.clone()?)?;
-    }
-    Ok(copies)
 }

@@ -6,6 +6,7 @@ ghost use Rattle.plain.specs.Verdict.{is_write};
 
 use crate::asserts::assert_answers_within;
 use objects::{Memory, Object, print_object};
+use packed::Packed;
 use plain::{Plain, PrintedReply, Reply, Request, StoredReply, read_request};
 use std::alloc::{AllocError, Global};
 use std::process::Abort;
@@ -193,17 +194,26 @@ fn objects_are_read_back_as_they_were_stored(rt: HostRuntime) -> Result<(), Fail
 fn stored_texts(alloc: Global, stored: &StoredReply) -> Result<String, AllocError> {
     let mut texts = String::new(alloc);
     match stored {
-        StoredReply::Found(text) => with_text(texts, text.as_str()),
+        StoredReply::Found(packed) => with_packed(texts, packed),
         StoredReply::Listed {
             objects,
             revision: _,
         } => {
-            for text in objects.as_slice() {
-                texts = with_text(texts, text.as_str())?;
+            for packed in objects.as_slice() {
+                texts = with_packed(texts, packed)?;
             }
             Ok(texts)
         }
         StoredReply::Compacted { revision: _ } | StoredReply::Refused(_) => Ok(texts),
+    }
+}
+
+fn with_packed(texts: String, packed: &Packed) -> Result<String, AllocError> {
+    let mut bytes = Vec::new(*texts.allocator());
+    packed.write_text(&mut bytes)?;
+    match str::from_utf8(&bytes) {
+        Ok(text) => with_text(texts, text),
+        Err(_) => with_text(texts, "not UTF-8"),
     }
 }
 

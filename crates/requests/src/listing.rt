@@ -1,7 +1,7 @@
-ghost use Rattle.std.specs.Prelude.{◌≡◌, IfOk};
+ghost use Rattle.std.specs.Prelude.{◌≡◌};
 
-use objects::{Memory, Object, Printed, TreeReader};
-use std::alloc::{AllocError, Global};
+use objects::Object;
+use std::alloc::AllocError;
 use std::marker::Model;
 
 /// The objects of one kind in one namespace, in byte order of their names.
@@ -43,21 +43,6 @@ impl Clone for Listing {
 }
 
 impl Listing {
-    /// The objects of these texts, read back.
-    pub fn read(
-        alloc: Global,
-        reader: &mut TreeReader,
-        texts: &[Printed],
-    ) -> Result<Listing, Memory>
-        ensures { IfOk result (λ listing. listing ≡ texts.now) }
-    {
-        let mut objects = Vec::with_capacity(alloc, texts.len())?;
-        for text in texts {
-            objects.push(text.object(reader)?)?;
-        }
-        Ok(Listing { objects })
-    }
-
     /// The objects, in byte order of their names.
     pub fn as_slice(&self) -> &[Object]
         ensures { result.now ≡ self.now }

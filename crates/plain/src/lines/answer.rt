@@ -4,6 +4,7 @@ ghost use Rattle.plain.specs.Replies.{reply_data, error_data};
 ghost use Rattle.requests.specs.Verdict.{is_write};
 ghost use Rattle.plain.specs.Served.{answer};
 ghost use Rattle.plain_store.specs.PrintedReplies.{reply_stored};
+ghost use Rattle.plain_store.specs.Route.{is_read};
 ghost use Rattle.plain_store.specs.Store.{step};
 ghost use Rattle.objects.specs.declared.fault.ReadError.TheVariants.{Memory as out_of_memory};
 ghost use Rattle.plain.specs.declared.lines.request_error.RequestError.TheVariants.{Read};
@@ -64,27 +65,14 @@ fn answer_other(plain: &mut Plain, request: &Request, out: Vec<u8>) -> Result<Ve
     ensures text { IfOk result (λ v. v.items ≡ out.items ++ (compact_text (reply_data (step plain.old request.now).1) ++ 10 ∷ [])) }
     ensures store { IfOk result (λ _. plain.new ≡ (step plain.old request.now).0) }
 {
-    let stored = stored_reply(plain, request)?;
-    let mut out = out;
-    let written = stored_line(&stored, &mut out);
-    drop(stored);
-    written?;
-    Ok(out)
-}
-
-/// The reply to a get, a list or a compaction.
-fn stored_reply(plain: &mut Plain, request: &Request) -> Result<StoredReply, Memory>
-    requires { is_write request.now ≡ false }
-    ensures { IfOk result (λ stored. (plain.new, reply_stored stored) ≡ step plain.old request.now) }
-{
     match request {
         Request::Get(_)
         | Request::List {
             kind: _,
             namespace: _,
             exact: _,
-        } => plain.read(request),
-        Request::Compact { to } => Ok(plain.compact(*to)),
+        } => answer_read(plain, request, out),
+        Request::Compact { to } => answer_stored(&plain.compact(*to), out),
         Request::Create(_)
         | Request::Update(_)
         | Request::UpdateStatus(_)
@@ -95,6 +83,24 @@ fn stored_reply(plain: &mut Plain, request: &Request) -> Result<StoredReply, Mem
             at: _,
         } => unreachable!(),
     }
+}
+
+/// Answers a get or a list, which change nothing.
+fn answer_read(plain: &Plain, request: &Request, out: Vec<u8>) -> Result<Vec<u8>, Memory>
+    requires { is_read request.now ≡ true }
+    ensures text { IfOk result (λ v. v.items ≡ out.items ++ (compact_text (reply_data (step plain.now request.now).1) ++ 10 ∷ [])) }
+    ensures store { IfOk result (λ _. plain.now ≡ (step plain.now request.now).0) }
+{
+    let stored = plain.read(request)?;
+    answer_stored(&stored, out)
+}
+
+fn answer_stored(stored: &StoredReply, out: Vec<u8>) -> Result<Vec<u8>, Memory>
+    ensures { IfOk result (λ v. v.items ≡ out.items ++ (compact_text (reply_data (reply_stored stored.now)) ++ 10 ∷ [])) }
+{
+    let mut out = out;
+    stored_line(stored, &mut out)?;
+    Ok(out)
 }
 
 fn answer_refusal(error: RequestError, out: Vec<u8>) -> Result<Vec<u8>, Memory>

@@ -1,5 +1,5 @@
 // The line of a reply: its text, with those of its objects copied in, and a line feed.
-ghost use Rattle.std.specs.Prelude.{◌≡◌, ◌++◌, ◌∷◌, [], true, false, codes, decimal, OnOk};
+ghost use Rattle.std.specs.Prelude.{◌≡◌, ◌++◌, ◌∷◌, [], true, false, codes, decimal, map, OnOk};
 ghost use Rattle.json.specs.Print.{escape};
 ghost use Rattle.serde_json.specs.Written.{compact_text, comma_if, items_text};
 ghost use Rattle.objects.specs.Text.{text};
@@ -9,6 +9,7 @@ ghost use Rattle.plain_store.specs.PrintedReplies.{reply_printed, reply_stored};
 
 use crate::lines::request_error::RequestError;
 use objects::Printed;
+use packed::Packed;
 use plain_store::{PrintedReply, StoredReply};
 use requests::Reason;
 use std::alloc::AllocError;
@@ -32,7 +33,7 @@ pub(crate) fn stored_line(stored: &StoredReply, out: &mut Vec<u8>) -> Result<(),
     ensures { OnOk result (out.new.items ≡ out.old.items ++ (compact_text (reply_data (reply_stored stored.now)) ++ 10 ∷ [])) }
 {
     match stored {
-        StoredReply::Found(text) => object_line(200, text, "Found", out),
+        StoredReply::Found(packed) => packed_line(200, packed, "Found", out),
         StoredReply::Listed { objects, revision } => listed_line(
             objects.as_slice(),
             *revision,
@@ -65,13 +66,28 @@ fn object_line(
     put_last(",\"result\":\"", outcome, out)
 }
 
-fn listed_line(texts: &[Printed], revision: u64, out: &mut Vec<u8>) -> Result<(), AllocError>
-    ensures { OnOk result (out.new.items ≡ out.old.items ++ (compact_text (with_items texts.now revision) ++ 10 ∷ [])) }
+fn packed_line(
+    code: u16,
+    object: &Packed,
+    outcome: &str,
+    out: &mut Vec<u8>,
+) -> Result<(), AllocError>
+    requires { escape outcome.now ≡ outcome.now }
+    ensures { OnOk result (out.new.items ≡ out.old.items ++ (compact_text (with_object code object.now outcome.now) ++ 10 ∷ [])) }
+{
+    put_code(code, out)?;
+    put(",\"object\":", out)?;
+    object.write_text(out)?;
+    put_last(",\"result\":\"", outcome, out)
+}
+
+fn listed_line(objects: &[&Packed], revision: u64, out: &mut Vec<u8>) -> Result<(), AllocError>
+    ensures { OnOk result (out.new.items ≡ out.old.items ++ (compact_text (with_items (map (λ o. o.now) objects.now) revision) ++ 10 ∷ [])) }
 {
     let mut buffer = itoa::Buffer::new();
     put_code(200, out)?;
     put(",\"items\":[", out)?;
-    put_items(texts, out)?;
+    put_items(objects, out)?;
     put(",\"resourceVersion\":\"", out)?;
     put(buffer.format(revision), out)?;
     put_last("\",\"result\":\"", "Listed", out)
@@ -119,24 +135,24 @@ fn put_last(front: &str, text: &str, out: &mut Vec<u8>) -> Result<(), AllocError
 }
 
 // With the closing bracket.
-fn put_items(texts: &[Printed], out: &mut Vec<u8>) -> Result<(), AllocError>
-    ensures { OnOk result (out.new.items ≡ out.old.items ++ items_text false (printed_items texts.now)) }
+fn put_items(objects: &[&Packed], out: &mut Vec<u8>) -> Result<(), AllocError>
+    ensures { OnOk result (out.new.items ≡ out.old.items ++ items_text false (printed_items (map (λ o. o.now) objects.now))) }
 {
     let mut later = false;
-    for text in texts {
-        put_item(later, text, out)?;
+    for object in objects {
+        put_item(later, object, out)?;
         later = true;
     }
     put("]", out)
 }
 
-fn put_item(later: bool, object: &Printed, out: &mut Vec<u8>) -> Result<(), AllocError>
+fn put_item(later: bool, object: &Packed, out: &mut Vec<u8>) -> Result<(), AllocError>
     ensures { OnOk result (out.new.items ≡ out.old.items ++ (comma_if later ++ text object.now)) }
 {
     if later {
         put(",", out)?;
     }
-    put(object.as_str(), out)
+    object.write_text(out)
 }
 
 fn put(text: &str, out: &mut Vec<u8>) -> Result<(), AllocError>

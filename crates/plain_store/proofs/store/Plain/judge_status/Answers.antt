@@ -11,5 +11,5 @@ use Rattle.plain_store.proofs.store.Plain.judge_status.Goals as goal
 pub returns-clause-judged : goal.returns-clause-judged
 returns-clause-judged c =
     let key = ap (λ (d : Draft). d.object.key) c.draft.view_is in
-    let there = c.at.ensures ∙ found_is c.self.inside.versions c.self.inside.counter c.self.inside.capacity c.args.self.now _ c.self.view_is ∙ ap (finite.get c.args.self.now.objects) key in
+    let there = c.as_ref.ensures.value ∙ c.in_ok-current.ensures ∙ c.at.ensures ∙ found_is c.self.inside.versions c.self.inside.counter c.self.inside.capacity c.args.self.now _ c.self.view_is ∙ ap (finite.get c.args.self.now.objects) key in
     IfOk-weaker c.judge_status.result _ _ (λ judged is. is ∙ ap (λ (current : Option Object). verdict (UpdateStatus c.args.draft.now) current) there) c.judge_status.ensures

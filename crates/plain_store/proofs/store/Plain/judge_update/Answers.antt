@@ -15,12 +15,12 @@ pub judge_update-requires-clause-key : goal.judge_update-requires-clause-key
 judge_update-requires-clause-key c =
     let s = c.args.self.now in
     let key = ap (λ (d : Draft). d.object.key) c.draft.view_is in
-    let there = c.at.ensures ∙ found_is c.self.inside.versions c.self.inside.counter c.self.inside.capacity s _ c.self.view_is ∙ ap (finite.get s.objects) key in
+    let there = c.as_ref.ensures.value ∙ c.in-Ok.ensures ∙ c.at.ensures ∙ found_is c.self.inside.versions c.self.inside.counter c.self.inside.capacity s _ c.self.view_is ∙ ap (finite.get s.objects) key in
     filed_there s c.args.draft.object.key _ (filed_when_reached s (still_reached _ s (sym c.self.view_is) c.self.invariant.3)) there
 
 pub returns-clause-judged : goal.returns-clause-judged
 returns-clause-judged c =
     let s = c.args.self.now in
     let key = ap (λ (d : Draft). d.object.key) c.draft.view_is in
-    let there = c.at.ensures ∙ found_is c.self.inside.versions c.self.inside.counter c.self.inside.capacity s _ c.self.view_is ∙ ap (finite.get s.objects) key in
+    let there = c.as_ref.ensures.value ∙ c.in-Ok.ensures ∙ c.at.ensures ∙ found_is c.self.inside.versions c.self.inside.counter c.self.inside.capacity s _ c.self.view_is ∙ ap (finite.get s.objects) key in
     IfOk-weaker c.judge_update.result _ _ (λ judged is. is ∙ ap (λ (current : Option Object). verdict (Update c.args.draft) current) there) c.judge_update.ensures

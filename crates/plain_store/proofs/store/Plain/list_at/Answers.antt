@@ -9,5 +9,5 @@ pub returns : goal.returns
 returns c =
     let n = c.args.number in
     let from = subst (λ (t : Store). (t.floor ≤ n) × (n ≤ t.counter)) (sym c.self.view_is) c.requires in
-    ap (λ os. Listed os n) (c.in_ok-objects.ensures ∙ c.in_ok-listed.ensures ∙ ap (λ m. collection m c.args.kind c.args.namespace.now)
+    ap (λ os. Listed os n) (c.in_ok-objects.ensures ∙ ap (λ m. collection m c.args.kind c.args.namespace.now)
     (sym (map_at_is c.self.inside.versions c.self.inside.counter c.self.inside.capacity n from.0 from.1) ∙ ap (λ (t : Store). map_at t n) c.self.view_is))
