@@ -22,6 +22,16 @@ fn read(alloc: Global, text: &str) -> Result<Object, ReadError> {
     Ok(draft.object)
 }
 
+/// The key of the object of the text, and the object, printed.
+fn printed(alloc: Global, text: &str) -> Result<(Key, Printed), ReadError> {
+    let object = read(alloc, text)?;
+    let printed = Printed::of(alloc, &object);
+    let key: Result<Key, AllocError> = object.key.clone();
+    drop(object);
+    let key = key?;
+    Ok((key, printed?))
+}
+
 /// The object of the text, packed beside those that were packed before.
 fn packed(
     alloc: Global,
@@ -29,16 +39,18 @@ fn packed(
     text: &str,
     before: Option<&Packed>,
 ) -> Result<Packed, ReadError> {
-    let object = read(alloc, text)?;
-    let printed = Printed::of(alloc, &object);
-    let key: Result<Key, AllocError> = object.key.clone();
-    drop(object);
-    let key = key?;
-    let printed = printed?;
+    let (key, printed) = printed(alloc, text)?;
     match packer.pack_in_set(&key, &printed)? {
         Some(packed) => Ok(packed),
         None => Ok(packer.pack(&key, &printed, before)?),
     }
+}
+
+/// Whether the object of the text is packed beside another one of its set.
+fn is_beside_its_set(alloc: Global, packer: &mut Packer, text: &str) -> Result<bool, ReadError> {
+    let (key, printed) = printed(alloc, text)?;
+    let found = packer.pack_in_set(&key, &printed)?;
+    Ok(found.is_some())
 }
 
 /// Whether it has that text, as bytes, as a printed object and as an object.
@@ -80,5 +92,16 @@ fn an_object_may_be_packed_beside_the_one_before(rt: HostRuntime) -> Result<(), 
         assert!(rt; is_packed_as(rt.alloc(), &next, text)?, "of {text}");
         assert!(rt; is_packed_as(rt.alloc(), &first, TEXTS[0])?);
     }
+    Ok(())
+}
+
+#[test]
+fn objects_of_a_set_are_packed_beside_its_first(rt: HostRuntime) -> Result<(), Fail> {
+    let mut packer = Packer::new(rt.alloc());
+    assert!(rt; !is_beside_its_set(rt.alloc(), &mut packer, TEXTS[0])?);
+    drop(packed(rt.alloc(), &mut packer, TEXTS[0], None)?);
+    // "db-1" beside "db-0", and not the set "web".
+    assert!(rt; is_beside_its_set(rt.alloc(), &mut packer, TEXTS[1])?);
+    assert!(rt; !is_beside_its_set(rt.alloc(), &mut packer, TEXTS[6])?);
     Ok(())
 }
