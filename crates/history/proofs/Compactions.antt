@@ -1,14 +1,12 @@
 -- The shards are compacted to the least number that is read: what a machine shows stays.
-use Rattle.std.proofs.Common.{◌≡◌, ◌≢◌, ℕ, ◌+◌, ◌<◌, ◌≤◌, true, List, length, set, refl, sym, ap, ◌∙◌, subst, arith, nat_eq, true≢false, get_or-set_same, get_or-set_other}
+use Rattle.std.proofs.Common.{◌≡◌, ℕ, ◌+◌, ◌<◌, ◌≤◌, true, List, length, set, refl, sym, ap, ◌∙◌, subst, arith, nat_eq, true≢false, get_or-set_same, get_or-set_other}
 use Rattle.std.proofs.Math.ListN.{length-set}
 use Rattle.versions.specs.Shard as versions
 use Rattle.versions.specs.Shard.{Shard}
 use Rattle.history.specs.declared.machine.Machine.{Machine}
 use Rattle.history.specs.declared.phase.Phase.{Phase as CodePhase}
 use Rattle.history.specs.declared.phase.Phase.TheVariants as code
-use Rattle.requests.specs.declared.request.Request.{Request}
-use Rattle.plain_store.specs.Store.{Objects}
-use Rattle.history.specs.Begun.{IsLeastOf, is_open}
+use Rattle.history.specs.Begun.{IsLeastOf}
 use Rattle.history.specs.Mirrors.{IsCompacted}
 use Rattle.interleavings.specs.Order.{Arrangement}
 use Rattle.history.specs.Replayed.{AreCompacted, IsShown, IsUnread, Shows, Thins, phase_at, reads_at, shard_at}

@@ -4,7 +4,7 @@ use Rattle.std.specs.FinMap as finite
 use Rattle.std.specs.FinMap.{entries, entries_sorted, find, get-empty, get-entries, get-insert, is_sorted, same_map}
 use Rattle.std.specs.FinMap.Entries.{below_all}
 use Rattle.std.proofs.lemmas.Bool.{and_parts}
-use Rattle.std.proofs.lemmas.Option.{none-some, same_Some}
+use Rattle.std.proofs.lemmas.Option.{none-some}
 use Rattle.objects.specs.declared.key.Key.{Key}
 use Rattle.objects.specs.declared.kind.Kind.{Kind}
 use Rattle.objects.specs.declared.object.Object.{Object}
@@ -13,7 +13,6 @@ use Rattle.objects.specs.KeyOrder.{exact_keys, key_cmp_total}
 use Rattle.requests.specs.declared.request.Request.{Request}
 use Rattle.requests.specs.declared.reply.Reply.{Reply}
 use Rattle.requests.specs.declared.reply.Reply.TheVariants.{Listed}
-use Rattle.requests.specs.Change.{Change, change_object, creates, kept, marks, removes, updates}
 use Rattle.plain_store.specs.Route.{gets, lists, lists_at, route, writes}
 use Rattle.plain_store.specs.Store as store
 use Rattle.plain_store.specs.Store.{Objects, Store, collection, is_of, listed_at, step}
@@ -22,7 +21,7 @@ use Rattle.versions.specs.Records as versions
 use Rattle.versions.specs.Records.{Records}
 use Rattle.versions.proofs.Found.{is_held}
 use Rattle.versions.proofs.States.{state_is_value}
-use Rattle.interleavings.specs.Log.{IsFiled, Log, Writing, newer, state_at, value}
+use Rattle.interleavings.specs.Log.{IsFiled, Log, state_at, value}
 use Rattle.history.specs.Mirrors.{Mirrors, read_up_to, with_object, with_objects}
 use Rattle.interleavings.specs.Step.{only, reads, with_part}
 use Rattle.interleavings.specs.World.{Size, shard}

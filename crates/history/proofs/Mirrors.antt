@@ -16,7 +16,7 @@ use Rattle.requests.specs.Verdict.{verdict}
 use Rattle.versions.specs.Compacted.{compacted}
 use Rattle.versions.specs.Records as versions
 use Rattle.versions.specs.Records.{IsAbove, Record, Records, current, last_of, newest, up_to, version_at}
-use Rattle.versions.specs.Shard.{Shard, raised}
+use Rattle.versions.specs.Shard.{Shard}
 use Rattle.versions.proofs.Above.{above_more, above_none, above_pushed, above_raised, raised_from}
 use Rattle.versions.proofs.Found.{equal_numbers}
 use Rattle.versions.proofs.Held.{all_below, no_records, put_last}

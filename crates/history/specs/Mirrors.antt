@@ -5,7 +5,6 @@ use Rattle.objects.specs.declared.key.Key.{Key}
 use Rattle.objects.specs.declared.kind.Kind.{Kind}
 use Rattle.objects.specs.declared.object.Object.{Object}
 use Rattle.requests.specs.declared.request.Request.{Request}
-use Rattle.requests.specs.Change.{change_object}
 use Rattle.plain_store.specs.Store.{Objects, collection}
 use Rattle.versions.specs.Records as versions
 use Rattle.versions.specs.Records.{IsAbove, Records}
