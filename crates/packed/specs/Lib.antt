@@ -1,0 +1,2 @@
+-- What only types use.
+pub mod Delta

@@ -2,6 +2,7 @@ ghost use Rattle.std.specs.Prelude.{◌≡◌, ◌++◌, IfOk, OnOk, string_byte
 ghost use Rattle.deltas.specs.Expanded.{expanded};
 ghost use Rattle.objects.specs.Text.{text};
 
+use crate::delta::Delta;
 use deltas::write_expanded;
 use objects::{Marks, Memory, Object, Printed, Printer, TreeReader};
 use std::alloc::AllocError;
@@ -12,7 +13,7 @@ use std::sync::Arc;
 #[derive(Drop)]
 pub struct Packed {
     pub(crate) base: Arc<String>,
-    pub(crate) delta: Vec<u8>,
+    pub(crate) delta: Delta,
     pub(crate) marks: Marks,
 }
 
@@ -27,15 +28,15 @@ impl Model for Packed {
 
     ghost coded = { object_coded };
 
-    ghost view = { λ p. object_of_text (expanded (string_bytes p.base.value) p.delta.items) };
+    ghost view = { λ p. object_of_text (expanded (string_bytes p.base.value) p.delta) };
 
-    ghost invariant = { λ p. AreMarks (expanded (string_bytes p.base.value) p.delta.items) p.marks };
+    ghost invariant = { λ p. AreMarks (expanded (string_bytes p.base.value) p.delta) p.marks };
 }
 
 impl Packed {
     /// The object, whose text is what the delta tells.
-    pub(crate) fn of(base: Arc<String>, delta: Vec<u8>, object: &Printed) -> Packed
-        requires { expanded (string_bytes base.value) delta.items ≡ text object.now }
+    pub(crate) fn of(base: Arc<String>, delta: Delta, object: &Printed) -> Packed
+        requires { expanded (string_bytes base.value) delta ≡ text object.now }
         ensures { result ≡ object.now }
     {
         let (_, marks) = object.parts();
@@ -55,7 +56,7 @@ impl Packed {
     {
         let mut bytes = printer.lent();
         self.write_text(&mut bytes)?;
-        let alloc = *self.delta.allocator();
+        let alloc = *self.base.allocator();
         let printed = Printed::of_marks(alloc, &bytes, self.marks, reader, printer);
         printer.keep(bytes);
         printed

@@ -1,5 +1,6 @@
 ghost use Rattle.std.specs.Prelude.{◌≡◌, IfOk, IfSome};
 
+use crate::delta::Delta;
 use crate::packed::Packed;
 use deltas::write_delta;
 use memchr::memrchr;
@@ -61,7 +62,7 @@ impl Packer {
         if base.len() <= LONGEST {
             self.bases.insert(slot_of(key), Arc::try_clone(&base)?)?;
         }
-        Ok(Packed::of(base, Vec::new(self.alloc), object))
+        Ok(Packed::of(base, Delta::copy_of(self.alloc, &[])?, object))
     }
 }
 
@@ -81,7 +82,7 @@ fn packed_by(
     }
     buffer.clear();
     if write_delta(base.as_bytes(), text, text.len() / 4 + 16, buffer)? {
-        let delta = Vec::from_slice(alloc, buffer.as_slice())?;
+        let delta = Delta::copy_of(alloc, buffer.as_slice())?;
         Ok(Some(Packed::of(Arc::try_clone(base)?, delta, object)))
     } else {
         Ok(None)

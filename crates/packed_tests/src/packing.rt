@@ -5,7 +5,7 @@ use std::alloc::{AllocError, Global};
 use std::test::Fail;
 
 /// Objects of one set and of others. Each text is the one that its object has.
-static TEXTS: [&str; 7] = [
+static TEXTS: [&str; 9] = [
     r#"{"kind":"Pod","metadata":{"generation":1,"labels":{"app":"db","n":"7"},"name":"db-0","namespace":"default","resourceVersion":"1","uid":"00000000-0000-4000-8000-000000000001"},"spec":{"x":1}}"#,
     r#"{"kind":"Pod","metadata":{"generation":1,"labels":{"app":"db","n":"12"},"name":"db-1","namespace":"default","resourceVersion":"2","uid":"00000000-0000-4000-8000-000000000002"},"spec":{"x":1}}"#,
     r#"{"kind":"Pod","metadata":{"generation":1,"labels":{"app":"db","n":"7"},"name":"db-0","namespace":"default","resourceVersion":"3","uid":"00000000-0000-4000-8000-000000000001"},"spec":{"x":1},"status":{"phase":"Running"}}"#,
@@ -15,6 +15,9 @@ static TEXTS: [&str; 7] = [
     r#"{"kind":"Pod","metadata":{"generation":1,"name":"db-4","namespace":"default","resourceVersion":"6","uid":"00000000-0000-4000-8000-ffffffffffff"}}"#,
     // A member behind the status, so that the text can't be cut.
     r#"{"kind":"StatefulSet","metadata":{"generation":1,"name":"web","namespace":"default","resourceVersion":"7","uid":"00000000-0000-4000-8000-000000000007"},"status":{},"z":"\"\\ä"}"#,
+    // Two long texts that differ in more bytes than a delta of a small object has.
+    r#"{"kind":"Pod","metadata":{"annotations":{"note":"abcdefghijabcdefghijabcdefghijabcdefghijabcdefghijabcdefghijabcdefghijabcdefghijabcdefghijabcdefghijabcdefghijabcdefghijabcdefghijabcdefghijabcdefghijabcdefghijabcdefghijabcdefghijabcdefghijabcdefghijabcdefghijabcdefghijabcdefghijabcdefghij"},"generation":1,"name":"long-0","namespace":"default","resourceVersion":"8","uid":"00000000-0000-4000-8000-000000000008"},"spec":{"image":"registry/database:1.2.3"}}"#,
+    r#"{"kind":"Pod","metadata":{"annotations":{"note":"abcdefghijabcdefghijabcdefghijabcdefghijabcdefghijabcdefghijabcdefghijabcdefghijabcdefghijabcdefghijabcdefghijabcdefghijabcdefghijabcdefghijabcdefghijabcdefghijabcdefghijabcdefghijabcdefghijabcdefghijabcdefghijabcdefghijabcdefghijabcdefghij"},"generation":1,"name":"long-1","namespace":"default","resourceVersion":"9","uid":"00000000-0000-4000-8000-000000000009"},"spec":{"image":"0123456789abcdefghijklmnopqrstuvwxyz0123456789abcdefghijklmnopqrstuvwxyz"}}"#,
 ];
 
 fn read(alloc: Global, text: &str) -> Result<Object, ReadError> {
@@ -103,5 +106,7 @@ fn objects_of_a_set_are_packed_beside_its_first(rt: HostRuntime) -> Result<(), F
     // "db-1" beside "db-0", and not the set "web".
     assert!(rt; is_beside_its_set(rt.alloc(), &mut packer, TEXTS[1])?);
     assert!(rt; !is_beside_its_set(rt.alloc(), &mut packer, TEXTS[6])?);
+    drop(packed(rt.alloc(), &mut packer, TEXTS[7], None)?);
+    assert!(rt; is_beside_its_set(rt.alloc(), &mut packer, TEXTS[8])?);
     Ok(())
 }

@@ -5,5 +5,5 @@ use Rattle.packed.proofs.packer.Packer.pack.Goals as goal
 
 pub of-requires : goal.of-requires
 of-requires c =
-    ap (expanded (string_bytes c.in_ok-base.base.value)) c.new-2.ensures.items ∙ expanded_nothing (string_bytes c.in_ok-base.base.value)
+    ap (expanded (string_bytes c.in_ok-base.base.value)) c.in_ok-copy_of.ensures ∙ expanded_nothing (string_bytes c.in_ok-base.base.value)
     ∙ ap string_bytes c.in_ok-base.ensures.ok ∙ c.in_ok-from_str.ensures.ok ∙ c.as_str.ensures

@@ -1,0 +1,8 @@
+use Rattle.std.specs.Prelude.{List, ℕ}
+use Rattle.packed.specs.declared.delta.Form.{Form}
+use Rattle.packed.specs.declared.delta.Form.TheVariants.{Short, Long}
+
+-- The bytes of a delta, in whichever form it lies.
+abbrev pub bytes_of : Form → List ℕ
+bytes_of (Short v) = v.items
+bytes_of (Long v) = v.items

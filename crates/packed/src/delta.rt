@@ -1,0 +1,53 @@
+ghost use Rattle.std.specs.Prelude.{◌≡◌, IfOk};
+
+use arrayvec::ArrayVec;
+use std::alloc::{AllocError, Global};
+use std::marker::Model;
+
+/// The most bytes of a delta that lies in its own value. Those of small objects are no longer, and then a version takes no
+/// block of its own, and a reading comes upon one place less in memory.
+const SHORT: usize = 48;
+
+/// A delta, which a clause sees as its bytes.
+#[derive(Drop)]
+pub(crate) struct Delta {
+    form: Form,
+}
+
+#[derive(Drop)]
+pub(crate) enum Form {
+    Short(ArrayVec<u8, SHORT>),
+    Long(Vec<u8>),
+}
+
+impl Model for Delta {
+    ghost use Rattle.std.specs.Prelude.{List, ℕ};
+    ghost use Rattle.packed.specs.Delta.{bytes_of};
+
+    ghost Value = { List ℕ };
+
+    ghost view = { λ d. bytes_of d.form };
+}
+
+impl Delta {
+    /// The bytes, copied.
+    pub(crate) fn copy_of(alloc: Global, bytes: &[u8]) -> Result<Delta, AllocError>
+        ensures { IfOk result (λ d. d ≡ bytes.now) }
+    {
+        let mut short = ArrayVec::new();
+        let form = match short.try_extend_from_slice(bytes) {
+            Ok(()) => Form::Short(short),
+            Err(_) => Form::Long(Vec::from_slice(alloc, bytes)?),
+        };
+        Ok(Delta { form })
+    }
+
+    pub(crate) fn as_slice(&self) -> &[u8]
+        ensures { result.now ≡ self.now }
+    {
+        match &self.form {
+            Form::Short(short) => short.as_slice(),
+            Form::Long(long) => long.as_slice(),
+        }
+    }
+}
