@@ -4,5 +4,5 @@ use Rattle.packed.specs.declared.delta.Form.TheVariants.{Short, Long}
 
 -- The bytes of a delta, in whichever form it lies.
 abbrev pub bytes_of : Form → List ℕ
-bytes_of (Short v) = v.items
+bytes_of (Short v) = v
 bytes_of (Long v) = v.items

@@ -1,14 +1,11 @@
 ghost use Rattle.std.specs.Prelude.{◌≡◌, IfOk};
 
-use arrayvec::ArrayVec;
+use crate::short::Short;
 use std::alloc::{AllocError, Global};
 use std::marker::Model;
 
-/// The most bytes of a delta that lies in its own value. Those of small objects are no longer, and then a version takes no
-/// block of its own, and a reading comes upon one place less in memory.
-const SHORT: usize = 48;
-
-/// A delta, which a clause sees as its bytes.
+/// A delta, which a clause sees as its bytes. Those of small objects are short, and lie in the value itself: then a version
+/// takes no block of its own, and a reading comes upon one place less in memory.
 #[derive(Drop)]
 pub(crate) struct Delta {
     form: Form,
@@ -16,7 +13,7 @@ pub(crate) struct Delta {
 
 #[derive(Drop)]
 pub(crate) enum Form {
-    Short(ArrayVec<u8, SHORT>),
+    Short(Short),
     Long(Vec<u8>),
 }
 
@@ -34,10 +31,9 @@ impl Delta {
     pub(crate) fn copy_of(alloc: Global, bytes: &[u8]) -> Result<Delta, AllocError>
         ensures { IfOk result (λ d. d ≡ bytes.now) }
     {
-        let mut short = ArrayVec::new();
-        let form = match short.try_extend_from_slice(bytes) {
-            Ok(()) => Form::Short(short),
-            Err(_) => Form::Long(Vec::from_slice(alloc, bytes)?),
+        let form = match Short::of(bytes) {
+            Some(short) => Form::Short(short),
+            None => Form::Long(Vec::from_slice(alloc, bytes)?),
         };
         Ok(Delta { form })
     }

@@ -4,6 +4,7 @@
 mod delta;
 mod packed;
 mod packer;
+mod short;
 
 pub use packed::Packed;
 pub use packer::Packer;
