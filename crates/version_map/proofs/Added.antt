@@ -15,6 +15,10 @@ use Rattle.std.proofs.lemmas.Slice.Eq.{bytes_eq-Decides}
 use Rattle.version_map.specs.Named.{AreValues, Names, at_text, place_at_text}
 use Rattle.version_map.proofs.Named.{Text, by_bytes, by_name}
 
+-- names as a map has them
+abbrev pub Kept : Type 0
+Kept = BTreeMap (List ℕ) ℕ
+
 abbrev pub Texts : Type 0
 Texts = BTreeMap (Bor (List ℕ)) ℕ
 
@@ -25,11 +29,11 @@ abbrev by_text : List (Bor (List ℕ) × ℕ) → List ℕ → Option ℕ
 by_text es word = by_bytes (λ (k : Bor (List ℕ)). k.now) es word
 
 -- with the names that are left all names are added
-pub record IsAdding (old all : Texts) (names : Names) (rest : List (Text × ℕ)) : Type 0 where
+pub record IsAdding (old all : Texts) (names : Kept) (rest : List (Text × ℕ)) : Type 0 where
   pub ordered : IsStrictlySortedBy (slice_cmp nat_cmp) (keys_of rest)
   pub same : (word : List ℕ) → option_or (by_name rest word) (place_at_text all word) ≡ option_or (at_text names word) (place_at_text old word)
 
-pub none_added : (old : Texts) (names : Names) (rest : List (Text × ℕ)) → rest ≡ names.entries → IsOrdered (slice_cmp nat_cmp) names → IsAdding old old names rest
+pub none_added : (old : Texts) (names : Kept) (rest : List (Text × ℕ)) → rest ≡ names.entries → IsOrdered (slice_cmp nat_cmp) names → IsAdding old old names rest
 none_added old names rest is ordered = record {
   ordered = subst (λ es. IsStrictlySortedBy (slice_cmp nat_cmp) (keys_of es)) (sym is) ordered;
   same = λ word. ap (λ es. option_or (by_name es word) (place_at_text old word)) is;
@@ -54,7 +58,7 @@ later : (n : Text) (p : ℕ) (es : List (Text × ℕ)) → IsStrictlySortedBy (s
 unfolding IsStrictlySortedBy
 later n p es h = h
 
-pub one_added : (old all next : Texts) (names : Names) (rest more : List (Text × ℕ)) (n : Text) (p : ℕ) (key : Bor (List ℕ)) → rest ≡ (n, p) ∷ more → key.now ≡ n
+pub one_added : (old all next : Texts) (names : Kept) (rest more : List (Text × ℕ)) (n : Text) (p : ℕ) (key : Bor (List ℕ)) → rest ≡ (n, p) ∷ more → key.now ≡ n
     → Updates text_cmp all next key (Some p) → IsAdding old all names rest → IsAdding old next names more
 one_added old all next names rest more n p key is text written adding = record {
   ordered = parts.1;
@@ -79,26 +83,43 @@ one_added old all next names rest more n p key is text written adding = record {
     by word false same =
         ap (option_or (by_name more word)) (now word ∙ ap (λ b. cond b (Some p) (place_at_text all word)) same) ∙ sym (ap (λ o. option_or o (place_at_text all word)) (here word false same))
 
-pub all_added : (old all : Texts) (names : Names) (rest : List (Text × ℕ)) → rest ≡ [] → IsAdding old all names rest
+pub all_added : (old all : Texts) (names : Kept) (rest : List (Text × ℕ)) → rest ≡ [] → IsAdding old all names rest
     → (word : List ℕ) → place_at_text all word ≡ option_or (at_text names word) (place_at_text old word)
 all_added old all names rest none adding word = ap (λ es. option_or (by_name es word) (place_at_text all word)) (sym none) ∙ adding.same word
 
-or_none : (o : Option ℕ) → option_or o None ≡ o
+pub or_none : (o : Option ℕ) → option_or o None ≡ o
 or_none None = refl
 or_none (Some p) = refl
 
--- the names of two
-pub two_added : (none some all : Texts) (names more : Names) (values : List ℕ) → none.entries ≡ [] → IsOrdered text_cmp all → values ≡ map (λ e. e.1) all.entries
-    → ((word : List ℕ) → place_at_text some word ≡ option_or (at_text more word) (place_at_text none word))
-    → ((word : List ℕ) → place_at_text all word ≡ option_or (at_text names word) (place_at_text some word))
-    → AreValues values (λ word. option_or (at_text names word) (at_text more word))
-two_added none some all names more values empty ordered are first second = (
-  all,
-  ordered,
-  sym are,
-  λ word.
-      second word ∙ ap (option_or (at_text names word)) (first word ∙ ap (option_or (at_text more word)) (nothing word) ∙ or_none (at_text more word)),
-)
-  where
-    nothing : (word : List ℕ) → place_at_text none word ≡ None
-    nothing word = ap (λ es. by_text es word) empty
+-- the places of ordered texts are values
+
+abbrev owned : List (Bor (List ℕ) × ℕ) → Names
+owned [] = []
+owned (e ∷ es) = (e.0.now, e.1) ∷ owned es
+
+owned_below : (k : Bor (List ℕ)) (es : List (Bor (List ℕ) × ℕ)) → AllByRecursion (λ q. text_cmp k q ≡ Less) (keys_of es) → AllByRecursion (λ q. slice_cmp nat_cmp k.now q ≡ Less) (keys_of (owned es))
+owned_below k [] h = tt
+owned_below k (e ∷ es) h = (h.0, owned_below k es h.1)
+
+owned_ordered : (es : List (Bor (List ℕ) × ℕ)) → IsStrictlySortedBy text_cmp (keys_of es) → IsStrictlySortedBy (slice_cmp nat_cmp) (keys_of (owned es))
+unfolding IsStrictlySortedBy
+owned_ordered [] h = tt
+owned_ordered (e ∷ es) h = (owned_below e.0 es h.0, owned_ordered es h.1)
+
+owned_values : (es : List (Bor (List ℕ) × ℕ)) → map (λ e. e.1) (owned es) ≡ map (λ e. e.1) es
+owned_values [] = refl
+owned_values (e ∷ es) = ap (λ vs. e.1 ∷ vs) (owned_values es)
+
+owned_places : (es : List (Bor (List ℕ) × ℕ)) (word : List ℕ) → by_name (owned es) word ≡ by_text es word
+owned_places [] word = refl
+owned_places (e ∷ es) word = ap (cond (is_eq (slice_cmp nat_cmp word e.0.now)) (Some e.1)) (owned_places es word)
+
+pub values_texts : (all : Texts) (values : List ℕ) → IsOrdered text_cmp all → values ≡ map (λ e. e.1) all.entries → AreValues values (place_at_text all)
+values_texts all values ordered are = (owned all.entries, owned_ordered all.entries ordered, owned_values all.entries ∙ sym are, owned_places all.entries)
+
+-- values are those of what is the same at each name
+pub values_by : (values : List ℕ) (f g : List ℕ → Option ℕ) → ((word : List ℕ) → f word ≡ g word) → AreValues values f → AreValues values g
+values_by values f g same are = (are.0, are.1, are.2, λ word. are.3 word ∙ same word)
+
+pub nothing : (none : Texts) → none.entries ≡ [] → (word : List ℕ) → place_at_text none word ≡ None
+nothing none empty word = ap (λ es. by_text es word) empty

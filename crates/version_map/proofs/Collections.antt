@@ -6,9 +6,7 @@ use Rattle.std.specs.Map.{keys_of}
 use Rattle.std.specs.Ordering.{nat_cmp}
 use Rattle.std.specs.declared.cmp.Ordering.TheVariants.{Equal, Less}
 use Rattle.std.specs.declared.cmp.Ordering.{Ordering}
-use Rattle.std.specs.Borrow.{Bor}
 use Rattle.std.specs.Option.{option_or}
-use Rattle.std.specs.BTreeMap.{IsOrdered}
 use Rattle.std.specs.Cmp.{nat_cmp_total}
 use Rattle.std.specs.Cmp.Lexicographic.{slice_cmp, nat_list_cmp_total}
 use Rattle.std.specs.FinMap.{from_sorted, entries-from_sorted, find, get, get-from_sorted, get-retain_keys, is_sorted, retain_keys, same_map, values}
@@ -22,7 +20,7 @@ use Rattle.objects.specs.Key.{key_cmp, key_parts, kind_index}
 use Rattle.objects.specs.KeyOrder.{exact_keys, key_cmp_total}
 use Rattle.version_map.specs.Keyed.{collection}
 use Rattle.version_map.specs.Keys.{is_of}
-use Rattle.version_map.specs.Named.{at_text, AreNames, AreValues, Names, Namespaces, Places, both, named, place_among, placed}
+use Rattle.version_map.specs.Named.{at_name, at_text, AreNames, AreValues, Names, Namespaces, Places, both, named, place_among, placed}
 use Rattle.version_map.proofs.Named.{Text, by_bytes, find_named, find_other, get_both, place_read}
 
 abbrev pub values_of : {X : Type 0} → List (Key × X) → List X
@@ -88,8 +86,8 @@ same_collection m n kind namespace same = ap values (same_map key_cmp_total exac
 -- ---- names, as they are read
 
 module _ (m : Places) (kind : Kind) (namespace : List ℕ) where
-  pub collection_of : (names : Names) → AreNames m kind namespace (Some names) → IsOrdered (slice_cmp nat_cmp) names → collection m kind namespace ≡ map (λ e. e.1) names.entries
-  collection_of names are ordered = collected (λ w. w) m kind namespace names.entries ordered are
+  pub collection_of : (names : Names) (values : List ℕ) → AreNames m kind namespace (Some names) → AreValues values (at_name names) → collection m kind namespace ≡ values
+  collection_of names values are all = collected (λ w. w) m kind namespace all.0 all.1 (λ q kinds same. are q kinds same ∙ sym (all.3 q.name)) ∙ all.2
 
   pub none_collected : AreNames m kind namespace None → collection m kind namespace ≡ []
   unfolding IsStrictlySortedBy
@@ -104,16 +102,16 @@ module _ (m : Places) (kind : Kind) (namespace : List ℕ) where
         or_none None = refl
         or_none (Some p) = refl
 
-    pub second_alone : (names : Names) → AreNames m kind namespace None → AreNames n kind namespace (Some names) → IsOrdered (slice_cmp nat_cmp) names
-        → collection (both m n) kind namespace ≡ map (λ e. e.1) names.entries
-    second_alone names none are ordered = collected (λ w. w) (both m n) kind namespace names.entries ordered (λ q kinds same.
-        get_both m n q ∙ ap (λ o. option_or o (get n q)) (none q kinds same) ∙ are q kinds same)
+    pub second_alone : (names : Names) (values : List ℕ) → AreNames m kind namespace None → AreNames n kind namespace (Some names) → AreValues values (at_name names)
+        → collection (both m n) kind namespace ≡ values
+    second_alone names values none are all = collected (λ w. w) (both m n) kind namespace all.0 all.1 (λ q kinds same.
+        get_both m n q ∙ ap (λ o. option_or o (get n q)) (none q kinds same) ∙ are q kinds same ∙ sym (all.3 q.name)) ∙ all.2
 
     pub both_collected : (names more : Names) (values : List ℕ) → AreNames m kind namespace (Some names) → AreNames n kind namespace (Some more)
-        → AreValues values (λ word. option_or (at_text names word) (at_text more word)) → collection (both m n) kind namespace ≡ values
+        → AreValues values (λ word. option_or (at_name names word) (at_name more word)) → collection (both m n) kind namespace ≡ values
     both_collected names more values first second all =
-        collected (λ (k : Bor (List ℕ)). k.now) (both m n) kind namespace all.0.entries all.1 (λ q kinds same.
-        get_both m n q ∙ ap (λ o. option_or o (get n q)) (first q kinds same) ∙ ap (option_or (at_text names q.name)) (second q kinds same) ∙ sym (all.3 q.name))
+        collected (λ w. w) (both m n) kind namespace all.0 all.1 (λ q kinds same.
+        get_both m n q ∙ ap (λ o. option_or o (get n q)) (first q kinds same) ∙ ap (option_or (at_name names q.name)) (second q kinds same) ∙ sym (all.3 q.name))
         ∙ all.2
 
 -- the names of a kind in a namespace, as they are found

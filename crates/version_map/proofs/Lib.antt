@@ -10,3 +10,5 @@ pub mod Lists
 pub mod Readings
 pub mod Aside
 pub mod Added
+pub mod ShortNames
+pub mod Apart

@@ -17,7 +17,7 @@ use Rattle.objects.specs.declared.kind.Kind.TheVariants.{StatefulSet, Pod, Persi
 use Rattle.objects.specs.Key.{key_cmp, key_parts, kind_index}
 use Rattle.objects.specs.KeyOrder.{exact_keys, key_cmp_total}
 use Rattle.version_map.specs.Keys.{is_of}
-use Rattle.version_map.specs.Named.{at_text, Names, Namespaces, Places, all_kinds, both, in_namespaces, is_kind, joined, named, of_kind, of_kinds, place_in, placed, put_all}
+use Rattle.version_map.specs.Named.{at_name, at_text, Names, Namespaces, Places, all_kinds, both, in_namespaces, is_kind, joined, named, of_kind, of_kinds, place_in, placed, put_all}
 
 abbrev pub Text : Type 0
 Text = List ℕ
@@ -95,31 +95,31 @@ get_joined holds m n k =
 -- ---- the namespaces of a kind
 
 abbrev place_by : List (Text × Names) → Key → Option ℕ
-place_by es k = option_and_then (λ (names : Names). by_name names.entries k.name) (by_name es k.namespace)
+place_by es k = option_and_then (λ (names : Names). by_name names k.name) (by_name es k.namespace)
 
 either : (b : Bool) (o : Option ℕ) → o ≡ cond b o o
 either true o = refl
 either false o = refl
 
 abbrev first_of : Kind → Text × Names → Places
-first_of kind e = from_entries (named (λ w. w) kind e.0 e.1.entries)
+first_of kind e = from_entries (named (λ w. w) kind e.0 e.1)
 
 get_namespaces : (kind : Kind) (es : List (Text × Names)) (k : Key) → get (in_namespaces kind es) k ≡ cond (is_kind kind k) (place_by es k) None
 get_namespaces kind [] k = get-empty key_cmp k ∙ either (is_kind kind k) None
 get_namespaces kind (e ∷ es) k = get_joined (is_of kind e.0) (first_of kind e) (in_namespaces kind es) k ∙ by (is_kind kind k) refl (bytes_eq k.namespace e.0) refl (get_namespaces kind es k)
   where
     -- the first namespace, if it is the key's
-    first : (b : Bool) → bytes_eq k.namespace e.0 ≡ b → place_by (e ∷ es) k ≡ cond b (by_name e.1.entries k.name) (place_by es k)
-    first b is = ap (λ c. option_and_then (λ (names : Names). by_name names.entries k.name) (cond c (Some e.1) (by_name es k.namespace))) (is_eq-slice_cmp k.namespace e.0 ∙ is)
-        ∙ elim b as (λ c. option_and_then (λ (names : Names). by_name names.entries k.name) (cond c (Some e.1) (by_name es k.namespace)) ≡ cond c (by_name e.1.entries k.name) (place_by es k)) [ true ↦ refl | false ↦ refl ]
+    first : (b : Bool) → bytes_eq k.namespace e.0 ≡ b → place_by (e ∷ es) k ≡ cond b (by_name e.1 k.name) (place_by es k)
+    first b is = ap (λ c. option_and_then (λ (names : Names). by_name names k.name) (cond c (Some e.1) (by_name es k.namespace))) (is_eq-slice_cmp k.namespace e.0 ∙ is)
+        ∙ elim b as (λ c. option_and_then (λ (names : Names). by_name names k.name) (cond c (Some e.1) (by_name es k.namespace)) ≡ cond c (by_name e.1 k.name) (place_by es k)) [ true ↦ refl | false ↦ refl ]
 
     by : (a : Bool) → is_kind kind k ≡ a → (b : Bool) → bytes_eq k.namespace e.0 ≡ b
         → get (in_namespaces kind es) k ≡ cond (is_kind kind k) (place_by es k) None
         → cond (is_of kind e.0 k) (get (first_of kind e) k) (get (in_namespaces kind es) k) ≡ cond (is_kind kind k) (place_by (e ∷ es) k) None
     by true kinds true spaces rest =
         let is : is_of kind e.0 k ≡ true = rw (kinds, spaces) refl in
-        ap (λ c. cond c (get (first_of kind e) k) (get (in_namespaces kind es) k)) is ∙ get-from_entries key_cmp_total (named (λ w. w) kind e.0 e.1.entries) k
-        ∙ find_named (λ w. w) kind e.0 k e.1.entries is ∙ sym (ap (λ c. cond c (place_by (e ∷ es) k) None) kinds ∙ first true spaces)
+        ap (λ c. cond c (get (first_of kind e) k) (get (in_namespaces kind es) k)) is ∙ get-from_entries key_cmp_total (named (λ w. w) kind e.0 e.1) k
+        ∙ find_named (λ w. w) kind e.0 k e.1 is ∙ sym (ap (λ c. cond c (place_by (e ∷ es) k) None) kinds ∙ first true spaces)
     by true kinds false spaces rest =
         let is : is_of kind e.0 k ≡ false = rw (kinds, spaces) refl in
         ap (λ c. cond c (get (first_of kind e) k) (get (in_namespaces kind es) k)) is ∙ rest ∙ ap (λ c. cond c (place_by es k) None) kinds
@@ -181,8 +181,8 @@ module _ (ms : List Namespaces) (m : Places) (i : ℕ) (d : Namespaces) (view : 
   pub key_read : (k : Key) (kind : Kind) (space name : List ℕ) → key_parts kind space name ≡ k → i ≡ kind_index kind → get m k ≡ place_in (get_or ms i d) space name
   key_read k kind space name parts is = sym (ap (λ q. get m q) parts) ∙ place_read (key_parts kind space name) is
 
-pub name_read : (x : Namespaces) (names : Names) (a space name : List ℕ) → a ≡ space → Some names ≡ at_text x a → place_in x space name ≡ at_text names name
-name_read x names a space name same is = ap (option_and_then (λ (y : Names). at_text y name)) (ap (at_text x) (sym same) ∙ sym is)
+pub name_read : (x : Namespaces) (names : Names) (a space name : List ℕ) → a ≡ space → Some names ≡ at_text x a → place_in x space name ≡ at_name names name
+name_read x names a space name same is = ap (option_and_then (λ (y : Names). at_name y name)) (ap (at_text x) (sym same) ∙ sym is)
 
 pub none_read : (x : Namespaces) (a space name : List ℕ) → a ≡ space → None ≡ at_text x a → place_in x space name ≡ None
-none_read x a space name same is = ap (option_and_then (λ (y : Names). at_text y name)) (ap (at_text x) (sym same) ∙ sym is)
+none_read x a space name same is = ap (option_and_then (λ (y : Names). at_name y name)) (ap (at_text x) (sym same) ∙ sym is)

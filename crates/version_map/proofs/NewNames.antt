@@ -12,7 +12,7 @@ use Rattle.objects.specs.declared.key.Key.{Key}
 use Rattle.objects.specs.declared.kind.Kind.{Kind}
 use Rattle.objects.specs.Key.{key_cmp, key_parts, kind_index}
 use Rattle.objects.specs.KeyOrder.{exact_keys, key_cmp_total}
-use Rattle.version_map.specs.Named.{at_text, AreAsBefore, HasNow, Names, Namespaces, Places, place_among, place_in, placed}
+use Rattle.version_map.specs.Named.{at_name, at_text, AreAsBefore, HasNow, Names, Namespaces, Places, place_among, place_in, placed}
 use Rattle.version_map.specs.Keyed.{put_at}
 use Rattle.version_map.proofs.Chains.{get_put_at, swap}
 use Rattle.version_map.proofs.Named.{get_placed, place_of, tied}
@@ -24,20 +24,20 @@ module _ (m n : Namespaces) (space : List ℕ) (names : Names) (old : Option Nam
   elsewhere : (q word : List ℕ) → bytes_eq space q ≡ false → place_in n q word ≡ place_in m q word
   elsewhere q word other = ap (λ o. place_among o word) (written q ∙ ap (λ b. cond b (Some names) (at_text m q)) other)
 
-  here : (q word : List ℕ) → bytes_eq space q ≡ true → place_in n q word ≡ at_text names word
+  here : (q word : List ℕ) → bytes_eq space q ≡ true → place_in n q word ≡ at_name names word
   here q word same = ap (λ o. place_among o word) (written q ∙ ap (λ b. cond b (Some names) (at_text m q)) same)
 
   before : (q word : List ℕ) → bytes_eq space q ≡ true → place_among old word ≡ place_in m q word
   before q word same = ap (λ o. place_among o word) (was ∙ ap (at_text m) ((bytes_eq-Decides space q).0 same))
 
-  pub as_before : ((word : List ℕ) → at_text names word ≡ place_among old word) → AreAsBefore m n
+  pub as_before : ((word : List ℕ) → at_name names word ≡ place_among old word) → AreAsBefore m n
   as_before kept q word = by (bytes_eq space q) refl
     where
       by : (b : Bool) → bytes_eq space q ≡ b → place_in n q word ≡ place_in m q word
       by true same = here q word same ∙ kept word ∙ before q word same
       by false other = elsewhere q word other
 
-  pub one_more : (name : List ℕ) (place : Option ℕ) → ((word : List ℕ) → at_text names word ≡ cond (bytes_eq name word) place (place_among old word)) → HasNow m n space name place
+  pub one_more : (name : List ℕ) (place : Option ℕ) → ((word : List ℕ) → at_name names word ≡ cond (bytes_eq name word) place (place_among old word)) → HasNow m n space name place
   one_more name place more q word = by (bytes_eq space q) refl
     where
       by : (b : Bool) → bytes_eq space q ≡ b → place_in n q word ≡ cond (bytes_eq space q && bytes_eq name word) place (place_in m q word)

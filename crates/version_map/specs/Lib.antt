@@ -1,6 +1,7 @@
 pub mod Keys
 pub mod Keyed
 pub mod Named
+pub mod ShortName
 pub mod Index
 pub mod Rows
 pub mod Records

@@ -1,6 +1,8 @@
 -- The places of keys: for each kind, for each namespace, the place of each name.
-use Rattle.std.specs.Prelude.{◌≡◌, ℕ, Bool, ◌==◌, ◌&&◌, not, List, [], ◌∷◌, map, bytes_eq, Option, option_and_then, slice_get, if◌then◌else◌}
-use Rattle.std.specs.BTreeMap.{BTreeMap, IsOrdered, get_by}
+use Rattle.std.specs.Prelude.{◌≡◌, ◌<◌, ◌≤◌, length, ℕ, Bool, ◌==◌, ◌&&◌, not, List, [], ◌∷◌, map, bytes_eq, Option, None, option_and_then, slice_get, if◌then◌else◌}
+use Rattle.std.specs.BTreeMap.{BTreeMap, get_by, is_at}
+use Rattle.std.specs.List.Sorted.{IsStrictlySortedBy}
+use Rattle.std.specs.Map.{keys_of, lookup}
 use Rattle.std.specs.Borrow.{Bor}
 use Rattle.std.specs.Cmp.Lexicographic.{slice_cmp}
 use Rattle.std.specs.Ordering.{nat_cmp}
@@ -13,8 +15,9 @@ use Rattle.objects.specs.declared.kind.Kind.TheVariants.{StatefulSet, Pod, Persi
 use Rattle.objects.specs.Key.{key_cmp, key_parts, kind_index}
 use Rattle.version_map.specs.Keys.{is_of}
 
+-- names with their places
 abbrev pub Names : Type 0
-Names = BTreeMap (List ℕ) ℕ
+Names = List (List ℕ × ℕ)
 
 abbrev pub Namespaces : Type 0
 Namespaces = BTreeMap (List ℕ) Names
@@ -26,9 +29,17 @@ Places = FinMap key_cmp ℕ
 abbrev pub at_text : {X : Type 0} → BTreeMap (List ℕ) X → List ℕ → Option X
 at_text m word = get_by (slice_cmp nat_cmp word) m
 
+-- the place of a name
+abbrev pub at_name : Names → List ℕ → Option ℕ
+at_name names name = lookup (is_at (slice_cmp nat_cmp name)) names
+
+-- names of at most 15 bytes stand in the first, and others in the second
+abbrev pub AreApart : BTreeMap (List ℕ) ℕ → BTreeMap (List ℕ) ℕ → Type 0
+AreApart short long = ((word : List ℕ) → 15 < length word → at_text short word ≡ None) × ((word : List ℕ) → length word ≤ 15 → at_text long word ≡ None)
+
 -- the place of a name of a namespace
 abbrev pub place_in : Namespaces → List ℕ → List ℕ → Option ℕ
-place_in m namespace name = option_and_then (λ names. at_text names name) (at_text m namespace)
+place_in m namespace name = option_and_then (λ (names : Names). at_name names name) (at_text m namespace)
 
 -- each name of each namespace has the place that it had, but for the one that was given another, or none
 abbrev pub HasNow : Namespaces → Namespaces → List ℕ → List ℕ → Option ℕ → Type 0
@@ -37,7 +48,7 @@ HasNow old new namespace name place =
 
 -- the place of a name, where there are names
 abbrev pub place_among : Option Names → List ℕ → Option ℕ
-place_among names name = option_and_then (λ (x : Names). at_text x name) names
+place_among names name = option_and_then (λ (x : Names). at_name x name) names
 
 -- the keys of the kind in the namespace have the places of these names
 abbrev pub AreNames : FinMap key_cmp ℕ → Kind → List ℕ → Option Names → Type 0
@@ -52,7 +63,7 @@ place_at_text m word = get_by (λ k. slice_cmp nat_cmp word k.now) m
 
 -- the values are those of texts in their byte order, each of which has its value
 abbrev pub AreValues : List ℕ → (List ℕ → Option ℕ) → Type 0
-AreValues values value = (m : BTreeMap (Bor (List ℕ)) ℕ) × IsOrdered (λ x y. slice_cmp nat_cmp x.now y.now) m × (map (λ e. e.1) m.entries ≡ values) × ((word : List ℕ) → place_at_text m word ≡ value word)
+AreValues values value = (es : Names) × IsStrictlySortedBy (slice_cmp nat_cmp) (keys_of es) × (map (λ e. e.1) es ≡ values) × ((word : List ℕ) → at_name es word ≡ value word)
 
 -- ---- as one map by keys
 
@@ -73,7 +84,7 @@ named bytes kind namespace es = map (λ e. (key_parts kind namespace (bytes e.0)
 
 abbrev pub in_namespaces : Kind → List (List ℕ × Names) → Places
 in_namespaces kind [] = finite.empty
-in_namespaces kind (e ∷ es) = joined (is_of kind e.0) (finite.from_entries (named (λ w. w) kind e.0 e.1.entries)) (in_namespaces kind es)
+in_namespaces kind (e ∷ es) = joined (is_of kind e.0) (finite.from_entries (named (λ w. w) kind e.0 e.1)) (in_namespaces kind es)
 
 abbrev pub of_kind : List Namespaces → Kind → Places
 of_kind ms kind = in_namespaces kind (option_map_or (λ m. m.entries) (slice_get ms (kind_index kind)) [])

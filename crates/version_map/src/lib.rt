@@ -5,7 +5,9 @@ mod chain;
 mod index;
 mod laws;
 mod map;
+mod names;
 mod places;
+mod short_name;
 
 pub use laws::states_have_the_values;
 pub use map::VersionMap;

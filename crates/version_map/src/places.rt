@@ -1,18 +1,15 @@
-ghost use Rattle.std.specs.Prelude.{◌≡◌, ◌<◌, ℕ, List, Some, None, IfOk, OnOk, OnErr};
-ghost use Rattle.std.specs.BTreeMap.{IsOrdered, values};
-ghost use Rattle.std.specs.Option.{option_copied, option_or};
+ghost use Rattle.std.specs.Prelude.{◌≡◌, ◌<◌, Some, None, IfOk, OnOk, OnErr};
+ghost use Rattle.std.specs.Option.{option_copied};
 ghost use Rattle.std.specs.FinMap as map;
 ghost use Rattle.objects.specs.Key.{kind_index};
 ghost use Rattle.version_map.specs.Keyed.{collection};
-ghost use Rattle.version_map.specs.Named.{at_text, AreAsBefore, AreNames, AreValues, HasNow, both, place_at_text};
+ghost use Rattle.version_map.specs.Named.{AreAsBefore, AreNames, HasNow, both};
 
+use crate::names::Names;
 use objects::{Key, Kind, Text};
 use std::alloc::{AllocError, Global};
 use std::collections::BTreeMap;
 use std::marker::Model;
-
-/// The place of each name.
-type Names = BTreeMap<Text, usize>;
 
 /// The names of each namespace.
 type Namespaces = BTreeMap<Text, Names>;
@@ -62,7 +59,7 @@ impl Places {
         ensures { result ≡ map.get self.now key.now }
     {
         let names = self.kinds[index_of(key.kind)].get(&key.namespace)?;
-        names.get(&key.name).copied()
+        names.get(&key.name)
     }
 
     pub(crate) fn insert(
@@ -95,7 +92,7 @@ impl Places {
         ensures { IfOk result (λ places. places.items ≡ collection self.now kind namespace.now) }
     {
         match self.names(kind, namespace) {
-            Some(names) => places_in(alloc, names),
+            Some(names) => names.places(alloc),
             None => Ok(Vec::new(alloc)),
         }
     }
@@ -114,8 +111,8 @@ impl Places {
             return self.of(alloc, kind, namespace);
         };
         match self.names(kind, namespace) {
-            Some(names) => places_in_both(alloc, names, more),
-            None => places_in(alloc, more),
+            Some(names) => names.places_with(more, alloc),
+            None => more.places(alloc),
         }
     }
 
@@ -135,34 +132,6 @@ fn index_of(kind: Kind) -> usize
     kind as usize
 }
 
-/// The places of all names, in byte order of the names.
-fn places_in<N: Ord>(alloc: Global, names: &BTreeMap<N, usize>) -> Result<Vec<usize>, AllocError>
-    ensures places { IfOk result (λ places. places.items ≡ values names.now) }
-    ensures ordered { IsOrdered N.cmp names.now }
-{
-    names.values().copied().collect(alloc)
-}
-
-/// The places of the names of both, in byte order of the names.
-fn places_in_both(alloc: Global, names: &Names, more: &Names) -> Result<Vec<usize>, AllocError>
-    ensures { IfOk result (λ places. AreValues places.items (λ word. option_or (at_text names.now word) (at_text more.now word))) }
-{
-    let mut all = BTreeMap::new(alloc);
-    add(&mut all, more)?;
-    add(&mut all, names)?;
-    places_in(alloc, &all)
-}
-
-/// Adds names with their places.
-fn add<'a>(all: &mut BTreeMap<&'a str, usize>, names: &'a Names) -> Result<(), AllocError>
-    ensures { OnOk result ((word : List ℕ) → place_at_text all.new word ≡ option_or (at_text names.now word) (place_at_text all.old word)) }
-{
-    for (name, place) in names.iter() {
-        all.insert(name.as_str(), *place)?;
-    }
-    Ok(())
-}
-
 /// Gives a name of a namespace that place.
 fn insert_name(
     alloc: Global,
@@ -174,13 +143,10 @@ fn insert_name(
     ensures ok { OnOk result (HasNow namespaces.old namespaces.new namespace.now name.now (Some place)) }
     ensures err { OnErr result (AreAsBefore namespaces.old namespaces.new) }
 {
-    let name = name.clone()?;
     match namespaces.get_mut(namespace) {
-        Some(names) => {
-            names.insert(name, place)?;
-        }
+        Some(names) => names.insert(name, place)?,
         None => {
-            let mut names = BTreeMap::new(alloc);
+            let mut names = Names::new(alloc);
             names.insert(name, place)?;
             namespaces.insert(namespace.clone()?, names)?;
         }

@@ -1,6 +1,6 @@
 use Rattle.std.proofs.Common.{◌≡◌, Some, None, cond, bytes_eq, rules, ap, ◌∙◌}
-use Rattle.version_map.specs.Named.{at_text}
-use Rattle.version_map.proofs.Named.{by_name, updates_text}
+use Rattle.version_map.specs.Named.{at_name, at_text}
+use Rattle.version_map.proofs.Named.{updates_text}
 use Rattle.version_map.proofs.NewNames.{as_before, one_more}
 use Rattle.version_map.proofs.Steps.{on_err}
 use Rattle.version_map.proofs.places.insert_name.Goals as goal
@@ -9,23 +9,20 @@ pub returns-in_err-insert-in-Some-clause-err : goal.returns-in_err-insert-in-Som
 returns-in_err-insert-in-Some-clause-err c =
     let names = c.insert.new.self in
     let spaces = c.get_mut.follows.lender names in
-    on_err c.from_residual-in_err-insert-in-Some.result (as_before c.args.namespaces.now spaces c.args.namespace.now names (Some c.in-Some.names.now) c.in-Some.ensures.value
+    on_err c.from_residual.result (as_before c.args.namespaces.now spaces c.args.namespace.now names (Some c.in-Some.names.now) c.in-Some.ensures.value
     (updates_text c.args.namespace.now c.args.namespaces.now spaces (Some names) ((c.get_mut.follows.holds names).3 (search rules)))
-    (λ word. ap (λ es. by_name es word) c.in_err-insert-in-Some.ensures.err))
+    (λ word. ap (λ ns. at_name ns word) c.in_err-insert-in-Some.ensures.err))
 
 pub returns-in_ok-insert-in-Some-clause-ok : goal.returns-in_ok-insert-in-Some-clause-ok
 returns-in_ok-insert-in-Some-clause-ok c =
-    let named : c.in_ok-name.name ≡ c.args.name.now = search rules in
     let names = c.insert.new.self in
     let spaces = c.get_mut.follows.lender names in
     one_more c.args.namespaces.now spaces c.args.namespace.now names (Some c.in-Some.names.now) c.in-Some.ensures.value
     (updates_text c.args.namespace.now c.args.namespaces.now spaces (Some names) ((c.get_mut.follows.holds names).3 (search rules))) c.args.name.now (Some c.args.place)
-    (λ word. updates_text c.in_ok-name.name c.in-Some.names.now names (Some c.args.place) c.in_ok-insert-in-Some.ensures.updates word
-    ∙ ap (λ b. cond (bytes_eq b word) (Some c.args.place) (at_text c.in-Some.names.now word)) named)
+    c.in_ok-insert-in-Some.ensures.ok
 
 pub returns-in_ok-insert-in-None-2-clause-ok : goal.returns-in_ok-insert-in-None-2-clause-ok
 returns-in_ok-insert-in-None-2-clause-ok c =
-    let named : c.in_ok-name.name ≡ c.args.name.now = search rules in
     let spaced : c.in_ok-clone-in-None.field-0 ≡ c.args.namespace.now = search rules in
     let names = c.insert-in-None.new.self in
     let spaces = c.insert-in-None-2.new.self in
@@ -34,6 +31,5 @@ returns-in_ok-insert-in-None-2-clause-ok c =
     ∙ ap (λ b. cond (bytes_eq b q) (Some names) (at_text c.get_mut.follows.lender-at-none q)) spaced
     ∙ ap (λ m. cond (bytes_eq c.args.namespace.now q) (Some names) (at_text m q)) c.get_mut.follows.holds-at-none)
     c.args.name.now (Some c.args.place)
-    (λ word. updates_text c.in_ok-name.name c.new-names.result names (Some c.args.place) c.in_ok-insert-in-None.ensures.updates word
-    ∙ ap (λ b. cond (bytes_eq b word) (Some c.args.place) (at_text c.new-names.result word)) named
-    ∙ ap (λ es. cond (bytes_eq c.args.name.now word) (Some c.args.place) (by_name es word)) c.new-names.ensures.empty)
+    (λ word. c.in_ok-insert-in-None.ensures.ok word
+    ∙ ap (λ ns. cond (bytes_eq c.args.name.now word) (Some c.args.place) (at_name ns word)) c.new-names.ensures)

@@ -9,4 +9,4 @@ returns-in-Some c =
     let spaces = c.get_mut.follows.lender names in
     one_more c.args.namespaces.now spaces c.args.namespace.now names (Some c.in-Some.names.now) c.in-Some.ensures.value
     (updates_text c.args.namespace.now c.args.namespaces.now spaces (Some names) ((c.get_mut.follows.holds names).3 (search rules))) c.args.name.now None
-    (λ word. updates_text c.args.name.now c.in-Some.names.now names None c.remove.ensures.updates word)
+    c.remove.ensures

@@ -10,5 +10,5 @@ returns-in_err-names c =
 pub returns : goal.returns
 returns c =
     let found = key_read c.self.inside.kinds _ c.index_of.result c.index-self-index_of.result c.self.view_is c.self.invariant c.index_of.ensures.within _ c.key.inside.kind c.key.inside.namespace c.key.inside.name c.key.view_is c.index_of.ensures.index in
-    c.copied.ensures ∙ c.get-2.ensures.value
+    c.get-2.ensures
     ∙ sym (found ∙ name_read (get_or c.self.inside.kinds c.index_of.result c.index-self-index_of.result) c.in_ok-names.names.now _ c.key.inside.namespace c.key.inside.name refl c.in_ok-names.ensures.value)

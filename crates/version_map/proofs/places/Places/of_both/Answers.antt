@@ -7,9 +7,9 @@ pub returns-in_default : goal.returns-in_default
 returns-in_default c = IfOk-weaker c.of.result _ _ (λ v are. are ∙ first_alone c.args.self.now c.args.kind c.args.namespace.now c.args.others.now c.in_default.ensures) c.of.ensures
 
 pub returns-in-Some-names : goal.returns-in-Some-names
-returns-in-Some-names c = IfOk-weaker c.places_in_both.result _ _ (λ v are.
-    sym (both_collected c.args.self.now c.args.kind c.args.namespace.now c.args.others.now c.in-Some-names.names.now c.in-Some.more.now v.items c.in-Some-names.ensures c.in-Some.ensures are)) c.places_in_both.ensures
+returns-in-Some-names c = IfOk-weaker c.places_with.result _ _ (λ v are.
+    sym (both_collected c.args.self.now c.args.kind c.args.namespace.now c.args.others.now c.in-Some-names.names.now c.in-Some.more.now v.items c.in-Some-names.ensures c.in-Some.ensures are)) c.places_with.ensures
 
 pub returns-in-None : goal.returns-in-None
-returns-in-None c = IfOk-weaker c.places_in.result _ _ (λ v are.
-    are ∙ sym (second_alone c.args.self.now c.args.kind c.args.namespace.now c.args.others.now c.in-Some.more.now c.in-None.ensures c.in-Some.ensures c.places_in.ensures.ordered)) c.places_in.ensures.places
+returns-in-None c = IfOk-weaker c.places.result _ _ (λ v are.
+    sym (second_alone c.args.self.now c.args.kind c.args.namespace.now c.args.others.now c.in-Some.more.now v.items c.in-None.ensures c.in-Some.ensures are)) c.places.ensures

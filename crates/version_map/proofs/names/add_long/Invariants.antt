@@ -1,5 +1,5 @@
 use Rattle.version_map.proofs.Added.{IsAdding}
-use Rattle.version_map.proofs.places.add.Given as goal
+use Rattle.version_map.proofs.names.add_long.Given as goal
 
 abbrev pub invariant-loop-name : goal.invariant-loop-name
 invariant-loop-name l = IsAdding l.fn.all l.all l.names l.name-iterator

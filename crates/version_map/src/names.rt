@@ -1,0 +1,144 @@
+// The names of a kind in a namespace.
+ghost use Rattle.std.specs.Prelude.{◌≡◌, ◌∷◌, [], ℕ, List, Some, None, bytes_eq, cond, IfOk, OnOk, OnErr};
+ghost use Rattle.std.specs.BTreeMap.{IsOrdered, values};
+ghost use Rattle.std.specs.Option.{option_or};
+ghost use Rattle.version_map.specs.Named.{at_name, at_text, AreValues, place_at_text};
+
+use crate::short_name::ShortName;
+use objects::Text;
+use std::alloc::{AllocError, Global};
+use std::collections::BTreeMap;
+use std::marker::Model;
+
+/// The place of each name. Short names stand apart, in a map that compares numbers, with keys of half the size.
+#[derive(Drop)]
+pub(crate) struct Names {
+    short: BTreeMap<ShortName, usize>,
+    long: BTreeMap<Text, usize>,
+}
+
+impl Model for Names {
+    ghost use Rattle.std.specs.Prelude.{◌++◌, ℕ, List};
+    ghost use Rattle.version_map.specs.Named.{AreApart};
+
+    ghost Value = { List (List ℕ × ℕ) };
+
+    ghost view = { λ n. n.short.entries ++ n.long.entries };
+
+    ghost invariant = { λ n. AreApart n.short n.long };
+}
+
+impl Names {
+    pub(crate) fn new(alloc: Global) -> Names
+        ensures { result ≡ [] }
+    {
+        Names {
+            short: BTreeMap::new(alloc),
+            long: BTreeMap::new(alloc),
+        }
+    }
+
+    pub(crate) fn get(&self, name: &Text) -> Option<usize>
+        ensures { result ≡ at_name self.now name.now }
+    {
+        match ShortName::of(name.as_str()) {
+            Some(short) => self.short.get(&short).copied(),
+            None => self.long.get(name).copied(),
+        }
+    }
+
+    /// Gives a name that place.
+    pub(crate) fn insert(&mut self, name: &Text, place: usize) -> Result<(), AllocError>
+        ensures ok { OnOk result ((word : List ℕ) → at_name self.new word ≡ cond (bytes_eq name.now word) (Some place) (at_name self.old word)) }
+        ensures err { OnErr result (self.new ≡ self.old) }
+    {
+        match ShortName::of(name.as_str()) {
+            Some(short) => {
+                self.short.insert(short, place)?;
+            }
+            None => {
+                self.long.insert(name.clone()?, place)?;
+            }
+        }
+        Ok(())
+    }
+
+    /// Takes the place of a name away.
+    pub(crate) fn remove(&mut self, name: &Text)
+        ensures { (word : List ℕ) → at_name self.new word ≡ cond (bytes_eq name.now word) None (at_name self.old word) }
+    {
+        match ShortName::of(name.as_str()) {
+            Some(short) => {
+                self.short.remove(&short);
+            }
+            None => {
+                self.long.remove(name);
+            }
+        }
+    }
+
+    /// The places of all names, in byte order of the names.
+    pub(crate) fn places(&self, alloc: Global) -> Result<Vec<usize>, AllocError>
+        ensures { IfOk result (λ places. AreValues places.items (at_name self.now)) }
+    {
+        if self.long.is_empty() {
+            return places_in(alloc, &self.short);
+        }
+        if self.short.is_empty() {
+            return places_in(alloc, &self.long);
+        }
+        let mut all = BTreeMap::new(alloc);
+        self.add_to(&mut all)?;
+        places_in(alloc, &all)
+    }
+
+    /// The places of the names of both, in byte order of the names; of a name of both, the one that it has here.
+    pub(crate) fn places_with(&self, more: &Names, alloc: Global) -> Result<Vec<usize>, AllocError>
+        ensures { IfOk result (λ places. AreValues places.items (λ word. option_or (at_name self.now word) (at_name more.now word))) }
+    {
+        let mut all = BTreeMap::new(alloc);
+        more.add_to(&mut all)?;
+        self.add_to(&mut all)?;
+        places_in(alloc, &all)
+    }
+
+    /// Adds the names with their places.
+    fn add_to<'a>(&'a self, all: &mut BTreeMap<&'a [u8], usize>) -> Result<(), AllocError>
+        ensures { OnOk result ((word : List ℕ) → place_at_text all.new word ≡ option_or (at_name self.now word) (place_at_text all.old word)) }
+    {
+        add_long(all, &self.long)?;
+        add_short(all, &self.short)
+    }
+}
+
+/// The places of all names, in byte order of the names.
+fn places_in<N: Ord>(alloc: Global, names: &BTreeMap<N, usize>) -> Result<Vec<usize>, AllocError>
+    ensures places { IfOk result (λ places. places.items ≡ values names.now) }
+    ensures ordered { IsOrdered N.cmp names.now }
+{
+    names.values().copied().collect(alloc)
+}
+
+fn add_long<'a>(
+    all: &mut BTreeMap<&'a [u8], usize>,
+    names: &'a BTreeMap<Text, usize>,
+) -> Result<(), AllocError>
+    ensures { OnOk result ((word : List ℕ) → place_at_text all.new word ≡ option_or (at_text names.now word) (place_at_text all.old word)) }
+{
+    for (name, place) in names.iter() {
+        all.insert(name.as_str().as_bytes(), *place)?;
+    }
+    Ok(())
+}
+
+fn add_short<'a>(
+    all: &mut BTreeMap<&'a [u8], usize>,
+    names: &'a BTreeMap<ShortName, usize>,
+) -> Result<(), AllocError>
+    ensures { OnOk result ((word : List ℕ) → place_at_text all.new word ≡ option_or (at_text names.now word) (place_at_text all.old word)) }
+{
+    for (name, place) in names.iter() {
+        all.insert(name.as_bytes(), *place)?;
+    }
+    Ok(())
+}
