@@ -1,18 +1,14 @@
-//! What tests run, and what they assert of a run. Tests hand on references: a large value that a function lets go of is
-//! proved to be let go of at each way out.
+//! What tests run, and what they assert of a run, over devices that take everything and devices that fail.
 use commands::{Heap, command};
 use plain::{ReadSource, WriteSink};
-use std::alloc::{AllocError, Global};
+use std::alloc::Global;
 use std::io;
 use std::io::{Read, Write};
 use std::process::Abort;
 
-/// A request, for those who must not read it.
-const UNREAD: &str = r#"{"do":"list","kind":"Pod"}"#;
-
 /// Gives its bytes, and then fails.
 #[derive(Drop)]
-pub(crate) struct Broken<'a>(pub(crate) &'a [u8]);
+struct Broken<'a>(&'a [u8]);
 
 impl Read for Broken<'_> {
     fn read(&mut self, room: &mut [u8]) -> io::Result<usize> {
@@ -25,7 +21,7 @@ impl Read for Broken<'_> {
 
 /// Takes nothing.
 #[derive(Drop)]
-pub(crate) struct Shut;
+struct Shut;
 
 impl Write for Shut {
     fn write(&mut self, _bytes: &[u8]) -> io::Result<usize> {
@@ -39,15 +35,15 @@ impl Write for Shut {
 
 /// What a run came to.
 #[derive(Drop)]
-pub(crate) struct Outcome {
-    pub(crate) status: u8,
-    pub(crate) written: Vec<u8>,
-    pub(crate) faults: Vec<u8>,
-    pub(crate) is_refused: bool,
+struct Outcome {
+    status: u8,
+    written: Vec<u8>,
+    faults: Vec<u8>,
+    is_refused: bool,
 }
 
 /// Runs the program on what a reader gives, with writers that take everything.
-pub(crate) fn outcome_over<R: Read>(alloc: Global, words: &[&str], input: R) -> Outcome
+fn outcome_over<R: Read>(alloc: Global, words: &[&str], input: R) -> Outcome
 where
     R: Drop,
 {
@@ -69,61 +65,53 @@ where
     }
 }
 
-pub(crate) fn outcome_of(alloc: Global, words: &[&str], input: &str) -> Outcome {
-    outcome_over(alloc, words, input.as_bytes())
-}
-
-/// Asserts that the program answers each request line with the reply line beside it, and with no more.
-pub(crate) fn assert_answers(
+/// Asserts that a run by these words fails where the reader breaks off behind these bytes, with that much written.
+pub(crate) fn assert_breaks(
     rt: &impl Abort,
     alloc: Global,
     words: &[&str],
-    rows: &[(&str, &str)],
-) {
-    let input = request_lines(alloc, rows).expect(rt, "no memory for the requests");
-    let outcome = outcome_of(alloc, words, input.as_str());
-    assert_eq!(rt; outcome.status, 0);
-    assert!(rt; outcome.faults.is_empty() && !outcome.is_refused);
-    assert_replies(rt, outcome.written.as_slice(), rows);
-}
-
-/// The rows' requests, each with a line feed.
-fn request_lines(alloc: Global, rows: &[(&str, &str)]) -> Result<String, AllocError> {
-    let mut text = String::new(alloc);
-    for (line, _) in rows {
-        text.push_str(line)?;
-        text.push_str("\n")?;
-    }
-    Ok(text)
-}
-
-/// Asserts that the text has the rows' replies, each with a line feed.
-fn assert_replies(rt: &impl Abort, text: &[u8], rows: &[(&str, &str)]) {
-    let mut rest = text;
-    for (i, (line, reply)) in rows.iter().enumerate() {
-        let end = rest.iter().position(|byte| *byte == b'\n');
-        let (first, after) = rest.split_at(end.unwrap_or(rest.len()));
-        assert!(rt;
-            first == reply.as_bytes(),
-            "line {i}, {line}: {}",
-            shown(first)
-        );
-        assert!(rt; !after.is_empty(), "line {i}, {line}: no line feed");
-        rest = &after[1..];
-    }
-    assert!(rt; rest.is_empty(), "more than the replies: {}", shown(rest));
-}
-
-/// Asserts the status and the texts of a run by these words, which reads nothing.
-pub(crate) fn assert_says(
-    rt: &impl Abort,
-    alloc: Global,
-    words: &[&str],
-    status: u8,
+    bytes: &[u8],
     written: &str,
-    faults: &str,
 ) {
-    assert_ends(rt, alloc, words, UNREAD, status, written, faults);
+    let outcome = outcome_over(alloc, words, Broken(bytes));
+    assert_eq!(rt; outcome.status, 1, "{words:?}");
+    assert_eq!(rt; shown(outcome.written.as_slice()), written, "{words:?}");
+    assert!(rt; outcome.faults.is_empty(), "{words:?}");
+    assert!(rt; !outcome.is_refused, "{words:?}");
+}
+
+/// Asserts that a run by these words fails where its output is taken by nobody, with nothing said.
+pub(crate) fn assert_needs_its_output(rt: &impl Abort, alloc: Global, words: &[&str], input: &str) {
+    let mut faults = Vec::new(alloc);
+    let status = command(
+        &mut Heap::new(alloc),
+        words,
+        &mut ReadSource::new(input.as_bytes()),
+        &mut WriteSink::new(Shut),
+        &mut WriteSink::new(&mut faults),
+    );
+    assert_eq!(rt; status, 1, "{words:?}");
+    assert!(rt; faults.is_empty(), "{words:?}");
+}
+
+/// Asserts that a run by these words is refused with that status also where its reason is taken by nobody.
+pub(crate) fn assert_needs_no_reason(
+    rt: &impl Abort,
+    alloc: Global,
+    words: &[&str],
+    input: &str,
+    status: u8,
+) {
+    let mut written = Vec::new(alloc);
+    let found = command(
+        &mut Heap::new(alloc),
+        words,
+        &mut ReadSource::new(input.as_bytes()),
+        &mut WriteSink::new(&mut written),
+        &mut WriteSink::new(Shut),
+    );
+    assert_eq!(rt; found, status, "{words:?}");
+    assert!(rt; written.is_empty(), "{words:?}");
 }
 
 /// Asserts the status and the texts of a run by these words on this input.
@@ -136,7 +124,7 @@ pub(crate) fn assert_ends(
     written: &str,
     faults: &str,
 ) {
-    let outcome = outcome_of(alloc, words, input);
+    let outcome = outcome_over(alloc, words, input.as_bytes());
     assert_eq!(rt; outcome.status, status, "{words:?}");
     assert_eq!(rt; shown(outcome.written.as_slice()), written, "{words:?}");
     assert_eq!(rt; shown(outcome.faults.as_slice()), faults, "{words:?}");

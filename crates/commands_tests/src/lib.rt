@@ -1,9 +1,8 @@
-//! What the program does, over readers and writers in memory, with texts that were worked out by hand. Tests are a crate of
-//! their own, so that a library is proved once, and they reach only what it makes public.
+//! What the program does, over readers and writers in memory: each of its words once, and devices that fail, which no
+//! transcript in `examples/` can show. Tests are a crate of their own, so that a library is proved once, and they reach only
+//! what it makes public.
 #![tactic(auto)]
 
-#[cfg(test)]
-mod answered;
 #[cfg(test)]
 mod asserts;
 #[cfg(test)]
@@ -11,8 +10,6 @@ mod planned;
 #[cfg(test)]
 mod replayed;
 #[cfg(test)]
-mod rows;
-#[cfg(test)]
-mod statuses;
+mod served;
 #[cfg(test)]
 mod words;

@@ -288,35 +288,53 @@ fn next(alloc: Global, dice: &mut Dice, maps: &Maps) -> Result<Request, Fail> {
     }
 }
 
+/// Whether two replies are there, and the same.
+fn are_same(left: &Result<Reply, Memory>, right: &Result<Reply, Memory>) -> bool {
+    match (left, right) {
+        (Ok(left), Ok(right)) => left.is_same(right),
+        _ => false,
+    }
+}
+
 /// Whether both stores answer the request alike.
-fn agree(
+fn agree(alloc: Global, plain: &mut Plain, maps: &mut Maps, request: Request) -> bool {
+    let expected = maps.answer(alloc, &request);
+    let reply = plain.take(request);
+    let is_same = are_same(&reply, &expected);
+    drop(expected);
+    drop(reply);
+    is_same
+}
+
+/// Asserts that both stores answer a script alike.
+fn assert_alike(
+    rt: &impl Abort,
     alloc: Global,
     plain: &mut Plain,
     maps: &mut Maps,
-    request: Request,
-) -> Result<bool, Fail> {
-    let expected = maps.answer(alloc, &request)?;
-    let reply = plain.take(request);
-    let is_same = reply.as_ref().is_ok_and(|reply| reply.is_same(&expected));
-    drop(expected);
-    drop(reply?);
-    Ok(is_same)
-}
-
-#[test]
-fn the_store_answers_as_one_that_keeps_all_maps(rt: HostRuntime) -> Result<(), Fail> {
-    let mut plain = Plain::new(rt.alloc(), CAPACITY)?;
-    let mut maps = Maps::new(rt.alloc())?;
+) -> Result<(), Fail> {
     let mut dice = Dice { state: 1 };
     for turn in 0..2_000u64 {
-        let request = next(rt.alloc(), &mut dice, &maps)?;
-        assert!(rt;
-            agree(rt.alloc(), &mut plain, &mut maps, request)?,
-            "at {turn}"
-        );
+        let request = next(alloc, &mut dice, maps)?;
+        assert!(rt; agree(alloc, plain, maps, request), "at {turn}");
     }
     // The script filled the store, and compacted most of it away.
     assert_eq!(rt; maps.counter(), CAPACITY);
     assert!(rt; maps.floor > 0);
     Ok(())
+}
+
+fn assert_answers_as_maps(rt: &impl Abort, alloc: Global, plain: &mut Plain) -> Result<(), Fail> {
+    let mut maps = Maps::new(alloc)?;
+    let asserted = assert_alike(rt, alloc, plain, &mut maps);
+    drop(maps);
+    asserted
+}
+
+#[test]
+fn the_store_answers_as_one_that_keeps_all_maps(rt: HostRuntime) -> Result<(), Fail> {
+    let mut plain = Plain::new(rt.alloc(), CAPACITY)?;
+    let asserted = assert_answers_as_maps(&rt, rt.alloc(), &mut plain);
+    drop(plain);
+    asserted
 }

@@ -66,7 +66,7 @@ fn taken_at_last(
 fn assert_texts(rt: &impl Abort, alloc: Global, plain: &mut Plain, line: &str, texts: &str) {
     match taken_at_last(rt, alloc, plain, line) {
         Ok(found) => assert_eq!(rt; found.as_str(), texts, "of {line}"),
-        Err(Memory) => panic!(rt; "two growths were refused"),
+        Err(Memory) => panic!(rt; "two growths were refused of {line}"),
     }
 }
 
@@ -80,6 +80,7 @@ fn a_store_is_as_before_a_refused_growth(rt: HostRuntime) {
     for (line, _, texts, _) in ROWS.iter() {
         assert_texts(&rt, rt.alloc(), &mut plain, line, texts);
     }
+    drop(plain);
 }
 
 /// Lines to a new store, and the texts of the objects of their replies, worked out by hand. Two pods are made and one is
@@ -123,4 +124,5 @@ fn the_past_is_as_before_a_refused_growth(rt: HostRuntime) {
     for (line, texts) in PAST.iter() {
         assert_texts(&rt, rt.alloc(), &mut plain, line, texts);
     }
+    drop(plain);
 }

@@ -282,13 +282,69 @@ fn by_texts(alloc: Global, plain: &mut Plain, line: &str) -> Result<Answer, Fail
     })
 }
 
-fn assert_same(rt: &impl Abort, line: &str, left: Answer, right: Answer) {
-    assert_eq!(rt; left.name, right.name, "of {line}");
-    assert_eq!(rt; left.texts.as_str(), right.texts.as_str(), "of {line}");
+/// Asserts that both stores answer `asked` alike after a line.
+fn assert_same(rt: &impl Abort, asked: &str, after: &str, left: Answer, right: Answer) {
+    assert_eq!(rt; left.name, right.name, "of {asked} after {after}");
+    assert_eq!(rt;
+        left.texts.as_str(),
+        right.texts.as_str(),
+        "of {asked} after {after}"
+    );
 }
 
-/// Asserts what the lines come to in two stores of so many revisions, of which one judges by texts and one by objects, and
-/// that both hold the same after each.
+/// Asserts that both stores hold the same after that line.
+fn assert_hold_the_same(
+    rt: &impl Abort,
+    alloc: Global,
+    texts: &mut Plain,
+    objects: &mut Plain,
+    line: &str,
+) -> Result<(), Fail> {
+    for list in LISTS.iter() {
+        let left = by_objects(alloc, texts, list)?;
+        assert_same(rt, list, line, left, by_objects(alloc, objects, list)?);
+    }
+    Ok(())
+}
+
+/// Asserts what the lines come to in a store that judges by texts and in one that judges by objects, and that both hold the
+/// same after each.
+fn assert_rows(
+    rt: &impl Abort,
+    alloc: Global,
+    texts: &mut Plain,
+    objects: &mut Plain,
+    rows: &[(&str, &str)],
+) -> Result<(), Fail> {
+    for (line, expected) in rows {
+        let answer = by_texts(alloc, texts, line)?;
+        assert_eq!(rt; answer.name, *expected, "of {line}");
+        assert_same(
+            rt,
+            line,
+            "those before",
+            answer,
+            by_objects(alloc, objects, line)?,
+        );
+        assert_hold_the_same(rt, alloc, texts, objects, line)?;
+    }
+    Ok(())
+}
+
+fn assert_rows_beside(
+    rt: &impl Abort,
+    alloc: Global,
+    capacity: u64,
+    objects: &mut Plain,
+    rows: &[(&str, &str)],
+) -> Result<(), Fail> {
+    let mut texts = Plain::new(alloc, capacity)?;
+    let asserted = assert_rows(rt, alloc, &mut texts, objects, rows);
+    drop(texts);
+    asserted
+}
+
+/// Asserts what the lines come to in two stores of so many revisions.
 fn assert_judged_alike(
     rt: &impl Abort,
     alloc: Global,
@@ -296,17 +352,9 @@ fn assert_judged_alike(
     rows: &[(&str, &str)],
 ) -> Result<(), Fail> {
     let mut objects = Plain::new(alloc, capacity)?;
-    let mut texts = Plain::new(alloc, capacity)?;
-    for (line, expected) in rows {
-        let answer = by_texts(alloc, &mut texts, line)?;
-        assert_eq!(rt; answer.name, *expected, "of {line}");
-        assert_same(rt, line, answer, by_objects(alloc, &mut objects, line)?);
-        for list in LISTS.iter() {
-            let left = by_objects(alloc, &mut texts, list)?;
-            assert_same(rt, line, left, by_objects(alloc, &mut objects, list)?);
-        }
-    }
-    Ok(())
+    let asserted = assert_rows_beside(rt, alloc, capacity, &mut objects, rows);
+    drop(objects);
+    asserted
 }
 
 #[test]

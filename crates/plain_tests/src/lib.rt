@@ -1,5 +1,6 @@
-//! What crate `plain` answers, line by line and call by call, with replies that were worked out by hand. Tests are a
-//! crate of their own, so that a library is proved once, and they reach only what it makes public.
+//! What crate `plain` answers, call by call: what no line shows, devices that fail, refused growths, limits, and slow bodies
+//! beside fast ones. What a line shows is a transcript in `examples/serve`. Tests are a crate of their own, so that a library
+//! is proved once, and they reach only what it makes public.
 #![tactic(auto)]
 
 #[cfg(test)]
@@ -7,34 +8,20 @@ mod asserts;
 #[cfg(test)]
 mod beside;
 #[cfg(test)]
-mod compact_gets;
-#[cfg(test)]
 mod growths;
 #[cfg(test)]
 mod judged_texts;
 #[cfg(test)]
 mod limits;
 #[cfg(test)]
-mod lists;
-#[cfg(test)]
-mod past;
-#[cfg(test)]
 mod pieces;
-#[cfg(test)]
-mod pods;
 #[cfg(test)]
 mod replies;
 #[cfg(test)]
-mod request_lines;
-#[cfg(test)]
-mod status;
+mod request_values;
 #[cfg(test)]
 mod stored_texts;
 #[cfg(test)]
 mod streams;
 #[cfg(test)]
-mod updates;
-#[cfg(test)]
 mod values;
-#[cfg(test)]
-mod verdicts;

@@ -1,8 +1,7 @@
 //! Long runs, and requests at their limits: each is answered, and none says that memory ran out.
-use crate::lists::taken;
-use crate::replies::{Row, assert_takes_rows};
+use crate::replies::{Row, assert_takes_rows, taken};
 use objects::Object;
-use plain::{Plain, Reply};
+use plain::{Plain, PlainError, Reply};
 use std::alloc::Global;
 use std::process::Abort;
 use std::test::Fail;
@@ -29,8 +28,13 @@ const CREATE_END: &str = r#""}}}"#;
 /// A store of that capacity after so many creations.
 fn filled(alloc: Global, capacity: u64, count: u64) -> Result<Plain, Fail> {
     let mut plain = Plain::new(alloc, capacity)?;
-    take_all(alloc, &mut plain, count, CREATE, CREATE_END)?;
-    Ok(plain)
+    match take_all(alloc, &mut plain, count, CREATE, CREATE_END) {
+        Ok(()) => Ok(plain),
+        Err(fail) => {
+            drop(plain);
+            Err(fail)
+        }
+    }
 }
 
 /// What a list comes to: how many objects it has, the sum of the numbers of their UIDs, and its resource version.
@@ -76,7 +80,12 @@ fn assert_list(
         r#"{{"do":"list","kind":"Pod","namespace":"{namespace}","resourceVersion":"{exact}"}}"#
     )?;
     let reply = taken(alloc, plain, line.as_str())?;
-    assert_eq!(rt; listed(&reply), Some(expected), "of {line}");
+    let (_, _, version) = expected;
+    assert_eq!(rt;
+        listed(&reply),
+        Some(expected),
+        "of {line}, version {version}"
+    );
     drop(reply);
     Ok(())
 }
@@ -106,8 +115,9 @@ static COUNTS: [(u64, List); 4] = [
 fn lists_have_all_objects(rt: HostRuntime) -> Result<(), Fail> {
     for (count, expected) in COUNTS.iter() {
         let mut plain = filled(rt.alloc(), 1_000, *count)?;
-        assert_list(&rt, rt.alloc(), &mut plain, "default", 0, *expected)?;
+        let asserted = assert_list(&rt, rt.alloc(), &mut plain, "default", 0, *expected);
         drop(plain);
+        asserted?;
     }
     Ok(())
 }
@@ -115,7 +125,9 @@ fn lists_have_all_objects(rt: HostRuntime) -> Result<(), Fail> {
 #[test]
 fn exact_lists_have_all_objects(rt: HostRuntime) -> Result<(), Fail> {
     let mut plain = filled(rt.alloc(), 1_000, 1_000)?;
-    assert_lists(&rt, rt.alloc(), &mut plain, "default", COUNTS.as_slice())
+    let asserted = assert_lists(&rt, rt.alloc(), &mut plain, "default", COUNTS.as_slice());
+    drop(plain);
+    asserted
 }
 
 /// Each request after 100,000 creations of other pods: three pods are made, one is changed, one goes and comes again, and
@@ -248,15 +260,20 @@ static LATE_LISTS: [(u64, List); 5] = [
     (100_000, (0, 0, 100_000)),
 ];
 
+fn assert_answers_late(rt: &impl Abort, alloc: Global, plain: &mut Plain) -> Result<(), Fail> {
+    assert_takes_rows(rt, alloc, plain, LATE.as_slice())?;
+    assert_lists(rt, alloc, plain, "late", LATE_LISTS.as_slice())?;
+    assert_takes_rows(rt, alloc, plain, REFUSED.as_slice())?;
+    let (kept, _) = LATE_LISTS.split_at(3);
+    assert_lists(rt, alloc, plain, "late", kept)
+}
+
 #[test]
 fn each_request_is_answered_after_many(rt: HostRuntime) -> Result<(), Fail> {
-    let alloc = rt.alloc();
-    let mut plain = filled(alloc, 100_008, 100_000)?;
-    assert_takes_rows(&rt, alloc, &mut plain, LATE.as_slice())?;
-    assert_lists(&rt, alloc, &mut plain, "late", LATE_LISTS.as_slice())?;
-    assert_takes_rows(&rt, alloc, &mut plain, REFUSED.as_slice())?;
-    let (kept, _) = LATE_LISTS.split_at(3);
-    assert_lists(&rt, alloc, &mut plain, "late", kept)
+    let mut plain = filled(rt.alloc(), 100_008, 100_000)?;
+    let asserted = assert_answers_late(&rt, rt.alloc(), &mut plain);
+    drop(plain);
+    asserted
 }
 
 /// The lists after 1,000 pods were made and removed, and p0 and p1 made again.
@@ -268,16 +285,22 @@ static PAST: [(u64, List); 5] = [
     (1_000, (1_000, 500_500, 1_000)),
 ];
 
+/// Removes the pods, makes two again, and asserts what lists of the past have.
+fn assert_past(rt: &impl Abort, alloc: Global, plain: &mut Plain) -> Result<(), Fail> {
+    let front = r#"{"do":"delete","kind":"Pod","name":"p"#;
+    take_all(alloc, plain, 1_000, front, r#""}"#)?;
+    take_all(alloc, plain, 2, CREATE, CREATE_END)?;
+    assert_lists(rt, alloc, plain, "default", PAST.as_slice())?;
+    assert_takes_rows(rt, alloc, plain, COMPACTED.as_slice())?;
+    assert_lists(rt, alloc, plain, "default", PAST.as_slice())
+}
+
 #[test]
 fn removed_objects_are_in_lists_of_the_past_alone(rt: HostRuntime) -> Result<(), Fail> {
-    let alloc = rt.alloc();
-    let mut plain = filled(alloc, 2_002, 1_000)?;
-    let front = r#"{"do":"delete","kind":"Pod","name":"p"#;
-    take_all(alloc, &mut plain, 1_000, front, r#""}"#)?;
-    take_all(alloc, &mut plain, 2, CREATE, CREATE_END)?;
-    assert_lists(&rt, alloc, &mut plain, "default", PAST.as_slice())?;
-    assert_takes_rows(&rt, alloc, &mut plain, COMPACTED.as_slice())?;
-    assert_lists(&rt, alloc, &mut plain, "default", PAST.as_slice())
+    let mut plain = filled(rt.alloc(), 2_002, 1_000)?;
+    let asserted = assert_past(&rt, rt.alloc(), &mut plain);
+    drop(plain);
+    asserted
 }
 
 /// The past below a number goes, and what is read at the number stays.
@@ -340,9 +363,39 @@ static LAST: [Row; 10] = [
     ),
 ];
 
+fn assert_answers_last(rt: &impl Abort, alloc: Global, plain: &mut Plain) -> Result<(), Fail> {
+    assert_takes_rows(rt, alloc, plain, LAST.as_slice())?;
+    assert_list(rt, alloc, plain, "default", 5, (2, 4, 5))
+}
+
 #[test]
 fn a_store_answers_up_to_its_last_revision(rt: HostRuntime) -> Result<(), Fail> {
     let mut plain = filled(rt.alloc(), 5, 3)?;
-    assert_takes_rows(&rt, rt.alloc(), &mut plain, LAST.as_slice())?;
-    assert_list(&rt, rt.alloc(), &mut plain, "default", 5, (2, 4, 5))
+    let asserted = assert_answers_last(&rt, rt.alloc(), &mut plain);
+    drop(plain);
+    asserted
+}
+
+/// Capacities, and whether a store may have them.
+static CAPACITIES: [(u64, bool); 5] = [
+    (0, false),
+    (1, true),
+    (1_048_576, true),
+    (1_048_577, false),
+    (u64::MAX, false),
+];
+
+/// Whether a store may have that capacity.
+fn is_capacity(alloc: Global, capacity: u64) -> bool {
+    match Plain::new(alloc, capacity) {
+        Ok(_) => true,
+        Err(PlainError::BadCapacity) => false,
+    }
+}
+
+#[test]
+fn capacities_have_limits(rt: HostRuntime) {
+    for (capacity, expected) in CAPACITIES.iter() {
+        assert_eq!(rt; is_capacity(rt.alloc(), *capacity), *expected, "{capacity}");
+    }
 }

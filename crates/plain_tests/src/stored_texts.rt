@@ -4,7 +4,6 @@ ghost use Rattle.std.specs.Prelude.{◌≡◌, true};
 ghost use Rattle.plain.specs.Route.{is_read};
 ghost use Rattle.plain.specs.Verdict.{is_write};
 
-use crate::asserts::assert_answers_within;
 use objects::{Memory, Object, print_object};
 use packed::Packed;
 use plain::{Plain, PrintedReply, Reply, Request, StoredReply, read_request};
@@ -128,14 +127,6 @@ pub(crate) fn output(alloc: Global) -> Result<String, AllocError> {
     Ok(text)
 }
 
-#[test]
-fn lines_copy_the_texts_of_objects(rt: HostRuntime) -> Result<(), Fail> {
-    let input = input(rt.alloc())?;
-    let output = output(rt.alloc())?;
-    let (input, output) = (input.as_bytes(), output.as_bytes());
-    Ok(assert_answers_within(&rt, rt.alloc(), input, 100, 10_000, Ok(16), output)?)
-}
-
 /// The texts of some objects, with commas between them.
 fn joined_objects(alloc: Global, objects: &[Object]) -> Result<String, Memory> {
     let mut texts = String::new(alloc);
@@ -178,17 +169,19 @@ fn answered(alloc: Global, plain: &mut Plain, line: &str) -> Result<String, Fail
     Ok(texts?)
 }
 
+fn assert_answered(rt: &impl Abort, alloc: Global, plain: &mut Plain) -> Result<(), Fail> {
+    for (line, _, texts, _) in ROWS.iter() {
+        assert_eq!(rt; answered(alloc, plain, line)?.as_str(), *texts, "of {line}");
+    }
+    Ok(())
+}
+
 #[test]
 fn objects_are_read_back_as_they_were_stored(rt: HostRuntime) -> Result<(), Fail> {
     let mut plain = Plain::new(rt.alloc(), 100)?;
-    for (line, _, texts, _) in ROWS.iter() {
-        assert_eq!(rt;
-            answered(rt.alloc(), &mut plain, line)?.as_str(),
-            *texts,
-            "of {line}"
-        );
-    }
-    Ok(())
+    let asserted = assert_answered(&rt, rt.alloc(), &mut plain);
+    drop(plain);
+    asserted
 }
 
 fn stored_texts(alloc: Global, stored: &StoredReply) -> Result<String, AllocError> {
@@ -268,17 +261,19 @@ fn kept(alloc: Global, plain: &mut Plain, line: &str) -> Result<String, Fail> {
     Ok(texts?)
 }
 
+fn assert_kept(rt: &impl Abort, alloc: Global, plain: &mut Plain) -> Result<(), Fail> {
+    for (line, _, texts, _) in ROWS.iter() {
+        assert_eq!(rt; kept(alloc, plain, line)?.as_str(), *texts, "of {line}");
+    }
+    Ok(())
+}
+
 #[test]
 fn a_store_answers_with_the_texts_that_it_keeps(rt: HostRuntime) -> Result<(), Fail> {
     let mut plain = Plain::new(rt.alloc(), 100)?;
-    for (line, _, texts, _) in ROWS.iter() {
-        assert_eq!(rt;
-            kept(rt.alloc(), &mut plain, line)?.as_str(),
-            *texts,
-            "of {line}"
-        );
-    }
-    Ok(())
+    let asserted = assert_kept(&rt, rt.alloc(), &mut plain);
+    drop(plain);
+    asserted
 }
 
 /// What a compaction answers: its number, or the name of a refusal.
@@ -308,14 +303,21 @@ static COMPACTIONS: [(u64, Result<u64, &str>); 5] = [
     (2, Ok(2)),
 ];
 
+/// Takes the creations, and asserts what the compactions after them come to.
+fn assert_compacts(rt: &impl Abort, alloc: Global, plain: &mut Plain) -> Result<(), Fail> {
+    for line in CREATIONS.iter() {
+        drop(kept(alloc, plain, line)?);
+    }
+    for (i, (to, expected)) in COMPACTIONS.iter().enumerate() {
+        assert_eq!(rt; compacted(plain, *to), *expected, "compaction {i}, to {to}");
+    }
+    Ok(())
+}
+
 #[test]
 fn a_store_is_compacted(rt: HostRuntime) -> Result<(), Fail> {
     let mut plain = Plain::new(rt.alloc(), 100)?;
-    for line in CREATIONS.iter() {
-        drop(kept(rt.alloc(), &mut plain, line)?);
-    }
-    for (to, expected) in COMPACTIONS.iter() {
-        assert_eq!(rt; compacted(&mut plain, *to), *expected, "to {to}");
-    }
-    Ok(())
+    let asserted = assert_compacts(&rt, rt.alloc(), &mut plain);
+    drop(plain);
+    asserted
 }

@@ -1,12 +1,10 @@
 //! Serving from readers and to writers of each kind, those that fail among them.
 use crate::asserts::{assert_answers, assert_ends};
-use plain::{BufferSink, ReadSource, ServeFault, Sink, SliceSource, WriteSink, write_all};
+use plain::{BufferSink, ReadSource, ServeFault, Sink, SliceSource, WriteSink, serve, write_all};
 use std::alloc::{AllocError, Global};
 use std::io::{self, Read};
 use std::process::Abort;
 use std::test::Fail;
-
-const NOT_JSON: &[u8] = b"{\"code\":400,\"reason\":\"NotJson\"}\n";
 
 const NO_VERB: &[u8] = b"{\"code\":400,\"reason\":\"NoVerb\"}\n";
 
@@ -66,80 +64,33 @@ fn a_full_buffer_takes_no_bytes_but_none_of_them(rt: HostRuntime) -> Result<(), 
     Ok(())
 }
 
-#[test]
-fn no_line_follows_an_empty_input(rt: HostRuntime) -> Result<(), Fail> {
-    Ok(assert_answers(&rt, rt.alloc(), b"", 100, Ok(0), b"")?)
-}
-
-#[test]
-fn each_line_has_an_answer(rt: HostRuntime) -> Result<(), Fail> {
-    let expected =
-        b"{\"code\":400,\"reason\":\"NotJson\"}\n{\"code\":400,\"reason\":\"NoVerb\"}\n{\"code\":400,\"reason\":\"NoVerb\"}\n";
-    Ok(assert_answers(&rt, rt.alloc(), b"\n{}\n{}", 1000, Ok(3), expected)?)
-}
-
-#[test]
-fn many_lines_are_answered(rt: HostRuntime) -> Result<(), Fail> {
-    let count = 100_000;
-    let input = "{}\n".repeat(rt.alloc(), count)?;
-    let expected = "{\"code\":400,\"reason\":\"NoVerb\"}\n".repeat(rt.alloc(), count)?;
-    let room = expected.len();
-    let ends = Ok(100_000);
-    Ok(assert_answers(
-        &rt,
-        rt.alloc(),
-        input.as_bytes(),
-        room,
-        ends,
-        expected.as_bytes(),
-    )?)
-}
-
-/// So many spaces, and the bytes behind them.
-fn spaces_before(alloc: Global, count: usize, back: &[u8]) -> Result<Vec<u8>, AllocError> {
-    let mut bytes = vec![in alloc; b' '; count]?;
-    bytes.extend_from_slice(back)?;
-    Ok(bytes)
-}
-
-#[test]
-fn a_line_over_the_limit_is_refused_over_several_reads(rt: HostRuntime) -> Result<(), Fail> {
-    let input = spaces_before(rt.alloc(), 1_048_577, b"\n{}")?;
-    let expected = b"{\"code\":400,\"reason\":\"TooLong\"}\n{\"code\":400,\"reason\":\"NoVerb\"}\n";
-    Ok(assert_answers(&rt, rt.alloc(), input.as_slice(), 1000, Ok(2), expected)?)
-}
-
-#[test]
-fn a_line_at_the_limit_is_read(rt: HostRuntime) -> Result<(), Fail> {
-    let input = spaces_before(rt.alloc(), 1_048_576, b"\n")?;
-    Ok(assert_answers(&rt, rt.alloc(), input.as_slice(), 1000, Ok(1), NOT_JSON)?)
-}
-
-/// Asserts what is answered to these bytes where the reader fails behind them.
+/// Asserts what is answered to this text where the reader fails behind it.
 fn assert_torn(
     rt: &impl Abort,
     alloc: Global,
-    bytes: &[u8],
+    text: &str,
     expected: &[u8],
 ) -> Result<(), AllocError> {
     let mut sink = BufferSink::with_room(alloc, 100)?;
-    let mut source = ReadSource::new(Torn { left: bytes });
-    let ends = Err(ServeFault::Read);
-    assert_ends(rt, alloc, &mut source, &mut sink, 1, ends);
-    assert_eq!(rt; sink.bytes(), expected);
+    let mut source = ReadSource::new(Torn {
+        left: text.as_bytes(),
+    });
+    let ends = serve(alloc, &mut source, &mut sink, 1);
+    assert_eq!(rt; ends, Err(ServeFault::Read), "behind {text}");
+    assert_eq!(rt; sink.bytes(), expected, "behind {text}");
     Ok(())
 }
 
 #[test]
 fn lines_that_ended_before_a_failure_are_answered(rt: HostRuntime) -> Result<(), Fail> {
-    for (bytes, expected) in [
-        (b"{}\n".as_slice(), NO_VERB),
+    for (text, expected) in [
+        ("{}\n", NO_VERB),
         // A line that is cut off is not.
-        (b"{}\n{}".as_slice(), NO_VERB),
-        (b"{}".as_slice(), b"".as_slice()),
-        (b"".as_slice(), b"".as_slice()),
+        ("{}\n{}", NO_VERB),
+        ("{}", b"".as_slice()),
+        ("", b"".as_slice()),
     ] {
-        assert_torn(&rt, rt.alloc(), bytes, expected)?;
+        assert_torn(&rt, rt.alloc(), text, expected)?;
     }
     Ok(())
 }
@@ -161,7 +112,7 @@ fn assert_serves_by(
 ) {
     let (source, sink) = streams;
     assert_ends(rt, alloc, source, sink, capacity, ends);
-    assert_eq!(rt; sink.bytes(), expected);
+    assert_eq!(rt; sink.bytes(), expected, "of capacity {capacity}");
 }
 
 #[test]
