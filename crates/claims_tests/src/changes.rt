@@ -396,7 +396,8 @@ fn the_first_claim_of_a_name_in_the_namespace_counts(rt: HostRuntime) -> Result<
     for (texts, expected) in LISTS.iter() {
         assert_eq!(rt;
             kept_text(rt.alloc(), texts)?.as_str().trim_end(),
-            *expected
+            *expected,
+            "of {texts:?}"
         );
     }
     Ok(())
@@ -438,7 +439,8 @@ fn claims_are_made_from_their_templates(rt: HostRuntime) -> Result<(), Fail> {
     for (spec, expected) in BUILT.iter() {
         assert_eq!(rt;
             built_text(rt.alloc(), "web", spec, 12)?.as_str().trim_end(),
-            *expected
+            *expected,
+            "{spec}"
         );
     }
     Ok(())

@@ -124,8 +124,12 @@ fn deletes(alloc: Global) -> Result<Vec<Request>, ReadError> {
 fn claims_are_deleted_as_they_were_read(rt: HostRuntime) -> Result<(), Fail> {
     let found = deletes(rt.alloc())?;
     assert!(rt; found.len() == 3);
-    for (request, (_, expected)) in found.iter().zip(DELETES.iter()) {
-        assert_eq!(rt; words_of(rt.alloc(), request)?.as_str(), *expected);
+    for (request, (text, expected)) in found.iter().zip(DELETES.iter()) {
+        assert_eq!(rt;
+            words_of(rt.alloc(), request)?.as_str(),
+            *expected,
+            "of {text}"
+        );
     }
     Ok(())
 }

@@ -252,11 +252,14 @@ static FAULTS: [(&str, &[Step]); 3] = [
 fn faults_are_found(rt: HostRuntime) -> Result<(), Fail> {
     for (fault, steps) in FAULTS.iter() {
         let mut taken = taken_of(rt.alloc(), &["web"], steps)?;
-        assert_eq!(rt; first_fault(taken.as_slice()), None, "{fault}");
+        let before = first_fault(taken.as_slice());
         if let Some(last) = taken.last_mut() {
             last.0 = Some(0);
         }
-        assert_eq!(rt; first_fault(taken.as_slice()), Some(*fault));
+        let after = first_fault(taken.as_slice());
+        drop(taken);
+        assert_eq!(rt; before, None, "{fault}");
+        assert_eq!(rt; after, Some(*fault), "{fault}");
     }
     Ok(())
 }
@@ -272,9 +275,8 @@ fn two_objects_of_one_name_are_found(rt: HostRuntime) -> Result<(), Fail> {
     assert_eq!(rt; first_fault(taken.as_slice()), None);
     assert_eq!(rt; taken.len(), 3);
     taken.swap(1, 2);
-    assert_eq!(rt;
-        first_fault(taken.as_slice()),
-        Some("a name has two live objects")
-    );
+    let fault = first_fault(taken.as_slice());
+    drop(taken);
+    assert_eq!(rt; fault, Some("a name has two live objects"));
     Ok(())
 }

@@ -1,33 +1,26 @@
-//! Refused growths. `growths/check` refuses each allocation of each test in turn, and each has to pass. A test says nothing
+//! Refused growths. `checks/allocations` refuses each allocation of each test in turn, and each has to pass. A test says nothing
 //! where what it needs itself is refused.
 use crate::racing::{cluster_events, spec};
 use crate::runs::ROWS;
-use crate::sample::{controller, controllers, events, request_text, store, taken_text};
-use controllers::{ClusterFault, ClusterRun, Controller, run_cluster, run_whole};
+use crate::sample::{controller, request_of, request_text, run_of, store, taken_text};
+use controllers::{ClusterEvent, ClusterFault, ClusterRun, Controller, run_cluster};
 use objects::Memory;
-use plain::{Plain, Reply, Request, read_request};
+use plain::{Plain, Reply, Request};
 use std::alloc::Global;
 use std::process::Abort;
 
 /// Asserts that what a run of the first row takes is all of it, or a beginning where memory ran out.
 fn assert_runs_or_stops(rt: &impl Abort, alloc: Global) -> Result<(), Memory> {
     let (_, names, steps, expected) = ROWS[0];
-    let mut plain = store(alloc)?;
-    let mut controllers = controllers(alloc, names)?;
-    let events = events(alloc, steps)?;
-    let run = run_whole(
-        alloc,
-        &mut plain,
-        controllers.as_mut_slice(),
-        events.as_slice(),
-    );
-    let found = taken_text(alloc, run.taken.as_slice())?;
-    match run.fault {
-        Some(fault) => {
-            drop(fault);
-            assert!(rt; expected.starts_with(found.as_str()));
-        }
-        None => assert_eq!(rt; found.as_str(), expected),
+    let run = run_of(alloc, names, steps)?;
+    let found = taken_text(alloc, run.taken.as_slice());
+    let is_whole = run.fault.is_none();
+    drop(run);
+    let found = found?;
+    if is_whole {
+        assert_eq!(rt; found.as_str(), expected);
+    } else {
+        assert!(rt; expected.starts_with(found.as_str()));
     }
     Ok(())
 }
@@ -37,10 +30,17 @@ fn a_run_ends_at_a_refused_growth(rt: HostRuntime) {
     let _ = assert_runs_or_stops(&rt, rt.alloc());
 }
 
+/// How much a cluster handed on and ordered.
+type Counts = (usize, usize);
+
 /// Asserts that a cluster runs to its end, or that memory ran out; and says how much was handed on and ordered.
-fn counted(rt: &impl Abort, found: Result<ClusterRun, ClusterFault>) -> Option<(usize, usize)> {
+fn counted(rt: &impl Abort, found: Result<ClusterRun, ClusterFault>) -> Option<Counts> {
     match found {
-        Ok(found) => Some((found.events.len(), found.run.order.len())),
+        Ok(found) => {
+            let counts = (found.events.len(), found.run.order.len());
+            drop(found);
+            Some(counts)
+        }
         Err(fault) => {
             assert_eq!(rt; fault, ClusterFault::Memory);
             None
@@ -48,12 +48,25 @@ fn counted(rt: &impl Abort, found: Result<ClusterRun, ClusterFault>) -> Option<(
     }
 }
 
+/// The same of two runs.
+fn counted_twice(
+    rt: &impl Abort,
+    alloc: Global,
+    events: &[ClusterEvent],
+) -> Result<(Option<Counts>, Option<Counts>), Memory> {
+    let spec = spec(alloc, 3)?;
+    let first = counted(rt, run_cluster(alloc, &spec, events));
+    let second = counted(rt, run_cluster(alloc, &spec, events));
+    drop(spec);
+    Ok((first, second))
+}
+
 /// Of two runs of a cluster one is refused no growth; what both come to is the same.
 fn assert_cluster_runs_or_stops(rt: &impl Abort, alloc: Global) -> Result<(), Memory> {
-    let spec = spec(alloc, 3)?;
     let events = cluster_events(alloc, 7, 120)?;
-    let first = counted(rt, run_cluster(alloc, &spec, events.as_slice()));
-    let second = counted(rt, run_cluster(alloc, &spec, events.as_slice()));
+    let found = counted_twice(rt, alloc, events.as_slice());
+    drop(events);
+    let (first, second) = found?;
     assert!(rt; first.is_some() || second.is_some());
     assert!(rt; first.is_none() || second.is_none() || first == second);
     Ok(())
@@ -108,10 +121,7 @@ static COLLECTED: [&str; 8] = [
 ];
 
 fn take_line(alloc: Global, plain: &mut Plain, line: &str) -> Result<(), Memory> {
-    let Ok(request) = read_request(alloc, line.as_bytes()) else {
-        return Err(Memory);
-    };
-    drop(plain.take(request)?);
+    drop(plain.take(request_of(alloc, line)?)?);
     Ok(())
 }
 
@@ -128,10 +138,10 @@ fn next_at_last(rt: &impl Abort, controller: &mut Controller) -> Result<Request,
 }
 
 /// The same of the reply.
-fn take_at_last(rt: &impl Abort, controller: &mut Controller, reply: &Reply) {
-    if controller.take(reply).is_err() {
-        assert!(rt; controller.take(reply).is_ok());
-    }
+fn take_at_last(rt: &impl Abort, controller: &mut Controller, reply: Reply) {
+    let is_taken = controller.take(&reply).is_ok() || controller.take(&reply).is_ok();
+    drop(reply);
+    assert!(rt; is_taken);
 }
 
 fn assert_is(rt: &impl Abort, alloc: Global, request: &Request, expected: &str) {
@@ -152,19 +162,37 @@ fn assert_asks(
         let request = next_at_last(rt, controller)?;
         assert_is(rt, alloc, &request, text);
         let reply = plain.take(request)?;
-        take_at_last(rt, controller, &reply);
+        take_at_last(rt, controller, reply);
     }
     Ok(())
 }
 
-/// Asserts that a controller goes through each of its phases, whichever growth is refused.
+/// Asserts that the controller goes through each of its phases.
+fn assert_phases(
+    rt: &impl Abort,
+    alloc: Global,
+    plain: &mut Plain,
+    web: &mut Controller,
+) -> Result<(), Memory> {
+    take_line(alloc, plain, MAKE)?;
+    assert_asks(rt, alloc, plain, web, &MADE)?;
+    take_line(alloc, plain, DELETE)?;
+    assert_asks(rt, alloc, plain, web, &COLLECTED)
+}
+
+fn assert_goes_on_over(rt: &impl Abort, alloc: Global, plain: &mut Plain) -> Result<(), Memory> {
+    let mut web = controller(alloc, "web")?;
+    let asserted = assert_phases(rt, alloc, plain, &mut web);
+    drop(web);
+    asserted
+}
+
+/// Asserts that a controller goes on, whichever growth is refused.
 fn assert_goes_on(rt: &impl Abort, alloc: Global) -> Result<(), Memory> {
     let mut plain = store(alloc)?;
-    let mut web = controller(alloc, "web")?;
-    take_line(alloc, &mut plain, MAKE)?;
-    assert_asks(rt, alloc, &mut plain, &mut web, &MADE)?;
-    take_line(alloc, &mut plain, DELETE)?;
-    assert_asks(rt, alloc, &mut plain, &mut web, &COLLECTED)
+    let asserted = assert_goes_on_over(rt, alloc, &mut plain);
+    drop(plain);
+    asserted
 }
 
 #[test]

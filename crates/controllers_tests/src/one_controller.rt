@@ -1,70 +1,27 @@
 //! What one controller asks, and where replies take it.
-use crate::sample::{controller, request_text};
+use crate::sample::{controller, request_of, request_text, store};
 use controllers::Controller;
-use plain::{Plain, Reason, Reply, read_request};
+use objects::Memory;
+use plain::{Plain, Reason, Reply};
 use std::alloc::Global;
 use std::process::Abort;
 use std::test::Fail;
 
-fn assert_asks(
-    rt: &impl Abort,
-    alloc: Global,
-    controller: &mut Controller,
-    expected: &str,
-) -> Result<(), Fail> {
-    let request = controller.next()?;
-    let text = request_text(alloc, &request)?;
-    assert_eq!(rt; text.as_str(), expected);
-    Ok(())
-}
-
-/// A controller whose set is not there has listed the claims, and waits for the list of sets.
-fn at_owner_sets(alloc: Global) -> Result<Controller, Fail> {
-    let mut plain = Plain::new(alloc, 10)?;
-    let mut web = controller(alloc, "web")?;
-    for _ in 0..2 {
-        let request = web.next()?;
-        let reply = plain.take(request)?;
-        web.take(&reply)?;
-    }
-    Ok(web)
-}
-
-#[test]
-fn next_is_the_same_until_its_reply_is_taken(rt: HostRuntime) -> Result<(), Fail> {
-    let mut web = controller(rt.alloc(), "web")?;
-    assert_asks(&rt, rt.alloc(), &mut web, "get StatefulSet web")?;
-    assert_asks(&rt, rt.alloc(), &mut web, "get StatefulSet web")?;
-    web.take(&Reply::Refused(Reason::NotFound))?;
-    assert_asks(&rt, rt.alloc(), &mut web, "list PersistentVolumeClaim ")?;
-    assert_asks(&rt, rt.alloc(), &mut web, "list PersistentVolumeClaim ")?;
-    Ok(())
-}
-
-#[test]
-fn a_reply_that_nobody_waits_for_changes_nothing(rt: HostRuntime) -> Result<(), Fail> {
-    let mut web = at_owner_sets(rt.alloc())?;
-    web.take(&Reply::Refused(Reason::NotFound))?;
-    assert_asks(&rt, rt.alloc(), &mut web, "list StatefulSet ")?;
-    Ok(())
-}
-
-#[test]
-fn a_reply_of_another_kind_ends_the_round(rt: HostRuntime) -> Result<(), Fail> {
-    let mut web = at_owner_sets(rt.alloc())?;
-    assert_asks(&rt, rt.alloc(), &mut web, "list StatefulSet ")?;
-    web.take(&Reply::Compacted { revision: 1 })?;
-    assert_asks(&rt, rt.alloc(), &mut web, "get StatefulSet web")?;
-    Ok(())
-}
-
-#[test]
-fn a_crash_forgets_the_round(rt: HostRuntime) -> Result<(), Fail> {
-    let mut web = at_owner_sets(rt.alloc())?;
-    assert_asks(&rt, rt.alloc(), &mut web, "list StatefulSet ")?;
-    web.crash();
-    assert_asks(&rt, rt.alloc(), &mut web, "get StatefulSet web")?;
-    Ok(())
+/// What happens to the controller of the set `web`.
+enum Turn {
+    /// Its next request is this one.
+    Next(&'static str),
+    /// The store answers so many of its requests.
+    Ask(u8),
+    /// It is told that nothing is there.
+    NotFound,
+    /// It is told of a compaction, which it never asks for.
+    Compacted,
+    Crash,
+    /// Somebody else asks the request of this line.
+    Line(&'static str),
+    /// Whether its last plan was refused as `BadSpec`; else it was not refused.
+    IsRefused(bool),
 }
 
 const BAD: &str =
@@ -73,32 +30,166 @@ const BAD: &str =
 const GOOD: &str =
     r#"{"do":"update","object":{"kind":"StatefulSet","metadata":{"name":"web"},"spec":{"replicas":1,"template":{}}}}"#;
 
-fn ask(plain: &mut Plain, web: &mut Controller, times: u8) -> Result<(), Fail> {
+/// The idea, and what happens. Where the set is not there, a controller has listed the claims after two requests, and waits
+/// for the list of sets.
+static ROWS: [(&str, &[Turn]); 5] = [
+    (
+        "the next request is the same until its reply is taken",
+        &[
+            Turn::Next("get StatefulSet web"),
+            Turn::Next("get StatefulSet web"),
+            Turn::NotFound,
+            Turn::Next("list PersistentVolumeClaim "),
+            Turn::Next("list PersistentVolumeClaim "),
+        ],
+    ),
+    (
+        "a reply that nobody waits for changes nothing",
+        &[
+            Turn::Ask(2),
+            Turn::NotFound,
+            Turn::Next("list StatefulSet "),
+        ],
+    ),
+    (
+        "a reply of another kind ends the round",
+        &[
+            Turn::Ask(2),
+            Turn::Next("list StatefulSet "),
+            Turn::Compacted,
+            Turn::Next("get StatefulSet web"),
+        ],
+    ),
+    (
+        "a crash forgets the round",
+        &[
+            Turn::Ask(2),
+            Turn::Next("list StatefulSet "),
+            Turn::Crash,
+            Turn::Next("get StatefulSet web"),
+        ],
+    ),
+    (
+        // Nine requests after the refusal are the five lists of the collection, and a get and three lists of the next round.
+        "a refused plan is told until the next one",
+        &[
+            Turn::Line(BAD),
+            Turn::IsRefused(false),
+            Turn::Ask(4),
+            Turn::IsRefused(true),
+            Turn::Line(GOOD),
+            Turn::Ask(5),
+            Turn::IsRefused(true),
+            Turn::Ask(4),
+            Turn::IsRefused(false),
+        ],
+    ),
+];
+
+fn assert_next(
+    rt: &impl Abort,
+    alloc: Global,
+    web: &mut Controller,
+    expected: &str,
+    idea: &str,
+) -> Result<(), Memory> {
+    let request = web.next()?;
+    let text = request_text(alloc, &request);
+    drop(request);
+    assert_eq!(rt; text?.as_str(), expected, "{idea}");
+    Ok(())
+}
+
+fn take(web: &mut Controller, reply: Reply) -> Result<(), Memory> {
+    let taken = web.take(&reply);
+    drop(reply);
+    Ok(taken?)
+}
+
+fn ask(plain: &mut Plain, web: &mut Controller, times: u8) -> Result<(), Memory> {
     for _ in 0..times {
         let request = web.next()?;
-        let reply = plain.take(request)?;
-        web.take(&reply)?;
+        take(web, plain.take(request)?)?;
     }
     Ok(())
 }
 
-#[test]
-fn a_refused_plan_is_told_until_the_next_one(rt: HostRuntime) -> Result<(), Fail> {
-    let mut plain = Plain::new(rt.alloc(), 10)?;
-    let mut web = controller(rt.alloc(), "web")?;
-    drop(plain.take(read_request(rt.alloc(), BAD.as_bytes())?)?);
-    assert!(rt; web.last_refusal().is_none());
-    ask(&mut plain, &mut web, 4)?;
-    let Some(refusal) = web.last_refusal() else {
-        assert!(rt; false, "the plan is not refused");
-        return Ok(());
+fn take_line(alloc: Global, plain: &mut Plain, line: &str) -> Result<(), Memory> {
+    drop(plain.take(request_of(alloc, line)?)?);
+    Ok(())
+}
+
+fn assert_refused(rt: &impl Abort, web: &Controller, expected: bool, idea: &str) {
+    let refusal = web.last_refusal();
+    let is_as_told = match refusal {
+        Some(refusal) => expected && matches!(refusal, sets::PlanError::BadSpec),
+        None => !expected,
     };
-    assert!(rt; matches!(refusal, sets::PlanError::BadSpec));
-    drop(plain.take(read_request(rt.alloc(), GOOD.as_bytes())?)?);
-    // five lists of the collection, and a get and three lists of the next round
-    ask(&mut plain, &mut web, 5)?;
-    assert!(rt; web.last_refusal().is_some());
-    ask(&mut plain, &mut web, 4)?;
-    assert!(rt; web.last_refusal().is_none());
+    assert!(rt; is_as_told, "{idea}");
+}
+
+fn assert_turn(
+    rt: &impl Abort,
+    alloc: Global,
+    plain: &mut Plain,
+    web: &mut Controller,
+    turn: &Turn,
+    idea: &str,
+) -> Result<(), Memory> {
+    match turn {
+        Turn::Next(expected) => assert_next(rt, alloc, web, expected, idea),
+        Turn::Ask(times) => ask(plain, web, *times),
+        Turn::NotFound => take(web, Reply::Refused(Reason::NotFound)),
+        Turn::Compacted => take(web, Reply::Compacted { revision: 1 }),
+        Turn::Crash => {
+            web.crash();
+            Ok(())
+        }
+        Turn::Line(line) => take_line(alloc, plain, line),
+        Turn::IsRefused(expected) => {
+            assert_refused(rt, web, *expected, idea);
+            Ok(())
+        }
+    }
+}
+
+fn assert_turns(
+    rt: &impl Abort,
+    alloc: Global,
+    plain: &mut Plain,
+    web: &mut Controller,
+    row: &(&str, &[Turn]),
+) -> Result<(), Memory> {
+    let (idea, turns) = row;
+    for turn in turns.iter() {
+        assert_turn(rt, alloc, plain, web, turn, idea)?;
+    }
+    Ok(())
+}
+
+fn assert_over(
+    rt: &impl Abort,
+    alloc: Global,
+    plain: &mut Plain,
+    row: &(&str, &[Turn]),
+) -> Result<(), Memory> {
+    let mut web = controller(alloc, "web")?;
+    let asserted = assert_turns(rt, alloc, plain, &mut web, row);
+    drop(web);
+    asserted
+}
+
+fn assert_row(rt: &impl Abort, alloc: Global, row: &(&str, &[Turn])) -> Result<(), Memory> {
+    let mut plain = store(alloc)?;
+    let asserted = assert_over(rt, alloc, &mut plain, row);
+    drop(plain);
+    asserted
+}
+
+#[test]
+fn a_controller_asks_in_turn(rt: HostRuntime) -> Result<(), Fail> {
+    for row in ROWS.iter() {
+        assert_row(&rt, rt.alloc(), row)?;
+    }
     Ok(())
 }

@@ -1,12 +1,12 @@
 //! Controllers that race over the interleaved store.
 use crate::checks::first_fault;
-use crate::sample::{MOMENT, store};
+use crate::sample::{MOMENT, request_of, store};
 use controllers::{
     ClusterEvent, ClusterFault, ClusterRun, ClusterSpec, SetSpec, Taken, run_cluster,
 };
 use history::{Event, Item};
 use objects::{Kind, Memory};
-use plain::{Plain, Reply, Request, read_request};
+use plain::{Plain, Reply, Request};
 use std::alloc::Global;
 use std::test::Fail;
 
@@ -22,24 +22,31 @@ const LINES: [&str; 6] = [
     r#"{"do":"update","object":{"kind":"StatefulSet","metadata":{"name":"web"},"spec":{"replicas":1,"template":{}}}}"#,
 ];
 
-/// A cluster of so many controllers of the set `web`, over two shards.
 #[tactic(auto, unfolding(objects::specs::Names::is_dns_label))]
-pub(crate) fn spec(alloc: Global, count: usize) -> Result<ClusterSpec, Memory> {
-    let mut sets = Vec::new(alloc);
-    for _ in 0..count {
-        sets.push(SetSpec::new(alloc, "default", "web", 10, MOMENT)?)?;
-    }
-    Ok(ClusterSpec {
-        shards: 2,
-        capacity: 10_000,
-        sets,
-    })
+fn set(alloc: Global) -> Result<SetSpec, Memory> {
+    SetSpec::new(alloc, "default", "web", 10, MOMENT)
 }
 
-fn request(alloc: Global, line: &str) -> Result<Request, Memory> {
-    match read_request(alloc, line.as_bytes()) {
-        Ok(request) => Ok(request),
-        Err(_) => Err(Memory),
+fn add_sets(alloc: Global, sets: &mut Vec<SetSpec>, count: usize) -> Result<(), Memory> {
+    for _ in 0..count {
+        sets.push(set(alloc)?)?;
+    }
+    Ok(())
+}
+
+/// A cluster of so many controllers of the set `web`, over two shards.
+pub(crate) fn spec(alloc: Global, count: usize) -> Result<ClusterSpec, Memory> {
+    let mut sets = Vec::new(alloc);
+    match add_sets(alloc, &mut sets, count) {
+        Ok(()) => Ok(ClusterSpec {
+            shards: 2,
+            capacity: 10_000,
+            sets,
+        }),
+        Err(Memory) => {
+            drop(sets);
+            Err(Memory)
+        }
     }
 }
 
@@ -79,8 +86,7 @@ fn put_line(
     caller: u64,
     line: &str,
 ) -> Result<(), Memory> {
-    let request = request(alloc, line)?;
-    events.push(ClusterEvent::Outside(caller, request))?;
+    events.push(ClusterEvent::Outside(caller, request_of(alloc, line)?))?;
     put_steps(events, caller)
 }
 
@@ -95,6 +101,21 @@ fn put_random(alloc: Global, events: &mut Vec<ClusterEvent>, number: u64) -> Res
     }
 }
 
+fn put_turns(
+    alloc: Global,
+    events: &mut Vec<ClusterEvent>,
+    seed: u64,
+    count: usize,
+) -> Result<(), Memory> {
+    put_line(alloc, events, OTHERS, LINES[0])?;
+    let mut number = seed;
+    for _ in 0..count {
+        number = next_number(number);
+        put_random(alloc, events, number >> 33)?;
+    }
+    Ok(())
+}
+
 /// So many random turns of controllers, others and the store, after the set was made.
 pub(crate) fn cluster_events(
     alloc: Global,
@@ -102,13 +123,13 @@ pub(crate) fn cluster_events(
     count: usize,
 ) -> Result<Vec<ClusterEvent>, Memory> {
     let mut events = Vec::new(alloc);
-    put_line(alloc, &mut events, OTHERS, LINES[0])?;
-    let mut number = seed;
-    for _ in 0..count {
-        number = next_number(number);
-        put_random(alloc, &mut events, number >> 33)?;
+    match put_turns(alloc, &mut events, seed, count) {
+        Ok(()) => Ok(events),
+        Err(Memory) => {
+            drop(events);
+            Err(Memory)
+        }
     }
-    Ok(events)
 }
 
 /// The caller and the request that were called at the place.
@@ -145,16 +166,32 @@ fn take(plain: &mut Plain, caller: u64, request: &Request) -> Result<Taken, Memo
     }
 }
 
+fn take_in_order(
+    plain: &mut Plain,
+    taken: &mut Vec<Taken>,
+    found: &ClusterRun,
+) -> Result<(), Memory> {
+    for place in found.run.order.iter() {
+        if let Some((caller, request)) = called_at(found.run.trace.items.as_slice(), *place) {
+            taken.push(take(plain, caller, request)?)?;
+        }
+    }
+    Ok(())
+}
+
 /// What one plain store takes in the order of a run.
 fn taken_in_order(alloc: Global, found: &ClusterRun) -> Result<Vec<Taken>, Memory> {
     let mut plain = store(alloc)?;
     let mut taken = Vec::new(alloc);
-    for place in found.run.order.iter() {
-        if let Some((caller, request)) = called_at(found.run.trace.items.as_slice(), *place) {
-            taken.push(take(&mut plain, caller, request)?)?;
+    let ended = take_in_order(&mut plain, &mut taken, found);
+    drop(plain);
+    match ended {
+        Ok(()) => Ok(taken),
+        Err(Memory) => {
+            drop(taken);
+            Err(Memory)
         }
     }
-    Ok(taken)
 }
 
 /// How many pods were created.
@@ -170,16 +207,35 @@ fn created_pods(taken: &[Taken]) -> usize {
     count
 }
 
+/// The run of a cluster of so many controllers.
+fn run_of(alloc: Global, count: usize, events: &[ClusterEvent]) -> Result<ClusterRun, Fail> {
+    let spec = spec(alloc, count)?;
+    let found = run_cluster(alloc, &spec, events);
+    drop(spec);
+    Ok(found?)
+}
+
+fn random_run(alloc: Global, seed: u64) -> Result<ClusterRun, Fail> {
+    let events = cluster_events(alloc, seed, 600)?;
+    let found = run_of(alloc, 3, events.as_slice());
+    drop(events);
+    found
+}
+
+fn taken_at_random(alloc: Global, seed: u64) -> Result<Vec<Taken>, Fail> {
+    let found = random_run(alloc, seed)?;
+    let taken = taken_in_order(alloc, &found);
+    drop(found);
+    Ok(taken?)
+}
+
 /// The first fault of a random run, and how many pods it created.
 fn looked_at(alloc: Global, seed: u64) -> Result<(Option<&'static str>, usize), Fail> {
-    let spec = spec(alloc, 3)?;
-    let events = cluster_events(alloc, seed, 600)?;
-    let found = run_cluster(alloc, &spec, events.as_slice())?;
-    let taken = taken_in_order(alloc, &found)?;
-    Ok((
-        first_fault(taken.as_slice()),
-        created_pods(taken.as_slice()),
-    ))
+    let taken = taken_at_random(alloc, seed)?;
+    let fault = first_fault(taken.as_slice());
+    let pods = created_pods(taken.as_slice());
+    drop(taken);
+    Ok((fault, pods))
 }
 
 #[test]
@@ -198,13 +254,14 @@ fn random_interleavings_keep_the_promises(rt: HostRuntime) -> Result<(), Fail> {
 
 /// What is handed on of the events of one controller, and who called last, if the last event is a call.
 fn handed_on(alloc: Global, events: &[ClusterEvent]) -> Result<(usize, Option<u64>), Fail> {
-    let spec = spec(alloc, 1)?;
-    let found = run_cluster(alloc, &spec, events)?;
+    let found = run_of(alloc, 1, events)?;
+    let count = found.events.len();
     let last = match found.events.last() {
         Some(Event::Call(caller, _)) => Some(*caller),
         _ => None,
     };
-    Ok((found.events.len(), last))
+    drop(found);
+    Ok((count, last))
 }
 
 #[test]
@@ -215,7 +272,9 @@ fn after_a_crash_a_controller_is_another_caller(rt: HostRuntime) -> Result<(), F
         ClusterEvent::Crash(0),
         ClusterEvent::Next(0),
     ];
-    assert!(rt; handed_on(rt.alloc(), &events)? == (4, Some(1)));
+    let found = handed_on(rt.alloc(), &events);
+    drop(events);
+    assert!(rt; found? == (4, Some(1)));
     Ok(())
 }
 
@@ -231,7 +290,9 @@ fn events_that_are_not_enabled_hand_nothing_on(rt: HostRuntime) -> Result<(), Fa
         ClusterEvent::Next(0),
         ClusterEvent::Next(0),
     ];
-    assert!(rt; handed_on(rt.alloc(), &events)?.0 == 1);
+    let found = handed_on(rt.alloc(), &events);
+    drop(events);
+    assert!(rt; found?.0 == 1);
     Ok(())
 }
 
@@ -245,7 +306,9 @@ fn fault_of(
     let mut spec = spec(alloc, count)?;
     spec.shards = shards;
     spec.capacity = capacity;
-    match run_cluster(alloc, &spec, &[]) {
+    let found = run_cluster(alloc, &spec, &[]);
+    drop(spec);
+    match found {
         Ok(found) => {
             drop(found);
             Ok(None)
@@ -254,19 +317,22 @@ fn fault_of(
     }
 }
 
+/// Shards, capacities and numbers of controllers, and how the cluster is refused.
+static LIMITS: [(usize, u64, usize, Option<ClusterFault>); 6] = [
+    (0, 1, 1, Some(ClusterFault::BadShards)),
+    (65, 0, 1, Some(ClusterFault::BadShards)),
+    (64, 0, 1, Some(ClusterFault::BadCapacity)),
+    (1, 1_048_577, 1, Some(ClusterFault::BadCapacity)),
+    (1, 1_048_576, 4_096, None),
+    (1, 1, 4_097, Some(ClusterFault::TooManyCallers)),
+];
+
 #[test]
 fn clusters_out_of_range_are_refused(rt: HostRuntime) -> Result<(), Fail> {
-    for (shards, capacity, count, expected) in [
-        (0, 1, 1, Some(ClusterFault::BadShards)),
-        (65, 0, 1, Some(ClusterFault::BadShards)),
-        (64, 0, 1, Some(ClusterFault::BadCapacity)),
-        (1, 1_048_577, 1, Some(ClusterFault::BadCapacity)),
-        (1, 1_048_576, 4_096, None),
-        (1, 1, 4_097, Some(ClusterFault::TooManyCallers)),
-    ] {
-        let found = fault_of(rt.alloc(), shards, capacity, count)?;
+    for (shards, capacity, count, expected) in LIMITS.iter() {
+        let found = fault_of(rt.alloc(), *shards, *capacity, *count)?;
         assert!(rt;
-            found == expected,
+            found == *expected,
             "{shards} shards, capacity {capacity}, {count} controllers"
         );
     }

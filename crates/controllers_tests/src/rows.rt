@@ -13,13 +13,21 @@ pub(crate) type Row = (
     &'static str,
 );
 
+fn assert_row(rt: &impl Abort, alloc: Global, row: &Row) -> Result<(), Memory> {
+    let (idea, names, steps, expected) = row;
+    let taken = taken_of(alloc, names, steps)?;
+    let told = told_text(alloc, taken.as_slice());
+    let fault = first_fault(taken.as_slice());
+    drop(taken);
+    assert_eq!(rt; told?.as_str(), *expected, "{idea}");
+    assert_eq!(rt; fault, None, "{idea}");
+    Ok(())
+}
+
 /// Asserts that the store takes what each row says, where the lists are left out, and that no promise is broken.
 pub(crate) fn assert_rows(rt: &impl Abort, alloc: Global, rows: &[Row]) -> Result<(), Memory> {
-    for (idea, names, steps, expected) in rows {
-        let taken = taken_of(alloc, names, steps)?;
-        let told = told_text(alloc, taken.as_slice())?;
-        assert_eq!(rt; told.as_str(), *expected, "{idea}");
-        assert_eq!(rt; first_fault(taken.as_slice()), None, "{idea}");
+    for row in rows {
+        assert_row(rt, alloc, row)?;
     }
     Ok(())
 }

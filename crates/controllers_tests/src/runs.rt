@@ -71,8 +71,9 @@ pub(crate) static ROWS: [Row; 2] = [
 fn controllers_race(rt: HostRuntime) -> Result<(), Fail> {
     for (idea, names, steps, expected) in ROWS.iter() {
         let taken = taken_of(rt.alloc(), names, steps)?;
-        let found = taken_text(rt.alloc(), taken.as_slice())?;
-        assert_eq!(rt; found.as_str(), *expected, "{idea}");
+        let found = taken_text(rt.alloc(), taken.as_slice());
+        drop(taken);
+        assert_eq!(rt; found?.as_str(), *expected, "{idea}");
     }
     Ok(())
 }

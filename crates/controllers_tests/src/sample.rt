@@ -4,7 +4,7 @@ ghost use Rattle.std.specs.List.{AllByRecursion};
 ghost use Rattle.controllers.specs.Controller.{phase_of};
 ghost use Rattle.controllers.specs.Phase.{reading_set};
 
-use controllers::{Controller, Taken, WholeEvent, run_whole};
+use controllers::{Controller, Taken, WholeEvent, WholeRun, run_whole};
 use objects::{Kind, Memory, Object};
 use plain::{Plain, Reply, Request, read_request};
 use std::alloc::Global;
@@ -32,7 +32,7 @@ pub(crate) fn controller(alloc: Global, name: &'static str) -> Result<Controller
     }
 }
 
-pub(crate) fn controllers(alloc: Global, names: &[&'static str]) -> Result<Vec<Controller>, Memory>
+fn controllers(alloc: Global, names: &[&'static str]) -> Result<Vec<Controller>, Memory>
     ensures { IfOk result (λ cs. AllByRecursion (λ c. phase_of c ≡ reading_set) cs.items) }
 {
     let mut controllers = Vec::new(alloc);
@@ -50,25 +50,44 @@ pub(crate) fn store(alloc: Global) -> Result<Plain, Memory> {
     }
 }
 
-pub(crate) fn events(alloc: Global, steps: &[Step]) -> Result<Vec<WholeEvent>, Memory> {
-    let mut events = Vec::new(alloc);
+pub(crate) fn request_of(alloc: Global, line: &str) -> Result<Request, Memory> {
+    match read_request(alloc, line.as_bytes()) {
+        Ok(request) => Ok(request),
+        Err(_) => Err(Memory),
+    }
+}
+
+fn add_asks(events: &mut Vec<WholeEvent>, number: usize, times: usize) -> Result<(), Memory> {
+    for _ in 0..times {
+        events.push(WholeEvent::Ask(number))?;
+    }
+    Ok(())
+}
+
+fn add_step(alloc: Global, events: &mut Vec<WholeEvent>, step: &Step) -> Result<(), Memory> {
+    match step {
+        Step::Ask(number, times) => add_asks(events, *number, *times),
+        Step::Crash(number) => Ok(events.push(WholeEvent::Crash(*number))?),
+        Step::Line(line) => Ok(events.push(WholeEvent::Outside(request_of(alloc, line)?))?),
+    }
+}
+
+fn add_steps(alloc: Global, events: &mut Vec<WholeEvent>, steps: &[Step]) -> Result<(), Memory> {
     for step in steps {
-        match step {
-            Step::Ask(number, times) => {
-                for _ in 0..*times {
-                    events.push(WholeEvent::Ask(*number))?;
-                }
-            }
-            Step::Crash(number) => events.push(WholeEvent::Crash(*number))?,
-            Step::Line(line) => {
-                let Ok(request) = read_request(alloc, line.as_bytes()) else {
-                    return Err(Memory);
-                };
-                events.push(WholeEvent::Outside(request))?;
-            }
+        add_step(alloc, events, step)?;
+    }
+    Ok(())
+}
+
+fn events(alloc: Global, steps: &[Step]) -> Result<Vec<WholeEvent>, Memory> {
+    let mut events = Vec::new(alloc);
+    match add_steps(alloc, &mut events, steps) {
+        Ok(()) => Ok(events),
+        Err(Memory) => {
+            drop(events);
+            Err(Memory)
         }
     }
-    Ok(events)
 }
 
 fn named(alloc: Global, verb: &str, kind: Kind, name: &str) -> Result<String, Memory> {
@@ -181,20 +200,48 @@ pub(crate) fn told_text(alloc: Global, taken: &[Taken]) -> Result<String, Memory
     Ok(text)
 }
 
-/// What a new store takes from controllers of these sets, as the steps have them.
+/// The run of new controllers of these sets over that store.
+fn run_over(
+    alloc: Global,
+    plain: &mut Plain,
+    names: &[&'static str],
+    events: &[WholeEvent],
+) -> Result<WholeRun, Memory> {
+    let mut controllers = controllers(alloc, names)?;
+    let run = run_whole(alloc, plain, controllers.as_mut_slice(), events);
+    drop(controllers);
+    Ok(run)
+}
+
+fn run_of_events(
+    alloc: Global,
+    names: &[&'static str],
+    events: &[WholeEvent],
+) -> Result<WholeRun, Memory> {
+    let mut plain = store(alloc)?;
+    let run = run_over(alloc, &mut plain, names, events);
+    drop(plain);
+    run
+}
+
+/// The run of new controllers of these sets over a new store, as the steps have it.
+pub(crate) fn run_of(
+    alloc: Global,
+    names: &[&'static str],
+    steps: &[Step],
+) -> Result<WholeRun, Memory> {
+    let events = events(alloc, steps)?;
+    let run = run_of_events(alloc, names, events.as_slice());
+    drop(events);
+    run
+}
+
+/// What the store of such a run takes.
 pub(crate) fn taken_of(
     alloc: Global,
     names: &[&'static str],
     steps: &[Step],
 ) -> Result<Vec<Taken>, Memory> {
-    let mut plain = store(alloc)?;
-    let mut controllers = controllers(alloc, names)?;
-    let events = events(alloc, steps)?;
-    let run = run_whole(
-        alloc,
-        &mut plain,
-        controllers.as_mut_slice(),
-        events.as_slice(),
-    );
+    let run = run_of(alloc, names, steps)?;
     Ok(run.taken)
 }

@@ -137,6 +137,19 @@ fn random_steps(
     Ok(steps)
 }
 
+/// What a new store takes from controllers of these sets in 200 random turns.
+fn taken_at_random(
+    alloc: Global,
+    names: &[&'static str],
+    choices: &[Step; 32],
+    seed: u64,
+) -> Result<Vec<Taken>, Fail> {
+    let steps = random_steps(alloc, choices, seed, 200)?;
+    let taken = taken_of(alloc, names, steps.as_slice());
+    drop(steps);
+    Ok(taken?)
+}
+
 fn assert_kept(rt: &impl Abort, seed: u64, taken: &[Taken]) {
     assert!(rt; taken.len() > 200);
     if let Some(fault) = first_fault(taken) {
@@ -147,9 +160,9 @@ fn assert_kept(rt: &impl Abort, seed: u64, taken: &[Taken]) {
 #[test]
 fn random_clusters_keep_the_promises(rt: HostRuntime) -> Result<(), Fail> {
     for seed in 1..9u64 {
-        let steps = random_steps(rt.alloc(), &STEPS, seed, 200)?;
-        let taken = taken_of(rt.alloc(), &["web", "web", "web"], steps.as_slice())?;
+        let taken = taken_at_random(rt.alloc(), &["web", "web", "web"], &STEPS, seed)?;
         assert_kept(&rt, seed, taken.as_slice());
+        drop(taken);
     }
     Ok(())
 }
@@ -170,10 +183,10 @@ fn has_collected(taken: &[Taken]) -> bool {
 fn random_owners_of_shared_claims_keep_the_promises(rt: HostRuntime) -> Result<(), Fail> {
     let mut collected = false;
     for seed in 1..9u64 {
-        let steps = random_steps(rt.alloc(), &CLAIMED, seed, 200)?;
-        let taken = taken_of(rt.alloc(), &["db", "web-db", "db"], steps.as_slice())?;
+        let taken = taken_at_random(rt.alloc(), &["db", "web-db", "db"], &CLAIMED, seed)?;
         assert_kept(&rt, seed, taken.as_slice());
         collected = collected || has_collected(taken.as_slice());
+        drop(taken);
     }
     assert!(rt; collected);
     Ok(())

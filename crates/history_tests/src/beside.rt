@@ -98,15 +98,33 @@ fn was_given(name: &str, slow: &Slow) -> bool {
     false
 }
 
+fn assert_legal(rt: &impl Abort, alloc: Global, run: &Run) -> Result<(), Fail> {
+    let is_legal = check_order(alloc, &run.trace, run.order.as_slice())?;
+    assert!(rt; is_legal);
+    Ok(())
+}
+
+fn assert_run(
+    rt: &impl Abort,
+    alloc: Global,
+    events: &mut Vec<Event>,
+    slow: &mut Slow,
+) -> Result<(), Fail> {
+    add_events(alloc, events, slow)?;
+    assert_rich(rt, slow);
+    let run = replay(alloc, SHARDS, CAPACITY, events.as_slice())?;
+    assert_shown(rt, &run, slow);
+    let asserted = assert_legal(rt, alloc, &run);
+    drop(run);
+    asserted
+}
+
 #[test]
 fn a_replay_shows_what_the_slow_body_shows(rt: HostRuntime) -> Result<(), Fail> {
     let mut events = Vec::new(rt.alloc());
     let mut slow = Slow::new(rt.alloc(), CAPACITY);
-    add_events(rt.alloc(), &mut events, &mut slow)?;
-    assert_rich(&rt, &slow);
-    let run = replay(rt.alloc(), SHARDS, CAPACITY, events.as_slice())?;
-    assert_shown(&rt, &run, &slow);
-    let is_legal = check_order(rt.alloc(), &run.trace, run.order.as_slice())?;
-    assert!(rt; is_legal);
-    Ok(())
+    let asserted = assert_run(&rt, rt.alloc(), &mut events, &mut slow);
+    drop(events);
+    drop(slow);
+    asserted
 }

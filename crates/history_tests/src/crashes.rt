@@ -1,6 +1,6 @@
 //! A write whose caller is gone before each of its steps, and a get by another caller after it.
 use crate::runs::{CREATE_A, GET_A, Step, add_all, assert_ends};
-use history::{Event, replay};
+use history::{Event, Run, replay};
 use plain::RequestError;
 use std::alloc::Global;
 use std::process::Abort;
@@ -24,11 +24,11 @@ static GET: [Step; 4] = [
 ];
 
 /// The step that the crash stands before (6 is the get), the replies, and the order.
-static CRASHES: [(usize, &str, &[u64]); 7] = [
+static CRASHES: [(usize, &str, &[u64]); 6] = [
     (0, "10 to 2 NotFound; ", &[7]),
     (1, "10 to 2 NotFound; ", &[7]),
     (2, "10 to 2 NotFound; ", &[7]),
-    (3, "10 to 2 Found a1; ", &[0, 7]),
+    // Before the step 3 it is the script `examples/crash-after-reserve.jsonl`.
     (4, "10 to 2 Found a1; ", &[0, 7]),
     (5, "10 to 2 Found a1; ", &[0, 7]),
     (6, "5 to 1 Created a1; 10 to 2 Found a1; ", &[0, 7]),
@@ -43,25 +43,35 @@ fn add_events(alloc: Global, events: &mut Vec<Event>, before: usize) -> Result<(
     add_all(alloc, events, GET.as_slice())
 }
 
-fn assert_crash(
+fn assert_run(
     rt: &impl Abort,
     alloc: Global,
-    events: &[Event],
+    run: &Run,
     row: &(usize, &str, &[u64]),
 ) -> Result<(), Fail> {
     let (before, replies, order) = row;
     let name = format!(in alloc; "a crash before the step {before}")?;
-    let run = replay(alloc, 2, 10, events)?;
-    let ended = assert_ends(rt, alloc, &run, name.as_str(), replies, order);
-    drop(run);
+    let ended = assert_ends(rt, alloc, run, name.as_str(), replies, order);
     drop(name);
     ended
 }
 
+fn assert_crash(
+    rt: &impl Abort,
+    alloc: Global,
+    events: &mut Vec<Event>,
+    row: &(usize, &str, &[u64]),
+) -> Result<(), Fail> {
+    add_events(alloc, events, row.0)?;
+    let run = replay(alloc, 2, 10, events.as_slice())?;
+    let asserted = assert_run(rt, alloc, &run, row);
+    drop(run);
+    asserted
+}
+
 fn assert_row(rt: &impl Abort, alloc: Global, row: &(usize, &str, &[u64])) -> Result<(), Fail> {
     let mut events = Vec::new(alloc);
-    add_events(alloc, &mut events, row.0)?;
-    let asserted = assert_crash(rt, alloc, events.as_slice(), row);
+    let asserted = assert_crash(rt, alloc, &mut events, row);
     drop(events);
     asserted
 }

@@ -1,6 +1,9 @@
 //! Orders of histories, the legal one and others.
 use crate::traces::{EARLY_CONFLICT, GET, Row, Said, assert_checks, assert_row, trace};
+use history::Trace;
 use plain::Reason;
+use std::alloc::Global;
+use std::process::Abort;
 use std::test::Fail;
 
 /// Orders of the trace of an early conflict, and whether they are legal.
@@ -20,13 +23,19 @@ static EARLY_CONFLICT_ORDERS: [(&[u64], bool); 8] = [
     (&[0, 16, 6, 9, 13, 24], false),
 ];
 
+fn assert_orders(rt: &impl Abort, alloc: Global, trace: &Trace) -> Result<(), Fail> {
+    for (order, expected) in EARLY_CONFLICT_ORDERS.iter() {
+        assert_checks(rt, alloc, trace, order, *expected)?;
+    }
+    Ok(())
+}
+
 #[test]
 fn an_early_conflict_has_an_order(rt: HostRuntime) -> Result<(), Fail> {
     let trace = trace(rt.alloc(), 100, EARLY_CONFLICT.as_slice())?;
-    for (order, expected) in EARLY_CONFLICT_ORDERS.iter() {
-        assert_checks(&rt, rt.alloc(), &trace, order, *expected)?;
-    }
-    Ok(())
+    let asserted = assert_orders(&rt, rt.alloc(), &trace);
+    drop(trace);
+    asserted
 }
 
 /// Two gets of a pod that is not there, one after the other's reply.

@@ -37,13 +37,19 @@ fn add_events(events: &mut Vec<Event>, callers: u64) -> Result<(), Memory> {
     Ok(())
 }
 
-fn refusal(alloc: Global, shards: usize, capacity: u64, events: &[Event]) -> Option<ReplayError> {
-    match replay(alloc, shards, capacity, events) {
+fn refusal(
+    alloc: Global,
+    events: &mut Vec<Event>,
+    row: &(usize, u64, u64, Option<ReplayError>),
+) -> Result<Option<ReplayError>, Memory> {
+    let (shards, capacity, callers, _) = row;
+    add_events(events, *callers)?;
+    match replay(alloc, *shards, *capacity, events.as_slice()) {
         Ok(run) => {
             drop(run);
-            None
+            Ok(None)
         }
-        Err(error) => Some(error),
+        Err(error) => Ok(Some(error)),
     }
 }
 
@@ -54,11 +60,10 @@ fn assert_limit(
 ) -> Result<(), Fail> {
     let (shards, capacity, callers, expected) = row;
     let mut events = Vec::new(alloc);
-    add_events(&mut events, *callers)?;
-    let found = refusal(alloc, *shards, *capacity, events.as_slice());
+    let found = refusal(alloc, &mut events, row);
     drop(events);
     assert_eq!(rt;
-        found,
+        found?,
         *expected,
         "of {shards} shards, capacity {capacity} and {callers} callers"
     );

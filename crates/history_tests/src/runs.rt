@@ -45,6 +45,8 @@ pub(crate) const PODS: &str = r#"{"do":"list","kind":"Pod"}"#;
 
 pub(crate) const PODS_AT_1: &str = r#"{"do":"list","kind":"Pod","resourceVersion":"1"}"#;
 
+pub(crate) const PODS_AT_3: &str = r#"{"do":"list","kind":"Pod","resourceVersion":"3"}"#;
+
 pub(crate) const COMPACT_2: &str = r#"{"do":"compact","resourceVersion":"2"}"#;
 
 pub(crate) const LABEL_B: &str =
@@ -84,6 +86,18 @@ pub(crate) fn add_all(
         add(alloc, events, step)?;
     }
     Ok(())
+}
+
+/// The events of these steps.
+pub(crate) fn events_of(alloc: Global, steps: &[Step]) -> Result<Vec<Event>, RequestError> {
+    let mut events = Vec::new(alloc);
+    match add_all(alloc, &mut events, steps) {
+        Ok(()) => Ok(events),
+        Err(error) => {
+            drop(events);
+            Err(error)
+        }
+    }
 }
 
 /// Of a reply its name, its object, the objects of its list, and the resource version of a list or a compaction.
@@ -214,8 +228,7 @@ fn assert_events(
 
 /// Asserts what a case is answered.
 pub(crate) fn assert_case(rt: &impl Abort, alloc: Global, case: &Case) -> Result<(), Fail> {
-    let mut events = Vec::new(alloc);
-    add_all(alloc, &mut events, case.steps)?;
+    let events = events_of(alloc, case.steps)?;
     let asserted = assert_events(rt, alloc, events.as_slice(), case);
     drop(events);
     asserted

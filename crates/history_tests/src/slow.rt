@@ -265,8 +265,11 @@ impl Slow {
             Verdict::Write(change) => {
                 let number = draw.number;
                 let (version, reply) = change.stamp(number.clamp(1, NEWEST));
-                self.records.push(Record { number, version })?;
-                Ok(Some(reply))
+                if self.records.push(Record { number, version }).is_ok() {
+                    return Ok(Some(reply));
+                }
+                drop(reply);
+                Err(Memory)
             }
             _ => Ok(None),
         }
@@ -406,22 +409,37 @@ impl Slow {
 
     /// The reply to a read whose shards have all answered.
     fn answer(&self, reading: Reading, events: &[Event]) -> Result<Reply, Memory> {
-        let mut found = Vec::new(self.alloc);
-        for find in self.finds.iter() {
-            if find.place == reading.place {
-                insert(&mut found, &find.object)?;
-            }
-        }
         if let Some(Request::Get(_)) = request_at(events, reading.place) {
-            return Ok(match found.pop() {
-                Some(object) => Reply::Found(object),
-                None => Reply::Refused(Reason::NotFound),
-            });
+            return self.answer_to_get(reading);
+        }
+        let mut found = Vec::new(self.alloc);
+        if self.gather(&mut found, reading).is_err() {
+            drop(found);
+            return Err(Memory);
         }
         Ok(Reply::Listed {
             objects: Listing::from(found),
             revision: reading.number,
         })
+    }
+
+    fn answer_to_get(&self, reading: Reading) -> Result<Reply, Memory> {
+        for find in self.finds.iter() {
+            if find.place == reading.place {
+                return Ok(Reply::Found(find.object.clone()?));
+            }
+        }
+        Ok(Reply::Refused(Reason::NotFound))
+    }
+
+    /// The objects that a read found, in the order of their keys.
+    fn gather(&self, found: &mut Vec<Object>, reading: Reading) -> Result<(), Memory> {
+        for find in self.finds.iter() {
+            if find.place == reading.place {
+                insert(found, &find.object)?;
+            }
+        }
+        Ok(())
     }
 
     fn crash(&mut self, caller: u64) -> Result<(), Memory> {

@@ -1,6 +1,6 @@
 // Traces from rows of texts.
 use history::{Item, Trace, check_order};
-use objects::read_object;
+use objects::{Object, read_object};
 use plain::{Reason, Reply, RequestError, read_request};
 use std::alloc::{AllocError, Global};
 use std::process::Abort;
@@ -73,6 +73,11 @@ fn reply(place: u64, caller: u64, reply: Reply) -> Item {
     }
 }
 
+fn object(alloc: Global, text: &str) -> Result<Object, RequestError> {
+    let draft = read_object(alloc, text.as_bytes())?;
+    Ok(draft.object)
+}
+
 fn item(alloc: Global, row: &Row) -> Result<Item, RequestError> {
     let (place, caller, said) = row;
     Ok(match said {
@@ -81,25 +86,29 @@ fn item(alloc: Global, row: &Row) -> Result<Item, RequestError> {
             caller: *caller,
             request: read_request(alloc, line.as_bytes())?,
         },
-        Said::Created(text) => {
-            let draft = read_object(alloc, text.as_bytes())?;
-            reply(*place, *caller, Reply::Created(draft.object))
-        }
-        Said::Found(text) => {
-            let draft = read_object(alloc, text.as_bytes())?;
-            reply(*place, *caller, Reply::Found(draft.object))
-        }
+        Said::Created(text) => reply(*place, *caller, Reply::Created(object(alloc, text)?)),
+        Said::Found(text) => reply(*place, *caller, Reply::Found(object(alloc, text)?)),
         Said::Refused(reason) => reply(*place, *caller, Reply::Refused(*reason)),
     })
+}
+
+fn add_items(alloc: Global, items: &mut Vec<Item>, rows: &[Row]) -> Result<(), RequestError> {
+    for row in rows {
+        items.push(item(alloc, row)?).map_err(AllocError::from)?;
+    }
+    Ok(())
 }
 
 /// The trace of these rows, of a store of so many revisions.
 pub(crate) fn trace(alloc: Global, capacity: u64, rows: &[Row]) -> Result<Trace, RequestError> {
     let mut items = Vec::new(alloc);
-    for row in rows {
-        items.push(item(alloc, row)?).map_err(AllocError::from)?;
+    match add_items(alloc, &mut items, rows) {
+        Ok(()) => Ok(Trace { capacity, items }),
+        Err(error) => {
+            drop(items);
+            Err(error)
+        }
     }
-    Ok(Trace { capacity, items })
 }
 
 /// Asserts what is answered of an order.

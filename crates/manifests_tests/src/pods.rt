@@ -176,11 +176,12 @@ fn pod_text(alloc: Global, row: &Row) -> Result<String, Fail> {
 
 #[test]
 fn pods_are_built(rt: HostRuntime) -> Result<(), Fail> {
-    for row in ROWS.iter() {
+    for (i, row) in ROWS.iter().enumerate() {
         let text = set_text(rt.alloc(), row.0)?;
         assert_eq!(rt;
             built_from(rt.alloc(), text.as_str(), row.1, row.2)?.as_str(),
-            pod_text(rt.alloc(), row)?.as_str()
+            pod_text(rt.alloc(), row)?.as_str(),
+            "case {i}"
         );
     }
     Ok(())

@@ -143,10 +143,11 @@ fn wanted(alloc: Global, row: &Row) -> Result<String, Fail> {
 
 #[test]
 fn statuses_are_written_where_they_differ(rt: HostRuntime) -> Result<(), Fail> {
-    for row in ROWS.iter() {
+    for (i, row) in ROWS.iter().enumerate() {
         assert_eq!(rt;
             answer_to(rt.alloc(), row)?.as_str(),
-            wanted(rt.alloc(), row)?.as_str()
+            wanted(rt.alloc(), row)?.as_str(),
+            "case {i}"
         );
     }
     Ok(())

@@ -43,3 +43,11 @@ pub(crate) fn assert_so(rt: &impl Abort, answer: Result<bool, ReadError>, row: &
         Err(error) => panic!(rt; "{error:?} of {row}"),
     }
 }
+
+/// Asserts that what was asked of the row at that place of its table is so.
+pub(crate) fn assert_case(rt: &impl Abort, answer: Result<bool, ReadError>, i: usize) {
+    match answer {
+        Ok(is_so) => assert!(rt; is_so, "case {i}"),
+        Err(error) => panic!(rt; "{error:?} of case {i}"),
+    }
+}

@@ -1,5 +1,5 @@
 //! Keys, their kinds and collections, by tables.
-use crate::asserts::{assert_so, read_members};
+use crate::asserts::{assert_case, assert_so, read_members};
 use objects::{Key, Kind, ReadError, Text, is_dns_label, read_collection, read_key};
 use std::alloc::{AllocError, Global};
 use std::hash::{DefaultHasher, Hash, Hasher};
@@ -96,13 +96,21 @@ fn is_copied(alloc: Global, place: usize) -> Result<bool, ReadError> {
     Ok(is_so)
 }
 
+/// Whether the keys of all places before that one are below its key.
+fn is_above_all(alloc: Global, upper: usize) -> Result<bool, ReadError> {
+    for lower in 0..upper {
+        if !are_ordered(alloc, lower, upper)? {
+            return Ok(false);
+        }
+    }
+    Ok(true)
+}
+
 #[test]
 fn keys_have_an_order_and_copies(rt: HostRuntime) {
     for upper in 0..RISING.len() {
-        assert_so(&rt, is_copied(rt.alloc(), upper), "copies");
-        for lower in 0..upper {
-            assert_so(&rt, are_ordered(rt.alloc(), lower, upper), "keys");
-        }
+        assert_case(&rt, is_copied(rt.alloc(), upper), upper);
+        assert_case(&rt, is_above_all(rt.alloc(), upper), upper);
     }
 }
 
@@ -113,7 +121,10 @@ static BAD_KEYS: [(&str, &str); 4] = [("a.b", "a"), ("", "a"), ("a", ""), ("a", 
 fn some_names_are_no_keys(rt: HostRuntime) {
     for (namespace, name) in BAD_KEYS.iter() {
         let refused = Key::of(rt.alloc(), Kind::Pod, namespace, name);
-        assert!(rt; refused.is_err_and(|error| error == ReadError::BadName));
+        assert!(rt;
+            refused.is_err_and(|error| error == ReadError::BadName),
+            "{namespace}/{name}"
+        );
     }
 }
 
@@ -224,9 +235,9 @@ static KINDS: [(Kind, &str, &str); 4] = [
 #[test]
 fn kinds_have_names(rt: HostRuntime) {
     for (kind, name, version) in KINDS.iter() {
-        assert_eq!(rt; kind.name(), *name);
-        assert_eq!(rt; kind.api_version(), *version);
-        assert_eq!(rt; Kind::named(name), Some(*kind));
+        assert_eq!(rt; kind.name(), *name, "{name}");
+        assert_eq!(rt; kind.api_version(), *version, "{name}");
+        assert_eq!(rt; Kind::named(name), Some(*kind), "{name}");
     }
     assert_eq!(rt; Kind::named("Deployment"), None);
 }

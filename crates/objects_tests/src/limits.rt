@@ -1,5 +1,5 @@
 //! Long inputs, and calls at their limits: each has to answer, and none may say that memory ran out.
-use crate::asserts::{assert_so, read_members};
+use crate::asserts::{assert_case, assert_so, read_members};
 use crate::members::has_text;
 use crate::metadata::is_printed_with;
 use crate::parsing::ascending;
@@ -133,7 +133,7 @@ static OWNERS: [usize; 4] = [0, 100, 999, 80_000];
 
 #[test]
 fn pods_have_many_owners(rt: HostRuntime) {
-    for count in OWNERS.iter() {
-        assert_so(&rt, has_owners(rt.alloc(), *count), "owners");
+    for (i, count) in OWNERS.iter().enumerate() {
+        assert_case(&rt, has_owners(rt.alloc(), *count), i);
     }
 }

@@ -1,5 +1,5 @@
 //! JSON texts that are read as trees: floats, keys that come twice, wide maps and deep ones.
-use crate::asserts::assert_so;
+use crate::asserts::{assert_case, assert_so};
 use json::Writer;
 use objects::{ReadError, Tree, read_tree, write_tree};
 use std::alloc::{AllocError, Global};
@@ -127,8 +127,8 @@ static ENDS: [u32; 7] = [1001, 1002, 1015, 1016, 1017, 1018, 1300];
 
 #[test]
 fn keys_come_in_any_order(rt: HostRuntime) {
-    for end in ENDS.iter() {
-        assert_so(&rt, is_read_in_order(rt.alloc(), *end), "keys");
+    for (i, end) in ENDS.iter().enumerate() {
+        assert_case(&rt, is_read_in_order(rt.alloc(), *end), i);
     }
 }
 
@@ -160,9 +160,9 @@ fn nests(
 
 #[test]
 fn trees_nest_so_deep(rt: HostRuntime) {
-    for (levels, opening, closing, expected) in DEPTHS.iter() {
+    for (i, (levels, opening, closing, expected)) in DEPTHS.iter().enumerate() {
         let answer = nests(rt.alloc(), *levels, (*opening, *closing), *expected);
-        assert_so(&rt, answer, opening);
+        assert_case(&rt, answer, i);
     }
 }
 
@@ -178,6 +178,6 @@ static NOT_TEXTS: [&[u8]; 4] = [
 fn trees_are_texts(rt: HostRuntime) {
     for bytes in NOT_TEXTS.iter() {
         let refused = printed(rt.alloc(), bytes).is_err_and(|error| error == ReadError::NotJson);
-        assert!(rt; refused);
+        assert!(rt; refused, "of {bytes:?}");
     }
 }

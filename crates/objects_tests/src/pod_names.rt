@@ -48,7 +48,7 @@ fn is_pod(alloc: Global, set: &str, ordinal: u32, name: &str) -> Result<bool, Re
 fn pods_have_names(rt: HostRuntime) {
     for (set, ordinal, name) in PODS.iter() {
         assert_so(&rt, is_pod(rt.alloc(), set, *ordinal, name), name);
-        assert!(rt; split_pod_name(name) == Some((*set, *ordinal)));
+        assert!(rt; split_pod_name(name) == Some((*set, *ordinal)), "{name}");
     }
     let largest = "web-4294967295";
     assert_so(&rt, is_pod(rt.alloc(), "web", u32::MAX, largest), largest);

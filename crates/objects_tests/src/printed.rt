@@ -1,5 +1,5 @@
 //! Printed objects: the text, the object that is read back from it, and copies.
-use crate::asserts::{assert_so, is_printed, read};
+use crate::asserts::{assert_case, assert_so, is_printed, read};
 use objects::{Items, Object, Printed, Printer, ReadError, Text, Tree, TreeReader};
 use std::alloc::{AllocError, Global};
 use std::test::Fail;
@@ -163,11 +163,11 @@ static DEPTHS: [usize; 4] = [1, 126, 127, 1000];
 #[test]
 fn deep_objects_are_read_back(rt: HostRuntime) -> Result<(), Fail> {
     let mut reader = TreeReader::new(rt.alloc());
-    for lists in DEPTHS.iter() {
+    for (i, lists) in DEPTHS.iter().enumerate() {
         let expected = deep_text(rt.alloc(), *lists)?;
         let status = nested(rt.alloc(), *lists)?;
         let answer = prints_status(rt.alloc(), &mut reader, status, expected.as_str());
-        assert_so(&rt, answer, "deep lists");
+        assert_case(&rt, answer, i);
     }
     Ok(())
 }
@@ -189,12 +189,15 @@ static LENGTHS: [(usize, bool); 3] = [(1_048_504, true), (1_048_505, false), (2_
 #[test]
 fn long_objects_are_read_back(rt: HostRuntime) -> Result<(), Fail> {
     let mut reader = TreeReader::new(rt.alloc());
-    for (count, is_line) in LENGTHS.iter() {
+    for (i, (count, is_line)) in LENGTHS.iter().enumerate() {
         let expected = long_text(rt.alloc(), *count)?;
-        assert!(rt; read(rt.alloc(), expected.as_str()).is_ok() == *is_line);
+        assert!(rt;
+            read(rt.alloc(), expected.as_str()).is_ok() == *is_line,
+            "case {i}"
+        );
         let status = letters(rt.alloc(), *count)?;
         let answer = prints_status(rt.alloc(), &mut reader, status, expected.as_str());
-        assert_so(&rt, answer, "many letters");
+        assert_case(&rt, answer, i);
     }
     Ok(())
 }

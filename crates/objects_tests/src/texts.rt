@@ -1,7 +1,7 @@
 //! Texts that are objects, and texts that are none.
 mod tables;
 
-use crate::asserts::assert_so;
+use crate::asserts::{assert_case, assert_so};
 use objects::{ReadError, print_object, read_object};
 use std::alloc::{AllocError, Global};
 use std::test::Fail;
@@ -39,7 +39,10 @@ fn texts_are_read_and_printed(rt: HostRuntime) {
         assert!(rt; comes_to(rt.alloc(), text, *expected), "of {text}");
     }
     for bytes in NOT_UTF8.iter() {
-        assert!(rt; is_refused(rt.alloc(), bytes, ReadError::NotJson));
+        assert!(rt;
+            is_refused(rt.alloc(), bytes, ReadError::NotJson),
+            "of {bytes:?}"
+        );
     }
 }
 
@@ -122,9 +125,9 @@ fn is_allowed(
 
 #[test]
 fn names_have_so_many_bytes(rt: HostRuntime) {
-    for (kind, name, namespace, expected) in LENGTHS.iter() {
+    for (i, (kind, name, namespace, expected)) in LENGTHS.iter().enumerate() {
         let answer = is_allowed(rt.alloc(), kind, (*name, *namespace), *expected);
-        assert_so(&rt, answer, kind);
+        assert_case(&rt, answer, i);
     }
     let dotted = br#"{"kind":"StatefulSet","metadata":{"name":"a.b"}}"#;
     assert!(rt; is_refused(rt.alloc(), dotted.as_slice(), ReadError::BadName));
@@ -151,8 +154,8 @@ fn nests(alloc: Global, lists: usize, expected: bool) -> Result<bool, ReadError>
 
 #[test]
 fn texts_nest_so_deep(rt: HostRuntime) {
-    for (lists, expected) in DEPTHS.iter() {
-        assert_so(&rt, nests(rt.alloc(), *lists, *expected), "lists");
+    for (i, (lists, expected)) in DEPTHS.iter().enumerate() {
+        assert_case(&rt, nests(rt.alloc(), *lists, *expected), i);
     }
 }
 

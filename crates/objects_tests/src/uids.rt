@@ -13,10 +13,10 @@ static UIDS: [(u64, &str); 4] = [
 #[test]
 fn uids_have_texts(rt: HostRuntime) -> Result<(), Fail> {
     for (number, text) in UIDS.iter() {
-        assert!(rt; *number < 1 << 48);
-        assert_eq!(rt; uid_text(rt.alloc(), *number)?.as_str(), *text);
-        assert!(rt; is_uid_text(text, *number));
-        assert_eq!(rt; uid_number(text), Some(*number));
+        assert!(rt; *number < 1 << 48, "{text}");
+        assert_eq!(rt; uid_text(rt.alloc(), *number)?.as_str(), *text, "{text}");
+        assert!(rt; is_uid_text(text, *number), "{text}");
+        assert_eq!(rt; uid_number(text), Some(*number), "{text}");
     }
     assert!(rt; uid_text(rt.alloc(), 0)?.is_empty());
     assert!(rt; is_uid_text("", 0));

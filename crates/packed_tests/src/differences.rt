@@ -83,24 +83,17 @@ static DELTAS: [(&[u8], usize); 4] = [
     ),
 ];
 
-fn assert_delta(rt: &impl Abort, alloc: Global, base: &[u8], text: &[u8], most: usize) -> usize {
-    match delta_length(alloc, base, text, most) {
-        Ok(Some(length)) => length,
-        Ok(None) => {
-            assert!(rt; false, "not told");
-            0
-        }
-        Err(_) => {
-            assert!(rt; false, "no memory");
-            0
-        }
+fn assert_delta(rt: &impl Abort, alloc: Global, text: &[u8], expected: usize, i: usize) {
+    match delta_length(alloc, POD, text, 100) {
+        Ok(length) => assert_eq!(rt; length, Some(expected), "case {i}"),
+        Err(_) => assert!(rt; false, "no memory"),
     }
 }
 
 #[test]
 fn texts_that_are_much_alike_have_short_deltas(rt: HostRuntime) {
-    for (text, length) in DELTAS.iter() {
-        assert_eq!(rt; assert_delta(&rt, rt.alloc(), POD, text, 100), *length);
+    for (i, (text, length)) in DELTAS.iter().enumerate() {
+        assert_delta(&rt, rt.alloc(), text, *length, i);
     }
 }
 

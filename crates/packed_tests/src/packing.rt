@@ -93,7 +93,10 @@ fn an_object_may_be_packed_beside_the_one_before(rt: HostRuntime) -> Result<(), 
     for text in TEXTS.iter() {
         let next = packed(rt.alloc(), &mut Packer::new(rt.alloc()), text, Some(&first))?;
         assert!(rt; is_packed_as(rt.alloc(), &next, text)?, "of {text}");
-        assert!(rt; is_packed_as(rt.alloc(), &first, TEXTS[0])?);
+        assert!(rt;
+            is_packed_as(rt.alloc(), &first, TEXTS[0])?,
+            "beside {text}"
+        );
     }
     Ok(())
 }

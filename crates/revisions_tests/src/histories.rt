@@ -77,7 +77,8 @@ fn live_revisions_stay(rt: HostRuntime) -> Result<(), Fail> {
     for (limit, current, names) in LIVE.iter() {
         assert_eq!(rt;
             expired(rt.alloc(), *limit, current, &pods)?.as_str(),
-            *names
+            *names,
+            "{limit} and {current}"
         );
     }
     Ok(())

@@ -283,8 +283,8 @@ fn answer_to(alloc: Global, case: &Case) -> Result<String, Fail> {
 
 #[test]
 fn revisions_are_planned(rt: HostRuntime) -> Result<(), Fail> {
-    for case in CASES.iter() {
-        assert_eq!(rt; answer_to(rt.alloc(), case)?.as_str(), case.6);
+    for (i, case) in CASES.iter().enumerate() {
+        assert_eq!(rt; answer_to(rt.alloc(), case)?.as_str(), case.6, "case {i}");
     }
     Ok(())
 }

@@ -77,7 +77,7 @@ fn the_plan_of_many_replicas_is_cut(rt: HostRuntime) -> Result<(), Fail> {
         let set = set(rt.alloc(), &spec)?;
         let found = first_plan(rt.alloc(), &set);
         drop(set);
-        assert_eq!(rt; found?, (2048, Some(1023)));
+        assert_eq!(rt; found?, (2048, Some(1023)), "{count}");
     }
     Ok(())
 }

@@ -99,7 +99,7 @@ fn pods_have_places_by_their_names(rt: HostRuntime) -> Result<(), Fail> {
         )?;
         let pod = object(rt.alloc(), &text)?;
         assert_eq!(rt; read_pod(&pod).place, *expected, "{name}");
-        assert_eq!(rt; read_pod(&pod).name, *name);
+        assert_eq!(rt; read_pod(&pod).name, *name, "{name}");
     }
     Ok(())
 }
