@@ -1,7 +1,11 @@
 -- What contracts see of a line and of its seats.
-use Rattle.std.specs.Prelude.{◌≡◌, ℕ, ◌+◌, ◌<◌, nat_lt, List, [], ◌∷◌, ◌++◌, Bool, false, Option, None}
+use Rattle.std.specs.Prelude.{◌≡◌, ℕ, ◌+◌, ◌<◌, nat_lt, List, [], ◌∷◌, ◌++◌, Bool, false, Option, Some, None}
 use Rattle.atomic_table.specs.Seated.{TableId}
+use mathlib.Core.Option.{some}
+use lib.ListN.{get_elem?}
 use Rattle.line.specs.declared.view.View.{View}
+use Rattle.line.specs.declared.view.NotedView.{NotedView}
+use Rattle.line.specs.NotedView.{first_noted, shard_noted}
 
 -- what names a line
 abbrev pub LineName : Type 0
@@ -35,6 +39,24 @@ new_shard_seat line = record { line = line; filled = []; pending = None; spent =
 
 abbrev pub new_caller_seat : LineName → ℕ → CallerSeat
 new_caller_seat line seen = record { line = line; seen = seen; loads = 0; tries = [] }
+
+-- a seat of a line, and what it knows
+pub record Seat (E : Type 0) : Type 0 where
+  pub line : LineName
+  pub view : NotedView E
+
+abbrev pub shard_seat : {E : Type 0} → Seat E → ShardSeat
+shard_seat s = record { line = s.line; filled = s.view.plain.filled; pending = s.view.plain.pending; spent = s.view.plain.spent }
+
+abbrev pub caller_seat : {E : Type 0} → Seat E → CallerSeat
+caller_seat s = record { line = s.line; seen = s.view.plain.seen; loads = s.view.plain.loads; tries = s.view.plain.tries }
+
+-- a new shard's seat, the i-th of a line
+abbrev pub new_shard : {E : Type 0} → LineName → ℕ → ℕ → Seat E
+new_shard line capacity i = record { line = line; view = record (shard_noted (first_noted capacity)) { shard = Some i } }
+
+abbrev pub AreShards : {E : Type 0} → LineName → ℕ → List (Seat E) → Type 0
+AreShards line capacity seats = (i : ℕ) (s : Seat _) → get_elem? seats i ≡ some s → s ≡ new_shard line capacity i
 
 -- after its open number n was filled
 abbrev pub after_fill : ShardSeat → ℕ → ShardSeat

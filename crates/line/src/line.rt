@@ -1,14 +1,14 @@
-ghost use Rattle.std.specs.Prelude.{◌≡◌, ◌+◌, ◌<◌, ◌≤◌, [], ◌↔◌, Ok, Some, None, true, false, All, IfSome, IfNone, IfOk, IsErrOf, vec_len};
+ghost use Rattle.std.specs.Prelude.{◌≡◌, ℕ, ◌+◌, ◌<◌, ◌≤◌, [], ◌↔◌, None, false, All, IfOk, IsSome, IsErrOf, vec_len};
 ghost use Rattle.std.specs.Slots.{slots_items, slots_len, IsFull};
+ghost use Rattle.line.specs.NotedView.{IsCut, cut_off, first_noted, shard_noted};
 ghost use Rattle.line.specs.Rule.{KeepsRule, drawn_of, frontier_of};
-ghost use Rattle.line.specs.Seat.{IsOf, after_fill, after_load, after_try, new_caller_seat, new_shard_seat};
-ghost use Rattle.line.specs.View.{first_view, one_fewer};
+ghost use Rattle.line.specs.Seat.{AreShards, IsOf, caller_seat, new_caller_seat, new_shard_seat, shard_seat};
 
 use crate::error::LineError;
-use crate::rule::{ForCaller, ForShard, Place, Words};
-use crate::seat::{CallerSeat, Drawn, ShardSeat};
+use crate::notes::Judging;
+use crate::rule::{ForShard, Place, Words};
+use crate::seat::{CallerSeat, ShardSeat};
 use crate::steps::{COUNT, FRONTIER};
-use memory::Memory;
 use std::alloc::{AllocError, Global};
 use std::marker::Model;
 
@@ -23,13 +23,16 @@ pub const MAX_SHARDS: usize = 64;
 ///
 /// Threads share a line by `&`, each with a seat of its own. A call by a seat makes at most two atomic steps on the line's
 /// words, takes no lock and no memory, and waits for nobody.
+///
+/// Each number that is drawn has a note of the type E, which says what it is drawn for, and K says what contracts know of
+/// notes. Contracts alone see them: no note stands in memory.
 #[derive(Drop)]
-pub struct Line {
-    pub(crate) table: Words,
-    capacity: u64,
+pub struct Line<E, K: Judging<E>> {
+    pub(crate) table: Words<E, K>,
+    pub(crate) capacity: u64,
 }
 
-impl Model for Line {
+impl<E, K: Judging<E>> Model for Line<E, K> {
     ghost use Rattle.std.specs.Prelude.{◌≡◌, ◌+◌, ◌<◌, ◌≤◌};
     ghost use Rattle.line.specs.Seat.{Line};
     ghost use Rattle.line.specs.declared.line.TheConstants.{MAX_NUMBERS};
@@ -44,10 +47,10 @@ impl Model for Line {
 
 /// A new line with its seats: one for each shard, and one for a first caller.
 #[derive(Drop)]
-pub struct Ends {
-    pub line: Line,
-    pub shards: Vec<ShardSeat>,
-    pub caller: CallerSeat,
+pub struct Ends<E, K: Judging<E>> {
+    pub line: Line<E, K>,
+    pub shards: Vec<ShardSeat<E>>,
+    pub caller: CallerSeat<E>,
 }
 
 /// What a line's numbers came to: those from 1 to `drawn` were drawn, and those up to `frontier` are known to be filled.
@@ -57,18 +60,19 @@ pub struct Closed {
     pub frontier: u64,
 }
 
-impl Line {
+impl<E, K: Judging<E>> Line<E, K> {
     /// A line with the numbers from 1 to `capacity`, none of them drawn.
     ///
     /// # Errors
     ///
     /// The first that applies: BadCapacity where `capacity` is not from 1 to 1,048,576; BadShards where `shards` is not
     /// from 1 to 64.
-    pub fn new(alloc: Global, capacity: u64, shards: usize) -> Result<Ends, LineError>
+    pub fn new(alloc: Global, capacity: u64, shards: usize) -> Result<Ends<E, K>, LineError>
         ensures line { IfOk result (λ e. e.line.capacity ≡ capacity) }
         ensures shards { IfOk result (λ e. (vec_len e.shards ≡ shards)
-            × All (λ s. s ≡ new_shard_seat e.line.name) e.shards.items) }
-        ensures caller { IfOk result (λ e. e.caller ≡ new_caller_seat e.line.name 0) }
+            × AreShards e.line.name capacity e.shards.items) }
+        ensures fresh { IfOk result (λ e. All (λ s. (shard_seat s ≡ new_shard_seat e.line.name) × (s.view.caller ≡ None)) e.shards.items) }
+        ensures caller { IfOk result (λ e. (caller_seat e.caller ≡ new_caller_seat e.line.name 0) × (e.caller.view.caller ≡ None) × (e.caller.view.seen ≡ [])) }
         ensures bad_capacity { IsErrOf result LineError.BadCapacity ↔ ((1 ≤ capacity → MAX_NUMBERS < capacity)) }
         ensures bad_shards { IsErrOf result LineError.BadShards
             ↔ ((1 ≤ capacity) × (capacity ≤ MAX_NUMBERS) × (1 ≤ shards → MAX_SHARDS < shards)) }
@@ -81,7 +85,7 @@ impl Line {
         }
         let words = vec![in alloc; 0; capacity as usize + 2]?;
         let (table, mut place) = Words::of_words(alloc, words.as_slice(), &capacity)?;
-        let shards = shard_seats(alloc, &table, &mut place, shards)?;
+        let shards = shard_seats::<E, K>(alloc, &table, &mut place, shards)?;
         Ok(Ends {
             line: Line { table, capacity },
             shards,
@@ -89,74 +93,11 @@ impl Line {
         })
     }
 
-    /// Another caller's seat, which has seen what this one has. No memory is taken, so that none is ever refused.
-    pub fn split(&self, seat: &mut CallerSeat) -> Result<CallerSeat, Memory>
-        requires line { seat.old.line ≡ self.now.name }
-        ensures old { seat.new ≡ seat.old }
-        ensures new { result ≡ Ok (new_caller_seat seat.old.line seat.old.seen) }
+    /// How many numbers there are.
+    pub fn capacity(&self) -> u64
+        ensures { result ≡ self.now.capacity }
     {
-        Ok(CallerSeat {
-            place: self.table.shared.split_seat::<ForCaller>(&mut seat.place),
-            seen: seat.seen,
-        })
-    }
-
-    /// The next number, or none where all are drawn. A seat that was told none asks no more.
-    pub fn draw(&self, seat: &mut ShardSeat) -> Option<Drawn>
-        requires line { seat.old.line ≡ self.now.name }
-        requires pending { seat.old.pending ≡ None }
-        ensures some { IfSome result (λ n. seat.new ≡ record seat.old { pending = Some n }) }
-        ensures next { IfSome result (λ n. (0 < n) × (n ≤ self.now.capacity) × All (λ x. x < n) seat.old.filled) }
-        ensures none { IfNone result (seat.new ≡ record seat.old { spent = true }) }
-        ensures spent { seat.old.spent ≡ true → result ≡ None }
-    {
-        if seat.spent {
-            return None;
-        }
-        let before = self.add_to_count(&mut seat.place);
-        if before < self.capacity {
-            return Some(Drawn { number: before + 1 });
-        }
-        seat.spent = true;
-        None
-    }
-
-    /// Marks the number as filled.
-    pub fn fill(&self, seat: &mut ShardSeat, drawn: Drawn)
-        requires line { seat.old.line ≡ self.now.name }
-        requires pending { seat.old.pending ≡ Some drawn }
-        ensures { seat.new ≡ after_fill seat.old drawn }
-    {
-        let Drawn { number } = drawn;
-        self.set_mark(&mut seat.place, number);
-    }
-
-    /// The frontier, loaded once, which the seat has then seen.
-    pub fn frontier(&self, seat: &mut CallerSeat) -> u64
-        requires { seat.old.line ≡ self.now.name }
-        ensures loaded { seat.new ≡ after_load seat.old result }
-        ensures risen { (seat.old.seen ≤ result) × (result ≤ self.now.capacity) }
-    {
-        seat.seen = self.load_frontier(&mut seat.place);
-        seat.seen
-    }
-
-    /// Raises the frontier by one, where the number after what the seat has seen is filled. Where the frontier is higher
-    /// already, the seat only learns it.
-    pub fn raise(&self, seat: &mut CallerSeat) -> u64
-        requires { seat.old.line ≡ self.now.name }
-        ensures tried { seat.old.seen < self.now.capacity → seat.new ≡ after_try seat.old result }
-        ensures whole { seat.old.seen ≡ self.now.capacity → seat.new ≡ seat.old }
-        ensures risen { (seat.new.seen ≡ result) × (seat.old.seen ≤ result) × (result ≤ self.now.capacity) }
-    {
-        if seat.seen == self.capacity {
-            return seat.seen;
-        }
-        let next = seat.seen + 1;
-        if self.load_mark(&mut seat.place, next) {
-            seat.seen = self.lift_frontier(&mut seat.place, next);
-        }
-        seat.seen
+        self.capacity
     }
 
     /// How many numbers were drawn, and the frontier.
@@ -169,10 +110,10 @@ impl Line {
     }
 
     /// The same, by a caller that gives up its seat: the frontier is at least what it has seen.
-    pub fn close_with(self, seat: CallerSeat) -> Closed
+    pub fn close_with(self, seat: CallerSeat<E>) -> Closed
         requires { seat.line ≡ self.name }
         ensures within { (result.frontier ≤ result.drawn) × (result.drawn ≤ self.capacity) }
-        ensures seen { seat.seen ≤ result.frontier }
+        ensures seen { seat.view.plain.seen ≤ result.frontier }
     {
         let Line { table, capacity } = self;
         let CallerSeat { place, seen: _ } = seat;
@@ -196,29 +137,30 @@ fn summed_up(words: atomic_table::Closed<(), Global>, capacity: u64) -> Closed
 }
 
 // The seats of so many shards, cut off the first seat.
-fn shard_seats(
+fn shard_seats<E, K: Judging<E>>(
     alloc: Global,
-    table: &Words,
-    first: &mut Place,
+    table: &Words<E, K>,
+    first: &mut Place<E>,
     shards: usize,
-) -> Result<Vec<ShardSeat>, AllocError>
-    requires table { IsOf table.now.shared.table_id first.old.table_id first.old.me.0 }
-    requires shards { (first.old.me.0 ≡ first_view first.old.me.0.capacity) × (shards ≤ MAX_SHARDS) }
-    ensures first { (first.new.table_id ≡ first.old.table_id) × (first.new.me.0.capacity ≡ first.old.me.0.capacity) × (first.new.me.0.seen ≡ 0) × (first.new.me.0.loads ≡ 0) × (first.new.me.0.tries ≡ []) }
-    ensures seats { IfOk result (λ v. (vec_len v ≡ shards) × All (λ s. s ≡ new_shard_seat first.old.table_id) v.items) }
+) -> Result<Vec<ShardSeat<E>>, AllocError>
+    requires table { IsOf table.now.shared.table_id first.old.table_id first.old.me.0.plain }
+    requires shards { (first.old.me ≡ (first_noted first.old.me.0.plain.capacity, [])) × (shards ≤ MAX_SHARDS) }
+    ensures first { (first.new.table_id ≡ first.old.table_id) × (first.new.me.1 ≡ []) × ((n : ℕ) × IsCut n first.old.me.0 first.new.me.0) }
+    ensures seats { IfOk result (λ v. (vec_len v ≡ shards) × AreShards first.old.table_id first.old.me.0.plain.capacity v.items) }
 {
     let mut seats = Vec::new(alloc);
     for _ in 0..shards {
-        seats.push(shard_seat(table, first))?;
+        seats.push(next_shard_seat::<E, K>(table, first))?;
     }
     Ok(seats)
 }
 
-fn shard_seat(table: &Words, first: &mut Place) -> ShardSeat
-    requires table { IsOf table.now.shared.table_id first.old.table_id first.old.me.0 }
-    requires left { (0 < first.old.me.0.seats) × (first.old.me.0.spent ≡ false) }
-    ensures first { (first.new.table_id ≡ first.old.table_id) × (first.new.me.0 ≡ one_fewer first.old.me.0) }
-    ensures seat { result ≡ new_shard_seat first.old.table_id }
+// The seat of the next shard, cut off the first seat.
+fn next_shard_seat<E, K: Judging<E>>(table: &Words<E, K>, first: &mut Place<E>) -> ShardSeat<E>
+    requires table { IsOf table.now.shared.table_id first.old.table_id first.old.me.0.plain }
+    requires left { (0 < first.old.me.0.plain.seats) × (first.old.me.0.plain.spent ≡ false) × IsSome first.old.me.0.made }
+    ensures first { (first.new.table_id ≡ first.old.table_id) × (first.new.me ≡ (cut_off first.old.me.0, first.old.me.1)) }
+    ensures seat { (result.line ≡ first.old.table_id) × (result.view ≡ shard_noted first.old.me.0) }
 {
     ShardSeat {
         place: table.shared.split_seat::<ForShard>(first),

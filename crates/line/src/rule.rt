@@ -1,81 +1,153 @@
-// The rule of a line's words, what each kind of step tells its seat, and how new seats are cut off.
-use crate::view::View;
-use atomic_table::{Play, Seat, Split, Table, TableRule};
+// The rule of a line's words, what each kind of step tells its seat, and how new seats are cut off and taken in.
+use crate::notes::{Judging, Noting};
+use crate::view::NotedView;
+use atomic_table::{Join, Play, Seat, Split, Table, TableRule};
 use std::alloc::Global;
+use std::marker::PhantomData;
 
-pub(crate) struct LineRule;
-
-impl TableRule<(), View, u64> for LineRule {
-    ghost use Rattle.line.specs.Rule.{Rule};
-    ghost use Rattle.line.specs.View.{first_view};
-
-    ghost holds = { λ capacity s. Rule capacity s.words s.views };
-
-    ghost first = { λ capacity. first_view capacity };
+pub(crate) struct LineRule<K> {
+    of: PhantomData<K>,
 }
 
-pub(crate) type Words = Table<(), View, u64, LineRule, Global>;
+impl<E, K: Judging<E>> TableRule<(), NotedView<E>, u64> for LineRule<K> {
+    ghost use Rattle.line.specs.NotedRule.{NotedRule};
+    ghost use Rattle.line.specs.NotedView.{first_noted};
 
-pub(crate) type Place = Seat<(), View>;
+    ghost holds = { λ capacity s. NotedRule K.home K.by K.accepts capacity s.words s.views };
 
-pub(crate) struct Draw;
+    ghost first = { λ capacity. first_noted capacity };
+}
 
-impl Play<(), View> for Draw {
-    ghost use Rattle.line.specs.Steps.{Draws};
+pub(crate) type Words<E, K> = Table<(), NotedView<E>, u64, LineRule<K>, Global>;
 
-    ghost then = { λ _ m n w. Draws m.0 n w.0 };
+pub(crate) type Place<E> = Seat<(), NotedView<E>>;
+
+pub(crate) struct Draw<J> {
+    of: PhantomData<J>,
+}
+
+impl<E, J: Noting<E>> Play<(), NotedView<E>> for Draw<J> {
+    ghost use Rattle.std.specs.Prelude.{◌≡◌};
+    ghost use Rattle.line.specs.NotedSteps.{DrawsNoted};
+
+    ghost then = { λ _ m n w. (w.1 ≡ m.1) × DrawsNoted J.note m.0 n w.0 };
 }
 
 pub(crate) struct Fill;
 
-impl Play<(), View> for Fill {
-    ghost use Rattle.line.specs.Steps.{Fills};
+impl<E> Play<(), NotedView<E>> for Fill {
+    ghost use Rattle.std.specs.Prelude.{◌≡◌};
+    ghost use Rattle.line.specs.NotedSteps.{FillsNoted};
 
-    ghost then = { λ s m _ w. Fills s.word m.0 w.0 };
+    ghost then = { λ s m _ w. (w.1 ≡ m.1) × FillsNoted s.word m.0 w.0 };
 }
 
 pub(crate) struct Try;
 
-impl Play<(), View> for Try {
-    ghost use Rattle.line.specs.Steps.{Tries};
+impl<E> Play<(), NotedView<E>> for Try {
+    ghost use Rattle.std.specs.Prelude.{◌≡◌};
+    ghost use Rattle.line.specs.NotedSteps.{TriesNoted};
 
-    ghost then = { λ s m n w. Tries s.word m.0 n w.0 };
+    ghost then = { λ s m n w. (w.1 ≡ m.1) × TriesNoted s.word m.0 n w.0 };
 }
 
-pub(crate) struct Lift;
-
-impl Play<(), View> for Lift {
-    ghost use Rattle.line.specs.Steps.{Lifts};
-
-    ghost then = { λ s m n w. Lifts s.first m.0 n w.0 };
+pub(crate) struct Lift<K> {
+    of: PhantomData<K>,
 }
 
-pub(crate) struct Look;
+impl<E, K: Judging<E>> Play<(), NotedView<E>> for Lift<K> {
+    ghost use Rattle.std.specs.Prelude.{◌≡◌};
+    ghost use Rattle.line.specs.NotedSteps.{LiftsNoted};
 
-impl Play<(), View> for Look {
-    ghost use Rattle.line.specs.Steps.{Looks};
+    ghost then = { λ s m n w. (w.1 ≡ m.1) × LiftsNoted K.home K.by K.accepts s.first m.0 n w.0 };
+}
 
-    ghost then = { λ _ m n w. Looks m.0 n w.0 };
+pub(crate) struct Look<K> {
+    of: PhantomData<K>,
+}
+
+impl<E, K: Judging<E>> Play<(), NotedView<E>> for Look<K> {
+    ghost use Rattle.std.specs.Prelude.{◌≡◌};
+    ghost use Rattle.line.specs.NotedSteps.{LooksNoted};
+
+    ghost then = { λ _ m n w. (w.1 ≡ m.1) × LooksNoted K.home K.by K.accepts m.0 n w.0 };
+}
+
+/// It is noted what a shard has.
+pub(crate) struct Observe<K> {
+    of: PhantomData<K>,
+}
+
+impl<E, K: Judging<E>> Play<(), NotedView<E>> for Observe<K> {
+    ghost use Rattle.std.specs.Prelude.{◌≡◌};
+    ghost use Rattle.line.specs.NotedSteps.{Observes};
+
+    ghost then = { λ _ m _ w. (w.1 ≡ m.1) × Observes K.home K.by K.accepts m.0 w.0 };
+}
+
+/// A caller's seat gets a name.
+pub(crate) struct Name<K> {
+    of: PhantomData<K>,
+}
+
+impl<E, K: Judging<E>> Play<(), NotedView<E>> for Name<K> {
+    ghost use Rattle.std.specs.Prelude.{◌≡◌};
+    ghost use Rattle.line.specs.NotedSteps.{IsNamed};
+
+    ghost then = { λ _ m _ w. (w.1 ≡ m.1) × IsNamed K.home K.by K.accepts m.0 w.0 };
 }
 
 /// A shard's seat, cut off the first seat.
 pub(crate) struct ForShard;
 
-impl Split<View> for ForShard {
-    ghost use Rattle.line.specs.View.{one_fewer, shard_view};
+impl<E> Split<NotedView<E>> for ForShard {
+    ghost use Rattle.line.specs.NotedView.{cut_off, shard_noted};
 
-    ghost left = { one_fewer };
+    ghost left = { cut_off };
 
-    ghost right = { shard_view };
+    ghost right = { shard_noted };
 }
 
 /// A caller's seat, which has seen what the other has.
 pub(crate) struct ForCaller;
 
-impl Split<View> for ForCaller {
-    ghost use Rattle.line.specs.View.{caller_view};
+impl<E> Split<NotedView<E>> for ForCaller {
+    ghost use Rattle.line.specs.NotedView.{caller_noted};
 
     ghost left = { λ v. v };
 
-    ghost right = { caller_view };
+    ghost right = { caller_noted };
+}
+
+/// A caller's seat goes into a shard's.
+pub(crate) struct Enters;
+
+impl<E> Join<NotedView<E>> for Enters {
+    ghost use Rattle.line.specs.NotedView.{entered, left_over};
+
+    ghost both = { entered };
+
+    ghost spent = { left_over };
+}
+
+/// And comes back.
+pub(crate) struct Leaves;
+
+impl<E> Split<NotedView<E>> for Leaves {
+    ghost use Rattle.line.specs.NotedView.{stayed, left_with};
+
+    ghost left = { stayed };
+
+    ghost right = { left_with };
+}
+
+/// A seat is told what another has seen.
+pub(crate) struct Tells;
+
+impl<E> Join<NotedView<E>> for Tells {
+    ghost use Rattle.line.specs.NotedView.{left_over, told};
+
+    ghost both = { told };
+
+    ghost spent = { left_over };
 }

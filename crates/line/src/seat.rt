@@ -3,49 +3,54 @@ ghost use Rattle.std.specs.Prelude.{◌≡◌};
 use crate::rule::Place;
 use std::marker::Model;
 
-/// A shard's right to draw numbers of a line and to fill them, one at a time.
+/// A shard's right to draw numbers of a line and to fill them, one at a time. A caller's seat may be in it, which a visit
+/// puts there (`Line::enter`).
 #[derive(Drop)]
-pub struct ShardSeat {
-    pub(crate) place: Place,
+pub struct ShardSeat<E> {
+    pub(crate) place: Place<E>,
     pub(crate) spent: bool,
 }
 
-impl Model for ShardSeat {
-    ghost use Rattle.std.specs.Prelude.{◌≡◌, ℕ, ◌<◌, ◌≤◌, Some};
-    ghost use Rattle.line.specs.Seat.{IsOf, ShardSeat};
+impl<E> Model for ShardSeat<E> {
+    ghost use Rattle.std.specs.Prelude.{◌≡◌, ℕ, ◌<◌, ◌≤◌, [], Some, IsSome};
+    ghost use Rattle.line.specs.Seat.{IsOf, Seat};
 
-    ghost Value = { ShardSeat };
+    ghost Value = { Seat E };
 
-    ghost view = { λ s. record { line = s.place.table_id; filled = s.place.me.0.filled; pending = s.place.me.0.pending; spent = s.spent } };
+    ghost view = { λ s. record { line = s.place.table_id; view = s.place.me.0 } };
 
-    ghost invariant = { λ s. IsOf s.place.table_id s.place.table_id s.place.me.0
-        × (s.place.me.0.seats ≡ 1) × (s.place.me.0.spent ≡ s.spent)
-        × ((n : ℕ) → s.place.me.0.pending ≡ Some n → (0 < n) × (n ≤ s.place.me.0.capacity)) };
+    ghost invariant = { λ s. IsOf s.place.table_id s.place.table_id s.place.me.0.plain
+        × (s.place.me.1 ≡ [])
+        × (s.place.me.0.plain.seats ≡ 1) × (s.place.me.0.plain.spent ≡ s.spent) × IsSome s.place.me.0.shard
+        × (s.place.me.0.plain.seen ≤ s.place.me.0.plain.capacity)
+        × ((n : ℕ) → s.place.me.0.plain.pending ≡ Some n → (0 < n) × (n ≤ s.place.me.0.plain.capacity)) };
 }
 
 /// A caller's right to raise a line's frontier, and what it has seen of it. Only its own calls tell it more.
 #[derive(Drop)]
-pub struct CallerSeat {
-    pub(crate) place: Place,
+pub struct CallerSeat<E> {
+    pub(crate) place: Place<E>,
     pub(crate) seen: u64,
 }
 
-impl Model for CallerSeat {
-    ghost use Rattle.std.specs.Prelude.{◌≡◌, ◌≤◌};
-    ghost use Rattle.line.specs.Seat.{CallerSeat, IsOf};
+impl<E> Model for CallerSeat<E> {
+    ghost use Rattle.std.specs.Prelude.{◌≡◌, ◌≤◌, [], None, false};
+    ghost use Rattle.line.specs.Seat.{IsOf, Seat};
 
-    ghost Value = { CallerSeat };
+    ghost Value = { Seat E };
 
-    ghost view = { λ s. record { line = s.place.table_id; seen = s.seen; loads = s.place.me.0.loads; tries = s.place.me.0.tries } };
+    ghost view = { λ s. record { line = s.place.table_id; view = s.place.me.0 } };
 
-    ghost invariant = { λ s. IsOf s.place.table_id s.place.table_id s.place.me.0
-        × (s.place.me.0.seen ≡ s.seen) × (s.seen ≤ s.place.me.0.capacity) };
+    ghost invariant = { λ s. IsOf s.place.table_id s.place.table_id s.place.me.0.plain
+        × (s.place.me.1 ≡ [])
+        × (s.place.me.0.plain.seen ≡ s.seen) × (s.seen ≤ s.place.me.0.plain.capacity)
+        × (s.place.me.0.shard ≡ None) × (s.place.me.0.plain.filled ≡ []) × (s.place.me.0.plain.pending ≡ None) × (s.place.me.0.plain.spent ≡ false) };
 }
 
-impl CallerSeat {
+impl<E> CallerSeat<E> {
     /// The highest frontier that the seat knows of. It makes no step.
     pub fn seen(&self) -> u64
-        ensures { result ≡ self.now.seen }
+        ensures { result ≡ self.now.view.plain.seen }
     {
         self.seen
     }

@@ -1,7 +1,8 @@
 use std::collections::LinkedList;
 
-/// What a seat knows of the line. It stands in contracts alone: no value of it is made.
+/// What a seat knows of the line but notes. It stands in contracts alone: no value of it is made.
 pub struct View {
+    /// How many numbers the line has; 0 is of no seat that can step.
     pub capacity: u64,
     /// How many shard seats it stands for: 1 for a shard's, 0 for a caller's, and for the first seat those that are still
     /// to be cut off.
@@ -20,4 +21,36 @@ pub struct View {
     pub loads: u64,
     /// The numbers whose marks it looked at, each with whether the mark was set.
     pub tries: LinkedList<(u64, bool)>,
+}
+
+/// What a caller learned of a shard on a visit. It stands in contracts alone: no value of it is made.
+pub struct Observation<E> {
+    /// Which shard it was, from 0 on.
+    pub shard: u64,
+    /// How many numbers were drawn then.
+    pub drawn: u64,
+    /// All notes that the shard had then, each with its number.
+    pub notes: LinkedList<(u64, E)>,
+}
+
+/// What a seat knows, with the notes of the numbers. It stands in contracts alone: no value of it is made.
+pub struct NotedView<E> {
+    /// What it knows but notes.
+    pub plain: View,
+    /// How many shards' seats were cut off it, in the first seat of a line alone.
+    pub made: Option<u64>,
+    /// Which shard's seat it is, from 0 on.
+    pub shard: Option<u64>,
+    /// The notes of that shard, each with its number, rising.
+    pub notes: LinkedList<(u64, E)>,
+    /// The name of the caller that it is the seat of, or that is in it, from 1 on.
+    pub caller: Option<u64>,
+    /// The notes of that caller, each with its number, rising.
+    pub own_notes: LinkedList<(u64, E)>,
+    /// The notes from 1 to the frontier that it has seen.
+    pub seen: LinkedList<E>,
+    /// The notes that another seat had seen, of which this one was told.
+    pub reported: LinkedList<E>,
+    /// What the caller learned of shards, an entry for each `observe`.
+    pub observations: LinkedList<Observation<E>>,
 }

@@ -1,10 +1,10 @@
 // What is measured.
-ghost use Rattle.std.specs.Prelude.{◌≡◌, All, IfOk};
-ghost use Rattle.line.specs.Seat.{new_caller_seat, new_shard_seat};
+ghost use Rattle.std.specs.Prelude.{◌≡◌, None, All, IfOk};
+ghost use Rattle.line.specs.Seat.{caller_seat, new_caller_seat, new_shard_seat, shard_seat};
 
+use crate::blank::{CallerSeat, Line, ShardSeat};
 use crate::fault::Fault;
 use crate::worker::{draw_all, raise_all};
-use line::{CallerSeat, Line, ShardSeat};
 use memory::Memory;
 use std::alloc::{AllocError, Global};
 use std::thread;
@@ -16,13 +16,13 @@ pub(crate) fn drawn<R: Threads + Sync>(
     line: &Line,
     seats: Vec<ShardSeat>,
 ) -> Result<Vec<u64>, AllocError>
-    requires { All (λ s. s ≡ new_shard_seat line.now.name) seats.items }
+    requires { All (λ s. (shard_seat s ≡ new_shard_seat line.now.name) × (s.view.caller ≡ None)) seats.items }
 {
     thread::map_vec(
         rt,
         seats,
         &|seat: ShardSeat| -> u64
-            requires { seat ≡ new_shard_seat line.now.name }
+            requires { (shard_seat seat ≡ new_shard_seat line.now.name) × (seat.view.caller ≡ None) }
         { draw_all(line, seat) },
     )
 }
@@ -34,8 +34,8 @@ pub(crate) fn callers(
     first: &mut CallerSeat,
     count: usize,
 ) -> Result<Vec<CallerSeat>, Memory>
-    requires { first.old ≡ new_caller_seat line.now.name 0 }
-    ensures { IfOk result (λ v. All (λ s. s ≡ new_caller_seat line.now.name 0) v.items) }
+    requires { caller_seat first.old ≡ new_caller_seat line.now.name 0 }
+    ensures { IfOk result (λ v. All (λ s. caller_seat s ≡ new_caller_seat line.now.name 0) v.items) }
 {
     let mut seats = Vec::new(alloc);
     for _ in 0..count {
@@ -51,13 +51,13 @@ pub(crate) fn raised<R: Threads + Sync>(
     callers: Vec<CallerSeat>,
     last: u64,
 ) -> Result<Vec<u64>, AllocError>
-    requires { All (λ s. s ≡ new_caller_seat line.now.name 0) callers.items }
+    requires { All (λ s. caller_seat s ≡ new_caller_seat line.now.name 0) callers.items }
 {
     thread::map_vec(
         rt,
         callers,
         &|caller: CallerSeat| -> u64
-            requires { caller ≡ new_caller_seat line.now.name 0 }
+            requires { caller_seat caller ≡ new_caller_seat line.now.name 0 }
         { raise_all(line, caller, last) },
     )
 }

@@ -4,12 +4,13 @@
 //! output has what was drawn and raised, which is the same on each run; the times go to standard error.
 #![tactic(auto)]
 
+mod blank;
 mod fault;
 mod loads;
 mod worker;
 
+use blank::{Ends, Line};
 use fault::Fault;
-use line::{Ends, Line};
 use loads::{callers, drawn, raised};
 use std::alloc::Global;
 use std::rt::Clock;

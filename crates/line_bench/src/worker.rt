@@ -1,12 +1,12 @@
 // What one thread does to a line.
 ghost use Rattle.std.specs.Prelude.{◌≡◌, None};
 
-use line::{CallerSeat, Line, ShardSeat};
+use crate::blank::{CallerSeat, Line, ShardSeat};
 
 /// Draws and fills numbers until none is left, and answers how many.
 pub(crate) fn draw_all(line: &Line, mut seat: ShardSeat) -> u64
     requires line { seat.line ≡ line.now.name }
-    requires pending { seat.pending ≡ None }
+    requires pending { (seat.view.plain.pending ≡ None) × (seat.view.caller ≡ None) }
 {
     let mut count = 0_u64;
     for _ in 0..u64::MAX {

@@ -1,6 +1,6 @@
 // Each call on a line of three numbers.
+use crate::blank::{Ends, Line};
 use crate::numbers::number_of;
-use line::{Ends, Line};
 use std::process::Abort;
 use std::test::Fail;
 
@@ -55,5 +55,32 @@ fn callers_learn_the_frontier(rt: HostRuntime) -> Result<(), Fail> {
     assert_eq!(rt; (line.raise(&mut fourth), first.seen()), (3, 2));
     let closed = line.close_with(fourth);
     assert_eq!(rt; (closed.drawn, closed.frontier), (3, 3));
+    Ok(())
+}
+
+/// A caller goes into a shard's seat, learns there what another one raised, and comes back with it.
+#[test]
+fn a_caller_visits_a_shard(rt: HostRuntime) -> Result<(), Fail> {
+    let Ends {
+        line,
+        mut shards,
+        caller: mut first,
+    } = Line::new(rt.alloc(), 3, 1)?;
+    let mut second = line.split(&mut first)?;
+    line.name(&mut first);
+    let mut shard = shards.remove(0);
+    assert_eq!(rt; number_of(&line, &mut shard), Some(1));
+    assert_eq!(rt; number_of(&line, &mut shard), Some(2));
+    assert_eq!(rt; line.raise(&mut first), 1);
+    assert_eq!(rt; (line.raise(&mut second), line.raise(&mut second)), (1, 2));
+    assert_eq!(rt; line.enter(&mut shard, first), 1);
+    let seen = line.look(&mut shard);
+    assert_eq!(rt; seen, 2);
+    line.observe(&mut shard);
+    let mut back = line.leave(&mut shard, seen);
+    assert_eq!(rt; back.seen(), 2);
+    assert_eq!(rt; number_of(&line, &mut shard), Some(line.capacity()));
+    line.tell(&mut back, &mut second);
+    assert_eq!(rt; (second.seen(), line.raise(&mut second)), (2, 3));
     Ok(())
 }

@@ -1,22 +1,24 @@
 // A seat behind a lock, which is known to be of the line at hand by a type that both name.
 ghost use Rattle.std.specs.Prelude.{◌≡◌, None, All};
-ghost use Rattle.line.specs.Seat.{new_shard_seat};
+ghost use Rattle.line.specs.Seat.{new_shard_seat, shard_seat};
 
-use line::{Ends, Line, Naming, ShardSeat};
+use crate::blank::{Ends, Line, ShardSeat};
+use line::Naming;
 use std::marker::{Brand, PhantomData};
 use std::process::Abort;
 use std::sync::{Mutex, Wait};
 use std::test::Fail;
 use std::thread::{Threads, join};
 
-/// A shard's seat of the line that N names, with no open number.
+/// A shard's seat of the line that N names, with no open number and no caller in it.
 #[derive(Drop)]
 struct Desk<N: Naming> {
     seat: ShardSeat,
     sum: u64,
     of: PhantomData<N>,
     ghost of_line: { seat.line ≡ N.line },
-    ghost closed: { seat.pending ≡ None },
+    ghost closed: { seat.view.plain.pending ≡ None },
+    ghost alone: { seat.view.caller ≡ None },
 }
 
 impl<N: Naming> Desk<N> {
@@ -46,7 +48,7 @@ fn sum_of_two<N: Naming + Send + Sync, R: Threads + Wait + Abort + Sync>(
     ends: Ends,
 ) -> Option<u64>
     requires line { ends.line.name ≡ N.line }
-    requires shards { All (λ s. s ≡ new_shard_seat ends.line.name) ends.shards.items }
+    requires shards { All (λ s. (shard_seat s ≡ new_shard_seat ends.line.name) × (s.view.caller ≡ None)) ends.shards.items }
 {
     let Ends {
         line,

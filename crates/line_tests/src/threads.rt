@@ -1,9 +1,9 @@
 // Eight threads, each with a shard's seat.
-ghost use Rattle.std.specs.Prelude.{◌≡◌, All};
-ghost use Rattle.line.specs.Seat.{new_shard_seat};
+ghost use Rattle.std.specs.Prelude.{◌≡◌, None, All};
+ghost use Rattle.line.specs.Seat.{new_shard_seat, shard_seat};
 
+use crate::blank::{Ends, Line, ShardSeat};
 use crate::numbers::{numbers_of, raised, sorted};
-use line::{Ends, Line, ShardSeat};
 use std::alloc::Global;
 use std::process::Abort;
 use std::test::Fail;
@@ -19,13 +19,13 @@ fn drawn_in_threads<R: Threads + Sync>(
     line: &Line,
     shards: Vec<ShardSeat>,
 ) -> Option<Vec<Option<Vec<u64>>>>
-    requires { All (λ s. s ≡ new_shard_seat line.now.name) shards.items }
+    requires { All (λ s. (shard_seat s ≡ new_shard_seat line.now.name) × (s.view.caller ≡ None)) shards.items }
 {
     thread::map_vec(
         rt,
         shards,
         &|seat: ShardSeat| -> Option<Vec<u64>>
-            requires { seat ≡ new_shard_seat line.now.name }
+            requires { (shard_seat seat ≡ new_shard_seat line.now.name) × (seat.view.caller ≡ None) }
         { numbers_of(alloc, line, seat, 2000) },
     )
     .ok()

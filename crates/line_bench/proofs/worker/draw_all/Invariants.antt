@@ -2,4 +2,4 @@ use Rattle.std.proofs.Common.{◌≡◌, None}
 use Rattle.line_bench.proofs.worker.draw_all.Given as goal
 
 abbrev pub invariant-loop : goal.invariant-loop
-invariant-loop l = (l.seat.line ≡ l.line.name) × (l.seat.pending ≡ None)
+invariant-loop l = (l.seat.line ≡ l.line.name) × (l.seat.view.plain.pending ≡ None) × (l.seat.view.caller ≡ None)
