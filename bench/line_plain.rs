@@ -1,4 +1,4 @@
-//! What `crates/line_bench` measures, over the same words in plain Rust: `AtomicU64`s with the orderings that the steps
+//! What `crates/bench` measures of the line, over the same words in plain Rust: `AtomicU64`s with the orderings that the steps
 //! need, and plain words behind a `Mutex`. Build and run it by
 //!
 //!     rustc -O --edition 2021 bench/line_plain.rs -o /tmp/line_plain && /tmp/line_plain

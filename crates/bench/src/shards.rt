@@ -1,0 +1,153 @@
+// How long one shard takes for a million pushes, with a compaction after each and with none, and for a million readings of
+// one key with many versions.
+//
+// A compaction is to cost what it drops, and not a walk over all keys; the first load keeps 1,000 records, the second all
+// of them. A reading is to halve the records of its key, and not to go through them. All objects share one body, so that
+// what is measured is the shard.
+ghost use Rattle.std.specs.Prelude.{◌+◌};
+ghost use Rattle.versions.specs.Records.{IsAbove};
+
+use crate::reading::object;
+use crate::timing::report;
+use anyhow::Result;
+use objects::{Key, Kind, Memory, Object};
+use plain::Version;
+use std::alloc::Global;
+use std::time::Instant;
+use versions::Shard;
+
+const OBJECT: &str =
+    r#"{"kind":"Pod","metadata":{"labels":{"app":"web"},"name":"web-0"},"spec":{"containers":[{"image":"web:1","name":"web"}],"nodeName":"node-1"}}"#;
+
+const PUSHES: u64 = 1_000_000;
+
+const KEYS: u64 = 1_000;
+
+const VERSIONS: u64 = 100_000;
+
+const READINGS: u64 = 1_000_000;
+
+/// A step from one reading to the next, which comes to all numbers in turn as it has no factor in common with how many
+/// there are.
+const STEP: u64 = 61_803;
+
+/// A shard, and a number that none of its records is above.
+#[derive(Drop)]
+struct Rising {
+    shard: Shard,
+    last: u64,
+    ghost above: { IsAbove shard.records (last + 1) },
+}
+
+impl Rising {
+    fn new(alloc: Global) -> Rising {
+        Rising {
+            shard: Shard::new(alloc),
+            last: 0,
+        }
+    }
+
+    fn shard(&self) -> &Shard {
+        &self.shard
+    }
+
+    /// Gives the key that object at a number. Answers whether it did: the number has to be above those of all records.
+    fn push(&mut self, number: u64, key: &Key, object: &Object) -> Result<bool, Memory> {
+        if number <= self.last {
+            return Ok(false);
+        }
+        let version = Version {
+            key: key.clone()?,
+            state: Some(object.clone()?),
+        };
+        self.shard.make_room(key)?;
+        self.shard.push(number, version);
+        self.last = number;
+        Ok(true)
+    }
+
+    fn compact(&mut self, number: u64) {
+        self.shard.compact(number);
+    }
+}
+
+fn pods(alloc: Global, count: u64) -> Result<Vec<Key>> {
+    let mut keys = Vec::new(alloc);
+    for number in 0..count {
+        let name = format!(in alloc; "web-{number}")?;
+        let key = Key::of(alloc, Kind::Pod, "default", name.as_str())?;
+        keys.push(key)?;
+    }
+    Ok(keys)
+}
+
+/// How many records are left of so many pushes at the numbers from 1 on, which go over so many keys in turn; with a
+/// compaction to each number, or with none.
+fn records_after(
+    alloc: Global,
+    object: &Object,
+    pushes: u64,
+    keys: u64,
+    compacts: bool,
+) -> Result<usize> {
+    let keys = pods(alloc, keys)?;
+    let mut rising = Rising::new(alloc);
+    for (number, key) in (1..=pushes).zip(keys.iter().cycle()) {
+        rising.push(number, key, object)?;
+        if compacts {
+            rising.compact(number);
+        }
+    }
+    Ok(rising.shard().records())
+}
+
+/// How many readings of one key with so many versions find an object, at numbers spread over all of them.
+fn found_in(alloc: Global, object: &Object, versions: u64, readings: u64) -> Result<u64> {
+    let key = Key::of(alloc, Kind::Pod, "default", "web-0")?;
+    let mut rising = Rising::new(alloc);
+    for number in 1..=versions {
+        rising.push(number, &key, object)?;
+    }
+    Ok(found(rising.shard(), &key, versions, readings))
+}
+
+fn found(shard: &Shard, key: &Key, versions: u64, readings: u64) -> u64 {
+    if versions == 0 {
+        return 0;
+    }
+    let mut found = 0_u64;
+    let mut spread = 0_u64;
+    for _ in 0..readings {
+        spread = spread.wrapping_add(STEP);
+        let number = 1 + spread % versions;
+        if shard.floor() <= number && shard.at(key, number).is_some() {
+            found = found.wrapping_add(1);
+        }
+    }
+    found
+}
+
+/// Measures the pushes, with a compaction after each or with none.
+fn pushes(rt: &HostRuntime, object: &Object, load: &str, compacts: bool) -> Result<()> {
+    let start = Instant::now(rt)?;
+    let records = records_after(rt.alloc(), object, PUSHES, KEYS, compacts)?;
+    let elapsed = start.elapsed(rt)?;
+    println!(rt; "records after {load}: {records}")?;
+    report(rt, load, PUSHES, elapsed)
+}
+
+/// Measures the readings.
+fn readings(rt: &HostRuntime, object: &Object) -> Result<()> {
+    let start = Instant::now(rt)?;
+    let found = found_in(rt.alloc(), object, VERSIONS, READINGS)?;
+    let elapsed = start.elapsed(rt)?;
+    println!(rt; "objects found: {found}")?;
+    report(rt, "readings", READINGS, elapsed)
+}
+
+pub(crate) fn measure(rt: &HostRuntime) -> Result<()> {
+    let object = object(rt.alloc(), OBJECT)?;
+    pushes(rt, &object, "pushes with compactions", true)?;
+    pushes(rt, &object, "pushes without", false)?;
+    readings(rt, &object)
+}
