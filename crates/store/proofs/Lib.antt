@@ -1,0 +1,14 @@
+pub mod Histories
+pub mod Readings
+pub mod Cuts
+pub mod Visits
+pub mod Tickets
+pub mod Writes
+pub mod Entries
+pub mod Gatherings
+pub mod Parts
+pub mod Newest
+pub mod Agreeing
+pub mod Going
+pub mod Kept
+pub mod Sent

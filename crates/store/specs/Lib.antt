@@ -1,0 +1,10 @@
+-- ---- what public clauses cite
+pub mod History
+pub mod Callers
+pub mod Tickets
+pub mod Rule
+-- ---- what only proofs use
+pub mod Views
+pub mod Parts
+pub mod Floors
+pub mod Codes

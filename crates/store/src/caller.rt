@@ -1,0 +1,113 @@
+ghost use Rattle.std.specs.Prelude.{◌≡◌, ◌+◌, ◌<◌, [], None, length};
+ghost use mathlib.Core.List.{IsPrefix};
+ghost use Rattle.store.specs.Callers.{HasRead, IsLine};
+ghost use Rattle.store.specs.Views.{HasLoaded};
+
+use crate::naming::Naming;
+use crate::writing::{ByShards, Writing};
+use line::{CallerSeat, Line};
+use std::marker::{Model, PhantomData};
+
+/// A caller of a store. It has seen a history of accepted writes, which each of its calls makes no shorter. Its calls are
+/// made one after another; different callers' go at once.
+#[derive(Drop)]
+pub struct Caller<N: Naming> {
+    pub(crate) seat: Option<CallerSeat<Writing>>,
+    pub(crate) of: PhantomData<N>,
+}
+
+impl<N: Naming> Model for Caller<N> {
+    ghost use Rattle.store.specs.Callers.{Caller};
+    ghost use Rattle.store.specs.Views.{IsCaller, caller_by, view_or};
+    ghost use Rattle.store.specs.Codes.{caller_coded};
+
+    ghost Value = { Caller };
+
+    ghost coded = { caller_coded };
+
+    ghost view = { λ c. caller_by (view_or c.seat) };
+
+    ghost invariant = { λ c. IsCaller N.line N.shards c.seat };
+}
+
+impl<N: Naming> Caller<N> {
+    /// A new caller, which has seen what the seat has.
+    pub(crate) fn new(line: &Line<Writing, ByShards<N>>, seat: CallerSeat<Writing>) -> Caller<N>
+        requires line { IsLine N.line N.capacity line.now }
+        requires seat { (seat.line ≡ N.line) × (seat.view.caller ≡ None) }
+        ensures { (result.seen ≡ seat.view.seen) × (result.own_notes ≡ []) × (result.observations ≡ seat.view.observations) }
+    {
+        let mut seat = seat;
+        line.name(&mut seat);
+        Caller {
+            seat: Some(seat),
+            of: PhantomData,
+        }
+    }
+
+    /// The last frontier that it loaded: how many writes it has seen. After a read, the revision that it was answered at.
+    pub fn seen(&self) -> u64
+        ensures { result ≡ length self.now.seen }
+    {
+        let Some(seat) = &self.seat else {
+            unreachable!();
+        };
+        seat.seen()
+    }
+
+    /// Loads the frontier, once.
+    pub(crate) fn frontier(&mut self, line: &Line<Writing, ByShards<N>>) -> u64
+        requires { IsLine N.line N.capacity line.now }
+        ensures loaded { HasLoaded N.shards N.capacity self.old result self.new }
+        ensures reported { IsPrefix self.old.reported self.new.seen }
+    {
+        let Some(seat) = &mut self.seat else {
+            unreachable!();
+        };
+        line.frontier(seat)
+    }
+
+    /// Hears what another caller has seen.
+    fn hear(&mut self, line: &Line<Writing, ByShards<N>>, other: &mut Caller<N>)
+        requires { IsLine N.line N.capacity line.now }
+        ensures other { other.new ≡ other.old }
+        ensures reported { self.new ≡ record self.old { reported = other.old.seen } }
+    {
+        let Some(seat) = &mut self.seat else {
+            unreachable!();
+        };
+        let Some(from) = &mut other.seat else {
+            unreachable!();
+        };
+        line.tell(from, seat);
+    }
+
+    /// Raises the frontier by one, where the next number is filled, and loads it.
+    pub(crate) fn try_raise(&mut self, line: &Line<Writing, ByShards<N>>) -> u64
+        requires { IsLine N.line N.capacity line.now }
+        ensures loaded { HasLoaded N.shards N.capacity self.old result self.new }
+        ensures tried { (length self.old.seen < N.capacity → self.new.tries ≡ self.old.tries + 1) × (length self.old.seen ≡ N.capacity → self.new.tries ≡ self.old.tries) }
+    {
+        let Some(seat) = &mut self.seat else {
+            unreachable!();
+        };
+        line.raise(seat);
+        line.frontier(seat)
+    }
+}
+
+/// Each of the two loads the frontier; what the first has seen then begins what the second has seen.
+pub(crate) fn meet<N: Naming>(
+    line: &Line<Writing, ByShards<N>>,
+    first: &mut Caller<N>,
+    second: &mut Caller<N>,
+)
+    requires { IsLine N.line N.capacity line.now }
+    ensures first { HasRead N.capacity first.old first.new }
+    ensures second { HasRead N.capacity second.old second.new }
+    ensures met { IsPrefix first.new.seen second.new.seen }
+{
+    first.frontier(line);
+    second.hear(line, first);
+    second.frontier(line);
+}

@@ -1,0 +1,216 @@
+// Requests to shards behind their locks.
+ghost use Rattle.std.specs.Prelude.{◌≡◌, ◌+◌, ◌<◌, ◌≤◌, true, length, take, Some, IfOk, OnErr, IfSome, IsSome};
+ghost use mathlib.Core.List.{IsPrefix};
+ghost use Rattle.objects.specs.declared.key.Key.{Key};
+ghost use Rattle.objects.specs.ShardOf.{shard_of};
+ghost use Rattle.requests.specs.Keys.{key_named};
+ghost use Rattle.requests.specs.Verdict.{is_write};
+ghost use Rattle.requests.specs.declared.request.Request.TheVariants as request;
+ghost use Rattle.requests.specs.declared.request.Request.TheVariants.{Get};
+ghost use Rattle.requests.specs.declared.reply.Reply.TheVariants.{Listed};
+ghost use Rattle.plain_store.specs.Store.{collection, step};
+ghost use Rattle.store.specs.History.{store_after};
+ghost use Rattle.store.specs.Parts.{part_of};
+ghost use Rattle.store.specs.Callers.{GoesOn, HasRead, IsLine};
+ghost use Rattle.store.specs.Tickets.{IsTicketOf, WritesOwn};
+ghost use Rattle.store.specs.Views.{Stays};
+
+use crate::caller::Caller;
+use crate::gate::Gate;
+use crate::gathered::Gathered;
+use crate::locked::Locked;
+use crate::naming::Naming;
+use crate::ticket::Ticket;
+use crate::writing::{ByShards, Writing};
+use line::Line;
+use objects::{Key, Kind, Memory, Object, Text};
+use requests::{Listing, Reply, Request};
+use std::alloc::Global;
+use std::sync::{Mutex, Wait};
+
+/// Hands in a create, an update, a status request or a delete. It does not return where the lock has another shard.
+pub(crate) fn submit<N: Naming, G: Gate>(
+    rt: &impl Wait,
+    line: &Line<Writing, ByShards<N>>,
+    shard: &Mutex<Locked<N>>,
+    index: u64,
+    caller: &mut Caller<N>,
+    request: Request,
+    gate: &G,
+) -> Result<Ticket<N>, Memory>
+    requires line { IsLine N.line N.capacity line.now }
+    requires write { is_write request ≡ true }
+    requires key { (k : Key) → key_named request ≡ Some k → shard_of k N.shards ≡ index }
+    ensures begins { IsPrefix caller.old.seen caller.new.seen }
+    ensures loaded { caller.new.loads ≡ caller.old.loads + 1 }
+    ensures ticket { IfOk result (λ t. IsTicketOf N.shards N.capacity t caller.new × (t.request ≡ request) × (t.since ≡ length caller.old.seen) × IsSome t.reply) }
+    ensures own { IfOk result (λ t. WritesOwn caller.old t caller.new) }
+    ensures memory { OnErr result (GoesOn caller.old caller.new) }
+{
+    let mut locked = shard.lock(rt);
+    if locked.index() != index {
+        for _ in rt.forever() {}
+        unreachable!()
+    }
+    locked.write(rt, line, caller, request, gate)
+}
+
+/// What a get is answered, at a frontier that the caller has then seen. Where the shard can't be read there any more, the
+/// frontier is loaded once more.
+pub(crate) fn get<N: Naming, W: Wait>(
+    rt: &W,
+    line: &Line<Writing, ByShards<N>>,
+    shard: &Mutex<Locked<N>>,
+    index: u64,
+    caller: &mut Caller<N>,
+    key: &Key,
+) -> Result<Reply, Memory>
+    requires line { IsLine N.line N.capacity line.now }
+    requires key { shard_of key.now N.shards ≡ index }
+    ensures read { HasRead N.capacity caller.old caller.new }
+    ensures reply { IfOk result (λ reply. reply ≡ (step (store_after N.capacity caller.new.seen) (Get key.now)).1) }
+{
+    for _ in rt.forever() {
+        caller.frontier(line);
+        match read(rt, line, shard, index, caller, key) {
+            Ok(None) => {}
+            Ok(Some(reply)) => return Ok(reply),
+            Err(error) => return Err(error),
+        }
+    }
+    unreachable!()
+}
+
+/// The same at the frontier that the caller has seen, or nothing where the shard can't be read there any more. It does not
+/// return where the lock has another shard.
+fn read<N: Naming, W: Wait>(
+    rt: &W,
+    line: &Line<Writing, ByShards<N>>,
+    shard: &Mutex<Locked<N>>,
+    index: u64,
+    caller: &mut Caller<N>,
+    key: &Key,
+) -> Result<Option<Reply>, Memory>
+    requires line { IsLine N.line N.capacity line.now }
+    requires key { shard_of key.now N.shards ≡ index }
+    ensures stays { Stays caller.old caller.new }
+    ensures reply { IfOk result (λ found. IfSome found (λ reply. reply ≡ (step (store_after N.capacity caller.new.seen) (Get key.now)).1)) }
+{
+    let mut locked = shard.lock(rt);
+    if locked.index() != index {
+        for _ in rt.forever() {}
+        unreachable!()
+    }
+    if caller.seen() < locked.floor() {
+        return Ok(None);
+    }
+    match locked.get(line, caller, key) {
+        Ok(reply) => Ok(Some(reply)),
+        Err(error) => Err(error),
+    }
+}
+
+/// What a list is answered, at one frontier, which the caller has then seen. Where a shard can't be read there any more,
+/// the frontier is loaded once more.
+pub(crate) fn list<N: Naming, W: Wait>(
+    rt: &W,
+    alloc: Global,
+    line: &Line<Writing, ByShards<N>>,
+    shards: &[Mutex<Locked<N>>],
+    caller: &mut Caller<N>,
+    kind: Kind,
+    namespace: &Text,
+) -> Result<Reply, Memory>
+    requires line { IsLine N.line N.capacity line.now }
+    requires shards { (length shards.now ≡ N.shards) × (0 < N.shards) }
+    ensures read { HasRead N.capacity caller.old caller.new }
+    ensures reply { IfOk result (λ reply. reply ≡ (step (store_after N.capacity caller.new.seen) (request.List kind namespace.now 0)).1) }
+{
+    for _ in rt.forever() {
+        let number = caller.frontier(line);
+        match gather(rt, alloc, line, shards, caller, kind, namespace, number) {
+            Ok(None) => {}
+            Ok(Some(objects)) => return Ok(listed(objects, number)),
+            Err(error) => return Err(error),
+        }
+    }
+    unreachable!()
+}
+
+pub(crate) fn listed(objects: Vec<Object>, number: u64) -> Reply
+    ensures { result ≡ Listed objects.items number }
+{
+    Reply::Listed {
+        objects: Listing::from(objects),
+        revision: number,
+    }
+}
+
+/// What all shards have of a kind in a namespace at a number up to which the caller has seen all, in the order of the keys;
+/// nothing where a shard can't be read there any more.
+pub(crate) fn gather<N: Naming, W: Wait>(
+    rt: &W,
+    alloc: Global,
+    line: &Line<Writing, ByShards<N>>,
+    shards: &[Mutex<Locked<N>>],
+    caller: &mut Caller<N>,
+    kind: Kind,
+    namespace: &Text,
+    number: u64,
+) -> Result<Option<Vec<Object>>, Memory>
+    requires line { IsLine N.line N.capacity line.now }
+    requires shards { (length shards.now ≡ N.shards) × (0 < N.shards) }
+    requires number { number ≤ length caller.old.seen }
+    ensures stays { Stays caller.old caller.new }
+    ensures objects { IfOk result (λ found. IfSome found (λ objects. objects.items ≡ collection (store_after N.capacity (take number caller.new.seen)).objects kind namespace.now)) }
+{
+    let mut found = Gathered::new(alloc);
+    for index in 0..shards.len() {
+        match part(
+            rt,
+            line,
+            &shards[index],
+            index,
+            caller,
+            kind,
+            namespace,
+            number,
+        ) {
+            Ok(Some(objects)) => found.put_all(objects)?,
+            Ok(None) => return Ok(None),
+            Err(error) => return Err(error),
+        }
+    }
+    Ok(Some(found.into_objects()?))
+}
+
+/// The part of one shard, or nothing where it can't be read there any more. It does not return where the lock has another
+/// shard.
+fn part<N: Naming, W: Wait>(
+    rt: &W,
+    line: &Line<Writing, ByShards<N>>,
+    shard: &Mutex<Locked<N>>,
+    index: usize,
+    caller: &mut Caller<N>,
+    kind: Kind,
+    namespace: &Text,
+    number: u64,
+) -> Result<Option<Vec<Object>>, Memory>
+    requires line { IsLine N.line N.capacity line.now }
+    requires number { number ≤ length caller.old.seen }
+    ensures stays { Stays caller.old caller.new }
+    ensures part { IfOk result (λ found. IfSome found (λ objects. objects.items ≡ collection (part_of (store_after N.capacity (take number caller.new.seen)).objects N.shards index) kind namespace.now)) }
+{
+    let mut locked = shard.lock(rt);
+    if locked.index() != index as u64 {
+        for _ in rt.forever() {}
+        unreachable!()
+    }
+    if number < locked.floor() {
+        return Ok(None);
+    }
+    match locked.list(line, caller, kind, namespace, number) {
+        Ok(objects) => Ok(Some(objects)),
+        Err(error) => Err(error),
+    }
+}

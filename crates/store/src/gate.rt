@@ -1,0 +1,18 @@
+/// What is done at chosen points of a run, as a test that holds a thread there. It takes no handle, so it can't wait for a
+/// lock.
+pub trait Gate {
+    /// Called by a write between the draw of this number and its fill, under the lock of its shard.
+    fn between(&self, number: u64);
+
+    /// Called as a round of a controller begins, the rounds of each numbered from 1, with no lock held.
+    fn round(&self, controller: u64, round: u64);
+}
+
+/// A gate that does nothing.
+pub struct NoGate;
+
+impl Gate for NoGate {
+    fn between(&self, _number: u64) {}
+
+    fn round(&self, _controller: u64, _round: u64) {}
+}

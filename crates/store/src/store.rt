@@ -1,0 +1,333 @@
+ghost use Rattle.std.specs.Prelude.{◌≡◌, ◌+◌, ℕ, ◌≤◌, ◌<◌, [], None, Some, true, length, IfOk, OnErr, IsSome, vec_len};
+ghost use mathlib.Core.List.{IsPrefix};
+ghost use Rattle.line.specs.Seat.{AreShards};
+ghost use Rattle.objects.specs.declared.key.Key.{Key};
+ghost use Rattle.objects.specs.ShardOf.{shard_of};
+ghost use Rattle.plain_store.specs.Store.{step};
+ghost use Rattle.requests.specs.Keys.{key_named};
+ghost use Rattle.requests.specs.Verdict.{is_write};
+ghost use Rattle.requests.specs.declared.request.Request.TheVariants as request;
+ghost use Rattle.requests.specs.declared.request.Request.TheVariants.{Get};
+ghost use Rattle.store.specs.Floors.{floor_after};
+ghost use Rattle.store.specs.History.{store_after};
+ghost use Rattle.store.specs.Floors.{compacted_reply, list_reply};
+ghost use Rattle.plain_store.specs.Store.{denied};
+ghost use Rattle.store.specs.Callers.{GoesOn, HasRead, IsLine};
+ghost use Rattle.store.specs.Tickets.{IsTicketOf, WritesOwn};
+ghost use Rattle.store.specs.Views.{Stays};
+
+use crate::caller::{self, Caller};
+use crate::callers::Callers;
+use crate::calls;
+use crate::error::StoreError;
+use crate::floor::Floor;
+use crate::gate::Gate;
+use crate::locked::Locked;
+use crate::naming::Naming;
+use crate::ticket::Ticket;
+use crate::writing::{ByShards, Writing};
+use line::{Ends, Line, ShardSeat};
+use objects::{Key, Kind, Memory, Text, shard_of};
+use requests::{Reply, Request};
+use std::alloc::{AllocError, Global};
+use std::marker::Model;
+use std::sync::{Mutex, Wait};
+
+/// A store of Kubernetes objects that threads share by `&`, each with a caller of its own. Each of its shards has a lock of
+/// its own; the numbers of writes, which are the revisions of the store, come from a line.
+///
+/// No call takes the locks of two shards at once.
+#[derive(Drop)]
+pub struct Store<N: Naming> {
+    numbers: Line<Writing, ByShards<N>>,
+    shards: Vec<Mutex<Locked<N>>>,
+    callers: Mutex<Callers<N>>,
+    floor: Mutex<Floor>,
+    alloc: Global,
+}
+
+impl<N: Naming> Model for Store<N> {
+    ghost use Rattle.std.specs.Prelude.{◌≡◌, ◌<◌, ℕ, vec_len};
+    ghost use Rattle.store.specs.Callers.{IsLine};
+
+    ghost Value = { ℕ };
+
+    ghost view = { λ s. vec_len s.shards };
+
+    ghost invariant = { λ s. IsLine N.line N.capacity s.numbers × (vec_len s.shards ≡ N.shards) × (0 < vec_len s.shards) };
+}
+
+impl<N: Naming> Store<N> {
+    /// A store with nothing in it, over a new line. The marker N names the line, and says how many numbers and shards it has.
+    ///
+    /// # Errors
+    ///
+    /// Memory.
+    pub fn new(alloc: Global, ends: Ends<Writing, ByShards<N>>) -> Result<Store<N>, StoreError>
+        requires line { IsLine N.line N.capacity ends.line }
+        requires caller { ends.caller.line ≡ N.line }
+        requires shards { AreShards N.line N.capacity ends.shards.items }
+        requires some { (vec_len ends.shards ≡ N.shards) × (0 < N.shards) }
+    {
+        let Ends {
+            line,
+            shards: seats,
+            caller,
+        } = ends;
+        let shards = locked_shards(alloc, seats)?;
+        Ok(Store {
+            numbers: line,
+            shards,
+            callers: Mutex::new(Callers::none(caller)),
+            floor: Mutex::new(Floor::lowest()),
+            alloc,
+        })
+    }
+
+    pub(crate) fn line(&self) -> &Line<Writing, ByShards<N>>
+        ensures { IsLine N.line N.capacity result.now }
+    {
+        &self.numbers
+    }
+
+    /// One more caller, which has no writes yet.
+    ///
+    /// # Errors
+    ///
+    /// TooManyCallers where the store has 4,096 already, and only there. A caller takes no memory.
+    pub fn caller(&self, rt: &impl Wait) -> Result<Caller<N>, StoreError>
+        ensures { IfOk result (λ c. (c.own_notes ≡ []) × (c.observations ≡ [])) }
+    {
+        self.callers.lock(rt).next(&self.numbers)
+    }
+
+    /// Hands in a create, an update, a status request or a delete: locks the key's shard, loads the frontier once, decides,
+    /// and where the write is accepted draws a number, calls the gate, and fills it.
+    ///
+    /// # Errors
+    ///
+    /// Memory. All memory is taken before a number is drawn, so none was.
+    pub fn submit<G: Gate>(
+        &self,
+        rt: &impl Wait,
+        caller: &mut Caller<N>,
+        request: Request,
+        gate: &G,
+    ) -> Result<Ticket<N>, Memory>
+        requires { is_write request ≡ true }
+        ensures begins { IsPrefix caller.old.seen caller.new.seen }
+        ensures loaded { caller.new.loads ≡ caller.old.loads + 1 }
+        ensures ticket { IfOk result (λ t. IsTicketOf N.shards N.capacity t caller.new × (t.request ≡ request) × (t.since ≡ length caller.old.seen) × IsSome t.reply) }
+        ensures own { IfOk result (λ t. WritesOwn caller.old t caller.new) }
+        ensures memory { OnErr result (GoesOn caller.old caller.new) }
+    {
+        let index = self.shard_of_request(&request);
+        calls::submit(
+            rt,
+            &self.numbers,
+            &self.shards[index],
+            index as u64,
+            caller,
+            request,
+            gate,
+        )
+    }
+
+    fn shard_of_request(&self, request: &Request) -> usize
+        requires { is_write request.now ≡ true }
+        ensures below { result < self.now }
+        ensures home { (k : Key) → key_named request.now ≡ Some k → shard_of k N.shards ≡ result }
+    {
+        let Some(key) = request.key() else {
+            unreachable!();
+        };
+        shard_of(key, self.shards.len())
+    }
+
+    /// The object of a key at the frontier: Found, or NotFound. The frontier is loaded once more where a compaction keeps the
+    /// key's shard from being read there.
+    ///
+    /// # Errors
+    ///
+    /// Memory. What the caller has seen may have grown.
+    pub fn get<W: Wait>(&self, rt: &W, caller: &mut Caller<N>, key: &Key) -> Result<Reply, Memory>
+        ensures read { HasRead N.capacity caller.old caller.new }
+        ensures reply { IfOk result (λ reply. reply ≡ (step (store_after N.capacity caller.new.seen) (Get key.now)).1) }
+    {
+        let index = shard_of(key, self.shards.len());
+        calls::get(
+            rt,
+            &self.numbers,
+            &self.shards[index],
+            index as u64,
+            caller,
+            key,
+        )
+    }
+
+    /// The objects of a kind in a namespace at one frontier, in byte order of their names, with that frontier as the list's
+    /// revision. The frontier is loaded once more where a compaction keeps a shard from being read there.
+    ///
+    /// # Errors
+    ///
+    /// Memory. What the caller has seen may have grown.
+    pub fn list<W: Wait>(
+        &self,
+        rt: &W,
+        caller: &mut Caller<N>,
+        kind: Kind,
+        namespace: &Text,
+    ) -> Result<Reply, Memory>
+        ensures read { HasRead N.capacity caller.old caller.new }
+        ensures reply { IfOk result (λ reply. reply ≡ (step (store_after N.capacity caller.new.seen) (request.List kind namespace.now 0)).1) }
+    {
+        calls::list(
+            rt,
+            self.alloc,
+            &self.numbers,
+            self.shards.as_slice(),
+            caller,
+            kind,
+            namespace,
+        )
+    }
+
+    /// The first caller tells the second one what it has seen: each of the two loads the frontier, the first one first. It
+    /// takes no memory, and waits for nobody.
+    pub fn meet(&self, first: &mut Caller<N>, second: &mut Caller<N>)
+        ensures first { HasRead N.capacity first.old first.new }
+        ensures second { HasRead N.capacity second.old second.new }
+        ensures met { IsPrefix first.new.seen second.new.seen }
+    {
+        caller::meet(&self.numbers, first, second);
+    }
+
+    /// Gives up what was before a revision: Compacted, or TooLarge where the number is above the frontier, else Expired
+    /// where the past was given up beyond it. The floor's lock is held to the end, and each shard's in turn.
+    pub fn compact<W: Wait>(&self, rt: &W, caller: &mut Caller<N>, number: u64) -> Reply
+        ensures { HasRead N.capacity caller.old caller.new }
+    {
+        let mut floor = self.floor.lock(rt);
+        self.compact_from(rt, &mut floor, caller, number)
+    }
+
+    /// The same, where the floor is lent by its lock. TooLarge where the number is above the frontier loaded here, else
+    /// Expired where it is below the floor.
+    fn compact_from<W: Wait>(
+        &self,
+        rt: &W,
+        floor: &mut Floor,
+        caller: &mut Caller<N>,
+        number: u64,
+    ) -> Reply
+        ensures read { HasRead N.capacity caller.old caller.new }
+        ensures reply { result ≡ compacted_reply (denied floor.old (length caller.new.seen) number) number }
+        ensures floor { floor.new ≡ floor_after floor.old number (denied floor.old (length caller.new.seen) number) }
+    {
+        if let Some(reason) = floor.raise(&self.numbers, caller, number) {
+            return Reply::Refused(reason);
+        }
+        self.compact_all(rt, caller, number);
+        Reply::Compacted { revision: number }
+    }
+
+    fn compact_all<W: Wait>(&self, rt: &W, caller: &mut Caller<N>, number: u64)
+        requires { number ≤ length caller.old.seen }
+        ensures { Stays caller.old caller.new }
+    {
+        for shard in 0..self.shards.len() {
+            self.shards[shard]
+                .lock(rt)
+                .compact(&self.numbers, caller, number);
+        }
+    }
+
+    /// The objects of a kind in a namespace exactly as they were at a revision, in byte order of their names, or TooLarge or
+    /// Expired as of a compaction. The floor's lock is held to the end, and each shard's in turn.
+    ///
+    /// # Errors
+    ///
+    /// Memory. What the caller has seen may have grown.
+    pub fn list_at<W: Wait>(
+        &self,
+        rt: &W,
+        caller: &mut Caller<N>,
+        kind: Kind,
+        namespace: &Text,
+        number: u64,
+    ) -> Result<Reply, Memory>
+        ensures { HasRead N.capacity caller.old caller.new }
+    {
+        let floor = self.floor.lock(rt);
+        self.list_from(rt, &floor, caller, kind, namespace, number)
+    }
+
+    /// The same, where the floor is lent by its lock. TooLarge where the number is above the frontier loaded here, else
+    /// Expired where it is below the floor.
+    fn list_from<W: Wait>(
+        &self,
+        rt: &W,
+        floor: &Floor,
+        caller: &mut Caller<N>,
+        kind: Kind,
+        namespace: &Text,
+        number: u64,
+    ) -> Result<Reply, Memory>
+        ensures read { HasRead N.capacity caller.old caller.new }
+        ensures reply { IfOk result (λ reply. reply ≡ list_reply (denied floor.now (length caller.new.seen) number) N.capacity caller.new.seen kind namespace.now number) }
+    {
+        if let Some(reason) = floor.denied(&self.numbers, caller, number) {
+            return Ok(Reply::Refused(reason));
+        }
+        self.list_past(rt, caller, kind, namespace, number)
+    }
+
+    /// The same at a number up to which the caller has seen all. The walk begins again where it finds a shard that can't be
+    /// read there any more.
+    fn list_past<W: Wait>(
+        &self,
+        rt: &W,
+        caller: &mut Caller<N>,
+        kind: Kind,
+        namespace: &Text,
+        number: u64,
+    ) -> Result<Reply, Memory>
+        requires { number ≤ length caller.old.seen }
+        ensures stays { Stays caller.old caller.new }
+        ensures reply { IfOk result (λ reply. reply ≡ list_reply None N.capacity caller.new.seen kind namespace.now number) }
+    {
+        for _ in rt.forever() {
+            match calls::gather(
+                rt,
+                self.alloc,
+                &self.numbers,
+                self.shards.as_slice(),
+                caller,
+                kind,
+                namespace,
+                number,
+            ) {
+                Ok(None) => {}
+                Ok(Some(objects)) => return Ok(calls::listed(objects, number)),
+                Err(error) => return Err(error),
+            }
+        }
+        unreachable!()
+    }
+}
+
+/// The shards behind their locks, one for each seat.
+fn locked_shards<N: Naming>(
+    alloc: Global,
+    seats: Vec<ShardSeat<Writing>>,
+) -> Result<Vec<Mutex<Locked<N>>>, AllocError>
+    requires { AreShards N.line N.capacity seats.items }
+    ensures { IfOk result (λ shards. vec_len shards ≡ vec_len seats) }
+{
+    let mut shards = Vec::with_capacity(alloc, seats.len())?;
+    for seat in seats {
+        let index = shards.len() as u64;
+        shards.push(Mutex::new(Locked::new(alloc, seat, index)))?;
+    }
+    Ok(shards)
+}

@@ -1,0 +1,300 @@
+// A write while its shard is locked, and its caller's seat is in the shard's.
+ghost use Rattle.std.specs.Prelude.{◌≡◌, ◌-◌, ◌≤◌, ◌<◌, max, true, length, Some, None, IsSome, All, IfOk, IfSome, IfNone, OnOk, OnErr};
+ghost use Rattle.objects.specs.declared.key.Key.{Key};
+ghost use Rattle.objects.specs.ShardOf.{shard_of};
+ghost use Rattle.requests.specs.Change.{accepted, change_object, stamp};
+ghost use Rattle.requests.specs.Keys.{key_named};
+ghost use Rattle.requests.specs.Verdict.{is_write, verdict};
+ghost use Rattle.requests.specs.declared.verdict.Verdict.TheVariants.{Write};
+ghost use Rattle.versions.specs.Records.{current, newest};
+ghost use Rattle.versions.specs.Shard.{with_room};
+ghost use Rattle.line.specs.Notes.{notes_up_to};
+ghost use Rattle.line.specs.NotedSteps.{MayDraw};
+ghost use Rattle.line.specs.NotedView.{drew_noted, with_plain, drew_for};
+ghost use Rattle.line.specs.View.{used_up};
+ghost use Rattle.store.specs.History.{Accepts, by_of, home_of};
+ghost use Rattle.store.specs.Callers.{IsLine};
+ghost use Rattle.store.specs.Rule.{AgreesWith};
+ghost use Rattle.store.specs.Tickets.{IsTicketOf, WritesOwn};
+ghost use Rattle.store.specs.Views.{Holds, IsPublished, Unwritten, WritesNotes, caller_by, number_in, ticket_by, writing_by};
+
+use crate::gate::Gate;
+use crate::naming::Naming;
+use crate::ticket::Ticket;
+use crate::writing::{ByShards, Writing};
+use line::{Drawn, Line, Noting, ShardSeat};
+use objects::Memory;
+use requests::{Change, Reason, Reply, Request, Verdict};
+use std::marker::{Brand, PhantomData};
+use versions::Shard;
+
+/// Decides the write over the newest record of its key, and carries it out.
+pub(crate) fn hand_in<N: Naming, G: Gate>(
+    line: &Line<Writing, ByShards<N>>,
+    seat: &mut ShardSeat<Writing>,
+    shard: &mut Shard,
+    request: Request,
+    since: u64,
+    loaded: u64,
+    gate: &G,
+) -> Result<Ticket<N>, Memory>
+    requires line { (seat.old.line ≡ line.now.name) × IsLine N.line N.capacity line.now }
+    requires holds { Holds N.shards seat.old.view shard.old seat.old.view }
+    requires write { is_write request ≡ true }
+    requires key { (k : Key) → key_named request ≡ Some k → seat.old.view.shard ≡ Some (shard_of k N.shards) }
+    requires seen { (loaded ≡ length seat.old.view.seen) × (since ≤ loaded) × (loaded ≤ N.capacity) }
+    ensures line { seat.new.line ≡ seat.old.line }
+    ensures holds { Holds N.shards seat.old.view shard.new seat.new.view }
+    ensures ticket { IfOk result (λ t. IsTicketOf N.shards N.capacity t (caller_by seat.new.view) × (t.request ≡ request) × (t.since ≡ since) × IsSome t.reply) }
+    ensures own { IfOk result (λ t. WritesOwn (caller_by seat.old.view) t (caller_by seat.new.view)) }
+    ensures wrote { IfOk result (λ t. WritesNotes seat.old.view.notes t seat.new.view.notes) }
+    ensures memory { OnErr result ((seat.new.view ≡ seat.old.view) × (shard.new ≡ shard.old)) }
+{
+    let decided = decide(shard, &request);
+    let Ok((saw, verdict)) = decided else {
+        drop(request);
+        return Err(Memory);
+    };
+    match verdict {
+        Verdict::Refuse(reason) => Ok(unwritten(
+            line,
+            seat,
+            shard,
+            request,
+            since,
+            loaded,
+            saw,
+            Reply::Refused(reason),
+        )),
+        Verdict::Same(object) => Ok(unwritten(
+            line,
+            seat,
+            shard,
+            request,
+            since,
+            loaded,
+            saw,
+            Reply::Unchanged(object),
+        )),
+        Verdict::Write(change) => carry_out(line, seat, shard, request, since, change, gate),
+    }
+}
+
+/// The number of the newest record of the request's key, and what the request comes to over it.
+fn decide(shard: &Shard, request: &Request) -> Result<(u64, Verdict), Memory>
+    requires { is_write request.now ≡ true }
+    ensures { IfOk result (λ d. (k : Key) → key_named request.now ≡ Some k → (d.0 ≡ number_in (newest shard.now.records k)) × (d.1 ≡ verdict request.now (current shard.now.records k))) }
+{
+    let Some(key) = request.key() else {
+        unreachable!();
+    };
+    let saw = match shard.newest(key) {
+        Some((number, _)) => number,
+        None => 0,
+    };
+    Ok((saw, shard.verdict(request)?))
+}
+
+/// A write that changes nothing.
+fn unwritten<N: Naming>(
+    line: &Line<Writing, ByShards<N>>,
+    seat: &mut ShardSeat<Writing>,
+    shard: &Shard,
+    request: Request,
+    since: u64,
+    loaded: u64,
+    saw: u64,
+    reply: Reply,
+) -> Ticket<N>
+    requires line { (seat.old.line ≡ line.now.name) × IsLine N.line N.capacity line.now }
+    requires holds { Holds N.shards seat.old.view shard.now seat.old.view }
+    requires write { is_write request ≡ true }
+    requires key { (k : Key) → key_named request ≡ Some k → (seat.old.view.shard ≡ Some (shard_of k N.shards)) × (saw ≡ number_in (newest shard.now.records k)) × Unwritten (verdict request (current shard.now.records k)) reply }
+    requires seen { (loaded ≡ length seat.old.view.seen) × (since ≤ loaded) }
+    ensures line { seat.new.line ≡ seat.old.line }
+    ensures holds { Holds N.shards seat.old.view shard.now seat.new.view }
+    ensures ticket { IsTicketOf N.shards N.capacity result (caller_by seat.new.view) }
+    ensures own { WritesOwn (caller_by seat.old.view) result (caller_by seat.new.view) }
+    ensures wrote { WritesNotes seat.old.view.notes result seat.new.view.notes }
+    ensures is { result ≡ record { request = request; since = since; saw = saw; place = max saw loaded; reply = Some reply } }
+{
+    let _ = shard;
+    line.observe(seat);
+    Ticket {
+        request,
+        since,
+        saw,
+        place: saw.max(loaded),
+        reply: Some(reply),
+        of: PhantomData,
+    }
+}
+
+/// Makes room for a record of the request's key.
+fn make_room(shard: &mut Shard, request: &Request) -> Result<(), Memory>
+    requires { is_write request.now ≡ true }
+    ensures made { OnOk result ((k : Key) → key_named request.now ≡ Some k → shard.new ≡ with_room shard.old k) }
+    ensures memory { OnErr result (shard.new ≡ shard.old) }
+{
+    let Some(key) = request.key() else {
+        unreachable!();
+    };
+    shard.make_room(key)
+}
+
+/// A write that changes something, where numbers are left.
+fn carry_out<N: Naming, G: Gate>(
+    line: &Line<Writing, ByShards<N>>,
+    seat: &mut ShardSeat<Writing>,
+    shard: &mut Shard,
+    request: Request,
+    since: u64,
+    change: Change,
+    gate: &G,
+) -> Result<Ticket<N>, Memory>
+    requires line { (seat.old.line ≡ line.now.name) × IsLine N.line N.capacity line.now }
+    requires holds { Holds N.shards seat.old.view shard.old seat.old.view }
+    requires write { is_write request ≡ true }
+    requires key { (k : Key) → key_named request ≡ Some k → (seat.old.view.shard ≡ Some (shard_of k N.shards)) × (verdict request (current shard.old.records k) ≡ Write change) }
+    requires seen { (since ≤ length seat.old.view.seen) × (length seat.old.view.seen ≤ N.capacity) }
+    ensures line { seat.new.line ≡ seat.old.line }
+    ensures holds { Holds N.shards seat.old.view shard.new seat.new.view }
+    ensures ticket { IfOk result (λ t. IsTicketOf N.shards N.capacity t (caller_by seat.new.view) × (t.request ≡ request) × (t.since ≡ since) × IsSome t.reply) }
+    ensures own { IfOk result (λ t. WritesOwn (caller_by seat.old.view) t (caller_by seat.new.view)) }
+    ensures wrote { IfOk result (λ t. WritesNotes seat.old.view.notes t seat.new.view.notes) }
+    ensures memory { OnErr result ((seat.new.view ≡ seat.old.view) × (shard.new ≡ shard.old)) }
+{
+    if make_room(shard, &request).is_err() {
+        drop(request);
+        drop(change);
+        return Err(Memory);
+    }
+    Ok(publish(line, seat, shard, request, since, change, gate))
+}
+
+/// The same, with room for the record.
+fn publish<N: Naming, G: Gate>(
+    line: &Line<Writing, ByShards<N>>,
+    seat: &mut ShardSeat<Writing>,
+    shard: &mut Shard,
+    request: Request,
+    since: u64,
+    change: Change,
+    gate: &G,
+) -> Ticket<N>
+    requires line { (seat.old.line ≡ line.now.name) × IsLine N.line N.capacity line.now }
+    requires holds { Holds N.shards seat.old.view shard.old seat.old.view }
+    requires write { is_write request ≡ true }
+    requires key { (k : Key) → key_named request ≡ Some k → (seat.old.view.shard ≡ Some (shard_of k N.shards)) × (verdict request (current shard.old.records k) ≡ Write change) × (shard.old.room ≡ Some k) }
+    requires seen { (since ≤ length seat.old.view.seen) × (length seat.old.view.seen ≤ N.capacity) }
+    ensures line { seat.new.line ≡ seat.old.line }
+    ensures holds { Holds N.shards seat.old.view shard.new seat.new.view }
+    ensures ticket { IsTicketOf N.shards N.capacity result (caller_by seat.new.view) }
+    ensures own { WritesOwn (caller_by seat.old.view) result (caller_by seat.new.view) }
+    ensures wrote { WritesNotes seat.old.view.notes result seat.new.view.notes }
+    ensures is { (result.request ≡ request) × (result.since ≡ since) × IsSome result.reply }
+{
+    let published = push_drawn::<N, G>(line, seat, shard, &request, change, gate);
+    line.observe(seat);
+    ticket_of(line, request, since, published)
+}
+
+/// The ticket of a write that was published at a number, with its reply, or found all numbers drawn.
+fn ticket_of<N: Naming>(
+    line: &Line<Writing, ByShards<N>>,
+    request: Request,
+    since: u64,
+    published: Option<(u64, Reply)>,
+) -> Ticket<N>
+    requires { line.now.capacity ≡ N.capacity }
+    ensures { result ≡ ticket_by N.capacity request since published }
+{
+    match published {
+        Some((number, reply)) => Ticket {
+            request,
+            since,
+            saw: number,
+            place: number,
+            reply: Some(reply),
+            of: PhantomData,
+        },
+        None => Ticket {
+            request,
+            since,
+            saw: line.capacity(),
+            place: line.capacity(),
+            reply: Some(Reply::Refused(Reason::StoreFull)),
+            of: PhantomData,
+        },
+    }
+}
+
+/// Draws a number for the write, pushes its record, and fills it; or finds all numbers drawn.
+fn push_drawn<N: Naming, G: Gate>(
+    line: &Line<Writing, ByShards<N>>,
+    seat: &mut ShardSeat<Writing>,
+    shard: &mut Shard,
+    request: &Request,
+    change: Change,
+    gate: &G,
+) -> Option<(u64, Reply)>
+    requires line { (seat.old.line ≡ line.now.name) × (line.now.capacity ≡ N.capacity) }
+    requires pending { seat.old.view.plain.pending ≡ None }
+    requires note { MayDraw (home_of N.shards) by_of Accepts (Some (writing_by seat.old.view request.now change)) seat.old.view }
+    requires room { shard.old.room ≡ Some (change_object change).key }
+    requires agrees { AgreesWith shard.old seat.old.view }
+    requires long { length seat.old.view.seen ≡ seat.old.view.plain.seen }
+    ensures line { seat.new.line ≡ seat.old.line }
+    ensures agrees { AgreesWith shard.new seat.new.view }
+    ensures some { IfSome result (λ p. IsPublished seat.old.view p.0 (writing_by seat.old.view request.now change) seat.new.view × (p.1 ≡ accepted change (stamp change p.0)) × (0 < p.0) × (p.0 ≤ N.capacity) × (notes_up_to (p.0 - 1) seat.old.view.notes ≡ seat.old.view.notes) × (seat.old.view.plain.seen < p.0)) }
+    ensures none { IfNone result (seat.new.view ≡ with_plain seat.old.view (used_up seat.old.view.plain)) }
+{
+    let Some(drawn) = draw::<N>(line, seat, request, &change) else {
+        drop(change);
+        return None;
+    };
+    let number = drawn.number();
+    gate.between(number);
+    let (version, reply) = change.stamp(number);
+    shard.push(number, version);
+    line.fill(seat, drawn);
+    Some((number, reply))
+}
+
+/// Draws a number for the write of the caller in the seat.
+fn draw<N: Naming>(
+    line: &Line<Writing, ByShards<N>>,
+    seat: &mut ShardSeat<Writing>,
+    request: &Request,
+    change: &Change,
+) -> Option<Drawn>
+    requires line { seat.old.line ≡ line.now.name }
+    requires pending { seat.old.view.plain.pending ≡ None }
+    requires note { MayDraw (home_of N.shards) by_of Accepts (Some (writing_by seat.old.view request.now change.now)) seat.old.view }
+    ensures line { seat.new.line ≡ seat.old.line }
+    ensures some { IfSome result (λ n. seat.new.view ≡ drew_noted seat.old.view n (writing_by seat.old.view request.now change.now)) }
+    ensures next { IfSome result (λ n. (0 < n) × (n ≤ line.now.capacity) × (n ≤ 1048576) × (notes_up_to (n - 1) seat.old.view.notes ≡ seat.old.view.notes) × (seat.old.view.plain.seen < n) × All (λ x. x < n) seat.old.view.plain.filled) }
+    ensures none { IfNone result (seat.new.view ≡ with_plain seat.old.view (used_up seat.old.view.plain)) }
+{
+    draw_as::<N, Brand>(line, seat, request, change)
+}
+
+fn draw_as<N: Naming, J: Noting<Writing>>(
+    line: &Line<Writing, ByShards<N>>,
+    seat: &mut ShardSeat<Writing>,
+    request: &Request,
+    change: &Change,
+) -> Option<Drawn>
+    requires line { seat.old.line ≡ line.now.name }
+    requires pending { seat.old.view.plain.pending ≡ None }
+    requires picked { J.note ≡ Some (writing_by seat.old.view request.now change.now) }
+    requires note { MayDraw (home_of N.shards) by_of Accepts J.note seat.old.view }
+    ensures line { seat.new.line ≡ seat.old.line }
+    ensures some { IfSome result (λ n. seat.new.view ≡ drew_for J.note seat.old.view n) }
+    ensures next { IfSome result (λ n. (0 < n) × (n ≤ line.now.capacity) × (n ≤ 1048576) × (notes_up_to (n - 1) seat.old.view.notes ≡ seat.old.view.notes) × (seat.old.view.plain.seen < n) × All (λ x. x < n) seat.old.view.plain.filled) }
+    ensures none { IfNone result (seat.new.view ≡ with_plain seat.old.view (used_up seat.old.view.plain)) }
+{
+    let _ = request;
+    let _ = change;
+    line.draw_noted::<J>(seat)
+}

@@ -1,0 +1,32 @@
+use crate::naming::Naming;
+use line::Judging;
+use requests::{Change, Request};
+use std::marker::PhantomData;
+
+/// An accepted write, as the note of its number. It stands in contracts alone: no value of it is made.
+pub struct Writing {
+    /// The name of its caller.
+    pub by: u64,
+    /// How often that caller had held a shard's lock before. No two writes of one caller have the same.
+    pub count: u64,
+    /// The request, which is a create, an update, a status request or a delete.
+    pub request: Request,
+    /// What it changes.
+    pub change: Change,
+}
+
+/// What a line knows of writes as notes: each is its key's shard's, and the verdict over the earlier ones of that shard
+/// accepts it.
+pub struct ByShards<N> {
+    of: PhantomData<N>,
+}
+
+impl<N: Naming> Judging<Writing> for ByShards<N> {
+    ghost use Rattle.store.specs.History.{Accepts, by_of, home_of};
+
+    ghost home = { home_of N.shards };
+
+    ghost by = { by_of };
+
+    ghost accepts = { Accepts };
+}
