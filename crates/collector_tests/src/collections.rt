@@ -8,7 +8,7 @@ use std::test::Fail;
 
 /// The owner references of a claim, and whether it is collected by lists at resource version 9 that have an owner with the
 /// UID of the number 5 and one with that of 6.
-static CLAIMS: [(&str, bool); 17] = [
+static CLAIMS: [(&str, bool); 20] = [
     // No owner.
     (r#"null"#, false),
     (r#"[]"#, false),
@@ -41,6 +41,19 @@ static CLAIMS: [(&str, bool); 17] = [
     (
         r#"[{"uid":"abc"},{"uid":"00000000-0000-4000-8000-00000000000a"}]"#,
         false,
+    ),
+    // As a plan leaves them: of a set that is gone, of a pod that is listed, and of one that is gone.
+    (
+        r#"[{"apiVersion":"apps/v1","kind":"StatefulSet","name":"web","uid":"00000000-0000-4000-8000-000000000001"}]"#,
+        true,
+    ),
+    (
+        r#"[{"apiVersion":"v1","kind":"Pod","name":"web-0","uid":"00000000-0000-4000-8000-000000000006"}]"#,
+        false,
+    ),
+    (
+        r#"[{"apiVersion":"v1","kind":"Pod","name":"web-1","uid":"00000000-0000-4000-8000-000000000004"}]"#,
+        true,
     ),
     // The same owner twice.
     (
