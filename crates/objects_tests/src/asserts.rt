@@ -1,8 +1,17 @@
 //! What tests share: objects of texts, texts of objects, and what is asserted of a row. Large values go by `drop`, which is
 //! proved once for each type.
 use objects::{Members, Object, ReadError, Tree, print_object, read_object, read_tree};
-use std::alloc::Global;
+use std::alloc::{AllocError, Global};
 use std::process::Abort;
+
+/// The texts, one behind the other.
+pub(crate) fn joined(alloc: Global, parts: &[&str]) -> Result<String, AllocError> {
+    let mut text = String::new(alloc);
+    for part in parts {
+        text.push_str(part)?;
+    }
+    Ok(text)
+}
 
 /// The object of that text.
 pub(crate) fn read(alloc: Global, text: &str) -> Result<Object, ReadError> {
@@ -41,13 +50,5 @@ pub(crate) fn assert_so(rt: &impl Abort, answer: Result<bool, ReadError>, row: &
     match answer {
         Ok(is_so) => assert!(rt; is_so, "of {row}"),
         Err(error) => panic!(rt; "{error:?} of {row}"),
-    }
-}
-
-/// Asserts that what was asked of the row at that place of its table is so.
-pub(crate) fn assert_case(rt: &impl Abort, answer: Result<bool, ReadError>, i: usize) {
-    match answer {
-        Ok(is_so) => assert!(rt; is_so, "case {i}"),
-        Err(error) => panic!(rt; "{error:?} of case {i}"),
     }
 }

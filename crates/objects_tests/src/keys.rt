@@ -1,5 +1,5 @@
 //! Keys, their kinds and collections, by tables.
-use crate::asserts::{assert_case, assert_so, read_members};
+use crate::asserts::{assert_so, read_members};
 use objects::{Key, Kind, ReadError, Text, is_dns_label, read_collection, read_key};
 use std::alloc::{AllocError, Global};
 use std::hash::{DefaultHasher, Hash, Hasher};
@@ -49,13 +49,13 @@ fn keys_are_read(rt: HostRuntime) {
     }
 }
 
-/// Keys in their order: by kind, then by namespace, then by name.
+/// Keys in their order: by kind, then by namespace, then by name. No two have one name.
 static RISING: [(Kind, &str, &str); 5] = [
     (Kind::StatefulSet, "z", "z"),
     (Kind::Pod, "default", "b"),
     (Kind::Pod, "default", "ba"),
     (Kind::Pod, "default-a", "a"),
-    (Kind::ControllerRevision, "a", "a"),
+    (Kind::ControllerRevision, "a", "0"),
 ];
 
 fn key_at(alloc: Global, place: usize) -> Result<Key, ReadError> {
@@ -108,23 +108,35 @@ fn is_above_all(alloc: Global, upper: usize) -> Result<bool, ReadError> {
 
 #[test]
 fn keys_have_an_order_and_copies(rt: HostRuntime) {
-    for upper in 0..RISING.len() {
-        assert_case(&rt, is_copied(rt.alloc(), upper), upper);
-        assert_case(&rt, is_above_all(rt.alloc(), upper), upper);
+    for (upper, (_, _, name)) in RISING.iter().enumerate() {
+        assert_so(&rt, is_copied(rt.alloc(), upper), name);
+        assert_so(&rt, is_above_all(rt.alloc(), upper), name);
     }
 }
 
-/// Namespaces and names that no key has together.
-static BAD_KEYS: [(&str, &str); 4] = [("a.b", "a"), ("", "a"), ("a", ""), ("a", "A")];
+/// The idea, and a namespace and a name that no key has together.
+static BAD_KEYS: [(&str, &str, &str); 4] = [
+    ("a namespace with a dot", "a.b", "a"),
+    ("no namespace", "", "a"),
+    ("no name", "a", ""),
+    ("a capital", "a", "A"),
+];
+
+fn is_refused(key: Result<Key, ReadError>) -> bool {
+    match key {
+        Ok(key) => {
+            drop(key);
+            false
+        }
+        Err(error) => error == ReadError::BadName,
+    }
+}
 
 #[test]
 fn some_names_are_no_keys(rt: HostRuntime) {
-    for (namespace, name) in BAD_KEYS.iter() {
-        let refused = Key::of(rt.alloc(), Kind::Pod, namespace, name);
-        assert!(rt;
-            refused.is_err_and(|error| error == ReadError::BadName),
-            "{namespace}/{name}"
-        );
+    for (idea, namespace, name) in BAD_KEYS.iter() {
+        let is_refused = is_refused(Key::of(rt.alloc(), Kind::Pod, namespace, name));
+        assert_so(&rt, Ok(is_refused), idea);
     }
 }
 
@@ -149,18 +161,17 @@ static LABELS: [(usize, &str, bool); 17] = [
     (0, "é", false),
 ];
 
-/// Whether so many bytes of `a` and that end are a label.
-fn is_label(alloc: Global, letters: usize, end: &str) -> Result<bool, ReadError> {
+/// Whether it is told that so many bytes of `a` and that end are a label, or are none.
+fn is_told(alloc: Global, letters: usize, end: &str, expected: bool) -> Result<bool, ReadError> {
     let mut text = "a".repeat(alloc, letters)?;
     text.push_str(end)?;
-    Ok(is_dns_label(text.as_str()))
+    Ok(is_dns_label(text.as_str()) == expected)
 }
 
 #[test]
 fn some_texts_are_labels(rt: HostRuntime) {
     for (letters, end, expected) in LABELS.iter() {
-        let is_label = is_label(rt.alloc(), *letters, end);
-        assert!(rt; is_label == Ok(*expected), "{end}");
+        assert_so(&rt, is_told(rt.alloc(), *letters, end, *expected), end);
     }
 }
 
@@ -232,12 +243,14 @@ static KINDS: [(Kind, &str, &str); 4] = [
     (Kind::ControllerRevision, "ControllerRevision", "apps/v1"),
 ];
 
+fn is_named(kind: Kind, name: &str, version: &str) -> bool {
+    kind.name() == name && kind.api_version() == version && Kind::named(name) == Some(kind)
+}
+
 #[test]
 fn kinds_have_names(rt: HostRuntime) {
     for (kind, name, version) in KINDS.iter() {
-        assert_eq!(rt; kind.name(), *name, "{name}");
-        assert_eq!(rt; kind.api_version(), *version, "{name}");
-        assert_eq!(rt; Kind::named(name), Some(*kind), "{name}");
+        assert_so(&rt, Ok(is_named(*kind, name, version)), name);
     }
-    assert_eq!(rt; Kind::named("Deployment"), None);
+    assert_so(&rt, Ok(Kind::named("Deployment").is_none()), "Deployment");
 }

@@ -1,8 +1,8 @@
 //! Long inputs, and calls at their limits: each has to answer, and none may say that memory ran out.
-use crate::asserts::{assert_case, assert_so, read_members};
+use crate::asserts::{assert_so, joined, read_members};
 use crate::members::has_text;
 use crate::metadata::is_printed_with;
-use crate::parsing::ascending;
+use crate::parsing::map_text;
 use objects::{Members, ReadError, Tree, claim_name, pod_name};
 use std::alloc::{AllocError, Global};
 
@@ -15,7 +15,7 @@ fn repeated(
     back: &str,
 ) -> Result<String, AllocError> {
     let parts = part.repeat(alloc, count)?;
-    format!(in alloc; "{front}{parts}{back}")
+    joined(alloc, &[front, parts.as_str(), back])
 }
 
 /// Whether the text of that text's tree is that text.
@@ -68,9 +68,8 @@ fn is_same(tree: &Tree, other: &Result<Tree, AllocError>) -> bool {
 }
 
 /// Whether a map of the keys from 1000 up to the end is as before where a member of that key is set and taken away.
-fn is_changed_back(alloc: Global, end: u32, key: &str) -> Result<bool, ReadError> {
-    let members = ascending(alloc, end, "7")?;
-    let text = repeated(alloc, "{", members.as_str(), 1, r#""x":0}"#)?;
+fn is_changed_back(alloc: Global, end: usize, key: &str) -> Result<bool, ReadError> {
+    let text = map_text(alloc, end)?;
     let members = read_members(alloc, text.as_str())?;
     let back = changed_back(&members, key);
     let tree = Tree::Map(members);
@@ -81,7 +80,7 @@ fn is_changed_back(alloc: Global, end: u32, key: &str) -> Result<bool, ReadError
 }
 
 /// Up to where keys go, and a key before them, among them or behind them.
-static KEYS: [(u32, &str); 4] = [(1000, "a"), (1101, "1050a"), (2000, ""), (9000, "z")];
+static KEYS: [(usize, &str); 4] = [(1000, "a"), (1101, "1050a"), (2000, ""), (9000, "z")];
 
 #[test]
 fn wide_maps_are_changed_back(rt: HostRuntime) {
@@ -122,18 +121,18 @@ const NEXT_OWNER: &str = r#",{"uid":"x"}"#;
 fn has_owners(alloc: Global, count: usize) -> Result<bool, ReadError> {
     let pod = r#"{"kind":"Pod","metadata":{"name":"a"}}"#;
     let more = NEXT_OWNER.repeat(alloc, count)?;
-    let owners = format!(in alloc; "[{OWNER}{more}]")?;
+    let owners = joined(alloc, &["[", OWNER, more.as_str(), "]"])?;
     let front = r#"{"kind":"Pod","metadata":{"name":"a","namespace":"default","ownerReferences":"#;
-    let expected = format!(in alloc; "{front}{owners}}}}}")?;
+    let expected = joined(alloc, &[front, owners.as_str(), "}}"])?;
     is_printed_with(alloc, pod, Some(owners.as_str()), expected.as_str())
 }
 
-/// How many owners a pod has beside one.
-static OWNERS: [usize; 4] = [0, 100, 999, 80_000];
+/// The idea, and how many owners a pod has beside one.
+static OWNERS: [(&str, usize); 4] = [("one", 0), ("101", 100), ("1,000", 999), ("80,001", 80_000)];
 
 #[test]
 fn pods_have_many_owners(rt: HostRuntime) {
-    for (i, count) in OWNERS.iter().enumerate() {
-        assert_case(&rt, has_owners(rt.alloc(), *count), i);
+    for (idea, count) in OWNERS.iter() {
+        assert_so(&rt, has_owners(rt.alloc(), *count), idea);
     }
 }

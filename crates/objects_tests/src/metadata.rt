@@ -2,7 +2,6 @@
 use crate::asserts::{assert_so, is_printed, read, read_some};
 use objects::{Key, Kind, Object, ReadError, Tree, are_owners, are_texts, read_tree, shard_of};
 use std::alloc::Global;
-use std::process::Abort;
 
 /// An object, the name of a label, and the text of that label.
 static LABELS: [(&str, &str, Option<&str>); 9] = [
@@ -234,32 +233,43 @@ fn owners_have_uids_and_labels_are_texts(rt: HostRuntime) {
     }
 }
 
-/// A key, how many shards there are, and which one keeps its object. The bytes of `Pod/default/a` sum to 1223: 291 of
-/// `Pod`, 741 of `default`, 97 of `a`, and 47 of each `/`. Those of `StatefulSet` sum to 1140.
-static SHARDS: [(Kind, &str, &str, usize, usize); 9] = [
-    (Kind::Pod, "default", "a", 1, 0),
-    (Kind::Pod, "default", "a", 2, 1),
-    (Kind::Pod, "default", "a", 8, 7),
-    (Kind::Pod, "default", "a", 1223, 0),
-    (Kind::Pod, "default", "a", 1224, 1223),
-    (Kind::Pod, "default", "b", 2, 0),
-    (Kind::Pod, "default", "b", 8, 0),
-    (Kind::Pod, "default", "b", 1223, 1),
-    (Kind::StatefulSet, "default", "a", 10_000, 2072),
+/// The idea, the kind and the name of a key, how many shards there are, and which one keeps its object. The bytes of
+/// `Pod/default/a` sum to 1223: 291 of `Pod`, 741 of `default`, 97 of `a`, and 47 of each `/`. Those of `StatefulSet` sum
+/// to 1140.
+static SHARDS: [(&str, Kind, &str, usize, usize); 9] = [
+    ("a of 1", Kind::Pod, "a", 1, 0),
+    ("a of 2", Kind::Pod, "a", 2, 1),
+    ("a of 8", Kind::Pod, "a", 8, 7),
+    ("a of 1223", Kind::Pod, "a", 1223, 0),
+    ("a of 1224", Kind::Pod, "a", 1224, 1223),
+    ("b of 2", Kind::Pod, "b", 2, 0),
+    ("b of 8", Kind::Pod, "b", 8, 0),
+    ("b of 1223", Kind::Pod, "b", 1223, 1),
+    ("a set of 10000", Kind::StatefulSet, "a", 10_000, 2072),
 ];
 
-/// Asserts which shard keeps the object of the key.
-fn assert_kept(rt: &impl Abort, key: &Key, shards: usize, expected: usize) {
-    assert!(rt; shards > 0);
-    assert_eq!(rt; shard_of(key, shards), expected, "of {shards}");
+fn keeps(key: &Key, shards: usize, expected: usize) -> bool {
+    shards > 0 && shard_of(key, shards) == expected
+}
+
+/// Whether that shard keeps the object of that kind and name in `default`.
+fn is_kept(
+    alloc: Global,
+    kind: Kind,
+    name: &str,
+    shards: usize,
+    expected: usize,
+) -> Result<bool, ReadError> {
+    let key = Key::of(alloc, kind, "default", name)?;
+    let is_so = keeps(&key, shards, expected);
+    drop(key);
+    Ok(is_so)
 }
 
 #[test]
 fn shards_are_by_kind_namespace_and_name(rt: HostRuntime) {
-    for (kind, namespace, name, shards, expected) in SHARDS.iter() {
-        match Key::of(rt.alloc(), *kind, namespace, name) {
-            Ok(key) => assert_kept(&rt, &key, *shards, *expected),
-            Err(error) => panic!(rt; "{error:?}"),
-        }
+    for (idea, kind, name, shards, expected) in SHARDS.iter() {
+        let answer = is_kept(rt.alloc(), *kind, name, *shards, *expected);
+        assert_so(&rt, answer, idea);
     }
 }

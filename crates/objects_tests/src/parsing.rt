@@ -1,5 +1,5 @@
 //! JSON texts that are read as trees: floats, keys that come twice, wide maps and deep ones.
-use crate::asserts::{assert_case, assert_so};
+use crate::asserts::{assert_so, joined};
 use json::Writer;
 use objects::{ReadError, Tree, read_tree, write_tree};
 use std::alloc::{AllocError, Global};
@@ -70,76 +70,127 @@ static TREES: [(&str, Result<&str, ReadError>); 26] = [
 #[test]
 fn trees_are_read(rt: HostRuntime) {
     for (text, expected) in TREES.iter() {
-        assert!(rt; comes_to(rt.alloc(), text, *expected), "of {text}");
+        assert_so(&rt, Ok(comes_to(rt.alloc(), text, *expected)), text);
     }
 }
 
-/// Members with that value, their keys from 1000 up to the end.
-pub(crate) fn ascending(alloc: Global, end: u32, value: &str) -> Result<String, AllocError> {
-    let mut text = String::new(alloc);
-    for key in 1000..end {
-        let member = format!(in alloc; "\"{key}\":{value},")?;
-        text.push_str(member.as_str())?;
+static DIGITS: [&str; 10] = ["0", "1", "2", "3", "4", "5", "6", "7", "8", "9"];
+
+/// The last digit of a number.
+fn last_digit(number: usize) -> &'static str {
+    match DIGITS.get(number % 10) {
+        Some(digit) => digit,
+        None => "",
     }
-    Ok(text)
+}
+
+/// Puts a member behind the text: a key of four digits, that value, and a comma.
+fn push_member(text: &mut String, key: usize, value: &str) -> Result<(), AllocError> {
+    text.push_str("\"")?;
+    for rest in [key / 1000, key / 100, key / 10, key] {
+        text.push_str(last_digit(rest))?;
+    }
+    text.push_str("\":")?;
+    text.push_str(value)?;
+    text.push_str(",")
+}
+
+/// Puts members of that value behind the text, their keys from 1000 up to the end.
+fn push_ascending(text: &mut String, end: usize, value: &str) -> Result<(), AllocError> {
+    for key in 1000..end {
+        push_member(text, key, value)?;
+    }
+    Ok(())
 }
 
 /// The same members, from the end down.
-fn descending(alloc: Global, end: u32, value: &str) -> Result<String, AllocError> {
-    let mut text = String::new(alloc);
+fn push_descending(text: &mut String, end: usize, value: &str) -> Result<(), AllocError> {
     for key in (1000..end).rev() {
-        let member = format!(in alloc; "\"{key}\":{value},")?;
-        text.push_str(member.as_str())?;
+        push_member(text, key, value)?;
     }
+    Ok(())
+}
+
+/// A map of the keys up to the end and `x`, in their order.
+pub(crate) fn map_text(alloc: Global, end: usize) -> Result<String, AllocError> {
+    let mut text = String::from_str(alloc, "{")?;
+    push_ascending(&mut text, end, "7")?;
+    text.push_str(r#""x":0}"#)?;
     Ok(text)
 }
 
-/// Whether a map with that front and `x` comes to that.
-fn ends_as(
-    alloc: Global,
-    front: &str,
-    expected: Result<&str, ReadError>,
-) -> Result<bool, ReadError> {
-    let text = format!(in alloc; "{{{front}\"x\":0}}")?;
-    Ok(comes_to(alloc, text.as_str(), expected))
+/// Whether the text comes to that map.
+fn comes_to_map(alloc: Global, text: &str, end: usize) -> Result<bool, ReadError> {
+    let expected = map_text(alloc, end)?;
+    Ok(comes_to(alloc, text, Ok(expected.as_str())))
 }
 
-/// Whether a map of so many keys and `x` is the same in any order, and with each key twice.
-fn is_read_in_order(alloc: Global, end: u32) -> Result<bool, ReadError> {
-    let up = ascending(alloc, end, "7")?;
-    let down = descending(alloc, end, "7")?;
-    let floats = ascending(alloc, end, "1.5")?;
-    let turned = format!(in alloc; "\"x\":0,{down}")?;
-    let twice = format!(in alloc; "{floats}{down}")?;
-    let undone = format!(in alloc; "{down}{floats}")?;
-    let expected = format!(in alloc; "{{{up}\"x\":0}}")?;
-    let expected = Ok(expected.as_str());
-    Ok(
-        ends_as(alloc, up.as_str(), expected)?
-            && ends_as(alloc, turned.as_str(), expected)?
-            && ends_as(alloc, twice.as_str(), expected)?
-            && ends_as(alloc, undone.as_str(), Err(ReadError::NotWhole))?,
-    )
+fn is_read_in_order(alloc: Global, end: usize) -> Result<bool, ReadError> {
+    let text = map_text(alloc, end)?;
+    comes_to_map(alloc, text.as_str(), end)
+}
+
+fn is_read_in_the_other_order(alloc: Global, end: usize) -> Result<bool, ReadError> {
+    let mut text = String::from_str(alloc, r#"{"x":0,"#)?;
+    push_descending(&mut text, end, "7")?;
+    text.push_str(r#""x":0}"#)?;
+    comes_to_map(alloc, text.as_str(), end)
+}
+
+/// Whether each key counts with its last value, where the first is no whole number.
+fn is_read_by_its_last(alloc: Global, end: usize) -> Result<bool, ReadError> {
+    let mut text = String::from_str(alloc, "{")?;
+    push_ascending(&mut text, end, "1.5")?;
+    push_descending(&mut text, end, "7")?;
+    text.push_str(r#""x":0}"#)?;
+    comes_to_map(alloc, text.as_str(), end)
+}
+
+/// Whether it is refused for its last value, where that is no whole number.
+fn is_refused_for_its_last(alloc: Global, end: usize) -> Result<bool, ReadError> {
+    let mut text = String::from_str(alloc, "{")?;
+    push_descending(&mut text, end, "7")?;
+    push_ascending(&mut text, end, "1.5")?;
+    text.push_str(r#""x":0}"#)?;
+    Ok(comes_to(alloc, text.as_str(), Err(ReadError::NotWhole)))
 }
 
 /// The ends of keys that are few, as many as few, and more.
-static ENDS: [u32; 7] = [1001, 1002, 1015, 1016, 1017, 1018, 1300];
+static ENDS: [(&str, usize); 7] = [
+    ("1 key", 1001),
+    ("2 keys", 1002),
+    ("15 keys", 1015),
+    ("16 keys", 1016),
+    ("17 keys", 1017),
+    ("18 keys", 1018),
+    ("300 keys", 1300),
+];
 
 #[test]
 fn keys_come_in_any_order(rt: HostRuntime) {
-    for (i, end) in ENDS.iter().enumerate() {
-        assert_case(&rt, is_read_in_order(rt.alloc(), *end), i);
+    for (idea, end) in ENDS.iter() {
+        assert_so(&rt, is_read_in_order(rt.alloc(), *end), idea);
+        assert_so(&rt, is_read_in_the_other_order(rt.alloc(), *end), idea);
+        assert_so(&rt, is_read_by_its_last(rt.alloc(), *end), idea);
+        assert_so(&rt, is_refused_for_its_last(rt.alloc(), *end), idea);
     }
 }
 
-/// How many lists or maps are one in the other, how each begins and ends, and whether a text may have them.
-static DEPTHS: [(usize, &str, &str, bool); 5] = [
-    (127, "[", "]", true),
-    (127, r#"{"a":"#, "}", true),
-    (128, "[", "]", false),
-    (128, r#"{"a":"#, "}", false),
-    (150_000, r#"{"a":"#, "}", false),
+/// The idea, how many lists or maps are one in the other, how each begins and ends, and whether a text may have them.
+static DEPTHS: [(&str, usize, &str, &str, bool); 5] = [
+    ("127 lists", 127, "[", "]", true),
+    ("127 maps", 127, r#"{"a":"#, "}", true),
+    ("128 lists", 128, "[", "]", false),
+    ("128 maps", 128, r#"{"a":"#, "}", false),
+    ("150,000 maps", 150_000, r#"{"a":"#, "}", false),
 ];
+
+/// A number in that many lists or maps.
+fn nested(alloc: Global, levels: usize, parts: (&str, &str)) -> Result<String, AllocError> {
+    let opening = parts.0.repeat(alloc, levels)?;
+    let closing = parts.1.repeat(alloc, levels)?;
+    joined(alloc, &[opening.as_str(), "7", closing.as_str()])
+}
 
 /// Whether a number in that many lists or maps is read, or is no JSON.
 fn nests(
@@ -148,9 +199,7 @@ fn nests(
     parts: (&str, &str),
     expected: bool,
 ) -> Result<bool, ReadError> {
-    let opening = parts.0.repeat(alloc, levels)?;
-    let closing = parts.1.repeat(alloc, levels)?;
-    let text = format!(in alloc; "{opening}7{closing}")?;
+    let text = nested(alloc, levels, parts)?;
     if expected {
         Ok(comes_to(alloc, text.as_str(), Ok(text.as_str())))
     } else {
@@ -160,24 +209,24 @@ fn nests(
 
 #[test]
 fn trees_nest_so_deep(rt: HostRuntime) {
-    for (i, (levels, opening, closing, expected)) in DEPTHS.iter().enumerate() {
+    for (idea, levels, opening, closing, expected) in DEPTHS.iter() {
         let answer = nests(rt.alloc(), *levels, (*opening, *closing), *expected);
-        assert_case(&rt, answer, i);
+        assert_so(&rt, answer, idea);
     }
 }
 
-/// Bytes that are no text in UTF-8 (RFC 3629), in a text that is JSON else.
-static NOT_TEXTS: [&[u8]; 4] = [
-    b"\xff",
-    b"[\"\xc3\"]",
-    b"[\"\xed\xa0\x80\"]",
-    b"[\"\xc0\xaf\"]",
+/// The idea, and bytes that are no text in UTF-8 (RFC 3629), in a text that is JSON else.
+static NOT_TEXTS: [(&str, &[u8]); 4] = [
+    ("a byte that no text has", b"\xff"),
+    ("a beginning of a character", b"[\"\xc3\"]"),
+    ("half of a pair", b"[\"\xed\xa0\x80\"]"),
+    ("a character in too many bytes", b"[\"\xc0\xaf\"]"),
 ];
 
 #[test]
 fn trees_are_texts(rt: HostRuntime) {
-    for bytes in NOT_TEXTS.iter() {
+    for (idea, bytes) in NOT_TEXTS.iter() {
         let refused = printed(rt.alloc(), bytes).is_err_and(|error| error == ReadError::NotJson);
-        assert!(rt; refused, "of {bytes:?}");
+        assert_so(&rt, Ok(refused), idea);
     }
 }

@@ -1,5 +1,5 @@
 //! Printed objects: the text, the object that is read back from it, and copies.
-use crate::asserts::{assert_case, assert_so, is_printed, read};
+use crate::asserts::{assert_so, is_printed, joined, read};
 use objects::{Items, Object, Printed, Printer, ReadError, Text, Tree, TreeReader};
 use std::alloc::{AllocError, Global};
 use std::test::Fail;
@@ -35,7 +35,8 @@ fn is_printed_as(
     let object = printed.object(reader)?;
     let is_again = is_printed(alloc, &object, expected);
     drop(object);
-    Ok(printed.as_str() == expected && is_again?)
+    let is_text = printed.as_str() == expected;
+    Ok(is_again? && is_text)
 }
 
 /// The object as its text, by a printer that has printed before, or by none.
@@ -122,12 +123,6 @@ fn pod_of_status(alloc: Global, status: Tree) -> Result<Object, ReadError> {
     }
 }
 
-/// What is printed of a pod whose status has that text.
-fn pod_text(alloc: Global, status: &str) -> Result<String, AllocError> {
-    let front = r#"{"kind":"Pod","metadata":{"name":"a","namespace":"default"},"status":"#;
-    format!(in alloc; "{front}{status}}}")
-}
-
 /// That many lists, one in the other.
 fn nested(alloc: Global, lists: usize) -> Result<Tree, AllocError> {
     let mut tree = Tree::List(Items::of(alloc, Vec::new(alloc))?);
@@ -150,24 +145,31 @@ fn prints_status(
     is_printed_as(alloc, reader, &printed, expected)
 }
 
+/// What is printed of a pod whose status is so many lists, one in the other.
 fn deep_text(alloc: Global, lists: usize) -> Result<String, AllocError> {
     let opening = "[".repeat(alloc, lists)?;
     let closing = "]".repeat(alloc, lists)?;
-    let status = format!(in alloc; "{opening}{closing}")?;
-    pod_text(alloc, status.as_str())
+    let front = r#"{"kind":"Pod","metadata":{"name":"a","namespace":"default"},"status":"#;
+    joined(alloc, &[front, opening.as_str(), closing.as_str(), "}"])
 }
 
-/// How deep the lists of a status nest: a line nests at most 127 deep, but what a store makes of lines may nest deeper.
-static DEPTHS: [usize; 4] = [1, 126, 127, 1000];
+/// The idea, and how deep the lists of a status nest: a line nests at most 127 deep, but what a store makes of lines may
+/// nest deeper.
+static DEPTHS: [(&str, usize); 4] = [
+    ("a list", 1),
+    ("126 lists", 126),
+    ("127 lists", 127),
+    ("1,000 lists", 1000),
+];
 
 #[test]
 fn deep_objects_are_read_back(rt: HostRuntime) -> Result<(), Fail> {
     let mut reader = TreeReader::new(rt.alloc());
-    for (i, lists) in DEPTHS.iter().enumerate() {
+    for (idea, lists) in DEPTHS.iter() {
         let expected = deep_text(rt.alloc(), *lists)?;
         let status = nested(rt.alloc(), *lists)?;
         let answer = prints_status(rt.alloc(), &mut reader, status, expected.as_str());
-        assert_case(&rt, answer, i);
+        assert_so(&rt, answer, idea);
     }
     Ok(())
 }
@@ -176,28 +178,31 @@ fn letters(alloc: Global, count: usize) -> Result<Tree, AllocError> {
     Ok(Tree::Text(Text::from("a".repeat(alloc, count)?)))
 }
 
+/// What is printed of a pod whose status has so many letters.
 fn long_text(alloc: Global, count: usize) -> Result<String, AllocError> {
     let letters = "a".repeat(alloc, count)?;
-    let status = format!(in alloc; "\"{letters}\"")?;
-    pod_text(alloc, status.as_str())
+    let front = r#"{"kind":"Pod","metadata":{"name":"a","namespace":"default"},"status":""#;
+    joined(alloc, &[front, letters.as_str(), "\"}"])
 }
 
-/// How many letters a status has, and whether the pod may be a line: one of at most 1,048,576 bytes, 72 of them beside
-/// the letters.
-static LENGTHS: [(usize, bool); 3] = [(1_048_504, true), (1_048_505, false), (2_000_000, false)];
+/// The idea, how many letters a status has, and whether the pod may be a line: one of at most 1,048,576 bytes, 72 of them
+/// beside the letters.
+static LENGTHS: [(&str, usize, bool); 3] = [
+    ("a line", 1_048_504, true),
+    ("a byte more", 1_048_505, false),
+    ("two lines", 2_000_000, false),
+];
 
 #[test]
 fn long_objects_are_read_back(rt: HostRuntime) -> Result<(), Fail> {
     let mut reader = TreeReader::new(rt.alloc());
-    for (i, (count, is_line)) in LENGTHS.iter().enumerate() {
+    for (idea, count, is_line) in LENGTHS.iter() {
         let expected = long_text(rt.alloc(), *count)?;
-        assert!(rt;
-            read(rt.alloc(), expected.as_str()).is_ok() == *is_line,
-            "case {i}"
-        );
+        let is_read = read(rt.alloc(), expected.as_str()).is_ok();
+        assert_so(&rt, Ok(is_read == *is_line), idea);
         let status = letters(rt.alloc(), *count)?;
         let answer = prints_status(rt.alloc(), &mut reader, status, expected.as_str());
-        assert_case(&rt, answer, i);
+        assert_so(&rt, answer, idea);
     }
     Ok(())
 }

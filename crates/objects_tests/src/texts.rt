@@ -1,7 +1,7 @@
 //! Texts that are objects, and texts that are none.
 mod tables;
 
-use crate::asserts::{assert_case, assert_so};
+use crate::asserts::{assert_so, joined};
 use objects::{ReadError, print_object, read_object};
 use std::alloc::{AllocError, Global};
 use std::test::Fail;
@@ -36,13 +36,11 @@ fn comes_to(alloc: Global, text: &str, expected: Result<&str, ReadError>) -> boo
 #[test]
 fn texts_are_read_and_printed(rt: HostRuntime) {
     for (text, expected) in TEXTS.iter() {
-        assert!(rt; comes_to(rt.alloc(), text, *expected), "of {text}");
+        assert_so(&rt, Ok(comes_to(rt.alloc(), text, *expected)), text);
     }
-    for bytes in NOT_UTF8.iter() {
-        assert!(rt;
-            is_refused(rt.alloc(), bytes, ReadError::NotJson),
-            "of {bytes:?}"
-        );
+    for (idea, bytes) in NOT_UTF8.iter() {
+        let is_refused = is_refused(rt.alloc(), bytes, ReadError::NotJson);
+        assert_so(&rt, Ok(is_refused), idea);
     }
 }
 
@@ -54,7 +52,7 @@ const BARE_POD: &str = r#"{"kind":"Pod","metadata":"#;
 
 /// The text of an object, as far as its last value, and that value.
 fn object_of(alloc: Global, front: &str, value: &str) -> Result<String, AllocError> {
-    format!(in alloc; "{front}{value}}}")
+    joined(alloc, &[front, value, "}"])
 }
 
 /// Whether a text with that last value comes to one with another, or to a refusal.
@@ -91,8 +89,17 @@ fn metadata_is_read_and_printed(rt: HostRuntime) {
 fn may_have(alloc: Global, kind: &str, name: usize, namespace: usize) -> Result<bool, ReadError> {
     let name = "a".repeat(alloc, name)?;
     let namespace = "a".repeat(alloc, namespace)?;
-    let text = format!(in alloc;
-        "{{\"kind\":\"{kind}\",\"metadata\":{{\"name\":\"{name}\",\"namespace\":\"{namespace}\"}}}}"
+    let text = joined(
+        alloc,
+        &[
+            r#"{"kind":""#,
+            kind,
+            r#"","metadata":{"name":""#,
+            name.as_str(),
+            r#"","namespace":""#,
+            namespace.as_str(),
+            r#""}}"#,
+        ],
     )?;
     match printed(alloc, text.as_bytes()) {
         Ok(_) => Ok(true),
@@ -101,17 +108,17 @@ fn may_have(alloc: Global, kind: &str, name: usize, namespace: usize) -> Result<
     }
 }
 
-/// How many bytes a name and a namespace have, and whether an object of the kind may have them.
-static LENGTHS: [(&str, usize, usize, bool); 9] = [
-    ("Pod", 253, 63, true),
-    ("Pod", 254, 63, false),
-    ("Pod", 253, 64, false),
-    ("PersistentVolumeClaim", 253, 1, true),
-    ("PersistentVolumeClaim", 254, 1, false),
-    ("ControllerRevision", 253, 1, true),
-    ("ControllerRevision", 254, 1, false),
-    ("StatefulSet", 63, 63, true),
-    ("StatefulSet", 64, 63, false),
+/// The idea, a kind, how many bytes a name and a namespace have, and whether an object of the kind may have them.
+static LENGTHS: [(&str, &str, usize, usize, bool); 9] = [
+    ("a pod of 253 and 63", "Pod", 253, 63, true),
+    ("a pod of 254 and 63", "Pod", 254, 63, false),
+    ("a pod of 253 and 64", "Pod", 253, 64, false),
+    ("a claim of 253", "PersistentVolumeClaim", 253, 1, true),
+    ("a claim of 254", "PersistentVolumeClaim", 254, 1, false),
+    ("a revision of 253", "ControllerRevision", 253, 1, true),
+    ("a revision of 254", "ControllerRevision", 254, 1, false),
+    ("a set of 63", "StatefulSet", 63, 63, true),
+    ("a set of 64", "StatefulSet", 64, 63, false),
 ];
 
 fn is_allowed(
@@ -125,23 +132,28 @@ fn is_allowed(
 
 #[test]
 fn names_have_so_many_bytes(rt: HostRuntime) {
-    for (i, (kind, name, namespace, expected)) in LENGTHS.iter().enumerate() {
+    for (idea, kind, name, namespace, expected) in LENGTHS.iter() {
         let answer = is_allowed(rt.alloc(), kind, (*name, *namespace), *expected);
-        assert_case(&rt, answer, i);
+        assert_so(&rt, answer, idea);
     }
-    let dotted = br#"{"kind":"StatefulSet","metadata":{"name":"a.b"}}"#;
-    assert!(rt; is_refused(rt.alloc(), dotted.as_slice(), ReadError::BadName));
+    let dotted = r#"{"kind":"StatefulSet","metadata":{"name":"a.b"}}"#;
+    let is_refused = is_refused(rt.alloc(), dotted.as_bytes(), ReadError::BadName);
+    assert_so(&rt, Ok(is_refused), dotted);
 }
 
 /// A pod with a member of that many lists, one in the other.
 fn nested(alloc: Global, lists: usize) -> Result<String, AllocError> {
     let opening = "[".repeat(alloc, lists)?;
     let closing = "]".repeat(alloc, lists)?;
-    format!(in alloc; "{POD}{opening}{closing}}}")
+    joined(alloc, &[POD, opening.as_str(), closing.as_str(), "}"])
 }
 
-/// How many lists nest, and whether a text may have them. The object itself is one level.
-static DEPTHS: [(usize, bool); 3] = [(126, true), (127, false), (100_000, false)];
+/// The idea, how many lists nest, and whether a text may have them. The object itself is one level.
+static DEPTHS: [(&str, usize, bool); 3] = [
+    ("126 lists", 126, true),
+    ("127 lists", 127, false),
+    ("100,000 lists", 100_000, false),
+];
 
 fn nests(alloc: Global, lists: usize, expected: bool) -> Result<bool, ReadError> {
     let text = nested(alloc, lists)?;
@@ -154,21 +166,31 @@ fn nests(alloc: Global, lists: usize, expected: bool) -> Result<bool, ReadError>
 
 #[test]
 fn texts_nest_so_deep(rt: HostRuntime) {
-    for (i, (lists, expected)) in DEPTHS.iter().enumerate() {
-        assert_case(&rt, nests(rt.alloc(), *lists, *expected), i);
+    for (idea, lists, expected) in DEPTHS.iter() {
+        assert_so(&rt, nests(rt.alloc(), *lists, *expected), idea);
     }
+}
+
+/// A pod of 60 bytes.
+static SHORT: &str = r#"{"kind":"Pod","metadata":{"name":"a","namespace":"default"}}"#;
+
+/// The pod behind so many spaces.
+fn behind_spaces(alloc: Global, spaces: usize) -> Result<String, AllocError> {
+    let mut text = " ".repeat(alloc, spaces)?;
+    text.push_str(SHORT)?;
+    Ok(text)
 }
 
 #[test]
 fn texts_are_so_long(rt: HostRuntime) -> Result<(), Fail> {
-    let pod = r#"{"kind":"Pod","metadata":{"name":"a","namespace":"default"}}"#;
-    assert_eq!(rt; pod.len(), 60);
-    let mut text = " ".repeat(rt.alloc(), 1_048_516)?;
-    text.push_str(pod)?;
-    assert!(rt; is_printed(rt.alloc(), text.as_str(), pod));
-    text.push_str(" ")?;
-    assert!(rt; is_refused(rt.alloc(), text.as_bytes(), ReadError::TooLong));
+    let longest = behind_spaces(rt.alloc(), 1_048_516)?;
+    let is_read = is_printed(rt.alloc(), longest.as_str(), SHORT);
+    assert_so(&rt, Ok(is_read && SHORT.len() == 60), "1,048,576 bytes");
+    let longer = behind_spaces(rt.alloc(), 1_048_517)?;
+    let is_too_long = is_refused(rt.alloc(), longer.as_bytes(), ReadError::TooLong);
+    assert_so(&rt, Ok(is_too_long), "a byte more");
     let brackets = "[".repeat(rt.alloc(), 1_048_577)?;
-    assert!(rt; is_refused(rt.alloc(), brackets.as_bytes(), ReadError::TooLong));
+    let is_too_long = is_refused(rt.alloc(), brackets.as_bytes(), ReadError::TooLong);
+    assert_so(&rt, Ok(is_too_long), "brackets");
     Ok(())
 }

@@ -475,11 +475,23 @@ pub(super) static METADATA: [(&str, Outcome); 75] = [
     ),
 ];
 
-/// Bytes that are not UTF-8 (RFC 3629).
-pub(super) static NOT_UTF8: [&[u8]; 5] = [
-    b"\xff",
-    b"{\"kind\":\"Pod\",\"metadata\":{\"name\":\"a\"},\"x\":\"\xff\"}",
-    b"{\"kind\":\"Pod\",\"metadata\":{\"name\":\"a\"},\"x\":\"\xc0\xaf\"}",
-    b"{\"kind\":\"Pod\",\"metadata\":{\"name\":\"a\"},\"x\":\"\xed\xa0\xbd\"}",
-    b"{\"kind\":\"Pod\",\"metadata\":{\"name\":\"a\"},\"x\":\"\xc3",
+/// The idea, and bytes that are not UTF-8 (RFC 3629).
+pub(super) static NOT_UTF8: [(&str, &[u8]); 5] = [
+    ("a byte that no text has", b"\xff"),
+    (
+        "the same in an object",
+        b"{\"kind\":\"Pod\",\"metadata\":{\"name\":\"a\"},\"x\":\"\xff\"}",
+    ),
+    (
+        "a character in too many bytes",
+        b"{\"kind\":\"Pod\",\"metadata\":{\"name\":\"a\"},\"x\":\"\xc0\xaf\"}",
+    ),
+    (
+        "half of a pair",
+        b"{\"kind\":\"Pod\",\"metadata\":{\"name\":\"a\"},\"x\":\"\xed\xa0\xbd\"}",
+    ),
+    (
+        "a beginning of a character",
+        b"{\"kind\":\"Pod\",\"metadata\":{\"name\":\"a\"},\"x\":\"\xc3",
+    ),
 ];
