@@ -29,6 +29,7 @@ use Rattle.store.specs.contracts.caller.Caller as Caller
 use Rattle.store.specs.contracts.ticket.Ticket as Ticket
 use Rattle.store.specs.contracts.store.Store as Store
 use Rattle.store.specs.declared.naming.Naming.{Ghosts}
+use Rattle.store.specs.declared.naming.Sharding.{Ghosts as Shares}
 
 Text-send : IsSend Text.the_row
 Text-send = search (sendable, crosses) depth 40
@@ -78,10 +79,10 @@ draft-send = search (Object-send, sendable, crosses) depth 40
 listing-send : IsSend (Listing.the_field).row
 listing-send = search (Object-send, sendable, crosses) depth 40
 
-reply-send : IsSend (Reply.the_field).row
+pub reply-send : IsSend (Reply.the_field).row
 reply-send = search (Object-send, listing-send, sendable, crosses) depth 40
 
-request-send : IsSend (Request.the_field).row
+pub request-send : IsSend (Request.the_field).row
 request-send = search (draft-send, key-send, Text-send, sendable, crosses) depth 40
 
 versions-send : IsSend (VersionMap.the_row Object.the_row)
@@ -96,16 +97,16 @@ seat-send = seat_send Writing.the_row
 caller-seat-send : IsSend (CallerSeat.the_row Writing.the_row)
 caller-seat-send = caller_seat_send Writing.the_row
 
-locked-send : (N : RattleType) (n : Ghosts N.Denot) → IsSend N → IsSend (Locked.the_row N n)
-locked-send N n sent = search (Shard-send, seat-send, sendable, crosses) depth 40
+locked-send : (H N : RattleType) (h : Shares H.Denot) (n : Ghosts N.Denot) → IsSend H → IsSend N → IsSend (Locked.the_row H N h n)
+locked-send H N h n held sent = search (Shard-send, seat-send, sendable, crosses) depth 40
 
 -- a caller and its tickets go with a thread
-pub caller-send : (N : RattleType) (n : Ghosts N.Denot) → IsSend N → IsSend (Caller.the_row N n)
-caller-send N n sent = search (caller-seat-send, sendable, crosses) depth 40
+pub caller-send : (H N : RattleType) (h : Shares H.Denot) (n : Ghosts N.Denot) → IsSend H → IsSend N → IsSend (Caller.the_row H N h n)
+caller-send H N h n held sent = search (caller-seat-send, sendable, crosses) depth 40
 
-pub ticket-send : (N : RattleType) (n : Ghosts N.Denot) → IsSend N → IsSend (Ticket.the_row N n)
-ticket-send N n sent = search (reply-send, request-send, sendable, crosses) depth 40
+pub ticket-send : (H N : RattleType) (h : Shares H.Denot) (n : Ghosts N.Denot) → IsSend H → IsSend N → IsSend (Ticket.the_row H N h n)
+ticket-send H N h n held sent = search (reply-send, request-send, sendable, crosses) depth 40
 
 -- threads may share a store
-pub store-sync : (N : RattleType) (n : Ghosts N.Denot) → IsSend N → IsSync (Store.the_row N n)
-store-sync N n sent = search (locked-send, caller-seat-send, line_sync, sendable, crosses) depth 40
+pub store-sync : (H N : RattleType) (h : Shares H.Denot) (n : Ghosts N.Denot) → IsSend H → IsSend N → IsSync (Store.the_row H N h n)
+store-sync H N h n held sent = search (locked-send, caller-seat-send, line_sync, sendable, crosses) depth 40

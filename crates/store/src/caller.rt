@@ -3,7 +3,7 @@ ghost use mathlib.Core.List.{IsPrefix};
 ghost use Rattle.store.specs.Callers.{HasRead, IsLine};
 ghost use Rattle.store.specs.Views.{HasLoaded};
 
-use crate::naming::Naming;
+use crate::naming::{Naming, Sharding};
 use crate::writing::{ByShards, Writing};
 use line::{CallerSeat, Line};
 use std::marker::{Model, PhantomData};
@@ -11,12 +11,12 @@ use std::marker::{Model, PhantomData};
 /// A caller of a store. It has seen a history of accepted writes, which each of its calls makes no shorter. Its calls are
 /// made one after another; different callers' go at once.
 #[derive(Drop)]
-pub struct Caller<N: Naming> {
+pub struct Caller<H: Sharding, N: Naming> {
     pub(crate) seat: Option<CallerSeat<Writing>>,
-    pub(crate) of: PhantomData<N>,
+    pub(crate) of: PhantomData<(H, N)>,
 }
 
-impl<N: Naming> Model for Caller<N> {
+impl<H: Sharding, N: Naming> Model for Caller<H, N> {
     ghost use Rattle.store.specs.Callers.{Caller};
     ghost use Rattle.store.specs.Views.{IsCaller, caller_by, view_or};
     ghost use Rattle.store.specs.Codes.{caller_coded};
@@ -27,12 +27,12 @@ impl<N: Naming> Model for Caller<N> {
 
     ghost view = { λ c. caller_by (view_or c.seat) };
 
-    ghost invariant = { λ c. IsCaller N.line N.shards c.seat };
+    ghost invariant = { λ c. IsCaller N.line H.shards c.seat };
 }
 
-impl<N: Naming> Caller<N> {
+impl<H: Sharding, N: Naming> Caller<H, N> {
     /// A new caller, which has seen what the seat has.
-    pub(crate) fn new(line: &Line<Writing, ByShards<N>>, seat: CallerSeat<Writing>) -> Caller<N>
+    pub(crate) fn new(line: &Line<Writing, ByShards<H>>, seat: CallerSeat<Writing>) -> Caller<H, N>
         requires line { IsLine N.line N.capacity line.now }
         requires seat { (seat.line ≡ N.line) × (seat.view.caller ≡ None) }
         ensures { (result.seen ≡ seat.view.seen) × (result.own_notes ≡ []) × (result.observations ≡ seat.view.observations) }
@@ -56,9 +56,9 @@ impl<N: Naming> Caller<N> {
     }
 
     /// Loads the frontier, once.
-    pub(crate) fn frontier(&mut self, line: &Line<Writing, ByShards<N>>) -> u64
+    pub(crate) fn frontier(&mut self, line: &Line<Writing, ByShards<H>>) -> u64
         requires { IsLine N.line N.capacity line.now }
-        ensures loaded { HasLoaded N.shards N.capacity self.old result self.new }
+        ensures loaded { HasLoaded H.shards N.capacity self.old result self.new }
         ensures reported { IsPrefix self.old.reported self.new.seen }
     {
         let Some(seat) = &mut self.seat else {
@@ -68,7 +68,7 @@ impl<N: Naming> Caller<N> {
     }
 
     /// Hears what another caller has seen.
-    fn hear(&mut self, line: &Line<Writing, ByShards<N>>, other: &mut Caller<N>)
+    fn hear(&mut self, line: &Line<Writing, ByShards<H>>, other: &mut Caller<H, N>)
         requires { IsLine N.line N.capacity line.now }
         ensures other { other.new ≡ other.old }
         ensures reported { self.new ≡ record self.old { reported = other.old.seen } }
@@ -83,9 +83,9 @@ impl<N: Naming> Caller<N> {
     }
 
     /// Raises the frontier by one, where the next number is filled, and loads it.
-    pub(crate) fn try_raise(&mut self, line: &Line<Writing, ByShards<N>>) -> u64
+    pub(crate) fn try_raise(&mut self, line: &Line<Writing, ByShards<H>>) -> u64
         requires { IsLine N.line N.capacity line.now }
-        ensures loaded { HasLoaded N.shards N.capacity self.old result self.new }
+        ensures loaded { HasLoaded H.shards N.capacity self.old result self.new }
         ensures tried { (length self.old.seen < N.capacity → self.new.tries ≡ self.old.tries + 1) × (length self.old.seen ≡ N.capacity → self.new.tries ≡ self.old.tries) }
     {
         let Some(seat) = &mut self.seat else {
@@ -97,10 +97,10 @@ impl<N: Naming> Caller<N> {
 }
 
 /// Each of the two loads the frontier; what the first has seen then begins what the second has seen.
-pub(crate) fn meet<N: Naming>(
-    line: &Line<Writing, ByShards<N>>,
-    first: &mut Caller<N>,
-    second: &mut Caller<N>,
+pub(crate) fn meet<H: Sharding, N: Naming>(
+    line: &Line<Writing, ByShards<H>>,
+    first: &mut Caller<H, N>,
+    second: &mut Caller<H, N>,
 )
     requires { IsLine N.line N.capacity line.now }
     ensures first { HasRead N.capacity first.old first.new }

@@ -4,7 +4,7 @@ ghost use Rattle.store.specs.declared.error.StoreError.TheVariants.{TooManyCalle
 
 use crate::caller::Caller;
 use crate::error::StoreError;
-use crate::naming::Naming;
+use crate::naming::{Naming, Sharding};
 use crate::writing::{ByShards, Writing};
 use line::{CallerSeat, Line};
 use std::marker::{Model, PhantomData};
@@ -14,13 +14,13 @@ pub(crate) const MAX_CALLERS: u64 = 4096;
 
 /// How many callers were made, and the seat that the next one is cut off.
 #[derive(Drop)]
-pub(crate) struct Callers<N: Naming> {
+pub(crate) struct Callers<H: Sharding, N: Naming> {
     seat: CallerSeat<Writing>,
     count: u64,
-    of: PhantomData<N>,
+    of: PhantomData<(H, N)>,
 }
 
-impl<N: Naming> Model for Callers<N> {
+impl<H: Sharding, N: Naming> Model for Callers<H, N> {
     ghost use Rattle.std.specs.Prelude.{◌≡◌, ◌≤◌, ℕ};
     ghost use Rattle.store.specs.Callers.{most_callers};
 
@@ -31,8 +31,8 @@ impl<N: Naming> Model for Callers<N> {
     ghost invariant = { λ c. (c.seat.line ≡ N.line) × (c.count ≤ most_callers) };
 }
 
-impl<N: Naming> Callers<N> {
-    pub(crate) fn none(seat: CallerSeat<Writing>) -> Callers<N>
+impl<H: Sharding, N: Naming> Callers<H, N> {
+    pub(crate) fn none(seat: CallerSeat<Writing>) -> Callers<H, N>
         requires { seat.line ≡ N.line }
         ensures { result ≡ 0 }
     {
@@ -46,8 +46,8 @@ impl<N: Naming> Callers<N> {
     /// One more caller, or TooManyCallers where there are 4,096.
     pub(crate) fn next(
         &mut self,
-        line: &Line<Writing, ByShards<N>>,
-    ) -> Result<Caller<N>, StoreError>
+        line: &Line<Writing, ByShards<H>>,
+    ) -> Result<Caller<H, N>, StoreError>
         requires { IsLine N.line N.capacity line.now }
         ensures counted { OnOk result (self.new ≡ self.old + 1) }
         ensures refused { OnErr result (self.new ≡ self.old) }

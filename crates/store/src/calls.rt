@@ -19,7 +19,7 @@ use crate::caller::Caller;
 use crate::gate::Gate;
 use crate::gathered::Gathered;
 use crate::locked::Locked;
-use crate::naming::Naming;
+use crate::naming::{Naming, Sharding};
 use crate::ticket::Ticket;
 use crate::writing::{ByShards, Writing};
 use line::Line;
@@ -29,21 +29,21 @@ use std::alloc::Global;
 use std::sync::{Mutex, Wait};
 
 /// Hands in a create, an update, a status request or a delete. It does not return where the lock has another shard.
-pub(crate) fn submit<N: Naming, G: Gate>(
+pub(crate) fn submit<H: Sharding, N: Naming, G: Gate>(
     rt: &impl Wait,
-    line: &Line<Writing, ByShards<N>>,
-    shard: &Mutex<Locked<N>>,
+    line: &Line<Writing, ByShards<H>>,
+    shard: &Mutex<Locked<H, N>>,
     index: u64,
-    caller: &mut Caller<N>,
+    caller: &mut Caller<H, N>,
     request: Request,
     gate: &G,
-) -> Result<Ticket<N>, Memory>
+) -> Result<Ticket<H, N>, Memory>
     requires line { IsLine N.line N.capacity line.now }
     requires write { is_write request ≡ true }
-    requires key { (k : Key) → key_named request ≡ Some k → shard_of k N.shards ≡ index }
+    requires key { (k : Key) → key_named request ≡ Some k → shard_of k H.shards ≡ index }
     ensures begins { IsPrefix caller.old.seen caller.new.seen }
     ensures loaded { caller.new.loads ≡ caller.old.loads + 1 }
-    ensures ticket { IfOk result (λ t. IsTicketOf N.shards N.capacity t caller.new × (t.request ≡ request) × (t.since ≡ length caller.old.seen) × IsSome t.reply) }
+    ensures ticket { IfOk result (λ t. IsTicketOf H.shards N.capacity t caller.new × (t.request ≡ request) × (t.since ≡ length caller.old.seen) × IsSome t.reply) }
     ensures own { IfOk result (λ t. WritesOwn caller.old t caller.new) }
     ensures memory { OnErr result (GoesOn caller.old caller.new) }
 {
@@ -57,16 +57,16 @@ pub(crate) fn submit<N: Naming, G: Gate>(
 
 /// What a get is answered, at a frontier that the caller has then seen. Where the shard can't be read there any more, the
 /// frontier is loaded once more.
-pub(crate) fn get<N: Naming, W: Wait>(
+pub(crate) fn get<H: Sharding, N: Naming, W: Wait>(
     rt: &W,
-    line: &Line<Writing, ByShards<N>>,
-    shard: &Mutex<Locked<N>>,
+    line: &Line<Writing, ByShards<H>>,
+    shard: &Mutex<Locked<H, N>>,
     index: u64,
-    caller: &mut Caller<N>,
+    caller: &mut Caller<H, N>,
     key: &Key,
 ) -> Result<Reply, Memory>
     requires line { IsLine N.line N.capacity line.now }
-    requires key { shard_of key.now N.shards ≡ index }
+    requires key { shard_of key.now H.shards ≡ index }
     ensures read { HasRead N.capacity caller.old caller.new }
     ensures reply { IfOk result (λ reply. reply ≡ (step (store_after N.capacity caller.new.seen) (Get key.now)).1) }
 {
@@ -83,16 +83,16 @@ pub(crate) fn get<N: Naming, W: Wait>(
 
 /// The same at the frontier that the caller has seen, or nothing where the shard can't be read there any more. It does not
 /// return where the lock has another shard.
-fn read<N: Naming, W: Wait>(
+fn read<H: Sharding, N: Naming, W: Wait>(
     rt: &W,
-    line: &Line<Writing, ByShards<N>>,
-    shard: &Mutex<Locked<N>>,
+    line: &Line<Writing, ByShards<H>>,
+    shard: &Mutex<Locked<H, N>>,
     index: u64,
-    caller: &mut Caller<N>,
+    caller: &mut Caller<H, N>,
     key: &Key,
 ) -> Result<Option<Reply>, Memory>
     requires line { IsLine N.line N.capacity line.now }
-    requires key { shard_of key.now N.shards ≡ index }
+    requires key { shard_of key.now H.shards ≡ index }
     ensures stays { Stays caller.old caller.new }
     ensures reply { IfOk result (λ found. IfSome found (λ reply. reply ≡ (step (store_after N.capacity caller.new.seen) (Get key.now)).1)) }
 {
@@ -112,17 +112,17 @@ fn read<N: Naming, W: Wait>(
 
 /// What a list is answered, at one frontier, which the caller has then seen. Where a shard can't be read there any more,
 /// the frontier is loaded once more.
-pub(crate) fn list<N: Naming, W: Wait>(
+pub(crate) fn list<H: Sharding, N: Naming, W: Wait>(
     rt: &W,
     alloc: Global,
-    line: &Line<Writing, ByShards<N>>,
-    shards: &[Mutex<Locked<N>>],
-    caller: &mut Caller<N>,
+    line: &Line<Writing, ByShards<H>>,
+    shards: &[Mutex<Locked<H, N>>],
+    caller: &mut Caller<H, N>,
     kind: Kind,
     namespace: &Text,
 ) -> Result<Reply, Memory>
     requires line { IsLine N.line N.capacity line.now }
-    requires shards { (length shards.now ≡ N.shards) × (0 < N.shards) }
+    requires shards { (length shards.now ≡ H.shards) × (0 < H.shards) }
     ensures read { HasRead N.capacity caller.old caller.new }
     ensures reply { IfOk result (λ reply. reply ≡ (step (store_after N.capacity caller.new.seen) (request.List kind namespace.now 0)).1) }
 {
@@ -148,18 +148,18 @@ pub(crate) fn listed(objects: Vec<Object>, number: u64) -> Reply
 
 /// What all shards have of a kind in a namespace at a number up to which the caller has seen all, in the order of the keys;
 /// nothing where a shard can't be read there any more.
-pub(crate) fn gather<N: Naming, W: Wait>(
+pub(crate) fn gather<H: Sharding, N: Naming, W: Wait>(
     rt: &W,
     alloc: Global,
-    line: &Line<Writing, ByShards<N>>,
-    shards: &[Mutex<Locked<N>>],
-    caller: &mut Caller<N>,
+    line: &Line<Writing, ByShards<H>>,
+    shards: &[Mutex<Locked<H, N>>],
+    caller: &mut Caller<H, N>,
     kind: Kind,
     namespace: &Text,
     number: u64,
 ) -> Result<Option<Vec<Object>>, Memory>
     requires line { IsLine N.line N.capacity line.now }
-    requires shards { (length shards.now ≡ N.shards) × (0 < N.shards) }
+    requires shards { (length shards.now ≡ H.shards) × (0 < H.shards) }
     requires number { number ≤ length caller.old.seen }
     ensures stays { Stays caller.old caller.new }
     ensures objects { IfOk result (λ found. IfSome found (λ objects. objects.items ≡ collection (store_after N.capacity (take number caller.new.seen)).objects kind namespace.now)) }
@@ -186,12 +186,12 @@ pub(crate) fn gather<N: Naming, W: Wait>(
 
 /// The part of one shard, or nothing where it can't be read there any more. It does not return where the lock has another
 /// shard.
-fn part<N: Naming, W: Wait>(
+fn part<H: Sharding, N: Naming, W: Wait>(
     rt: &W,
-    line: &Line<Writing, ByShards<N>>,
-    shard: &Mutex<Locked<N>>,
+    line: &Line<Writing, ByShards<H>>,
+    shard: &Mutex<Locked<H, N>>,
     index: usize,
-    caller: &mut Caller<N>,
+    caller: &mut Caller<H, N>,
     kind: Kind,
     namespace: &Text,
     number: u64,
@@ -199,7 +199,7 @@ fn part<N: Naming, W: Wait>(
     requires line { IsLine N.line N.capacity line.now }
     requires number { number ≤ length caller.old.seen }
     ensures stays { Stays caller.old caller.new }
-    ensures part { IfOk result (λ found. IfSome found (λ objects. objects.items ≡ collection (part_of (store_after N.capacity (take number caller.new.seen)).objects N.shards index) kind namespace.now)) }
+    ensures part { IfOk result (λ found. IfSome found (λ objects. objects.items ≡ collection (part_of (store_after N.capacity (take number caller.new.seen)).objects H.shards index) kind namespace.now)) }
 {
     let mut locked = shard.lock(rt);
     if locked.index() != index as u64 {

@@ -5,7 +5,7 @@ ghost use Rattle.store.specs.Callers.{IsLine};
 ghost use Rattle.store.specs.Views.{HasLoaded};
 
 use crate::caller::Caller;
-use crate::naming::Naming;
+use crate::naming::{Naming, Sharding};
 use crate::writing::{ByShards, Writing};
 use line::Line;
 use requests::Reason;
@@ -33,14 +33,14 @@ impl Floor {
     }
 
     /// Why a number can't be read: it is above the frontier, which the caller loads here, or else it is below the floor.
-    pub(crate) fn denied<N: Naming>(
+    pub(crate) fn denied<H: Sharding, N: Naming>(
         &self,
-        line: &Line<Writing, ByShards<N>>,
-        caller: &mut Caller<N>,
+        line: &Line<Writing, ByShards<H>>,
+        caller: &mut Caller<H, N>,
         number: u64,
     ) -> Option<Reason>
         requires { IsLine N.line N.capacity line.now }
-        ensures loaded { HasLoaded N.shards N.capacity caller.old (length caller.new.seen) caller.new }
+        ensures loaded { HasLoaded H.shards N.capacity caller.old (length caller.new.seen) caller.new }
         ensures denied { result ≡ denied self.now (length caller.new.seen) number }
     {
         let frontier = caller.frontier(line);
@@ -48,14 +48,14 @@ impl Floor {
     }
 
     /// Raises the floor to a number, or answers why it can't be raised to it, by the frontier that the caller loads here.
-    pub(crate) fn raise<N: Naming>(
+    pub(crate) fn raise<H: Sharding, N: Naming>(
         &mut self,
-        line: &Line<Writing, ByShards<N>>,
-        caller: &mut Caller<N>,
+        line: &Line<Writing, ByShards<H>>,
+        caller: &mut Caller<H, N>,
         number: u64,
     ) -> Option<Reason>
         requires { IsLine N.line N.capacity line.now }
-        ensures loaded { HasLoaded N.shards N.capacity caller.old (length caller.new.seen) caller.new }
+        ensures loaded { HasLoaded H.shards N.capacity caller.old (length caller.new.seen) caller.new }
         ensures denied { result ≡ denied self.old (length caller.new.seen) number }
         ensures raised { self.new ≡ floor_after self.old number result }
     {

@@ -26,7 +26,7 @@ pub use error::StoreError;
 pub use gate::{Gate, NoGate};
 pub use laws::tickets_stay_their_callers;
 pub use locked::Locked;
-pub use naming::Naming;
+pub use naming::{Naming, Sharding};
 pub use sharing::threads_may_share;
 pub use store::Store;
 pub use ticket::Ticket;

@@ -18,7 +18,7 @@ ghost use Rattle.store.specs.Views.{HasObserved, Stays, WritesNotes};
 
 use crate::caller::Caller;
 use crate::gate::Gate;
-use crate::naming::Naming;
+use crate::naming::{Naming, Sharding};
 use crate::ticket::Ticket;
 use crate::write_steps::hand_in;
 use crate::writing::{ByShards, Writing};
@@ -36,14 +36,14 @@ use versions::Shard;
 /// number above the floor has its record; from the floor on the records read as the notes say, and so does each key's newest
 /// record.
 #[derive(Drop)]
-pub struct Locked<N: Naming> {
+pub struct Locked<H: Sharding, N: Naming> {
     seat: ShardSeat<Writing>,
     shard: Shard,
     index: u64,
-    of: PhantomData<N>,
+    of: PhantomData<(H, N)>,
 }
 
-impl<N: Naming> Model for Locked<N> {
+impl<H: Sharding, N: Naming> Model for Locked<H, N> {
     ghost use Rattle.std.specs.Prelude.{◌≡◌, Some, None};
     ghost use Rattle.store.specs.Rule.{AgreesWith, Locked};
     ghost use Rattle.store.specs.Codes.{locked_coded};
@@ -58,9 +58,9 @@ impl<N: Naming> Model for Locked<N> {
         × AgreesWith l.shard l.seat.view };
 }
 
-impl<N: Naming> Locked<N> {
+impl<H: Sharding, N: Naming> Locked<H, N> {
     /// A shard with no writes, over a seat that has drawn nothing.
-    pub fn new(alloc: Global, seat: ShardSeat<Writing>, index: u64) -> Locked<N>
+    pub fn new(alloc: Global, seat: ShardSeat<Writing>, index: u64) -> Locked<H, N>
         requires { (seat.line ≡ N.line) × (seat.view.shard ≡ Some index) × (seat.view.caller ≡ None) × (seat.view.plain.pending ≡ None) × (seat.view.notes ≡ []) × (seat.view.plain.filled ≡ []) }
         ensures { (result.index ≡ index) × (result.notes ≡ []) × (result.shard ≡ opening) }
     {
@@ -89,8 +89,8 @@ impl<N: Naming> Locked<N> {
     /// Raises the floor of the shard to a number that the caller has seen the frontier reach.
     pub(crate) fn compact(
         &mut self,
-        line: &Line<Writing, ByShards<N>>,
-        caller: &mut Caller<N>,
+        line: &Line<Writing, ByShards<H>>,
+        caller: &mut Caller<H, N>,
         number: u64,
     )
         requires line { IsLine N.line N.capacity line.now }
@@ -110,11 +110,11 @@ impl<N: Naming> Locked<N> {
     }
 
     /// The caller notes what the shard has.
-    fn note(&mut self, line: &Line<Writing, ByShards<N>>, caller: &mut Caller<N>)
+    fn note(&mut self, line: &Line<Writing, ByShards<H>>, caller: &mut Caller<H, N>)
         requires line { IsLine N.line N.capacity line.now }
         requires floor { self.old.shard.floor ≤ length caller.old.seen }
         ensures same { self.new ≡ self.old }
-        ensures noted { (d : ℕ) × HasObserved N.shards N.capacity self.old.index self.old.notes caller.old d caller.new }
+        ensures noted { (d : ℕ) × HasObserved H.shards N.capacity self.old.index self.old.notes caller.old d caller.new }
     {
         let Some(seat) = caller.seat.take() else {
             unreachable!();
@@ -131,15 +131,15 @@ impl<N: Naming> Locked<N> {
     /// Memory.
     pub fn get(
         &mut self,
-        line: &Line<Writing, ByShards<N>>,
-        caller: &mut Caller<N>,
+        line: &Line<Writing, ByShards<H>>,
+        caller: &mut Caller<H, N>,
         key: &Key,
     ) -> Result<Reply, Memory>
         requires line { IsLine N.line N.capacity line.now }
-        requires key { shard_of key.now N.shards ≡ self.old.index }
+        requires key { shard_of key.now H.shards ≡ self.old.index }
         requires floor { self.old.shard.floor ≤ length caller.old.seen }
         ensures same { self.new ≡ self.old }
-        ensures noted { (d : ℕ) × HasObserved N.shards N.capacity self.old.index self.old.notes caller.old d caller.new }
+        ensures noted { (d : ℕ) × HasObserved H.shards N.capacity self.old.index self.old.notes caller.old d caller.new }
         ensures reply { IfOk result (λ reply. reply ≡ (step (store_after N.capacity caller.new.seen) (Get key.now)).1) }
     {
         let number = caller.seen();
@@ -150,8 +150,8 @@ impl<N: Naming> Locked<N> {
     /// The objects of a kind in a namespace that the shard has at a number up to which the caller has seen all.
     pub(crate) fn list(
         &mut self,
-        line: &Line<Writing, ByShards<N>>,
-        caller: &mut Caller<N>,
+        line: &Line<Writing, ByShards<H>>,
+        caller: &mut Caller<H, N>,
         kind: Kind,
         namespace: &Text,
         number: u64,
@@ -159,8 +159,8 @@ impl<N: Naming> Locked<N> {
         requires line { IsLine N.line N.capacity line.now }
         requires number { (self.old.shard.floor ≤ number) × (number ≤ length caller.old.seen) }
         ensures same { self.new ≡ self.old }
-        ensures noted { (d : ℕ) × HasObserved N.shards N.capacity self.old.index self.old.notes caller.old d caller.new }
-        ensures part { IfOk result (λ objects. objects.items ≡ collection (part_of (store_after N.capacity (take number caller.new.seen)).objects N.shards self.old.index) kind namespace.now) }
+        ensures noted { (d : ℕ) × HasObserved H.shards N.capacity self.old.index self.old.notes caller.old d caller.new }
+        ensures part { IfOk result (λ objects. objects.items ≡ collection (part_of (store_after N.capacity (take number caller.new.seen)).objects H.shards self.old.index) kind namespace.now) }
     {
         self.note(line, caller);
         self.shard.list_at(kind, namespace, number)
@@ -175,17 +175,17 @@ impl<N: Naming> Locked<N> {
     pub fn write<G: Gate>(
         &mut self,
         _rt: &impl Wait,
-        line: &Line<Writing, ByShards<N>>,
-        caller: &mut Caller<N>,
+        line: &Line<Writing, ByShards<H>>,
+        caller: &mut Caller<H, N>,
         request: Request,
         gate: &G,
-    ) -> Result<Ticket<N>, Memory>
+    ) -> Result<Ticket<H, N>, Memory>
         requires line { IsLine N.line N.capacity line.now }
         requires write { is_write request ≡ true }
-        requires key { (k : Key) → key_named request ≡ Some k → shard_of k N.shards ≡ self.old.index }
+        requires key { (k : Key) → key_named request ≡ Some k → shard_of k H.shards ≡ self.old.index }
         ensures begins { IsPrefix caller.old.seen caller.new.seen }
         ensures loaded { caller.new.loads ≡ caller.old.loads + 1 }
-        ensures ticket { IfOk result (λ t. IsTicketOf N.shards N.capacity t caller.new × (t.request ≡ request) × (t.since ≡ length caller.old.seen) × IsSome t.reply) }
+        ensures ticket { IfOk result (λ t. IsTicketOf H.shards N.capacity t caller.new × (t.request ≡ request) × (t.since ≡ length caller.old.seen) × IsSome t.reply) }
         ensures own { IfOk result (λ t. WritesOwn caller.old t caller.new) }
         ensures wrote { IfOk result (λ t. WritesNotes self.old.notes t self.new.notes) }
         ensures memory { OnErr result ((self.new ≡ self.old) × GoesOn caller.old caller.new) }
@@ -196,7 +196,7 @@ impl<N: Naming> Locked<N> {
         };
         line.enter(&mut self.seat, seat);
         let loaded = line.look(&mut self.seat);
-        let handed = hand_in::<N, G>(
+        let handed = hand_in::<H, N, G>(
             line,
             &mut self.seat,
             &mut self.shard,

@@ -1,7 +1,21 @@
 use std::marker::Brand;
 
+/// A marker of how many shards a store has, which says where a key is kept. It is picked before the store's line is made: a
+/// store is made in a function that is generic over it and is called with `Brand`.
+pub trait Sharding {
+    ghost use Rattle.std.specs.Prelude.{ℕ};
+
+    // how many shards the line serves
+    ghost shards: { ℕ };
+}
+
+impl Sharding for Brand {
+    ghost shards = { 0 };
+}
+
 /// A marker of a store: by it a shard, a caller or a ticket is known to be of that store, also when it comes out of a lock.
-/// A store is made and used in a function that is generic over its marker and is called with `Brand`.
+/// It is picked once the line is there: a store is used in a function that is generic over it, has it in no type of its
+/// parameters, and is called with `Brand`.
 pub trait Naming {
     ghost use Rattle.std.specs.Prelude.{ℕ};
     ghost use Rattle.line.specs.Seat.{LineName};
@@ -11,9 +25,6 @@ pub trait Naming {
 
     // how many numbers the line has, which are all the revisions of the store
     ghost capacity: { ℕ };
-
-    // how many shards the line serves
-    ghost shards: { ℕ };
 }
 
 impl Naming for Brand {
@@ -22,6 +33,4 @@ impl Naming for Brand {
     ghost line = { no_line };
 
     ghost capacity = { 0 };
-
-    ghost shards = { 0 };
 }

@@ -1,15 +1,15 @@
 // What may go from one thread to another.
 use crate::caller::Caller;
-use crate::naming::Naming;
+use crate::naming::{Naming, Sharding};
 use crate::store::Store;
 use crate::ticket::Ticket;
 
 /// Threads may share a store, and a caller and its tickets may go to another thread: `Store` is `Sync`, and they are
 /// `Send`.
-pub fn threads_may_share<N: Naming + Send>(
-    store: &Store<N>,
-    caller: &Caller<N>,
-    ticket: &Ticket<N>,
+pub fn threads_may_share<H: Sharding + Send, N: Naming + Send>(
+    store: &Store<H, N>,
+    caller: &Caller<H, N>,
+    ticket: &Ticket<H, N>,
 ) {
     is_shared(store);
     is_sent(caller);

@@ -23,7 +23,7 @@ use crate::error::StoreError;
 use crate::floor::Floor;
 use crate::gate::Gate;
 use crate::locked::Locked;
-use crate::naming::Naming;
+use crate::naming::{Naming, Sharding};
 use crate::ticket::Ticket;
 use crate::writing::{ByShards, Writing};
 use line::{Ends, Line, ShardSeat};
@@ -38,15 +38,15 @@ use std::sync::{Mutex, Wait};
 ///
 /// No call takes the locks of two shards at once.
 #[derive(Drop)]
-pub struct Store<N: Naming> {
-    numbers: Line<Writing, ByShards<N>>,
-    shards: Vec<Mutex<Locked<N>>>,
-    callers: Mutex<Callers<N>>,
+pub struct Store<H: Sharding, N: Naming> {
+    numbers: Line<Writing, ByShards<H>>,
+    shards: Vec<Mutex<Locked<H, N>>>,
+    callers: Mutex<Callers<H, N>>,
     floor: Mutex<Floor>,
     alloc: Global,
 }
 
-impl<N: Naming> Model for Store<N> {
+impl<H: Sharding, N: Naming> Model for Store<H, N> {
     ghost use Rattle.std.specs.Prelude.{◌≡◌, ◌<◌, ℕ, vec_len};
     ghost use Rattle.store.specs.Callers.{IsLine};
 
@@ -54,20 +54,21 @@ impl<N: Naming> Model for Store<N> {
 
     ghost view = { λ s. vec_len s.shards };
 
-    ghost invariant = { λ s. IsLine N.line N.capacity s.numbers × (vec_len s.shards ≡ N.shards) × (0 < vec_len s.shards) };
+    ghost invariant = { λ s. IsLine N.line N.capacity s.numbers × (vec_len s.shards ≡ H.shards) × (0 < vec_len s.shards) };
 }
 
-impl<N: Naming> Store<N> {
-    /// A store with nothing in it, over a new line. The marker N names the line, and says how many numbers and shards it has.
+impl<H: Sharding, N: Naming> Store<H, N> {
+    /// A store with nothing in it, over a new line. H says how many shards the line has; N names it, and says how many numbers
+    /// it has.
     ///
     /// # Errors
     ///
     /// Memory.
-    pub fn new(alloc: Global, ends: Ends<Writing, ByShards<N>>) -> Result<Store<N>, StoreError>
+    pub fn new(alloc: Global, ends: Ends<Writing, ByShards<H>>) -> Result<Store<H, N>, StoreError>
         requires line { IsLine N.line N.capacity ends.line }
         requires caller { ends.caller.line ≡ N.line }
         requires shards { AreShards N.line N.capacity ends.shards.items }
-        requires some { (vec_len ends.shards ≡ N.shards) × (0 < N.shards) }
+        requires some { (vec_len ends.shards ≡ H.shards) × (0 < H.shards) }
     {
         let Ends {
             line,
@@ -84,7 +85,7 @@ impl<N: Naming> Store<N> {
         })
     }
 
-    pub(crate) fn line(&self) -> &Line<Writing, ByShards<N>>
+    pub(crate) fn line(&self) -> &Line<Writing, ByShards<H>>
         ensures { IsLine N.line N.capacity result.now }
     {
         &self.numbers
@@ -95,7 +96,7 @@ impl<N: Naming> Store<N> {
     /// # Errors
     ///
     /// TooManyCallers where the store has 4,096 already, and only there. A caller takes no memory.
-    pub fn caller(&self, rt: &impl Wait) -> Result<Caller<N>, StoreError>
+    pub fn caller(&self, rt: &impl Wait) -> Result<Caller<H, N>, StoreError>
         ensures { IfOk result (λ c. (c.own_notes ≡ []) × (c.observations ≡ [])) }
     {
         self.callers.lock(rt).next(&self.numbers)
@@ -110,14 +111,14 @@ impl<N: Naming> Store<N> {
     pub fn submit<G: Gate>(
         &self,
         rt: &impl Wait,
-        caller: &mut Caller<N>,
+        caller: &mut Caller<H, N>,
         request: Request,
         gate: &G,
-    ) -> Result<Ticket<N>, Memory>
+    ) -> Result<Ticket<H, N>, Memory>
         requires { is_write request ≡ true }
         ensures begins { IsPrefix caller.old.seen caller.new.seen }
         ensures loaded { caller.new.loads ≡ caller.old.loads + 1 }
-        ensures ticket { IfOk result (λ t. IsTicketOf N.shards N.capacity t caller.new × (t.request ≡ request) × (t.since ≡ length caller.old.seen) × IsSome t.reply) }
+        ensures ticket { IfOk result (λ t. IsTicketOf H.shards N.capacity t caller.new × (t.request ≡ request) × (t.since ≡ length caller.old.seen) × IsSome t.reply) }
         ensures own { IfOk result (λ t. WritesOwn caller.old t caller.new) }
         ensures memory { OnErr result (GoesOn caller.old caller.new) }
     {
@@ -136,7 +137,7 @@ impl<N: Naming> Store<N> {
     fn shard_of_request(&self, request: &Request) -> usize
         requires { is_write request.now ≡ true }
         ensures below { result < self.now }
-        ensures home { (k : Key) → key_named request.now ≡ Some k → shard_of k N.shards ≡ result }
+        ensures home { (k : Key) → key_named request.now ≡ Some k → shard_of k H.shards ≡ result }
     {
         let Some(key) = request.key() else {
             unreachable!();
@@ -150,7 +151,12 @@ impl<N: Naming> Store<N> {
     /// # Errors
     ///
     /// Memory. What the caller has seen may have grown.
-    pub fn get<W: Wait>(&self, rt: &W, caller: &mut Caller<N>, key: &Key) -> Result<Reply, Memory>
+    pub fn get<W: Wait>(
+        &self,
+        rt: &W,
+        caller: &mut Caller<H, N>,
+        key: &Key,
+    ) -> Result<Reply, Memory>
         ensures read { HasRead N.capacity caller.old caller.new }
         ensures reply { IfOk result (λ reply. reply ≡ (step (store_after N.capacity caller.new.seen) (Get key.now)).1) }
     {
@@ -174,7 +180,7 @@ impl<N: Naming> Store<N> {
     pub fn list<W: Wait>(
         &self,
         rt: &W,
-        caller: &mut Caller<N>,
+        caller: &mut Caller<H, N>,
         kind: Kind,
         namespace: &Text,
     ) -> Result<Reply, Memory>
@@ -194,7 +200,7 @@ impl<N: Naming> Store<N> {
 
     /// The first caller tells the second one what it has seen: each of the two loads the frontier, the first one first. It
     /// takes no memory, and waits for nobody.
-    pub fn meet(&self, first: &mut Caller<N>, second: &mut Caller<N>)
+    pub fn meet(&self, first: &mut Caller<H, N>, second: &mut Caller<H, N>)
         ensures first { HasRead N.capacity first.old first.new }
         ensures second { HasRead N.capacity second.old second.new }
         ensures met { IsPrefix first.new.seen second.new.seen }
@@ -204,7 +210,7 @@ impl<N: Naming> Store<N> {
 
     /// Gives up what was before a revision: Compacted, or TooLarge where the number is above the frontier, else Expired
     /// where the past was given up beyond it. The floor's lock is held to the end, and each shard's in turn.
-    pub fn compact<W: Wait>(&self, rt: &W, caller: &mut Caller<N>, number: u64) -> Reply
+    pub fn compact<W: Wait>(&self, rt: &W, caller: &mut Caller<H, N>, number: u64) -> Reply
         ensures { HasRead N.capacity caller.old caller.new }
     {
         let mut floor = self.floor.lock(rt);
@@ -217,7 +223,7 @@ impl<N: Naming> Store<N> {
         &self,
         rt: &W,
         floor: &mut Floor,
-        caller: &mut Caller<N>,
+        caller: &mut Caller<H, N>,
         number: u64,
     ) -> Reply
         ensures read { HasRead N.capacity caller.old caller.new }
@@ -231,7 +237,7 @@ impl<N: Naming> Store<N> {
         Reply::Compacted { revision: number }
     }
 
-    fn compact_all<W: Wait>(&self, rt: &W, caller: &mut Caller<N>, number: u64)
+    fn compact_all<W: Wait>(&self, rt: &W, caller: &mut Caller<H, N>, number: u64)
         requires { number ≤ length caller.old.seen }
         ensures { Stays caller.old caller.new }
     {
@@ -251,7 +257,7 @@ impl<N: Naming> Store<N> {
     pub fn list_at<W: Wait>(
         &self,
         rt: &W,
-        caller: &mut Caller<N>,
+        caller: &mut Caller<H, N>,
         kind: Kind,
         namespace: &Text,
         number: u64,
@@ -268,7 +274,7 @@ impl<N: Naming> Store<N> {
         &self,
         rt: &W,
         floor: &Floor,
-        caller: &mut Caller<N>,
+        caller: &mut Caller<H, N>,
         kind: Kind,
         namespace: &Text,
         number: u64,
@@ -287,7 +293,7 @@ impl<N: Naming> Store<N> {
     fn list_past<W: Wait>(
         &self,
         rt: &W,
-        caller: &mut Caller<N>,
+        caller: &mut Caller<H, N>,
         kind: Kind,
         namespace: &Text,
         number: u64,
@@ -317,10 +323,10 @@ impl<N: Naming> Store<N> {
 }
 
 /// The shards behind their locks, one for each seat.
-fn locked_shards<N: Naming>(
+fn locked_shards<H: Sharding, N: Naming>(
     alloc: Global,
     seats: Vec<ShardSeat<Writing>>,
-) -> Result<Vec<Mutex<Locked<N>>>, AllocError>
+) -> Result<Vec<Mutex<Locked<H, N>>>, AllocError>
     requires { AreShards N.line N.capacity seats.items }
     ensures { IfOk result (λ shards. vec_len shards ≡ vec_len seats) }
 {

@@ -19,7 +19,7 @@ ghost use Rattle.store.specs.Tickets.{IsTicketOf, WritesOwn};
 ghost use Rattle.store.specs.Views.{Holds, IsPublished, Unwritten, WritesNotes, caller_by, number_in, ticket_by, writing_by};
 
 use crate::gate::Gate;
-use crate::naming::Naming;
+use crate::naming::{Naming, Sharding};
 use crate::ticket::Ticket;
 use crate::writing::{ByShards, Writing};
 use line::{Drawn, Line, Noting, ShardSeat};
@@ -29,23 +29,23 @@ use std::marker::{Brand, PhantomData};
 use versions::Shard;
 
 /// Decides the write over the newest record of its key, and carries it out.
-pub(crate) fn hand_in<N: Naming, G: Gate>(
-    line: &Line<Writing, ByShards<N>>,
+pub(crate) fn hand_in<H: Sharding, N: Naming, G: Gate>(
+    line: &Line<Writing, ByShards<H>>,
     seat: &mut ShardSeat<Writing>,
     shard: &mut Shard,
     request: Request,
     since: u64,
     loaded: u64,
     gate: &G,
-) -> Result<Ticket<N>, Memory>
+) -> Result<Ticket<H, N>, Memory>
     requires line { (seat.old.line ≡ line.now.name) × IsLine N.line N.capacity line.now }
-    requires holds { Holds N.shards seat.old.view shard.old seat.old.view }
+    requires holds { Holds H.shards seat.old.view shard.old seat.old.view }
     requires write { is_write request ≡ true }
-    requires key { (k : Key) → key_named request ≡ Some k → seat.old.view.shard ≡ Some (shard_of k N.shards) }
+    requires key { (k : Key) → key_named request ≡ Some k → seat.old.view.shard ≡ Some (shard_of k H.shards) }
     requires seen { (loaded ≡ length seat.old.view.seen) × (since ≤ loaded) × (loaded ≤ N.capacity) }
     ensures line { seat.new.line ≡ seat.old.line }
-    ensures holds { Holds N.shards seat.old.view shard.new seat.new.view }
-    ensures ticket { IfOk result (λ t. IsTicketOf N.shards N.capacity t (caller_by seat.new.view) × (t.request ≡ request) × (t.since ≡ since) × IsSome t.reply) }
+    ensures holds { Holds H.shards seat.old.view shard.new seat.new.view }
+    ensures ticket { IfOk result (λ t. IsTicketOf H.shards N.capacity t (caller_by seat.new.view) × (t.request ≡ request) × (t.since ≡ since) × IsSome t.reply) }
     ensures own { IfOk result (λ t. WritesOwn (caller_by seat.old.view) t (caller_by seat.new.view)) }
     ensures wrote { IfOk result (λ t. WritesNotes seat.old.view.notes t seat.new.view.notes) }
     ensures memory { OnErr result ((seat.new.view ≡ seat.old.view) × (shard.new ≡ shard.old)) }
@@ -96,8 +96,8 @@ fn decide(shard: &Shard, request: &Request) -> Result<(u64, Verdict), Memory>
 }
 
 /// A write that changes nothing.
-fn unwritten<N: Naming>(
-    line: &Line<Writing, ByShards<N>>,
+fn unwritten<H: Sharding, N: Naming>(
+    line: &Line<Writing, ByShards<H>>,
     seat: &mut ShardSeat<Writing>,
     shard: &Shard,
     request: Request,
@@ -105,15 +105,15 @@ fn unwritten<N: Naming>(
     loaded: u64,
     saw: u64,
     reply: Reply,
-) -> Ticket<N>
+) -> Ticket<H, N>
     requires line { (seat.old.line ≡ line.now.name) × IsLine N.line N.capacity line.now }
-    requires holds { Holds N.shards seat.old.view shard.now seat.old.view }
+    requires holds { Holds H.shards seat.old.view shard.now seat.old.view }
     requires write { is_write request ≡ true }
-    requires key { (k : Key) → key_named request ≡ Some k → (seat.old.view.shard ≡ Some (shard_of k N.shards)) × (saw ≡ number_in (newest shard.now.records k)) × Unwritten (verdict request (current shard.now.records k)) reply }
+    requires key { (k : Key) → key_named request ≡ Some k → (seat.old.view.shard ≡ Some (shard_of k H.shards)) × (saw ≡ number_in (newest shard.now.records k)) × Unwritten (verdict request (current shard.now.records k)) reply }
     requires seen { (loaded ≡ length seat.old.view.seen) × (since ≤ loaded) }
     ensures line { seat.new.line ≡ seat.old.line }
-    ensures holds { Holds N.shards seat.old.view shard.now seat.new.view }
-    ensures ticket { IsTicketOf N.shards N.capacity result (caller_by seat.new.view) }
+    ensures holds { Holds H.shards seat.old.view shard.now seat.new.view }
+    ensures ticket { IsTicketOf H.shards N.capacity result (caller_by seat.new.view) }
     ensures own { WritesOwn (caller_by seat.old.view) result (caller_by seat.new.view) }
     ensures wrote { WritesNotes seat.old.view.notes result seat.new.view.notes }
     ensures is { result ≡ record { request = request; since = since; saw = saw; place = max saw loaded; reply = Some reply } }
@@ -143,23 +143,23 @@ fn make_room(shard: &mut Shard, request: &Request) -> Result<(), Memory>
 }
 
 /// A write that changes something, where numbers are left.
-fn carry_out<N: Naming, G: Gate>(
-    line: &Line<Writing, ByShards<N>>,
+fn carry_out<H: Sharding, N: Naming, G: Gate>(
+    line: &Line<Writing, ByShards<H>>,
     seat: &mut ShardSeat<Writing>,
     shard: &mut Shard,
     request: Request,
     since: u64,
     change: Change,
     gate: &G,
-) -> Result<Ticket<N>, Memory>
+) -> Result<Ticket<H, N>, Memory>
     requires line { (seat.old.line ≡ line.now.name) × IsLine N.line N.capacity line.now }
-    requires holds { Holds N.shards seat.old.view shard.old seat.old.view }
+    requires holds { Holds H.shards seat.old.view shard.old seat.old.view }
     requires write { is_write request ≡ true }
-    requires key { (k : Key) → key_named request ≡ Some k → (seat.old.view.shard ≡ Some (shard_of k N.shards)) × (verdict request (current shard.old.records k) ≡ Write change) }
+    requires key { (k : Key) → key_named request ≡ Some k → (seat.old.view.shard ≡ Some (shard_of k H.shards)) × (verdict request (current shard.old.records k) ≡ Write change) }
     requires seen { (since ≤ length seat.old.view.seen) × (length seat.old.view.seen ≤ N.capacity) }
     ensures line { seat.new.line ≡ seat.old.line }
-    ensures holds { Holds N.shards seat.old.view shard.new seat.new.view }
-    ensures ticket { IfOk result (λ t. IsTicketOf N.shards N.capacity t (caller_by seat.new.view) × (t.request ≡ request) × (t.since ≡ since) × IsSome t.reply) }
+    ensures holds { Holds H.shards seat.old.view shard.new seat.new.view }
+    ensures ticket { IfOk result (λ t. IsTicketOf H.shards N.capacity t (caller_by seat.new.view) × (t.request ≡ request) × (t.since ≡ since) × IsSome t.reply) }
     ensures own { IfOk result (λ t. WritesOwn (caller_by seat.old.view) t (caller_by seat.new.view)) }
     ensures wrote { IfOk result (λ t. WritesNotes seat.old.view.notes t seat.new.view.notes) }
     ensures memory { OnErr result ((seat.new.view ≡ seat.old.view) × (shard.new ≡ shard.old)) }
@@ -173,39 +173,39 @@ fn carry_out<N: Naming, G: Gate>(
 }
 
 /// The same, with room for the record.
-fn publish<N: Naming, G: Gate>(
-    line: &Line<Writing, ByShards<N>>,
+fn publish<H: Sharding, N: Naming, G: Gate>(
+    line: &Line<Writing, ByShards<H>>,
     seat: &mut ShardSeat<Writing>,
     shard: &mut Shard,
     request: Request,
     since: u64,
     change: Change,
     gate: &G,
-) -> Ticket<N>
+) -> Ticket<H, N>
     requires line { (seat.old.line ≡ line.now.name) × IsLine N.line N.capacity line.now }
-    requires holds { Holds N.shards seat.old.view shard.old seat.old.view }
+    requires holds { Holds H.shards seat.old.view shard.old seat.old.view }
     requires write { is_write request ≡ true }
-    requires key { (k : Key) → key_named request ≡ Some k → (seat.old.view.shard ≡ Some (shard_of k N.shards)) × (verdict request (current shard.old.records k) ≡ Write change) × (shard.old.room ≡ Some k) }
+    requires key { (k : Key) → key_named request ≡ Some k → (seat.old.view.shard ≡ Some (shard_of k H.shards)) × (verdict request (current shard.old.records k) ≡ Write change) × (shard.old.room ≡ Some k) }
     requires seen { (since ≤ length seat.old.view.seen) × (length seat.old.view.seen ≤ N.capacity) }
     ensures line { seat.new.line ≡ seat.old.line }
-    ensures holds { Holds N.shards seat.old.view shard.new seat.new.view }
-    ensures ticket { IsTicketOf N.shards N.capacity result (caller_by seat.new.view) }
+    ensures holds { Holds H.shards seat.old.view shard.new seat.new.view }
+    ensures ticket { IsTicketOf H.shards N.capacity result (caller_by seat.new.view) }
     ensures own { WritesOwn (caller_by seat.old.view) result (caller_by seat.new.view) }
     ensures wrote { WritesNotes seat.old.view.notes result seat.new.view.notes }
     ensures is { (result.request ≡ request) × (result.since ≡ since) × IsSome result.reply }
 {
-    let published = push_drawn::<N, G>(line, seat, shard, &request, change, gate);
+    let published = push_drawn::<H, N, G>(line, seat, shard, &request, change, gate);
     line.observe(seat);
     ticket_of(line, request, since, published)
 }
 
 /// The ticket of a write that was published at a number, with its reply, or found all numbers drawn.
-fn ticket_of<N: Naming>(
-    line: &Line<Writing, ByShards<N>>,
+fn ticket_of<H: Sharding, N: Naming>(
+    line: &Line<Writing, ByShards<H>>,
     request: Request,
     since: u64,
     published: Option<(u64, Reply)>,
-) -> Ticket<N>
+) -> Ticket<H, N>
     requires { line.now.capacity ≡ N.capacity }
     ensures { result ≡ ticket_by N.capacity request since published }
 {
@@ -230,8 +230,8 @@ fn ticket_of<N: Naming>(
 }
 
 /// Draws a number for the write, pushes its record, and fills it; or finds all numbers drawn.
-fn push_drawn<N: Naming, G: Gate>(
-    line: &Line<Writing, ByShards<N>>,
+fn push_drawn<H: Sharding, N: Naming, G: Gate>(
+    line: &Line<Writing, ByShards<H>>,
     seat: &mut ShardSeat<Writing>,
     shard: &mut Shard,
     request: &Request,
@@ -240,7 +240,7 @@ fn push_drawn<N: Naming, G: Gate>(
 ) -> Option<(u64, Reply)>
     requires line { (seat.old.line ≡ line.now.name) × (line.now.capacity ≡ N.capacity) }
     requires pending { seat.old.view.plain.pending ≡ None }
-    requires note { MayDraw (home_of N.shards) by_of Accepts (Some (writing_by seat.old.view request.now change)) seat.old.view }
+    requires note { MayDraw (home_of H.shards) by_of Accepts (Some (writing_by seat.old.view request.now change)) seat.old.view }
     requires room { shard.old.room ≡ Some (change_object change).key }
     requires agrees { AgreesWith shard.old seat.old.view }
     requires long { length seat.old.view.seen ≡ seat.old.view.plain.seen }
@@ -249,7 +249,7 @@ fn push_drawn<N: Naming, G: Gate>(
     ensures some { IfSome result (λ p. IsPublished seat.old.view p.0 (writing_by seat.old.view request.now change) seat.new.view × (p.1 ≡ accepted change (stamp change p.0)) × (0 < p.0) × (p.0 ≤ N.capacity) × (notes_up_to (p.0 - 1) seat.old.view.notes ≡ seat.old.view.notes) × (seat.old.view.plain.seen < p.0)) }
     ensures none { IfNone result (seat.new.view ≡ with_plain seat.old.view (used_up seat.old.view.plain)) }
 {
-    let Some(drawn) = draw::<N>(line, seat, request, &change) else {
+    let Some(drawn) = draw::<H>(line, seat, request, &change) else {
         drop(change);
         return None;
     };
@@ -262,25 +262,25 @@ fn push_drawn<N: Naming, G: Gate>(
 }
 
 /// Draws a number for the write of the caller in the seat.
-fn draw<N: Naming>(
-    line: &Line<Writing, ByShards<N>>,
+fn draw<H: Sharding>(
+    line: &Line<Writing, ByShards<H>>,
     seat: &mut ShardSeat<Writing>,
     request: &Request,
     change: &Change,
 ) -> Option<Drawn>
     requires line { seat.old.line ≡ line.now.name }
     requires pending { seat.old.view.plain.pending ≡ None }
-    requires note { MayDraw (home_of N.shards) by_of Accepts (Some (writing_by seat.old.view request.now change.now)) seat.old.view }
+    requires note { MayDraw (home_of H.shards) by_of Accepts (Some (writing_by seat.old.view request.now change.now)) seat.old.view }
     ensures line { seat.new.line ≡ seat.old.line }
     ensures some { IfSome result (λ n. seat.new.view ≡ drew_noted seat.old.view n (writing_by seat.old.view request.now change.now)) }
     ensures next { IfSome result (λ n. (0 < n) × (n ≤ line.now.capacity) × (n ≤ 1048576) × (notes_up_to (n - 1) seat.old.view.notes ≡ seat.old.view.notes) × (seat.old.view.plain.seen < n) × All (λ x. x < n) seat.old.view.plain.filled) }
     ensures none { IfNone result (seat.new.view ≡ with_plain seat.old.view (used_up seat.old.view.plain)) }
 {
-    draw_as::<N, Brand>(line, seat, request, change)
+    draw_as::<H, Brand>(line, seat, request, change)
 }
 
-fn draw_as<N: Naming, J: Noting<Writing>>(
-    line: &Line<Writing, ByShards<N>>,
+fn draw_as<H: Sharding, J: Noting<Writing>>(
+    line: &Line<Writing, ByShards<H>>,
     seat: &mut ShardSeat<Writing>,
     request: &Request,
     change: &Change,
@@ -288,7 +288,7 @@ fn draw_as<N: Naming, J: Noting<Writing>>(
     requires line { seat.old.line ≡ line.now.name }
     requires pending { seat.old.view.plain.pending ≡ None }
     requires picked { J.note ≡ Some (writing_by seat.old.view request.now change.now) }
-    requires note { MayDraw (home_of N.shards) by_of Accepts J.note seat.old.view }
+    requires note { MayDraw (home_of H.shards) by_of Accepts J.note seat.old.view }
     ensures line { seat.new.line ≡ seat.old.line }
     ensures some { IfSome result (λ n. seat.new.view ≡ drew_for J.note seat.old.view n) }
     ensures next { IfSome result (λ n. (0 < n) × (n ≤ line.now.capacity) × (n ≤ 1048576) × (notes_up_to (n - 1) seat.old.view.notes ≡ seat.old.view.notes) × (seat.old.view.plain.seen < n) × All (λ x. x < n) seat.old.view.plain.filled) }

@@ -1,4 +1,4 @@
-use crate::naming::Naming;
+use crate::naming::Sharding;
 use line::Judging;
 use requests::{Change, Request};
 use std::marker::PhantomData;
@@ -17,14 +17,14 @@ pub struct Writing {
 
 /// What a line knows of writes as notes: each is its key's shard's, and the verdict over the earlier ones of that shard
 /// accepts it.
-pub struct ByShards<N> {
-    of: PhantomData<N>,
+pub struct ByShards<H> {
+    of: PhantomData<H>,
 }
 
-impl<N: Naming> Judging<Writing> for ByShards<N> {
+impl<H: Sharding> Judging<Writing> for ByShards<H> {
     ghost use Rattle.store.specs.History.{Accepts, by_of, home_of};
 
-    ghost home = { home_of N.shards };
+    ghost home = { home_of H.shards };
 
     ghost by = { by_of };
 

@@ -11,12 +11,12 @@ use Rattle.store.proofs.calls.gather.Goals as goal
 pub loop-index-init : goal.loop-index-init
 loop-index-init g c =
     let h = take c.args.number c.args.caller.now.seen in
-    (stays_self c.args.caller.now, c.new-found.ensures ∙ no_parts (store_after g.N.Naming.capacity h).objects (filed_in_run g.N.Naming.capacity (map request_of h)) c.args.kind c.args.namespace.now g.N.Naming.shards)
+    (stays_self c.args.caller.now, c.new-found.ensures ∙ no_parts (store_after g.N.Naming.capacity h).objects (filed_in_run g.N.Naming.capacity (map request_of h)) c.args.kind c.args.namespace.now g.H.Sharding.shards)
 
 pub loop-index-preserved : goal.loop-index-preserved
 loop-index-preserved g c =
     let C = g.N.Naming.capacity in
-    let S = g.N.Naming.shards in
+    let S = g.H.Sharding.shards in
     let h = take c.args.number c.args.caller.now.seen in
     let m = (store_after C h).objects in
     let i : ℕ = c.loop-index.index in

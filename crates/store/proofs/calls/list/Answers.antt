@@ -23,5 +23,5 @@ returns-in-Ok-Some-clause-reply g c =
     ∙ (ap (λ (os : List Object). Listed os n) objects
     ∙ (ap (λ (l : List Writing). Listed (collection (store_after C (take n l)).objects c.args.kind c.args.namespace.now) n) same
     ∙ (ap (λ (l : List Writing). Listed (collection (store_after C l).objects c.args.kind c.args.namespace.now) n) (take_all n h (omega arith))
-    ∙ (list_answer g.N.Naming.shards C h loaded.legal (omega arith) c.requires.shards.1 c.args.kind c.args.namespace.now n (sym long)
+    ∙ (list_answer g.H.Sharding.shards C h loaded.legal (omega arith) c.requires.shards.1 c.args.kind c.args.namespace.now n (sym long)
     ∙ ap (λ (l : List Writing). (step (store_after C l) (request.List c.args.kind c.args.namespace.now 0)).1) (sym same)))))

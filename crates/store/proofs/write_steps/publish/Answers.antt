@@ -11,7 +11,7 @@ use Rattle.store.proofs.write_steps.publish.Goals as goal
 
 pub push_drawn-published-requires : goal.push_drawn-published-requires
 push_drawn-published-requires g c =
-    let S = g.N.Naming.shards in
+    let S = g.H.Sharding.shards in
     let v = c.args.seat.now.view in
     let h = c.requires.holds in
     let k = some_key c.args.request c.requires.write in
@@ -28,7 +28,7 @@ push_drawn-published-requires g c =
 
 pub returns-clause-holds : goal.returns-clause-holds
 returns-clause-holds g c =
-    let S = g.N.Naming.shards in
+    let S = g.H.Sharding.shards in
     let C = g.N.Naming.capacity in
     let h = c.requires.holds in
     let pushes : Pushes S C c.args.seat.now.view c.args.request c.args.change c.push_drawn-published.result c.push_drawn-published.new.seat.view = (c.push_drawn-published.ensures.some, c.push_drawn-published.ensures.none) in
@@ -48,7 +48,7 @@ returns-clause-holds g c =
 
 pub returns-clause-ticket : goal.returns-clause-ticket
 returns-clause-ticket g c =
-    let S = g.N.Naming.shards in
+    let S = g.H.Sharding.shards in
     let C = g.N.Naming.capacity in
     let v = c.args.seat.now.view in
     let h = c.requires.holds in
@@ -62,7 +62,7 @@ returns-clause-ticket g c =
 
 pub returns-clause-own : goal.returns-clause-own
 returns-clause-own g c =
-    let S = g.N.Naming.shards in
+    let S = g.H.Sharding.shards in
     let C = g.N.Naming.capacity in
     let v = c.args.seat.now.view in
     let pushes : Pushes S C v c.args.request c.args.change c.push_drawn-published.result c.push_drawn-published.new.seat.view = (c.push_drawn-published.ensures.some, c.push_drawn-published.ensures.none) in
@@ -71,7 +71,7 @@ returns-clause-own g c =
 
 pub returns-clause-wrote : goal.returns-clause-wrote
 returns-clause-wrote g c =
-    let S = g.N.Naming.shards in
+    let S = g.H.Sharding.shards in
     let C = g.N.Naming.capacity in
     let v = c.args.seat.now.view in
     let pushes : Pushes S C v c.args.request c.args.change c.push_drawn-published.result c.push_drawn-published.new.seat.view = (c.push_drawn-published.ensures.some, c.push_drawn-published.ensures.none) in

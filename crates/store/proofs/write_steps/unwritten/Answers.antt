@@ -29,12 +29,12 @@ returns-clause-holds g c =
       loads = ap (λ (n : NotedView Writing). n.plain.loads) notes.4;
       pending = ap (λ (n : NotedView Writing). n.plain.pending) notes.4 ∙ h.pending;
       agrees = agrees_as _ _ _ _ _ _ _ h.agrees (ap (λ (n : NotedView Writing). n.notes) notes.4) (ap (λ (n : NotedView Writing). n.plain.filled) notes.4) (omega arith);
-      caller = noted_view g.N.Naming.shards 0 c.args.seat.now.view c.observe.new.seat.view (shard_of k.0 g.N.Naming.shards) q.0 notes h.caller;
+      caller = noted_view g.H.Sharding.shards 0 c.args.seat.now.view c.observe.new.seat.view (shard_of k.0 g.H.Sharding.shards) q.0 notes h.caller;
     }
 
 pub returns-clause-ticket : goal.returns-clause-ticket
 returns-clause-ticket g c =
-    let S = g.N.Naming.shards in
+    let S = g.H.Sharding.shards in
     let C = g.N.Naming.capacity in
     let k = some_key c.args.request c.requires.write in
     let q = c.requires.key k.0 k.1 in
@@ -48,7 +48,7 @@ returns-clause-ticket g c =
 
 pub returns-clause-own : goal.returns-clause-own
 returns-clause-own g c =
-    let S = g.N.Naming.shards in
+    let S = g.H.Sharding.shards in
     let C = g.N.Naming.capacity in
     let k = some_key c.args.request c.requires.write in
     let q = c.requires.key k.0 k.1 in
@@ -61,5 +61,5 @@ pub returns-clause-wrote : goal.returns-clause-wrote
 returns-clause-wrote g c =
     let k = some_key c.args.request c.requires.write in
     let q = c.requires.key k.0 k.1 in
-    unwritten_wrote g.N.Naming.shards g.N.Naming.capacity _ _ (record { request = c.args.request; since = c.args.since; saw = c.args.saw; place = c.max.result; reply = Some c.args.reply })
+    unwritten_wrote g.H.Sharding.shards g.N.Naming.capacity _ _ (record { request = c.args.request; since = c.args.since; saw = c.args.saw; place = c.max.result; reply = Some c.args.reply })
     (verdict c.args.request (current c.args.shard.now.records k.0)) c.args.reply (ap (λ (n : NotedView Writing). n.notes) c.observe.ensures.observed.4) refl q.2

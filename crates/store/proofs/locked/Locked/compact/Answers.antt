@@ -28,12 +28,12 @@ invariant_of-self g c =
 
 pub invariant_of-caller : goal.invariant_of-caller
 invariant_of-caller g c =
-    let own = subst (IsCaller g.N.Naming.line g.N.Naming.shards) (sym c.take.ensures.value ∙ c.in-Some.is) c.caller.invariant in (
+    let own = subst (IsCaller g.N.Naming.line g.H.Sharding.shards) (sym c.take.ensures.value ∙ c.in-Some.is) c.caller.invariant in (
       c.leave.ensures.line.1 ∙ c.enter-seen.ensures.line ∙ c.self.invariant.0,
-      left_view g.N.Naming.shards 0 c.enter-seen.new.seat.view c.leave.result.view c.leave.ensures.left (entered_view g.N.Naming.shards 0 c.self.inside.seat.view c.in-Some.seat.view c.enter-seen.new.seat.view c.enter-seen.ensures.both own.1),
+      left_view g.H.Sharding.shards 0 c.enter-seen.new.seat.view c.leave.result.view c.leave.ensures.left (entered_view g.H.Sharding.shards 0 c.self.inside.seat.view c.in-Some.seat.view c.enter-seen.new.seat.view c.enter-seen.ensures.both own.1),
     )
 
 pub returns-clause-stays : goal.returns-clause-stays
 returns-clause-stays g c =
     subst (λ (x : Caller). Stays x (caller_by c.leave.result.view)) (ap (λ o. caller_by (view_or o)) (sym c.in-Some.is ∙ c.take.ensures.value) ∙ c.caller.view_is)
-    (passed_stays g.N.Naming.shards 0 c.self.inside.seat.view c.in-Some.seat.view c.enter-seen.new.seat.view c.leave.result.view c.enter-seen.ensures.both c.leave.ensures.left)
+    (passed_stays g.H.Sharding.shards 0 c.self.inside.seat.view c.in-Some.seat.view c.enter-seen.new.seat.view c.leave.result.view c.enter-seen.ensures.both c.leave.ensures.left)

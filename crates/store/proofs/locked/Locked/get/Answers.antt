@@ -10,7 +10,7 @@ use Rattle.store.proofs.locked.Locked.get.Goals as goal
 pub returns-clause-reply : goal.returns-clause-reply
 returns-clause-reply g c =
     let n = c.note.ensures.noted.1 in
-    let S : ℕ = g.N.Naming.shards in
+    let S : ℕ = g.H.Sharding.shards in
     let seen = n.seen in
     let drawn = n.drawn in
     let within = n.within in

@@ -13,7 +13,7 @@ use Rattle.store.proofs.locked.Locked.list.Goals as goal
 pub returns-clause-part : goal.returns-clause-part
 returns-clause-part g c =
     let n = c.note.ensures.noted.1 in
-    let S : ℕ = g.N.Naming.shards in
+    let S : ℕ = g.H.Sharding.shards in
     let m : ℕ = c.args.number in
     let seen = n.seen in
     let drawn = n.drawn in

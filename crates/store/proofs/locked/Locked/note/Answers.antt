@@ -27,7 +27,7 @@ invariant_of-self g c =
 
 pub invariant_of-caller : goal.invariant_of-caller
 invariant_of-caller g c =
-    let S = g.N.Naming.shards in
+    let S = g.H.Sharding.shards in
     let own = subst (IsCaller g.N.Naming.line S) (sym c.take.ensures.value ∙ c.in-Some.is) c.caller.invariant in
     let at = ap (λ (n : NotedView Writing). n.shard) c.enter-seen.ensures.both ∙ c.self.invariant.1 in (
       c.leave.ensures.line.1 ∙ c.observe.ensures.line ∙ c.enter-seen.ensures.line ∙ c.self.invariant.0,
@@ -37,6 +37,6 @@ invariant_of-caller g c =
 
 pub returns-clause-noted : goal.returns-clause-noted
 returns-clause-noted g c =
-    let n = visited g.N.Naming.shards g.N.Naming.capacity c.self.inside.seat.view c.in-Some.seat.view c.enter-seen.new.seat.view c.observe.new.seat.view c.leave.result.view c.self.inside.index c.self.invariant.1 c.enter-seen.ensures.both c.observe.ensures.observed c.leave.ensures.left (c.observe.ensures.capacity ∙ c.requires.line.1) in
-    subst (λ (l : Locked). (d : ℕ) × HasObserved g.N.Naming.shards g.N.Naming.capacity l.index l.notes c.args.caller.now d (caller_by c.leave.result.view)) c.self.view_is
-    (subst (λ (x : Caller). (d : ℕ) × HasObserved g.N.Naming.shards g.N.Naming.capacity c.self.inside.index c.self.inside.seat.view.notes x d (caller_by c.leave.result.view)) (ap (λ o. caller_by (view_or o)) (sym c.in-Some.is ∙ c.take.ensures.value) ∙ c.caller.view_is) n)
+    let n = visited g.H.Sharding.shards g.N.Naming.capacity c.self.inside.seat.view c.in-Some.seat.view c.enter-seen.new.seat.view c.observe.new.seat.view c.leave.result.view c.self.inside.index c.self.invariant.1 c.enter-seen.ensures.both c.observe.ensures.observed c.leave.ensures.left (c.observe.ensures.capacity ∙ c.requires.line.1) in
+    subst (λ (l : Locked). (d : ℕ) × HasObserved g.H.Sharding.shards g.N.Naming.capacity l.index l.notes c.args.caller.now d (caller_by c.leave.result.view)) c.self.view_is
+    (subst (λ (x : Caller). (d : ℕ) × HasObserved g.H.Sharding.shards g.N.Naming.capacity c.self.inside.index c.self.inside.seat.view.notes x d (caller_by c.leave.result.view)) (ap (λ o. caller_by (view_or o)) (sym c.in-Some.is ∙ c.take.ensures.value) ∙ c.caller.view_is) n)

@@ -14,7 +14,7 @@ use Rattle.store.proofs.locked.Locked.write.Goals as goal
 
 pub hand_in-handed-requires : goal.hand_in-handed-requires
 hand_in-handed-requires g c =
-    let S = g.N.Naming.shards in
+    let S = g.H.Sharding.shards in
     let C = g.N.Naming.capacity in
     let own = subst (IsCaller g.N.Naming.line S) (sym c.take.ensures.value ∙ c.in-Some.is) c.caller.invariant in
     let v = c.self.inside.seat.view in
@@ -67,39 +67,39 @@ invariant_of-self g c =
 pub invariant_of-caller : goal.invariant_of-caller
 invariant_of-caller g c = (
   c.leave.ensures.line.1 ∙ c.hand_in-handed.ensures.line ∙ c.look-loaded.ensures.line ∙ c.enter.ensures.line ∙ c.self.invariant.0,
-  left_view g.N.Naming.shards 0 c.hand_in-handed.new.seat.view c.leave.result.view c.leave.ensures.left c.hand_in-handed.ensures.holds.caller,
+  left_view g.H.Sharding.shards 0 c.hand_in-handed.new.seat.view c.leave.result.view c.leave.ensures.left c.hand_in-handed.ensures.holds.caller,
 )
 
 pub returns-clause-begins : goal.returns-clause-begins
 returns-clause-begins g c =
-    let own = subst (IsCaller g.N.Naming.line g.N.Naming.shards) (sym c.take.ensures.value ∙ c.in-Some.is) c.caller.invariant in
+    let own = subst (IsCaller g.N.Naming.line g.H.Sharding.shards) (sym c.take.ensures.value ∙ c.in-Some.is) c.caller.invariant in
     let within = c.look-loaded.ensures.risen.1 in
     let size = c.requires.line.1 in
-    handed_begins g.N.Naming.shards g.N.Naming.capacity c.args.caller.now c.self.inside.seat.view c.in-Some.seat.view c.enter.new.seat.view c.look-loaded.new.seat.view c.hand_in-handed.new.seat.view c.leave.result.view c.hand_in-handed.new.shard c.look-loaded.result
+    handed_begins g.H.Sharding.shards g.N.Naming.capacity c.args.caller.now c.self.inside.seat.view c.in-Some.seat.view c.enter.new.seat.view c.look-loaded.new.seat.view c.hand_in-handed.new.seat.view c.leave.result.view c.hand_in-handed.new.shard c.look-loaded.result
     (ap (λ o. caller_by (view_or o)) (sym c.in-Some.is ∙ c.take.ensures.value) ∙ c.caller.view_is) c.enter.ensures.both c.look-loaded.ensures.looked c.look-loaded.ensures.sees own.1 (omega arith) c.hand_in-handed.ensures.holds c.leave.ensures.left
 
 pub returns-clause-loaded : goal.returns-clause-loaded
 returns-clause-loaded g c =
-    let own = subst (IsCaller g.N.Naming.line g.N.Naming.shards) (sym c.take.ensures.value ∙ c.in-Some.is) c.caller.invariant in
+    let own = subst (IsCaller g.N.Naming.line g.H.Sharding.shards) (sym c.take.ensures.value ∙ c.in-Some.is) c.caller.invariant in
     let within = c.look-loaded.ensures.risen.1 in
     let size = c.requires.line.1 in
-    handed_once g.N.Naming.shards g.N.Naming.capacity c.args.caller.now c.self.inside.seat.view c.in-Some.seat.view c.enter.new.seat.view c.look-loaded.new.seat.view c.hand_in-handed.new.seat.view c.leave.result.view c.hand_in-handed.new.shard c.look-loaded.result
+    handed_once g.H.Sharding.shards g.N.Naming.capacity c.args.caller.now c.self.inside.seat.view c.in-Some.seat.view c.enter.new.seat.view c.look-loaded.new.seat.view c.hand_in-handed.new.seat.view c.leave.result.view c.hand_in-handed.new.shard c.look-loaded.result
     (ap (λ o. caller_by (view_or o)) (sym c.in-Some.is ∙ c.take.ensures.value) ∙ c.caller.view_is) c.enter.ensures.both c.look-loaded.ensures.looked c.look-loaded.ensures.sees own.1 (omega arith) c.hand_in-handed.ensures.holds c.leave.ensures.left
 
 pub returns-clause-ticket : goal.returns-clause-ticket
 returns-clause-ticket g c =
-    let S = g.N.Naming.shards in
+    let S = g.H.Sharding.shards in
     let C = g.N.Naming.capacity in
     subst (λ (x : Caller). IfOk c.hand_in-handed.result (λ t. IsTicketOf S C t x × (t.request ≡ c.args.request) × (t.since ≡ length c.args.caller.now.seen) × IsSome t.reply)) (sym (left_caller S 0 c.hand_in-handed.new.seat.view c.leave.result.view c.leave.ensures.left))
     (subst (λ n. IfOk c.hand_in-handed.result (λ t. IsTicketOf S C t (caller_by c.hand_in-handed.new.seat.view) × (t.request ≡ c.args.request) × (t.since ≡ n) × IsSome t.reply)) c.seen-since.ensures c.hand_in-handed.ensures.ticket)
 
 pub returns-clause-own : goal.returns-clause-own
 returns-clause-own g c =
-    let own = subst (IsCaller g.N.Naming.line g.N.Naming.shards) (sym c.take.ensures.value ∙ c.in-Some.is) c.caller.invariant in
+    let own = subst (IsCaller g.N.Naming.line g.H.Sharding.shards) (sym c.take.ensures.value ∙ c.in-Some.is) c.caller.invariant in
     let within = c.look-loaded.ensures.risen.1 in
     let size = c.requires.line.1 in
     if_ok (λ t. WritesOwn (caller_by c.look-loaded.new.seat.view) t (caller_by c.hand_in-handed.new.seat.view)) (λ t. WritesOwn c.args.caller.now t (caller_by c.leave.result.view)) c.hand_in-handed.result
-    (handed_own g.N.Naming.shards g.N.Naming.capacity c.args.caller.now c.self.inside.seat.view c.in-Some.seat.view c.enter.new.seat.view c.look-loaded.new.seat.view c.hand_in-handed.new.seat.view c.leave.result.view c.hand_in-handed.new.shard c.look-loaded.result
+    (handed_own g.H.Sharding.shards g.N.Naming.capacity c.args.caller.now c.self.inside.seat.view c.in-Some.seat.view c.enter.new.seat.view c.look-loaded.new.seat.view c.hand_in-handed.new.seat.view c.leave.result.view c.hand_in-handed.new.shard c.look-loaded.result
     (ap (λ o. caller_by (view_or o)) (sym c.in-Some.is ∙ c.take.ensures.value) ∙ c.caller.view_is) c.enter.ensures.both c.look-loaded.ensures.looked c.look-loaded.ensures.sees own.1 (omega arith) c.hand_in-handed.ensures.holds c.leave.ensures.left)
     c.hand_in-handed.ensures.own
 
@@ -112,13 +112,13 @@ returns-clause-wrote g c =
 
 pub returns-clause-memory : goal.returns-clause-memory
 returns-clause-memory g c =
-    let own = subst (IsCaller g.N.Naming.line g.N.Naming.shards) (sym c.take.ensures.value ∙ c.in-Some.is) c.caller.invariant in
+    let own = subst (IsCaller g.N.Naming.line g.H.Sharding.shards) (sym c.take.ensures.value ∙ c.in-Some.is) c.caller.invariant in
     let within = c.look-loaded.ensures.risen.1 in
     let size = c.requires.line.1 in
     let notes = λ (e : c.hand_in-handed.new.seat.view ≡ c.look-loaded.new.seat.view). ap (λ (n : NotedView Writing). n.notes) c.leave.ensures.stayed ∙ ap (λ (n : NotedView Writing). n.notes) e ∙ ap (λ (n : NotedView Writing). n.notes) c.look-loaded.ensures.looked ∙ ap (λ (n : NotedView Writing). n.notes) c.enter.ensures.both in
     on_err c.hand_in-handed.result
     (λ (e : (c.hand_in-handed.new.seat.view ≡ c.look-loaded.new.seat.view) × (c.hand_in-handed.new.shard ≡ c.self.inside.shard)).
-    let back = handed_back g.N.Naming.shards g.N.Naming.capacity c.args.caller.now c.self.inside.seat.view c.in-Some.seat.view c.enter.new.seat.view c.look-loaded.new.seat.view c.hand_in-handed.new.seat.view c.leave.result.view c.hand_in-handed.new.shard c.look-loaded.result
+    let back = handed_back g.H.Sharding.shards g.N.Naming.capacity c.args.caller.now c.self.inside.seat.view c.in-Some.seat.view c.enter.new.seat.view c.look-loaded.new.seat.view c.hand_in-handed.new.seat.view c.leave.result.view c.hand_in-handed.new.shard c.look-loaded.result
     (ap (λ o. caller_by (view_or o)) (sym c.in-Some.is ∙ c.take.ensures.value) ∙ c.caller.view_is) c.enter.ensures.both c.look-loaded.ensures.looked c.look-loaded.ensures.sees own.1 (omega arith) c.hand_in-handed.ensures.holds c.leave.ensures.left e.0 in
     (left_as c.self.inside.index _ _ _ _ (notes e.0) e.1 ∙ c.self.view_is, back))
     c.hand_in-handed.ensures.memory
