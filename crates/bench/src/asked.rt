@@ -8,16 +8,25 @@ pub(crate) enum Load {
     Collector,
     Shard,
     Line,
+    Store,
 }
 
 /// All loads, in the order in which they are measured.
-pub(crate) const LOADS: [Load; 5] = [
+pub(crate) const LOADS: [Load; 6] = [
     Load::Plan,
     Load::Replay,
     Load::Collector,
     Load::Shard,
     Load::Line,
+    Load::Store,
 ];
+
+/// How many writes and how many reads the threads over a store make in all.
+#[derive(Clone, Copy)]
+pub(crate) struct Counts {
+    pub(crate) writes: u64,
+    pub(crate) reads: u64,
+}
 
 #[derive(Clone, Copy)]
 pub(crate) struct Asked {
@@ -25,6 +34,8 @@ pub(crate) struct Asked {
     load: Option<Load>,
     /// How many events a replay is to have, where the words say it.
     pub(crate) events: Option<usize>,
+    /// How much the threads over a store are to do, where the words say it.
+    pub(crate) counts: Option<Counts>,
 }
 
 impl Asked {
@@ -44,20 +55,30 @@ fn named(word: &str) -> Option<Load> {
         "collector" => Some(Load::Collector),
         "shard" => Some(Load::Shard),
         "line" => Some(Load::Line),
+        "store" => Some(Load::Store),
         _ => None,
     }
 }
 
 /// What the words after the program's name ask for, if they ask for anything that can be measured.
 pub(crate) fn read_words(words: &[String]) -> Option<Asked> {
-    let (load, events) = match words {
-        [] => (None, None),
-        [load] => (Some(named(load.as_str())?), None),
+    let (load, events, counts) = match words {
+        [] => (None, None, None),
+        [load] => (Some(named(load.as_str())?), None, None),
         [load, events] if load.as_str() == "replay" => {
             let events = events.as_str().parse::<usize>().ok()?;
-            (Some(Load::Replay), Some(events))
+            (Some(Load::Replay), Some(events), None)
+        }
+        [load, writes, reads] if load.as_str() == "store" => {
+            let writes = writes.as_str().parse::<u64>().ok()?;
+            let reads = reads.as_str().parse::<u64>().ok()?;
+            (Some(Load::Store), None, Some(Counts { writes, reads }))
         }
         _ => return None,
     };
-    Some(Asked { load, events })
+    Some(Asked {
+        load,
+        events,
+        counts,
+    })
 }

@@ -1,5 +1,5 @@
-//! How long loads take: of plans, of replays, of collections of claims, of a shard and of the line. The first word says
-//! which load; with no word all of them are measured.
+//! How long loads take: of plans, of replays, of collections of claims, of a shard, of the line and of the running store. The
+//! first word says which load; with no word all of them are measured.
 //!
 //! Standard output has what was counted, which is the same on each run; the times go to standard error.
 #![tactic(auto)]
@@ -11,6 +11,7 @@ mod plans;
 mod reading;
 mod replays;
 mod shards;
+mod stores;
 mod timing;
 
 use anyhow::Result;
@@ -24,7 +25,9 @@ const BAD_WORDS: u8 = 2;
 fn main(rt: HostRuntime) -> Result<ExitCode> {
     let words: Vec<String> = env::args(&rt)?.skip(1).collect(rt.alloc())?;
     let Some(asked) = read_words(words.as_slice()) else {
-        eprintln!(rt; "usage: bench [plan | replay [EVENTS] | collector | shard | line]")?;
+        eprintln!(rt;
+            "usage: bench [plan | replay [EVENTS] | collector | shard | line | store [WRITES READS]]"
+        )?;
         return Ok(ExitCode::from(BAD_WORDS));
     };
     for load in LOADS {
@@ -37,6 +40,7 @@ fn main(rt: HostRuntime) -> Result<ExitCode> {
             Load::Collector => collections::measure(&rt)?,
             Load::Shard => shards::measure(&rt)?,
             Load::Line => lines::measure(&rt, rt.alloc())?,
+            Load::Store => stores::measure(&rt, rt.alloc(), asked.counts)?,
         }
     }
     Ok(ExitCode::SUCCESS)

@@ -1,0 +1,118 @@
+// What a thread that writes does.
+use crate::stores::pods::{PODS, draft, key};
+use objects::{Memory, ReadError, Text};
+use racing::{SharedStore, answered};
+use requests::{Reply, Request};
+use std::alloc::Global;
+use std::sync::Wait;
+use store::NoGate;
+
+/// How often a pod is updated between its creation and its removal.
+const UPDATES: u64 = 4;
+
+/// How many writes that makes for each pod.
+const WRITES: u64 = UPDATES + 2;
+
+/// How many writes a thread makes, or up to five more, and whose pods.
+#[derive(Clone, Copy)]
+pub(crate) struct Share {
+    pub(crate) writes: u64,
+    pub(crate) index: u64,
+    pub(crate) writers: u64,
+}
+
+impl Share {
+    /// The pod that the writer takes after so many others. No other writer has it, as the number of pods is a multiple of
+    /// the number of writers.
+    fn pod(self, taken: u64) -> u64 {
+        taken.wrapping_mul(self.writers).wrapping_add(self.index) % PODS
+    }
+}
+
+fn creation(alloc: Global, pod: u64, label: u64) -> Result<Request, ReadError> {
+    Ok(Request::Create(draft(alloc, pod, label)?))
+}
+
+/// An update at that revision.
+fn update(alloc: Global, pod: u64, label: u64, revision: u64) -> Result<Request, ReadError> {
+    let version = format!(in alloc; "{revision}")?;
+    let mut draft = draft(alloc, pod, label)?;
+    draft.version = Some(Text::from(version));
+    Ok(Request::Update(draft))
+}
+
+fn removal(alloc: Global, pod: u64) -> Result<Request, ReadError> {
+    Ok(Request::Delete {
+        key: key(alloc, pod)?,
+        uid: None,
+        version: None,
+        at: None,
+    })
+}
+
+fn is_accepted(reply: &Reply) -> bool {
+    matches!(
+        reply,
+        Reply::Created(_) | Reply::Updated(_) | Reply::Removed(_)
+    )
+}
+
+/// Asks a write. Answers its revision, if it was accepted.
+fn accepted<S: SharedStore, R: Wait>(
+    rt: &R,
+    store: &S,
+    caller: &mut S::Caller,
+    request: Request,
+) -> Result<Option<u64>, Memory> {
+    let (reply, number) = answered(rt, store, &NoGate, caller, request)?;
+    let is_accepted = is_accepted(&reply);
+    drop(reply);
+    Ok(is_accepted.then_some(number))
+}
+
+/// Creates a pod, updates it, each time at the version that it has, and deletes it; the labels go up from that one. Answers
+/// how many writes were accepted: it ends with the first one that was not.
+fn write<S: SharedStore, R: Wait>(
+    rt: &R,
+    alloc: Global,
+    store: &S,
+    caller: &mut S::Caller,
+    pod: u64,
+    label: u64,
+) -> Result<u64, ReadError> {
+    let created = creation(alloc, pod, label)?;
+    let Some(mut revision) = accepted(rt, store, caller, created)? else {
+        return Ok(0);
+    };
+    for count in 1..=UPDATES {
+        let updated = update(alloc, pod, label.wrapping_add(count), revision)?;
+        let Some(next) = accepted(rt, store, caller, updated)? else {
+            return Ok(count);
+        };
+        revision = next;
+    }
+    let deleted = removal(alloc, pod)?;
+    match accepted(rt, store, caller, deleted)? {
+        Some(_) => Ok(WRITES),
+        None => Ok(WRITES - 1),
+    }
+}
+
+/// Writes one pod after the other, until there were at least so many writes or one was not accepted. Answers how many were.
+pub(crate) fn write_all<S: SharedStore, R: Wait>(
+    rt: &R,
+    alloc: Global,
+    store: &S,
+    caller: &mut S::Caller,
+    share: Share,
+) -> Result<u64, ReadError> {
+    let mut accepted = 0_u64;
+    for taken in 0..share.writes.div_ceil(WRITES) {
+        let count = write(rt, alloc, store, caller, share.pod(taken), taken)?;
+        accepted = accepted.wrapping_add(count);
+        if count < WRITES {
+            break;
+        }
+    }
+    Ok(accepted)
+}

@@ -1,0 +1,6 @@
+use Rattle.race_log.proofs.Walks.{asked-next}
+use Rattle.race_log.proofs.kubelet.kubelet_requests.Goals as goal
+
+pub loop-pod-preserved : goal.loop-pod-preserved
+loop-pod-preserved c =
+    asked-next c.args.pods.now c.loop-pod.pod-index c.pod-item.result _ _ _ c.loop-pod-test.true c.pod-item.is c.loop-pod.invariant c.in_ok-put_asked.ensures

@@ -1,0 +1,7 @@
+use Rattle.std.proofs.Common.{◌≡◌, ◌++◌, drop}
+use Rattle.race_log.specs.Kubelet.{kubelet_asks_all}
+use Rattle.race_log.proofs.kubelet.kubelet_requests.Given as goal
+
+-- what is asked and what is left to ask make the whole
+abbrev pub invariant-loop-pod : goal.invariant-loop-pod
+invariant-loop-pod l = l.asked.items ++ kubelet_asks_all (drop l.pod-index l.pods) ≡ kubelet_asks_all l.pods

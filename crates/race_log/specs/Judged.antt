@@ -1,0 +1,31 @@
+-- What a report says of a log.
+use Rattle.std.specs.Prelude.{◌≡◌, ℕ, List, [], map, IsTrue}
+use Rattle.interleavings.specs.Linearization.{IsHistory, IsLegal}
+use Rattle.std.specs.BTreeMap.{get}
+use Rattle.std.specs.Ordering.{nat_cmp}
+use Rattle.race_log.specs.declared.log.Log.{Log}
+use Rattle.race_log.specs.declared.report.RaceReport.{RaceReport}
+use Rattle.race_log.specs.declared.spec.RaceSpec.{RaceSpec}
+use Rattle.race_log.specs.declared.stamp.Stamp.{Stamp}
+use Rattle.race_log.specs.Logged.{Noted}
+use Rattle.race_log.specs.Order.{IsOrderOf}
+use Rattle.race_log.specs.Twice.{repeats, told}
+
+-- what a log says
+abbrev pub noted_of : Log → Noted
+noted_of log = record { items = log.items.items; open_calls = get nat_cmp log.open_calls; stamps = log.stamps.items }
+
+abbrev pub calls_of : List Stamp → List ℕ
+calls_of order = map (λ (s : Stamp). s.call) order
+
+-- The report names the size of the race. Where it says legal, what was noted is a history, and the order of the race is a
+-- legal one of it for a store of that capacity. `twice` is counted in that order.
+pub record IsReportOf (capacity : ℕ) (spec : RaceSpec) (log : Noted) (report : RaceReport) : Type 0 where
+  pub controllers : report.controllers ≡ spec.controllers
+  pub rounds : report.rounds ≡ spec.rounds
+  pub shards : report.shards ≡ spec.shards
+  pub order : List Stamp
+  pub ordered : IsOrderOf log.stamps order
+  pub history : IsTrue report.legal → IsHistory log.items
+  pub legal : IsTrue report.legal → IsLegal capacity log.items (calls_of order)
+  pub twice : report.twice ≡ repeats (told log.items order [])

@@ -1,0 +1,49 @@
+-- The log of a race: what is noted of requests and replies.
+use Rattle.std.specs.Prelude.{◌≡◌, ◌≢◌, ℕ, ◌<◌, ◌≤◌, Bool, true, false, not, List, [], ◌∷◌, ◌++◌, length, Option, Some, None}
+use Rattle.requests.specs.declared.request.Request.{Request}
+use Rattle.requests.specs.declared.reply.Reply.{Reply}
+use Rattle.requests.specs.declared.reply.Reply.TheVariants.{Created, Updated, Marked, Removed}
+use Rattle.interleavings.specs.declared.trace.Item.{Item}
+use Rattle.interleavings.specs.declared.trace.Item.TheVariants as item
+use Rattle.interleavings.specs.Linearization.{Answers, Has, place_of}
+use Rattle.race_log.specs.declared.stamp.Stamp.{Stamp}
+use Rattle.race_log.specs.Twice.{reply_at}
+
+-- What was asked and answered, in the order in which it was noted; by its caller, the place of each call that has no reply
+-- yet; and a stamp for each call that has one.
+pub record Noted : Type 0 where
+  pub items : List Item
+  pub open_calls : ℕ → Option ℕ
+  pub stamps : List Stamp
+
+-- it is the reply to a write that drew a number
+abbrev pub is_accepted : Reply → Bool
+is_accepted (Created o) = true
+is_accepted (Updated o) = true
+is_accepted (Marked o) = true
+is_accepted (Removed o) = true
+is_accepted _ = false
+
+-- a stamp for the call, where there is one
+abbrev pub stamp_for : Option ℕ → (number place : ℕ) → Reply → List Stamp
+stamp_for None number place reply = []
+stamp_for (Some call) number place reply = record { number = number; follows = not (is_accepted reply); call = call; reply = place } ∷ []
+
+-- the caller's last call stands at the place, and has no reply
+pub record IsOpen (items : List Item) (caller place : ℕ) : Type 0 where
+  pub request : Request
+  pub called : Has (item.Call place caller request) items
+  pub last : (p : ℕ) (r : Request) → Has (item.Call p caller r) items → p ≤ place
+  pub no_reply : (p : ℕ) (r : Reply) → Has (item.Reply p caller r) items → p < place
+
+-- the reply that the stamp names answers the call that it names
+pub record IsStamped (items : List Item) (s : Stamp) : Type 0 where
+  pub reply : Reply
+  pub is : reply_at items s.reply ≡ Some reply
+  pub answers : Answers items s.reply s.call reply
+
+-- places are below the length, and calls and stamps are what they say
+pub record IsNoted (n : Noted) : Type 0 where
+  pub placed : (i : Item) → Has i n.items → place_of i < length n.items
+  pub waits : (caller place : ℕ) → n.open_calls caller ≡ Some place → IsOpen n.items caller place
+  pub stamped : (s : Stamp) → Has s n.stamps → IsStamped n.items s

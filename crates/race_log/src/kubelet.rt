@@ -1,0 +1,142 @@
+// A kubelet: it takes marked pods away, and makes the others ready.
+ghost use Rattle.std.specs.Prelude.{◌≡◌, ◌++◌, ◌∷◌, [], ◌<◌, ◌^◌, decimal, IfOk, OnOk, Some, None, option_to_list};
+ghost use Rattle.serde_json.specs.Data.{array, item, no_items};
+ghost use Rattle.objects.specs.Tree.{data_of};
+ghost use Rattle.objects.specs.Uid.{uid_text};
+ghost use Rattle.requests.specs.declared.request.Request.TheVariants.{Delete, UpdateStatus};
+ghost use Rattle.race_log.specs.Kubelet.{is_ready, kubelet_asks, kubelet_asks_all, made_ready, ready_condition, ready_status, unless_zero};
+
+use objects::{Draft, Items, Members, Memory, Object, Text, Tree, uid_text};
+use requests::Request;
+use set_views::{Readiness, read_pod};
+use std::alloc::{AllocError, Global};
+
+/// The condition of a pod that is ready.
+fn ready_condition(alloc: Global) -> Result<Tree, AllocError>
+    ensures { IfOk result (λ condition. data_of condition ≡ ready_condition) }
+{
+    let word = Text::copy_of(alloc, "True")?;
+    let kind = Text::copy_of(alloc, "Ready")?;
+    let none = Members::of(alloc, Vec::new(alloc))?;
+    let with_status = none.with("status", Some(Tree::Text(word)))?;
+    let whole = with_status.with("type", Some(Tree::Text(kind)))?;
+    Ok(Tree::Map(whole))
+}
+
+/// The conditions of a pod that is ready.
+fn ready_conditions(alloc: Global) -> Result<Tree, AllocError>
+    ensures { IfOk result (λ conditions. data_of conditions ≡ array (item ready_condition no_items)) }
+{
+    let mut conditions = Vec::new(alloc);
+    conditions.push(ready_condition(alloc)?)?;
+    Ok(Tree::List(Items::of(alloc, conditions)?))
+}
+
+/// The status of a pod that runs and is ready.
+fn ready_status(alloc: Global) -> Result<Tree, AllocError>
+    ensures { IfOk result (λ status. data_of status ≡ ready_status) }
+{
+    let conditions = ready_conditions(alloc)?;
+    let phase = Text::copy_of(alloc, "Running")?;
+    let none = Members::of(alloc, Vec::new(alloc))?;
+    let with_conditions = none.with("conditions", Some(conditions))?;
+    let whole = with_conditions.with("phase", Some(Tree::Text(phase)))?;
+    Ok(Tree::Map(whole))
+}
+
+fn given_uid(alloc: Global, number: u64) -> Result<Option<Text>, AllocError>
+    requires { number < 2 ^ 48 }
+    ensures { IfOk result (λ text. text ≡ unless_zero uid_text number) }
+{
+    if number == 0 {
+        return Ok(None);
+    }
+    Ok(Some(Text::from(uid_text(alloc, number)?)))
+}
+
+fn given_version(alloc: Global, number: u64) -> Result<Option<Text>, AllocError>
+    ensures { IfOk result (λ text. text ≡ unless_zero decimal number) }
+{
+    if number == 0 {
+        return Ok(None);
+    }
+    Ok(Some(Text::from(format!(in alloc; "{number}")?)))
+}
+
+/// The texts of the pod's UID and version.
+fn texts_of(alloc: Global, pod: &Object) -> Result<(Option<Text>, Option<Text>), AllocError>
+    ensures { IfOk result (λ texts. (texts.0 ≡ unless_zero uid_text pod.now.meta.uid) × (texts.1 ≡ unless_zero decimal pod.now.meta.revision)) }
+{
+    let uid = given_uid(alloc, pod.meta.uid)?;
+    let version = given_version(alloc, pod.meta.revision)?;
+    Ok((uid, version))
+}
+
+/// The pod, to be written with the status of a ready one.
+fn made_ready(alloc: Global, pod: &Object) -> Result<Draft, AllocError>
+    ensures { IfOk result (λ draft. draft ≡ made_ready pod.now) }
+{
+    let status = ready_status(alloc)?;
+    let (uid, version) = texts_of(alloc, pod)?;
+    let object = pod.clone()?.with_status(Some(status))?;
+    Ok(Draft {
+        object,
+        uid,
+        version,
+    })
+}
+
+/// The delete of a pod by its UID.
+fn removal(alloc: Global, pod: &Object) -> Result<Request, AllocError>
+    ensures { IfOk result (λ r. r ≡ Delete pod.now.key (Some (uid_text pod.now.meta.uid)) None None) }
+{
+    let uid = Text::from(uid_text(alloc, pod.meta.uid)?);
+    Ok(Request::Delete {
+        key: pod.key.clone()?,
+        uid: Some(uid),
+        version: None,
+        at: None,
+    })
+}
+
+fn is_ready(readiness: Readiness) -> bool
+    ensures { result ≡ is_ready readiness }
+{
+    matches!(readiness, Readiness::Ready)
+}
+
+/// What the kubelet asks of a pod, if anything.
+fn asked_of(alloc: Global, pod: &Object) -> Result<Option<Request>, AllocError>
+    ensures { IfOk result (λ asked. option_to_list asked ≡ kubelet_asks pod.now) }
+{
+    let view = read_pod(pod);
+    if view.terminating {
+        return Ok(Some(removal(alloc, pod)?));
+    }
+    if is_ready(view.readiness) {
+        return Ok(None);
+    }
+    Ok(Some(Request::UpdateStatus(made_ready(alloc, pod)?)))
+}
+
+/// Adds what the kubelet asks of a pod.
+fn put_asked(alloc: Global, pod: &Object, asked: &mut Vec<Request>) -> Result<(), Memory>
+    ensures { OnOk result (asked.new.items ≡ asked.old.items ++ kubelet_asks pod.now) }
+{
+    let Some(request) = asked_of(alloc, pod)? else {
+        return Ok(());
+    };
+    asked.push(request)?;
+    Ok(())
+}
+
+/// What the kubelet asks of these pods, one after another.
+pub fn kubelet_requests(alloc: Global, pods: &[Object]) -> Result<Vec<Request>, Memory>
+    ensures { IfOk result (λ asked. asked.items ≡ kubelet_asks_all pods.now) }
+{
+    let mut asked = Vec::new(alloc);
+    for pod in pods {
+        put_asked(alloc, pod, &mut asked)?;
+    }
+    Ok(asked)
+}

@@ -1,0 +1,68 @@
+// The set that a race is about.
+ghost use Rattle.std.specs.Prelude.{◌≡◌, IfOk, codes, false, true};
+ghost use Rattle.serde_json.specs.Data.{no_members, put};
+ghost use Rattle.objects.specs.Tree.{data_of};
+ghost use Rattle.objects.specs.declared.kind.Kind.TheVariants.{StatefulSet};
+ghost use Rattle.objects.specs.Key.{key_parts};
+ghost use Rattle.race_log.specs.Raced.{creates_set, namespace_raced, set_raced, spec_raced};
+
+use objects::{Draft, Key, Kind, Members, Memory, Object, Text, Tree, Whole};
+use requests::Request;
+use std::alloc::{AllocError, Global};
+
+/// The namespace of the set.
+pub const NAMESPACE: &str = "default";
+
+/// The name of the set.
+pub const SET: &str = "web";
+
+#[tactic(auto, unfolding(objects::specs::Names::is_dns_label))]
+fn key(alloc: Global) -> Result<Key, AllocError>
+    ensures { IfOk result (λ key. key ≡ key_parts StatefulSet namespace_raced set_raced) }
+{
+    let namespace = Text::copy_of(alloc, NAMESPACE)?;
+    let name = Text::copy_of(alloc, SET)?;
+    Ok(Key {
+        kind: Kind::StatefulSet,
+        namespace,
+        name,
+    })
+}
+
+fn none(alloc: Global) -> Result<Members, AllocError>
+    ensures { IfOk result (λ members. members ≡ no_members) }
+{
+    Members::of(alloc, Vec::new(alloc))
+}
+
+fn spec(alloc: Global, replicas: u64) -> Result<Tree, AllocError>
+    ensures { IfOk result (λ spec. data_of spec ≡ spec_raced replicas) }
+{
+    let template = none(alloc)?;
+    let counted = none(alloc)?.with("replicas", Some(Tree::Whole(Whole::from(replicas))))?;
+    let whole = counted.with("template", Some(Tree::Map(template)))?;
+    Ok(Tree::Map(whole))
+}
+
+/// The members of the set.
+fn members(alloc: Global, replicas: u64) -> Result<Members, AllocError>
+    ensures { IfOk result (λ members. members ≡ put (codes "spec") (spec_raced replicas) no_members) }
+{
+    let spec = spec(alloc, replicas)?;
+    none(alloc)?.with("spec", Some(spec))
+}
+
+/// The create of the set: `web` in `default`, with an empty template and no claims, whose pods come in order.
+#[tactic(auto, unfolding(objects::specs::MetadataShape::metadata_fits))]
+pub fn set_creation(alloc: Global, replicas: u64) -> Result<Request, Memory>
+    ensures { IfOk result (λ request. request ≡ creates_set replicas) }
+{
+    let key = key(alloc)?;
+    let members = members(alloc, replicas)?;
+    let object = Object::of(alloc, key, none(alloc)?, members)?;
+    Ok(Request::Create(Draft {
+        object,
+        uid: None,
+        version: None,
+    }))
+}

@@ -1,0 +1,104 @@
+// How often a pod was created while another one of its name lived.
+ghost use Rattle.std.specs.Prelude.{◌≡◌, ◌<◌, ◌≤◌, ◌^◌, ◌+◌, ◌∷◌, [], List, IfOk, OnOk, option_map};
+ghost use Rattle.requests.specs.declared.reply.Reply.{Reply};
+ghost use Rattle.requests.specs.declared.reply.Reply.TheVariants.{Created};
+ghost use Rattle.race_log.specs.Living.{Knows};
+ghost use Rattle.race_log.specs.Twice.{is_pod, repeats, reply_at, told, with_next};
+
+use crate::stamp::Stamp;
+use interleavings::Item;
+use objects::{Key, Kind, Memory, Object};
+use requests::Reply;
+use std::alloc::Global;
+use std::collections::BTreeSet;
+
+/// The keys that live, and how often a pod was created whose name another one had.
+#[derive(Drop)]
+struct Living {
+    keys: BTreeSet<Key>,
+    again: u64,
+}
+
+fn is_pod(kind: Kind) -> bool
+    ensures { result ≡ is_pod kind }
+{
+    matches!(kind, Kind::Pod)
+}
+
+impl Living {
+    /// An object was created.
+    fn begin(&mut self, object: &Object) -> Result<(), Memory>
+        requires { self.old.again + 1 < 2 ^ 64 }
+        ensures known { (earlier : List Reply) → Knows self.old earlier → OnOk result (Knows self.new (Created object.now ∷ earlier)) }
+        ensures counted { self.new.again ≤ self.old.again + 1 }
+    {
+        let is_new = self.keys.insert(object.key.clone()?)?;
+        if is_pod(object.key.kind) && !is_new {
+            self.again += 1;
+        }
+        Ok(())
+    }
+
+    /// The next reply.
+    fn take(&mut self, reply: &Reply) -> Result<(), Memory>
+        requires { self.old.again + 1 < 2 ^ 64 }
+        ensures known { (earlier : List Reply) → Knows self.old earlier → OnOk result (Knows self.new (reply.now ∷ earlier)) }
+        ensures counted { self.new.again ≤ self.old.again + 1 }
+    {
+        match reply {
+            Reply::Created(object) => self.begin(object),
+            Reply::Removed(object) => {
+                self.keys.remove(&object.key);
+                Ok(())
+            }
+            _ => Ok(()),
+        }
+    }
+}
+
+/// The reply that was noted at a place.
+fn reply_at(items: &[Item], place: u64) -> Option<&Reply>
+    ensures { option_map (λ r. r.now) result ≡ reply_at items.now place }
+{
+    match items.get(place as usize) {
+        Some(
+            Item::Reply {
+                place: _,
+                caller: _,
+                reply,
+            },
+        ) => Some(reply),
+        _ => None,
+    }
+}
+
+impl Living {
+    /// The next reply, which was noted at a place.
+    fn take_at(&mut self, items: &[Item], place: u64) -> Result<(), Memory>
+        requires { self.old.again + 1 < 2 ^ 64 }
+        ensures known { (earlier : List Reply) → Knows self.old earlier → OnOk result (Knows self.new (with_next (reply_at items.now place) earlier)) }
+        ensures counted { self.new.again ≤ self.old.again + 1 }
+    {
+        match reply_at(items, place) {
+            Some(reply) => self.take(reply),
+            None => Ok(()),
+        }
+    }
+}
+
+/// How many of the accepted creates of a pod follow, in the order, another one of its name with no accepted removal
+/// between.
+pub(crate) fn repeats(alloc: Global, items: &[Item], order: &[Stamp]) -> Result<u64, Memory>
+    ensures { IfOk result (λ n. n ≡ repeats (told items.now order.now [])) }
+{
+    let mut living = Living {
+        keys: BTreeSet::new(alloc),
+        again: 0,
+    };
+    for stamp in order {
+        living.take_at(items, stamp.reply)?;
+    }
+    let Living { keys, again } = living;
+    drop(keys);
+    Ok(again)
+}

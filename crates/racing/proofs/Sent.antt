@@ -1,0 +1,13 @@
+-- That the log of a race may go to another thread, and so may be shared behind a lock.
+use denote.Param.Send.{IsSend, sendable}
+use Rattle.std.proofs.Crossing.{crosses}
+use Rattle.std.proofs.MapsCrossing.{crosses as maps}
+use Rattle.interleavings.specs.contracts.trace.Item as Item
+use Rattle.race_log.specs.contracts.log.Log as Log
+use Rattle.store.proofs.Sent.{reply-send, request-send}
+
+Item-send : IsSend Item.the_row
+Item-send = search (reply-send, request-send, sendable, crosses) depth 40
+
+pub Log-send : IsSend Log.the_row
+Log-send = search (Item-send, sendable, crosses, maps) depth 40

@@ -1,0 +1,79 @@
+// How a racer asks.
+ghost use Rattle.std.specs.Prelude.{◌≡◌, true, false, IfOk};
+ghost use Rattle.requests.specs.Verdict.{is_write};
+
+use crate::shared::SharedStore;
+use objects::Memory;
+use requests::{Reply, Request};
+use std::sync::Wait;
+use std::thread::yield_now;
+use store::Gate;
+
+/// Asks a write, and tries for its reply until it comes.
+fn written<S: SharedStore, R: Wait, G: Gate>(
+    rt: &R,
+    store: &S,
+    gate: &G,
+    caller: &mut S::Caller,
+    request: Request,
+) -> Result<(Reply, u64), Memory>
+    requires { is_write request ≡ true }
+    ensures { IfOk result (λ r. S.gave request r.0 r.1) }
+{
+    let mut ticket = store.submit(rt, caller, request, gate)?;
+    for _ in rt.forever() {
+        if let Some(reply) = store.try_reply(&mut ticket, caller) {
+            let place = store.place(&ticket);
+            return Ok((reply, place));
+        }
+        yield_now();
+    }
+    unreachable!()
+}
+
+/// Asks what is no write.
+fn read<S: SharedStore, R: Wait>(
+    rt: &R,
+    store: &S,
+    caller: &mut S::Caller,
+    request: &Request,
+) -> Result<(Reply, u64), Memory>
+    requires { is_write request.now ≡ false }
+    ensures { IfOk result (λ r. S.gave request.now r.0 r.1) }
+{
+    let reply = match request {
+        Request::Get(key) => store.get(rt, caller, key)?,
+        Request::List {
+            kind,
+            namespace,
+            exact: 0,
+        } => store.list(rt, caller, *kind, namespace)?,
+        Request::List {
+            kind,
+            namespace,
+            exact,
+        } => store.list_at(rt, caller, *kind, namespace, *exact)?,
+        Request::Compact { to } => store.compact(rt, caller, *to),
+        _ => unreachable!(),
+    };
+    Ok((reply, store.seen(caller)))
+}
+
+/// Asks a request, and tries for the reply to a write until it comes. It answers the reply, and where that stands: the number
+/// of an accepted write, else the number up to which the answer looked.
+pub fn answered<S: SharedStore, R: Wait, G: Gate>(
+    rt: &R,
+    store: &S,
+    gate: &G,
+    caller: &mut S::Caller,
+    request: Request,
+) -> Result<(Reply, u64), Memory>
+    ensures { IfOk result (λ r. S.gave request r.0 r.1) }
+{
+    if request.is_write() {
+        return written(rt, store, gate, caller, request);
+    }
+    let answer = read(rt, store, caller, &request);
+    drop(request);
+    answer
+}

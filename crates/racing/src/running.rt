@@ -1,0 +1,170 @@
+// Races over the running store.
+ghost use Rattle.std.specs.Prelude.{◌≡◌, ◌↔◌, ◌<◌, false, true, IfOk, IsErrOf, IsTrue, vec_len};
+ghost use Rattle.line.specs.Seat.{AreShards};
+ghost use Rattle.store.specs.Callers.{IsLine};
+ghost use Rattle.race_log.specs.Judged.{IsReportOf};
+ghost use Rattle.race_log.specs.Limits.{is_race};
+ghost use Rattle.race_log.specs.Logged.{Noted};
+
+use crate::shared::SharedStore;
+use crate::threads::race_over;
+use line::{Ends, Line, LineError};
+use objects::{Key, Kind, Memory, Text};
+use race_log::{CAPACITY, RaceFault, RaceReport, RaceSpec};
+use requests::{Reply, Request};
+use std::alloc::Global;
+use std::marker::Brand;
+use std::sync::Wait;
+use std::thread::Threads;
+use store::{ByShards, Caller, Gate, Naming, Sharding, Store, StoreError, Ticket, Writing};
+
+/// No race has as many callers as a store may have.
+fn memory_of(error: StoreError) -> Memory {
+    let _ = error;
+    Memory
+}
+
+impl<H: Sharding, N: Naming> SharedStore for Store<H, N> {
+    ghost use Rattle.std.specs.Prelude.{length};
+    ghost use Rattle.store.specs.Tickets.{IsTicketOf};
+    ghost use Rattle.racing.specs.Given.{IsGiven};
+
+    type Caller = Caller<H, N>;
+
+    type Ticket = Ticket<H, N>;
+
+    ghost gave = { IsGiven N.capacity };
+
+    ghost asked = { λ ticket. ticket.request };
+
+    ghost place_of = { λ ticket. ticket.place };
+
+    ghost is_of = { λ ticket caller. IsTicketOf H.shards N.capacity ticket caller };
+
+    ghost seen_by = { λ caller. length caller.seen };
+
+    fn caller<R: Wait>(&self, rt: &R) -> Result<Caller<H, N>, Memory> {
+        Store::caller(self, rt).map_err(memory_of)
+    }
+
+    fn submit<R: Wait, G: Gate>(
+        &self,
+        rt: &R,
+        caller: &mut Caller<H, N>,
+        request: Request,
+        gate: &G,
+    ) -> Result<Ticket<H, N>, Memory> {
+        Store::submit(self, rt, caller, request, gate)
+    }
+
+    fn try_reply(&self, ticket: &mut Ticket<H, N>, caller: &mut Caller<H, N>) -> Option<Reply> {
+        ticket.try_reply(self, caller)
+    }
+
+    fn place(&self, ticket: &Ticket<H, N>) -> u64 {
+        ticket.place()
+    }
+
+    fn get<R: Wait>(&self, rt: &R, caller: &mut Caller<H, N>, key: &Key) -> Result<Reply, Memory> {
+        Store::get(self, rt, caller, key)
+    }
+
+    fn list<R: Wait>(
+        &self,
+        rt: &R,
+        caller: &mut Caller<H, N>,
+        kind: Kind,
+        namespace: &Text,
+    ) -> Result<Reply, Memory> {
+        Store::list(self, rt, caller, kind, namespace)
+    }
+
+    fn list_at<R: Wait>(
+        &self,
+        rt: &R,
+        caller: &mut Caller<H, N>,
+        kind: Kind,
+        namespace: &Text,
+        exact: u64,
+    ) -> Result<Reply, Memory> {
+        Store::list_at(self, rt, caller, kind, namespace, exact)
+    }
+
+    fn compact<R: Wait>(&self, rt: &R, caller: &mut Caller<H, N>, to: u64) -> Reply {
+        Store::compact(self, rt, caller, to)
+    }
+
+    fn seen(&self, caller: &Caller<H, N>) -> u64 {
+        caller.seen()
+    }
+}
+
+/// Races over the store of that line.
+fn race_over_line<
+    H: Sharding + Send + Sync,
+    N: Naming + Send + Sync,
+    R: Threads + Wait + Sync,
+    G: Gate + Sync,
+>(
+    rt: &R,
+    alloc: Global,
+    ends: Ends<Writing, ByShards<H>>,
+    spec: &RaceSpec,
+    gate: &G,
+) -> Result<RaceReport, RaceFault>
+    requires line { IsLine N.line N.capacity ends.line }
+    requires caller { ends.caller.line ≡ N.line }
+    requires shards { AreShards N.line N.capacity ends.shards.items }
+    requires some { (vec_len ends.shards ≡ H.shards) × (0 < H.shards) }
+    requires allowed { is_race spec.now ≡ true }
+    ensures allowed { IsErrOf result RaceFault.BadRace → ⊥ }
+    ensures report { IfOk result (λ report. (log : Noted) × IsReportOf CAPACITY spec.now log report) }
+    ensures once { IfOk result (λ report. IsTrue report.legal → report.twice ≡ 0) }
+{
+    match Store::<H, N>::new(alloc, ends) {
+        Ok(store) => race_over(rt, alloc, &store, spec, gate),
+        Err(_) => Err(RaceFault::Memory),
+    }
+}
+
+/// Races over a new store of so many shards.
+fn race_over_shards<H: Sharding + Send + Sync, R: Threads + Wait + Sync, G: Gate + Sync>(
+    rt: &R,
+    alloc: Global,
+    spec: &RaceSpec,
+    gate: &G,
+) -> Result<RaceReport, RaceFault>
+    requires shards { H.shards ≡ spec.now.shards }
+    requires allowed { is_race spec.now ≡ true }
+    ensures allowed { IsErrOf result RaceFault.BadRace → ⊥ }
+    ensures report { IfOk result (λ report. (log : Noted) × IsReportOf CAPACITY spec.now log report) }
+    ensures once { IfOk result (λ report. IsTrue report.legal → report.twice ≡ 0) }
+{
+    match Line::<Writing, ByShards<H>>::new(alloc, CAPACITY, spec.shards as usize) {
+        Ok(ends) => race_over_line::<H, Brand, R, G>(rt, alloc, ends, spec, gate),
+        Err(LineError::Memory) => Err(RaceFault::Memory),
+        Err(_) => unreachable!(),
+    }
+}
+
+/// Races over a new store, and judges the race by its log. Each controller is a thread, and the kubelet is one; all are
+/// joined. Where it is legal, no pod was created while another one of its name lived.
+///
+/// # Errors
+///
+/// BadRace for a size out of range, and Memory.
+pub fn race<R: Threads + Wait + Sync, G: Gate + Sync>(
+    rt: &R,
+    alloc: Global,
+    spec: &RaceSpec,
+    gate: &G,
+) -> Result<RaceReport, RaceFault>
+    ensures refused { IsErrOf result RaceFault.BadRace ↔ (is_race spec.now ≡ false) }
+    ensures report { IfOk result (λ report. (log : Noted) × IsReportOf CAPACITY spec.now log report) }
+    ensures once { IfOk result (λ report. IsTrue report.legal → report.twice ≡ 0) }
+{
+    if !spec.is_allowed() {
+        return Err(RaceFault::BadRace);
+    }
+    race_over_shards::<Brand, R, G>(rt, alloc, spec, gate)
+}

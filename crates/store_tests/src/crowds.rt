@@ -1,0 +1,149 @@
+// Eight threads at once, whose log is judged.
+use crate::asking::{Asked, request_of};
+use race_log::{Log, RaceSpec, judged};
+use racing::{SharedStore, answered};
+use requests::Request;
+use std::alloc::Global;
+use std::process::Abort;
+use std::sync::{Mutex, Wait};
+use std::test::Fail;
+use std::thread;
+use std::thread::Threads;
+use store::NoGate;
+
+/// So few that the store is full before the end.
+pub(crate) const CAPACITY: u64 = 4_000;
+
+const THREADS: usize = 8;
+
+/// How many requests each thread makes.
+const REQUESTS: u64 = 1_000;
+
+/// What is asked by chance: of 32 requests ten are creates, nine updates, five deletes, four gets and three lists, and one
+/// is a compaction.
+static ASKED: [Asked; 31] = [
+    Asked::Create(r#"{"kind":"Pod","metadata":{"name":"a"}}"#),
+    Asked::Create(r#"{"kind":"Pod","metadata":{"name":"b"}}"#),
+    Asked::Create(r#"{"kind":"Pod","metadata":{"name":"c"}}"#),
+    Asked::Create(r#"{"kind":"Pod","metadata":{"name":"d"}}"#),
+    Asked::Create(r#"{"kind":"Pod","metadata":{"name":"e"}}"#),
+    Asked::Create(r#"{"kind":"Pod","metadata":{"name":"f"}}"#),
+    Asked::Create(r#"{"kind":"Pod","metadata":{"name":"g"}}"#),
+    Asked::Create(r#"{"kind":"Pod","metadata":{"name":"h"}}"#),
+    Asked::Create(r#"{"kind":"Pod","metadata":{"name":"a"},"spec":{"x":1}}"#),
+    Asked::Create(r#"{"kind":"Pod","metadata":{"name":"b"},"spec":{"x":1}}"#),
+    Asked::Update(r#"{"kind":"Pod","metadata":{"name":"a"},"spec":{"x":1}}"#),
+    Asked::Update(r#"{"kind":"Pod","metadata":{"name":"a"},"spec":{"x":2}}"#),
+    Asked::Update(r#"{"kind":"Pod","metadata":{"name":"b"},"spec":{"x":1}}"#),
+    Asked::Update(r#"{"kind":"Pod","metadata":{"name":"c"},"spec":{"x":2}}"#),
+    Asked::Update(r#"{"kind":"Pod","metadata":{"name":"d"},"spec":{"x":2}}"#),
+    Asked::Update(r#"{"kind":"Pod","metadata":{"name":"e"},"spec":{"x":2}}"#),
+    Asked::Update(r#"{"kind":"Pod","metadata":{"labels":{"x":"y"},"name":"a"}}"#),
+    Asked::Update(r#"{"kind":"Pod","metadata":{"name":"a","resourceVersion":"7"}}"#),
+    Asked::Update(r#"{"kind":"Pod","metadata":{"name":"b","resourceVersion":"8"}}"#),
+    Asked::Remove("a"),
+    Asked::Remove("b"),
+    Asked::Remove("c"),
+    Asked::Remove("h"),
+    Asked::Mark("d"),
+    Asked::Get("a"),
+    Asked::Get("b"),
+    Asked::Get("c"),
+    Asked::Get("h"),
+    Asked::List,
+    Asked::List,
+    Asked::List,
+];
+
+/// The next number that looks like chance, by the multiplier and the increment of Knuth's MMIX.
+fn rolled(state: u64) -> u64 {
+    state
+        .wrapping_mul(6_364_136_223_846_793_005)
+        .wrapping_add(1_442_695_040_888_963_407)
+}
+
+/// Notes the call of a copy of the request.
+fn note_call<R: Wait>(rt: &R, log: &Mutex<Log>, name: u64, request: &Request) -> Option<()> {
+    let noted = request.clone().ok()?;
+    log.lock(rt).call(name, noted).ok()
+}
+
+/// Asks one request, and notes it with its answer.
+fn ask<S: SharedStore, R: Wait>(
+    rt: &R,
+    alloc: Global,
+    store: &S,
+    caller: &mut S::Caller,
+    log: &Mutex<Log>,
+    name: u64,
+    asked: Asked,
+) -> Option<()> {
+    let request = request_of(alloc, asked)?;
+    if note_call(rt, log, name, &request).is_none() {
+        drop(request);
+        return None;
+    }
+    let (reply, number) = answered(rt, store, &NoGate, caller, request).ok()?;
+    log.lock(rt).reply(name, number, reply).ok()
+}
+
+/// All requests of one thread, by a caller of its own. Compactions are to what it has seen, and are not noted.
+fn work<S: SharedStore, R: Wait>(
+    rt: &R,
+    alloc: Global,
+    store: &S,
+    log: &Mutex<Log>,
+    name: u64,
+) -> Option<()> {
+    let mut caller = store.caller(rt).ok()?;
+    let mut state = rolled(name.wrapping_add(1));
+    for _ in 0..REQUESTS {
+        state = rolled(state);
+        match ASKED.get((state >> 33) as usize % 32) {
+            Some(asked) => ask(rt, alloc, store, &mut caller, log, name, *asked)?,
+            None => {
+                let seen = store.seen(&caller);
+                drop(store.compact(rt, &mut caller, seen));
+            }
+        }
+    }
+    Some(())
+}
+
+/// The log has a legal order: by the number of writes, the last of these first, and then as the requests were called.
+fn assert_legal<R: Abort>(rt: &R, alloc: Global, log: Log) -> Result<(), Fail> {
+    let size = RaceSpec {
+        controllers: THREADS as u64,
+        shards: 8,
+        rounds: REQUESTS,
+        replicas: 0,
+    };
+    let report = judged(alloc, CAPACITY, &size, log)?;
+    assert!(rt; report.legal, "the order is legal");
+    assert_eq!(rt; report.twice, 0, "pods that were created twice");
+    Ok(())
+}
+
+/// Eight threads ask by chance; what they were told is legal.
+pub(crate) fn assert_told<S: SharedStore + Sync, R: Threads + Wait + Abort + Sync>(
+    rt: &R,
+    alloc: Global,
+    store: &S,
+) -> Result<(), Fail>
+where
+    S::Caller: Send,
+    S::Ticket: Send,
+{
+    let log = Mutex::new(Log::new(alloc));
+    let noted = &log;
+    let done = thread::map_indices(
+        rt,
+        alloc,
+        THREADS,
+        &|index: usize| { work(rt, alloc, store, noted, index as u64).is_some() },
+    )?;
+    for (index, is_done) in done.iter().enumerate() {
+        assert!(rt; *is_done, "the thread {index}");
+    }
+    assert_legal(rt, alloc, log.into_inner())
+}

@@ -1,0 +1,177 @@
+// Two threads, of which one is held between the draw of its number and its fill.
+ghost use Rattle.std.specs.Prelude.{◌≡◌, true};
+ghost use Rattle.requests.specs.Verdict.{is_write};
+
+use crate::asking::{TURNS, create, text_of};
+use racing::SharedStore;
+use requests::{Reply, Request};
+use std::alloc::Global;
+use std::process::Abort;
+use std::sync::Wait;
+use std::sync::atomic::{AtomicU64, Ordering};
+use std::test::Fail;
+use std::thread::{Threads, join, yield_now};
+use store::{Gate, NoGate};
+
+/// Steps that the threads have come to.
+#[derive(Drop)]
+struct Steps {
+    drawn: AtomicU64,
+    tried: AtomicU64,
+    filled: AtomicU64,
+    late: AtomicU64,
+}
+
+/// Waits until the step is made, and says whether it was.
+fn is_made(step: &AtomicU64) -> bool {
+    for _ in 0..TURNS {
+        if step.load(Ordering::SeqCst) != 0 {
+            return true;
+        }
+        yield_now();
+    }
+    false
+}
+
+fn make(step: &AtomicU64) {
+    step.store(1, Ordering::SeqCst);
+}
+
+impl Gate for Steps {
+    fn between(&self, number: u64) {
+        if number != 1 {
+            return;
+        }
+        make(&self.drawn);
+        if !is_made(&self.tried) {
+            make(&self.late);
+        }
+    }
+
+    fn round(&self, _controller: u64, _round: u64) {}
+}
+
+fn first<S: SharedStore, R: Wait>(
+    rt: &R,
+    alloc: Global,
+    store: &S,
+    mut caller: S::Caller,
+    steps: &Steps,
+) -> bool {
+    let Some(request) = create(alloc, r#"{"kind":"Pod","metadata":{"name":"b"}}"#) else {
+        return false;
+    };
+    let submitted = store.submit(rt, &mut caller, request, steps);
+    make(&steps.filled);
+    match submitted {
+        Ok(ticket) => store.place(&ticket) == 1,
+        Err(_) => false,
+    }
+}
+
+/// The text of the reply to the create of a, or none where a step came too early or too late.
+fn second<S: SharedStore, R: Wait>(
+    rt: &R,
+    alloc: Global,
+    store: &S,
+    mut caller: S::Caller,
+    steps: &Steps,
+) -> Option<String> {
+    let request = create(alloc, r#"{"kind":"Pod","metadata":{"name":"a"}}"#)?;
+    if !is_made(&steps.drawn) {
+        drop(request);
+        return None;
+    }
+    let reply = answered_in_steps(rt, store, &mut caller, request, steps)?;
+    let text = text_of(alloc, &reply);
+    drop(reply);
+    text
+}
+
+/// Whether a try finds nothing yet.
+fn is_early<S: SharedStore>(store: &S, caller: &mut S::Caller, ticket: &mut S::Ticket) -> bool
+    requires { S.is_of ticket.old caller.old }
+    ensures { S.is_of ticket.new caller.new }
+{
+    match store.try_reply(ticket, caller) {
+        Some(reply) => {
+            drop(reply);
+            false
+        }
+        None => true,
+    }
+}
+
+/// The reply to the third try: the first one is made before the fill of the other thread's number, and finds nothing; so does
+/// the second one, which only raises the frontier to that number.
+fn third_try<S: SharedStore>(
+    store: &S,
+    caller: &mut S::Caller,
+    ticket: S::Ticket,
+    steps: &Steps,
+) -> Option<Reply>
+    requires { S.is_of ticket caller.old }
+{
+    let mut ticket = ticket;
+    let first = is_early(store, caller, &mut ticket);
+    make(&steps.tried);
+    let filled = is_made(&steps.filled);
+    let second = is_early(store, caller, &mut ticket);
+    let seen = store.seen(caller);
+    let reply = store.try_reply(&mut ticket, caller);
+    if first && filled && second && seen == 1 {
+        return reply;
+    }
+    drop(reply);
+    None
+}
+
+/// The reply to a write that is tried in these steps.
+fn answered_in_steps<S: SharedStore, R: Wait>(
+    rt: &R,
+    store: &S,
+    caller: &mut S::Caller,
+    request: Request,
+    steps: &Steps,
+) -> Option<Reply>
+    requires { is_write request ≡ true }
+{
+    match store.submit(rt, caller, request, &NoGate) {
+        Ok(ticket) => third_try(store, caller, ticket, steps),
+        Err(_) => None,
+    }
+}
+
+/// A shard works while another is held, and its write waits for the number before its own.
+pub(crate) fn assert_steps<S: SharedStore + Sync, R: Threads + Wait + Abort + Sync>(
+    rt: &R,
+    alloc: Global,
+    store: &S,
+) -> Result<(), Fail>
+where
+    S::Caller: Send,
+    S::Ticket: Send,
+{
+    let one = store.caller(rt)?;
+    let two = store.caller(rt)?;
+    let steps = Steps {
+        drawn: AtomicU64::new(0),
+        tried: AtomicU64::new(0),
+        filled: AtomicU64::new(0),
+        late: AtomicU64::new(0),
+    };
+    let made = &steps;
+    let (placed, text) = join(
+        rt,
+        || first(rt, alloc, store, one, made),
+        || second(rt, alloc, store, two, made),
+    );
+    assert!(rt; placed, "the first create is of the number 1");
+    assert_eq!(rt; steps.late.load(Ordering::SeqCst), 0);
+    let text = text.ok_or("no reply")?;
+    assert_eq!(rt;
+        text.as_str(),
+        r#"Created {"kind":"Pod","metadata":{"generation":1,"name":"a","namespace":"default","resourceVersion":"2","uid":"00000000-0000-4000-8000-000000000002"}}"#
+    );
+    Ok(())
+}

@@ -1,0 +1,101 @@
+// What is played on a new store. A store's markers are picked where its shards, and then its line, are known, and a
+// function that is called so has no text among its parameters: so a test names a scene, and there is one way to a store.
+ghost use Rattle.std.specs.Prelude.{◌≡◌, ◌<◌, vec_len};
+ghost use Rattle.line.specs.Seat.{AreShards};
+ghost use Rattle.store.specs.Callers.{IsLine};
+
+use crate::asking::assert_rows;
+use crate::callers::assert_callers;
+use crate::crowds::assert_told;
+use crate::gates::assert_steps;
+use crate::growths::assert_ample;
+use crate::meeting::assert_meeting;
+use crate::rows::{FULL, ONE_POD, PAST};
+use line::{Ends, Line, LineError};
+use std::alloc::Global;
+use std::marker::Brand;
+use std::process::Abort;
+use std::sync::Wait;
+use std::test::Fail;
+use std::thread::Threads;
+use store::{ByShards, Naming, Sharding, Store, StoreError, Writing};
+
+#[derive(Clone, Copy, PartialEq)]
+pub(crate) enum Scene {
+    OnePod,
+    Past,
+    Full,
+    Meeting,
+    Callers,
+    Gate,
+    Crowd,
+    /// Here a store may be refused for want of memory.
+    Growths,
+}
+
+fn assert_scene<
+    H: Sharding + Send + Sync,
+    N: Naming + Send + Sync,
+    R: Threads + Wait + Abort + Sync,
+>(rt: &R, alloc: Global, store: &Store<H, N>, scene: Scene) -> Result<(), Fail> {
+    match scene {
+        Scene::OnePod => assert_rows(rt, alloc, store, ONE_POD.as_slice()),
+        Scene::Past => assert_rows(rt, alloc, store, PAST.as_slice()),
+        Scene::Full => assert_rows(rt, alloc, store, FULL.as_slice()),
+        Scene::Meeting => assert_meeting(rt, alloc, store),
+        Scene::Callers => assert_callers(rt, store),
+        Scene::Gate => assert_steps(rt, alloc, store),
+        Scene::Crowd => assert_told(rt, alloc, store),
+        Scene::Growths => assert_ample(rt, alloc, store),
+    }
+}
+
+fn assert_on_line<
+    H: Sharding + Send + Sync,
+    N: Naming + Send + Sync,
+    R: Threads + Wait + Abort + Sync,
+>(rt: &R, alloc: Global, ends: Ends<Writing, ByShards<H>>, scene: Scene) -> Result<(), Fail>
+    requires line { IsLine N.line N.capacity ends.line }
+    requires caller { ends.caller.line ≡ N.line }
+    requires shards { AreShards N.line N.capacity ends.shards.items }
+    requires some { (vec_len ends.shards ≡ H.shards) × (0 < H.shards) }
+{
+    match Store::<H, N>::new(alloc, ends) {
+        Ok(store) => assert_scene(rt, alloc, &store, scene),
+        Err(error) => {
+            assert_eq!(rt; error, StoreError::Memory, "why there is no store");
+            assert!(rt; scene == Scene::Growths, "memory for a store");
+            Ok(())
+        }
+    }
+}
+
+fn assert_on_shards<H: Sharding + Send + Sync, R: Threads + Wait + Abort + Sync>(
+    rt: &R,
+    alloc: Global,
+    capacity: u64,
+    shards: usize,
+    scene: Scene,
+) -> Result<(), Fail>
+    requires { H.shards ≡ shards }
+{
+    match Line::<Writing, ByShards<H>>::new(alloc, capacity, shards) {
+        Ok(ends) => assert_on_line::<H, Brand, R>(rt, alloc, ends, scene),
+        Err(error) => {
+            assert_eq!(rt; error, LineError::Memory, "why there is no line");
+            assert!(rt; scene == Scene::Growths, "memory for a line");
+            Ok(())
+        }
+    }
+}
+
+/// Plays a scene on a new store of that capacity and so many shards.
+pub(crate) fn assert_on<R: Threads + Wait + Abort + Sync>(
+    rt: &R,
+    alloc: Global,
+    capacity: u64,
+    shards: usize,
+    scene: Scene,
+) -> Result<(), Fail> {
+    assert_on_shards::<Brand, R>(rt, alloc, capacity, shards, scene)
+}
