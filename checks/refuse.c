@@ -3,10 +3,14 @@
 #define _GNU_SOURCE
 #include <dlfcn.h>
 #include <errno.h>
+#include <stdatomic.h>
 #include <stdio.h>
 #include <stdlib.h>
+#include <sys/syscall.h>
+#include <unistd.h>
 
-static long refused, count;
+static long refused;
+static atomic_long count;
 static void *(*real_malloc)(size_t);
 static void *(*real_realloc)(void *, size_t);
 
@@ -18,7 +22,7 @@ __attribute__((constructor)) static void begin(void) {
     refused = number ? atol(number) : 0;
 }
 
-__attribute__((destructor)) static void end(void) {
+static void tell(void) {
     const char *name = getenv("GROWTH_COUNT");
     long counted = count;
     FILE *file = name && !refused ? fopen(name, "w") : NULL;
@@ -28,10 +32,19 @@ __attribute__((destructor)) static void end(void) {
     }
 }
 
+__attribute__((destructor)) static void end(void) { tell(); }
+
+/* A program that may start threads ends by this call, which runs no destructor. */
+void _exit(int status) {
+    tell();
+    for (;;)
+        syscall(SYS_exit_group, status);
+}
+
 /* Whether this allocation is the one to refuse. */
 static int refuses(void) {
-    count += 1;
-    if (!refused || count != refused)
+    long number = atomic_fetch_add(&count, 1) + 1;
+    if (!refused || number != refused)
         return 0;
     errno = ENOMEM;
     return 1;

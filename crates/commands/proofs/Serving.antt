@@ -1,10 +1,10 @@
 -- What `clap` found for a subcommand is what the words ask for.
-use Rattle.std.proofs.Common.{◌≡◌, ◌≤◌, ◌<◌, ◌^◌, ℕ, inl, Bool, true, false, List, [], Option, Some, None, Result, Ok, Err, codes, refl, sym, ap, subst, ◌∙◌, MatchBool, MatchOption, arith, max, min}
-use Rattle.std.specs.Prelude.{Box, length, nat_eq, option_map, unwrap_or, if◌then◌else◌}
+use Rattle.std.proofs.Common.{◌≡◌, ℕ, inl, Bool, true, false, List, [], Option, Some, None, Result, Ok, Err, codes, refl, sym, ap, subst, ◌∙◌, MatchBool, MatchOption}
+use Rattle.std.specs.Prelude.{Box, option_map, unwrap_or, if◌then◌else◌}
 use Rattle.std.specs.Borrow.{Bor}
 use Rattle.std.specs.Box.{box_value}
 use Rattle.std.specs.Str.{bytes_eq}
-use Rattle.std.specs.Str.Parse.{ParsesUnsigned, digits_value, without_leading_plus}
+use Rattle.std.specs.Str.Parse.{ParsesUnsigned}
 use Rattle.std.proofs.lemmas.Slice.Eq.{bytes_eq-Decides}
 use Rattle.clap.specs.Words.{App, HasMatchesOf, ReadsOne, Row, Text, first_of, is_simple, one_of, subcommand_name_of, subcommand_of, subcommand_rows_of}
 use Rattle.clap.specs.Simple.{subcommand_rows}
@@ -15,11 +15,12 @@ use Rattle.clap.proofs.OnLiterals.{clap_on_literals}
 use Rattle.plain.specs.Served.{served_so_far}
 use Rattle.plain.specs.Streams.{PutsPart, Takes}
 use Rattle.plain.proofs.Flows.{PutsPart-none, Takes-none}
-use Rattle.commands.specs.Asked.{IsAsked, IsOther}
+use Rattle.race_log.specs.declared.spec.RaceSpec.{RaceSpec}
+use Rattle.commands.specs.Asked.{IsAsked, IsOther, IsRaceBy, IsServing}
 use Rattle.commands.specs.Serving.{ServesSome}
 use Rattle.commands.specs.declared.words.Asked.{Asked}
-use Rattle.commands.specs.declared.words.Asked.TheVariants.{Plan, Replay, Serve}
-use Rattle.commands.specs.Grammar.{IsCapacityBy, IsDigitsBy, asks_to, capacity_text, digits_text, is_under, plan_text, rows_under, stsctl_app}
+use Rattle.commands.specs.declared.words.Asked.TheVariants.{Plan, Race, Replay, Serve}
+use Rattle.commands.specs.Grammar.{IsCapacityBy, IsNumberBy, asks_to, capacity_text, digits_text, is_under, plan_text, race_text, rows_under, stsctl_app}
 
 stsctl-is_simple : is_simple stsctl_app ≡ true
 unfolding clap_on_literals
@@ -101,20 +102,50 @@ pub capacity-is : (words : List Text) (m : ArgMatches) → subcommand_rows_of m 
 unfolding capacity_text
 capacity-is words m same = ap (λ e. one_of (codes "capacity") (rows_under (codes "serve") e)) same
 
--- words that name `plan` do not name `replay`
-plan-replay : Some (codes "plan") ≡ Some (codes "replay") → ⊥
-plan-replay is = absurd (false-true (ap (λ o. nat_eq (length (unwrap_or o [])) 6) is))
+-- one word or another
+named-apart : (here other : Text) → bytes_eq here other ≡ false → Some here ≡ Some other → ⊥
+named-apart here other apart is = false-true (sym apart ∙ (bytes_eq-Decides here other).1 (ap (λ o. unwrap_or o []) is))
 
-pub replay-unmet : (m : ArgMatches) → subcommand_name_of m ≡ Some (codes "plan") → is_under (codes "replay") (subcommand_rows_of m) ≡ false
-replay-unmet m plan = under-unmet (codes "replay") m (λ replay. plan-replay (sym plan ∙ replay))
+-- words that name one subcommand do not name another
+pub other-unmet : (here other : Text) (m : ArgMatches) → bytes_eq here other ≡ false → subcommand_name_of m ≡ Some here
+    → is_under other (subcommand_rows_of m) ≡ false
+other-unmet here other m apart named = under-unmet other m (λ is. named-apart here other apart (sym named ∙ is))
+
+pub race-is : (words : List Text) (m : ArgMatches) (option : Text) → subcommand_rows_of m ≡ subcommand_of stsctl_app words
+    → one_of option (rows_under (codes "race") (subcommand_rows_of m)) ≡ race_text option words
+unfolding race_text
+race-is words m option same = ap (λ e. one_of option (rows_under (codes "race") e)) same
+
+race_by : (words : List Text) (m : ArgMatches) (spec : RaceSpec) → subcommand_rows_of m ≡ subcommand_of stsctl_app words
+    → IsRaceBy (λ option. one_of option (rows_under (codes "race") (subcommand_rows_of m))) spec → IsRaceBy (λ option. race_text option words) spec
+race_by words m spec same by = (
+  subst (λ t. IsNumberBy 4 1 64 t spec.controllers) (race-is words m (codes "controllers") same) by.0,
+  subst (λ t. IsNumberBy 8 1 64 t spec.shards) (race-is words m (codes "shards") same) by.1,
+  subst (λ t. IsNumberBy 16 1 1024 t spec.rounds) (race-is words m (codes "rounds") same) by.2,
+  subst (λ t. IsNumberBy 3 0 64 t spec.replicas) (race-is words m (codes "replicas") same) by.3,
+)
+
+-- what words without a plan and without a race ask for
+pub served_other : (m : ArgMatches) (asked : Asked) → is_under (codes "race") (subcommand_rows_of m) ≡ false → IsServing (subcommand_rows_of m) asked
+    → IsOther (subcommand_rows_of m) asked
+served_other m (Serve capacity) race serving = (race, serving)
+served_other m Replay race serving = (race, serving)
+served_other m (Plan plan) race serving = serving
+served_other m (Race spec) race serving = absurd serving
 
 -- what words without a plan ask for
 pub other_asked : (words : List Text) (m : ArgMatches) (asked : Asked) → subcommand_rows_of m ≡ subcommand_of stsctl_app words
     → asks_to (codes "plan") words ≡ false → IsOther (subcommand_rows_of m) asked → IsAsked words asked
-other_asked words m (Serve capacity) same plan other =
-    (plan, asks-to words m (codes "replay") false same other.0, subst (λ t. IsCapacityBy t capacity) (capacity-is words m same) other.1)
-other_asked words m Replay same plan other = (plan, asks-to words m (codes "replay") true same other)
+other_asked words m (Serve capacity) same plan other = (
+  plan,
+  asks-to words m (codes "race") false same other.0,
+  asks-to words m (codes "replay") false same other.1.0,
+  subst (λ t. IsCapacityBy t capacity) (capacity-is words m same) other.1.1,
+)
+other_asked words m Replay same plan other = (plan, asks-to words m (codes "race") false same other.0, asks-to words m (codes "replay") true same other.1)
 other_asked words m (Plan asked) same plan other = absurd other
+other_asked words m (Race spec) same plan other =
+    (plan, asks-to words m (codes "race") true same other.0, asks-to words m (codes "replay") false same other.1, (race_by words m spec same other.2, other.3))
 
 pub plan-is : (words : List Text) (m : ArgMatches) (option : Text) (rows : List Row) → subcommand_rows_of m ≡ subcommand_of stsctl_app words
     → rows_under (codes "plan") (subcommand_rows_of m) ≡ rows → first_of option rows ≡ plan_text option words
@@ -138,23 +169,6 @@ read gives None given capacity parses none some is = is ∙ ap (λ g. unwrap_or 
 read gives (Some t) (Some n) capacity parses none some is = λ numeral low. is ∙ (parses t (Ok n) (some t refl)).1
 read gives (Some t) None capacity parses none some is = λ numeral low.
     let failed = some t refl in absurd (parses t (Err failed.0) failed.1 (numeral, low))
-
-pub read_digits : {E : Type 0} (gives : Text → Result ℕ E → Type 0) (text : Option Text) (given : Option ℕ) (digits : ℕ)
-    → ((t : Text) (r : Result ℕ E) → gives t r → ParsesUnsigned 64 10 t r) → (text ≡ None → given ≡ None)
-    → ((t : Text) → text ≡ Some t → ReadsOne gives t given) → digits ≡ max 1 (min (unwrap_or given 10) 64) → IsDigitsBy text digits
-read_digits gives None given digits parses none some is = is ∙ ap (λ g. max 1 (min (unwrap_or g 10) 64)) (none refl)
-read_digits gives (Some t) (Some n) digits parses none some is = λ numeral least most.
-    let n_is : n ≡ digits_value 10 (without_leading_plus t) = (parses t (Ok n) (some t refl)).1 in
-    is ∙ (ap (λ k. max 1 (min k 64)) n_is ∙ within (digits_value 10 (without_leading_plus t)) least most)
-  where
-    within : (n : ℕ) → 1 ≤ n → n ≤ 64 → max 1 (min n 64) ≡ n
-    within n least most = omega arith
-read_digits gives (Some t) None digits parses none some is = λ numeral least most.
-    let low : digits_value 10 (without_leading_plus t) < 2 ^ 64 = below (digits_value 10 (without_leading_plus t)) most in
-    let failed = some t refl in absurd (parses t (Err failed.0) failed.1 (numeral, low))
-  where
-    below : (n : ℕ) → n ≤ 64 → n < 2 ^ 64
-    below n most = omega arith
 
 asked-some : (text : Option Text) → (capacity : ℕ) × IsCapacityBy text capacity
 asked-some None = (1048576, refl)

@@ -2,9 +2,11 @@
 use Rattle.std.specs.Prelude.{◌≡◌, ◌≤◌, List, [], Option, true, false, codes, unwrap_or}
 use Rattle.clap.specs.Words.{Row, Text, one_of}
 use Rattle.commands.specs.declared.words.Asked.{Asked}
-use Rattle.commands.specs.declared.words.Asked.TheVariants.{Serve, Replay, Plan}
+use Rattle.commands.specs.declared.words.Asked.TheVariants.{Serve, Replay, Plan, Race}
 use Rattle.commands.specs.declared.words.PlanWords.{PlanWords}
-use Rattle.commands.specs.Grammar.{AsksFor, IsCapacityBy, IsDigitsBy, asks_to, digits_text, is_under, plan_text, rows_under}
+use Rattle.commands.specs.Grammar.{AsksFor, IsCapacityBy, IsDigitsBy, IsNumberBy, asks_to, digits_text, is_under, plan_text, race_text, rows_under}
+use Rattle.race_log.specs.declared.spec.RaceSpec.{RaceSpec}
+use Rattle.race_log.specs.Limits.{is_race}
 
 -- what the words after `plan` say
 abbrev pub IsPlanAsked : List Text → PlanWords → Type 0
@@ -12,15 +14,36 @@ IsPlanAsked words plan = (plan.namespace.now ≡ unwrap_or (plan_text (codes "na
     × (plan.name.now ≡ unwrap_or (plan_text (codes "set") words) []) × IsDigitsBy (digits_text words) plan.digits
     × (1 ≤ plan.digits) × (plan.digits ≤ 64)
 
-abbrev pub IsAsked : List Text → Asked → Type 0
-IsAsked words (Serve capacity) = (asks_to (codes "plan") words ≡ false) × (asks_to (codes "replay") words ≡ false) × AsksFor words capacity
-IsAsked words Replay = (asks_to (codes "plan") words ≡ false) × (asks_to (codes "replay") words ≡ true)
-IsAsked words (Plan plan) = (asks_to (codes "plan") words ≡ true) × (asks_to (codes "replay") words ≡ false) × IsPlanAsked words plan
+-- the numbers that some texts say, each by its option
+abbrev pub IsRaceBy : (Text → Option Text) → RaceSpec → Type 0
+IsRaceBy text spec = IsNumberBy 4 1 64 (text (codes "controllers")) spec.controllers × IsNumberBy 8 1 64 (text (codes "shards")) spec.shards
+    × IsNumberBy 16 1 1024 (text (codes "rounds")) spec.rounds × IsNumberBy 3 0 64 (text (codes "replicas")) spec.replicas
 
--- ---- for private clauses: what words ask for that ask for no plan, by the subcommand that was met
+-- what the words after `race` say
+abbrev pub IsRaceAsked : List Text → RaceSpec → Type 0
+IsRaceAsked words spec = IsRaceBy (λ option. race_text option words) spec × (is_race spec ≡ true)
+
+abbrev pub IsAsked : List Text → Asked → Type 0
+IsAsked words (Serve capacity) = (asks_to (codes "plan") words ≡ false) × (asks_to (codes "race") words ≡ false)
+    × (asks_to (codes "replay") words ≡ false) × AsksFor words capacity
+IsAsked words Replay = (asks_to (codes "plan") words ≡ false) × (asks_to (codes "race") words ≡ false) × (asks_to (codes "replay") words ≡ true)
+IsAsked words (Plan plan) = (asks_to (codes "plan") words ≡ true) × (asks_to (codes "race") words ≡ false) × (asks_to (codes "replay") words ≡ false)
+    × IsPlanAsked words plan
+IsAsked words (Race spec) = (asks_to (codes "plan") words ≡ false) × (asks_to (codes "race") words ≡ true) × (asks_to (codes "replay") words ≡ false)
+    × IsRaceAsked words spec
+
+-- ---- for private clauses: what words ask for that ask for no plan, and for no race, by the subcommand that was met
+
+abbrev pub IsServing : Option (Text × List Row) → Asked → Type 0
+IsServing met (Serve capacity) = (is_under (codes "replay") met ≡ false)
+    × IsCapacityBy (one_of (codes "capacity") (rows_under (codes "serve") met)) capacity
+IsServing met Replay = is_under (codes "replay") met ≡ true
+IsServing met (Plan plan) = ⊥
+IsServing met (Race spec) = ⊥
 
 abbrev pub IsOther : Option (Text × List Row) → Asked → Type 0
-IsOther met (Serve capacity) = (is_under (codes "replay") met ≡ false)
-    × IsCapacityBy (one_of (codes "capacity") (rows_under (codes "serve") met)) capacity
-IsOther met Replay = is_under (codes "replay") met ≡ true
+IsOther met (Serve capacity) = (is_under (codes "race") met ≡ false) × IsServing met (Serve capacity)
+IsOther met Replay = (is_under (codes "race") met ≡ false) × IsServing met Replay
 IsOther met (Plan plan) = ⊥
+IsOther met (Race spec) = (is_under (codes "race") met ≡ true) × (is_under (codes "replay") met ≡ false)
+    × IsRaceBy (λ option. one_of option (rows_under (codes "race") met)) spec × (is_race spec ≡ true)

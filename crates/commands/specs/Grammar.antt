@@ -1,11 +1,12 @@
--- What the program takes, as `clap` reads it: `serve [--capacity N]`, `replay`, and
--- `plan --set NAME [--namespace NS] [--digits H]`. `clap` adds help and the version.
+-- What the program takes, as `clap` reads it: `serve [--capacity N]`, `replay`, `plan --set NAME [--namespace NS] [--digits H]`,
+-- and `race [--controllers N] [--shards N] [--rounds N] [--replicas N]`. `clap` adds help and the version.
 use Rattle.std.specs.Prelude.{◌≡◌, ◌≤◌, ◌<◌, ◌^◌, ℕ, Bool, true, false, List, [], Option, Some, None, codes, if◌then◌else◌}
 use Rattle.std.specs.Option.{option_map_or}
 use Rattle.std.specs.Str.{bytes_eq}
 use Rattle.std.specs.Str.Parse.{IsNumeral, digits_value, without_leading_plus}
 use Rattle.clap.specs.Words.{App, Kinds, Row, Rule, Text, fault_of, first_of, new_app, new_rule, one_of, subcommand_of, with_rule, with_subcommand}
 use Rattle.clap.specs.Simple.{new_shape}
+use Rattle.clap.specs.declared.builder.value_parser.ValueParser.{ValueParser}
 use Rattle.clap.specs.declared.builder.value_parser.ValueParser.TheVariants as parsers
 use Rattle.clap.specs.declared.error.kind.ErrorKind.{ErrorKind}
 use Rattle.clap.specs.declared.error.kind.ErrorKind.TheVariants.{DisplayHelp, DisplayVersion, OutOfMemory}
@@ -40,10 +41,19 @@ digits_rule = record (new_rule (codes "digits")) {
 abbrev pub plan_app : App
 plan_app = with_rule (with_rule (with_rule (new_app (codes "plan")) set_rule) namespace_rule) digits_rule
 
+-- an option of `race`, whose value is what the parser takes
+abbrev pub option_rule : Text → ValueParser → Rule
+option_rule name parser = record (new_rule name) { long = Some name; value_names = 1; parser = Some parser }
+
+abbrev pub race_app : App
+race_app = with_rule (with_rule (with_rule (with_rule (new_app (codes "race")) (option_rule (codes "controllers") (parsers.Unsigned 1 64)))
+    (option_rule (codes "shards") (parsers.Unsigned 1 64))) (option_rule (codes "rounds") (parsers.Unsigned 1 1024)))
+    (option_rule (codes "replicas") (parsers.Unsigned 0 64))
+
 abbrev pub stsctl_app : App
-stsctl_app = with_subcommand (with_subcommand (with_subcommand
+stsctl_app = with_subcommand (with_subcommand (with_subcommand (with_subcommand
     (record (new_app (codes "stsctl")) { top = record (new_shape (codes "stsctl")) { has_version = true; subcommand_required = true } })
-    serve_app.top) replay_app.top) plan_app.top
+    serve_app.top) replay_app.top) plan_app.top) race_app.top
 
 -- why the words, the program's name first, ask for nothing that the program does: nothing where they do ask for it
 unfoldable pub faults_of : List Text → Kinds
@@ -84,13 +94,21 @@ IsCapacityBy (Some text) capacity =
 abbrev pub AsksFor : List Text → ℕ → Type 0
 AsksFor words capacity = IsCapacityBy (capacity_text words) capacity
 
--- The name of a new revision gets as many hex digits of its hash as the text says, or else 10. Where the text is no number
--- from 1 to 64, the words have a fault.
+-- The number is the one that the text says in decimal digits, or else the usual one. Where the text is no number in the range,
+-- the words have a fault.
+abbrev pub IsNumberBy : (usual least most : ℕ) → Option Text → ℕ → Type 0
+IsNumberBy usual least most None n = n ≡ usual
+IsNumberBy usual least most (Some text) n =
+    IsNumeral 10 (without_leading_plus text) → least ≤ digits_value 10 (without_leading_plus text)
+    → digits_value 10 (without_leading_plus text) ≤ most → n ≡ digits_value 10 (without_leading_plus text)
+
+-- The name of a new revision gets as many hex digits of its hash as the text says, from 1 to 64, or else 10.
 abbrev pub IsDigitsBy : Option Text → ℕ → Type 0
-IsDigitsBy None digits = digits ≡ 10
-IsDigitsBy (Some text) digits =
-    IsNumeral 10 (without_leading_plus text) → 1 ≤ digits_value 10 (without_leading_plus text)
-    → digits_value 10 (without_leading_plus text) ≤ 64 → digits ≡ digits_value 10 (without_leading_plus text)
+IsDigitsBy text digits = IsNumberBy 10 1 64 text digits
+
+-- the number after this option of `race`, as text
+unfoldable pub race_text : Text → List Text → Option Text
+race_text option words = one_of option (rows_under (codes "race") (subcommand_of stsctl_app words))
 
 -- the words ask for help or for the version
 abbrev pub is_request : ErrorKind → Bool

@@ -2,5 +2,6 @@ pub mod Asked
 pub mod Grammar
 pub mod Halts
 pub mod Planning
+pub mod Racing
 pub mod Replaying
 pub mod Serving

@@ -1,11 +1,14 @@
-//! What the words of the command line ask for, done over any readers and writers: `serve`, `replay` and `plan`. The program
-//! hands it the standard streams.
+//! What the words of the command line ask for, done over any readers and writers: `serve`, `replay`, `plan` and `race`. The
+//! program hands it the standard streams.
 #![tactic(auto)]
 
 mod explain;
 mod halt;
+mod numbers;
 mod plan;
 mod program;
+mod race;
+mod race_words;
 mod replay;
 mod serve;
 mod status;

@@ -4,50 +4,81 @@ ghost use Rattle.std.specs.List.{list_any};
 ghost use Rattle.commands.specs.Grammar.{asks_to, faults_of, is_mistake, is_request};
 ghost use Rattle.commands.specs.Halts.{Tells};
 ghost use Rattle.commands.specs.Planning.{Plans};
+ghost use Rattle.commands.specs.Racing.{Races};
 ghost use Rattle.commands.specs.Replaying.{Refuses, Replays};
 ghost use Rattle.commands.specs.Serving.{AsksOutOfRange, Serves, ServesSome};
 
 use crate::explain::explained;
 use crate::plan::planned;
+use crate::race::raced;
 use crate::replay::replayed;
 use crate::serve::served;
 use crate::status::{BAD_WORDS, FAILURE, Heap, REFUSED, SUCCESS};
 use crate::words::{Asked, read_words};
 use plain::{Sink, Source};
 use std::convert::AsStr;
+use std::sync::Wait;
+use std::thread::Threads;
 
 /// The whole program: does what the words ask for, the program's name first, and answers the exit status. It is 0 on
 /// success and for help and the version, which go to `writer`; 1, with nothing more said, where reading or writing fails
 /// or memory runs out; 2 where the words are bad, for which the reason goes to `faults`; and 3 where the script of a
-/// replay or the input of a plan is refused, the name of the refusal going to `faults` and nothing to `writer`.
-pub fn command<S: AsStr, R: Source, W: Sink, F: Sink>(
+/// replay or the input of a plan is refused, the name of the refusal going to `faults` and nothing to `writer`, or where
+/// the report of a race, which `writer` has then, is not legal. Only a race starts threads and waits.
+pub fn command<T: Threads + Wait + Sync, S: AsStr, R: Source, W: Sink, F: Sink>(
+    rt: &T,
     heap: &mut Heap,
     words: &[S],
     reader: &mut R,
     writer: &mut W,
     faults: &mut F,
 ) -> u8
+    // The exit status.
     ensures status { result ≤ REFUSED }
     ensures success { let kinds = faults_of (map S.text words.now) in
         result ≡ SUCCESS → (kinds ≡ []) ⊎ (list_any is_request kinds ≡ true) }
+    ensures refused { result ≡ BAD_WORDS → list_any is_mistake (faults_of (map S.text words.now)) ≡ true }
+    ensures refused_input { let texts = map S.text words.now in
+        result ≡ REFUSED → (faults_of texts ≡ [])
+        × ((asks_to (codes "replay") texts ≡ true) ⊎ ((asks_to (codes "plan") texts ≡ true) ⊎ (asks_to (codes "race") texts ≡ true))) }
+
+    // What was served.
     ensures served { let texts = map S.text words.now in
-        result ≡ SUCCESS → (faults_of texts ≡ []) → asks_to (codes "plan") texts ≡ false → asks_to (codes "replay") texts ≡ false
+        result ≡ SUCCESS → (faults_of texts ≡ []) → asks_to (codes "plan") texts ≡ false → asks_to (codes "race") texts ≡ false
+        → asks_to (codes "replay") texts ≡ false
         → Serves texts (R.remaining reader.old) (R.remaining reader.new) (W.written writer.old) (W.written writer.new) }
     ensures part { let texts = map S.text words.now in
-        result ≡ FAILURE → (faults_of texts ≡ []) → asks_to (codes "plan") texts ≡ false → asks_to (codes "replay") texts ≡ false
+        result ≡ FAILURE → (faults_of texts ≡ []) → asks_to (codes "plan") texts ≡ false → asks_to (codes "race") texts ≡ false
+        → asks_to (codes "replay") texts ≡ false
         → ServesSome texts (R.remaining reader.old) (R.remaining reader.new) (W.written writer.old) (W.written writer.new) }
+
+    // What was replayed.
     ensures replayed { let texts = map S.text words.now in
         result ≡ SUCCESS → (faults_of texts ≡ []) → asks_to (codes "replay") texts ≡ true
         → Replays (R.remaining reader.old) (R.remaining reader.new) (W.written writer.old) (W.written writer.new) }
+
+    // What was planned.
     ensures planned { let texts = map S.text words.now in
         result ≡ SUCCESS → (faults_of texts ≡ []) → asks_to (codes "plan") texts ≡ true
         → Plans texts (R.remaining reader.old) (R.remaining reader.new) (W.written writer.old) (W.written writer.new) }
-    ensures refused { result ≡ BAD_WORDS → list_any is_mistake (faults_of (map S.text words.now)) ≡ true }
-    ensures refused_input { let texts = map S.text words.now in
-        result ≡ REFUSED → (faults_of texts ≡ []) × ((asks_to (codes "replay") texts ≡ true) ⊎ (asks_to (codes "plan") texts ≡ true)) }
+
+    // What was raced: it writes the line of its report, which is not legal exactly at the status of a refusal, and touches
+    // nothing else.
+    ensures raced { let texts = map S.text words.now in
+        result ≡ SUCCESS → (faults_of texts ≡ []) → asks_to (codes "race") texts ≡ true
+        → Races true texts (W.written writer.old) (W.written writer.new) }
+    ensures illegal { let texts = map S.text words.now in
+        result ≡ REFUSED → asks_to (codes "race") texts ≡ true → Races false texts (W.written writer.old) (W.written writer.new) }
+    ensures apart { let texts = map S.text words.now in
+        faults_of texts ≡ [] → asks_to (codes "race") texts ≡ true → (reader.new ≡ reader.old) × (faults.new ≡ faults.old) }
+
+    // Input that is refused.
     ensures named { let texts = map S.text words.now in
-        result ≡ REFUSED → Refuses texts (R.remaining reader.old) (R.remaining reader.new)
+        result ≡ REFUSED → asks_to (codes "race") texts ≡ false → Refuses texts (R.remaining reader.old) (R.remaining reader.new)
         (λ name. Tells name (F.written faults.old) (F.written faults.new) (F.failures faults.old) (F.failures faults.new)) }
+    ensures writes_no_part { result ≡ REFUSED → asks_to (codes "race") (map S.text words.now) ≡ false → writer.new ≡ writer.old }
+
+    // Bad words, devices that fail, and want of memory.
     ensures mistakes { let kinds = faults_of (map S.text words.now) in
         kinds ≢ [] → list_any is_request kinds ≡ false → (result ≡ BAD_WORDS) ⊎ (heap.new.refused ≡ true) }
     ensures cause { let texts = map S.text words.now in
@@ -56,7 +87,7 @@ pub fn command<S: AsStr, R: Source, W: Sink, F: Sink>(
     ensures memory { result ≢ FAILURE → heap.new.refused ≡ heap.old.refused }
     ensures quiet { result < BAD_WORDS → faults.new ≡ faults.old }
     ensures reads_nothing { faults_of (map S.text words.now) ≢ [] → reader.new ≡ reader.old }
-    ensures writes_nothing { BAD_WORDS ≤ result → writer.new ≡ writer.old }
+    ensures writes_nothing { result ≡ BAD_WORDS → writer.new ≡ writer.old }
     ensures silent { let kinds = faults_of (map S.text words.now) in
         kinds ≢ [] → list_any is_request kinds ≡ false → writer.new ≡ writer.old }
 {
@@ -64,6 +95,7 @@ pub fn command<S: AsStr, R: Source, W: Sink, F: Sink>(
         Ok(Asked::Serve(capacity)) => served(heap, reader, writer, capacity),
         Ok(Asked::Replay) => replayed(heap, reader, writer, faults),
         Ok(Asked::Plan(plan)) => planned(heap, &plan, reader, writer, faults),
+        Ok(Asked::Race(spec)) => raced(rt, heap, &spec, writer),
         Err(error) => explained(heap, &error, writer, faults),
     }
 }

@@ -1,11 +1,14 @@
 //! What the words of the command line ask for.
 ghost use Rattle.std.specs.Prelude.{◌≡◌, ◌≤◌, [], codes, map, unwrap_or, IfOk};
 ghost use Rattle.clap.specs.Words.{FailsBy, app_of, first_of, found_of, one_of, rows_of, subcommand_rows_of};
-ghost use Rattle.commands.specs.Grammar.{IsCapacityBy, IsDigitsBy, faults_of, plan_app, replay_app, rows_under, serve_app, stsctl_app};
-ghost use Rattle.commands.specs.Asked.{IsAsked, IsOther};
+ghost use Rattle.commands.specs.Grammar.{IsCapacityBy, IsDigitsBy, faults_of, plan_app, race_app, replay_app, rows_under, serve_app, stsctl_app};
+ghost use Rattle.commands.specs.Asked.{IsAsked, IsOther, IsServing};
 
+use crate::numbers::{from_1_to_64, number_arg, number_in};
+use crate::race_words::{race_grammar, race_words};
 use clap::{Arg, ArgMatches, Command, Error, value_parser};
 use plain::MAX_REVISIONS;
+use race_log::RaceSpec;
 use std::alloc::{AllocError, Global};
 use std::convert::AsStr;
 
@@ -14,6 +17,19 @@ const DIGITS: u64 = 10;
 
 /// The most hex digits that a hash has.
 const MAX_DIGITS: u64 = 64;
+
+/// The end of the help on `serve`.
+const SERVE_END: &str = r#"An input line: {"do":"get","kind":"Pod","name":"web-0"}
+More in docs/REFERENCE.md"#;
+
+/// The end of the help on `replay`.
+const REPLAY_END: &str = r#"An input line: {"caller":1,"event":"check"}
+More in docs/INTERLEAVINGS.md"#;
+
+/// The end of the help on `plan`.
+const PLAN_END: &str =
+    r#"An input line: {"kind":"StatefulSet","metadata":{"name":"web","uid":"00000000-0000-4000-8000-000000000001"},"spec":{"replicas":3,"template":{}}}
+More in docs/PLANS.md"#;
 
 /// What is to be planned: the set of this namespace and name, and how many hex digits of its hash the name of a new
 /// revision gets.
@@ -33,10 +49,12 @@ pub(crate) enum Asked<'a> {
     Replay,
     /// To plan a set.
     Plan(PlanWords<'a>),
+    /// To let controllers race.
+    Race(RaceSpec),
 }
 
-/// What the program takes: `serve [--capacity N]`, `replay`, and `plan --set NAME [--namespace NS] [--digits H]`, and what
-/// `clap` adds for help and the version.
+/// What the program takes: `serve [--capacity N]`, `replay`, `plan --set NAME [--namespace NS] [--digits H]`, and
+/// `race [--controllers N] [--shards N] [--rounds N] [--replicas N]`, and what `clap` adds for help and the version.
 fn grammar<'a>(alloc: Global) -> Result<Command<'a>, AllocError>
     ensures { IfOk result (λ c. app_of c ≡ stsctl_app) }
 {
@@ -44,12 +62,13 @@ fn grammar<'a>(alloc: Global) -> Result<Command<'a>, AllocError>
         .bin_name("stsctl")?
         .version("0.1.0")
         .about(
-            "A plain in-memory store of Kubernetes objects, replays of racing callers, and plans of StatefulSets",
+            "A plain in-memory store of Kubernetes objects, replays of racing callers, plans of StatefulSets, and races of their controllers",
         )
         .subcommand_required(true)
         .subcommand(serve_grammar(alloc)?)?
         .subcommand(replay_grammar(alloc))?
-        .subcommand(plan_grammar(alloc)?)
+        .subcommand(plan_grammar(alloc)?)?
+        .subcommand(race_grammar(alloc)?)
 }
 
 fn serve_grammar<'a>(alloc: Global) -> Result<Command<'a>, AllocError>
@@ -62,15 +81,18 @@ fn serve_grammar<'a>(alloc: Global) -> Result<Command<'a>, AllocError>
         .help("How many revisions the store may draw, from 1 to 1048576 [default: 1048576]");
     Command::new(alloc, "serve")
         .about("Answers each request line of standard input with a line of standard output")
+        .after_help(SERVE_END)
         .arg(capacity)
 }
 
 fn replay_grammar<'a>(alloc: Global) -> Command<'a>
     ensures { app_of result ≡ replay_app }
 {
-    Command::new(alloc, "replay").about(
-        "Runs the events of the script on standard input, and prints their replies and a legal order",
-    )
+    Command::new(alloc, "replay")
+        .about(
+            "Runs the events of the script on standard input, and prints their replies and a legal order",
+        )
+        .after_help(REPLAY_END)
 }
 
 fn plan_grammar<'a>(alloc: Global) -> Result<Command<'a>, AllocError>
@@ -85,15 +107,16 @@ fn plan_grammar<'a>(alloc: Global) -> Result<Command<'a>, AllocError>
         .long("namespace")
         .value_name("NS")
         .help("The namespace of the set [default: default]");
-    let digits = Arg::new(alloc, "digits")
-        .long("digits")
-        .value_name("H")
-        .value_parser(value_parser!(u64).range(1..=MAX_DIGITS as i64))
-        .help(
-            "How many hex digits of its hash the name of a new revision gets, from 1 to 64 [default: 10]",
-        );
+    let digits = number_arg(
+        alloc,
+        "digits",
+        "H",
+        from_1_to_64(),
+        "How many hex digits of its hash the name of a new revision gets, from 1 to 64 [default: 10]",
+    );
     Command::new(alloc, "plan")
         .about("Prints the actions that the objects on standard input call for, each on a line")
+        .after_help(PLAN_END)
         .arg(set)?
         .arg(namespace)?
         .arg(digits)
@@ -114,6 +137,16 @@ pub(crate) fn read_words<'a, S: AsStr>(alloc: Global, words: &'a [S]) -> Result<
 /// What words ask for that ask for no plan.
 fn other_in<'a>(matches: &ArgMatches<'_>) -> Asked<'a>
     ensures { IsOther (subcommand_rows_of matches.now) result }
+{
+    match matches.subcommand_matches("race") {
+        Some(race) => Asked::Race(race_words(race)),
+        None => serving_in(matches),
+    }
+}
+
+/// What words ask for that ask for no plan and no race.
+fn serving_in<'a>(matches: &ArgMatches<'_>) -> Asked<'a>
+    ensures { IsServing (subcommand_rows_of matches.now) result }
 {
     match matches.subcommand_matches("replay") {
         Some(_) => Asked::Replay,
@@ -140,11 +173,9 @@ fn plan_words<'a>(matches: &ArgMatches<'a>) -> PlanWords<'a>
     ensures some { 1 ≤ result.digits }
     ensures most { result.digits ≤ 64 }
 {
-    // The parser takes no other number of digits.
-    let digits = matches.get_one::<u64>("digits").unwrap_or(DIGITS);
     PlanWords {
         namespace: matches.get_str("namespace").unwrap_or("default"),
         name: matches.get_str("set").unwrap_or(""),
-        digits: digits.clamp(1, MAX_DIGITS) as usize,
+        digits: number_in(matches, "digits", DIGITS, 1, MAX_DIGITS) as usize,
     }
 }

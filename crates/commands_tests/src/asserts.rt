@@ -5,6 +5,8 @@ use std::alloc::Global;
 use std::io;
 use std::io::{Read, Write};
 use std::process::Abort;
+use std::sync::Wait;
+use std::thread::Threads;
 
 /// Gives its bytes, and then fails.
 #[derive(Drop)]
@@ -43,14 +45,17 @@ struct Outcome {
 }
 
 /// Runs the program on what a reader gives, with writers that take everything.
-fn outcome_over<R: Read>(alloc: Global, words: &[&str], input: R) -> Outcome
-where
-    R: Drop,
-{
+fn outcome_over<H: Threads + Wait + Sync, R: Read + Drop>(
+    rt: &H,
+    alloc: Global,
+    words: &[&str],
+    input: R,
+) -> Outcome {
     let mut written = Vec::new(alloc);
     let mut faults = Vec::new(alloc);
     let mut heap = Heap::new(alloc);
     let status = command(
+        rt,
         &mut heap,
         words,
         &mut ReadSource::new(input),
@@ -66,14 +71,14 @@ where
 }
 
 /// Asserts that a run by these words fails where the reader breaks off behind these bytes, with that much written.
-pub(crate) fn assert_breaks(
-    rt: &impl Abort,
+pub(crate) fn assert_breaks<H: Threads + Wait + Abort + Sync>(
+    rt: &H,
     alloc: Global,
     words: &[&str],
     bytes: &[u8],
     written: &str,
 ) {
-    let outcome = outcome_over(alloc, words, Broken(bytes));
+    let outcome = outcome_over(rt, alloc, words, Broken(bytes));
     assert_eq!(rt; outcome.status, 1, "{words:?}");
     assert_eq!(rt; shown(outcome.written.as_slice()), written, "{words:?}");
     assert!(rt; outcome.faults.is_empty(), "{words:?}");
@@ -81,9 +86,15 @@ pub(crate) fn assert_breaks(
 }
 
 /// Asserts that a run by these words fails where its output is taken by nobody, with nothing said.
-pub(crate) fn assert_needs_its_output(rt: &impl Abort, alloc: Global, words: &[&str], input: &str) {
+pub(crate) fn assert_needs_its_output<H: Threads + Wait + Abort + Sync>(
+    rt: &H,
+    alloc: Global,
+    words: &[&str],
+    input: &str,
+) {
     let mut faults = Vec::new(alloc);
     let status = command(
+        rt,
         &mut Heap::new(alloc),
         words,
         &mut ReadSource::new(input.as_bytes()),
@@ -95,8 +106,8 @@ pub(crate) fn assert_needs_its_output(rt: &impl Abort, alloc: Global, words: &[&
 }
 
 /// Asserts that a run by these words is refused with that status also where its reason is taken by nobody.
-pub(crate) fn assert_needs_no_reason(
-    rt: &impl Abort,
+pub(crate) fn assert_needs_no_reason<H: Threads + Wait + Abort + Sync>(
+    rt: &H,
     alloc: Global,
     words: &[&str],
     input: &str,
@@ -104,6 +115,7 @@ pub(crate) fn assert_needs_no_reason(
 ) {
     let mut written = Vec::new(alloc);
     let found = command(
+        rt,
         &mut Heap::new(alloc),
         words,
         &mut ReadSource::new(input.as_bytes()),
@@ -115,8 +127,8 @@ pub(crate) fn assert_needs_no_reason(
 }
 
 /// Asserts the status and the texts of a run by these words on this input.
-pub(crate) fn assert_ends(
-    rt: &impl Abort,
+pub(crate) fn assert_ends<H: Threads + Wait + Abort + Sync>(
+    rt: &H,
     alloc: Global,
     words: &[&str],
     input: &str,
@@ -124,7 +136,7 @@ pub(crate) fn assert_ends(
     written: &str,
     faults: &str,
 ) {
-    let outcome = outcome_over(alloc, words, input.as_bytes());
+    let outcome = outcome_over(rt, alloc, words, input.as_bytes());
     assert_eq!(rt; outcome.status, status, "{words:?}");
     assert_eq!(rt; shown(outcome.written.as_slice()), written, "{words:?}");
     assert_eq!(rt; shown(outcome.faults.as_slice()), faults, "{words:?}");

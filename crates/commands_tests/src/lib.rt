@@ -8,6 +8,8 @@ mod asserts;
 #[cfg(test)]
 mod planned;
 #[cfg(test)]
+mod raced;
+#[cfg(test)]
 mod replayed;
 #[cfg(test)]
 mod served;

@@ -61,6 +61,7 @@ fn a_writer_that_fails_ends_the_run(rt: HostRuntime) {
     let mut faults = Vec::new(rt.alloc());
     // A slice takes bytes until it is full.
     let status = command(
+        &rt,
         &mut Heap::new(rt.alloc()),
         &["stsctl", "serve"],
         &mut ReadSource::new(CREATE.as_bytes()),

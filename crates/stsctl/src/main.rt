@@ -1,5 +1,5 @@
 //! `stsctl`: serves requests to a plain in-memory store, a line of standard input to a line of standard output, replays
-//! callers that race for one, and plans what a StatefulSet calls for.
+//! callers that race for one, plans what a StatefulSet calls for, and lets its controllers race.
 #![tactic(auto)]
 
 use commands::{Heap, command};
@@ -22,6 +22,7 @@ fn main(rt: HostRuntime) -> ExitCode {
     let mut faults = WriteSink::new(rt.stderr());
     let mut heap = Heap::new(rt.alloc());
     let status = command(
+        &rt,
         &mut heap,
         words.as_slice(),
         &mut reader,

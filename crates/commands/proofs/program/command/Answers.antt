@@ -14,7 +14,7 @@ returns-in-Ok-Serve-clause-cause g c = λ is.
       | inl read ↦ inl read
       | inr (inl wrote) ↦ inr (inl wrote)
       | inr (inr (inl memory)) ↦ inr (inr (inl memory))
-      | inr (inr (inr out)) ↦ inr (inr (inr (c.in-Ok-Serve.ensures.faults, (c.in-Ok-Serve.capacity, asked.2, out))))
+      | inr (inr (inr out)) ↦ inr (inr (inr (c.in-Ok-Serve.ensures.faults, (c.in-Ok-Serve.capacity, asked.3, out))))
     ]
 
 pub returns-in-Err-clause-success : goal.returns-in-Err-clause-success
@@ -28,7 +28,7 @@ returns-in-Err-clause-refused g c = λ same.
     (c.explained.ensures.refused same)
 
 pub returns-in-Err-clause-part : goal.returns-in-Err-clause-part
-returns-in-Err-clause-part g c = λ is none no_plan no_replay.
+returns-in-Err-clause-part g c = λ is none no_plan no_race no_replay.
     let words = map g.S.AsStr.text c.args.words.now in
     let memory = only_memory c.in-Err.error words c.in-Err.ensures.faults none in
     serves_nothing words _ _ _ _ refl (ap g.W.Sink.written (c.explained.ensures.untouched (ap is_request memory)))

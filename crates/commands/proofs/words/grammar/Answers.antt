@@ -2,7 +2,7 @@ use Rattle.std.proofs.Common.{◌≡◌, ◌∙◌, ap, ap₂, refl, true, codes
 use Rattle.std.proofs.lemmas.Result.{IfOk-weaker}
 use Rattle.clap.specs.Words.{App, app_of, new_app, with_subcommand}
 use Rattle.clap.specs.Simple.{app_of_fields}
-use Rattle.commands.specs.Grammar.{plan_app, replay_app, serve_app}
+use Rattle.commands.specs.Grammar.{plan_app, race_app, replay_app, serve_app}
 use Rattle.commands.proofs.Grammars.{no_globals}
 use Rattle.commands.proofs.words.grammar.Goals as goal
 
@@ -13,6 +13,7 @@ returns c =
     let serve_is = c.in_ok-serve_grammar.ensures in
     let replay_is = c.replay_grammar.ensures in
     let plan_is = c.in_ok-plan_grammar.ensures in
+    let race_is = c.in_ok-race_grammar.ensures in
     let top_is : app_of c.subcommand_required.result ≡ required (versioned (new_app (codes "stsctl"))) =
     ap app_of_fields c.subcommand_required.ensures ∙ ap (λ f. required (app_of_fields f)) c.about.ensures
     ∙ ap (λ f. required (app_of_fields f)) c.version.ensures ∙ ap (λ f. required (versioned (app_of_fields f))) c.in_ok-bin_name.ensures.0
@@ -21,5 +22,9 @@ returns c =
     c.in_ok-subcommand.ensures.shape (no_globals _ serve_app serve_is refl) ∙ ap₂ with_subcommand top_is (ap (λ (a : App). a.top) serve_is) in
     let two_is : app_of c.in_ok-subcommand-2.field-0 ≡ with_subcommand (with_subcommand (required (versioned (new_app (codes "stsctl")))) serve_app.top) replay_app.top =
     c.in_ok-subcommand-2.ensures.shape (no_globals _ replay_app replay_is refl) ∙ ap₂ with_subcommand one_is (ap (λ (a : App). a.top) replay_is) in
-    IfOk-weaker c.subcommand-3.result _ _
-    (λ r h. h.shape (no_globals _ plan_app plan_is refl) ∙ ap₂ with_subcommand two_is (ap (λ (a : App). a.top) plan_is)) c.subcommand-3.ensures
+    let three_is
+    : app_of c.in_ok-subcommand-3.field-0
+    ≡ with_subcommand (with_subcommand (with_subcommand (required (versioned (new_app (codes "stsctl")))) serve_app.top) replay_app.top) plan_app.top =
+    c.in_ok-subcommand-3.ensures.shape (no_globals _ plan_app plan_is refl) ∙ ap₂ with_subcommand two_is (ap (λ (a : App). a.top) plan_is) in
+    IfOk-weaker c.subcommand-4.result _ _
+    (λ r h. h.shape (no_globals _ race_app race_is refl) ∙ ap₂ with_subcommand three_is (ap (λ (a : App). a.top) race_is)) c.subcommand-4.ensures

@@ -7,7 +7,7 @@ use Rattle.commands.specs.declared.words.Asked.TheVariants.{Plan}
 use Rattle.commands.specs.Asked.{IsAsked}
 use Rattle.commands.specs.Grammar.{IsDigitsBy, faults_of, rows_under, stsctl_app}
 use Rattle.commands.proofs.Asked.{failed, parsed}
-use Rattle.commands.proofs.Serving.{asks-to, digits-is, false-true, met, other_asked, plan-is, replay-unmet, rows-met, under-met, under-unmet}
+use Rattle.commands.proofs.Serving.{asks-to, digits-is, false-true, met, other_asked, plan-is, other-unmet, rows-met, under-met, under-unmet}
 use Rattle.commands.proofs.words.read_words.Goals.{in-Some, in-None}
 use Rattle.commands.proofs.words.read_words.Goals as goal
 
@@ -36,7 +36,8 @@ returns-clause-asked g c =
           let says = w.plan_words.ensures in
           let asked : IsAsked words (Plan w.plan_words.result) = (
             asks-to words m (codes "plan") true same (under-met (codes "plan") m (said.found.0 refl)),
-            asks-to words m (codes "replay") false same (replay-unmet m (said.found.0 refl)),
+            asks-to words m (codes "race") false same (other-unmet (codes "plan") (codes "race") m refl (said.found.0 refl)),
+            asks-to words m (codes "replay") false same (other-unmet (codes "plan") (codes "replay") m refl (said.found.0 refl)),
             (
               says.namespace ∙ ap (λ o. unwrap_or o (codes "default")) (plan-is words m (codes "namespace") (rows_of (found_of plan)) same rows),
               says.name ∙ ap (λ o. unwrap_or o []) (plan-is words m (codes "set") (rows_of (found_of plan)) same rows),

@@ -1,0 +1,82 @@
+//! The words of `race`.
+ghost use Rattle.std.specs.Prelude.{◌≡◌, true, IfOk};
+ghost use Rattle.clap.specs.Words.{app_of, found_of, one_of, rows_of};
+ghost use Rattle.commands.specs.Asked.{IsRaceBy};
+ghost use Rattle.commands.specs.Grammar.{race_app};
+ghost use Rattle.race_log.specs.Limits.{is_race};
+
+use crate::numbers::{from_0_to_64, from_1_to_64, from_1_to_1024, number_arg, number_in};
+use clap::{ArgMatches, Command};
+use race_log::RaceSpec;
+use std::alloc::{AllocError, Global};
+
+/// How many controllers race, where the words say no number.
+const CONTROLLERS: u64 = 4;
+
+/// How many shards the store has, where the words say no number.
+const SHARDS: u64 = 8;
+
+/// How many rounds each controller makes, where the words say no number.
+const ROUNDS: u64 = 16;
+
+/// How many pods the set asks for, where the words say no number.
+const REPLICAS: u64 = 3;
+
+/// The end of the help on `race`.
+const RACE_END: &str = r#"It prints: {"controllers":4,"legal":true,"rounds":16,"shards":8,"twice":0}
+More in docs/RUNNING.md"#;
+
+pub(crate) fn race_grammar<'a>(alloc: Global) -> Result<Command<'a>, AllocError>
+    ensures { IfOk result (λ c. app_of c ≡ race_app) }
+{
+    let controllers = number_arg(
+        alloc,
+        "controllers",
+        "N",
+        from_1_to_64(),
+        "How many controllers race, from 1 to 64 [default: 4]",
+    );
+    let shards = number_arg(
+        alloc,
+        "shards",
+        "N",
+        from_1_to_64(),
+        "How many shards the store has, from 1 to 64 [default: 8]",
+    );
+    let rounds = number_arg(
+        alloc,
+        "rounds",
+        "N",
+        from_1_to_1024(),
+        "How many rounds each controller makes, from 1 to 1024 [default: 16]",
+    );
+    let replicas = number_arg(
+        alloc,
+        "replicas",
+        "N",
+        from_0_to_64(),
+        "How many pods the set asks for, from 0 to 64 [default: 3]",
+    );
+    Command::new(alloc, "race")
+        .about(
+            "Lets controllers of one set race over a store that threads share, and prints a report",
+        )
+        .after_help(RACE_END)
+        .arg(controllers)?
+        .arg(shards)?
+        .arg(rounds)?
+        .arg(replicas)
+}
+
+/// What the words after `race` say.
+pub(crate) fn race_words(matches: &ArgMatches<'_>) -> RaceSpec
+    ensures by { IsRaceBy (λ option. one_of option (rows_of (found_of matches.now))) result }
+    ensures allowed { is_race result ≡ true }
+{
+    RaceSpec {
+        controllers: number_in(matches, "controllers", CONTROLLERS, 1, 64),
+        shards: number_in(matches, "shards", SHARDS, 1, 64),
+        rounds: number_in(matches, "rounds", ROUNDS, 1, 1_024),
+        replicas: number_in(matches, "replicas", REPLICAS, 0, 64),
+    }
+}
