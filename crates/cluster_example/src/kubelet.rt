@@ -57,6 +57,7 @@ fn lines_after(alloc: Global, reply: &Reply) -> Result<Vec<String>, Fault> {
 fn lines_now(alloc: Global, recorder: &mut Recorder) -> Result<Vec<String>, Fault> {
     let reply = recorder.ask_line(Who::Kubelet, KUBELET, LIST_PODS)?;
     let lines = lines_after(alloc, &reply);
+    // Let go by name, which is proved once for the type and not at each way out.
     drop(reply);
     lines
 }

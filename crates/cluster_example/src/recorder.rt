@@ -85,6 +85,7 @@ impl Recorder {
             .store
             .take(Who::Controller(number, caller), request, true)?;
         let heard = self.hear(number, &reply);
+        // Let go by name, which is proved once for the type and not at each way out.
         drop(reply);
         heard?;
         put_steps(&mut self.events, caller)
@@ -108,6 +109,7 @@ impl Recorder {
                     .take(Who::Controller(number, caller), request, false)?,
             );
         } else {
+            // Let go by name, which is proved once for the type and not at each way out.
             drop(request);
         }
         put_first_steps(&mut self.events, caller, steps)?;

@@ -77,6 +77,7 @@ impl Store {
         let request = read_request(self.alloc, LIST_PODS.as_bytes())?;
         let reply = self.plain.take(request)?;
         let told = put_listed(self.alloc, &mut self.text, &reply);
+        // Let go by name, which is proved once for the type and not at each way out.
         drop(reply);
         told
     }

@@ -13,11 +13,11 @@ const AHEAD: usize = 24;
 /// How many bytes of the base these are at most.
 const REACH: usize = 4_096;
 
-/// How many of these quotes lie behind, in texts that have as many quotes.
+/// How many of these quotes may come before the text's own one, counted in quotes from where the two differ.
 const BEHIND: usize = 12;
 
-/// How many quotes of a text are looked for in vain, before no place is looked for any more. A quote takes no more than the
-/// reach, so what all of them take has a bound, whatever the texts are.
+/// After so many quotes of a text that were looked for in vain, no more are looked for. The search for one goes no farther
+/// than the reach, so the time of all of them has a bound, whatever the texts are.
 pub(crate) const PATIENCE: usize = 1_024;
 
 /// How many bytes are looked at one by one for a quote: most values are no longer, and a search for more costs more to begin.

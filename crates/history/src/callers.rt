@@ -62,6 +62,7 @@ impl Callers {
         ensures admitted { OnOk result (Enters self.old self.new caller Idle) }
         ensures memory { OnErr result (Same self.old self.new) }
     {
+        // What is let go goes by `drop`, here and below: that is proved once for a type, not for each of its parts.
         drop(self.phases.insert(caller, Phase::Idle)?);
         Ok(())
     }
@@ -74,7 +75,7 @@ impl Callers {
         drop(self.phases.remove(&caller));
     }
 
-    /// The caller's next phase, in which it reads nothing, in the place of the one that is handed back.
+    /// Puts the caller into its next phase, in which it reads nothing, and hands back the phase before.
     pub(crate) fn enter(&mut self, caller: u64, phase: Phase) -> Phase
         requires named { named_phase self.old caller ≢ None }
         requires plain { reading_in phase ≡ None }
@@ -86,7 +87,7 @@ impl Callers {
         before
     }
 
-    /// The caller's next phase, in the place of the one that is handed back. The open reads stay.
+    /// Puts the caller into its next phase, and hands back the phase before. The open reads stay.
     fn replace(&mut self, caller: u64, phase: Phase) -> Phase
         requires { named_phase self.old caller ≢ None }
         ensures before { named_phase self.old caller ≡ Some result }
@@ -173,6 +174,7 @@ impl Callers {
             Phase::Holding(writing) => {
                 drop(self.replace(caller, Phase::Drawn(Draw { index, writing })));
             }
+            // Any other phase is put back, here and below.
             before => drop(self.replace(caller, before)),
         }
     }

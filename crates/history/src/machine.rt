@@ -76,10 +76,12 @@ impl Machine {
         match self.settle(saw, caller, place) {
             Ok(()) => {
                 let waiting = Phase::Waiting { saw, place, reply };
+                // The phase before, of which nothing is needed.
                 drop(self.callers.enter(caller, waiting));
                 Ok(())
             }
             Err(error) => {
+                // It goes by `drop`, which is proved once for its type, and not for each of its parts.
                 drop(reply);
                 Err(error)
             }

@@ -157,6 +157,7 @@ impl Machine {
         match self.tell(caller, &reply) {
             Ok(()) => Ok(Some(reply)),
             Err(error) => {
+                // It goes by `drop`, which is proved once for its type, and not for each of its parts.
                 drop(reply);
                 Err(error)
             }
@@ -176,6 +177,7 @@ impl Machine {
             caller,
             reply: reply.clone()?,
         })?;
+        // The phase before, of which nothing is needed.
         drop(self.callers.enter(caller, Phase::Idle));
         Ok(())
     }
@@ -231,7 +233,8 @@ impl Machine {
     fn answer_list(&self, number: u64, kind: Kind, namespace: &Text) -> Result<Reply, Memory>
         requires stands { Stands self.now }
         requires kept { self.now.compacted ≤ number }
-        ensures { IfOk result (λ reply. reply ≡ Listed (map.values (found_in (records_of self.now) number kind namespace.now (length self.now.shards.items))) number) }
+        ensures { IfOk result (λ reply. reply
+            ≡ Listed (map.values (found_in (records_of self.now) number kind namespace.now (length self.now.shards.items))) number) }
     {
         let objects = self.gather(number, kind, namespace)?.into_objects()?;
         Ok(Reply::Listed {
@@ -284,7 +287,7 @@ impl Machine {
     }
 }
 
-/// How many shards a read of now reads, of so many; nothing for any other request.
+/// How many shards a read of now reads, of so many; nothing for any other request. A list is one of now where `exact` is 0.
 #[tactic(auto, unfolding(plain_store::specs::Route::route))]
 fn parts_of(request: &Request, shards: usize) -> Option<usize>
     ensures { result ≡ parts_in shards (route request.now) }

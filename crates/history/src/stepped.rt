@@ -46,9 +46,9 @@ impl Replay {
         })
     }
 
-    /// One event; one that is not enabled changes nothing but the place of the next. The reply of a `Reply` that is
-    /// enabled, and nothing for any other event. At a refusal all is as it was: the event names a 4,097th caller, or memory
-    /// ran out.
+    /// Takes one event; one that is not enabled changes nothing but the place of the next. A `Reply` that is enabled is
+    /// answered with its reply, any other event with nothing. Where the event names a 4,097th caller or memory runs out, it
+    /// is refused, and all is as it was.
     pub fn step(&mut self, event: &Event) -> Result<Option<Reply>, ReplayError>
         requires reached { IsReached self.old }
         requires room { taken self.old < 2 ^ 64 - 1 }
@@ -57,7 +57,8 @@ impl Replay {
         ensures refused { (size : Size) (events : List Event) → IsAfter size events self.old → OnErr result (IsAfter size events self.new) }
         ensures count { OnOk result (taken self.new ≡ taken self.old + 1) }
         ensures reasons { IfErr result (λ reason. (reason ≡ ReplayError.TooManyCallers) ⊎ (reason ≡ ReplayError.Memory)) }
-        ensures too_many { (size : Size) (events : List Event) → IsAfter size events self.old → IsErrOf result ReplayError.TooManyCallers ↔ (4096 < callers (events ++ event.now ∷ [])) }
+        ensures too_many { (size : Size) (events : List Event) → IsAfter size events self.old
+            → IsErrOf result ReplayError.TooManyCallers ↔ (4096 < callers (events ++ event.now ∷ [])) }
     {
         let newly = self.names.note(event)?;
         match self.machine.step(event) {
@@ -89,6 +90,7 @@ impl Replay {
         ensures { (size : Size) (events : List Event) → IsAfter size events self → IsRunOf size events result }
     {
         let Replay { machine, names } = self;
+        // What the run does not need goes by `drop`: that is proved once for a type, and not for each of its parts.
         drop(names);
         let Machine {
             capacity,

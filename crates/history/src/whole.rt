@@ -24,6 +24,7 @@ pub fn replay(
 {
     let mut replay = Replay::new(alloc, shards, capacity)?;
     for event in events {
+        // The reply is in the trace too.
         drop(replay.step(event)?);
     }
     Ok(replay.finish())

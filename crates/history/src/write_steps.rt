@@ -37,6 +37,7 @@ impl Machine {
             caller,
             request: request.clone()?,
         })?;
+        // The phase before, here and below: nothing of it is needed.
         drop(self.callers.enter(caller, called));
         Ok(())
     }
@@ -106,7 +107,8 @@ impl Machine {
     fn judge(&self, shard: usize, request: &Request) -> Result<Verdict, Memory>
         requires below { shard < length self.now.shards.items }
         requires write { is_write request.now ≡ true }
-        ensures { IfOk result (λ decided. IfSome (key_named request.now) (λ key. decided ≡ verdict request.now (current (shard_at self.now.shards.items shard).records key))) }
+        ensures { IfOk result (λ decided. IfSome (key_named request.now) (λ key. decided
+            ≡ verdict request.now (current (shard_at self.now.shards.items shard).records key))) }
     {
         self.shards[shard].verdict(request)
     }
@@ -181,7 +183,7 @@ impl Machine {
         Ok(())
     }
 
-    /// The write of an index is in its shard, its number is and the shard is free.
+    /// Puts the write of an index into its shard, notes its number as filled, and sets the shard free.
     fn fill(&mut self, shard: usize, index: usize, place: u64, version: Version)
         requires shard { shard < length self.old.shards.items }
         requires seat { shard < length self.old.holders.items }
@@ -209,6 +211,7 @@ impl Machine {
         let number = self.frontier + 1;
         let mut passed = self.passed(place, number)?;
         self.order.append(&mut passed)?;
+        // Emptied by `append`.
         drop(passed);
         self.parking.clear(number);
         self.frontier = number;

@@ -29,8 +29,9 @@ pub fn callers_keep_their_order()
         → Has q places → Before p q places }
 {}
 
-/// A compaction never reaches what is still to be read: a number that is up to the floor, and up to that of each read that
-/// has begun, is so after all further events.
+/// A compaction never reaches what is still to be read: a number that is at most the floor, and at most the number of each
+/// read that has begun, stays so after all further events.
 pub fn compactions_spare_reads()
-    ensures { (size : Size) (events later : List Event) (number : ℕ) → 0 < size.shards → IsSpared (after size opening events) number → IsSpared (after size (after size opening events) later) number }
+    ensures { (size : Size) (events later : List Event) (number : ℕ) → 0 < size.shards
+        → IsSpared (after size opening events) number → IsSpared (after size (after size opening events) later) number }
 {}

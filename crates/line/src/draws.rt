@@ -20,7 +20,9 @@ impl<E, K: Judging<E>> Line<E, K> {
         requires note { MayDraw K.home K.by K.accepts J.note seat.old.view }
         ensures line { seat.new.line ≡ seat.old.line }
         ensures some { IfSome result (λ n. seat.new.view ≡ drew_for J.note seat.old.view n) }
-        ensures next { IfSome result (λ n. (0 < n) × (n ≤ self.now.capacity) × All (λ x. x < n) seat.old.view.plain.filled × (notes_up_to (n - 1) seat.old.view.notes ≡ seat.old.view.notes) × (seat.old.view.plain.seen < n)) }
+        ensures next { IfSome result (λ n. (0 < n) × (n ≤ self.now.capacity)
+            × All (λ x. x < n) seat.old.view.plain.filled
+            × (notes_up_to (n - 1) seat.old.view.notes ≡ seat.old.view.notes) × (seat.old.view.plain.seen < n)) }
         ensures limit { IfSome result (λ n. n ≤ MAX_NUMBERS) }
         ensures none { IfNone result (seat.new.view ≡ with_plain seat.old.view (used_up seat.old.view.plain)) }
         ensures spent { seat.old.view.plain.spent ≡ true → result ≡ None }

@@ -45,6 +45,7 @@ impl<E, K: Judging<E>> Line<E, K> {
         ensures tried { place.new.me.0 ≡ with_plain place.old.me.0 (tried place.old.me.0.plain number result) }
     {
         let words = &self.table.shared;
+        // A mark is 0 until it is set.
         words.load::<Try>(place, number as usize + 1) != 0
     }
 

@@ -15,7 +15,7 @@ pub struct View {
     pub spent: bool,
     /// The highest frontier that it knows of.
     pub seen: u64,
-    /// The last number whose mark it found set, or 0.
+    /// The last number whose mark it found set, 0 where it found none.
     pub found: u64,
     /// How often it loaded the frontier.
     pub loads: u64,

@@ -49,7 +49,8 @@ fn write_head<'a>(object: &'a Object, out: &mut Writer) -> Result<Head<'a>, Allo
     ensures written { IfOk result (λ head. WritesHead object.now head.versioned.now head.after.now out.old.tokens out.new.tokens) }
     ensures none { IfOk result (λ head. has_held (members_of head.versioned.now) ≡ false) }
     ensures before { out.new.before ≡ out.old.before }
-    ensures proper { IfOk result (λ head. AreProperMembers (members_of head.versioned.now) → AreProperMembers (members_of head.after.now) → IsProper object.now.body) }
+    ensures proper { IfOk result (λ head. AreProperMembers (members_of head.versioned.now) → AreProperMembers (members_of head.after.now)
+        → IsProper object.now.body) }
     ensures rules { OnOk result (KeepsRules object.now) }
 {
     let Tree::Map(members) = &object.body else {
@@ -236,6 +237,7 @@ pub(crate) fn print_cut(object: &Object, out: Vec<u8>) -> Result<CutText, AllocE
     ensures spec { IfOk result (λ text. IfSome text.cut (λ cut. IfSome cut.spec (IsSpecAt object.now cut.version cut.status))) }
 {
     let meta = &object.meta;
+    // 0 is no resource version, and a text without one can't be cut.
     if meta.revision == 0 {
         let bytes = print_into(object, out)?;
         return Ok(CutText { bytes, cut: None });

@@ -191,7 +191,8 @@ fn finished(
     requires said { SaysKind key.kind members }
     requires whole { (metadata : DataMembers) × (get_member (codes "metadata") members ≡ Some (object metadata)) × (metadata_fits metadata ≡ true) }
     ensures { (metadata : DataMembers) → get_member (codes "metadata") members ≡ Some (object metadata)
-        → Gives (λ draft. draft) result (Ok (draft_parts key (stated stated_parts.uid stated_parts.version stated_parts.generation stated_parts.deletion) metadata members)) }
+        → Gives (λ draft. draft) result
+        (Ok (draft_parts key (stated stated_parts.uid stated_parts.version stated_parts.generation stated_parts.deletion) metadata members)) }
 {
     let body = body_of(alloc, members)?;
     let Stated {

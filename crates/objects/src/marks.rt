@@ -9,7 +9,7 @@ use simdutf8::basic::from_utf8;
 use std::alloc::Global;
 use trees::{Memory, TreeReader};
 
-/// What is read of a text without a look at it, in fewer bits; all 0 where they do not fit.
+/// What is known of a text without reading it, in fewer bits; all are 0 where one does not fit.
 #[derive(Clone, Copy, Drop)]
 pub struct Marks {
     pub(crate) uid: u32,

@@ -78,7 +78,7 @@ fn owner_references(body: &Tree) -> Option<&Items>
     metadata_of(body)?.get("ownerReferences")?.as_list()
 }
 
-/// The owners that are set are there, and owners that are taken away are none; all other members of `metadata` and of the
+/// Owners that are set are there, and where they are taken away there are none; all other members of `metadata` and of the
 /// body stay as they were.
 pub fn only_the_owners_change()
     ensures set { (owners : Option DataItems) (members : DataMembers)

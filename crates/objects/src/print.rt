@@ -100,7 +100,7 @@ fn held_text<'a>(text: Option<&'a Text>) -> Option<Held<'a>>
     }
 }
 
-// The number, unless it is 0.
+// The number, unless it is 0, which stands for none.
 fn held_number<'a>(number: u64) -> Option<Held<'a>>
     ensures { option_map held_data result ≡ unless_zero number (number_data (unsigned number)) }
 {
@@ -179,7 +179,8 @@ fn write_step_front<'a>(
 ) -> Result<&'a [(Text, Tree)], AllocError>
     requires held { is_held key.now ≡ true }
     requires none { has_held (members_of entries.now) ≡ false }
-    ensures step { IfOk result (λ rest. (value : Option Data) → WritesStep key.now value entries.now rest.now out.old.tokens (out.new.tokens ++ some_tokens key.now value)) }
+    ensures step { IfOk result (λ rest. (value : Option Data)
+        → WritesStep key.now value entries.now rest.now out.old.tokens (out.new.tokens ++ some_tokens key.now value)) }
     ensures none { IfOk result (λ rest. has_held (members_of rest.now) ≡ false) }
     ensures before { out.new.before ≡ out.old.before }
     ensures proper { IfOk result (λ rest. AreProperMembers (members_of rest.now) → AreProperMembers (members_of entries.now)) }
@@ -234,7 +235,8 @@ fn write_members(
     requires ascending { AreAscending (members_of entries.now) }
     requires said { (metadata : DataMembers) × (get_member (codes "metadata") (members_of entries.now) ≡ Some (map metadata)) × (has_held metadata ≡ false) }
     ensures tokens { (metadata : DataMembers) → get_member (codes "metadata") (members_of entries.now) ≡ Some (map metadata)
-        → OnOk result (out.new.tokens ≡ out.old.tokens ++ members_tokens (members_outline (put (codes "metadata") (map (whole_metadata object.now metadata)) (members_of entries.now)))) }
+        → OnOk result (out.new.tokens ≡ out.old.tokens ++ members_tokens
+        (members_outline (put (codes "metadata") (map (whole_metadata object.now metadata)) (members_of entries.now)))) }
     ensures before { out.new.before ≡ out.old.before }
     ensures proper { OnOk result (AreProperMembers (members_of entries.now)) }
     ensures rules { OnOk result ((is_key object.now.key ≡ true) × IsMeta object.now.meta) }

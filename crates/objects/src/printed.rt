@@ -23,7 +23,7 @@ pub struct Printed {
     sheet: Arc<Sheet>,
 }
 
-/// A text of an object, and what is read of it without a look at the text.
+/// A text of an object, and what is known of the object without reading the text.
 #[derive(Drop)]
 pub(crate) struct Sheet {
     pub(crate) text: String,

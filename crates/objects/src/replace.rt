@@ -1,4 +1,5 @@
 // What an update makes of an object.
+// What is still held at a way out goes by `drop`: that is proved once for a type, and not for each of its parts again.
 ghost use Rattle.std.specs.Prelude.{◌≡◌, ◌<◌, ◌^◌, None, codes, option_map, false, IfOk, IfSome};
 ghost use Rattle.trees.specs.Tree.{data_of};
 ghost use Rattle.objects.specs.declared.object.Object.{Object as SpecObject};
@@ -19,7 +20,7 @@ use trees::{Memory, Tree, TreeReader};
 #[derive(Drop)]
 pub struct Replacement {
     pub text: Printed,
-    /// Whether the body is as it was, where the key is.
+    /// Whether the body is as it was. Where the key is another, it says nothing.
     pub is_same: bool,
 }
 
@@ -54,7 +55,8 @@ impl Object {
 
 impl Printed {
     /// What an update with that object makes of this one, which has a status or may have one. This one's text is not read
-    /// back where it tells its spec and its generation, the other's tells its spec, and the update makes another text.
+    /// back where its generation and the place of its spec are known, the place of the new text's spec is known too, and
+    /// the two texts differ.
     pub fn replaced(
         &self,
         reader: &mut TreeReader,
@@ -87,8 +89,9 @@ impl Printed {
         })
     }
 
-    /// The text of what an update with that object makes of this one, where it is told without reading this one's text back
-    /// and is another text: with the same key it has another body. The object keeps its key and its body.
+    /// The text of what an update with that object makes of this one, if that can be found without reading this one's text
+    /// back, and if it is another text. Then the bodies differ too where the keys are the same. The object handed in keeps
+    /// its key and its body.
     fn replaced_by_text(
         &self,
         printer: &mut Printer,
@@ -100,6 +103,7 @@ impl Printed {
         ensures differs { IfOk result (λ found. IfSome found (λ new. self.now.key ≡ new.key → same_data self.now.body new.body ≡ false)) }
     {
         let sheet = self.sheet();
+        // 0 says that the text can't be cut, or that it is not known where its spec stands and what its generation is.
         if sheet.version == 0 || sheet.generation == 0 {
             return Ok(None);
         }
@@ -118,7 +122,8 @@ impl Printed {
     }
 }
 
-/// The object as it is once it is in the place of the sheet's, printed with its own status, if its text tells its spec.
+/// The object as it is once it has taken the place of the sheet's object, printed with its own status. None where the
+/// place of the spec in the new text is not known.
 fn print_in_place(
     sheet: &Sheet,
     printer: &mut Printer,
@@ -164,7 +169,8 @@ fn put_meta(object: &mut Object, meta: Meta)
 fn kept_meta(sheet: &Sheet, generation: u64) -> Meta
     requires known { (o : SpecObject) × IsSheet o sheet.now × IsOpen o sheet.now }
     requires generation { generation < 2 ^ 63 }
-    ensures { (o : SpecObject) → IsSheet o sheet.now → IsOpen o sheet.now → result ≡ record { uid = o.meta.uid; revision = o.meta.revision; generation = generation; deletion = o.meta.deletion } }
+    ensures { (o : SpecObject) → IsSheet o sheet.now → IsOpen o sheet.now
+        → result ≡ record { uid = o.meta.uid; revision = o.meta.revision; generation = generation; deletion = o.meta.deletion } }
 {
     Meta {
         uid: sheet.uid,
@@ -174,7 +180,7 @@ fn kept_meta(sheet: &Sheet, generation: u64) -> Meta
     }
 }
 
-/// Whether both objects have the same spec, if the text of the second tells its own.
+/// Whether both objects have the same spec. None where the place of the second one's spec is not known.
 fn has_same_spec(left: &Sheet, right: &Sheet) -> Option<bool>
     requires left { (o : SpecObject) × IsSheet o left.now × IsOpen o left.now }
     requires right { (p : SpecObject) × IsSheet p right.now }

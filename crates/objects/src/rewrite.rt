@@ -44,6 +44,7 @@ impl Printed {
         ensures { IfOk result (λ printed. printed ≡ at_version (with_status (option_map data_of status) self.now) revision) }
     {
         let Ok(found) = self.spliced_status(printer, status.as_ref(), revision) else {
+            // Where it is not used it goes by `drop`: that is proved once for its type, not for each of its parts.
             drop(status);
             return Err(Memory);
         };
@@ -66,7 +67,8 @@ impl Printed {
         status: Option<&Tree>,
         revision: u64,
     ) -> Result<Option<Printed>, Memory>
-        ensures { IfOk result (λ found. IfSome found (λ printed. printed ≡ at_version (with_status (option_map (λ t. data_of t.now) status.entry) self.now) revision)) }
+        ensures { IfOk result (λ found. IfSome found (λ printed. printed
+            ≡ at_version (with_status (option_map (λ t. data_of t.now) status.entry) self.now) revision)) }
     {
         let sheet = self.sheet();
         let end = write_end(status, Vec::with_capacity(alloc_of(sheet), END_ROOM)?)?;
@@ -107,7 +109,8 @@ impl Printed {
 
     /// The same, if the text can be cut.
     fn ends_in(&self, status: Option<&Tree>) -> Result<Option<bool>, Memory>
-        ensures { IfOk result (λ found. IfSome found (λ same. same ≡ same_found (member_of (codes "status") self.now.body) (option_map (λ t. data_of t.now) status.entry))) }
+        ensures { IfOk result (λ found. IfSome found (λ same. same
+            ≡ same_found (member_of (codes "status") self.now.body) (option_map (λ t. data_of t.now) status.entry))) }
     {
         let sheet = self.sheet();
         let end = write_end(status, Vec::with_capacity(alloc_of(sheet), END_ROOM)?)?;

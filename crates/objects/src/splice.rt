@@ -21,6 +21,7 @@ pub(crate) fn spliced(
     requires { sheet.now.version ≢ 0 → AreParts (string_bytes sheet.now.text) sheet.now.revision sheet.now.version sheet.now.status }
     ensures { IfOk result (λ found. IfSome found (λ new. IsSpliced sheet.now end.now revision new)) }
 {
+    // 0 says that the text can't be cut, or that there is no resource version.
     if sheet.version == 0 || revision == 0 {
         return Ok(None);
     }
@@ -69,7 +70,8 @@ fn sheet_of(
 /// The text from its status on, if it can be cut.
 pub(crate) fn status_end(sheet: &Sheet) -> &[u8]
     requires { sheet.now.version ≢ 0 → AreParts (string_bytes sheet.now.text) sheet.now.revision sheet.now.version sheet.now.status }
-    ensures { sheet.now.version ≢ 0 → (parts : AreParts (string_bytes sheet.now.text) sheet.now.revision sheet.now.version sheet.now.status) → result.now ≡ parts.rest }
+    ensures { sheet.now.version ≢ 0
+        → (parts : AreParts (string_bytes sheet.now.text) sheet.now.revision sheet.now.version sheet.now.status) → result.now ≡ parts.rest }
 {
     if sheet.version == 0 {
         return &[];

@@ -42,8 +42,8 @@ impl Object {
         })
     }
 
-    /// The object with that value of a member, or without the member where there is no value. It is no member that says
-    /// what the object is: `apiVersion`, `kind` and `metadata` stay.
+    /// The object with that value of a member, or without the member where there is no value. The member is none of those
+    /// that say what the object is, so that `apiVersion`, `kind` and `metadata` stay.
     pub fn with_member(self, name: &str, value: Option<Tree>) -> Result<Object, AllocError>
         requires { is_identity name.now ≡ false }
         ensures key { IfOk result (λ object. object.key ≡ self.key) }
@@ -68,7 +68,7 @@ pub(crate) fn with_member(body: Tree, key: &str, value: Option<Tree>) -> Result<
     }
 }
 
-/// A member that is set has its value, one that is taken away is none, and all others stay as they were.
+/// A member that is set has its value, one that is taken away is no longer there, and all others stay as they were.
 pub fn only_the_set_member_changes()
     ensures set { (name : List ℕ) (value : Option Data) (members : Members)
         → member_of name (with_member name value (object members)) ≡ value }

@@ -38,6 +38,7 @@ pub(crate) fn uid_bytes(number: u64) -> [u8; 36]
     ensures { result ≡ uid_prefix ++ twelve_digits number }
 {
     let mut text = *b"00000000-0000-4000-8000-000000000000";
+    // It can't fail: six bytes make twelve digits, and there is room for twelve.
     let _ = hex::encode_to_slice(&number.to_be_bytes()[2..], &mut text[24..]);
     text
 }

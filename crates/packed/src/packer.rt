@@ -12,7 +12,7 @@ use std::sync::Arc;
 /// How many bases are kept at hand.
 const BASES: u32 = 1_024;
 
-/// How many bytes such a base has at most: with its objects gone, it is memory that serves none.
+/// How many bytes such a base has at most: it takes memory even once no object needs it.
 const LONGEST: usize = 65_536;
 
 /// Packs objects, each beside the text of one much like it.
@@ -67,7 +67,7 @@ impl Packer {
 }
 
 // The object packed beside a base, if that takes no more than a quarter of its text. A base of more than four times its
-// length is none for it: what a packed object keeps in memory is in proportion to its text.
+// length is not used, so that what a packed object keeps in memory is in proportion to its text.
 fn packed_by(
     alloc: Global,
     base: &Arc<String>,

@@ -80,7 +80,8 @@ fn answer_some<'a, W: Sink>(
         v.cutter.lines + length v.cutter.pending.items + length v.rest.now ≤ cutter.lines + length cutter.pending.items + length piece.now) }
     ensures shorter { IfOk result (λ v. 0 < length piece.now → length v.rest.now < length piece.now) }
     ensures written { IfOk result (λ v. v.cutter.replies.items ≡ []) }
-    ensures fault { OnErr result (PutsPart (W.written writer.old) (answers plain.old (ended_lines (cutter.pending.items ++ piece.now))) (W.written writer.new)) }
+    ensures fault { OnErr result (PutsPart (W.written writer.old)
+        (answers plain.old (ended_lines (cutter.pending.items ++ piece.now))) (W.written writer.new)) }
     ensures writes { CountsWrites result (W.failures writer.old) (W.failures writer.new) }
     ensures cause { IsWriteOrMemory result }
 {
@@ -106,7 +107,8 @@ fn answer_read<W: Sink>(
     ensures begun { IfOk result (λ v. NoFeed v.pending.items) }
     ensures count { IfOk result (λ v. v.lines + length v.pending.items ≤ cutter.lines + length cutter.pending.items + length piece.now) }
     ensures written { IfOk result (λ v. v.replies.items ≡ []) }
-    ensures fault { OnErr result (PutsPart (W.written writer.old) (answers plain.old (ended_lines (cutter.pending.items ++ piece.now))) (W.written writer.new)) }
+    ensures fault { OnErr result (PutsPart (W.written writer.old)
+        (answers plain.old (ended_lines (cutter.pending.items ++ piece.now))) (W.written writer.new)) }
     ensures writes { CountsWrites result (W.failures writer.old) (W.failures writer.new) }
     ensures cause { IsWriteOrMemory result }
 {
@@ -169,9 +171,11 @@ fn serve_store<R: Source, W: Sink>(
     };
     'reads: loop {
         let Some(count) = reader.read(room) else {
+            // It goes by `drop`, here and below: that is proved once for a type, not for each of its parts.
             drop(cutter);
             return Err(ServeFault::Read);
         };
+        // 0 is the end of the input.
         if count == 0 {
             break;
         }
@@ -182,9 +186,9 @@ fn serve_store<R: Source, W: Sink>(
 
 /// Answers each line of the reader's bytes with a line to the writer, as the plain store with room for `capacity`
 /// revisions answers them, and says how many lines there were. The bytes are cut at line feeds, and a last line may lack
-/// its line feed. Replies are written once they come to 65,536 bytes, and else before the next read. What is held at a
-/// time is one piece of a read of 64 KiB at most, of a line that is cut by the piece's end at most 1,048,577 bytes, the
-/// reply to one line, and less than 65,536 bytes of other replies.
+/// its line feed. Replies are written once they come to 65,536 bytes, and else before the next read. At any time it holds
+/// one piece of a read (64 KiB at most), at most 1,048,577 bytes of a line that the piece's end cuts, the reply to one
+/// line, and less than 65,536 bytes of other replies.
 ///
 /// # Errors
 ///

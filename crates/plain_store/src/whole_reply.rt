@@ -24,6 +24,7 @@ impl WholeReply {
         match text_of(printer, &reply) {
             Ok(text) => Ok(WholeReply { reply, text }),
             Err(error) => {
+                // It goes by `drop`, here and below: that is proved once for a type, not for each of its parts.
                 drop(reply);
                 Err(error)
             }

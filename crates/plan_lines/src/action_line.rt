@@ -151,6 +151,7 @@ fn write_version(number: u64, out: &mut Writer) -> Result<(), AllocError>
 fn version_shown<'a>(buffer: &'a mut itoa::Buffer, number: u64) -> &'a str
     ensures { result.now ≡ version_shown number }
 {
+    // 0 says that none was listed.
     if number == 0 {
         ""
     } else {

@@ -1,4 +1,5 @@
 // The verdicts on updates, status requests and deletes, by the text of the object that now has the key.
+// What is still held at a way out goes by `drop`: that is proved once for a type, and not for each of its parts again.
 ghost use Rattle.std.specs.Prelude.{◌≡◌, true, None, IfOk, IfSome};
 ghost use Rattle.std.specs.Option.{option_copied};
 ghost use Rattle.requests.specs.TextJudgments.{removal_verdict, status_verdict, update_verdict};
@@ -32,7 +33,7 @@ pub enum StatusJudgment {
     Write(Printed, Option<Tree>),
 }
 
-/// What a delete comes to that is not graceful.
+/// What a delete that is not graceful comes to.
 #[derive(Drop)]
 pub enum RemovalJudgment {
     Refuse(Reason),
@@ -40,7 +41,7 @@ pub enum RemovalJudgment {
     Remove(Printed),
 }
 
-/// What an update comes to of an object that may have a status, given the text of the object that now has its key, if there
+/// What an update of an object that may have a status comes to, given the text of the object that now has its key, if there
 /// is one.
 pub fn judge_update(
     current: Option<&Printed>,

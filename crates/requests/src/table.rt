@@ -1,4 +1,5 @@
 // The table of verdicts, in the order of its cases.
+// What is still held at a way out goes by `drop`: that is proved once for a type, and not for each of its parts again.
 ghost use Rattle.std.specs.Prelude.{◌≡◌, true, IfOk, option_map};
 ghost use Rattle.std.specs.Option.{option_copied};
 ghost use Rattle.requests.specs.Verdict.{is_write, on_create, on_delete, on_status, on_update, unless_same, verdict};
@@ -29,7 +30,7 @@ pub fn decide(current: Option<&Object>, request: &Request) -> Result<Verdict, Me
     })
 }
 
-/// As `decide`, of a request that is used up, so that what it holds is moved into the change.
+/// As `decide`, but the request is used up, so that what it holds is moved into the change and not copied.
 pub fn judge(current: Option<&Object>, request: Request) -> Result<Judgment, AllocError>
     requires { is_write request ≡ true }
     ensures { IfOk result (λ decided. verdict_of decided ≡ verdict request (option_copied current.entry)) }

@@ -12,7 +12,7 @@ pub enum Verdict {
     Write(Change),
 }
 
-/// A verdict of which nothing is copied yet. Of a write it has the kind and the object.
+/// A verdict for which nothing is copied yet. A write has the kind and the object.
 #[derive(Drop)]
 pub enum Judgment {
     Refuse(Reason),

@@ -30,6 +30,7 @@ pub fn expired_revisions<'a>(
 {
     let live = live_names(alloc, set, pods, current, revisions.update.name)?;
     let mut history = others(alloc, &live, &revisions.owned)?;
+    // Let go by name, which is proved once for the type and not at each way out.
     drop(live);
     history.truncate(history.len().saturating_sub(set.history_limit as usize));
     Ok(history)
@@ -43,7 +44,8 @@ fn live_names<'b>(
     current: &'b str,
     update: &'b str,
 ) -> Result<BTreeSet<&'b str>, AllocError>
-    ensures { IfOk result (λ names. (q : List ℕ) → has_name q names.keys ≡ is_live (set_parts set.now) (map pod_parts pods.now) current.entry.now update.entry.now q) }
+    ensures { IfOk result (λ names. (q : List ℕ)
+        → has_name q names.keys ≡ is_live (set_parts set.now) (map pod_parts pods.now) current.entry.now update.entry.now q) }
 {
     let mut names = BTreeSet::new(alloc);
     names.insert(current)?;

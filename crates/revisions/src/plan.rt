@@ -73,6 +73,7 @@ fn plan_of<'a>(
 {
     let Listed { names, owned } = found;
     if !are_sound(set, &owned) {
+        // Let go by name, which is proved once for the type and not at each way out.
         drop(names);
         drop(owned);
         return Err(PlanError::BadSpec);
@@ -128,6 +129,7 @@ fn created(
     ensures { Gives (λ object. object) result (creation (set_parts set.now) (λ q. has_name q names.now.keys) digits number) }
 {
     if MAX_LABEL < name_of(set).len() + 1 + digits {
+        // Let go by name, which is proved once for the type and not at each way out.
         drop(template);
         return Err(PlanError::NameTooLong);
     }

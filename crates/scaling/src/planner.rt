@@ -23,8 +23,10 @@ pub fn pod_steps(
     pods: &BTreeMap<u32, Replica>,
 ) -> Result<Vec<Step>, AllocError>
     ensures first { IfOk result (λ steps. steps.items ≡ cut (planned (set_parts set.now) pods.now.entries)) }
-    ensures in_order { IfOk result (λ _. set.now.policy ≡ Policy.OrderedReady → ScalesInOrder (set_parts set.now) pods.now.entries (pod_steps (planned (set_parts set.now) pods.now.entries))) }
-    ensures at_once { IfOk result (λ _. set.now.policy ≡ Policy.Parallel → ScalesAtOnce (set_parts set.now) pods.now.entries (pod_steps (planned (set_parts set.now) pods.now.entries))) }
+    ensures in_order { IfOk result (λ _. set.now.policy ≡ Policy.OrderedReady
+        → ScalesInOrder (set_parts set.now) pods.now.entries (pod_steps (planned (set_parts set.now) pods.now.entries))) }
+    ensures at_once { IfOk result (λ _. set.now.policy ≡ Policy.Parallel
+        → ScalesAtOnce (set_parts set.now) pods.now.entries (pod_steps (planned (set_parts set.now) pods.now.entries))) }
 {
     // A map's length says that its keys are in order.
     let _len = pods.len();

@@ -13,7 +13,7 @@ use set_views::{PodView, Readiness, Set};
 pub struct Replica {
     /// Whether the set controls the pod.
     pub owned: bool,
-    /// The number of the pod's UID, or 0.
+    /// The number of the pod's UID, 0 for none.
     pub uid: u64,
     pub readiness: Readiness,
     /// Whether the pod has a `deletionTimestamp`.

@@ -31,6 +31,7 @@ pub(crate) fn claims_in(
     if are_distinct(alloc, &claims)? {
         Ok(claims)
     } else {
+        // They go by `drop`, which is proved once for their type, and not for each of their parts.
         drop(claims);
         Err(PlanError::BadSpec)
     }

@@ -11,7 +11,7 @@ pub struct PodView<'a> {
     pub name: &'a str,
     /// The set and the ordinal that the name is made of, if it is the name of a set's pod.
     pub place: Option<(&'a str, u32)>,
-    /// The number of the pod's UID, or 0.
+    /// The number of the pod's UID, 0 where it has none.
     pub uid: u64,
     pub readiness: Readiness,
     /// Whether the pod has a `deletionTimestamp`.

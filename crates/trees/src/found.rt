@@ -21,6 +21,7 @@ pub(crate) fn by_key(
 {
     let mut found = BTreeMap::new(alloc);
     for (name, value) in entries {
+        // No key stands twice, so that no value was there before.
         drop(found.insert(name, Some(value))?);
     }
     Ok(found)

@@ -25,8 +25,8 @@ use std::collections::BTreeMap;
 /// In a map of fewer members a key goes to its place by steps over the others.
 const FEW: usize = 16;
 
-/// The tree of a text whose lists and maps nest so deep at most, or `None` where a number in it is not whole. It refuses
-/// with NotJson alone.
+/// The tree of a text whose lists and maps nest at most `depth` deep, or `None` where a number in it is not whole. The only
+/// refusal is NotJson.
 pub(crate) fn tree_in(
     alloc: Global,
     text: &str,
@@ -156,6 +156,7 @@ fn members_in(
             Some(value) if entries.len() < FEW => put_entry(&mut entries, key, value)?,
             value => {
                 let mut found = by_key(alloc, entries)?;
+                // A value that the key had before is let go, since the last one counts.
                 drop(found.insert(key, value)?);
                 return members_after(alloc, reader, depth, spares, found);
             }
@@ -184,6 +185,7 @@ fn members_after(
     'members: while let Some(name) = reader.next_key()? {
         let key = Text::copy_of(alloc, name)?;
         let value = value_in(alloc, reader, depth, spares)?;
+        // A value that the key had before is let go, since the last one counts.
         drop(found.insert(key, value)?);
     }
     Ok(whole_entries(alloc, found)?)

@@ -109,8 +109,8 @@ impl<V: Drop> VersionMap<V> {
         Ok(values_at(self.alloc, &self.chains, listed, number)?)
     }
 
-    /// Puts a key aside that has no value, until room is made for it again. All readings stay. A key that has one stays
-    /// listed, and so does any where memory runs out or room is made.
+    /// Puts aside a key that has no value, until room is made for it again. All readings stay. The key stays listed where
+    /// it has a value, where memory runs out, and where room is made for a push.
     pub fn put_aside(&mut self, key: &Key)
         ensures { self.new ≡ self.old }
     {
@@ -133,8 +133,8 @@ impl<V: Drop> VersionMap<V> {
         }
     }
 
-    /// Makes room for one push of that key, in place of any room that was made before. All readings stay, and where memory
-    /// runs out the room too.
+    /// Makes room for one push of that key, in place of any room that was made before. All readings stay; where memory runs
+    /// out, so does the room that was made before.
     pub fn make_room(&mut self, key: &Key) -> Result<(), Memory>
         ensures made { OnOk result (self.new ≡ with_room self.old key.now) }
         ensures memory { OnErr result (self.new ≡ self.old) }
@@ -186,8 +186,8 @@ impl<V: Drop> VersionMap<V> {
         self.floor = number;
     }
 
-    /// Drops the version before the next one that follows another of its key, if the number of that next one is at most
-    /// this one. Answers whether there was one.
+    /// Takes the first version of the queue, if its number is at most this one, and drops the version of its key before it.
+    /// Answers whether it did.
     fn drop_next(&mut self, number: u64) -> bool
         ensures left { compacted self.new.rows number ≡ compacted self.old.rows number }
         ensures others { (self.new.floor ≡ self.old.floor) × (self.new.room ≡ self.old.room) }

@@ -12,7 +12,7 @@ const HELD: usize = 16;
 /// The most bytes of a short name. The last of those that hold it counts them.
 const MOST: usize = HELD - 1;
 
-/// A name of at most 15 bytes, which a clause sees as its bytes. Zeros stand behind it, and last how many bytes it has: so
+/// A name of at most 15 bytes, which a clause sees as its bytes. Zeros stand behind it, and its length is the last byte. So
 /// two of them, read as numbers, are in the order of the names, and a search compares them in a few steps.
 #[derive(Drop)]
 pub(crate) struct ShortName {
@@ -109,6 +109,7 @@ impl Ord for ShortName {
     ghost matches_eq = { texts_ties };
 
     fn cmp(&self, other: &ShortName) -> Ordering {
+        // Looked at so that both invariants are known here; it costs nothing.
         let _ = &self.bytes;
         let _ = &other.bytes;
         self.number().cmp(&other.number())

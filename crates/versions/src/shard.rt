@@ -108,8 +108,8 @@ impl Shard {
         }
     }
 
-    /// Makes room for one push of that key, in place of any room that was made before. All readings stay, and where
-    /// memory runs out the room too.
+    /// Makes room for one push of that key, in place of any room that was made before. All readings stay; where memory runs
+    /// out, so does the room that was made before.
     pub fn make_room(&mut self, key: &Key) -> Result<(), Memory>
         ensures made { OnOk result (self.new ≡ with_room self.old key.now) }
         ensures memory { OnErr result (self.new ≡ self.old) }

@@ -50,6 +50,7 @@ fn read_by<R: Source>(alloc: Global, reader: &mut R, room: &mut [u8]) -> Result<
         let Some(count) = reader.read(room) else {
             return Err(InputFault::Read);
         };
+        // 0 is the end of the input.
         if count == 0 {
             break;
         }

@@ -37,8 +37,8 @@ pub(crate) struct Paused<'a> {
     pub(crate) rest: &'a [u8],
 }
 
-/// Appends bytes to the beginning of a line whose end has not come. Of a line that is too long, no more is held than shows
-/// that it is.
+/// Appends bytes to the beginning of a line whose end has not come. Of a line that is too long, no more is held than what
+/// shows that it is too long.
 fn append_pending(mut pending: Vec<u8>, bytes: &[u8]) -> Result<Vec<u8>, Memory>
     ensures { IfOk result (λ v. v.items ≡ with_pending pending.items bytes.now) }
 {

@@ -60,7 +60,8 @@ fn write_listed(objects: &[Object], revision: u64, out: &mut Writer) -> Result<(
 }
 
 fn write_items(objects: &[Object], out: &mut Writer) -> Result<(), AllocError>
-    ensures tokens { OnOk result (out.new.tokens ≡ out.old.tokens ++ key (codes "items") ∷ begin_array ∷ items_tokens (items_outline (printed_items objects.now))) }
+    ensures tokens { OnOk result (out.new.tokens
+        ≡ out.old.tokens ++ key (codes "items") ∷ begin_array ∷ items_tokens (items_outline (printed_items objects.now))) }
     ensures before { out.new.before ≡ out.old.before }
 {
     out.key("items")?;

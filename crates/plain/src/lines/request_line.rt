@@ -121,6 +121,7 @@ fn stored_number(text: &str) -> Result<u64, RequestError>
     ensures { result ≡ stored_number text.now }
 {
     let number = version_number(text);
+    // 0 says that the text is none of a resource version.
     if number == 0 {
         return Err(RequestError::BadField);
     }

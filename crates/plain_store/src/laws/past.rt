@@ -15,8 +15,10 @@ ghost use Rattle.plain_store.specs.Store.{Store, opening, step};
 /// a time for each number.
 pub fn past_stays()
     ensures kept { (capacity : ℕ) (first more : List Request) (kind : Kind) (namespace : List ℕ) → let s = after (opening capacity) first in 1 ≤ s.counter
-        → let late = (step (after s more) (ListRequest kind namespace s.counter)).1 in (late ≡ Refused Expired) ⊎ (late ≡ (step s (ListRequest kind namespace 0)).1) }
-    ensures was { (capacity : ℕ) (requests : List Request) (number : ℕ) → number ≤ (after (opening capacity) requests).counter → WasAt capacity requests number }
+        → let late = (step (after s more) (ListRequest kind namespace s.counter)).1 in
+        (late ≡ Refused Expired) ⊎ (late ≡ (step s (ListRequest kind namespace 0)).1) }
+    ensures was { (capacity : ℕ) (requests : List Request) (number : ℕ) → number ≤ (after (opening capacity) requests).counter
+        → WasAt capacity requests number }
 {}
 
 /// Two lists of one kind and namespace with one resource version are equal, whenever they were asked for, and whether as of
@@ -30,9 +32,11 @@ pub fn lists_of_one_version_are_equal()
 /// What is asked of the past is Expired only below a number that some compaction went to, and TooLarge only above the
 /// counter.
 pub fn only_what_was_compacted_expires()
-    ensures expired { (capacity : ℕ) (requests : List Request) (request : Request) (number : ℕ) → let s = after (opening capacity) requests in asked request ≡ Some number
+    ensures expired { (capacity : ℕ) (requests : List Request) (request : Request) (number : ℕ)
+        → let s = after (opening capacity) requests in asked request ≡ Some number
         → (step s request).1 ≡ Refused Expired → WasCompactedAbove number (exchanges (opening capacity) requests) }
-    ensures too_large { (s : Store) (request : Request) (number : ℕ) → asked request ≡ Some number → (step s request).1 ≡ Refused TooLarge → s.counter < number }
+    ensures too_large { (s : Store) (request : Request) (number : ℕ) → asked request ≡ Some number
+        → (step s request).1 ≡ Refused TooLarge → s.counter < number }
 {}
 
 /// A compaction that is done makes its number the floor, and leaves the objects, the counter, the capacity and each list at

@@ -1,4 +1,5 @@
 // Writes that are judged over the text of the object that is there, with no object read back.
+// What is still held at a way out goes by `drop`: that is proved once for a type, and not for each of its parts again.
 ghost use Rattle.std.specs.Prelude.{◌≡◌, ◌≢◌, ◌+◌, true, None, IfOk, OnOk, OnErr, option_map};
 ghost use Rattle.std.specs.FinMap as finite;
 ghost use Rattle.std.specs.Option.{option_copied};
@@ -31,6 +32,7 @@ impl Plain {
         ensures step { IfOk result (λ printed. (self.new, reply_printed printed) ≡ step self.old request) }
         ensures memory { OnErr result (self.new ≡ self.old) }
     {
+        // Looked at so that the invariant is known here; it costs nothing.
         let _ = &self.versions;
         match request {
             Request::Update(draft) => {
@@ -61,6 +63,7 @@ impl Plain {
         ensures step { IfOk result (λ printed. (self.new, reply_printed printed) ≡ step self.old (Update draft)) }
         ensures memory { OnErr result (self.new ≡ self.old) }
     {
+        // Looked at so that the invariant is known here; it costs nothing.
         let _ = &self.versions;
         let Ok(key) = draft.object.key.clone() else {
             drop(draft);
@@ -95,6 +98,7 @@ impl Plain {
         ensures step { IfOk result (λ printed. (self.new, reply_printed printed) ≡ carried_out self.old key.now (update_verdict judged)) }
         ensures memory { OnErr result (self.new ≡ self.old) }
     {
+        // Looked at so that the invariant is known here; it costs nothing.
         let _ = &self.versions;
         match judged {
             UpdateJudgment::Refuse(reason) => Ok(PrintedReply::Refused(reason)),
@@ -123,6 +127,7 @@ impl Plain {
         ensures step { IfOk result (λ printed. (self.new, reply_printed printed) ≡ step self.old (UpdateStatus draft.now)) }
         ensures memory { OnErr result (self.new ≡ self.old) }
     {
+        // Looked at so that the invariant is known here; it costs nothing.
         let _ = &self.versions;
         match self.judge_status(draft)? {
             StatusJudgment::Refuse(reason) => Ok(PrintedReply::Refused(reason)),
@@ -153,7 +158,8 @@ impl Plain {
         status: Option<Tree>,
     ) -> Result<PrintedReply, Memory>
         requires { IsReached (carried_out self.old key.now (Write (updates (with_status (option_map data_of status) current)))).0 }
-        ensures step { IfOk result (λ printed. (self.new, reply_printed printed) ≡ carried_out self.old key.now (Write (updates (with_status (option_map data_of status) current)))) }
+        ensures step { IfOk result (λ printed. (self.new, reply_printed printed)
+            ≡ carried_out self.old key.now (Write (updates (with_status (option_map data_of status) current)))) }
         ensures memory { OnErr result (self.new ≡ self.old) }
     {
         if self.is_full() {
@@ -191,6 +197,7 @@ impl Plain {
         ensures step { IfOk result (λ printed. (self.new, reply_printed printed) ≡ step self.old (Delete key uid version at)) }
         ensures memory { OnErr result (self.new ≡ self.old) }
     {
+        // Looked at so that the invariant is known here; it costs nothing.
         let _ = &self.versions;
         if is_graceful(key.kind, at.as_ref()) {
             let request = Request::Delete {
@@ -216,9 +223,11 @@ impl Plain {
         uid: Option<&Text>,
         version: Option<&Text>,
     ) -> Result<PrintedReply, Memory>
-        ensures step { IfOk result (λ printed. (self.new, reply_printed printed) ≡ step self.old (Delete key.now (option_copied uid.entry) (option_copied version.entry) None)) }
+        ensures step { IfOk result (λ printed. (self.new, reply_printed printed)
+            ≡ step self.old (Delete key.now (option_copied uid.entry) (option_copied version.entry) None)) }
         ensures memory { OnErr result (self.new ≡ self.old) }
     {
+        // Looked at so that the invariant is known here; it costs nothing.
         let _ = &self.versions;
         match self.judge_removal(key, uid, version)? {
             RemovalJudgment::Refuse(reason) => Ok(PrintedReply::Refused(reason)),
@@ -232,7 +241,8 @@ impl Plain {
         uid: Option<&Text>,
         version: Option<&Text>,
     ) -> Result<RemovalJudgment, Memory>
-        ensures judged { IfOk result (λ judged. removal_verdict judged ≡ verdict (Delete key.now (option_copied uid.entry) (option_copied version.entry) None) (finite.get self.old.objects key.now)) }
+        ensures judged { IfOk result (λ judged. removal_verdict judged
+            ≡ verdict (Delete key.now (option_copied uid.entry) (option_copied version.entry) None) (finite.get self.old.objects key.now)) }
         ensures same { self.new ≡ self.old }
     {
         let current = printed(

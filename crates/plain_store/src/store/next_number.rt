@@ -38,6 +38,7 @@ impl Plain {
     fn put_aside(&mut self, kind: ChangeKind, key: &Key)
         ensures { self.new ≡ self.old }
     {
+        // Looked at so that the invariant is known here; it costs nothing.
         let _ = &self.versions;
         match kind {
             ChangeKind::Creation | ChangeKind::Update | ChangeKind::Mark => {}

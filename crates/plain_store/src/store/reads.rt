@@ -28,6 +28,7 @@ impl Plain {
                 namespace,
                 exact,
             } => {
+                // 0 asks for the list as it is now.
                 if *exact == 0 {
                     self.list_now(*kind, namespace)
                 } else {
@@ -70,7 +71,8 @@ impl Plain {
         namespace: &Text,
         number: u64,
     ) -> Result<StoredReply<'_>, Memory>
-        ensures { IfOk result (λ stored. reply_stored stored ≡ listed_at number (collection (map_at self.now number) kind namespace.now) (denied self.now.floor self.now.counter number)) }
+        ensures { IfOk result (λ stored. reply_stored stored
+            ≡ listed_at number (collection (map_at self.now number) kind namespace.now) (denied self.now.floor self.now.counter number)) }
     {
         match self.denied(number) {
             Some(reason) => Ok(StoredReply::Refused(reason)),

@@ -1,4 +1,5 @@
 // Writes by way of whole objects.
+// What is still held at a way out goes by `drop`: that is proved once for a type, and not for each of its parts again.
 ghost use Rattle.std.specs.Prelude.{◌≡◌, ◌≢◌, ◌+◌, true, IfOk, OnErr};
 ghost use Rattle.std.specs.FinMap as finite;
 ghost use Rattle.std.specs.Option.{option_copied};
@@ -24,6 +25,7 @@ impl Plain {
         ensures step { IfOk result (λ whole. (self.new, whole.reply) ≡ step self.old request) }
         ensures memory { OnErr result (self.new ≡ self.old) }
     {
+        // Looked at so that the invariant is known here; it costs nothing.
         let _ = &self.versions;
         let Some(key) = request.key() else {
             unreachable!();
