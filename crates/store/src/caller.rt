@@ -86,7 +86,8 @@ impl<H: Sharding, N: Naming> Caller<H, N> {
     pub(crate) fn try_raise(&mut self, line: &Line<Writing, ByShards<H>>) -> u64
         requires { IsLine N.line N.capacity line.now }
         ensures loaded { HasLoaded H.shards N.capacity self.old result self.new }
-        ensures tried { (length self.old.seen < N.capacity → self.new.tries ≡ self.old.tries + 1) × (length self.old.seen ≡ N.capacity → self.new.tries ≡ self.old.tries) }
+        ensures tried { (length self.old.seen < N.capacity → self.new.tries ≡ self.old.tries + 1)
+            × (length self.old.seen ≡ N.capacity → self.new.tries ≡ self.old.tries) }
     {
         let Some(seat) = &mut self.seat else {
             unreachable!();

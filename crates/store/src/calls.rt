@@ -43,7 +43,8 @@ pub(crate) fn submit<H: Sharding, N: Naming, G: Gate>(
     requires key { (k : Key) → key_named request ≡ Some k → shard_of k H.shards ≡ index }
     ensures begins { IsPrefix caller.old.seen caller.new.seen }
     ensures loaded { caller.new.loads ≡ caller.old.loads + 1 }
-    ensures ticket { IfOk result (λ t. IsTicketOf H.shards N.capacity t caller.new × (t.request ≡ request) × (t.since ≡ length caller.old.seen) × IsSome t.reply) }
+    ensures ticket { IfOk result (λ t. IsTicketOf H.shards N.capacity t caller.new
+        × (t.request ≡ request) × (t.since ≡ length caller.old.seen) × IsSome t.reply) }
     ensures own { IfOk result (λ t. WritesOwn caller.old t caller.new) }
     ensures memory { OnErr result (GoesOn caller.old caller.new) }
 {
@@ -162,7 +163,8 @@ pub(crate) fn gather<H: Sharding, N: Naming, W: Wait>(
     requires shards { (length shards.now ≡ H.shards) × (0 < H.shards) }
     requires number { number ≤ length caller.old.seen }
     ensures stays { Stays caller.old caller.new }
-    ensures objects { IfOk result (λ found. IfSome found (λ objects. objects.items ≡ collection (store_after N.capacity (take number caller.new.seen)).objects kind namespace.now)) }
+    ensures objects { IfOk result (λ found. IfSome found
+        (λ objects. objects.items ≡ collection (store_after N.capacity (take number caller.new.seen)).objects kind namespace.now)) }
 {
     let mut found = Gathered::new(alloc);
     for index in 0..shards.len() {
@@ -199,7 +201,8 @@ fn part<H: Sharding, N: Naming, W: Wait>(
     requires line { IsLine N.line N.capacity line.now }
     requires number { number ≤ length caller.old.seen }
     ensures stays { Stays caller.old caller.new }
-    ensures part { IfOk result (λ found. IfSome found (λ objects. objects.items ≡ collection (part_of (store_after N.capacity (take number caller.new.seen)).objects H.shards index) kind namespace.now)) }
+    ensures part { IfOk result (λ found. IfSome found (λ objects. objects.items
+        ≡ collection (part_of (store_after N.capacity (take number caller.new.seen)).objects H.shards index) kind namespace.now)) }
 {
     let mut locked = shard.lock(rt);
     if locked.index() != index as u64 {

@@ -61,7 +61,8 @@ impl<H: Sharding, N: Naming> Model for Locked<H, N> {
 impl<H: Sharding, N: Naming> Locked<H, N> {
     /// A shard with no writes, over a seat that has drawn nothing.
     pub fn new(alloc: Global, seat: ShardSeat<Writing>, index: u64) -> Locked<H, N>
-        requires { (seat.line ≡ N.line) × (seat.view.shard ≡ Some index) × (seat.view.caller ≡ None) × (seat.view.plain.pending ≡ None) × (seat.view.notes ≡ []) × (seat.view.plain.filled ≡ []) }
+        requires { (seat.line ≡ N.line) × (seat.view.shard ≡ Some index) × (seat.view.caller ≡ None)
+            × (seat.view.plain.pending ≡ None) × (seat.view.notes ≡ []) × (seat.view.plain.filled ≡ []) }
         ensures { (result.index ≡ index) × (result.notes ≡ []) × (result.shard ≡ opening) }
     {
         Locked {
@@ -160,7 +161,8 @@ impl<H: Sharding, N: Naming> Locked<H, N> {
         requires number { (self.old.shard.floor ≤ number) × (number ≤ length caller.old.seen) }
         ensures same { self.new ≡ self.old }
         ensures noted { (d : ℕ) × HasObserved H.shards N.capacity self.old.index self.old.notes caller.old d caller.new }
-        ensures part { IfOk result (λ objects. objects.items ≡ collection (part_of (store_after N.capacity (take number caller.new.seen)).objects H.shards self.old.index) kind namespace.now) }
+        ensures part { IfOk result (λ objects. objects.items
+            ≡ collection (part_of (store_after N.capacity (take number caller.new.seen)).objects H.shards self.old.index) kind namespace.now) }
     {
         self.note(line, caller);
         self.shard.list_at(kind, namespace, number)
@@ -185,7 +187,8 @@ impl<H: Sharding, N: Naming> Locked<H, N> {
         requires key { (k : Key) → key_named request ≡ Some k → shard_of k H.shards ≡ self.old.index }
         ensures begins { IsPrefix caller.old.seen caller.new.seen }
         ensures loaded { caller.new.loads ≡ caller.old.loads + 1 }
-        ensures ticket { IfOk result (λ t. IsTicketOf H.shards N.capacity t caller.new × (t.request ≡ request) × (t.since ≡ length caller.old.seen) × IsSome t.reply) }
+        ensures ticket { IfOk result (λ t. IsTicketOf H.shards N.capacity t caller.new
+            × (t.request ≡ request) × (t.since ≡ length caller.old.seen) × IsSome t.reply) }
         ensures own { IfOk result (λ t. WritesOwn caller.old t caller.new) }
         ensures wrote { IfOk result (λ t. WritesNotes self.old.notes t self.new.notes) }
         ensures memory { OnErr result ((self.new ≡ self.old) × GoesOn caller.old caller.new) }

@@ -1,4 +1,4 @@
-ghost use Rattle.std.specs.Prelude.{◌≡◌, ◌+◌, ℕ, ◌≤◌, ◌<◌, [], None, Some, true, length, IfOk, OnErr, IsSome, vec_len};
+ghost use Rattle.std.specs.Prelude.{◌≡◌, ◌+◌, ℕ, ◌≤◌, ◌<◌, [], None, Some, true, length, IfOk, IsErrOf, OnErr, IsSome, vec_len};
 ghost use mathlib.Core.List.{IsPrefix};
 ghost use Rattle.line.specs.Seat.{AreShards};
 ghost use Rattle.objects.specs.declared.key.Key.{Key};
@@ -15,6 +15,7 @@ ghost use Rattle.plain_store.specs.Store.{denied};
 ghost use Rattle.store.specs.Callers.{GoesOn, HasRead, IsLine};
 ghost use Rattle.store.specs.Tickets.{IsTicketOf, WritesOwn};
 ghost use Rattle.store.specs.Views.{Stays};
+ghost use Rattle.store.specs.declared.error.StoreError.TheVariants.{TooManyCallers};
 
 use crate::caller::{self, Caller};
 use crate::callers::Callers;
@@ -69,6 +70,7 @@ impl<H: Sharding, N: Naming> Store<H, N> {
         requires caller { ends.caller.line ≡ N.line }
         requires shards { AreShards N.line N.capacity ends.shards.items }
         requires some { (vec_len ends.shards ≡ H.shards) × (0 < H.shards) }
+        ensures memory { IsErrOf result TooManyCallers → ⊥ }
     {
         let Ends {
             line,
@@ -118,7 +120,8 @@ impl<H: Sharding, N: Naming> Store<H, N> {
         requires { is_write request ≡ true }
         ensures begins { IsPrefix caller.old.seen caller.new.seen }
         ensures loaded { caller.new.loads ≡ caller.old.loads + 1 }
-        ensures ticket { IfOk result (λ t. IsTicketOf H.shards N.capacity t caller.new × (t.request ≡ request) × (t.since ≡ length caller.old.seen) × IsSome t.reply) }
+        ensures ticket { IfOk result (λ t. IsTicketOf H.shards N.capacity t caller.new
+            × (t.request ≡ request) × (t.since ≡ length caller.old.seen) × IsSome t.reply) }
         ensures own { IfOk result (λ t. WritesOwn caller.old t caller.new) }
         ensures memory { OnErr result (GoesOn caller.old caller.new) }
     {
@@ -280,7 +283,8 @@ impl<H: Sharding, N: Naming> Store<H, N> {
         number: u64,
     ) -> Result<Reply, Memory>
         ensures read { HasRead N.capacity caller.old caller.new }
-        ensures reply { IfOk result (λ reply. reply ≡ list_reply (denied floor.now (length caller.new.seen) number) N.capacity caller.new.seen kind namespace.now number) }
+        ensures reply { IfOk result (λ reply. reply
+            ≡ list_reply (denied floor.now (length caller.new.seen) number) N.capacity caller.new.seen kind namespace.now number) }
     {
         if let Some(reason) = floor.denied(&self.numbers, caller, number) {
             return Ok(Reply::Refused(reason));

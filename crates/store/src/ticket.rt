@@ -41,7 +41,8 @@ impl<H: Sharding, N: Naming> Ticket<H, N> {
         requires ticket { IsTicketOf H.shards N.capacity self.old caller.old }
         ensures read { HasRead N.capacity caller.old caller.new }
         ensures loaded { caller.new.loads ≡ caller.old.loads + 1 }
-        ensures tried { (length caller.old.seen < N.capacity → caller.new.tries ≡ caller.old.tries + 1) × (length caller.old.seen ≡ N.capacity → caller.new.tries ≡ caller.old.tries) }
+        ensures tried { (length caller.old.seen < N.capacity → caller.new.tries ≡ caller.old.tries + 1)
+            × (length caller.old.seen ≡ N.capacity → caller.new.tries ≡ caller.old.tries) }
         ensures given { result ≡ given self.old (length caller.new.seen) }
         ensures left { self.new ≡ after_given self.old (length caller.new.seen) }
         ensures reply { IfSome result (λ reply. IsReply N.capacity self.old reply caller.new) }

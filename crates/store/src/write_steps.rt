@@ -1,4 +1,5 @@
 // A write while its shard is locked, and its caller's seat is in the shard's.
+// Values are let go by `drop`, which is proved once for a type and not at each way out.
 ghost use Rattle.std.specs.Prelude.{◌≡◌, ◌-◌, ◌≤◌, ◌<◌, max, true, length, Some, None, IsSome, All, IfOk, IfSome, IfNone, OnOk, OnErr};
 ghost use Rattle.objects.specs.declared.key.Key.{Key};
 ghost use Rattle.objects.specs.ShardOf.{shard_of};
@@ -45,7 +46,8 @@ pub(crate) fn hand_in<H: Sharding, N: Naming, G: Gate>(
     requires seen { (loaded ≡ length seat.old.view.seen) × (since ≤ loaded) × (loaded ≤ N.capacity) }
     ensures line { seat.new.line ≡ seat.old.line }
     ensures holds { Holds H.shards seat.old.view shard.new seat.new.view }
-    ensures ticket { IfOk result (λ t. IsTicketOf H.shards N.capacity t (caller_by seat.new.view) × (t.request ≡ request) × (t.since ≡ since) × IsSome t.reply) }
+    ensures ticket { IfOk result (λ t. IsTicketOf H.shards N.capacity t (caller_by seat.new.view)
+        × (t.request ≡ request) × (t.since ≡ since) × IsSome t.reply) }
     ensures own { IfOk result (λ t. WritesOwn (caller_by seat.old.view) t (caller_by seat.new.view)) }
     ensures wrote { IfOk result (λ t. WritesNotes seat.old.view.notes t seat.new.view.notes) }
     ensures memory { OnErr result ((seat.new.view ≡ seat.old.view) × (shard.new ≡ shard.old)) }
@@ -83,13 +85,15 @@ pub(crate) fn hand_in<H: Sharding, N: Naming, G: Gate>(
 /// The number of the newest record of the request's key, and what the request comes to over it.
 fn decide(shard: &Shard, request: &Request) -> Result<(u64, Verdict), Memory>
     requires { is_write request.now ≡ true }
-    ensures { IfOk result (λ d. (k : Key) → key_named request.now ≡ Some k → (d.0 ≡ number_in (newest shard.now.records k)) × (d.1 ≡ verdict request.now (current shard.now.records k))) }
+    ensures { IfOk result (λ d. (k : Key) → key_named request.now ≡ Some k
+        → (d.0 ≡ number_in (newest shard.now.records k)) × (d.1 ≡ verdict request.now (current shard.now.records k))) }
 {
     let Some(key) = request.key() else {
         unreachable!();
     };
     let saw = match shard.newest(key) {
         Some((number, _)) => number,
+        // 0 stands for no version of the key.
         None => 0,
     };
     Ok((saw, shard.verdict(request)?))
@@ -109,7 +113,8 @@ fn unwritten<H: Sharding, N: Naming>(
     requires line { (seat.old.line ≡ line.now.name) × IsLine N.line N.capacity line.now }
     requires holds { Holds H.shards seat.old.view shard.now seat.old.view }
     requires write { is_write request ≡ true }
-    requires key { (k : Key) → key_named request ≡ Some k → (seat.old.view.shard ≡ Some (shard_of k H.shards)) × (saw ≡ number_in (newest shard.now.records k)) × Unwritten (verdict request (current shard.now.records k)) reply }
+    requires key { (k : Key) → key_named request ≡ Some k → (seat.old.view.shard ≡ Some (shard_of k H.shards))
+        × (saw ≡ number_in (newest shard.now.records k)) × Unwritten (verdict request (current shard.now.records k)) reply }
     requires seen { (loaded ≡ length seat.old.view.seen) × (since ≤ loaded) }
     ensures line { seat.new.line ≡ seat.old.line }
     ensures holds { Holds H.shards seat.old.view shard.now seat.new.view }
@@ -118,6 +123,7 @@ fn unwritten<H: Sharding, N: Naming>(
     ensures wrote { WritesNotes seat.old.view.notes result seat.new.view.notes }
     ensures is { result ≡ record { request = request; since = since; saw = saw; place = max saw loaded; reply = Some reply } }
 {
+    // For the contract alone; it costs nothing.
     let _ = shard;
     line.observe(seat);
     Ticket {
@@ -155,11 +161,13 @@ fn carry_out<H: Sharding, N: Naming, G: Gate>(
     requires line { (seat.old.line ≡ line.now.name) × IsLine N.line N.capacity line.now }
     requires holds { Holds H.shards seat.old.view shard.old seat.old.view }
     requires write { is_write request ≡ true }
-    requires key { (k : Key) → key_named request ≡ Some k → (seat.old.view.shard ≡ Some (shard_of k H.shards)) × (verdict request (current shard.old.records k) ≡ Write change) }
+    requires key { (k : Key) → key_named request ≡ Some k
+        → (seat.old.view.shard ≡ Some (shard_of k H.shards)) × (verdict request (current shard.old.records k) ≡ Write change) }
     requires seen { (since ≤ length seat.old.view.seen) × (length seat.old.view.seen ≤ N.capacity) }
     ensures line { seat.new.line ≡ seat.old.line }
     ensures holds { Holds H.shards seat.old.view shard.new seat.new.view }
-    ensures ticket { IfOk result (λ t. IsTicketOf H.shards N.capacity t (caller_by seat.new.view) × (t.request ≡ request) × (t.since ≡ since) × IsSome t.reply) }
+    ensures ticket { IfOk result (λ t. IsTicketOf H.shards N.capacity t (caller_by seat.new.view)
+        × (t.request ≡ request) × (t.since ≡ since) × IsSome t.reply) }
     ensures own { IfOk result (λ t. WritesOwn (caller_by seat.old.view) t (caller_by seat.new.view)) }
     ensures wrote { IfOk result (λ t. WritesNotes seat.old.view.notes t seat.new.view.notes) }
     ensures memory { OnErr result ((seat.new.view ≡ seat.old.view) × (shard.new ≡ shard.old)) }
@@ -185,7 +193,8 @@ fn publish<H: Sharding, N: Naming, G: Gate>(
     requires line { (seat.old.line ≡ line.now.name) × IsLine N.line N.capacity line.now }
     requires holds { Holds H.shards seat.old.view shard.old seat.old.view }
     requires write { is_write request ≡ true }
-    requires key { (k : Key) → key_named request ≡ Some k → (seat.old.view.shard ≡ Some (shard_of k H.shards)) × (verdict request (current shard.old.records k) ≡ Write change) × (shard.old.room ≡ Some k) }
+    requires key { (k : Key) → key_named request ≡ Some k → (seat.old.view.shard ≡ Some (shard_of k H.shards))
+        × (verdict request (current shard.old.records k) ≡ Write change) × (shard.old.room ≡ Some k) }
     requires seen { (since ≤ length seat.old.view.seen) × (length seat.old.view.seen ≤ N.capacity) }
     ensures line { seat.new.line ≡ seat.old.line }
     ensures holds { Holds H.shards seat.old.view shard.new seat.new.view }
@@ -246,7 +255,9 @@ fn push_drawn<H: Sharding, N: Naming, G: Gate>(
     requires long { length seat.old.view.seen ≡ seat.old.view.plain.seen }
     ensures line { seat.new.line ≡ seat.old.line }
     ensures agrees { AgreesWith shard.new seat.new.view }
-    ensures some { IfSome result (λ p. IsPublished seat.old.view p.0 (writing_by seat.old.view request.now change) seat.new.view × (p.1 ≡ accepted change (stamp change p.0)) × (0 < p.0) × (p.0 ≤ N.capacity) × (notes_up_to (p.0 - 1) seat.old.view.notes ≡ seat.old.view.notes) × (seat.old.view.plain.seen < p.0)) }
+    ensures some { IfSome result (λ p. IsPublished seat.old.view p.0 (writing_by seat.old.view request.now change) seat.new.view
+        × (p.1 ≡ accepted change (stamp change p.0)) × (0 < p.0) × (p.0 ≤ N.capacity)
+        × (notes_up_to (p.0 - 1) seat.old.view.notes ≡ seat.old.view.notes) × (seat.old.view.plain.seen < p.0)) }
     ensures none { IfNone result (seat.new.view ≡ with_plain seat.old.view (used_up seat.old.view.plain)) }
 {
     let Some(drawn) = draw::<H>(line, seat, request, &change) else {
@@ -273,7 +284,9 @@ fn draw<H: Sharding>(
     requires note { MayDraw (home_of H.shards) by_of Accepts (Some (writing_by seat.old.view request.now change.now)) seat.old.view }
     ensures line { seat.new.line ≡ seat.old.line }
     ensures some { IfSome result (λ n. seat.new.view ≡ drew_noted seat.old.view n (writing_by seat.old.view request.now change.now)) }
-    ensures next { IfSome result (λ n. (0 < n) × (n ≤ line.now.capacity) × (n ≤ 1048576) × (notes_up_to (n - 1) seat.old.view.notes ≡ seat.old.view.notes) × (seat.old.view.plain.seen < n) × All (λ x. x < n) seat.old.view.plain.filled) }
+    ensures next { IfSome result (λ n. (0 < n)
+        × (n ≤ line.now.capacity) × (n ≤ 1048576) × (notes_up_to (n - 1) seat.old.view.notes ≡ seat.old.view.notes)
+        × (seat.old.view.plain.seen < n) × All (λ x. x < n) seat.old.view.plain.filled) }
     ensures none { IfNone result (seat.new.view ≡ with_plain seat.old.view (used_up seat.old.view.plain)) }
 {
     draw_as::<H, Brand>(line, seat, request, change)
@@ -291,9 +304,12 @@ fn draw_as<H: Sharding, J: Noting<Writing>>(
     requires note { MayDraw (home_of H.shards) by_of Accepts J.note seat.old.view }
     ensures line { seat.new.line ≡ seat.old.line }
     ensures some { IfSome result (λ n. seat.new.view ≡ drew_for J.note seat.old.view n) }
-    ensures next { IfSome result (λ n. (0 < n) × (n ≤ line.now.capacity) × (n ≤ 1048576) × (notes_up_to (n - 1) seat.old.view.notes ≡ seat.old.view.notes) × (seat.old.view.plain.seen < n) × All (λ x. x < n) seat.old.view.plain.filled) }
+    ensures next { IfSome result (λ n. (0 < n)
+        × (n ≤ line.now.capacity) × (n ≤ 1048576) × (notes_up_to (n - 1) seat.old.view.notes ≡ seat.old.view.notes)
+        × (seat.old.view.plain.seen < n) × All (λ x. x < n) seat.old.view.plain.filled) }
     ensures none { IfNone result (seat.new.view ≡ with_plain seat.old.view (used_up seat.old.view.plain)) }
 {
+    // Both are for the contract alone; it costs nothing.
     let _ = request;
     let _ = change;
     line.draw_noted::<J>(seat)
