@@ -92,6 +92,38 @@ fn a_request_without_a_reply_may_stand_in_the_order(rt: HostRuntime) -> Result<(
     assert_row(&rt, rt.alloc(), 1, rows, &[1], false)
 }
 
+/// A creation without a reply, and a get that does not find what it may have left.
+static UNSEEN: [Row; 3] = [
+    (
+        0,
+        1,
+        Said::Call(r#"{"do":"create","object":{"kind":"Pod","metadata":{"name":"b"}}}"#),
+    ),
+    (1, 2, Said::Call(GET)),
+    (2, 2, Said::Refused(Reason::NotFound)),
+];
+
+#[test]
+fn a_request_without_a_reply_may_be_left_out_of_the_order(rt: HostRuntime) -> Result<(), Fail> {
+    let rows = UNSEEN.as_slice();
+    assert_row(&rt, rt.alloc(), 1, rows, &[1], true)?;
+    assert_row(&rt, rt.alloc(), 1, rows, &[1, 0], true)?;
+    assert_row(&rt, rt.alloc(), 1, rows, &[0, 1], false)
+}
+
+/// A get whose reply comes many places later.
+static FAR_APART: [Row; 2] = [
+    (7, 1, Said::Call(GET)),
+    (1_000_000, 1, Said::Refused(Reason::NotFound)),
+];
+
+#[test]
+fn places_may_have_gaps(rt: HostRuntime) -> Result<(), Fail> {
+    let rows = FAR_APART.as_slice();
+    assert_row(&rt, rt.alloc(), 1, rows, &[7], true)?;
+    assert_row(&rt, rt.alloc(), 1, rows, &[8], false)
+}
+
 #[test]
 fn a_trace_of_nothing_has_the_empty_order(rt: HostRuntime) -> Result<(), Fail> {
     assert_row(&rt, rt.alloc(), 1, &[], &[], true)?;

@@ -4,6 +4,7 @@
 
 mod check;
 mod pairs;
+mod same;
 mod walk;
 
 pub use check::check_order;

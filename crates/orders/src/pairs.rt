@@ -1,9 +1,9 @@
 // The calls of a trace and their replies, by the places of the calls.
-ghost use Rattle.std.specs.Prelude.{◌≡◌, ℕ, IfOk, IsTrue, None};
+ghost use Rattle.std.specs.Prelude.{◌≡◌, ◌≢◌, ◌↔◌, ℕ, IfOk, IsTrue, None};
 ghost use Rattle.std.specs.BTreeMap.{get};
 ghost use Rattle.std.specs.Ordering.{nat_cmp};
 ghost use Rattle.interleavings.specs.Linearization.{IsHistory};
-ghost use Rattle.orders.specs.Pairing.{AreFound, IsAfter, IsCall, IsRead, IsReply, seen};
+ghost use Rattle.orders.specs.Pairing.{AreFound, IsAfter, IsCall, IsRead, IsReply, MayCome, seen};
 
 use interleavings::Item;
 use objects::Memory;
@@ -27,6 +27,7 @@ impl Pairs {
     pub(crate) fn new(alloc: Global) -> Pairs
         ensures last { result.last ≡ None }
         ensures awaited { (c : ℕ) → get nat_cmp result.awaited c ≡ None }
+        ensures answers { (p : ℕ) → get nat_cmp result.answers p ≡ None }
     {
         Pairs {
             last: None,
@@ -40,8 +41,9 @@ impl Pairs {
     pub(crate) fn read(&mut self, items: &[Item]) -> Result<bool, Memory>
         requires last { self.old.last ≡ None }
         requires awaited { (c : ℕ) → get nat_cmp self.old.awaited c ≡ None }
-        ensures history { IfOk result (λ yes. IsTrue yes → IsHistory items.now) }
-        ensures found { IfOk result (λ yes. IsTrue yes → AreFound items.now items.now (get nat_cmp self.new.answers)) }
+        requires answers { (p : ℕ) → get nat_cmp self.old.answers p ≡ None }
+        ensures history { IfOk result (λ yes. IsTrue yes ↔ IsHistory items.now) }
+        ensures found { IfOk result (λ yes. IsTrue yes → AreFound items.now items.now (get nat_cmp self.new.calls) (get nat_cmp self.new.answers)) }
     {
         for index in 0..items.len() {
             if !self.put(index, &items[index])? {
@@ -52,7 +54,8 @@ impl Pairs {
     }
 
     fn put(&mut self, index: usize, item: &Item) -> Result<bool, Memory>
-        ensures { IfOk result (λ yes. IsTrue yes → IsRead index item.now (seen self.old) (seen self.new)) }
+        ensures read { IfOk result (λ yes. IsTrue yes → IsRead index item.now (seen self.old) (seen self.new)) }
+        ensures may { IfOk result (λ yes. MayCome item.now (seen self.old) → IsTrue yes) }
     {
         match item {
             Item::Call {
@@ -69,9 +72,13 @@ impl Pairs {
     }
 
     fn put_call(&mut self, index: usize, place: u64, caller: u64) -> Result<bool, Memory>
-        ensures { IfOk result (λ yes. IsTrue yes → IsCall place caller (seen self.old) (seen self.new)) }
+        ensures read { IfOk result (λ yes. IsTrue yes → IsCall index place caller (seen self.old) (seen self.new)) }
+        ensures may { IfOk result (λ yes. IsAfter self.old.last place → get nat_cmp self.old.awaited caller ≡ None → IsTrue yes) }
     {
-        if !is_after(self.last, place) || self.awaited.contains_key(&caller) {
+        if !is_after(self.last, place) {
+            return Ok(false);
+        }
+        if self.awaited.contains_key(&caller) {
             return Ok(false);
         }
         self.last = Some(place);
@@ -81,7 +88,8 @@ impl Pairs {
     }
 
     fn put_reply(&mut self, index: usize, place: u64, caller: u64) -> Result<bool, Memory>
-        ensures { IfOk result (λ yes. IsTrue yes → IsReply index place caller (seen self.old) (seen self.new)) }
+        ensures read { IfOk result (λ yes. IsTrue yes → IsReply index place caller (seen self.old) (seen self.new)) }
+        ensures may { IfOk result (λ yes. IsAfter self.old.last place → get nat_cmp self.old.awaited caller ≢ None → IsTrue yes) }
     {
         if !is_after(self.last, place) {
             return Ok(false);
@@ -96,7 +104,7 @@ impl Pairs {
 }
 
 fn is_after(last: Option<u64>, place: u64) -> bool
-    ensures { IsTrue result → IsAfter last place }
+    ensures { IsTrue result ↔ IsAfter last place }
 {
     match last {
         Some(last) => last < place,

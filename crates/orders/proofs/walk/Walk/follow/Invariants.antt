@@ -1,6 +1,12 @@
-use Rattle.std.proofs.Common.{drop}
-use Rattle.orders.specs.Following.{Follows, standing}
+use Rattle.std.proofs.Common.{List, drop}
+use Rattle.requests.specs.declared.request.Request.{Request}
+use Rattle.orders.specs.Following.{Follows, IsRest, standing}
 use Rattle.orders.proofs.walk.Walk.follow.Given as goal
 
 abbrev pub invariant-loop-place : goal.invariant-loop-place
-invariant-loop-place l = Follows l.items (standing l.self) (drop l.place-index l.order) → Follows l.items (standing l.fn.self) l.order
+invariant-loop-place l =
+    let left = drop l.place-index l.order in
+    record {
+      follows : Follows l.items (standing l.self) left → Follows l.items (standing l.fn.self) l.order;
+      rest : (requests : List Request) → IsRest l.items (standing l.fn.self) l.order requests → (later : List Request) × IsRest l.items (standing l.self) left later;
+    }
