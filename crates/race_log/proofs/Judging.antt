@@ -1,5 +1,5 @@
 -- Where the order of a race is legal, no pod was created twice in it.
-use Rattle.std.proofs.Common.{◌≡◌, ℕ, ◌⊎◌, List, [], ◌∷◌, Some, refl, sym, ap, ◌∙◌, subst, inl, inr, zip, map}
+use Rattle.std.proofs.Common.{◌≡◌, ℕ, List, [], ◌∷◌, Some, refl, sym, ap, ◌∙◌, subst, inl, inr, zip, map}
 use mathlib.Core.Logic.{∥∥₁_elim}
 use native.Mathlib.Nat.{ℕ_set}
 use Rattle.std.specs.List.{AllByRecursion}
@@ -14,7 +14,7 @@ use Rattle.interleavings.specs.declared.trace.Item.{Item}
 use Rattle.interleavings.specs.Linearization.{AreCalled, AreOnce, Has, IsLegal}
 use Rattle.race_log.specs.declared.stamp.Stamp.{Stamp}
 use Rattle.race_log.specs.Judged.{calls_of}
-use Rattle.race_log.specs.Logged.{IsNoted, IsStamped, Noted}
+use Rattle.race_log.specs.Logged.{IsNoted, Noted}
 use Rattle.race_log.specs.Order.{IsOrderOf}
 use Rattle.race_log.specs.Twice.{repeats, reply_at, told, with_next}
 use Rattle.race_log.proofs.Once.{none_twice_in_run, onto}

@@ -1,6 +1,6 @@
 -- In a run of the plain store no pod is created while another one of its name lives.
-use Rattle.std.proofs.Common.{◌≡◌, ℕ, zero-add, ◌+◌, Bool, true, false, cond, ◌&&◌, ◌||◌, not, List, [], ◌∷◌, ◌++◌, Option, Some, None, refl, sym, ap, ◌∙◌, subst, arith, if◌then◌else◌}
-use Rattle.std.specs.Prelude.{filter, flat_map, map, option_map}
+use Rattle.std.proofs.Common.{◌≡◌, ℕ, zero-add, ◌+◌, Bool, true, false, cond, ◌&&◌, ◌||◌, not, List, [], ◌∷◌, ◌++◌, Option, Some, None, refl, sym, ap, ◌∙◌, subst, if◌then◌else◌}
+use Rattle.std.specs.Prelude.{filter, flat_map, map}
 use Rattle.std.specs.Option.{is_some}
 use Rattle.std.specs.Ordering.{eq_by_cmp}
 use Rattle.std.proofs.lemmas.Cmp.{eq_by_cmp_equiv}
@@ -12,7 +12,7 @@ use Rattle.requests.specs.declared.request.Request.{Request}
 use Rattle.requests.specs.declared.reply.Reply.{Reply}
 use Rattle.requests.specs.declared.reply.Reply.TheVariants.{Created, Found, Listed, Updated, Unchanged, Marked, Removed, Compacted, Refused}
 use Rattle.requests.specs.declared.reply.Reason.{Reason}
-use Rattle.plain_store.specs.Lives.{Event, begins, changes, lasts, ends, events, events_by, events_of, said, tells_of, AreLives, HasUidOf}
+use Rattle.plain_store.specs.Lives.{Event, begins, changes, lasts, ends, events, events_by, said, tells_of, AreLives, HasUidOf}
 use Rattle.plain_store.specs.Route.{Route, compacts, gets, lists, lists_at, route, writes}
 use Rattle.plain_store.specs.Run.{exchanges, replies}
 use Rattle.plain_store.specs.Store.{Store, compacted_to, collection, denied, listed_at, map_at, opening, routed, step}

@@ -1,5 +1,5 @@
 -- How large a race may be.
-use Rattle.std.specs.Prelude.{ℕ, Bool, nat_le, ◌&&◌}
+use Rattle.std.specs.Prelude.{Bool, nat_le, ◌&&◌}
 use Rattle.race_log.specs.declared.spec.RaceSpec.{RaceSpec}
 
 -- 1 to 64 controllers, 1 to 64 shards, 1 to 1,024 rounds, at most 64 replicas

@@ -24,6 +24,7 @@ pub fn judged(alloc: Global, capacity: u64, spec: &RaceSpec, log: Log) -> Result
         open_calls,
         stamps,
     } = log;
+    // Let go by name, which is proved once for the type and not at each way out.
     drop(open_calls);
     let order = in_order(stamps)?;
     let twice = repeats(alloc, items.as_slice(), order.as_slice())?;

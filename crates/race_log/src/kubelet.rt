@@ -48,6 +48,7 @@ fn given_uid(alloc: Global, number: u64) -> Result<Option<Text>, AllocError>
     requires { number < 2 ^ 48 }
     ensures { IfOk result (λ text. text ≡ unless_zero uid_text number) }
 {
+    // 0 stands for no UID, and below for no version.
     if number == 0 {
         return Ok(None);
     }

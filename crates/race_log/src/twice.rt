@@ -99,6 +99,7 @@ pub(crate) fn repeats(alloc: Global, items: &[Item], order: &[Stamp]) -> Result<
         living.take_at(items, stamp.reply)?;
     }
     let Living { keys, again } = living;
+    // Let go by name, which is proved once for the type and not at each way out.
     drop(keys);
     Ok(again)
 }

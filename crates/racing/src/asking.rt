@@ -46,6 +46,7 @@ fn read<S: SharedStore, R: Wait>(
         Request::List {
             kind,
             namespace,
+            // 0 asks for the objects as they are now.
             exact: 0,
         } => store.list(rt, caller, *kind, namespace)?,
         Request::List {
@@ -74,6 +75,7 @@ pub fn answered<S: SharedStore, R: Wait, G: Gate>(
         return written(rt, store, gate, caller, request);
     }
     let answer = read(rt, store, caller, &request);
+    // Let go by name, which is proved once for the type and not at each way out.
     drop(request);
     answer
 }

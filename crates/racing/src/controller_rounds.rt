@@ -33,6 +33,7 @@ fn make_round<S: SharedStore, R: Wait, G: Gate>(
     for _ in rt.forever() {
         let request = controller.next()?;
         if begun && matches!(request, Request::Get(_)) {
+            // Let go by name, which is proved once for the type and not at each way out.
             drop(request);
             return Ok(());
         }
@@ -48,6 +49,7 @@ fn make_round<S: SharedStore, R: Wait, G: Gate>(
 /// Lets go of what was before what the caller has seen.
 fn compact<S: SharedStore, R: Wait>(rt: &R, store: &S, caller: &mut S::Caller) {
     let seen = store.seen(caller);
+    // At 0 nothing is written yet, so nothing was before it.
     if seen != 0 {
         drop(store.compact(rt, caller, seen));
     }

@@ -7,7 +7,7 @@ use objects::Memory;
 use race_log::{Log, RaceSpec};
 use requests::{Reply, Request};
 use std::alloc::Global;
-use std::sync::atomic::AtomicU64;
+use std::sync::atomic::{AtomicU64, Ordering};
 use std::sync::{Mutex, Wait};
 use store::Gate;
 
@@ -53,6 +53,11 @@ fn note_reply<R: Wait>(
 }
 
 impl<S: SharedStore, G: Gate> Field<'_, S, G> {
+    /// Whether all controllers have ended.
+    pub(crate) fn has_ended(&self) -> bool {
+        self.ended.load(Ordering::SeqCst) >= self.spec.controllers
+    }
+
     /// Asks the request, and notes its call before and its reply after. The reply is one that the store gave to it.
     pub(crate) fn ask<R: Wait>(
         &self,
@@ -64,6 +69,7 @@ impl<S: SharedStore, G: Gate> Field<'_, S, G> {
         ensures { IfOk result (λ reply. (number : ℕ) × S.gave request reply number) }
     {
         if note_call(rt, self.log, me, &request).is_err() {
+            // Let go by name, which is proved once for the type and not at each way out.
             drop(request);
             return Err(Memory);
         }

@@ -20,6 +20,7 @@ use store::{ByShards, Caller, Gate, Naming, Sharding, Store, StoreError, Ticket,
 
 /// No race has as many callers as a store may have.
 fn memory_of(error: StoreError) -> Memory {
+    // Want of memory is the only one that is left, so it is not looked at.
     let _ = error;
     Memory
 }

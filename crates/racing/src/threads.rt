@@ -143,6 +143,7 @@ where
         alloc,
     };
     let run = run_all(rt, &field);
+    // It borrows the log, which is opened below.
     drop(field);
     run?;
     judged(alloc, CAPACITY, spec, log.into_inner())

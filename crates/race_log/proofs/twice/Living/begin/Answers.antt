@@ -1,5 +1,4 @@
-use Rattle.std.proofs.Common.{◌≡◌, ◌∙◌, ◌&&◌, not, true, false, ap, refl, rules}
-use Rattle.objects.specs.declared.object.Object.{Object}
+use Rattle.std.proofs.Common.{◌≡◌, ◌&&◌, not, true, false, refl, rules}
 use Rattle.race_log.proofs.Living.{created}
 use Rattle.race_log.proofs.twice.Living.begin.Goals.{else-is_pod-via-then-is_pod+else-not-is_new, else-is_pod-via-else-is_pod}
 use Rattle.race_log.proofs.twice.Living.begin.Goals as goal
