@@ -1,7 +1,8 @@
 -- Changes of claims, one template after another.
-use Rattle.std.proofs.Common.{◌≡◌, ℕ, ◌+◌, ◌<◌, List, [], ◌∷◌, ◌++◌, length, take, get_or, Bool, true, false, cond, Option, Some, None, refl, sym, ap, ◌∙◌}
+use Rattle.std.proofs.Common.{◌≡◌, ℕ, ◌+◌, ◌<◌, ◌≤◌, List, [], ◌∷◌, ◌++◌, length, take, drop, get_or, Bool, true, false, cond, Option, Some, None, refl, sym, ap, ◌∙◌, arith, length-append}
 use Rattle.std.specs.List.{cons_option, filter_map, list_all}
-use Rattle.std.proofs.lemmas.List.{take_more}
+use Rattle.std.proofs.Math.Seq.{take-append_seam}
+use Rattle.std.proofs.lemmas.List.{append-nil, take_all, take_more, take-append-drop}
 use Rattle.std.proofs.lemmas.List.Elements.{All-get_or, filter_map-append}
 use Rattle.std.proofs.lemmas.List.Sums.{AllPass-from_list_all}
 use Rattle.serde_json.specs.Data.{Data}
@@ -18,6 +19,30 @@ pub change_more : {A B : Type 0} (h : A → Option B) (xs : List A) (i : ℕ) (x
 change_more h xs i x y done after inside is so_far after_is here =
     after_is ∙ (ap (λ l. l ++ cons_option y []) so_far ∙ (ap (λ z. filter_map h (take i xs) ++ cons_option z []) here
     ∙ sym (ap (filter_map h) (take_more xs i x inside ∙ ap (λ v. take i xs ++ v ∷ []) (sym is)) ∙ filter_map-append h (take i xs) (x ∷ []))))
+
+-- so many of the first are the first so many of all
+pub enough : {A B : Type 0} (h : A → Option B) (xs : List A) (i n : ℕ) (done : List B) → done ≡ filter_map h (take i xs) → length done ≡ n → done ≡ take n (filter_map h xs)
+enough h xs i n done is full =
+    let rest = filter_map h (drop i xs) in
+    let whole : filter_map h xs ≡ done ++ rest =
+    sym (ap (filter_map h) (take-append-drop i xs)) ∙ (filter_map-append h (take i xs) (drop i xs) ∙ ap (λ l. l ++ rest) (sym is)) in
+    sym (ap (take n) whole ∙ (ap (λ k. take k (done ++ rest)) (sym full) ∙ take-append_seam done rest))
+
+-- few are the first of them all
+pub few : {B : Type 0} (n : ℕ) (done all : List B) → done ≡ all → length done ≤ n → done ≡ take n all
+few n done all is short = sym (take_all n done short) ∙ ap (take n) is
+
+-- where there was room, one more change or none has room
+pub has_room : {B : Type 0} (done after : List B) (y : Option B) (n : ℕ) → after ≡ done ++ cons_option y [] → length done ≤ n → (length done ≡ n → ⊥) → length after ≤ n
+has_room done after None n is few other =
+    let long : length after ≡ length done = ap length (is ∙ append-nil done) in omega arith
+has_room done after (Some y) n is few other =
+    let long : length after ≡ length done + 1 = ap length is ∙ length-append done (y ∷ []) in
+    let less : length done < n = below (length done) n few other in
+    omega arith
+  where
+    below : (a b : ℕ) → a ≤ b → (a ≡ b → ⊥) → a < b
+    below a b le other = omega (arith, other)
 
 -- what all pass, each passes
 pub passes_at : {A : Type 0} (p : A → Bool) (xs : List A) (i : ℕ) (x : A) → list_all p xs ≡ true → i < length xs → x ≡ get_or xs i x → p x ≡ true

@@ -1,5 +1,5 @@
 -- The changes of claims that a plan makes (Kubernetes, "StatefulSets": "Stable Storage", "PersistentVolumeClaim retention").
-use Rattle.std.specs.Prelude.{ℕ, nat_le, List, [], ◌∷◌, length, Option, Some, None, option_and_then, Result, if◌then◌else◌}
+use Rattle.std.specs.Prelude.{ℕ, nat_le, List, [], ◌∷◌, length, take, Option, Some, None, option_and_then, Result, if◌then◌else◌}
 use Rattle.std.specs.List.{filter_map}
 use Rattle.serde_json.specs.Data.{Data, Items}
 use Rattle.serde_json.specs.View.{items_of}
@@ -52,6 +52,10 @@ all_made set listed i claims = filter_map (λ c. made set i c (listed (claim_nam
 -- `listed` gives the claim of a name. The pod's own name has at most 63 bytes.
 abbrev pub made_claims : SetParts → (List ℕ → Option Object) → ℕ → Result (List ClaimChange) PlanError
 made_claims set listed i = guarded NameTooLong (nat_le (length (pod_name set.object.key.name i)) most_label) (all_made set listed i set.claims)
+
+-- the first so many of them
+abbrev pub first_made : SetParts → (List ℕ → Option Object) → ℕ → ℕ → Result (List ClaimChange) PlanError
+first_made set listed i n = guarded NameTooLong (nat_le (length (pod_name set.object.key.name i)) most_label) (take n (all_made set listed i set.claims))
 
 -- the updates of a pod's claims that are to have this owner
 abbrev pub all_updated : SetParts → (List ℕ → Option Object) → ℕ → Option Owner → List Claim → List ClaimChange

@@ -1,5 +1,6 @@
 // The changes of a pod's claims.
-ghost use Rattle.std.specs.Prelude.{◌≡◌, ◌++◌, ◌≤◌, ◌<◌, true, [], map, length, string_bytes, option_map, option_and_then, IfOk, OnOk};
+// Values are let go by `drop`, which is proved once for a type and not at each way out.
+ghost use Rattle.std.specs.Prelude.{◌≡◌, ◌++◌, ◌≤◌, ◌<◌, true, [], map, length, string_bytes, take, option_map, option_and_then, IfOk, OnOk};
 ghost use Rattle.std.specs.List.{cons_option};
 ghost use Rattle.objects.specs.MetadataShape.{are_owners};
 ghost use Rattle.objects.specs.Names.{is_dns_label};
@@ -8,7 +9,7 @@ ghost use Rattle.objects.specs.Tree.{data_of, items_of};
 ghost use Rattle.set_views.specs.Set.{set_parts};
 ghost use Rattle.set_views.specs.Steps.{Gives};
 ghost use Rattle.claims.specs.Listed.{claim_named};
-ghost use Rattle.claims.specs.Changes.{all_made, all_updated, create, given, kept_claims, made, made_claims, released_claims, update, updated};
+ghost use Rattle.claims.specs.Changes.{all_made, all_updated, create, first_made, given, kept_claims, made, released_claims, update, updated};
 
 use crate::entries::{are_wanted, wanted};
 use crate::listed::ListedClaims;
@@ -149,19 +150,24 @@ fn push_some(changes: &mut Vec<ClaimChange>, change: Option<ClaimChange>) -> Res
     Ok(())
 }
 
+#[tactic(auto, using(crate::proofs::ChangeLists::few))]
 fn all_made(
     alloc: Global,
     set: &Set,
     listed: &ListedClaims<'_>,
     ordinal: u32,
     pod: &str,
+    most: usize,
 ) -> Result<Vec<ClaimChange>, Memory>
     requires named { pod.now ≡ pod_name set.now.object.key.name ordinal }
     requires short { length pod.now ≤ 63 }
-    ensures { IfOk result (λ changes. changes.items ≡ all_made (set_parts set.now) (claim_named listed.now) ordinal set.now.claims.items) }
+    ensures { IfOk result (λ changes. changes.items ≡ take most (all_made (set_parts set.now) (claim_named listed.now) ordinal set.now.claims.items)) }
 {
     let mut changes = Vec::new(alloc);
     for template in &set.claims {
+        if changes.len() == most {
+            return Ok(changes);
+        }
         let found = listed_at(alloc, set, listed, ordinal, template.0.as_str())?;
         let change = made(alloc, set, ordinal, pod, template, found)?;
         push_some(&mut changes, change)?;
@@ -223,7 +229,8 @@ fn updates(
 /// The changes of the claims of a pod of the set that is then created, in the order of the set's claim templates: the
 /// creates of those that are missing, and the updates of those that are there and are to have other owners (Kubernetes,
 /// "StatefulSets": "Stable Storage", "PersistentVolumeClaim retention"). Under `whenDeleted` Delete the set is an owner, and
-/// else it is none. No pod of that name is an owner. All other owners stay.
+/// else it is none. No pod of that name is an owner. All other owners stay. Of more changes than `most` only the first so
+/// many are made.
 ///
 /// It is NameTooLong where the pod's own name has more than 63 bytes, as `pod_of` is.
 pub fn made_claims(
@@ -231,15 +238,16 @@ pub fn made_claims(
     set: &Set,
     listed: &ListedClaims<'_>,
     ordinal: u32,
+    most: usize,
 ) -> Result<Vec<ClaimChange>, PlanError>
-    ensures { Gives (λ changes. changes.items) result (made_claims (set_parts set.now) (claim_named listed.now) ordinal) }
+    ensures { Gives (λ changes. changes.items) result (first_made (set_parts set.now) (claim_named listed.now) ordinal most) }
 {
     let pod = pod_of(alloc, set, ordinal)?;
     if MAX_LABEL < pod.as_str().len() {
         drop(pod);
         return Err(PlanError::NameTooLong);
     }
-    let changes = all_made(alloc, set, listed, ordinal, pod.as_str())?;
+    let changes = all_made(alloc, set, listed, ordinal, pod.as_str(), most)?;
     Ok(changes)
 }
 

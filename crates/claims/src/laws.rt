@@ -32,7 +32,8 @@ pub fn only_owners_of_the_set_and_its_pod_change()
 pub fn retained_claims_have_no_such_owner()
     ensures in_range { (set : SetParts) (pod : List ℕ) (entries : List Data) → set.when_deleted ≡ Retention.Retain
         → list_any (λ entry. is_of_set set entry || is_of_pod pod entry) (wanted set pod (owner_in_range set) entries) ≡ false }
-    ensures condemned { (set : SetParts) (pod : List ℕ) (uid : ℕ) (entries : List Data) → set.when_deleted ≡ Retention.Retain → set.when_scaled ≡ Retention.Retain
+    ensures condemned { (set : SetParts) (pod : List ℕ) (uid : ℕ) (entries : List Data)
+        → set.when_deleted ≡ Retention.Retain → set.when_scaled ≡ Retention.Retain
         → list_any (λ entry. is_of_set set entry || is_of_pod pod entry) (wanted set pod (owner_of_condemned set uid) entries) ≡ false }
 {}
 

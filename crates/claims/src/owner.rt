@@ -30,6 +30,7 @@ pub(crate) fn owner_in_range(set: &Set) -> Option<Owner>
 fn known_uid(alloc: Global, uid: u64) -> Result<Text, AllocError>
     ensures { IfOk result (λ text. text ≡ known_uid uid) }
 {
+    // 0 is the number of no UID.
     let known = if uid < 1 << 48 { uid } else { 0 };
     Ok(Text::from(uid_text(alloc, known)?))
 }

@@ -44,7 +44,7 @@ fn changes_in(
 ) -> Result<Vec<ClaimChange>, PlanError> {
     let claims = ListedClaims::of(alloc, set, listed)?;
     match step {
-        Step::Make(ordinal) => made_claims(alloc, set, &claims, ordinal),
+        Step::Make(ordinal) => made_claims(alloc, set, &claims, ordinal, 1_024),
         Step::Keep(ordinal) => Ok(kept_claims(alloc, set, &claims, ordinal)?),
         Step::Release(ordinal, uid) => Ok(released_claims(alloc, set, &claims, ordinal, uid)?),
     }

@@ -1,15 +1,15 @@
 -- Trees, items and lists of data.
-use Rattle.std.proofs.Common.{◌≡◌, ℕ, ◌+◌, ◌<◌, List, [], ◌∷◌, ◌++◌, length, take, map, get_or, Bool, true, false, cond, Some, refl, sym, ap, ◌∙◌}
+use Rattle.std.proofs.Common.{◌≡◌, ℕ, ◌+◌, ◌<◌, List, [], ◌∷◌, ◌++◌, length, take, map, filter, get_or, Bool, true, false, cond, Some, refl, sym, ap, ◌∙◌}
 use Rattle.std.specs.Prelude.{◌==◌, codes}
 use Rattle.std.proofs.lemmas.List.{map-append, take_more}
-use Rattle.serde_json.specs.Data.{Items, item, Members, array, object, put}
+use Rattle.serde_json.specs.Data.{Data, Items, item, Members, array, object, put}
 use Rattle.serde_json.specs.View as view
 use Rattle.objects.specs.Tree.{data_of, items_of, members_of}
 use Rattle.objects.specs.DeclaredTree.{Tree}
 use Rattle.set_views.specs.Set.{SetParts}
 use Rattle.manifests.specs.Arrays.{list_of}
 use Rattle.manifests.specs.BuiltClaim.{labels_given, owners_given}
-use Rattle.manifests.specs.Volumes.{pod_volumes, volumes_in, with_volumes}
+use Rattle.manifests.specs.Volumes.{volumes_with, with_others}
 
 pub listed_trees : (ts : List Tree) → list_of (items_of ts) ≡ map data_of ts
 listed_trees [] = refl
@@ -18,6 +18,10 @@ listed_trees (t ∷ ts) = ap (λ ds. data_of t ∷ ds) (listed_trees ts)
 pub items_of_trees : (ts : List Tree) → items_of ts ≡ view.items_of (map data_of ts)
 items_of_trees [] = refl
 items_of_trees (t ∷ ts) = ap (item (data_of t)) (items_of_trees ts)
+
+pub listed_items : (ds : List Data) → list_of (view.items_of ds) ≡ ds
+listed_items [] = refl
+listed_items (d ∷ ds) = ap (λ l. d ∷ l) (listed_items ds)
 
 pub owners_stand : (ts : List Tree) (ds : Items) → items_of ts ≡ ds → (length ts == 0) ≡ false → Some (array ds) ≡ owners_given ds
 owners_stand [] ds is some = absurd cc
@@ -35,9 +39,12 @@ mapped_more f g done after x ys i y inside is so_far after_is here =
     ∙ sym (ap (map g) (take_more ys i y inside ∙ ap (λ v. take i ys ++ v ∷ []) (sym is)) ∙ map-append g (take i ys) (y ∷ [])))))
 
 -- the volumes of a pod, put into its spec
-pub volumes_put : (set : SetParts) (i : ℕ) (spec : Members) (volumes given : List Tree) → items_of given ≡ volumes_in spec → map data_of volumes ≡ pod_volumes set i (map data_of given) → (length set.claims == 0) ≡ false
-    → put (codes "volumes") (array (items_of volumes)) spec ≡ with_volumes set i spec
-volumes_put set i spec volumes given given_is volumes_are some =
-    let listed = sym (listed_trees given) ∙ ap list_of given_is in
-    ap (λ ds. put (codes "volumes") (array ds) spec) (items_of_trees volumes ∙ ap view.items_of (volumes_are ∙ ap (pod_volumes set i) listed))
-    ∙ sym (ap (λ b. cond b spec (put (codes "volumes") (array (view.items_of (pod_volumes set i (list_of (volumes_in spec))))) spec)) some)
+pub volumes_put : (set : SetParts) (i : ℕ) (spec : Members) (volumes : List Tree) (others : List Data) → map data_of volumes ≡ volumes_with set i others → (length set.claims == 0) ≡ false
+    → put (codes "volumes") (array (items_of volumes)) spec ≡ with_others set i others spec
+volumes_put set i spec volumes others volumes_are some =
+    ap (λ ds. put (codes "volumes") (array ds) spec) (items_of_trees volumes ∙ ap view.items_of volumes_are)
+    ∙ sym (ap (λ b. cond b spec (put (codes "volumes") (array (view.items_of (volumes_with set i others))) spec)) some)
+
+-- those that pass, of the trees of these items
+pub passing : (p : Data → Bool) (given : List Tree) (ds : Items) (passed : List Data) → items_of given ≡ ds → passed ≡ filter p (map data_of given) → passed ≡ filter p (list_of ds)
+passing p given ds passed given_is passed_is = passed_is ∙ ap (filter p) (sym (listed_trees given) ∙ ap list_of given_is)

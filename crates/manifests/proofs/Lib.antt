@@ -3,3 +3,5 @@ pub mod PodKeys
 pub mod PodMetadata
 pub mod ClaimKeys
 pub mod ClaimMetadata
+pub mod Merging
+pub mod VolumeNames

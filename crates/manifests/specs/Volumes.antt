@@ -29,11 +29,19 @@ is_replaced set volume = list_any (λ c. says (codes "name") c.0 volume) set.cla
 abbrev pub volumes_in : Members → Items
 volumes_in spec = unwrap_or (items_at (codes "volumes") spec) no_items
 
--- one volume for each claim template, in order, and then those of the template that have other names
-abbrev pub pod_volumes : SetParts → ℕ → List Data → List Data
-pod_volumes set ordinal given = map (volume_of set ordinal) set.claims ++ filter (λ d. not (is_replaced set d)) given
+-- those of a template's volumes that have other names
+abbrev pub other_volumes : SetParts → Members → List Data
+other_volumes set spec = filter (λ d. not (is_replaced set d)) (list_of (volumes_in spec))
+
+-- one volume for each claim template, in order, and then these others
+abbrev pub volumes_with : SetParts → ℕ → List Data → List Data
+volumes_with set ordinal others = map (volume_of set ordinal) set.claims ++ others
 
 -- the spec with these volumes, where the set has claim templates; else as it is
+abbrev pub with_others : SetParts → ℕ → List Data → Members → Members
+with_others set ordinal others spec =
+    if length set.claims == 0 then spec else put (codes "volumes") (array (items_of (volumes_with set ordinal others))) spec
+
+-- the same, where the others are the spec's own
 abbrev pub with_volumes : SetParts → ℕ → Members → Members
-with_volumes set ordinal spec =
-    if length set.claims == 0 then spec else put (codes "volumes") (array (items_of (pod_volumes set ordinal (list_of (volumes_in spec))))) spec
+with_volumes set ordinal spec = with_others set ordinal (other_volumes set spec) spec

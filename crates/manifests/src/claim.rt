@@ -1,4 +1,5 @@
 // The claims that a plan creates.
+// Values are let go by `drop`, which is proved once for a type and not at each way out.
 ghost use Rattle.std.specs.Prelude.{◌≡◌, ◌≤◌, length, true, option_map, string_bytes, IfOk};
 ghost use Rattle.objects.specs.declared.kind.Kind.TheVariants.{PersistentVolumeClaim};
 ghost use Rattle.objects.specs.Key.{is_key, key_parts};
@@ -85,8 +86,10 @@ fn claim_metadata(
 {
     let owned = with_some(none(alloc)?, "ownerReferences", owners_given(owners))?;
     let selected = match_labels(alloc, set)?;
-    let labels = with_all(labels_in(alloc, metadata)?, &selected)?;
+    let own = labels_in(alloc, metadata)?;
+    let labels = with_all(alloc, &own, &selected)?;
     drop(selected);
+    drop(own);
     let labelled = with_some(owned, "labels", labels_given(labels))?;
     with_some(labelled, "annotations", part_in(metadata, "annotations")?)
 }

@@ -5,10 +5,12 @@
 mod claim;
 mod members;
 mod pod;
+mod pod_template;
 mod status;
 mod template;
 mod volumes;
 
 pub use claim::claim_of;
 pub use pod::pod_of;
+pub use pod_template::PodTemplate;
 pub use status::{Status, with_status};

@@ -1,19 +1,20 @@
 // The pods that a plan creates.
-ghost use Rattle.std.specs.Prelude.{◌≡◌, true, option_map, IfOk};
-ghost use Rattle.serde_json.specs.Data.{string};
+ghost use Rattle.std.specs.Prelude.{◌≡◌, codes, true, option_map, IfOk};
+ghost use Rattle.serde_json.specs.Data.{put, string};
 ghost use Rattle.objects.specs.declared.kind.Kind.TheVariants.{Pod};
 ghost use Rattle.objects.specs.Key.{is_key, key_parts};
 ghost use Rattle.objects.specs.PodNames.{pod_name};
+ghost use Rattle.objects.specs.Text.{put_some};
 ghost use Rattle.objects.specs.Tree.{data_of};
 ghost use Rattle.set_views.specs.Set.{set_parts};
 ghost use Rattle.set_views.specs.Steps.{Gives};
 ghost use Rattle.manifests.specs.BuiltPod.{built_pod, named_pod, pod_labels, pod_members, pod_metadata, pod_spec};
+ghost use Rattle.manifests.specs.Template.{part, template_of};
 
-use crate::members::{none, part, part_in, with_some, with_text};
-use crate::template::{labels_in, template_of};
-use crate::volumes::with_volumes;
+use crate::members::{none, with_some, with_text};
+use crate::pod_template::PodTemplate;
+use crate::volumes::with_others;
 use objects::{Key, Kind, MAX_LABEL, Members, Object, ReadError, Tree, pod_name};
-use revisions::{RevisionView, owned_metadata};
 use set_views::{PlanError, Set};
 use std::alloc::{AllocError, Global};
 
@@ -38,20 +39,18 @@ fn pod_labels(
 /// The metadata of a pod, beside its name and namespace, over that of the template.
 fn pod_metadata(
     alloc: Global,
-    set: &Set,
+    template: &PodTemplate<'_>,
     name: &str,
-    revision: &str,
     ordinal: u32,
-    metadata: &Members,
 ) -> Result<Members, AllocError>
-    ensures { IfOk result (λ ms. ms ≡ pod_metadata (set_parts set.now) name.now revision.now ordinal metadata.now) }
+    ensures { IfOk result (λ ms. ms ≡ pod_metadata (set_parts template.now.set.now) name.now template.now.revision.now.key.name ordinal
+        (part (codes "metadata") (template_of template.now.revision.now))) }
 {
-    let own = labels_in(alloc, metadata)?;
-    let labels = pod_labels(alloc, name, revision, ordinal, own)?;
-    let annotations = part_in(metadata, "annotations")?;
-    let owned = owned_metadata(alloc, set)?;
-    let annotated = with_some(owned, "annotations", annotations)?;
-    let whole = annotated.with("labels", Some(Tree::Map(labels)))?;
+    let revision = template.revision;
+    let own = template.labels.clone()?;
+    let labels = pod_labels(alloc, name, revision.key.name.as_str(), ordinal, own)?;
+    let metadata = template.metadata.clone()?;
+    let whole = metadata.with("labels", Some(Tree::Map(labels)))?;
     Ok(whole)
 }
 
@@ -65,33 +64,41 @@ fn subdomain_of(set: &Set) -> Result<Option<Tree>, AllocError>
     }
 }
 
+/// The spec with a pod's place in the network.
+fn placed(alloc: Global, set: &Set, name: &str, spec: Members) -> Result<Members, AllocError>
+    ensures { IfOk result (λ ms. ms ≡ put_some (codes "subdomain") (option_map string (set_parts set.now).service)
+        (put (codes "hostname") (string name.now) spec)) }
+{
+    let named = with_text(alloc, spec, "hostname", name)?;
+    with_some(named, "subdomain", subdomain_of(set)?)
+}
+
 /// The spec of a pod, over that of the template.
 fn pod_spec(
     alloc: Global,
-    set: &Set,
+    template: &PodTemplate<'_>,
     name: &str,
     ordinal: u32,
-    spec: Members,
 ) -> Result<Members, AllocError>
-    ensures { IfOk result (λ ms. ms ≡ pod_spec (set_parts set.now) name.now ordinal spec) }
+    ensures { IfOk result (λ ms. ms ≡ pod_spec (set_parts template.now.set.now) name.now ordinal
+        (part (codes "spec") (template_of template.now.revision.now))) }
 {
-    let named = with_text(alloc, spec, "hostname", name)?;
-    let placed = with_some(named, "subdomain", subdomain_of(set)?)?;
-    with_volumes(alloc, set, ordinal, placed)
+    let own = template.spec.clone()?;
+    let spec = placed(alloc, template.set, name, own)?;
+    let whole = with_others(alloc, template.set, ordinal, &template.others, spec)?;
+    Ok(whole)
 }
 
 /// The members of a pod beside its metadata.
 fn pod_members(
     alloc: Global,
-    set: &Set,
+    template: &PodTemplate<'_>,
     name: &str,
     ordinal: u32,
-    template: &Members,
 ) -> Result<Members, AllocError>
-    ensures { IfOk result (λ ms. ms ≡ pod_members (set_parts set.now) name.now ordinal template.now) }
+    ensures { IfOk result (λ ms. ms ≡ pod_members (set_parts template.now.set.now) name.now ordinal (template_of template.now.revision.now)) }
 {
-    let given = part(alloc, template, "spec")?;
-    let spec = pod_spec(alloc, set, name, ordinal, given)?;
+    let spec = pod_spec(alloc, template, name, ordinal)?;
     let members = none(alloc)?.with("spec", Some(Tree::Map(spec)))?;
     Ok(members)
 }
@@ -110,20 +117,17 @@ fn pod_key(alloc: Global, set: &Set, name: &str) -> Result<Key, AllocError>
 /// The pod of that name, from this template.
 fn named_pod(
     alloc: Global,
-    set: &Set,
-    template: &Members,
-    revision: &str,
+    template: &PodTemplate<'_>,
     ordinal: u32,
     name: &str,
 ) -> Result<Object, AllocError>
-    requires { is_key (key_parts Pod set.now.object.key.namespace name.now) ≡ true }
-    ensures { IfOk result (λ pod. pod ≡ named_pod (set_parts set.now) template.now revision.now ordinal name.now) }
+    requires { is_key (key_parts Pod template.now.set.now.object.key.namespace name.now) ≡ true }
+    ensures { IfOk result (λ pod. pod ≡ named_pod (set_parts template.now.set.now) (template_of template.now.revision.now)
+        template.now.revision.now.key.name ordinal name.now) }
 {
-    let given = part(alloc, template, "metadata")?;
-    let metadata = pod_metadata(alloc, set, name, revision, ordinal, &given)?;
-    drop(given);
-    let members = pod_members(alloc, set, name, ordinal, template)?;
-    let key = pod_key(alloc, set, name)?;
+    let metadata = pod_metadata(alloc, template, name, ordinal)?;
+    let members = pod_members(alloc, template, name, ordinal)?;
+    let key = pod_key(alloc, template.set, name)?;
     let pod = Object::of(alloc, key, metadata, members)?;
     Ok(pod)
 }
@@ -136,30 +140,24 @@ fn name_of(set: &Set) -> &str
     set.object.key.name.as_str()
 }
 
-/// The Pod of the set's ordinal, as it is to be created from the template of that revision (Kubernetes, "StatefulSets":
-/// "Pod Identity"). Over the template's own labels it has `apps.kubernetes.io/pod-index`, `controller-revision-hash` and
+/// The Pod of the set's ordinal, as it is to be created from that template (Kubernetes, "StatefulSets": "Pod Identity").
+/// Over the template's own labels it has `apps.kubernetes.io/pod-index`, `controller-revision-hash` and
 /// `statefulset.kubernetes.io/pod-name`, and over the template's own spec the pod's name as `hostname` and the set's
 /// service, if it has one, as `subdomain`; the set is its one owner. Where the set has claim templates, its `volumes` are
 /// one for each of them, stored in the claim of that template and the ordinal, and then the template's own of other
-/// names ("Stable Storage"). A part of the template that is of the wrong type counts as missing: `metadata`,
-/// `annotations` and `spec` are maps, `labels` is a map of texts, and `volumes` a list.
+/// names ("Stable Storage").
 ///
 /// It is NameTooLong where the name, which is a hostname and the value of a label, has more than 63 bytes.
 #[tactic(auto, unfolding(crate::specs::BuiltPod::built_pod))]
-pub fn pod_of(
-    alloc: Global,
-    set: &Set,
-    revision: &RevisionView<'_>,
-    ordinal: u32,
-) -> Result<Object, PlanError>
-    ensures { Gives (λ pod. pod) result (built_pod (set_parts set.now) revision.now.object.now ordinal) }
+pub fn pod_of(alloc: Global, template: &PodTemplate<'_>, ordinal: u32) -> Result<Object, PlanError>
+    ensures { Gives (λ pod. pod) result (built_pod (set_parts template.now.set.now) template.now.revision.now ordinal) }
 {
-    let name = pod_name(alloc, name_of(set), ordinal)?;
+    let name = pod_name(alloc, name_of(template.set), ordinal)?;
     if MAX_LABEL < name.as_str().len() {
+        // Let go by name, which is proved once for the type and not at each way out.
         drop(name);
         return Err(PlanError::NameTooLong);
     }
-    let template = template_of(alloc, revision)?;
-    let pod = named_pod(alloc, set, &template, revision.name, ordinal, name.as_str())?;
+    let pod = named_pod(alloc, template, ordinal, name.as_str())?;
     Ok(pod)
 }

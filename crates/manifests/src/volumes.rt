@@ -1,16 +1,23 @@
 // The volumes of a pod, in which it has its set's claims.
-ghost use Rattle.std.specs.Prelude.{◌≡◌, ◌++◌, map, filter, not, option_map, IfOk, OnOk};
+ghost use Rattle.std.specs.Prelude.{◌≡◌, ◌++◌, ℕ, List, bytes_eq, codes, map, filter, not, option_and_then, option_map, IfOk, OnOk};
+ghost use Rattle.std.specs.List.{list_any};
 ghost use Rattle.serde_json.specs.Data.{Members as DataMembers};
+ghost use Rattle.serde_json.specs.Find.{as_str, get};
+ghost use Rattle.serde_json.specs.View.{items_of as view_items};
 ghost use Rattle.objects.specs.Metadata.{items_at};
 ghost use Rattle.objects.specs.Tree.{data_of, items_of};
+ghost use Rattle.set_views.specs.Claims.{names_of};
 ghost use Rattle.set_views.specs.Set.{set_parts};
-ghost use Rattle.manifests.specs.Volumes.{claim_volume, is_replaced, pod_volumes, volume_of, volumes_in, with_volumes};
+ghost use Rattle.revisions.specs.Listing.{has_name};
+ghost use Rattle.manifests.specs.Arrays.{list_of};
+ghost use Rattle.manifests.specs.Volumes.{claim_volume, is_replaced, other_volumes, volume_of, volumes_in, volumes_with, with_others};
 
 use crate::claim::claim_name_of;
 use crate::members::{none, with_text};
 use objects::{Items, Members, Tree};
-use set_views::{Set, says};
+use set_views::Set;
 use std::alloc::{AllocError, Global};
+use std::collections::BTreeSet;
 
 /// The volume of that name, which is stored in the claim of that name.
 fn claim_volume(alloc: Global, name: &str, claim: &str) -> Result<Tree, AllocError>
@@ -41,26 +48,52 @@ fn claim_volumes(alloc: Global, set: &Set, ordinal: u32) -> Result<Vec<Tree>, Al
     Ok(volumes)
 }
 
-/// Whether the volume has the name of a claim template.
-fn is_replaced(set: &Set, volume: &Tree) -> bool
-    ensures { result ≡ is_replaced (set_parts set.now) (data_of volume.now) }
+/// The names of the set's claim templates.
+fn names_of(alloc: Global, set: &Set) -> Result<BTreeSet<&str>, AllocError>
+    ensures { IfOk result (λ names. (q : List ℕ) → has_name q names.keys ≡ list_any (bytes_eq q) (names_of set.now.claims.items)) }
 {
-    set.claims
-        .iter()
-        .any(|(name, _)| says(volume, "name", name.as_str()))
+    let mut names = BTreeSet::new(alloc);
+    for (name, _) in &set.claims {
+        names.insert(name.as_str())?;
+    }
+    Ok(names)
 }
 
-/// Adds those volumes that have no name of a claim template.
-fn add_others(volumes: &mut Vec<Tree>, set: &Set, given: &[Tree]) -> Result<(), AllocError>
-    ensures { OnOk result (map data_of volumes.new.items
-        ≡ map data_of volumes.old.items ++ filter (λ d. not (is_replaced (set_parts set.now) d)) (map data_of given.now)) }
+/// The name of the volume, if it is a map and has one.
+fn name_in(volume: &Tree) -> Option<&str>
+    ensures { option_map (λ s. s.now) result ≡ option_and_then as_str (get (codes "name") (data_of volume.now)) }
 {
+    volume.as_map()?.get("name")?.as_text()
+}
+
+/// Whether the volume has the name of a claim template of the set, whose names these are.
+fn is_replaced(set: &Set, names: &BTreeSet<&str>, volume: &Tree) -> bool
+    requires { (q : List ℕ) → has_name q names.now.keys ≡ list_any (bytes_eq q) (names_of set.now.claims.items) }
+    ensures { result ≡ is_replaced (set_parts set.now) (data_of volume.now) }
+{
+    match name_in(volume) {
+        Some(name) => names.contains(name),
+        None => false,
+    }
+}
+
+/// Those of these volumes that have no name of a claim template.
+fn unreplaced(
+    alloc: Global,
+    set: &Set,
+    names: &BTreeSet<&str>,
+    given: &[Tree],
+) -> Result<Vec<Tree>, AllocError>
+    requires { (q : List ℕ) → has_name q names.now.keys ≡ list_any (bytes_eq q) (names_of set.now.claims.items) }
+    ensures { IfOk result (λ others. map data_of others.items ≡ filter (λ d. not (is_replaced (set_parts set.now) d)) (map data_of given.now)) }
+{
+    let mut others = Vec::new(alloc);
     for volume in given {
-        if !is_replaced(set, volume) {
-            volumes.push(volume.clone()?)?;
+        if !is_replaced(set, names, volume) {
+            others.push(volume.clone()?)?;
         }
     }
-    Ok(())
+    Ok(others)
 }
 
 fn list_at<'a>(members: &'a Members, key: &str) -> Option<&'a Items>
@@ -79,34 +112,48 @@ fn volumes_in(spec: &Members) -> &[Tree]
     }
 }
 
-/// The volumes of a set's pod, whose template has these.
-fn pod_volumes(
+/// Those of the spec's volumes that have no name of a claim template.
+pub(crate) fn other_volumes(alloc: Global, set: &Set, spec: &Members) -> Result<Items, AllocError>
+    ensures { IfOk result (λ others. others ≡ view_items (other_volumes (set_parts set.now) spec.now)) }
+{
+    let names = names_of(alloc, set)?;
+    let others = unreplaced(alloc, set, &names, volumes_in(spec))?;
+    drop(names);
+    let items = Items::of(alloc, others)?;
+    Ok(items)
+}
+
+/// The volumes of a set's pod, of which these are the template's own.
+fn volumes_with(
     alloc: Global,
     set: &Set,
     ordinal: u32,
-    given: &[Tree],
+    others: &[Tree],
 ) -> Result<Vec<Tree>, AllocError>
-    ensures { IfOk result (λ volumes. map data_of volumes.items ≡ pod_volumes (set_parts set.now) ordinal (map data_of given.now)) }
+    ensures { IfOk result (λ volumes. map data_of volumes.items ≡ volumes_with (set_parts set.now) ordinal (map data_of others.now)) }
 {
     let mut volumes = claim_volumes(alloc, set, ordinal)?;
-    add_others(&mut volumes, set, given)?;
+    for volume in others {
+        volumes.push(volume.clone()?)?;
+    }
     Ok(volumes)
 }
 
 /// The spec of a pod with the volumes of its set's claims, where the set has claim templates: one for each of them, in
-/// order, and then those of the spec that have other names.
-pub(crate) fn with_volumes(
+/// order, and then these, which are the template's own of other names.
+pub(crate) fn with_others(
     alloc: Global,
     set: &Set,
     ordinal: u32,
+    others: &Items,
     spec: Members,
 ) -> Result<Members, AllocError>
-    ensures { IfOk result (λ ms. ms ≡ with_volumes (set_parts set.now) ordinal spec) }
+    ensures { IfOk result (λ ms. ms ≡ with_others (set_parts set.now) ordinal (list_of others.now) spec) }
 {
     if set.claims.is_empty() {
         return Ok(spec);
     }
-    let volumes = pod_volumes(alloc, set, ordinal, volumes_in(&spec))?;
+    let volumes = volumes_with(alloc, set, ordinal, others.as_slice())?;
     let items = Items::of(alloc, volumes)?;
     let whole = spec.with("volumes", Some(Tree::List(items)))?;
     Ok(whole)

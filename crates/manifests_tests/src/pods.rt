@@ -1,6 +1,6 @@
 //! Pods that no plan comes to: of a current revision without a template, and of a name that is too long. A plan is refused
 //! before either is made.
-use manifests::pod_of;
+use manifests::{PodTemplate, pod_of};
 use objects::{Object, ReadError, print_object, read_object};
 use revisions::read_revision;
 use set_views::{PlanError, Set, read_set};
@@ -27,7 +27,10 @@ fn printed(alloc: Global, pod: Object) -> Result<String, Fail> {
 
 /// The pod of that ordinal as it is printed, or an empty text where its name is too long.
 fn built(alloc: Global, set: &Set, revision: &Object, ordinal: u32) -> Result<String, Fail> {
-    match pod_of(alloc, set, &read_revision(revision), ordinal) {
+    let template = PodTemplate::of(alloc, set, &read_revision(revision))?;
+    let pod = pod_of(alloc, &template, ordinal);
+    drop(template);
+    match pod {
         Ok(pod) => printed(alloc, pod),
         Err(PlanError::NameTooLong) => Ok(String::new(alloc)),
         Err(error) => Err(error.into()),

@@ -1,13 +1,16 @@
 -- What is held of a list of actions, as more come to it.
 use Rattle.std.proofs.Common.{◌≡◌, ℕ, zero, suc, ◌+◌, ◌≤◌, ◌<◌, List, [], ◌∷◌, ◌++◌, length, take, arith, refl, sym, ap, ◌∙◌, append_assoc, length-append}
-use Rattle.std.proofs.lemmas.List.{append-nil, get_or_default, map-append, take_all, take_more, take-append-le}
+use Rattle.std.proofs.lemmas.List.{append-nil, get_or_default, map-append, take_all, take_more, take-append-le, take-map, take-take}
+use Rattle.std.proofs.Math.Seq.{take-append-add}
 use Rattle.std.proofs.lemmas.Grind.{flat_map-append}
 use Rattle.std.specs.List.{flat_map, list_any}
 use Rattle.std.specs.Prelude.{Bool, true, false, get_or, map, not, if◌then◌else◌}
 use Rattle.scaling.specs.declared.step.Step.{Step}
 use Rattle.scaling.specs.Step.{cut, is_of_pod, up_to}
 use Rattle.scaling.proofs.Cuts.{cut_keeps_quiet}
+use Rattle.claims.specs.declared.change.ClaimChange.{ClaimChange}
 use Rattle.sets.specs.declared.action.Action.{Action}
+use Rattle.sets.specs.Actions.{claim_action, claim_actions}
 use Rattle.sets.specs.Cut.{Adds}
 
 -- a cut before more comes loses nothing
@@ -27,6 +30,17 @@ adds_one xs a room =
 -- a full list stays as it is, whatever comes
 pub adds_past : (xs ms : List Action) → length xs ≤ 1024 → 1024 ≤ length xs → Adds xs xs ms
 adds_past xs ms few full = sym (take-append-le 1024 xs ms full ∙ take_all 1024 xs few)
+
+-- of what comes, no more than there is room for matters
+pub adds_first : (xs ys ms : List Action) (n : ℕ) → n + length xs ≡ 1024 → Adds xs ys (take n ms) → Adds xs ys ms
+adds_first xs ys ms n room h =
+    let all : length xs + n ≡ 1024 = omega arith in
+    h ∙ (ap (λ k. take k (xs ++ take n ms)) (sym all) ∙ (take-append-add xs (take n ms) n
+    ∙ (ap (λ l. xs ++ l) (take-take n n ms (omega arith)) ∙ (sym (take-append-add xs ms n) ∙ ap (λ k. take k (xs ++ ms)) all))))
+
+pub adds_made : (xs ys : List Action) (changes all : List ClaimChange) (n : ℕ) → n + length xs ≡ 1024 → changes ≡ take n all → Adds xs ys (claim_actions changes) → Adds xs ys (claim_actions all)
+adds_made xs ys changes all n room is h =
+    adds_first xs ys (claim_actions all) n room (h ∙ ap (λ l. take 1024 (xs ++ l)) (ap claim_actions is ∙ sym (take-map claim_action n all)))
 
 -- first some, then more
 pub adds_more : (xs ys zs ms ns : List Action) → Adds xs ys ms → Adds ys zs ns → Adds xs zs (ms ++ ns)

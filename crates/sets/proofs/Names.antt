@@ -1,5 +1,5 @@
 -- The names of the pods in range are no longer than that of the last.
-use Rattle.std.proofs.Common.{◌≡◌, ℕ, suc, ◌+◌, ◌-◌, ◌*◌, ◌/◌, ◌%◌, ◌^◌, ◌≤◌, ◌<◌, List, [], ◌∷◌, ◌++◌, length, arith, refl, sym, ap, ◌∙◌, subst, length-append, codes, add-one}
+use Rattle.std.proofs.Common.{◌≡◌, ℕ, zero, suc, ◌+◌, ◌-◌, ◌*◌, ◌/◌, ◌%◌, ◌^◌, ◌≤◌, ◌<◌, List, [], ◌∷◌, ◌++◌, length, take, arith, refl, sym, ap, ◌∙◌, subst, length-append, codes, add-one}
 use Rattle.std.proofs.lemmas.Bool.{eqb-true, leb-true, le-leb}
 use Rattle.std.proofs.lemmas.Fmt.{decimal_by_steps, decimal_nonempty, length-decimal-le}
 use Rattle.std.proofs.lemmas.List.{get_or_default}
@@ -20,7 +20,7 @@ use Rattle.scaling.proofs.InOrder.{bounds}
 use Rattle.objects.specs.declared.object.Object.{Object}
 use Rattle.set_views.specs.declared.fault.PlanError.{PlanError}
 use Rattle.set_views.specs.declared.fault.PlanError.TheVariants as errors
-use Rattle.set_views.specs.Steps.{Fails}
+use Rattle.set_views.specs.Steps.{Fails, guarded}
 use Rattle.manifests.specs.BuiltPod.{built_pod}
 use Rattle.claims.specs.declared.change.ClaimChange.{ClaimChange}
 use Rattle.sets.specs.Actions.{Claims, actions_of, changes_in, name_at, new_pod}
@@ -130,3 +130,9 @@ only_memory set revision i e fit h = fails_never e (built_pod set revision i) (n
 pub no_changes : (e : PlanError) (r : Result (List ClaimChange) PlanError) → (e ≡ errors.Memory → ⊥) → Fails e r → [] ≡ changes_in r
 no_changes errors.Memory r other h = absurd (other refl)
 no_changes e r other h = sym (ap changes_in h)
+
+-- the first ones of a pod's changes
+pub first_changes : (fits : Bool) (n : ℕ) (changes : List ClaimChange) → changes_in (guarded errors.NameTooLong fits (take n changes)) ≡ take n (changes_in (guarded errors.NameTooLong fits changes))
+first_changes true n changes = refl
+first_changes false zero changes = refl
+first_changes false (suc n) changes = refl

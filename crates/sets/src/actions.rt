@@ -1,5 +1,5 @@
 // The list that holds the first actions of a plan.
-ghost use Rattle.std.specs.Prelude.{◌≡◌, ◌≤◌, [], ◌∷◌, OnOk, length};
+ghost use Rattle.std.specs.Prelude.{◌≡◌, ◌≤◌, ◌+◌, [], ◌∷◌, ◌↔◌, IsTrue, OnOk, length};
 ghost use Rattle.sets.specs.Cut.{Adds};
 
 use crate::action::Action;
@@ -25,6 +25,20 @@ impl Actions {
         }
     }
 
+    /// Whether whatever comes after these actions is left to the next plan.
+    pub fn is_full(&self) -> bool
+        ensures { IsTrue result ↔ (1024 ≤ length self.now.list.items) }
+    {
+        self.list.len() >= MAX_ACTIONS
+    }
+
+    /// How many more actions it takes.
+    pub fn room(&self) -> usize
+        ensures { result + length self.now.list.items ≡ 1024 }
+    {
+        MAX_ACTIONS - self.list.len()
+    }
+
     /// Adds an action, unless the list is full.
     #[tactic(auto, using(crate::proofs::Cuts::adds_one, crate::proofs::Cuts::adds_past))]
     pub fn add(&mut self, action: Action) -> Result<(), Memory>
@@ -34,6 +48,7 @@ impl Actions {
             self.list.push(action)?;
             Ok(())
         } else {
+            // Let go by name, which is proved once for the type and not at each way out.
             drop(action);
             Ok(())
         }

@@ -1,4 +1,5 @@
 // The plan of a set.
+// Values are let go by `drop`, which is proved once for a type and not at each way out.
 ghost use Rattle.std.specs.Prelude.{◌≡◌, ◌≤◌, ◌∷◌, [], map, take, true, IfOk, Result, Ok, Err};
 ghost use Rattle.set_views.specs.declared.fault.PlanError.{PlanError};
 ghost use Rattle.set_views.specs.declared.fault.PlanError.TheVariants.{Memory as OutOfMemory, NoRevisionName};
@@ -14,7 +15,7 @@ ghost use Rattle.sets.specs.Whole.{whole};
 use crate::action::{Action, Plan};
 use crate::actions::Actions;
 use crate::ending::{add_history, add_status, current_name};
-use crate::steps::{add_steps, name_at};
+use crate::steps::{add_steps, name_at, templates_of};
 use claims::ListedClaims;
 use objects::{MAX_LABEL, Memory, Object};
 use revisions::{RevisionPlan, Revisions, revision_plan};
@@ -63,14 +64,17 @@ fn actions_over(
     pods: &BTreeMap<u32, Replica>,
 ) -> Result<Vec<Action>, Memory>
     requires { names_fit (set_parts set.now) ≡ true }
-    ensures { IfOk result (λ actions. actions.items ≡ take most_actions (whole (set_parts set.now) (claim_named claims.now) (map pod_parts views.now) (objects_of revisions.now.owned.items)
+    ensures { IfOk result (λ actions. actions.items ≡ take most_actions
+        (whole (set_parts set.now) (claim_named claims.now) (map pod_parts views.now) (objects_of revisions.now.owned.items)
         revisions.now.current.object.now revisions.now.update.object.now pods.now.entries)) }
 {
     // A map's length says that its keys are in order.
     let _len = pods.len();
     let steps = pod_steps(alloc, set, pods)?;
     let mut actions = Actions::new(alloc);
-    add_steps(&mut actions, alloc, set, claims, revisions, &steps)?;
+    let templates = templates_of(alloc, set, revisions)?;
+    add_steps(&mut actions, alloc, set, claims, &templates, &steps)?;
+    drop(templates);
     let current = current_name(set, revisions, pods);
     add_history(&mut actions, alloc, set, views, revisions, current, &steps)?;
     drop(steps);
@@ -86,7 +90,8 @@ fn plan_of_pods(
     claims: &ListedClaims<'_>,
     revisions: &Revisions<'_>,
 ) -> Result<Plan, PlanError>
-    ensures { Gives (λ plan. plan.actions.items) result (plan_of_pods (set_parts set.now) (claim_named claims.now) (map pod_parts views.now) (objects_of revisions.now.owned.items)
+    ensures { Gives (λ plan. plan.actions.items) result
+        (plan_of_pods (set_parts set.now) (claim_named claims.now) (map pod_parts views.now) (objects_of revisions.now.owned.items)
         revisions.now.current.object.now revisions.now.update.object.now) }
 {
     let pods = match fitting_pods(
@@ -161,7 +166,8 @@ fn plan_by(
     claims: &ListedClaims<'_>,
     found: Result<RevisionPlan<'_>, PlanError>,
 ) -> Result<Plan, PlanError>
-    ensures planned { (planned : Result Planned PlanError) → Gives planned_of found.entry planned → Gives (λ plan. plan.actions.items) result (plan_by (set_parts set.now) (claim_named claims.now) (map pod_parts views.now) planned) }
+    ensures planned { (planned : Result Planned PlanError) → Gives planned_of found.entry planned
+        → Gives (λ plan. plan.actions.items) result (plan_by (set_parts set.now) (claim_named claims.now) (map pod_parts views.now) planned) }
     ensures memory { found.entry ≡ Err OutOfMemory → result ≡ Err OutOfMemory }
 {
     match found {

@@ -1,5 +1,5 @@
 // What the steps on a set's pods come to.
-ghost use Rattle.std.specs.Prelude.{◌≡◌, true, IfOk, OnOk, length, nat_le};
+ghost use Rattle.std.specs.Prelude.{◌≡◌, true, IfOk, OnOk, length, nat_le, take};
 ghost use Rattle.std.specs.List.{flat_map};
 ghost use Rattle.set_views.specs.declared.fault.PlanError.TheVariants.{Memory as OutOfMemory};
 ghost use Rattle.set_views.specs.Set.{set_parts};
@@ -12,12 +12,12 @@ ghost use Rattle.sets.specs.Cut.{Adds, AreNameable, is_nameable};
 use crate::action::Action;
 use crate::actions::Actions;
 use claims::{ClaimChange, ListedClaims, kept_claims, made_claims, released_claims};
-use manifests::pod_of;
+use manifests::{PodTemplate, pod_of};
 use objects::{Memory, Object, Text, pod_name};
-use revisions::{RevisionView, Revisions};
+use revisions::Revisions;
 use scaling::{Revision, Step};
 use set_views::{PlanError, Set};
-use std::alloc::Global;
+use std::alloc::{AllocError, Global};
 
 /// The name of the set's pod of that ordinal.
 pub(crate) fn name_at(alloc: Global, set: &Set, ordinal: u32) -> Result<Text, Memory>
@@ -30,33 +30,68 @@ pub(crate) fn name_at(alloc: Global, set: &Set, ordinal: u32) -> Result<Text, Me
 fn want_of_memory(error: PlanError) -> Memory
     requires { error ≡ OutOfMemory }
 {
+    // Let go by name, which is proved once for the type and not at each way out.
     drop(error);
     Memory
 }
 
-/// The set's pod of that ordinal, from that revision.
+/// What new pods are made from.
+#[derive(Drop)]
+pub(crate) struct Templates<'a> {
+    current: PodTemplate<'a>,
+    update: PodTemplate<'a>,
+}
+
+/// What the set's new pods are made from, at its current and at its update revision.
+pub(crate) fn templates_of<'a>(
+    alloc: Global,
+    set: &'a Set,
+    revisions: &Revisions<'a>,
+) -> Result<Templates<'a>, AllocError>
+    ensures current_set { IfOk result (λ templates. templates.current.set.now ≡ set.now) }
+    ensures update_set { IfOk result (λ templates. templates.update.set.now ≡ set.now) }
+    ensures current { IfOk result (λ templates. templates.current.revision.now ≡ revisions.now.current.object.now) }
+    ensures update { IfOk result (λ templates. templates.update.revision.now ≡ revisions.now.update.object.now) }
+{
+    let current = PodTemplate::of(alloc, set, &revisions.current)?;
+    let update = PodTemplate::of(alloc, set, &revisions.update)?;
+    Ok(Templates { current, update })
+}
+
+/// The set's pod of that ordinal, from that template of the set.
 fn new_pod(
     alloc: Global,
     set: &Set,
-    revision: &RevisionView<'_>,
+    template: &PodTemplate<'_>,
     ordinal: u32,
 ) -> Result<Object, Memory>
-    requires { nat_le (length (name_at (set_parts set.now) ordinal)) most_label ≡ true }
-    ensures { IfOk result (λ pod. pod ≡ new_pod (set_parts set.now) revision.now.object.now ordinal) }
+    requires of_set { template.now.set.now ≡ set.now }
+    requires fits { nat_le (length (name_at (set_parts set.now) ordinal)) most_label ≡ true }
+    ensures { IfOk result (λ pod. pod ≡ new_pod (set_parts set.now) template.now.revision.now ordinal) }
 {
-    match pod_of(alloc, set, revision, ordinal) {
+    match pod_of(alloc, template, ordinal) {
         Ok(pod) => Ok(pod),
         Err(error) => Err(want_of_memory(error)),
     }
 }
 
-/// The revision that a new pod is made from.
-fn revision_of<'a>(revisions: &Revisions<'a>, revision: Revision) -> RevisionView<'a>
-    ensures { result.object.now ≡ revision_of revisions.now.current.object.now revisions.now.update.object.now revision }
+/// The set's pod of that ordinal, from that revision.
+fn pod_from(
+    alloc: Global,
+    set: &Set,
+    templates: &Templates<'_>,
+    revision: Revision,
+    ordinal: u32,
+) -> Result<Object, Memory>
+    requires current_set { templates.now.current.set.now ≡ set.now }
+    requires update_set { templates.now.update.set.now ≡ set.now }
+    requires fits { nat_le (length (name_at (set_parts set.now) ordinal)) most_label ≡ true }
+    ensures { IfOk result (λ pod. pod ≡ new_pod (set_parts set.now)
+        (revision_of templates.now.current.revision.now templates.now.update.revision.now revision) ordinal) }
 {
     match revision {
-        Revision::Current => revisions.current,
-        Revision::Update => revisions.update,
+        Revision::Current => new_pod(alloc, set, &templates.current, ordinal),
+        Revision::Update => new_pod(alloc, set, &templates.update, ordinal),
     }
 }
 
@@ -79,21 +114,23 @@ fn add_changes(actions: &mut Actions, changes: Vec<ClaimChange>) -> Result<(), M
     Ok(())
 }
 
-/// The changes of the claims of a pod that is then created. There are none where its name is too long, which the plan is
-/// refused for before.
+/// The first so many changes of the claims of a pod that is then created. There are none where its name is too long, which
+/// the plan is refused for before.
 fn made_changes(
     alloc: Global,
     set: &Set,
     claims: &ListedClaims<'_>,
     ordinal: u32,
+    most: usize,
 ) -> Result<Vec<ClaimChange>, Memory>
-    ensures { IfOk result (λ changes. changes.items ≡ changes_in (made_claims (set_parts set.now) (claim_named claims.now) ordinal)) }
+    ensures { IfOk result (λ changes. changes.items ≡ take most (changes_in (made_claims (set_parts set.now) (claim_named claims.now) ordinal))) }
 {
-    match made_claims(alloc, set, claims, ordinal) {
+    match made_claims(alloc, set, claims, ordinal, most) {
         Ok(changes) => Ok(changes),
         Err(error) => match error {
             PlanError::Memory => Err(Memory),
             _ => {
+                // Let go by name, which is proved once for the type and not at each way out.
                 drop(error);
                 Ok(Vec::new(alloc))
             }
@@ -101,24 +138,44 @@ fn made_changes(
     }
 }
 
-/// Adds the actions of a step.
-#[tactic(auto, unfolding(crate::specs::Actions::actions_of))]
+/// Adds the changes of the claims of a pod that is then created. No more of them are made than there is room for.
+fn add_made(
+    actions: &mut Actions,
+    alloc: Global,
+    set: &Set,
+    claims: &ListedClaims<'_>,
+    ordinal: u32,
+) -> Result<(), Memory>
+    ensures { OnOk result (Adds actions.old.list.items actions.new.list.items
+        (claim_actions (changes_in (made_claims (set_parts set.now) (claim_named claims.now) ordinal)))) }
+{
+    let most = actions.room();
+    let changes = made_changes(alloc, set, claims, ordinal, most)?;
+    add_changes(actions, changes)?;
+    Ok(())
+}
+
+/// Adds the actions of a step. Nothing is made for a list that is full.
+#[tactic(auto, using(crate::proofs::Cuts::adds_past), unfolding(crate::specs::Actions::actions_of))]
 fn add_step(
     actions: &mut Actions,
     alloc: Global,
     set: &Set,
     claims: &ListedClaims<'_>,
-    revisions: &Revisions<'_>,
+    templates: &Templates<'_>,
     step: Step,
 ) -> Result<(), Memory>
-    requires { is_nameable (set_parts set.now) step ≡ true }
-    ensures { OnOk result (Adds actions.old.list.items actions.new.list.items (actions_of (set_parts set.now) (claim_named claims.now) revisions.now.current.object.now revisions.now.update.object.now step)) }
+    requires current_set { templates.now.current.set.now ≡ set.now }
+    requires update_set { templates.now.update.set.now ≡ set.now }
+    requires nameable { is_nameable (set_parts set.now) step ≡ true }
+    ensures { OnOk result (Adds actions.old.list.items actions.new.list.items
+        (actions_of (set_parts set.now) (claim_named claims.now) templates.now.current.revision.now templates.now.update.revision.now step)) }
 {
+    if actions.is_full() {
+        return Ok(());
+    }
     match step {
-        Step::MakeClaims { ordinal } => {
-            let changes = made_changes(alloc, set, claims, ordinal)?;
-            add_changes(actions, changes)
-        }
+        Step::MakeClaims { ordinal } => add_made(actions, alloc, set, claims, ordinal),
         Step::KeepClaims { ordinal } => {
             let changes = kept_claims(alloc, set, claims, ordinal)?;
             add_changes(actions, changes)
@@ -128,8 +185,8 @@ fn add_step(
             add_changes(actions, changes)
         }
         Step::CreatePod { ordinal, revision } => {
-            let revision = revision_of(revisions, revision);
-            actions.add(Action::CreatePod(new_pod(alloc, set, &revision, ordinal)?))
+            let pod = pod_from(alloc, set, templates, revision, ordinal)?;
+            actions.add(Action::CreatePod(pod))
         }
         Step::DeletePod { ordinal, uid } => {
             let name = name_at(alloc, set, ordinal)?;
@@ -148,14 +205,17 @@ pub(crate) fn add_steps(
     alloc: Global,
     set: &Set,
     claims: &ListedClaims<'_>,
-    revisions: &Revisions<'_>,
+    templates: &Templates<'_>,
     steps: &[Step],
 ) -> Result<(), Memory>
-    requires { AreNameable (set_parts set.now) steps.now }
-    ensures { OnOk result (Adds actions.old.list.items actions.new.list.items (flat_map (actions_of (set_parts set.now) (claim_named claims.now) revisions.now.current.object.now revisions.now.update.object.now) steps.now)) }
+    requires current_set { templates.now.current.set.now ≡ set.now }
+    requires update_set { templates.now.update.set.now ≡ set.now }
+    requires nameable { AreNameable (set_parts set.now) steps.now }
+    ensures { OnOk result (Adds actions.old.list.items actions.new.list.items (flat_map (actions_of (set_parts set.now)
+        (claim_named claims.now) templates.now.current.revision.now templates.now.update.revision.now) steps.now)) }
 {
     for step in steps {
-        add_step(actions, alloc, set, claims, revisions, *step)?;
+        add_step(actions, alloc, set, claims, templates, *step)?;
     }
     Ok(())
 }

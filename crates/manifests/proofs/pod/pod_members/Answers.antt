@@ -1,10 +1,7 @@
 use Rattle.std.proofs.Common.{ap, ◌∙◌, codes}
 use Rattle.serde_json.specs.Data.{object, put, member, no_members}
-use Rattle.set_views.specs.Set.{set_parts}
-use Rattle.manifests.specs.BuiltPod.{pod_spec}
 use Rattle.manifests.proofs.pod.pod_members.Goals as goal
 
 pub returns : goal.returns
 returns c =
-    c.in_ok-members.ensures ∙ (ap (put (codes "spec") (object c.in_ok-spec.spec)) c.in_ok-none.ensures
-    ∙ ap (λ s. member (codes "spec") (object s) no_members) (c.in_ok-spec.ensures ∙ ap (pod_spec (set_parts c.args.set.now) c.args.name.now c.args.ordinal) c.in_ok-given.ensures))
+    c.in_ok-members.ensures ∙ (ap (put (codes "spec") (object c.in_ok-spec.spec)) c.in_ok-none.ensures ∙ ap (λ s. member (codes "spec") (object s) no_members) c.in_ok-spec.ensures)

@@ -10,7 +10,7 @@ use Rattle.manifests.proofs.pod.pod_of.Goals as goal
 
 pub named_pod-requires : goal.named_pod-requires
 named_pod-requires c =
-    let key = c.args.set.now.object.key in
+    let key = c.args.template.now.set.now.object.key in
     let is = c.in_ok-name.ensures ∙ ap (λ s. pod_name s c.args.ordinal) c.name_of.ensures.name in
     let long = ap length (c.as_str.ensures.value ∙ is) in
     let fits : nat_le (length (pod_name key.name c.args.ordinal)) most_label ≡ true = le-leb (length (pod_name key.name c.args.ordinal)) most_label (omega (arith, long)) in

@@ -10,4 +10,4 @@ loop-step-init c = adds_none c.args.actions.now.list.items c.args.actions.now.wi
 
 pub loop-step-preserved : goal.loop-step-preserved
 loop-step-preserved c =
-    walk_at (actions_of (set_parts c.args.set.now) (claim_named c.args.claims.now) c.args.revisions.now.current.object.now c.args.revisions.now.update.object.now) c.args.steps.now c.loop-step.step-index _ _ _ _ (omega arith) c.loop-step.invariant c.in_ok-add_step.ensures
+    walk_at (actions_of (set_parts c.args.set.now) (claim_named c.args.claims.now) c.args.templates.now.current.revision.now c.args.templates.now.update.revision.now) c.args.steps.now c.loop-step.step-index _ _ _ _ (omega arith) c.loop-step.invariant c.in_ok-add_step.ensures

@@ -8,4 +8,4 @@ use Rattle.sets.proofs.steps.add_steps.Given as goal
 
 abbrev pub invariant-loop-step : goal.invariant-loop-step
 invariant-loop-step l =
-    Adds l.fn.actions.list.items l.actions.list.items (flat_map (actions_of (set_parts l.set) (claim_named l.claims) l.revisions.current.object.now l.revisions.update.object.now) (take l.step-index l.steps))
+    Adds l.fn.actions.list.items l.actions.list.items (flat_map (actions_of (set_parts l.set) (claim_named l.claims) l.templates.current.revision.now l.templates.update.revision.now) (take l.step-index l.steps))

@@ -1,11 +1,23 @@
-use Rattle.std.proofs.Common.{◌≡◌, [], rules, ◌∙◌}
+use Rattle.std.proofs.Common.{◌≡◌, [], rules, sym, ap, ◌∙◌}
+use Rattle.std.specs.Prelude.{length, nat_le}
+use Rattle.objects.specs.Names.{most_label}
 use Rattle.set_views.specs.Set.{set_parts}
-use Rattle.claims.specs.Changes.{made_claims}
+use Rattle.claims.specs.Changes.{all_made, first_made}
 use Rattle.claims.specs.Listed.{claim_named}
-use Rattle.sets.proofs.Names.{no_changes}
+use Rattle.sets.specs.Actions.{changes_in, name_at}
+use Rattle.sets.proofs.Names.{first_changes, no_changes}
 use Rattle.sets.proofs.steps.made_changes.Goals as goal
+
+pub returns-in-Ok : goal.returns-in-Ok
+returns-in-Ok c =
+    let set = set_parts c.args.set.now in
+    let claims = claim_named c.args.claims.now in
+    sym (ap changes_in c.in-Ok.ensures) ∙ first_changes (nat_le (length (name_at set c.args.ordinal)) most_label) c.args.most (all_made set claims c.args.ordinal set.claims)
 
 pub returns-in_default : goal.returns-in_default
 returns-in_default c =
+    let set = set_parts c.args.set.now in
+    let claims = claim_named c.args.claims.now in
     let empty : c.new.result.items ≡ [] = search rules in
-    empty ∙ no_changes _ (made_claims (set_parts c.args.set.now) (claim_named c.args.claims.now) c.args.ordinal) c.in_default.not-Memory c.in-Err.ensures
+    empty ∙ (no_changes _ (first_made set claims c.args.ordinal c.args.most) c.in_default.not-Memory c.in-Err.ensures
+    ∙ first_changes (nat_le (length (name_at set c.args.ordinal)) most_label) c.args.most (all_made set claims c.args.ordinal set.claims))
