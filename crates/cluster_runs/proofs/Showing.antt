@@ -1,12 +1,12 @@
 -- The program's state shows the cluster after each event.
-use Rattle.std.proofs.Common.{◌≡◌, ◌≢◌, ◌==◌, ◌&&◌, ◌<◌, ◌≤◌, ◌+◌, take, ℕ, zero, suc, Bool, true, false, cond, List, [], ◌∷◌, ◌++◌, drop, length, Option, Some, None, refl, sym, ap, subst, ◌∙◌, arith, get_or, lt-ltb}
-use Rattle.std.specs.Prelude.{slice_get, slice_set, slice_index_or, IfSome, nat_lt, is_some, option_map, Result, OnOk}
+use Rattle.std.proofs.Common.{◌≡◌, ◌≢◌, ◌==◌, ◌&&◌, ◌<◌, ◌≤◌, ◌+◌, take, ℕ, zero, suc, Bool, true, false, cond, List, [], ◌∷◌, ◌++◌, drop, length, map, Option, Some, None, refl, sym, ap, subst, ◌∙◌, arith, get_or, lt-ltb}
+use Rattle.std.specs.Prelude.{slice_get, slice_set, slice_index_or, IfSome, nat_lt, is_some, option_map, Result, Ok, Err, OnErr, OnOk}
 use Rattle.history.proofs.Pieces.{get_any, on_ok_by}
 use Rattle.std.specs.List.{AllByRecursion}
 use Rattle.std.proofs.lemmas.Bool.{false≢true}
 use Rattle.std.proofs.Math.Seq.{drop-append_seam}
 use Rattle.std.proofs.lemmas.List.{length-set, take-append-drop, take_more}
-use Rattle.std.proofs.lemmas.Option.{none-some, same_Some}
+use Rattle.std.proofs.lemmas.Option.{none-some, same_Some, slice_get-map}
 use Rattle.requests.specs.declared.request.Request.{Request}
 use Rattle.requests.specs.declared.reply.Reply.{Reply}
 use Rattle.interleavings.specs.declared.event.Event.{Event}
@@ -15,7 +15,7 @@ use Rattle.interleavings.specs.Step.{step}
 use Rattle.interleavings.specs.Trace.{after, trace}
 use Rattle.interleavings.specs.World.{Idle, Size, World, opening}
 use Rattle.interleavings.specs.World as world
-use Rattle.interleavings.proofs.Basics.{Compared, compare, eq_self, other, same}
+use Rattle.interleavings.proofs.Basics.{Compared, Least, above, atmost, compare, eq_self, least, other, same}
 use Rattle.history.specs.After.{IsAfter, IsReplyTo}
 use Rattle.history.specs.Named.{callers, named}
 use Rattle.history.specs.Replayed.{named_by, told_at}
@@ -24,12 +24,12 @@ use Rattle.history.proofs.Reached.{after_more}
 use Rattle.rounds.specs.Phase.{Phase, asks, reading_set, takes}
 use Rattle.rounds.specs.Reconciler.{Reconciler}
 use Rattle.rounds.specs.Transcript.{Life}
-use Rattle.rounds.specs.World.{AreMadeOf, put}
+use Rattle.rounds.specs.World.{AreMadeOf, StandAt, put}
 use Rattle.clusters.specs.declared.event.ClusterEvent.{ClusterEvent}
 use Rattle.clusters.specs.declared.event.ClusterEvent.TheVariants.{Next, Outside, Step, Crash}
 use Rattle.clusters.specs.Cluster.{Cluster, controller_at, controller_by, hand, hand_if, happens, hears, is_idle, is_nobody, is_used, lowest_unused, reply_in, run, start, told, with_crash, with_next, with_outside, with_step, with_used}
 use Rattle.cluster_runs.specs.Callers.{AreCallers, owner}
-use Rattle.cluster_runs.specs.Shown.{Becomes, Follows, Hands, Happens, HasTaken, Hears, HoldsEvents, IsCluster, Shows, Stands}
+use Rattle.cluster_runs.specs.Shown.{Becomes, Follows, Hands, Happens, HasTaken, Hears, HoldsEvents, IsCluster, Shows, Stands, Stay}
 use Rattle.cluster_runs.specs.declared.cluster.Cluster.{Cluster as Program}
 use Rattle.clusters.proofs.Kept.{among, put_other, put_same}
 use Rattle.cluster_runs.proofs.Calling.{among_first, among_later, not_among}
@@ -192,6 +192,34 @@ get_other (z ∷ xs) zero (suc d) y apart = refl
 get_other (z ∷ xs) (suc c) zero y apart = refl
 get_other (z ∷ xs) (suc c) (suc d) y apart = get_other xs c d y (λ e. apart (ap suc e))
 
+-- ---- controllers that stay
+
+map_stays : {X Z : Type 0} (f : X → Z) (xs : List X) (c : ℕ) (x y : X) → slice_get xs c ≡ Some x → f y ≡ f x → map f (slice_set xs c y) ≡ map f xs
+map_stays f [] c x y there alike = refl
+map_stays f (z ∷ xs) zero x y there alike = ap (λ v. v ∷ map f xs) (alike ∙ ap f (sym (same_Some _ _ there)))
+map_stays f (z ∷ xs) (suc c) x y there alike = ap (λ l. f z ∷ l) (map_stays f xs c x y there alike)
+
+pub stay_at : {X : Type 0} (reconciler : X → Reconciler) (phase : X → Phase) (xs : List X) (c : ℕ) (x y : X) → slice_get xs c ≡ Some x
+    → reconciler y ≡ reconciler x → phase y ≡ phase x → Stay reconciler phase xs (slice_set xs c y)
+stay_at reconciler phase xs c x y there kept goes = (map_stays reconciler xs c x y there kept, map_stays phase xs c x y there goes)
+
+pub still_stand : {X : Type 0} (reconciler : X → Reconciler) (phase : X → Phase) (before now : List X) (reconcilers : ℕ → Reconciler) (phases : ℕ → Phase)
+    → Stay reconciler phase before now → StandAt reconciler phase before reconcilers phases → StandAt reconciler phase now reconcilers phases
+still_stand {X} reconciler phase before now reconcilers phases stay stand c = by (slice_get before c) (slice_get now c) (kept reconciler stay.0) (kept phase stay.1) (stand c)
+  where
+    kept : {Z : Type 0} (f : X → Z) → map f now ≡ map f before → option_map f (slice_get now c) ≡ option_map f (slice_get before c)
+    kept f is = sym (slice_get-map f now c) ∙ ap (λ zs. slice_get zs c) is ∙ slice_get-map f before c
+
+    by : (o p : Option X) → option_map reconciler p ≡ option_map reconciler o → option_map phase p ≡ option_map phase o
+        → IfSome o (λ x. (reconciler x ≡ reconcilers c) × (phase x ≡ phases c)) → IfSome p (λ x. (reconciler x ≡ reconcilers c) × (phase x ≡ phases c))
+    by o None one two stood = tt
+    by None (Some y) one two stood = absurd (none-some _ (sym one))
+    by (Some x) (Some y) one two stood = (same_Some _ _ one ∙ stood.0, same_Some _ _ two ∙ stood.1)
+
+pub at_err : {D E : Type 0} (r : Result D E) (P : Type 0) → P → OnErr r P
+at_err (Ok d) P holds = tt
+at_err (Err e) P holds = holds
+
 -- two controllers are two callers
 apart_by : (count : ℕ) (k : Cluster) (program : Program) → AreCallers count k program.callers → (c d : ℕ) → c < count → d < count → d ≢ c → k.callers d ≢ k.callers c
 apart_by count k program are c d low less apart e = apart (same_Some d c (sym (are.own d less) ∙ ap (owner k.lives) e ∙ are.own c low))
@@ -253,6 +281,10 @@ module _ {X : Type 0} (reconciler : X → Reconciler) (phase : X → Phase) (is_
       → Stands reconciler phase is_waiting z k.events (reconcilers c) (k.phases c) (k.callers c) x
   stands_in z reconcilers k program xs c x there shows =
       subst (λ o. IfSome o (Stands reconciler phase is_waiting z k.events (reconcilers c) (k.phases c) (k.callers c))) there (shows.1 c)
+
+  pub shown_stand : (z : Size) (reconcilers : ℕ → Reconciler) (k : Cluster) (program : Program) (xs : List X) → Shown z reconcilers k program xs
+      → StandAt reconciler phase xs reconcilers k.phases
+  shown_stand z reconcilers k program xs shows c = if_some_on _ _ (slice_get xs c) (λ x there stands. (stands.reconciler_is, stands.phase_is)) (shows.1 c)
 
   -- ---- a controller calls
 
@@ -502,6 +534,19 @@ pub run_more : (z : Size) (count : ℕ) (reconcilers : ℕ → Reconciler) (k : 
     → happens z count reconcilers (run z count reconcilers k (take i es)) (slice_index_or es i d) ≡ run z count reconcilers k (take (i + 1) es)
 run_more z count reconcilers k es i d low =
     sym (ap (run z count reconcilers k) (take_more es i d low) ∙ run-append z count reconcilers k (take i es) (slice_index_or es i d ∷ []))
+
+-- ---- what is not refused is in range
+
+pub within : (n most : ℕ) → ((1 ≤ n → most < n) → ⊥) → (1 ≤ n) × (n ≤ most)
+within n most refused = (low (least 1 n), high (least n most))
+  where
+    low : Least 1 n → 1 ≤ n
+    low (atmost le e) = le
+    low (above lt e) = absurd (refused (λ le. absurd (omega arith)))
+
+    high : Least n most → n ≤ most
+    high (atmost le e) = le
+    high (above lt e) = absurd (refused (λ le. lt))
 
 -- ---- the callers that were used grow
 

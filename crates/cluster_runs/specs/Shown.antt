@@ -1,5 +1,5 @@
 -- What the program holds of a cluster, and what one event does to it.
-use Rattle.std.specs.Prelude.{◌≡◌, ◌≢◌, ◌==◌, ◌<◌, ◌++◌, ◌∷◌, [], ℕ, Bool, true, false, List, length, Option, Some, slice_get, slice_set, IfSome}
+use Rattle.std.specs.Prelude.{◌≡◌, ◌≢◌, ◌==◌, ◌<◌, ◌++◌, ◌∷◌, [], ℕ, Bool, true, false, List, length, map, Option, Some, slice_get, slice_set, IfSome}
 use Rattle.std.specs.List.{AllByRecursion, list_any}
 use Rattle.requests.specs.declared.reply.Reply.{Reply}
 use Rattle.interleavings.specs.declared.event.Event.{Event}
@@ -37,6 +37,10 @@ pub record Hands (e : Event) (old new : Program) : Type 0 where
   pub callers : new.callers ≡ old.callers
   pub events : new.events.items ≡ old.events.items ++ e ∷ []
   pub taken : (z : Size) (events : List Event) → IsAfter z events old.replay → IsAfter z (events ++ e ∷ []) new.replay
+
+-- each controller is made of what it was made of, and stands where it stood
+abbrev pub Stay : {X : Type 0} → (X → Reconciler) → (X → Phase) → (before now : List X) → Type 0
+Stay reconciler phase before now = (map reconciler now ≡ map reconciler before) × (map phase now ≡ map phase before)
 
 module _ {X : Type 0} (reconciler : X → Reconciler) (phase : X → Phase) (is_waiting : X → Bool) where
   -- the controller is made of this, stands there, and waits where its caller does

@@ -75,8 +75,10 @@ impl Callers {
     /// Somebody who is no controller uses the caller.
     pub(crate) fn admit(&mut self, caller: u64) -> Result<(), ClusterFault>
         ensures present { self.new.present ≡ self.old.present }
-        ensures callers { OnOk result ((count : ℕ) (k : Cluster) → AreCallers count k self.old → k.lives caller ≡ None → AreCallers count (with_used k caller) self.new) }
-        ensures too_many { IsErrOf result ClusterFault.TooManyCallers → (count : ℕ) (k : Cluster) → AreCallers count k self.old → 4096 < length (with_used k caller).used }
+        ensures callers { OnOk result ((count : ℕ) (k : Cluster)
+            → AreCallers count k self.old → k.lives caller ≡ None → AreCallers count (with_used k caller) self.new) }
+        ensures too_many { IsErrOf result ClusterFault.TooManyCallers
+            → (count : ℕ) (k : Cluster) → AreCallers count k self.old → 4096 < length (with_used k caller).used }
         ensures reasons { IfErr result IsShort }
     {
         if self.is_used(caller) {
@@ -91,7 +93,8 @@ impl Callers {
         ensures count { length self.new.present.items ≡ length self.old.present.items }
         ensures callers { OnOk result ((count : ℕ) (k : Cluster) → AreCallers count k self.old → AreCallers count (with_crash k number) self.new) }
         ensures fresh { OnOk result ((count : ℕ) (k : Cluster) → AreCallers count k self.old → is_used k (lowest_unused k) ≡ false) }
-        ensures too_many { IsErrOf result ClusterFault.TooManyCallers → (count : ℕ) (k : Cluster) → AreCallers count k self.old → 4096 < length (with_crash k number).used }
+        ensures too_many { IsErrOf result ClusterFault.TooManyCallers
+            → (count : ℕ) (k : Cluster) → AreCallers count k self.old → 4096 < length (with_crash k number).used }
         ensures reasons { IfErr result IsShort }
     {
         let Some(caller) = self.lowest_unused() else {

@@ -1,4 +1,4 @@
-ghost use Rattle.std.specs.Prelude.{◌≡◌, ◌<◌, ◌&&◌, ◌++◌, ◌∷◌, [], ℕ, true, List, length, IfOk, IfErr, IfSome, OnOk, IsErrOf, Some};
+ghost use Rattle.std.specs.Prelude.{◌≡◌, ◌<◌, ◌&&◌, ◌++◌, ◌∷◌, [], ℕ, true, List, length, IfOk, IfErr, IfSome, OnErr, OnOk, IsErrOf, Some};
 ghost use Rattle.interleavings.specs.declared.event.Event.{Event};
 ghost use Rattle.interleavings.specs.declared.event.Event.TheVariants as event;
 ghost use Rattle.interleavings.specs.World.{Size};
@@ -8,7 +8,7 @@ ghost use Rattle.history.specs.Replayed.{named_by};
 ghost use Rattle.clusters.specs.declared.event.ClusterEvent.TheVariants.{Next, Step, Crash};
 ghost use Rattle.clusters.specs.Cluster.{controller_at, hand_if, is_nobody, is_used, with_outside};
 ghost use Rattle.cluster_runs.specs.Faults.{IsShort};
-ghost use Rattle.cluster_runs.specs.Shown.{Becomes, Exceeds, Follows, Hands, Happens, Hears, Overfills};
+ghost use Rattle.cluster_runs.specs.Shown.{Becomes, Exceeds, Follows, Hands, Happens, Hears, Overfills, Stay};
 ghost use Rattle.cluster_runs.specs.declared.fault.ClusterFault.TheVariants.{Memory as OutOfMemory};
 
 use crate::cluster::Cluster;
@@ -19,7 +19,7 @@ use requests::{Reply, Request};
 use rounds::Reconcile;
 
 impl Cluster {
-    /// One event. One that is not enabled changes nothing.
+    /// One event. One that is not enabled changes nothing. At a fault the controllers stand where they stood.
     pub(crate) fn happen<C: Reconcile>(
         &mut self,
         controllers: &mut [C],
@@ -31,6 +31,7 @@ impl Cluster {
         ensures present { length self.new.callers.present.items ≡ length self.old.callers.present.items }
         ensures follows { OnOk result (Follows self.new) }
         ensures shows { OnOk result (Happens C.reconciler C.phase C.is_waiting event.now self.old self.new controllers.old controllers.new) }
+        ensures stays { OnErr result (Stay C.reconciler C.phase controllers.old controllers.new) }
         ensures too_many { IsErrOf result ClusterFault.TooManyCallers → Exceeds C.reconciler C.phase C.is_waiting event.now self.old controllers.old }
         ensures reasons { IfErr result IsShort }
     {
@@ -65,6 +66,7 @@ impl Cluster {
         ensures present { length self.new.callers.present.items ≡ length self.old.callers.present.items }
         ensures follows { OnOk result (Follows self.new) }
         ensures shows { OnOk result (Happens C.reconciler C.phase C.is_waiting (Next number) self.old self.new controllers.old controllers.new) }
+        ensures stays { OnErr result (Stay C.reconciler C.phase controllers.old controllers.new) }
         ensures too_many { IsErrOf result ClusterFault.TooManyCallers → Exceeds C.reconciler C.phase C.is_waiting (Next number) self.old controllers.old }
         ensures reasons { IfErr result IsShort }
     {
@@ -93,7 +95,8 @@ impl Cluster {
         self.hand_quietly(Event::Call(caller, request))
     }
 
-    /// The controller forgets its round, and goes on as another caller.
+    /// The controller forgets its round, and goes on as another caller. It does so once the other one is there, so that at a
+    /// fault it stands where it stood.
     fn crash<C: Reconcile>(
         &mut self,
         controllers: &mut [C],
@@ -106,13 +109,15 @@ impl Cluster {
         ensures present { length self.new.callers.present.items ≡ length self.old.callers.present.items }
         ensures follows { OnOk result (Follows self.new) }
         ensures shows { OnOk result (Happens C.reconciler C.phase C.is_waiting (Crash number) self.old self.new controllers.old controllers.new) }
+        ensures stays { OnErr result (Stay C.reconciler C.phase controllers.old controllers.new) }
         ensures too_many { IsErrOf result ClusterFault.TooManyCallers → Exceeds C.reconciler C.phase C.is_waiting (Crash number) self.old controllers.old }
         ensures reasons { IfErr result IsShort }
     {
         let caller = self.callers.present[number];
         self.callers.renew(number)?;
+        self.hand_quietly(Event::Crash(caller))?;
         controllers[number].crash();
-        self.hand_quietly(Event::Crash(caller))
+        Ok(())
     }
 
     /// A step of the store.
@@ -127,6 +132,7 @@ impl Cluster {
         ensures present { length self.new.callers.present.items ≡ length self.old.callers.present.items }
         ensures follows { OnOk result (Follows self.new) }
         ensures shows { OnOk result (Happens C.reconciler C.phase C.is_waiting (Step event.now) self.old self.new controllers.old controllers.new) }
+        ensures stays { OnErr result (Stay C.reconciler C.phase controllers.old controllers.new) }
         ensures too_many { IsErrOf result ClusterFault.TooManyCallers → Exceeds C.reconciler C.phase C.is_waiting (Step event.now) self.old controllers.old }
         ensures reasons { IfErr result IsShort }
     {
@@ -157,7 +163,9 @@ impl Cluster {
         ensures present { length self.new.callers.present.items ≡ length self.old.callers.present.items }
         ensures follows { OnOk result (Follows self.new) }
         ensures shows { OnOk result (Happens C.reconciler C.phase C.is_waiting (Step (event.Reply caller)) self.old self.new controllers.old controllers.new) }
-        ensures too_many { IsErrOf result ClusterFault.TooManyCallers → Exceeds C.reconciler C.phase C.is_waiting (Step (event.Reply caller)) self.old controllers.old }
+        ensures stays { OnErr result (Stay C.reconciler C.phase controllers.old controllers.new) }
+        ensures too_many { IsErrOf result ClusterFault.TooManyCallers
+            → Exceeds C.reconciler C.phase C.is_waiting (Step (event.Reply caller)) self.old controllers.old }
         ensures reasons { IfErr result IsShort }
     {
         if !self.callers.is_used(caller) {
@@ -166,6 +174,7 @@ impl Cluster {
         let controller = self.callers.controller_at(caller);
         let told = self.hand(Event::Reply(caller))?;
         let heard = hear(controllers, controller, &told);
+        // Let go by name, which is proved once for the type and not at each way out.
         drop(told);
         heard
     }
@@ -183,6 +192,7 @@ impl Cluster {
         if self.callers.is_used(caller) {
             return self.hand_quietly(event);
         }
+        // Let go by name, which is proved once for the type and not at each way out.
         drop(event);
         Ok(())
     }
@@ -193,7 +203,8 @@ impl Cluster {
         ensures present { self.new.callers ≡ self.old.callers }
         ensures follows { OnOk result (Follows self.new) }
         ensures shows { OnOk result (Becomes (λ k. hand_if (is_used k caller && is_nobody (controller_at k caller)) k (event.Crash caller)) self.old self.new) }
-        ensures too_many { IsErrOf result ClusterFault.TooManyCallers → Overfills (λ k. hand_if (is_used k caller && is_nobody (controller_at k caller)) k (event.Crash caller)) self.old }
+        ensures too_many { IsErrOf result ClusterFault.TooManyCallers
+            → Overfills (λ k. hand_if (is_used k caller && is_nobody (controller_at k caller)) k (event.Crash caller)) self.old }
         ensures reasons { IfErr result IsShort }
     {
         if self.callers.controller_at(caller).is_some() {
@@ -208,7 +219,8 @@ impl Cluster {
         ensures callers { self.new.callers ≡ self.old.callers }
         ensures follows { OnOk result (Follows self.new) }
         ensures hands { OnOk result (Hands event self.old self.new) }
-        ensures too_many { IsErrOf result ClusterFault.TooManyCallers → (size : Size) (events : List Event) → IsAfter size events self.old.replay → 4096 < callers (events ++ event ∷ []) }
+        ensures too_many { IsErrOf result ClusterFault.TooManyCallers → (size : Size) (events : List Event)
+            → IsAfter size events self.old.replay → 4096 < callers (events ++ event ∷ []) }
         ensures reasons { IfErr result IsShort }
     {
         drop(self.hand(event)?);
@@ -222,10 +234,12 @@ impl Cluster {
         ensures follows { OnOk result (Follows self.new) }
         ensures hands { OnOk result (Hands event self.old self.new) }
         ensures told { IfOk result (λ told. (size : Size) (events : List Event) → IsAfter size events self.old.replay → IsReplyTo size events event told) }
-        ensures too_many { IsErrOf result ClusterFault.TooManyCallers → (size : Size) (events : List Event) → IsAfter size events self.old.replay → 4096 < callers (events ++ event ∷ []) }
+        ensures too_many { IsErrOf result ClusterFault.TooManyCallers → (size : Size) (events : List Event)
+            → IsAfter size events self.old.replay → 4096 < callers (events ++ event ∷ []) }
         ensures reasons { IfErr result IsShort }
     {
         if self.events.reserve(1).is_err() {
+            // Let go by name, which is proved once for the type and not at each way out.
             drop(event);
             return Err(ClusterFault::Memory);
         }
@@ -251,6 +265,7 @@ fn hear<C: Reconcile>(
     requires { IfSome number (λ c. c < length controllers.old) }
     ensures many { length controllers.new ≡ length controllers.old }
     ensures hears { OnOk result (Hears C.reconciler C.phase C.is_waiting controllers.old controllers.new number told.now) }
+    ensures stays { OnErr result (Stay C.reconciler C.phase controllers.old controllers.new) }
     ensures memory { IfErr result (λ reason. reason ≡ OutOfMemory) }
 {
     let Some(number) = number else {

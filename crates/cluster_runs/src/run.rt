@@ -1,10 +1,10 @@
-ghost use Rattle.std.specs.Prelude.{◌≡◌, ◌<◌, ◌≤◌, ◌↔◌, ℕ, length, IfOk, IsErrOf};
+ghost use Rattle.std.specs.Prelude.{◌≡◌, ◌<◌, ◌≤◌, ◌↔◌, ℕ, length, take, IfOk, IsErrOf, OnErr, OnOk};
 ghost use Rattle.std.specs.List.{AllByRecursion};
 ghost use Rattle.plain_store.specs.Reached.{most_revisions};
 ghost use Rattle.rounds.specs.Phase.{reading_set};
 ghost use Rattle.rounds.specs.Reconciler.{Reconciler};
 ghost use Rattle.rounds.specs.Sound.{IsSound};
-ghost use Rattle.rounds.specs.World.{AreMadeOf};
+ghost use Rattle.rounds.specs.World.{AreMadeOf, StandAt};
 ghost use Rattle.clusters.specs.Ordered.{OrderKeepsPromises};
 ghost use Rattle.cluster_runs.specs.Ran.{IsClusterRun, cluster_after};
 
@@ -28,8 +28,13 @@ pub struct ClusterRun {
 /// then it changes nothing. What the store's run shows is explained by an order in which one plain store takes the requests
 /// whole, and in that order they keep the promises of sound controllers: between two accepted creates of one key stands an
 /// accepted removal of the first one's UID; what an accepted delete of a plan takes has the UID that was listed for the plan;
-/// each create of a controller comes from its plan over what was answered to it since its last crash, and in that round; and
-/// when a controller's delete removes a claim, no object of its namespace has the UID of an owner of it, and none ever will.
+/// each create of a controller comes from its plan over what was answered to it since its last crash, and in that round; each
+/// delete of a controller is of a pod or a revision and comes from such a plan, or it is of a claim and comes from a collection
+/// of that round; and when a controller's delete removes a claim, no object of its namespace has the UID of an owner of it,
+/// and none ever will.
+///
+/// Each controller keeps its reconciler, and stands where the events left it; at a fault, where those before the one that
+/// failed left it. So each of them can crash, and another run follow.
 pub fn run_cluster<C: Reconcile>(
     alloc: Global,
     shards: usize,
@@ -44,6 +49,13 @@ pub fn run_cluster<C: Reconcile>(
         → ((c : ℕ) → IsSound (reconcilers c))
         → OrderKeepsPromises (record { capacity = capacity; shards = shards }) reconcilers
         (cluster_after (record { capacity = capacity; shards = shards }) (length controllers.old) reconcilers events.now) found.run.order.items) }
+    ensures many { length controllers.new ≡ length controllers.old }
+    ensures stand { OnOk result ((reconcilers : ℕ → Reconciler) → AreMadeOf C.reconciler controllers.old reconcilers
+        → StandAt C.reconciler C.phase controllers.new reconcilers
+        (cluster_after (record { capacity = capacity; shards = shards }) (length controllers.old) reconcilers events.now).phases) }
+    ensures stopped { OnErr result ((reconcilers : ℕ → Reconciler) → AreMadeOf C.reconciler controllers.old reconcilers
+        → (n : ℕ) × StandAt C.reconciler C.phase controllers.new reconcilers
+        (cluster_after (record { capacity = capacity; shards = shards }) (length controllers.old) reconcilers (take n events.now)).phases) }
     ensures bad_shards { IsErrOf result ClusterFault.BadShards ↔ (1 ≤ shards → 64 < shards) }
     ensures bad_capacity { IsErrOf result ClusterFault.BadCapacity ↔ ((1 ≤ shards) × (shards ≤ 64) × (1 ≤ capacity → most_revisions < capacity)) }
     ensures too_many { IsErrOf result ClusterFault.TooManyCallers → (reconcilers : ℕ → Reconciler) → AreMadeOf C.reconciler controllers.old reconcilers
@@ -65,6 +77,7 @@ pub fn run_cluster<C: Reconcile>(
         callers,
         events,
     } = cluster;
+    // Let go by name, which is proved once for the type and not at each way out.
     drop(callers);
     Ok(ClusterRun {
         events,

@@ -26,7 +26,10 @@ abbrev pub entries_of : (ℕ → Option Life) → List Item → Store → List �
 entries_of lives items s [] = []
 entries_of lives items s (p ∷ ps) = then_entries lives s (called_at items p) (λ t. entries_of lives items t ps)
 
--- what the store takes in this order keeps the promises
+-- what the store takes in this order
+abbrev pub entries_in : Size → Cluster → List ℕ → List Entry
+entries_in z k order = entries_of k.lives (trace z k.events) (opening z.capacity) order
+
+-- it keeps the promises
 abbrev pub OrderKeepsPromises : Size → (ℕ → Reconciler) → Cluster → List ℕ → Type 0
-OrderKeepsPromises z reconcilers k order =
-    KeepsPromises reconcilers z.capacity (entries_of k.lives (trace z k.events) (opening z.capacity) order)
+OrderKeepsPromises z reconcilers k order = KeepsPromises reconcilers z.capacity (entries_in z k order)

@@ -12,7 +12,7 @@ use Rattle.rounds.specs.Phase.{Phase, acts, from_list, from_set, takes}
 use Rattle.rounds.specs.Reconciler.{Reconciler}
 use Rattle.controllers.specs.declared.progress.Progress.{Progress}
 use Rattle.controllers.specs.declared.progress.Progress.TheVariants.{ReadingSet, ListingRevisions, ListingPods, ListingClaims, Acting, ListingOldClaims, ListingOwnerSets, ListingOwnerPods, ListingOwnerRevisions, ListingOwnerClaims, Deleting}
-use Rattle.controllers.specs.Controller.{refusal_after}
+use Rattle.controllers.specs.Controller.{Refusals, refusal_after, refusals_with}
 use Rattle.controllers.specs.Progress.{is_carrying, is_list, is_listing, is_planning, phase_at, planned_at}
 use Rattle.reconcilers.specs.Planned.{or_none, requested, why_not}
 use Rattle.reconcilers.specs.Reconciler.{reconciler_with}
@@ -48,32 +48,32 @@ claims_heard (ListingClaims set revisions pods) key digits moment claims at repl
 claims_heard _ key digits moment claims at reply h is = absurd (true≢false (sym h))
 
 pub refusal_at_claims : (p : Progress) (digits : ℕ) (moment : List ℕ) (claims : List Object) (at : ℕ) (reply : Reply) (refusal : Option PlanError) → is_planning p ≡ true → reply ≡ Listed claims at
-    → refusal_after digits moment (phase_at p) reply refusal ≡ why_not (planned_at digits moment p claims)
+    → refusal_after (refusals_with digits moment) (phase_at p) reply refusal ≡ why_not (planned_at digits moment p claims)
 unfolding phase_at
-refusal_at_claims (ListingClaims set revisions pods) digits moment claims at reply refusal h is = ap (λ r. refusal_after digits moment (phases.listing_claims set revisions pods) r refusal) is
+refusal_at_claims (ListingClaims set revisions pods) digits moment claims at reply refusal h is = ap (λ r. refusal_after (refusals_with digits moment) (phases.listing_claims set revisions pods) r refusal) is
 refusal_at_claims _ digits moment claims at reply refusal h is = absurd (true≢false (sym h))
 
-pub refusal_unheard : (phase : Phase) (digits : ℕ) (moment : List ℕ) (reply : Reply) (refusal : Option PlanError) → is_list reply ≡ false → refusal_after digits moment phase reply refusal ≡ refusal
-refusal_unheard (phases.listing_claims set revisions pods) digits moment (Listed objects at) refusal h = absurd (true≢false h)
-refusal_unheard phase digits moment reply refusal h = refl
+pub refusal_unheard : (phase : Phase) (refusals : Refusals) (reply : Reply) (refusal : Option PlanError) → is_list reply ≡ false → refusal_after refusals phase reply refusal ≡ refusal
+refusal_unheard (phases.listing_claims set revisions pods) refusals (Listed objects at) refusal h = absurd (true≢false h)
+refusal_unheard phase refusals reply refusal h = refl
 
 pub set_heard : (p : Progress) (c : Reconciler) (reply : Reply) → p ≡ ReadingSet → takes c (phase_at p) reply ≡ from_set reply
 unfolding phase_at takes
 set_heard p c reply is = ap (λ q. takes c (phase_at q) reply) is
 
-pub refusal_at_set : (p : Progress) (digits : ℕ) (moment : List ℕ) (reply : Reply) (refusal : Option PlanError) → p ≡ ReadingSet → refusal_after digits moment (phase_at p) reply refusal ≡ refusal
+pub refusal_at_set : (p : Progress) (refusals : Refusals) (reply : Reply) (refusal : Option PlanError) → p ≡ ReadingSet → refusal_after refusals (phase_at p) reply refusal ≡ refusal
 unfolding phase_at
-refusal_at_set p digits moment reply refusal is = ap (λ q. refusal_after digits moment (phase_at q) reply refusal) is
+refusal_at_set p refusals reply refusal is = ap (λ q. refusal_after refusals (phase_at q) reply refusal) is
 
-pub refusal_stays : (p : Progress) (digits : ℕ) (moment : List ℕ) (reply : Reply) (refusal : Option PlanError) → is_listing p ≡ true → refusal_after digits moment (phase_at p) reply refusal ≡ refusal
+pub refusal_stays : (p : Progress) (refusals : Refusals) (reply : Reply) (refusal : Option PlanError) → is_listing p ≡ true → refusal_after refusals (phase_at p) reply refusal ≡ refusal
 unfolding phase_at
-refusal_stays (ListingClaims set revisions pods) digits moment reply refusal h = absurd (true≢false (sym h))
-refusal_stays p digits moment reply refusal h = refl
+refusal_stays (ListingClaims set revisions pods) refusals reply refusal h = absurd (true≢false (sym h))
+refusal_stays p refusals reply refusal h = refl
 
-pub refusal_carried : (p : Progress) (digits : ℕ) (moment : List ℕ) (reply : Reply) (refusal : Option PlanError) → is_carrying p ≡ true → refusal_after digits moment (phase_at p) reply refusal ≡ refusal
+pub refusal_carried : (p : Progress) (refusals : Refusals) (reply : Reply) (refusal : Option PlanError) → is_carrying p ≡ true → refusal_after refusals (phase_at p) reply refusal ≡ refusal
 unfolding phase_at
-refusal_carried (ListingClaims set revisions pods) digits moment reply refusal h = absurd (true≢false (sym h))
-refusal_carried p digits moment reply refusal h = refl
+refusal_carried (ListingClaims set revisions pods) refusals reply refusal h = absurd (true≢false (sym h))
+refusal_carried p refusals reply refusal h = refl
 
 -- what is neither read nor listed
 pub carries : (p : Progress) → is_listing p ≡ false → (p ≡ ReadingSet → ⊥) → ((set : Object) (revisions pods : List Object) → p ≡ ListingClaims set revisions pods → ⊥) → is_carrying p ≡ true

@@ -1,10 +1,10 @@
 -- A create of a pod that a controller asks for is an action of its plan, and so comes in turn.
-use Rattle.std.proofs.Common.{◌≡◌, inl, inr, ℕ, ◌^◌, ◌<◌, ◌+◌, Bool, true, false, cond, List, [], ◌∷◌, ◌++◌, Option, Some, None, Result, Ok, Err, map, find, length, refl, sym, ap, ◌∙◌, subst, true≢false}
+use Rattle.std.proofs.Common.{◌≡◌, inl, inr, ℕ, ◌^◌, ◌<◌, ◌≤◌, ◌+◌, Bool, true, false, cond, List, [], ◌∷◌, ◌++◌, Option, Some, None, Result, Ok, Err, map, filter, find, length, length-append, refl, sym, ap, ◌∙◌, subst, true≢false, arith}
 use Rattle.std.specs.Prelude.{⊤, ◌==◌, bytes_eq, nat_le, nat_lt, not, option_and_then, if◌then◌else◌, reverse}
 use Rattle.std.specs.List.{AllByRecursion, Contains, cons_option, filter_map, flat_map, list_any}
 use Rattle.std.specs.Option.{option_map_or}
 use Rattle.std.proofs.lemmas.Bool.{and_parts}
-use Rattle.std.proofs.lemmas.List.Elements.{All-from_recursion, recursion_from_All}
+use Rattle.std.proofs.lemmas.List.Elements.{All-from_recursion, Contains-append_cases, filter-append, recursion_from_All}
 use Rattle.std.proofs.lemmas.List.Sorted.{All-permutation, IsPermutation-reverse}
 use Rattle.serde_json.specs.Data.{Data}
 use Rattle.serde_json.specs.Written.{compact_text}
@@ -13,6 +13,7 @@ use Rattle.objects.specs.declared.kind.Kind.{Kind}
 use Rattle.objects.specs.declared.kind.Kind.TheVariants as kinds
 use Rattle.objects.specs.declared.object.Draft.{Draft}
 use Rattle.objects.specs.declared.object.Object.{Object}
+use Rattle.objects.specs.Key.{is_key, key_parts}
 use Rattle.objects.specs.Names.{most_label}
 use Rattle.objects.specs.PodNames.{claim_name}
 use Rattle.objects.specs.Uid.{uid_text}
@@ -34,33 +35,40 @@ use Rattle.revisions.specs.Name.{first_free, most_tries, revision_name}
 use Rattle.revisions.specs.Plan as revision_plans
 use Rattle.revisions.specs.Plan.{created, renumbered, settled, plan_of}
 use Rattle.revisions.specs.Revision.{first_of_each, is_held, is_listed, is_owned, is_revision, listed, owned_among, revision_cmp}
+use Rattle.scaling.specs.declared.step.Revision.{Revision}
 use Rattle.scaling.specs.declared.step.Step.{Step}
 use Rattle.scaling.specs.declared.step.Step.TheVariants as steps
+use Rattle.scaling.specs.Listed.{is_named}
 use Rattle.scaling.specs.Replicas.{Pods}
 use Rattle.scaling.specs.Step.{is_of_pod}
 use Rattle.scaling.specs.Views.{is_pod}
 use Rattle.scaling.specs.Whole as scaling
-use Rattle.scaling.proofs.AtOnce.{alone}
+use Rattle.scaling.proofs.AtOnce.{alone, nowhere}
+use Rattle.scaling.proofs.Causes as causes
+use Rattle.scaling.proofs.Causes.{created_is_absent}
+use Rattle.scaling.proofs.Firsts.{replicas_in_order}
+use Rattle.scaling.proofs.ListedPlans.{created_is_free}
 use Rattle.manifests.specs.BuiltClaim.{built_claim}
 use Rattle.manifests.specs.BuiltStatus.{built_status}
 use Rattle.claims.specs.declared.change.ClaimChange.{ClaimChange}
 use Rattle.claims.specs.declared.change.ClaimChange.TheVariants as changes
-use Rattle.claims.specs.Changes.{all_made, entries_of, made, update, updated}
+use Rattle.claims.specs.Changes.{all_made, entries_of, kept_claims, made, made_claims, released_claims, update, updated}
 use Rattle.claims.specs.Listed.{listed_claim}
 use Rattle.claims.specs.Owners.{owner_in_range, owner_of_condemned, wanted}
 use Rattle.collector.specs.Collectable.{Among}
 use Rattle.sets.specs.declared.action.Action.{Action}
 use Rattle.sets.specs.declared.action.Action.TheVariants.{CreateClaim, CreatePod, DeletePod, UpdateClaim, WriteRevision, DeleteRevision, WriteStatus, Wait}
-use Rattle.sets.specs.Actions.{Claims, actions_of, changes_in, claim_action, claim_actions, name_at}
-use Rattle.sets.specs.Laws.{HasHealthyTarget}
+use Rattle.sets.specs.Actions.{Claims, actions_of, changes_in, claim_action, claim_actions, name_at, new_pod, revision_of}
+use Rattle.sets.specs.Laws.{HasHealthyTarget, is_on_pod as acts_on_pod}
 use Rattle.sets.specs.Plan.{fitting, plan_by, plan_of_pods, refusal}
 use Rattle.sets.specs.Planned.{owned_of, planned, views_of}
 use Rattle.sets.specs.Whole.{current_name, deletion, deletions, status_of, status_write, whole}
 use Rattle.sets.proofs.Ordered.{all_among, all_in_order}
-use Rattle.sets.proofs.Origins.{created_alone, creates_in_turn, in_take, planned_over, renumbered_alone}
+use Rattle.sets.proofs.Origins.{created_alone, healthy_target, in_take, is_from_step, one_pod, origin, planned_over, renumbered_alone}
 use Rattle.sets.proofs.Owned.{filtered, total}
 use Rattle.rounds.proofs.Lists.{among_contained, among_either, contains_among}
 use Rattle.reconcilers.specs.Planned.{as_read, deletions as removals, key_of, new, or_none, request_of, requested, requested_for, requests_of, version_text}
+use Rattle.controllers.specs.InTurn.{IsInTurn, is_on_pod}
 
 module _ {X : Type 0} (P : X → Type 0) where
   all_joined : (xs ys : List X) → AllByRecursion P xs → AllByRecursion P ys → AllByRecursion P (xs ++ ys)
@@ -263,9 +271,82 @@ refused set views e actions is = let clash : false ≡ true = ap is_made is in t
 writes_alone : (actions : List Action) (x : Object) (a : Action) → actions ≡ WriteRevision x ∷ [] → Contains actions a → WriteRevision x ≡ a
 writes_alone actions x a is at = alone (WriteRevision x) a (subst (λ (l : List Action). Contains l a) is at)
 
--- the ordinal of a pod that is created, whose lower ones in range have healthy pods
-abbrev IsInTurn : SetParts → List PodParts → Object → Type 0
-IsInTurn set views pod = (i : ℕ) × (pod.key.name ≡ name_at set i) × ((j : ℕ) → in_range set j ≡ true → j < i → HasHealthyTarget set views j)
+-- ---- what creates a pod is the step of its ordinal
+
+creates_pod : Action → Bool
+creates_pod (CreateClaim o) = false
+creates_pod (CreatePod o) = true
+creates_pod (DeletePod name uid) = false
+creates_pod (UpdateClaim o) = false
+creates_pod (WriteRevision o) = false
+creates_pod (DeleteRevision name uid version) = false
+creates_pod (WriteStatus o) = false
+creates_pod (Wait cause name) = false
+
+no_change : (change : ClaimChange) → creates_pod (claim_action change) ≡ false
+unfolding creates_pod
+no_change (changes.Create o) = refl
+no_change (changes.Update o) = refl
+
+other_than : (x a : Action) → creates_pod x ≡ false → creates_pod a ≡ true → Contains (x ∷ []) a → ⊥
+other_than x a none one h = true≢false (sym one ∙ ap creates_pod (sym (alone x a h)) ∙ none)
+
+not_of_claims : (changes : List ClaimChange) (a : Action) → creates_pod a ≡ true → Contains (claim_actions changes) a → ⊥
+not_of_claims [] a one h = nowhere a h
+not_of_claims (change ∷ changes) a one h =
+    elim (Contains-append_cases (claim_action change ∷ []) (claim_actions changes) a h) [
+      | inl k ↦ other_than (claim_action change) a (no_change change) one k
+      | inr k ↦ not_of_claims changes a one k
+    ]
+
+pod_in : Object → Action → Object
+pod_in x (CreateClaim o) = x
+pod_in x (CreatePod o) = o
+pod_in x (DeletePod name uid) = x
+pod_in x (UpdateClaim o) = x
+pod_in x (WriteRevision o) = x
+pod_in x (DeleteRevision name uid version) = x
+pod_in x (WriteStatus o) = x
+pod_in x (Wait cause name) = x
+
+created_from : (set : SetParts) (claims : Claims) (current newest : Object) (s : Step) (pod : Object) → Contains (actions_of set claims current newest s) (CreatePod pod)
+    → (i : ℕ) × (revision : Revision) × (s ≡ steps.CreatePod i revision) × (new_pod set (revision_of current newest revision) i ≡ pod)
+unfolding actions_of creates_pod pod_in
+created_from set claims current newest (steps.MakeClaims i) pod h = absurd (not_of_claims (changes_in (made_claims set claims i)) (CreatePod pod) refl h)
+created_from set claims current newest (steps.KeepClaims i) pod h = absurd (not_of_claims (kept_claims set claims i) (CreatePod pod) refl h)
+created_from set claims current newest (steps.ReleaseClaims i uid) pod h = absurd (not_of_claims (released_claims set claims i uid) (CreatePod pod) refl h)
+created_from set claims current newest (steps.CreatePod i revision) pod h =
+    (i, revision, refl, ap (pod_in pod) (alone (CreatePod (new_pod set (revision_of current newest revision) i)) (CreatePod pod) h))
+created_from set claims current newest (steps.DeletePod i uid) pod h = absurd (other_than (DeletePod (name_at set i) uid) (CreatePod pod) refl refl h)
+created_from set claims current newest (steps.Wait i cause) pod h = absurd (other_than (Wait cause (name_at set i)) (CreatePod pod) refl refl h)
+
+-- the pod is of the least ordinal in range without a healthy one, under a name that no listed pod has
+record IsNext (set : SetParts) (views : List PodParts) (pod : Object) : Type 0 where
+  pub ordinal : ℕ
+  pub name_is : pod.key.name ≡ name_at set ordinal
+  pub within : in_range set ordinal ≡ true
+  pub absent : find (is_named set ordinal) views ≡ None
+  pub lower : (j : ℕ) → in_range set j ≡ true → j < ordinal → HasHealthyTarget set views j
+
+abbrev IsFew : List Action → Type 0
+IsFew actions = length (filter acts_on_pod actions) ≤ 1
+
+created_next : (set : SetParts) (claims : Claims) (views : List PodParts) (owned : List Object) (current newest : Object) (actions : List Action) (pod : Object) → set.policy ≡ OrderedReady
+    → plan_of_pods set claims views owned current newest ≡ Ok actions → Contains actions (CreatePod pod) → IsNext set views pod
+unfolding is_from_step
+created_next set claims views owned current newest actions pod policy e h =
+    let p = planned_over set claims views owned current newest actions e in
+    let s = origin set claims views owned current newest actions p.0 (CreatePod pod) refl p.1 h in
+    let c = created_from set claims current newest s.0 pod s.2 in
+    let there = subst (λ (x : Step). Contains (scaling.planned set p.0) x) c.2 s.1 in
+    record {
+      ordinal = c.0;
+      name_is = ap (λ (o : Object). o.key.name) (sym c.3);
+      within = (created_is_absent set p.0 c.0 c.1 (replicas_in_order set newest.key.name current.key.name views p.0 p.1.0) there).0;
+      absent = created_is_free set newest.key.name current.key.name views p.0 c.0 c.1 p.1.0 there;
+      lower = λ j inside below.
+          healthy_target set newest.key.name current.key.name views p.0 j p.1.0 (causes.created_in_turn set p.0 c.0 j c.1 policy there inside below);
+    }
 
 module _ (set : SetParts) (claims : Claims) (views : List PodParts) (actions : List Action) where
   apart : (p : Result revision_plans.Planned PlanError) (a : Action) → IsRevisionPlan p → plan_by set claims views p ≡ Ok actions → Contains actions a → IsApart a
@@ -275,11 +356,13 @@ module _ (set : SetParts) (claims : Claims) (views : List PodParts) (actions : L
   apart (Ok (settled owned current newest)) a other e at = apart_in_place set claims views owned current newest actions a e at
   apart (Err x) a other e at = absurd (refused set views x actions e)
 
-  in_turn : (p : Result revision_plans.Planned PlanError) (pod : Object) → set.policy ≡ OrderedReady → plan_by set claims views p ≡ Ok actions → Contains actions (CreatePod pod) → IsInTurn set views pod
+  in_turn : (p : Result revision_plans.Planned PlanError) (pod : Object) → set.policy ≡ OrderedReady → plan_by set claims views p ≡ Ok actions → Contains actions (CreatePod pod)
+      → IsNext set views pod × IsFew actions
   unfolding plan_by
   in_turn (Ok (created x)) pod policy e at = let clash : WriteRevision x ≡ CreatePod pod = writes_alone actions x (CreatePod pod) (created_alone set claims views actions x e) at in absurd (cc)
   in_turn (Ok (renumbered x)) pod policy e at = let clash : WriteRevision x ≡ CreatePod pod = writes_alone actions x (CreatePod pod) (renumbered_alone set claims views actions x e) at in absurd (cc)
-  in_turn (Ok (settled owned current newest)) pod policy e at = creates_in_turn set claims views owned current newest actions pod policy e at
+  in_turn (Ok (settled owned current newest)) pod policy e at =
+      (created_next set claims views owned current newest actions pod policy e at, one_pod set claims views owned current newest actions policy e)
   in_turn (Err x) pod policy e at = absurd (refused set views x actions e)
 
 -- ---- requests
@@ -337,22 +420,107 @@ module _ (d : Draft) where
   asks Q actions namespace moment (WriteStatus o) each kind other at h = let clash : Create d ≡ UpdateStatus (as_read o) = only (UpdateStatus (as_read o)) h in absurd (cc)
   asks Q actions namespace moment (Wait cause name) each kind other at h = absurd h
 
+-- ---- how many requests there are for pods
+
+least_of : (b : Bool) (r : Request) → length (cond b (r ∷ []) []) ≤ 1
+least_of true r = omega arith
+least_of false r = omega arith
+
+none_of : (b : Bool) (r : Request) → b ≡ false → length (cond b (r ∷ []) []) ≤ 0
+none_of b r is = subst (λ c. length (cond c (r ∷ []) []) ≤ 0) (sym is) (omega arith)
+
+few_removals : (key : Option Key) (uid : ℕ) (version at : Option (List ℕ)) → length (filter is_on_pod (removals key uid version at)) ≤ 1
+few_removals None uid version at = omega arith
+few_removals (Some k) uid version at =
+    elim (nat_lt uid (2 ^ 48)) as (λ b. length (filter is_on_pod (cond b (Delete k (Some (uid_text uid)) version at ∷ []) [])) ≤ 1) [
+      | true ↦ least_of (is_pod k.kind) (Delete k (Some (uid_text uid)) version at)
+      | false ↦ omega arith
+    ]
+
+no_removals : (namespace name : List ℕ) (uid : ℕ) (version at : Option (List ℕ)) → length (filter is_on_pod (removals (key_of kinds.ControllerRevision namespace name) uid version at)) ≤ 0
+no_removals namespace name uid version at =
+    elim (is_key (key_parts kinds.ControllerRevision namespace name))
+    as (λ b. length (filter is_on_pod (removals (cond b (Some (key_parts kinds.ControllerRevision namespace name)) None) uid version at)) ≤ 0) [
+      | true ↦ elim (nat_lt uid (2 ^ 48))
+          as (λ b. length (filter is_on_pod (cond b (Delete (key_parts kinds.ControllerRevision namespace name) (Some (uid_text uid)) version at ∷ []) [])) ≤ 0) [
+            | true ↦ omega arith
+            | false ↦ omega arith
+          ]
+      | false ↦ omega arith
+    ]
+
+few_writes : (b : Bool) (o : Object) → IsOther o → length (filter is_on_pod (cond b (Create (new o)) (Update (as_read o)) ∷ [])) ≤ 0
+few_writes true o other = none_of (is_pod o.key.kind) (Create (new o)) other
+few_writes false o other = omega arith
+
+few_of : (namespace moment : List ℕ) (a : Action) → IsApart a → length (filter is_on_pod (request_of namespace moment a)) ≤ length (filter acts_on_pod (a ∷ []))
+few_of namespace moment (CreateClaim o) other = none_of (is_pod o.key.kind) (Create (new o)) other
+few_of namespace moment (CreatePod o) other = least_of (is_pod o.key.kind) (Create (new o))
+few_of namespace moment (DeletePod name uid) other = few_removals (key_of kinds.Pod namespace name) uid None (Some moment)
+few_of namespace moment (UpdateClaim o) other = omega arith
+few_of namespace moment (WriteRevision o) other = few_writes (o.meta.uid == 0) o other
+few_of namespace moment (DeleteRevision name uid version) other = no_removals namespace name uid (Some (version_text version)) None
+few_of namespace moment (WriteStatus o) other = omega arith
+few_of namespace moment (Wait cause name) other = omega arith
+
+few_requests : (namespace moment : List ℕ) (actions : List Action) → AllByRecursion IsApart actions
+    → length (filter is_on_pod (requests_of namespace moment actions)) ≤ length (filter acts_on_pod actions)
+few_requests namespace moment [] all = omega arith
+few_requests namespace moment (a ∷ rest) all =
+    let one = few_of namespace moment a all.0 in
+    let more = few_requests namespace moment rest all.1 in
+    let asked : length (filter is_on_pod (requests_of namespace moment (a ∷ rest))) ≡ length (filter is_on_pod (request_of namespace moment a)) + length (filter is_on_pod (requests_of namespace moment rest)) =
+    ap length (filter-append is_on_pod (request_of namespace moment a) (requests_of namespace moment rest))
+    ∙ length-append (filter is_on_pod (request_of namespace moment a)) (filter is_on_pod (requests_of namespace moment rest)) in
+    let acted : length (filter acts_on_pod (a ∷ rest)) ≡ length (filter acts_on_pod (a ∷ [])) + length (filter acts_on_pod rest) =
+    ap length (filter-append acts_on_pod (a ∷ []) rest) ∙ length-append (filter acts_on_pod (a ∷ [])) (filter acts_on_pod rest) in
+    omega (arith, one, more, asked, acted)
+
+among_filter : (p : Request → Bool) (r : Request) (rs : List Request) → p r ≡ true → Among r rs → Among r (filter p rs)
+among_filter p r [] holds at = absurd at
+among_filter p r (x ∷ rs) holds (inl is) = subst (λ b. Among r (cond b (x ∷ filter p rs) (filter p rs))) (sym holds ∙ ap p is) (inl is)
+among_filter p r (x ∷ rs) holds (inr at) =
+    elim (p x) as (λ b. Among r (cond b (x ∷ filter p rs) (filter p rs))) [
+      | true ↦ inr (among_filter p r rs holds at)
+      | false ↦ among_filter p r rs holds at
+    ]
+
+single : (r : Request) (rs : List Request) → length rs ≤ 1 → Among r rs → rs ≡ r ∷ []
+single r [] few at = absurd at
+single r (x ∷ []) few (inl is) = ap (λ y. y ∷ []) (sym is)
+single r (x ∷ []) few (inr at) = absurd at
+single r (x ∷ y ∷ rs) few at = absurd (omega (arith, few))
+
 made_in_turn : (set : SetParts) (digits : ℕ) (moment : List ℕ) (revisions pods claims : List Object) (requests : List Request) (d : Draft) (p : Result (List Action) PlanError) → set.policy ≡ OrderedReady
     → planned set digits revisions pods claims ≡ p → (p >>= λ actions. Ok (requests_of set.object.key.namespace moment actions)) ≡ Ok requests → Among (Create d) requests → is_pod d.object.key.kind ≡ true
-    → IsInTurn set (views_of set pods) d.object
+    → IsInTurn set pods requests d
 unfolding planned is_made
 made_in_turn set digits moment revisions pods claims requests d (Err e) policy plan is at kind = let clash : false ≡ true = ap is_made is in absurd (true≢false (sym clash))
 made_in_turn set digits moment revisions pods claims requests d (Ok actions) policy plan is at kind =
+    let namespace = set.object.key.namespace in
     let held : List ℕ → Bool = is_held (listed set revisions) in
+    let views = views_of set pods in
     let p : Result revision_plans.Planned PlanError = plan_of set held digits (owned_of set revisions) in
-    let x = in_requests set.object.key.namespace moment actions (Create d) (subst (λ (l : List Request). Among (Create d) l) (sym (ap or_none is)) at) in
-    let there : Contains actions x.0 = contains_among x.0 actions x.1 in
-    asks d (IsInTurn set (views_of set pods)) actions set.object.key.namespace moment x.0
-    (λ pod created. in_turn set (listed_claim set claims) (views_of set pods) actions p pod policy plan created) kind
-    (apart set (listed_claim set claims) (views_of set pods) actions p x.0 (revision_is_other set held digits (owned_of set revisions) (owned_are_other set revisions)) plan there) there x.2
+    let made : requests_of namespace moment actions ≡ requests = ap or_none is in
+    let all : AllByRecursion IsApart actions = all_among IsApart actions (λ a among. apart set (listed_claim set claims) views actions p a
+    (revision_is_other set held digits (owned_of set revisions) (owned_are_other set revisions)) plan (contains_among a actions among)) in
+    let x = in_requests namespace moment actions (Create d) (subst (λ (l : List Request). Among (Create d) l) (sym made) at) in
+    let next = asks d (λ pod. IsNext set views pod × IsFew actions) actions namespace moment x.0
+    (λ pod created. in_turn set (listed_claim set claims) views actions p pod policy plan created) kind (among_all IsApart actions x.0 all x.1) (contains_among x.0 actions x.1) x.2 in
+    let few = few_requests namespace moment actions all in
+    let one = next.1 in
+    record {
+      ordinal = next.0.ordinal;
+      name_is = next.0.name_is;
+      within = next.0.within;
+      absent = next.0.absent;
+      lower = next.0.lower;
+      alone = single (Create d) (filter is_on_pod requests) (subst (λ (l : List Request). length (filter is_on_pod l) ≤ 1) made (omega (arith, few, one)))
+          (among_filter is_on_pod (Create d) requests kind at);
+    }
 
 pub created_in_turn : (o : Object) (set : SetParts) (digits : ℕ) (moment : List ℕ) (revisions pods claims : List Object) (requests : List Request) (d : Draft) → set_of o ≡ Ok set → set.policy ≡ OrderedReady
-    → requested o digits moment revisions pods claims ≡ Ok requests → Among (Create d) requests → d.object.key.kind ≡ kinds.Pod → IsInTurn set (views_of set pods) d.object
+    → requested o digits moment revisions pods claims ≡ Ok requests → Among (Create d) requests → d.object.key.kind ≡ kinds.Pod → IsInTurn set pods requests d
 unfolding requested requested_for
 created_in_turn o set digits moment revisions pods claims requests d read policy is at kind =
     made_in_turn set digits moment revisions pods claims requests d (planned set digits revisions pods claims) policy refl

@@ -3,3 +3,4 @@ pub mod Later
 pub mod Wholes
 pub mod Named
 pub mod InTurn
+pub mod Turns

@@ -1,5 +1,5 @@
 -- Controllers made of specs are sound, and made of the reconcilers of these.
-use Rattle.std.proofs.Common.{◌≡◌, ℕ, List, [], Option, Some, None, map, length, sym, ap, ◌∙◌}
+use Rattle.std.proofs.Common.{◌≡◌, ℕ, List, [], Option, Some, None, map, length, refl, sym, ap, ◌∙◌}
 use Rattle.std.specs.Prelude.{IfSome, slice_get, option_map}
 use Rattle.std.specs.Option.{option_map_or}
 use Rattle.std.proofs.lemmas.List.{length-map}
@@ -14,6 +14,7 @@ use Rattle.controllers.specs.declared.controller.Controller.{Controller}
 use Rattle.controllers.specs.declared.set_spec.SetSpec.{SetSpec}
 use Rattle.controllers.specs.Cluster.{reconciler_for, reconciler_named}
 use Rattle.controllers.specs.Controller.{reconciler_of}
+use Rattle.controllers.specs.InTurn.{IsOfSet}
 
 module _ {X Y Z : Type 0} (f : X → Z) (g : Y → Z) where
   pub same_length : (xs : List X) (ys : List Y) → map f xs ≡ map g ys → length xs ≡ length ys
@@ -38,3 +39,11 @@ sound_by d sound (Some s) = is_sound (key_parts StatefulSet s.namespace s.name) 
 pub sound_named : (sets : List SetSpec) (n : ℕ) → IsSound (reconciler_named sets n)
 unfolding reconciler_named
 sound_named sets n = sound_by _ (is_sound (key_parts StatefulSet [] []) 1 []) (slice_get sets n)
+
+of_set : (d : Reconciler) → IsOfSet d → (o : Option SetSpec) → IsOfSet (option_map_or reconciler_for o d)
+of_set d is None = is
+of_set d is (Some s) = (key_parts StatefulSet s.namespace s.name, s.digits, s.moment, refl)
+
+pub sets_named : (sets : List SetSpec) (n : ℕ) → IsOfSet (reconciler_named sets n)
+unfolding reconciler_named
+sets_named sets n = of_set _ (key_parts StatefulSet [] [], 1, [], refl) (slice_get sets n)

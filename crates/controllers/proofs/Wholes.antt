@@ -10,6 +10,7 @@ use Rattle.rounds.specs.World.{AreMadeOf}
 use Rattle.controllers.specs.declared.controller.Controller.{Controller}
 use Rattle.controllers.specs.Controller.{reconciler_of}
 use Rattle.reconcilers.specs.Reconciler.{reconciler_with}
+use Rattle.controllers.specs.InTurn.{IsOfSet}
 use Rattle.controllers.specs.Whole.{reconciler_at}
 use Rattle.reconcilers.proofs.Soundness.{is_sound}
 
@@ -29,3 +30,16 @@ sound_by d sound (Some c) = is_sound c.set c.digits c.moment
 pub sound : (controllers : List Controller) (n : ℕ) → IsSound (reconciler_at controllers n)
 unfolding reconciler_at
 sound controllers n = sound_by _ (is_sound (key_parts StatefulSet [] []) 1 []) (slice_get controllers n)
+
+pub if_some_by : {X : Type 0} (P Q : X → Type 0) (o : Option X) → ((x : X) → P x → Q x) → IfSome o P → IfSome o Q
+if_some_by P Q None goes holds = tt
+if_some_by P Q (Some x) goes holds = goes x holds
+
+of_set : (d : Reconciler) → IsOfSet d → (o : Option Controller) → IsOfSet (option_map_or reconciler_of o d)
+unfolding reconciler_of
+of_set d is None = is
+of_set d is (Some c) = (c.set, c.digits, c.moment, refl)
+
+pub of_sets : (controllers : List Controller) (n : ℕ) → IsOfSet (reconciler_at controllers n)
+unfolding reconciler_at
+of_sets controllers n = of_set _ (key_parts StatefulSet [] [], 1, [], refl) (slice_get controllers n)

@@ -1,5 +1,6 @@
 -- What a controller is made of, and where it stands.
 use Rattle.std.specs.Prelude.{ℕ, Bool, List, Option}
+use Rattle.objects.specs.declared.object.Object.{Object}
 use Rattle.requests.specs.declared.reply.Reply.{Reply}
 use Rattle.requests.specs.declared.reply.Reply.TheVariants.{Listed}
 use Rattle.set_views.specs.declared.fault.PlanError.{PlanError}
@@ -24,7 +25,18 @@ is_waiting c = c.waits
 unfoldable pub refusal_of : Controller → Option PlanError
 refusal_of c = c.refusal
 
+-- which refusal a plan over a set and these lists comes to, if it comes to one
+abbrev pub Refusals : Type 0
+Refusals = (set : Object) → (revisions pods claims : List Object) → Option PlanError
+
+-- those of the plans of a controller with that many digits and that moment
+abbrev pub refusals_with : ℕ → List ℕ → Refusals
+refusals_with digits moment set revisions pods claims = why_not (requested set digits moment revisions pods claims)
+
+unfoldable pub refusals_of : Controller → Refusals
+refusals_of c = refusals_with c.digits c.moment
+
 -- The refusal stays until a plan is made, or another one is refused.
-abbrev pub refusal_after : ℕ → List ℕ → Phase → Reply → Option PlanError → Option PlanError
-refusal_after digits moment (listing_claims set revisions pods) (Listed claims at) refusal = why_not (requested set digits moment revisions pods claims)
-refusal_after digits moment phase reply refusal = refusal
+abbrev pub refusal_after : Refusals → Phase → Reply → Option PlanError → Option PlanError
+refusal_after refusals (listing_claims set revisions pods) (Listed claims at) refusal = refusals set revisions pods claims
+refusal_after refusals phase reply refusal = refusal

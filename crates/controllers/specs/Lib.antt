@@ -1,6 +1,7 @@
 -- ---- what public clauses cite
 pub mod Cluster
 pub mod Controller
+pub mod InTurn
 pub mod Whole
 -- ---- what only proofs use
 pub mod Progress

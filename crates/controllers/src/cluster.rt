@@ -3,10 +3,11 @@ ghost use Rattle.std.specs.Prelude.{◌≡◌, ◌≤◌, ◌<◌, ◌⊎◌, le
 ghost use Rattle.std.specs.List.{AllByRecursion};
 ghost use Rattle.plain_store.specs.Reached.{most_revisions};
 ghost use Rattle.rounds.specs.Phase.{reading_set};
-ghost use Rattle.clusters.specs.Ordered.{OrderKeepsPromises};
+ghost use Rattle.clusters.specs.Ordered.{OrderKeepsPromises, entries_in};
 ghost use Rattle.cluster_runs.specs.Ran.{IsClusterRun, cluster_after};
 ghost use Rattle.controllers.specs.Cluster.{reconciler_for, reconciler_named, size_of};
 ghost use Rattle.controllers.specs.Controller.{phase_of, reconciler_of};
+ghost use Rattle.controllers.specs.InTurn.{PodsComeInTurn};
 
 use crate::cluster_spec::ClusterSpec;
 use crate::controller::Controller;
@@ -18,15 +19,20 @@ use std::alloc::Global;
 
 /// Lets the events happen, one after another. Each is handed on to the store as exactly one event, unless it is not enabled;
 /// then it changes nothing. The order of the run is one in which one plain store takes the requests whole, gives exactly the
-/// replies that were given, and keeps four promises, wherever controllers crash. Between two accepted creates of one key
+/// replies that were given, and keeps five promises, wherever controllers crash. Between two accepted creates of one key
 /// stands an accepted removal of the first one's UID. What an accepted delete of a plan marks or removes has the UID that was
 /// listed for the plan. Each create of a controller comes from its plan over what was answered to it since its last crash,
-/// and in that round. When a controller's delete removes a claim, no object of the claim's namespace has the UID of an owner
-/// of it, and none ever will.
+/// and in that round. Each delete of a controller is of a pod or a revision and comes from such a plan, or it is of a claim
+/// and comes from a collection of that round. When a controller's delete removes a claim, no object of the claim's namespace
+/// has the UID of an owner of it, and none ever will.
+///
+/// Each create of a pod, where its set was read as OrderedReady, is of the least ordinal in range that has no healthy pod in
+/// the list of its plan, under a name that no pod there has; and its plan creates and deletes no other pod.
 ///
 /// # Errors
-/// `BadShards` and `BadCapacity` where these are out of range, `TooManyCallers` where more than 4,096 callers would be used:
-/// controllers, those that they go on as after a crash, and others. `Memory` where an allocation was refused.
+/// The first of these that fits: `BadShards` and `BadCapacity` where these are out of range, `TooManyCallers` where more than
+/// 4,096 callers would be used: controllers, those that they go on as after a crash, and others. `Memory` where an allocation
+/// was refused, which may come before any of them.
 pub fn run_cluster(
     alloc: Global,
     spec: &ClusterSpec,
@@ -35,12 +41,16 @@ pub fn run_cluster(
     ensures run { IfOk result (λ found. IsClusterRun (size_of spec.now) (length spec.now.sets.items) (reconciler_named spec.now.sets.items) events.now found) }
     ensures promises { IfOk result (λ found. OrderKeepsPromises (size_of spec.now) (reconciler_named spec.now.sets.items)
         (cluster_after (size_of spec.now) (length spec.now.sets.items) (reconciler_named spec.now.sets.items) events.now) found.run.order.items) }
+    ensures in_turn { IfOk result (λ found. PodsComeInTurn (reconciler_named spec.now.sets.items) (entries_in (size_of spec.now)
+        (cluster_after (size_of spec.now) (length spec.now.sets.items) (reconciler_named spec.now.sets.items) events.now) found.run.order.items)) }
     ensures bad_shards { IsErrOf result ClusterFault.BadShards → 1 ≤ spec.now.shards → 64 < spec.now.shards }
     ensures shards { IfOk result (λ found. (1 ≤ spec.now.shards) × (spec.now.shards ≤ 64)) }
-    ensures bad_capacity { IsErrOf result ClusterFault.BadCapacity → 1 ≤ spec.now.capacity → most_revisions < spec.now.capacity }
+    ensures bad_capacity { IsErrOf result ClusterFault.BadCapacity → (1 ≤ spec.now.shards) × (spec.now.shards ≤ 64)
+        × (1 ≤ spec.now.capacity → most_revisions < spec.now.capacity) }
     ensures capacity { IfOk result (λ found. (1 ≤ spec.now.capacity) × (spec.now.capacity ≤ most_revisions)) }
-    ensures too_many { IsErrOf result ClusterFault.TooManyCallers
-        → 4096 < length (cluster_after (size_of spec.now) (length spec.now.sets.items) (reconciler_named spec.now.sets.items) events.now).used }
+    ensures too_many { IsErrOf result ClusterFault.TooManyCallers → (1 ≤ spec.now.shards) × (spec.now.shards ≤ 64)
+        × (1 ≤ spec.now.capacity) × (spec.now.capacity ≤ most_revisions)
+        × (4096 < length (cluster_after (size_of spec.now) (length spec.now.sets.items) (reconciler_named spec.now.sets.items) events.now).used) }
 {
     let mut controllers = controllers_of(alloc, spec.sets.as_slice())?;
     cluster_runs::run_cluster(

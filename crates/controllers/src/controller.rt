@@ -24,12 +24,12 @@ pub struct Controller {
 }
 
 impl Controller {
-    ghost use Rattle.controllers.specs.Controller.{is_waiting, phase_of, reconciler_of, refusal_of};
+    ghost use Rattle.controllers.specs.Controller.{is_waiting, phase_of, reconciler_of, refusal_of, refusals_of, refusals_with};
     ghost use Rattle.reconcilers.specs.Reconciler.{reconciler_with};
 
     /// The controller of the set of that namespace and name. The names of new revisions have that many digits, and pods
     /// are marked for deletion with that moment.
-    #[tactic(auto, unfolding(crate::specs::Controller::reconciler_of, crate::specs::Controller::phase_of, crate::specs::Controller::is_waiting, crate::specs::Controller::refusal_of, crate::specs::Progress::phase_at))]
+    #[tactic(auto, unfolding(crate::specs::Controller::reconciler_of, crate::specs::Controller::phase_of, crate::specs::Controller::is_waiting, crate::specs::Controller::refusal_of, crate::specs::Controller::refusals_of, crate::specs::Progress::phase_at))]
     pub fn new(
         alloc: Global,
         namespace: &str,
@@ -46,6 +46,7 @@ impl Controller {
         ensures phase { IfOk result (λ c. phase_of c ≡ reading_set) }
         ensures idle { IfOk result (λ c. is_waiting c ≡ false) }
         ensures refusal { IfOk result (λ c. refusal_of c ≡ None) }
+        ensures refusals { IfOk result (λ c. refusals_of c ≡ refusals_with digits moment.now) }
     {
         let namespace = Text::copy_of(alloc, namespace)?;
         let name = Text::copy_of(alloc, name)?;
@@ -67,12 +68,13 @@ impl Controller {
     }
 
     /// Forgets its round, and why its last plan was refused.
-    #[tactic(auto, unfolding(crate::specs::Controller::reconciler_of, crate::specs::Controller::phase_of, crate::specs::Controller::is_waiting, crate::specs::Controller::refusal_of, crate::specs::Progress::phase_at))]
+    #[tactic(auto, unfolding(crate::specs::Controller::reconciler_of, crate::specs::Controller::phase_of, crate::specs::Controller::is_waiting, crate::specs::Controller::refusal_of, crate::specs::Controller::refusals_of, crate::specs::Progress::phase_at))]
     pub fn crash(&mut self)
         ensures phase { phase_of self.new ≡ reading_set }
         ensures idle { is_waiting self.new ≡ false }
         ensures refusal { refusal_of self.new ≡ None }
         ensures reconciler { reconciler_of self.new ≡ reconciler_of self.old }
+        ensures refusals { refusals_of self.new ≡ refusals_of self.old }
     {
         self.progress = Progress::ReadingSet;
         self.waits = false;

@@ -1,5 +1,5 @@
 //! Laws of controllers, for every set and all lists.
-ghost use Rattle.std.specs.Prelude.{◌≡◌, ◌<◌, ℕ, List, true, Ok};
+ghost use Rattle.std.specs.Prelude.{◌≡◌, ℕ, List, Ok};
 ghost use Rattle.objects.specs.declared.kind.Kind.TheVariants.{Pod};
 ghost use Rattle.objects.specs.declared.object.Draft.{Draft};
 ghost use Rattle.objects.specs.declared.object.Object.{Object};
@@ -8,17 +8,25 @@ ghost use Rattle.requests.specs.declared.request.Request.TheVariants.{Create};
 ghost use Rattle.set_views.specs.declared.policies.Policy.TheVariants.{OrderedReady};
 ghost use Rattle.set_views.specs.Set.{SetParts};
 ghost use Rattle.set_views.specs.SetReading.{set_of};
-ghost use Rattle.set_views.specs.Words.{in_range};
 ghost use Rattle.collector.specs.Collectable.{Among};
-ghost use Rattle.sets.specs.Actions.{name_at};
-ghost use Rattle.sets.specs.Laws.{HasHealthyTarget};
-ghost use Rattle.sets.specs.Planned.{views_of};
+ghost use Rattle.rounds.specs.Promises.{CreatesArePlanned};
+ghost use Rattle.rounds.specs.Reconciler.{Reconciler};
+ghost use Rattle.rounds.specs.Transcript.{Entry};
 ghost use Rattle.reconcilers.specs.Planned.{requested};
+ghost use Rattle.controllers.specs.InTurn.{IsInTurn, IsOfSet, PodsComeInTurn};
 
-/// Under OrderedReady a controller asks for a pod only where each lower ordinal in range has a healthy pod of the set's among
-/// the pods that were listed for that plan.
+/// Under OrderedReady a controller asks for a pod only of an ordinal in range, under a name that none of the pods has that were
+/// listed for that plan, and where each lower ordinal in range has a healthy pod of the set's among them. No other request of
+/// the plan creates or deletes a pod.
 pub fn creates_wait_for_lower_pods()
     ensures { (o : Object) (set : SetParts) (digits : ℕ) (moment : List ℕ) (revisions pods claims : List Object) (requests : List Request) (d : Draft)
-        → set_of o ≡ Ok set → set.policy ≡ OrderedReady → requested o digits moment revisions pods claims ≡ Ok requests → Among (Create d) requests → d.object.key.kind ≡ Pod
-        → (i : ℕ) × (d.object.key.name ≡ name_at set i) × ((j : ℕ) → in_range set j ≡ true → j < i → HasHealthyTarget set (views_of set pods) j) }
+        → set_of o ≡ Ok set → set.policy ≡ OrderedReady
+        → requested o digits moment revisions pods claims ≡ Ok requests → Among (Create d) requests → d.object.key.kind ≡ Pod
+        → IsInTurn set pods requests d }
+{}
+
+/// So does each create of a pod that controllers ask, in whatever a store takes from them and from anybody else.
+pub fn pods_come_in_turn()
+    ensures { (reconcilers : ℕ → Reconciler) (entries : List Entry) → ((c : ℕ) → IsOfSet (reconcilers c))
+        → CreatesArePlanned reconcilers entries → PodsComeInTurn reconcilers entries }
 {}

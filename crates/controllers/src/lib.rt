@@ -19,7 +19,7 @@ pub use cluster_runs::{ClusterFault, ClusterRun};
 pub use cluster_spec::ClusterSpec;
 pub use clusters::ClusterEvent;
 pub use controller::Controller;
-pub use laws::creates_wait_for_lower_pods;
+pub use laws::{creates_wait_for_lower_pods, pods_come_in_turn};
 pub use rounds::{Reconcile, Taken, WholeEvent, WholeRun};
 pub use set_spec::SetSpec;
 pub use whole::run_whole;

@@ -17,6 +17,7 @@ fn list_of(set: &Key, kind: Kind) -> Result<Request, AllocError>
     Ok(Request::List {
         kind,
         namespace: set.namespace.clone()?,
+        // 0 asks for the objects as they are now.
         exact: 0,
     })
 }

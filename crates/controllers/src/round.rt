@@ -10,7 +10,7 @@ ghost use Rattle.controllers.specs.Progress.{is_carrying, is_listing, is_plannin
 ghost use Rattle.reconcilers.specs.Reconciler.{reconciler_with};
 ghost use Rattle.objects.specs.declared.key.Key.{Key};
 ghost use Rattle.controllers.specs.declared.progress.Progress.TheVariants.{ReadingSet};
-ghost use Rattle.controllers.specs.Controller.{is_waiting, phase_of, reconciler_of, refusal_after, refusal_of};
+ghost use Rattle.controllers.specs.Controller.{is_waiting, phase_of, reconciler_of, refusal_after, refusal_of, refusals_of};
 
 use crate::controller::Controller;
 use crate::hearing::{acting, after_action, after_deletion, after_list, after_set, listed};
@@ -24,14 +24,16 @@ use std::alloc::Global;
 use std::mem;
 
 impl Controller {
-    /// The next request. Until its reply is taken, the same again.
-    #[tactic(auto, unfolding(crate::specs::Controller::reconciler_of, crate::specs::Controller::phase_of, crate::specs::Controller::is_waiting, crate::specs::Controller::refusal_of))]
+    /// The next request. Until its reply is taken, the same again. Where memory is short, it waits only if it waited before.
+    #[tactic(auto, unfolding(crate::specs::Controller::reconciler_of, crate::specs::Controller::phase_of, crate::specs::Controller::is_waiting, crate::specs::Controller::refusal_of, crate::specs::Controller::refusals_of))]
     pub fn next(&mut self) -> Result<Request, Memory>
         ensures asked { IfOk result (λ request. request ≡ asks (reconciler_of self.old) (phase_of self.old)) }
         ensures waiting { OnOk result (is_waiting self.new ≡ true) }
+        ensures memory { OnErr result (is_waiting self.new ≡ is_waiting self.old) }
         ensures phase { phase_of self.new ≡ phase_of self.old }
         ensures refusal { refusal_of self.new ≡ refusal_of self.old }
         ensures reconciler { reconciler_of self.new ≡ reconciler_of self.old }
+        ensures refusals { refusals_of self.new ≡ refusals_of self.old }
     {
         let request = asked(self)?;
         self.waits = true;
@@ -40,14 +42,17 @@ impl Controller {
 
     /// Takes the reply to its last request. Where none waits, nothing changes; where memory is short, it stays where it
     /// stands, and goes on waiting.
-    #[tactic(auto, unfolding(crate::specs::Controller::reconciler_of, crate::specs::Controller::phase_of, crate::specs::Controller::is_waiting, crate::specs::Controller::refusal_of))]
+    #[tactic(auto, unfolding(crate::specs::Controller::reconciler_of, crate::specs::Controller::phase_of, crate::specs::Controller::is_waiting, crate::specs::Controller::refusal_of, crate::specs::Controller::refusals_of))]
     pub fn take(&mut self, reply: &Reply) -> Result<(), Memory>
         ensures taken { OnOk result (is_waiting self.old ≡ true → phase_of self.new ≡ takes (reconciler_of self.old) (phase_of self.old) reply.now) }
-        ensures refusal { OnOk result (is_waiting self.old ≡ true → refusal_of self.new ≡ refusal_after self.old.digits self.old.moment (phase_of self.old) reply.now (refusal_of self.old)) }
+        ensures refusal { OnOk result (is_waiting self.old ≡ true
+            → refusal_of self.new ≡ refusal_after (refusals_of self.old) (phase_of self.old) reply.now (refusal_of self.old)) }
         ensures waiting { OnOk result (is_waiting self.new ≡ false) }
         ensures idle { is_waiting self.old ≡ false → (phase_of self.new ≡ phase_of self.old) × (refusal_of self.new ≡ refusal_of self.old) }
-        ensures memory { OnErr result ((phase_of self.new ≡ phase_of self.old) × (refusal_of self.new ≡ refusal_of self.old) × (is_waiting self.new ≡ is_waiting self.old)) }
+        ensures memory { OnErr result ((phase_of self.new ≡ phase_of self.old)
+            × (refusal_of self.new ≡ refusal_of self.old) × (is_waiting self.new ≡ is_waiting self.old)) }
         ensures reconciler { reconciler_of self.new ≡ reconciler_of self.old }
+        ensures refusals { refusals_of self.new ≡ refusals_of self.old }
     {
         if self.waits {
             hear(self, reply)?;
@@ -61,9 +66,11 @@ impl Controller {
 #[tactic(auto, using(crate::proofs::Heard::carries))]
 fn hear(controller: &mut Controller, reply: &Reply) -> Result<(), Memory>
     ensures phase { OnOk result (phase_of controller.new ≡ takes (reconciler_of controller.old) (phase_of controller.old) reply.now) }
-    ensures refusal { OnOk result (refusal_of controller.new ≡ refusal_after controller.old.digits controller.old.moment (phase_of controller.old) reply.now (refusal_of controller.old)) }
+    ensures refusal { OnOk result (refusal_of controller.new
+        ≡ refusal_after (refusals_of controller.old) (phase_of controller.old) reply.now (refusal_of controller.old)) }
     ensures memory { OnErr result ((phase_of controller.new ≡ phase_of controller.old) × (refusal_of controller.new ≡ refusal_of controller.old)) }
     ensures reconciler { reconciler_of controller.new ≡ reconciler_of controller.old }
+    ensures refusals { refusals_of controller.new ≡ refusals_of controller.old }
     ensures waits { controller.new.waits ≡ controller.old.waits }
 {
     if controller.progress.is_listing() {
@@ -84,13 +91,15 @@ fn hear(controller: &mut Controller, reply: &Reply) -> Result<(), Memory>
 }
 
 /// Goes on by the set, or where there is none.
-#[tactic(auto, using(crate::proofs::Heard::set_heard, crate::proofs::Heard::refusal_at_set), unfolding(crate::specs::Controller::reconciler_of, crate::specs::Controller::phase_of, crate::specs::Controller::refusal_of))]
+#[tactic(auto, using(crate::proofs::Heard::set_heard, crate::proofs::Heard::refusal_at_set), unfolding(crate::specs::Controller::reconciler_of, crate::specs::Controller::phase_of, crate::specs::Controller::refusal_of, crate::specs::Controller::refusals_of))]
 fn hear_set(controller: &mut Controller, reply: &Reply) -> Result<(), Memory>
     requires { controller.old.progress ≡ ReadingSet }
     ensures phase { OnOk result (phase_of controller.new ≡ takes (reconciler_of controller.old) (phase_of controller.old) reply.now) }
-    ensures refusal { OnOk result (refusal_of controller.new ≡ refusal_after controller.old.digits controller.old.moment (phase_of controller.old) reply.now (refusal_of controller.old)) }
+    ensures refusal { OnOk result (refusal_of controller.new
+        ≡ refusal_after (refusals_of controller.old) (phase_of controller.old) reply.now (refusal_of controller.old)) }
     ensures memory { OnErr result ((phase_of controller.new ≡ phase_of controller.old) × (refusal_of controller.new ≡ refusal_of controller.old)) }
     ensures reconciler { reconciler_of controller.new ≡ reconciler_of controller.old }
+    ensures refusals { refusals_of controller.new ≡ refusals_of controller.old }
     ensures waits { controller.new.waits ≡ controller.old.waits }
 {
     let progress = after_set(reply)?;
@@ -111,13 +120,15 @@ fn heard_list(alloc: Global, progress: &Progress, reply: &Reply) -> Result<Progr
 }
 
 /// Goes on by a list, but not by that of the claims for its plan.
-#[tactic(auto, using(crate::proofs::Heard::refusal_stays), unfolding(crate::specs::Controller::reconciler_of, crate::specs::Controller::phase_of, crate::specs::Controller::refusal_of))]
+#[tactic(auto, using(crate::proofs::Heard::refusal_stays), unfolding(crate::specs::Controller::reconciler_of, crate::specs::Controller::phase_of, crate::specs::Controller::refusal_of, crate::specs::Controller::refusals_of))]
 fn hear_list(controller: &mut Controller, reply: &Reply) -> Result<(), Memory>
     requires { is_listing controller.old.progress ≡ true }
     ensures phase { OnOk result (phase_of controller.new ≡ takes (reconciler_of controller.old) (phase_of controller.old) reply.now) }
-    ensures refusal { OnOk result (refusal_of controller.new ≡ refusal_after controller.old.digits controller.old.moment (phase_of controller.old) reply.now (refusal_of controller.old)) }
+    ensures refusal { OnOk result (refusal_of controller.new
+        ≡ refusal_after (refusals_of controller.old) (phase_of controller.old) reply.now (refusal_of controller.old)) }
     ensures memory { OnErr result ((phase_of controller.new ≡ phase_of controller.old) × (refusal_of controller.new ≡ refusal_of controller.old)) }
     ensures reconciler { reconciler_of controller.new ≡ reconciler_of controller.old }
+    ensures refusals { refusals_of controller.new ≡ refusals_of controller.old }
     ensures waits { controller.new.waits ≡ controller.old.waits }
 {
     let progress = heard_list(controller.alloc, &controller.progress, reply)?;
@@ -149,13 +160,15 @@ fn planned(controller: &Controller, claims: &[Object]) -> Result<Vec<Request>, P
 }
 
 /// Goes on by the list of the claims for its plan.
-#[tactic(auto, using(crate::proofs::Heard::claims_heard, crate::proofs::Heard::refusal_at_claims, crate::proofs::Heard::refusal_unheard), unfolding(crate::specs::Controller::reconciler_of, crate::specs::Controller::phase_of, crate::specs::Controller::refusal_of))]
+#[tactic(auto, using(crate::proofs::Heard::claims_heard, crate::proofs::Heard::refusal_at_claims, crate::proofs::Heard::refusal_unheard), unfolding(crate::specs::Controller::reconciler_of, crate::specs::Controller::phase_of, crate::specs::Controller::refusal_of, crate::specs::Controller::refusals_of))]
 fn hear_claims(controller: &mut Controller, reply: &Reply) -> Result<(), Memory>
     requires { is_planning controller.old.progress ≡ true }
     ensures phase { OnOk result (phase_of controller.new ≡ takes (reconciler_of controller.old) (phase_of controller.old) reply.now) }
-    ensures refusal { OnOk result (refusal_of controller.new ≡ refusal_after controller.old.digits controller.old.moment (phase_of controller.old) reply.now (refusal_of controller.old)) }
+    ensures refusal { OnOk result (refusal_of controller.new
+        ≡ refusal_after (refusals_of controller.old) (phase_of controller.old) reply.now (refusal_of controller.old)) }
     ensures memory { OnErr result ((phase_of controller.new ≡ phase_of controller.old) × (refusal_of controller.new ≡ refusal_of controller.old)) }
     ensures reconciler { reconciler_of controller.new ≡ reconciler_of controller.old }
+    ensures refusals { refusals_of controller.new ≡ refusals_of controller.old }
     ensures waits { controller.new.waits ≡ controller.old.waits }
 {
     match listed(reply) {
@@ -171,12 +184,15 @@ fn hear_claims(controller: &mut Controller, reply: &Reply) -> Result<(), Memory>
 }
 
 /// Keeps what is planned, or why there is no plan.
-#[tactic(auto, using(crate::proofs::Heard::refused_with), unfolding(crate::specs::Controller::reconciler_of, crate::specs::Controller::phase_of, crate::specs::Controller::refusal_of, crate::specs::Progress::phase_at))]
+#[tactic(auto, using(crate::proofs::Heard::refused_with), unfolding(crate::specs::Controller::reconciler_of, crate::specs::Controller::phase_of, crate::specs::Controller::refusal_of, crate::specs::Controller::refusals_of, crate::specs::Progress::phase_at))]
 fn keep(controller: &mut Controller, found: Result<Vec<Request>, PlanError>) -> Result<(), Memory>
-    ensures phase { OnOk result ((planned : Result (List Request) PlanError) → Gives (λ requests. requests.items) found planned → phase_of controller.new ≡ acts (or_none planned)) }
-    ensures refusal { OnOk result ((planned : Result (List Request) PlanError) → Gives (λ requests. requests.items) found planned → refusal_of controller.new ≡ why_not planned) }
+    ensures phase { OnOk result ((planned : Result (List Request) PlanError)
+        → Gives (λ requests. requests.items) found planned → phase_of controller.new ≡ acts (or_none planned)) }
+    ensures refusal { OnOk result ((planned : Result (List Request) PlanError)
+        → Gives (λ requests. requests.items) found planned → refusal_of controller.new ≡ why_not planned) }
     ensures memory { OnErr result ((phase_of controller.new ≡ phase_of controller.old) × (refusal_of controller.new ≡ refusal_of controller.old)) }
     ensures reconciler { reconciler_of controller.new ≡ reconciler_of controller.old }
+    ensures refusals { refusals_of controller.new ≡ refusals_of controller.old }
     ensures waits { controller.new.waits ≡ controller.old.waits }
 {
     match found {
@@ -197,6 +213,7 @@ fn keep(controller: &mut Controller, found: Result<Vec<Request>, PlanError>) -> 
 fn stand_at(controller: &mut Controller, progress: Progress)
     ensures { controller.new ≡ record controller.old { progress = progress } }
 {
+    // What stood here is taken out and let go by name, which is proved once for the type.
     drop(mem::replace(&mut controller.progress, progress));
 }
 
@@ -228,12 +245,14 @@ fn carried(progress: Progress, reply: &Reply) -> Progress
 }
 
 /// Goes on with its plan or its deletes, by the reply to the last one.
-#[tactic(auto, using(crate::proofs::Heard::refusal_carried), unfolding(crate::specs::Controller::reconciler_of, crate::specs::Controller::phase_of, crate::specs::Controller::refusal_of))]
+#[tactic(auto, using(crate::proofs::Heard::refusal_carried), unfolding(crate::specs::Controller::reconciler_of, crate::specs::Controller::phase_of, crate::specs::Controller::refusal_of, crate::specs::Controller::refusals_of))]
 fn carry_on(controller: &mut Controller, reply: &Reply)
     requires { is_carrying controller.old.progress ≡ true }
     ensures phase { phase_of controller.new ≡ takes (reconciler_of controller.old) (phase_of controller.old) reply.now }
-    ensures refusal { refusal_of controller.new ≡ refusal_after controller.old.digits controller.old.moment (phase_of controller.old) reply.now (refusal_of controller.old) }
+    ensures refusal { refusal_of controller.new
+        ≡ refusal_after (refusals_of controller.old) (phase_of controller.old) reply.now (refusal_of controller.old) }
     ensures reconciler { reconciler_of controller.new ≡ reconciler_of controller.old }
+    ensures refusals { refusals_of controller.new ≡ refusals_of controller.old }
     ensures waits { controller.new.waits ≡ controller.old.waits }
 {
     let progress = begin_anew(controller);

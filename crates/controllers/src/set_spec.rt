@@ -1,4 +1,4 @@
-ghost use Rattle.std.specs.Prelude.{◌≡◌, ◌≤◌, ◌<◌, true, length, IfOk};
+ghost use Rattle.std.specs.Prelude.{◌≡◌, ◌≤◌, ◌<◌, true, false, length, IfOk, None};
 ghost use Rattle.objects.specs.Names.{is_dns_label};
 
 use crate::controller::Controller;
@@ -56,13 +56,16 @@ impl SetSpec {
 
 impl Controller {
     ghost use Rattle.rounds.specs.Phase.{reading_set};
-    ghost use Rattle.controllers.specs.Controller.{phase_of, reconciler_of};
+    ghost use Rattle.controllers.specs.Controller.{is_waiting, phase_of, reconciler_of, refusal_of, refusals_of, refusals_with};
     ghost use Rattle.controllers.specs.Cluster.{reconciler_for};
 
     /// A controller that has read nothing.
     pub fn of(alloc: Global, spec: &SetSpec) -> Result<Controller, Memory>
         ensures reconciler { IfOk result (λ controller. reconciler_of controller ≡ reconciler_for spec.now) }
         ensures phase { IfOk result (λ controller. phase_of controller ≡ reading_set) }
+        ensures idle { IfOk result (λ controller. is_waiting controller ≡ false) }
+        ensures refusal { IfOk result (λ controller. refusal_of controller ≡ None) }
+        ensures refusals { IfOk result (λ controller. refusals_of controller ≡ refusals_with spec.now.digits spec.now.moment) }
     {
         Controller::new(
             alloc,

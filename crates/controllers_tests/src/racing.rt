@@ -318,8 +318,11 @@ fn fault_of(
 }
 
 /// Shards, capacities and numbers of controllers, and how the cluster is refused.
-static LIMITS: [(usize, u64, usize, Option<ClusterFault>); 6] = [
+static LIMITS: [(usize, u64, usize, Option<ClusterFault>); 9] = [
     (0, 1, 1, Some(ClusterFault::BadShards)),
+    (0, 0, 1, Some(ClusterFault::BadShards)),
+    (65, 1, 4_097, Some(ClusterFault::BadShards)),
+    (1, 0, 4_097, Some(ClusterFault::BadCapacity)),
     (65, 0, 1, Some(ClusterFault::BadShards)),
     (64, 0, 1, Some(ClusterFault::BadCapacity)),
     (1, 1_048_577, 1, Some(ClusterFault::BadCapacity)),

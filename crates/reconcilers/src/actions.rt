@@ -1,4 +1,5 @@
 // The requests that the actions of a plan come to.
+// Values are let go by `drop`, which is proved once for a type and not at each way out.
 ghost use Rattle.std.specs.Prelude.{◌≡◌, ◌≢◌, ◌++◌, ◌∷◌, [], ◌<◌, ◌^◌, ◌==◌, decimal, IfOk, IsErr, OnOk, Some, None, if◌then◌else◌};
 ghost use Rattle.objects.specs.Uid.{uid_text};
 ghost use Rattle.objects.specs.declared.fault.ReadError.TheVariants.{Memory as OutOfMemory};
@@ -52,6 +53,7 @@ fn given_uid(alloc: Global, number: u64) -> Result<Option<Text>, AllocError>
     requires { number < 2 ^ 48 }
     ensures { IfOk result (λ text. text ≡ given uid_text number) }
 {
+    // 0 stands for no UID, and below for no version.
     if number == 0 {
         return Ok(None);
     }
@@ -203,7 +205,8 @@ fn put_revision_deletion(
     uid: u64,
     version: u64,
 ) -> Result<(), Memory>
-    ensures { OnOk result (requests.new.items ≡ requests.old.items ++ deletion_of ControllerRevision namespace.now name.now uid (Some (version_text version)) None) }
+    ensures { OnOk result (requests.new.items
+        ≡ requests.old.items ++ deletion_of ControllerRevision namespace.now name.now uid (Some (version_text version)) None) }
 {
     let key = key_of(alloc, Kind::ControllerRevision, namespace, name)?;
     match version_text(alloc, version) {
@@ -237,7 +240,8 @@ fn put_status(requests: &mut Vec<Request>, alloc: Global, set: Object) -> Result
 
 /// Adds the write of a revision: a create where it has no UID yet.
 fn put_revision(requests: &mut Vec<Request>, alloc: Global, revision: Object) -> Result<(), Memory>
-    ensures { OnOk result (requests.new.items ≡ requests.old.items ++ (if revision.meta.uid == 0 then Create (new revision) else Update (as_read revision)) ∷ []) }
+    ensures { OnOk result (requests.new.items
+        ≡ requests.old.items ++ (if revision.meta.uid == 0 then Create (new revision) else Update (as_read revision)) ∷ []) }
 {
     if revision.meta.uid == 0 {
         put_create(requests, revision)

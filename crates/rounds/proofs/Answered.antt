@@ -1,13 +1,13 @@
 -- Lists and objects that were answered, by the store that they were read from and what came after.
-use Rattle.std.proofs.Common.{◌≡◌, ◌≤◌, ◌<◌, ◌==◌, inl, inr, ℕ, true, false, List, [], ◌∷◌, ◌++◌, Option, refl, sym, ap, subst, ◌∙◌, arith}
-use Rattle.std.proofs.lemmas.Bool.{and_parts}
+use Rattle.std.proofs.Common.{◌≡◌, ◌⊎◌, ◌≤◌, ◌<◌, ◌==◌, inl, inr, ℕ, true, List, [], ◌∷◌, ◌++◌, Option, refl, sym, ap, subst, ◌∙◌, arith}
+use Rattle.std.proofs.lemmas.Bool.{and_parts, eqb-true}
 use Rattle.std.proofs.lemmas.Slice.Eq.{bytes_eq-Decides}
 use Rattle.std.specs.Prelude.{bytes_eq}
 use Rattle.objects.specs.declared.key.Key.{Key}
 use Rattle.objects.specs.declared.kind.Kind.{Kind}
-use Rattle.objects.specs.declared.kind.Kind.TheVariants.{Pod, PersistentVolumeClaim, ControllerRevision}
+use Rattle.objects.specs.declared.kind.Kind.TheVariants.{Pod, ControllerRevision}
 use Rattle.objects.specs.declared.object.Object.{Object}
-use Rattle.objects.specs.Key.{kind_index}
+use Rattle.objects.specs.Key.{kind_at, kind_at-kind_index, kind_index}
 use Rattle.requests.specs.declared.request.Request.{Request}
 use Rattle.requests.specs.declared.request.Request.TheVariants as request
 use Rattle.requests.specs.declared.reply.Reply.TheVariants.{Listed}
@@ -106,18 +106,16 @@ was_there capacity end kind namespace os n o least most was at =
 
 -- ---- what a plan read
 
--- a revision or a pod of the plan was read, and is no claim
+-- a revision or a pod of the plan was read
 pub record WasRead (capacity : ℕ) (end : Store) (namespace : List ℕ) (o : Object) : Type 0 where
   pub kind : Kind
   pub was : WasThere capacity end kind namespace o
-  pub no_claim : o.key.kind ≡ PersistentVolumeClaim → ⊥
+  pub kind_is : (o.key.kind ≡ Pod) ⊎ (o.key.kind ≡ ControllerRevision)
 
-of_kind : (kind : Kind) (namespace : List ℕ) (o : Object) → is_of kind namespace o.key ≡ true → (kind_index o.key.kind == kind_index kind) ≡ true
-of_kind kind namespace o of = (and_parts (kind_index o.key.kind == kind_index kind) (bytes_eq o.key.namespace namespace) of).0
-
-no_claim_by : (kind : Kind) (namespace : List ℕ) (o : Object) → is_of kind namespace o.key ≡ true → (2 == kind_index kind) ≡ false → o.key.kind ≡ PersistentVolumeClaim → ⊥
-no_claim_by kind namespace o of other is =
-    let both : true ≡ false = sym (subst (λ k. (kind_index k == kind_index kind) ≡ true) is (of_kind kind namespace o of)) ∙ other in cc
+pub kind_of : (kind : Kind) (namespace : List ℕ) (key : Key) → is_of kind namespace key ≡ true → key.kind ≡ kind
+kind_of kind namespace key of =
+    let same : kind_index key.kind ≡ kind_index kind = eqb-true _ _ (and_parts (kind_index key.kind == kind_index kind) (bytes_eq key.namespace namespace) of).0 in
+    sym (kind_at-kind_index key.kind) ∙ ap kind_at same ∙ kind_at-kind_index kind
 
 pub namespace_of : (kind : Kind) (namespace : List ℕ) (key : Key) → is_of kind namespace key ≡ true → key.namespace ≡ namespace
 namespace_of kind namespace key of = (bytes_eq-Decides key.namespace namespace).0 (and_parts (kind_index key.kind == kind_index kind) (bytes_eq key.namespace namespace) of).1
@@ -132,9 +130,9 @@ plan_read c capacity before life r o least most run plan at =
       | inl revision ↦ (let listed = was_listed (opening capacity) before life ControllerRevision namespace plan.revisions plan.revisions_at run
           (subst (Among _) (sym plan.answered) (among_right _ plan.before _ (inr (inl refl)))) in
           let was = was_there capacity end ControllerRevision namespace plan.revisions plan.revisions_at o least most listed revision in
-          record { kind = ControllerRevision; was = was; no_claim = no_claim_by ControllerRevision namespace o was.of refl })
+          record { kind = ControllerRevision; was = was; kind_is = inr (kind_of ControllerRevision namespace o.key was.of) })
       | inr pod ↦ (let listed = was_listed (opening capacity) before life Pod namespace plan.pods plan.pods_at run
           (subst (Among _) (sym plan.answered) (among_right _ plan.before _ (inr (inr (inl refl))))) in
           let was = was_there capacity end Pod namespace plan.pods plan.pods_at o least most listed pod in
-          record { kind = Pod; was = was; no_claim = no_claim_by Pod namespace o was.of refl })
+          record { kind = Pod; was = was; kind_is = inl (kind_of Pod namespace o.key was.of) })
     ]

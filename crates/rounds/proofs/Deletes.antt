@@ -1,5 +1,5 @@
 -- What deletes take away, by what was read for them.
-use Rattle.std.proofs.Common.{◌≡◌, ◌≤◌, ◌<◌, ◌==◌, inl, inr, ℕ, Bool, true, false, cond, List, [], ◌∷◌, ◌++◌, length, Option, Some, None, decimal, refl, sym, ap, subst, ◌∙◌, arith}
+use Rattle.std.proofs.Common.{◌≡◌, ◌⊎◌, ◌≤◌, ◌<◌, ◌==◌, inl, inr, min, ℕ, Bool, true, false, cond, List, [], ◌∷◌, ◌++◌, length, Option, Some, None, decimal, refl, sym, ap, subst, ◌∙◌, arith}
 use Rattle.std.specs.Prelude.{bytes_eq, not}
 use Rattle.std.proofs.lemmas.Bool.{or_parts}
 use Rattle.std.proofs.lemmas.Bool.Decides.{nat_tests}
@@ -17,6 +17,7 @@ use Rattle.objects.specs.Uid.{uid_number, uid_text}
 use Rattle.objects.proofs.UidRound.{length-uid, uid_number-uid_text}
 use Rattle.requests.specs.declared.request.Request.{Request}
 use Rattle.requests.specs.declared.request.Request.TheVariants.{Delete}
+use Rattle.requests.specs.declared.reply.Reply.TheVariants.{Listed}
 use Rattle.requests.specs.Verdict.{conflicts, differs}
 use Rattle.plain_store.specs.AtKey.{Has}
 use Rattle.plain_store.specs.Run.{after}
@@ -27,15 +28,16 @@ use Rattle.plain_store.proofs.TakenObjects.{delete_takes}
 use Rattle.plain_store.proofs.WholeLists.{listed}
 use Rattle.collector.specs.Collectable.{Among, HasOwner, given, is_collectable, is_listed}
 use Rattle.collector.proofs.Gone.{is_collectable-kept, is_gone-later, is_gone-listed}
-use Rattle.rounds.specs.Planned.{IsPlanned}
+use Rattle.rounds.specs.Phase.{list_of}
+use Rattle.rounds.specs.Planned.{IsCollected, IsPlanned}
 use Rattle.rounds.specs.Promises.{HasOwnerOf, HasRead}
 use Rattle.rounds.specs.Reconciler.{Reconciler}
 use Rattle.rounds.specs.Sound.{IsSound}
-use Rattle.rounds.specs.Transcript.{Entry, Life, of_life, requests_of}
+use Rattle.rounds.specs.Transcript.{Entry, Exchange, Life, of_life, requests_of}
 use Rattle.rounds.proofs.Entries.{IsStepwise, after-append}
-use Rattle.rounds.proofs.Knowing.{HasList, IsCollected, action}
-use Rattle.rounds.proofs.Lists.{among_contained, listed_among}
-use Rattle.rounds.proofs.Answered.{WasListed, namespace_of, numbered, plan_read, was_listed, was_there}
+use Rattle.rounds.proofs.Knowing.{action, is_collection}
+use Rattle.rounds.proofs.Lists.{among_contained, among_right, listed_among}
+use Rattle.rounds.proofs.Answered.{WasListed, kind_of, namespace_of, numbered, plan_read, was_listed, was_there}
 
 -- ---- what was given is what is there
 
@@ -63,11 +65,14 @@ same_number n m some low first most same =
 
 -- ---- a plan's delete
 
+kind_by : {k l : Key} → k ≡ l → (l.kind ≡ Pod) ⊎ (l.kind ≡ ControllerRevision) → (k.kind ≡ Pod) ⊎ (k.kind ≡ ControllerRevision)
+kind_by same kinds = subst (λ (x : Key). (x.kind ≡ Pod) ⊎ (x.kind ≡ ControllerRevision)) (sym same) kinds
+
 pub plan_takes : (c : Reconciler) (capacity : ℕ) (before : List Entry) (life : Life) (k : Key) (uid version at : Option (List ℕ)) (o : Object)
     → 1 ≤ capacity → capacity ≤ 1048576 → IsStepwise (opening capacity) before → IsSound c
     → (plan : IsPlanned c (of_life life before) (Delete k uid version at))
     → taken (step (after (opening capacity) (requests_of before)) (Delete k uid version at)).1 ≡ Some o
-    → HasRead (plan.revisions ++ plan.pods) o × (o.key.kind ≡ PersistentVolumeClaim → ⊥)
+    → HasRead (plan.revisions ++ plan.pods) o × ((o.key.kind ≡ Pod) ⊎ (o.key.kind ≡ ControllerRevision))
 plan_takes c capacity before life k uid version at o least most run sound plan told =
     let rs = requests_of before in
     let s = after (opening capacity) rs in
@@ -84,8 +89,16 @@ plan_takes c capacity before life k uid version at o least most run sound plan t
         key_is = key;
         uid_is = t.uid_is ∙ sym (same_number named.object.meta.uid t.current.meta.uid was.uid_some was.uid_low now.uid_some now.uid_low text);
       },
-      λ is. read.no_claim (ap (λ (x : Key). x.kind) (sym key) ∙ is),
+      kind_by key read.kind_is,
     )
+
+-- a plan's delete is of a pod or of a revision
+pub plan_deletes : (c : Reconciler) (capacity : ℕ) (before : List Entry) (life : Life) (k : Key) (uid version at : Option (List ℕ))
+    → 1 ≤ capacity → capacity ≤ 1048576 → IsStepwise (opening capacity) before → IsSound c → IsPlanned c (of_life life before) (Delete k uid version at)
+    → (k.kind ≡ Pod) ⊎ (k.kind ≡ ControllerRevision)
+plan_deletes c capacity before life k uid version at least most run sound plan =
+    let named = action c (of_life life before) (Delete k uid version at) sound plan in
+    kind_by named.key_is (plan_read c capacity before life (Delete k uid version at) named.object least most run plan named.among).kind_is
 
 -- ---- a collector's delete
 
@@ -161,6 +174,39 @@ by_kind P a b c d Pod = b
 by_kind P a b c d PersistentVolumeClaim = c
 by_kind P a b c d ControllerRevision = d
 
+-- these objects of the kind were listed, at that resource version or a later one
+record HasList (c : Reconciler) (own : List Exchange) (kind : Kind) (objects : List Object) (at : ℕ) : Type 0 where
+  pub revision : ℕ
+  pub stands : Among (list_of c kind, Listed objects revision) own
+  pub low : at ≤ revision
+
+abbrev OwnersOf : {c : Reconciler} {own : List Exchange} {r : Request} → IsCollected c own r → List (List Object)
+OwnersOf is = is.sets ∷ is.pods ∷ is.revisions ∷ is.others ∷ []
+
+abbrev LeastOf : {c : Reconciler} {own : List Exchange} {r : Request} → IsCollected c own r → ℕ
+LeastOf is = min (min (min is.sets_at is.pods_at) is.revisions_at) is.others_at
+
+module _ (c : Reconciler) (own : List Exchange) (r : Request) (is : IsCollected c own r) where
+  answered_among : (e : Exchange) → Among e ((list_of c PersistentVolumeClaim, Listed is.claims is.claims_at) ∷ (list_of c StatefulSet, Listed is.sets is.sets_at)
+      ∷ (list_of c Pod, Listed is.pods is.pods_at) ∷ (list_of c ControllerRevision, Listed is.revisions is.revisions_at)
+      ∷ (list_of c PersistentVolumeClaim, Listed is.others is.others_at) ∷ is.done) → Among e own
+  answered_among e at = subst (Among e) (sym is.answered) (among_right e is.before _ at)
+
+  claims_known : HasList c own PersistentVolumeClaim is.claims 0
+  claims_known = record { revision = is.claims_at; stands = answered_among _ (inl refl); low = omega arith }
+
+  sets_known : HasList c own StatefulSet is.sets (LeastOf is)
+  sets_known = record { revision = is.sets_at; stands = answered_among _ (inr (inl refl)); low = omega arith }
+
+  pods_known : HasList c own Pod is.pods (LeastOf is)
+  pods_known = record { revision = is.pods_at; stands = answered_among _ (inr (inr (inl refl))); low = omega arith }
+
+  revisions_known : HasList c own ControllerRevision is.revisions (LeastOf is)
+  revisions_known = record { revision = is.revisions_at; stands = answered_among _ (inr (inr (inr (inl refl)))); low = omega arith }
+
+  others_known : HasList c own PersistentVolumeClaim is.others (LeastOf is)
+  others_known = record { revision = is.others_at; stands = answered_among _ (inr (inr (inr (inr (inl refl))))); low = omega arith }
+
 pub collector_takes : (c : Reconciler) (capacity : ℕ) (before : List Entry) (life : Life) (k : Key) (uid version at : Option (List ℕ)) (claim : Object)
     → 1 ≤ capacity → capacity ≤ 1048576 → IsStepwise (opening capacity) before → IsSound c → IsCollected c (of_life life before) (Delete k uid version at)
     → taken (step (after (opening capacity) (requests_of before)) (Delete k uid version at)).1 ≡ Some claim
@@ -168,24 +214,42 @@ pub collector_takes : (c : Reconciler) (capacity : ℕ) (before : List Entry) (l
 collector_takes c capacity before life k uid version at claim least most run sound is told more owner =
     let rs = requests_of before in
     let s = after (opening capacity) rs in
-    let owners : List (List Object) = is.sets ∷ is.pods ∷ is.revisions ∷ is.others ∷ [] in
-    let i = sound.collects is.claims owners is.at (Delete k uid version at) is.among in
+    let own = of_life life before in
+    let asked = Delete k uid version at in
+    let owners : List (List Object) = OwnersOf is in
+    let i = is_collection c own asked sound is in
+    let known = claims_known c own asked is in
     let deleted : Delete k uid version at ≡ Delete i.claim.key (given uid_text i.claim.meta.uid) (given decimal i.claim.meta.revision) None = i.deletes in
     let key_is : k ≡ i.claim.key = cc in
     let version_is : version ≡ given decimal i.claim.meta.revision = cc in
     let t = delete_takes s k uid version at claim told in
     let was = λ (kind : Kind) (os : List Object) (from : ℕ) (l : HasList c (of_life life before) kind os from).
     was_listed (opening capacity) before life kind c.set.namespace os l.revision run l.stands in
-    let same = claim_is capacity rs c.set.namespace is.claims is.claims_known.revision i.claim t.current uid version least most
-    (was PersistentVolumeClaim is.claims 0 is.claims_known) i.among (subst (λ x. Has s x t.current) key_is t.there) version_is t.fits in
+    let same = claim_is capacity rs c.set.namespace is.claims known.revision i.claim t.current uid version least most
+    (was PersistentVolumeClaim is.claims 0 known) i.among (subst (λ x. Has s x t.current) key_is t.there) version_is t.fits in
     let body : claim.body ≡ i.claim.body = t.body_is ∙ ap (λ (x : Object). x.body) same.0 in
     let home : owner.key.namespace ≡ c.set.namespace = owner.in_namespace ∙ ap (λ (x : Key). x.namespace) (t.key_is ∙ ap (λ (x : Object). x.key) same.0) ∙ same.1 in
-    let gone = absent owners is.at owner.object.meta.uid i.claim i.collectable (subst (λ b. HasOwner owner.object.meta.uid (owners_of b)) body owner.owns) in
-    let none = λ (kind : Kind) (os : List Object) (l : HasList c (of_life life before) kind os is.at) (within : Among os owners) (e : owner.key.kind ≡ kind).
-    none_of capacity rs more kind c.set.namespace os owners l.revision is.at owner.key owner.object (was kind os is.at l) within l.low e home owner.there gone in
+    let gone = absent owners (LeastOf is) owner.object.meta.uid i.claim i.collectable (subst (λ b. HasOwner owner.object.meta.uid (owners_of b)) body owner.owns) in
+    let none = λ (kind : Kind) (os : List Object) (l : HasList c (of_life life before) kind os (LeastOf is)) (within : Among os owners) (e : owner.key.kind ≡ kind).
+    none_of capacity rs more kind c.set.namespace os owners l.revision (LeastOf is) owner.key owner.object (was kind os (LeastOf is) l) within l.low e home owner.there gone in
     by_kind (λ kind. owner.key.kind ≡ kind → ⊥)
-    (λ e. none StatefulSet is.sets is.sets_known (inl refl) e)
-    (λ e. none Pod is.pods is.pods_known (inr (inl refl)) e)
-    (λ e. none PersistentVolumeClaim is.others is.others_known (inr (inr (inr (inl refl)))) e)
-    (λ e. none ControllerRevision is.revisions is.revisions_known (inr (inr (inl refl))) e)
+    (λ e. none StatefulSet is.sets (sets_known c own asked is) (inl refl) e)
+    (λ e. none Pod is.pods (pods_known c own asked is) (inr (inl refl)) e)
+    (λ e. none PersistentVolumeClaim is.others (others_known c own asked is) (inr (inr (inr (inl refl)))) e)
+    (λ e. none ControllerRevision is.revisions (revisions_known c own asked is) (inr (inr (inl refl))) e)
     owner.key.kind refl
+
+-- a collector's delete is of a claim
+pub collector_deletes : (c : Reconciler) (capacity : ℕ) (before : List Entry) (life : Life) (k : Key) (uid version at : Option (List ℕ))
+    → 1 ≤ capacity → capacity ≤ 1048576 → IsStepwise (opening capacity) before → IsSound c → IsCollected c (of_life life before) (Delete k uid version at)
+    → k.kind ≡ PersistentVolumeClaim
+collector_deletes c capacity before life k uid version at least most run sound is =
+    let own = of_life life before in
+    let asked = Delete k uid version at in
+    let i = is_collection c own asked sound is in
+    let deleted : Delete k uid version at ≡ Delete i.claim.key (given uid_text i.claim.meta.uid) (given decimal i.claim.meta.revision) None = i.deletes in
+    let key_is : k ≡ i.claim.key = cc in
+    let known = claims_known c own asked is in
+    let listed' = was_listed (opening capacity) before life PersistentVolumeClaim c.set.namespace is.claims known.revision run known.stands in
+    let was = was_there capacity (after (opening capacity) (requests_of before)) PersistentVolumeClaim c.set.namespace is.claims known.revision i.claim least most listed' i.among in
+    ap (λ (x : Key). x.kind) key_is ∙ kind_of PersistentVolumeClaim c.set.namespace i.claim.key was.of

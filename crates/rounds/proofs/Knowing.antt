@@ -1,5 +1,5 @@
 -- What a controller has been answered in each phase.
-use Rattle.std.proofs.Common.{◌≡◌, ◌≤◌, ◌⊎◌, inl, inr, min, ℕ, Bool, true, false, cond, List, [], ◌∷◌, ◌++◌, append_assoc, Option, refl, sym, ap, subst, ◌∙◌, arith}
+use Rattle.std.proofs.Common.{◌≡◌, ◌⊎◌, inl, inr, min, ℕ, Bool, true, false, cond, List, [], ◌∷◌, ◌++◌, append_assoc, Option, refl, sym, ap, subst, ◌∙◌}
 use Rattle.std.specs.Prelude.{⊤, ◌||◌}
 use Rattle.objects.specs.declared.key.Key.{Key}
 use Rattle.objects.specs.declared.kind.Kind.{Kind}
@@ -15,32 +15,11 @@ use Rattle.collector.specs.Collectable.{Among}
 use Rattle.rounds.specs.Accepted.{is_accepted}
 use Rattle.rounds.specs.Life.{Follows, phase_after}
 use Rattle.rounds.specs.Phase.{Phase, reading_set, listing_revisions, listing_pods, listing_claims, acting, listing_old_claims, listing_owner_sets, listing_owner_pods, listing_owner_revisions, listing_owner_claims, deleting, acts, asks, deletes, from_list, from_set, is_refusal, list_of, takes}
-use Rattle.rounds.specs.Planned.{IsPlanned, asked}
+use Rattle.rounds.specs.Planned.{IsCollected, IsPlanned, asked}
 use Rattle.rounds.specs.Reconciler.{Reconciler}
-use Rattle.rounds.specs.Sound.{IsAction, IsSound}
+use Rattle.rounds.specs.Sound.{IsAction, IsCollection, IsSound}
 use Rattle.rounds.specs.Transcript.{Exchange}
-use Rattle.rounds.proofs.Lists.{among_left, among_right}
-
--- these objects of the kind were listed, at that resource version or a later one
-pub record HasList (c : Reconciler) (own : List Exchange) (kind : Kind) (objects : List Object) (at : ℕ) : Type 0 where
-  pub revision : ℕ
-  pub stands : Among (list_of c kind, Listed objects revision) own
-  pub low : at ≤ revision
-
--- the request is the collector's, over lists that were answered
-pub record IsCollected (c : Reconciler) (own : List Exchange) (r : Request) : Type 0 where
-  pub claims : List Object
-  pub sets : List Object
-  pub pods : List Object
-  pub revisions : List Object
-  pub others : List Object
-  pub at : ℕ
-  pub claims_known : HasList c own PersistentVolumeClaim claims 0
-  pub sets_known : HasList c own StatefulSet sets at
-  pub pods_known : HasList c own Pod pods at
-  pub revisions_known : HasList c own ControllerRevision revisions at
-  pub others_known : HasList c own PersistentVolumeClaim others at
-  pub among : Among r (c.collect claims (sets ∷ pods ∷ revisions ∷ others ∷ []) at)
+use Rattle.rounds.proofs.Lists.{among_right}
 
 abbrev EndsIn : List Exchange → List Exchange → Type 0
 EndsIn own last = (before : List Exchange) × (own ≡ before ++ last)
@@ -58,43 +37,19 @@ Knows c own (listing_pods set rs) = (n : ℕ) × EndsIn own (SetOf c set ∷ Lis
 Knows c own (listing_claims set rs ps) = (n : ℕ) × (m : ℕ) × EndsIn own (SetOf c set ∷ ListOf c ControllerRevision rs n ∷ ListOf c Pod ps m ∷ [])
 Knows c own (acting next later) = (plan : IsPlanned c own next) × (plan.later ≡ later)
 Knows c own listing_old_claims = ⊤
-Knows c own (listing_owner_sets cs) = HasList c own PersistentVolumeClaim cs 0
-Knows c own (listing_owner_pods cs ss at) = HasList c own PersistentVolumeClaim cs 0 × HasList c own StatefulSet ss at
-Knows c own (listing_owner_revisions cs ss ps at) = HasList c own PersistentVolumeClaim cs 0 × HasList c own StatefulSet ss at × HasList c own Pod ps at
+Knows c own (listing_owner_sets cs) = (n : ℕ) × EndsIn own (ListOf c PersistentVolumeClaim cs n ∷ [])
+Knows c own (listing_owner_pods cs ss at) = (n : ℕ) × EndsIn own (ListOf c PersistentVolumeClaim cs n ∷ ListOf c StatefulSet ss at ∷ [])
+Knows c own (listing_owner_revisions cs ss ps at) =
+    (n : ℕ) × (i : ℕ) × (j : ℕ) × (at ≡ min i j) × EndsIn own (ListOf c PersistentVolumeClaim cs n ∷ ListOf c StatefulSet ss i ∷ ListOf c Pod ps j ∷ [])
 Knows c own (listing_owner_claims cs ss ps rs at) =
-    HasList c own PersistentVolumeClaim cs 0 × HasList c own StatefulSet ss at × HasList c own Pod ps at × HasList c own ControllerRevision rs at
-Knows c own (deleting next later) = (r : Request) → Among r (next ∷ later) → IsCollected c own r
+    (n : ℕ) × (i : ℕ) × (j : ℕ) × (k : ℕ) × (at ≡ min (min i j) k)
+    × EndsIn own (ListOf c PersistentVolumeClaim cs n ∷ ListOf c StatefulSet ss i ∷ ListOf c Pod ps j ∷ ListOf c ControllerRevision rs k ∷ [])
+Knows c own (deleting next later) = (is : IsCollected c own next) × (is.later ≡ later)
 
 -- ---- one more exchange
 
-module _ (c : Reconciler) (own : List Exchange) (e : Exchange) where
-  list_still : (kind : Kind) (os : List Object) (at : ℕ) → HasList c own kind os at → HasList c (own ++ e ∷ []) kind os at
-  list_still kind os at l = record { revision = l.revision; stands = among_left _ own (e ∷ []) l.stands; low = l.low }
-
-  list_lower : (kind : Kind) (os : List Object) (at new : ℕ) → HasList c own kind os at → HasList c (own ++ e ∷ []) kind os (min at new)
-  list_lower kind os at new l = record { revision = l.revision; stands = among_left _ own (e ∷ []) l.stands; low = let low = l.low in omega arith }
-
-  ends_more : (last : List Exchange) → EndsIn own last → EndsIn (own ++ e ∷ []) (last ++ e ∷ [])
-  ends_more last ends = (ends.0, ap (λ l. l ++ e ∷ []) ends.1 ∙ append_assoc ends.0 last (e ∷ []))
-
-  collected_still : (r : Request) → IsCollected c own r → IsCollected c (own ++ e ∷ []) r
-  collected_still r is = record {
-    claims = is.claims;
-    sets = is.sets;
-    pods = is.pods;
-    revisions = is.revisions;
-    others = is.others;
-    at = is.at;
-    claims_known = list_still PersistentVolumeClaim is.claims 0 is.claims_known;
-    sets_known = list_still StatefulSet is.sets is.at is.sets_known;
-    pods_known = list_still Pod is.pods is.at is.pods_known;
-    revisions_known = list_still ControllerRevision is.revisions is.at is.revisions_known;
-    others_known = list_still PersistentVolumeClaim is.others is.at is.others_known;
-    among = is.among;
-  }
-
-list_new : (c : Reconciler) (own : List Exchange) (kind : Kind) (os : List Object) (new at : ℕ) → at ≤ new → HasList c (own ++ ListOf c kind os new ∷ []) kind os at
-list_new c own kind os new at low = record { revision = new; stands = among_right _ own (ListOf c kind os new ∷ []) (inl refl); low = low }
+ends_more : (own : List Exchange) (e : Exchange) (last : List Exchange) → EndsIn own last → EndsIn (own ++ e ∷ []) (last ++ e ∷ [])
+ends_more own e last ends = (ends.0, ap (λ l. l ++ e ∷ []) ends.1 ∙ append_assoc ends.0 last (e ∷ []))
 
 -- ---- replies
 
@@ -156,15 +111,64 @@ acted c own r (q ∷ qs) reply plan is = (
     claims_at = plan.claims_at;
     done = plan.done ++ (r, reply) ∷ [];
     later = qs;
-    answered = (ends_more c own (r, reply) _ (plan.before, plan.answered)).1;
+    answered = (ends_more own (r, reply) _ (plan.before, plan.answered)).1;
     planned = asked_more plan.done r reply (q ∷ qs) ∙ ap (λ l. asked plan.done ++ r ∷ l) (sym is) ∙ plan.planned;
   },
   refl,
 )
 
-collected : (c : Reconciler) (own : List Exchange) (todo : List Request) → ((r : Request) → Among r todo → IsCollected c own r) → Knows c own (deletes todo)
-collected c own [] all = tt
-collected c own (d ∷ ds) all = all
+-- a collection that was just made
+collected : (c : Reconciler) (own : List Exchange) (cs ss ps rs os : List Object) (n i j k m : ℕ) (todo : List Request)
+    → c.collect cs (ss ∷ ps ∷ rs ∷ os ∷ []) (min (min (min i j) k) m) ≡ todo
+    → EndsIn own (ListOf c PersistentVolumeClaim cs n ∷ ListOf c StatefulSet ss i ∷ ListOf c Pod ps j ∷ ListOf c ControllerRevision rs k ∷ ListOf c PersistentVolumeClaim os m ∷ [])
+    → Knows c own (deletes todo)
+collected c own cs ss ps rs os n i j k m [] is ends = tt
+collected c own cs ss ps rs os n i j k m (r ∷ later) is ends = (
+  record {
+    before = ends.0;
+    claims = cs;
+    claims_at = n;
+    sets = ss;
+    sets_at = i;
+    pods = ps;
+    pods_at = j;
+    revisions = rs;
+    revisions_at = k;
+    others = os;
+    others_at = m;
+    done = [];
+    later = later;
+    answered = ends.1;
+    collected = sym is;
+  },
+  refl,
+)
+
+-- what is left of it
+passed : (c : Reconciler) (own : List Exchange) (r : Request) (later : List Request) (reply : Reply) (is : IsCollected c own r) → is.later ≡ later
+    → Knows c (own ++ (r, reply) ∷ []) (deletes later)
+unfolding ends_more
+passed c own r [] reply is same = tt
+passed c own r (q ∷ qs) reply is same = (
+  record {
+    before = is.before;
+    claims = is.claims;
+    claims_at = is.claims_at;
+    sets = is.sets;
+    sets_at = is.sets_at;
+    pods = is.pods;
+    pods_at = is.pods_at;
+    revisions = is.revisions;
+    revisions_at = is.revisions_at;
+    others = is.others;
+    others_at = is.others_at;
+    done = is.done ++ (r, reply) ∷ [];
+    later = qs;
+    answered = (ends_more own (r, reply) _ (is.before, is.answered)).1;
+    collected = asked_more is.done r reply (q ∷ qs) ∙ ap (λ l. asked is.done ++ r ∷ l) (sym same) ∙ is.collected;
+  },
+  refl,
+)
 
 -- ---- a reply to what the phase asks
 
@@ -174,54 +178,44 @@ unfolding asks takes
 knows_next c own reading_set reply knows = set_known c own reply
 knows_next c own (listing_revisions set) reply knows =
     by_list (λ rs n. listing_pods set rs) (λ x p. Knows c (own ++ (list_of c ControllerRevision, x) ∷ []) p) (λ x. tt)
-    (λ rs n. (n, ends_more c own (ListOf c ControllerRevision rs n) (SetOf c set ∷ []) knows)) reply
+    (λ rs n. (n, ends_more own (ListOf c ControllerRevision rs n) (SetOf c set ∷ []) knows)) reply
 knows_next c own (listing_pods set rs) reply knows =
     by_list (λ ps m. listing_claims set rs ps) (λ x p. Knows c (own ++ (list_of c Pod, x) ∷ []) p) (λ x. tt)
-    (λ ps m. (knows.0, m, ends_more c own (ListOf c Pod ps m) (SetOf c set ∷ ListOf c ControllerRevision rs knows.0 ∷ []) knows.1)) reply
+    (λ ps m. (knows.0, m, ends_more own (ListOf c Pod ps m) (SetOf c set ∷ ListOf c ControllerRevision rs knows.0 ∷ []) knows.1)) reply
 knows_next c own (listing_claims set rs ps) reply knows =
     by_list (λ cs k. acts (c.plan set rs ps cs)) (λ x p. Knows c (own ++ (list_of c PersistentVolumeClaim, x) ∷ []) p) (λ x. tt)
     (λ cs k. planned c (own ++ ListOf c PersistentVolumeClaim cs k ∷ []) set rs ps cs knows.0 knows.1 k (c.plan set rs ps cs) refl
-    (ends_more c own (ListOf c PersistentVolumeClaim cs k) (SetOf c set ∷ ListOf c ControllerRevision rs knows.0 ∷ ListOf c Pod ps knows.1 ∷ []) knows.2)) reply
+    (ends_more own (ListOf c PersistentVolumeClaim cs k) (SetOf c set ∷ ListOf c ControllerRevision rs knows.0 ∷ ListOf c Pod ps knows.1 ∷ []) knows.2)) reply
 knows_next c own (acting next later) reply knows =
     by_test (is_accepted next reply) (Knows c (own ++ (next, reply) ∷ [])) (acts later) reading_set (acted c own next later reply knows.0 knows.1) tt
 knows_next c own listing_old_claims reply knows =
     by_list (λ cs n. listing_owner_sets cs) (λ x p. Knows c (own ++ (list_of c PersistentVolumeClaim, x) ∷ []) p) (λ x. tt)
-    (λ cs n. list_new c own PersistentVolumeClaim cs n 0 (omega arith)) reply
+    (λ cs n. (n, (own, refl))) reply
 knows_next c own (listing_owner_sets cs) reply knows =
     by_list (λ ss n. listing_owner_pods cs ss n) (λ x p. Knows c (own ++ (list_of c StatefulSet, x) ∷ []) p) (λ x. tt)
-    (λ ss n. (list_still c own (ListOf c StatefulSet ss n) PersistentVolumeClaim cs 0 knows, list_new c own StatefulSet ss n n (omega arith))) reply
+    (λ ss n. (knows.0, ends_more own (ListOf c StatefulSet ss n) (ListOf c PersistentVolumeClaim cs knows.0 ∷ []) knows.1)) reply
 knows_next c own (listing_owner_pods cs ss at) reply knows =
     by_list (λ ps n. listing_owner_revisions cs ss ps (min at n)) (λ x p. Knows c (own ++ (list_of c Pod, x) ∷ []) p) (λ x. tt)
-    (λ ps n. let e = ListOf c Pod ps n in
-    (list_still c own e PersistentVolumeClaim cs 0 knows.0, list_lower c own e StatefulSet ss at n knows.1, list_new c own Pod ps n (min at n) (omega arith))) reply
+    (λ ps n. (knows.0, at, n, refl, ends_more own (ListOf c Pod ps n) (ListOf c PersistentVolumeClaim cs knows.0 ∷ ListOf c StatefulSet ss at ∷ []) knows.1)) reply
 knows_next c own (listing_owner_revisions cs ss ps at) reply knows =
     by_list (λ rs n. listing_owner_claims cs ss ps rs (min at n)) (λ x p. Knows c (own ++ (list_of c ControllerRevision, x) ∷ []) p) (λ x. tt)
-    (λ rs n. let e = ListOf c ControllerRevision rs n in (
-      list_still c own e PersistentVolumeClaim cs 0 knows.0,
-      list_lower c own e StatefulSet ss at n knows.1,
-      list_lower c own e Pod ps at n knows.2,
-      list_new c own ControllerRevision rs n (min at n) (omega arith),
+    (λ rs n. (
+      knows.0,
+      knows.1,
+      knows.2,
+      n,
+      ap (λ m. min m n) knows.3,
+      ends_more own (ListOf c ControllerRevision rs n)
+          (ListOf c PersistentVolumeClaim cs knows.0 ∷ ListOf c StatefulSet ss knows.1 ∷ ListOf c Pod ps knows.2 ∷ []) knows.4,
     )) reply
 knows_next c own (listing_owner_claims cs ss ps rs at) reply knows =
     by_list (λ os n. deletes (c.collect cs (ss ∷ ps ∷ rs ∷ os ∷ []) (min at n))) (λ x p. Knows c (own ++ (list_of c PersistentVolumeClaim, x) ∷ []) p) (λ x. tt)
-    (λ os n. let e = ListOf c PersistentVolumeClaim os n in
-    collected c (own ++ e ∷ []) (c.collect cs (ss ∷ ps ∷ rs ∷ os ∷ []) (min at n)) (λ r among. record {
-      claims = cs;
-      sets = ss;
-      pods = ps;
-      revisions = rs;
-      others = os;
-      at = min at n;
-      claims_known = list_still c own e PersistentVolumeClaim cs 0 knows.0;
-      sets_known = list_lower c own e StatefulSet ss at n knows.1;
-      pods_known = list_lower c own e Pod ps at n knows.2;
-      revisions_known = list_lower c own e ControllerRevision rs at n knows.3;
-      others_known = list_new c own PersistentVolumeClaim os n (min at n) (omega arith);
-      among = among;
-    })) reply
+    (λ os n. collected c (own ++ ListOf c PersistentVolumeClaim os n ∷ []) cs ss ps rs os knows.0 knows.1 knows.2 knows.3 n (c.collect cs (ss ∷ ps ∷ rs ∷ os ∷ []) (min at n))
+    (ap (λ m. c.collect cs (ss ∷ ps ∷ rs ∷ os ∷ []) (min m n)) (sym knows.4))
+    (ends_more own (ListOf c PersistentVolumeClaim os n)
+    (ListOf c PersistentVolumeClaim cs knows.0 ∷ ListOf c StatefulSet ss knows.1 ∷ ListOf c Pod ps knows.2 ∷ ListOf c ControllerRevision rs knows.3 ∷ []) knows.5)) reply
 knows_next c own (deleting next later) reply knows =
-    by_test (is_accepted next reply || is_refusal reply) (Knows c (own ++ (next, reply) ∷ [])) (deletes later) reading_set
-    (collected c (own ++ (next, reply) ∷ []) later (λ r among. collected_still c own (next, reply) r (knows r (inr among)))) tt
+    by_test (is_accepted next reply || is_refusal reply) (Knows c (own ++ (next, reply) ∷ [])) (deletes later) reading_set (passed c own next later reply knows.0 knows.1) tt
 
 append_none : (l : List Exchange) → l ++ [] ≡ l
 append_none [] = refl
@@ -244,9 +238,14 @@ pub action : (c : Reconciler) (own : List Exchange) (r : Request) → IsSound c 
 action c own r sound plan =
     sound.plans plan.set plan.revisions plan.pods plan.claims r (subst (Among r) plan.planned (among_right r (asked plan.done) (r ∷ plan.later) (inl refl)))
 
+pub is_collection : (c : Reconciler) (own : List Exchange) (r : Request) → IsSound c → (is : IsCollected c own r)
+    → IsCollection is.claims (is.sets ∷ is.pods ∷ is.revisions ∷ is.others ∷ []) (min (min (min is.sets_at is.pods_at) is.revisions_at) is.others_at) r
+is_collection c own r sound is =
+    sound.collects is.claims (is.sets ∷ is.pods ∷ is.revisions ∷ is.others ∷ []) (min (min (min is.sets_at is.pods_at) is.revisions_at) is.others_at) r
+    (subst (Among r) is.collected (among_right r (asked is.done) (r ∷ is.later) (inl refl)))
+
 no_collection : (c : Reconciler) (own : List Exchange) (d : Draft) (r : Request) → IsSound c → IsCollected c own r → Create d ≡ r → ⊥
-no_collection c own d r sound is same =
-    let deletes = (sound.collects is.claims (is.sets ∷ is.pods ∷ is.revisions ∷ is.others ∷ []) is.at r is.among).deletes in let both = same ∙ deletes in cc
+no_collection c own d r sound is same = let deletes = (is_collection c own r sound is).deletes in let both = same ∙ deletes in cc
 
 -- a create is of a plan
 pub created_by : (c : Reconciler) (own : List Exchange) (phase : Phase) (d : Draft) → IsSound c → Knows c own phase → Create d ≡ asks c phase → IsPlanned c own (Create d)
@@ -261,7 +260,7 @@ created_by c own (listing_owner_sets cs) d sound knows is = cc
 created_by c own (listing_owner_pods cs ss at) d sound knows is = cc
 created_by c own (listing_owner_revisions cs ss ps at) d sound knows is = cc
 created_by c own (listing_owner_claims cs ss ps rs at) d sound knows is = cc
-created_by c own (deleting next later) d sound knows is = absurd (no_collection c own d next sound (knows next (inl refl)) is)
+created_by c own (deleting next later) d sound knows is = absurd (no_collection c own d next sound knows.0 is)
 
 -- a delete is of a plan or of a collector
 pub deleted_by : (c : Reconciler) (own : List Exchange) (phase : Phase) (k : Key) (uid version at : Option (List ℕ)) → Knows c own phase → Delete k uid version at ≡ asks c phase
@@ -277,4 +276,4 @@ deleted_by c own (listing_owner_sets cs) k uid version at knows is = cc
 deleted_by c own (listing_owner_pods cs ss now) k uid version at knows is = cc
 deleted_by c own (listing_owner_revisions cs ss ps now) k uid version at knows is = cc
 deleted_by c own (listing_owner_claims cs ss ps rs now) k uid version at knows is = cc
-deleted_by c own (deleting next later) k uid version at knows is = inr (subst (IsCollected c own) (sym is) (knows next (inl refl)))
+deleted_by c own (deleting next later) k uid version at knows is = inr (subst (IsCollected c own) (sym is) knows.0)

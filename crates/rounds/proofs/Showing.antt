@@ -14,7 +14,7 @@ use Rattle.rounds.specs.Phase.{Phase, asks, reading_set, takes}
 use Rattle.rounds.specs.Reconciler.{Reconciler}
 use Rattle.rounds.specs.Shown.{HasTaken, IsIdle, Shows}
 use Rattle.rounds.specs.Transcript.{Entry}
-use Rattle.rounds.specs.World.{AreMadeOf, Matches, Taken, World, happens, life_of, run, start, taken_of, with_ask, with_crash}
+use Rattle.rounds.specs.World.{AreMadeOf, Matches, StandAt, Taken, World, happens, life_of, run, start, taken_of, with_ask, with_crash}
 
 -- ---- lists
 
@@ -100,15 +100,27 @@ module _ {X : Type 0} (reconciler : X → Reconciler) (phase : X → Phase) (rec
         controllers = λ i. stands_at xs w.phases c x y (takes (reconcilers c) (w.phases c) (step w.store r).1) there (kept ∙ one) (goes ∙ next) shows.controllers i (i == c) refl;
       })
 
+  -- a controller that could not ask, or not take its reply, stands where it stood
+  stays_at : (xs : List X) (phases : ℕ → Phase) (c : ℕ) (x y : X) → slice_get xs c ≡ Some x → reconciler y ≡ reconciler x → phase y ≡ phase x
+      → StandAt reconciler phase xs reconcilers phases → StandAt reconciler phase (slice_set xs c y) reconcilers phases
+  stays_at xs phases c x y there kept goes all i = by (i == c) refl
+    where
+      by : (t : Bool) → (i == c) ≡ t → Stands (slice_get (slice_set xs c y) i) i (phases i)
+      by true is =
+          let stood = subst (λ o. Stands o c (phases c)) there (all c) in
+          subst (λ n. Stands (slice_get (slice_set xs c y) n) n (phases n)) (sym (equal i c is))
+          (subst (λ o. Stands o c (phases c)) (sym (get_same xs c x y there)) (kept ∙ stood.0, goes ∙ stood.1))
+      by false is = subst (λ o. Stands o i (phases i)) (sym (get_other xs c i y (differ i c is))) (all i)
+
   pub idle_matches : (old new : Store) (xs : List X) (before after : List Taken) (w : World) → IsIdle old new before after → Shows reconciler phase reconcilers old xs before w → Matches new after w
   idle_matches old new xs before after w idle shows = record { store_is = idle.0 ∙ shows.matches.store_is; taken_is = idle.1 ∙ shows.matches.taken_is }
 
   -- a reply that the controller could not take stands among what was taken
-  pub asked_faults : (old new : Store) (xs : List X) (before after : List Taken) (w : World) (c count : ℕ) (x : X) → c < count → slice_get xs c ≡ Some x
+  taken_or_not : (old new : Store) (xs : List X) (before after : List Taken) (w : World) (c count : ℕ) (x : X) → c < count → slice_get xs c ≡ Some x
       → IsIdle old new before after ⊎ HasTaken old new before after (Some c) (asks (reconciler x) (phase x))
       → Shows reconciler phase reconcilers old xs before w → Matches new after w ⊎ Matches new after (happens count reconcilers w (Ask c))
-  asked_faults old new xs before after w c count x low there (inl idle) shows = inl (idle_matches old new xs before after w idle shows)
-  asked_faults old new xs before after w c count x low there (inr took) shows =
+  taken_or_not old new xs before after w c count x low there (inl idle) shows = inl (idle_matches old new xs before after w idle shows)
+  taken_or_not old new xs before after w c count x low there (inr took) shows =
       let is = request_is old xs before w c x there shows in
       let one : reconciler x ≡ reconcilers c = is.0 in
       let two : phase x ≡ w.phases c = is.1 in
@@ -117,6 +129,13 @@ module _ {X : Type 0} (reconciler : X → Reconciler) (phase : X → Phase) (rec
       let left : (step old (asks (reconciler x) (phase x))).0 ≡ (step w.store r).0 = cc in
       inr (subst (Matches new after) (sym (ap (λ b. cond b (with_ask reconcilers w c) w) (lower c count low)))
       (record { store_is = took.0 ∙ left; taken_is = took.1 ∙ entry_is old xs before w c x there shows }))
+
+  pub asked_faults : (old new : Store) (xs : List X) (before after : List Taken) (w : World) (c count : ℕ) (x y : X) → c < count → slice_get xs c ≡ Some x
+      → reconciler y ≡ reconciler x → phase y ≡ phase x → IsIdle old new before after ⊎ HasTaken old new before after (Some c) (asks (reconciler x) (phase x))
+      → Shows reconciler phase reconcilers old xs before w
+      → StandAt reconciler phase (slice_set xs c y) reconcilers w.phases × (Matches new after w ⊎ Matches new after (happens count reconcilers w (Ask c)))
+  asked_faults old new xs before after w c count x y low there kept goes told shows =
+      (stays_at xs w.phases c x y there kept goes shows.controllers, taken_or_not old new xs before after w c count x low there told shows)
 
   -- ---- a crash
 
@@ -164,9 +183,13 @@ module _ {X : Type 0} (reconciler : X → Reconciler) (phase : X → Phase) (rec
   fresh_by (x ∷ xs) rs zero fresh made = (made, fresh.0)
   fresh_by (x ∷ xs) rs (suc i) fresh made = fresh_by xs (λ n. rs (suc n)) i fresh.1 made
 
+  -- controllers that have read nothing
+  pub fresh_stand : (xs : List X) → AllByRecursion (λ x. phase x ≡ reading_set) xs → AreMadeOf reconciler xs reconcilers → StandAt reconciler phase xs reconcilers (λ c. reading_set)
+  fresh_stand xs fresh made i = fresh_by xs reconcilers i fresh (made i)
+
   pub start_shows : (s : Store) (xs : List X) → AllByRecursion (λ x. phase x ≡ reading_set) xs → AreMadeOf reconciler xs reconcilers
       → Shows reconciler phase reconcilers s xs [] (start s)
-  start_shows s xs fresh made = record { matches = record { store_is = refl; taken_is = refl }; controllers = λ i. fresh_by xs reconcilers i fresh (made i) }
+  start_shows s xs fresh made = record { matches = record { store_is = refl; taken_is = refl }; controllers = fresh_stand xs fresh made }
 
 -- ---- a whole run
 
@@ -179,7 +202,7 @@ pub run_more : (count : ℕ) (reconcilers : ℕ → Reconciler) (w : World) (es 
 run_more count reconcilers w es i d low =
     sym (ap (run count reconcilers w) (take_more es i d low) ∙ run-append count reconcilers w (take i es) (slice_index_or es i d ∷ []))
 
-take_past : {X : Type 0} (xs : List X) (i : ℕ) → length xs ≤ i → take i xs ≡ xs
+pub take_past : {X : Type 0} (xs : List X) (i : ℕ) → length xs ≤ i → take i xs ≡ xs
 take_past [] zero high = refl
 take_past [] (suc i) high = refl
 take_past (x ∷ xs) zero high = absurd (omega (arith, high))
@@ -206,6 +229,6 @@ pub done_if : {D E : Type 0} (r : Result D E) (S T P : Type 0) → OnOk r S → 
 done_if (Ok d) S T P s t holds = holds s t
 done_if (Err e) S T P s t holds = tt
 
-pub failed_if : {D E : Type 0} (r : Result D E) (S P : Type 0) → OnErr r S → (S → P) → OnErr r P
-failed_if (Ok d) S P s holds = tt
-failed_if (Err e) S P s holds = holds s
+pub failed_if : {D E : Type 0} (r : Result D E) (S T P : Type 0) → OnErr r S → OnErr r T → (S → T → P) → OnErr r P
+failed_if (Ok d) S T P s t holds = tt
+failed_if (Err e) S T P s t holds = holds s t

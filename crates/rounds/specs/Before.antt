@@ -14,7 +14,12 @@ abbrev pub entries_before : Store → List Request → List Entry
 entries_before s [] = []
 entries_before s (r ∷ rs) = (None, r, (step s r).1) ∷ entries_before (step s r).0 rs
 
--- with what the store took before, what it takes in these events keeps the promises
+-- what the store took before, and what it takes in these events
+abbrev pub entries_through : ℕ → (ℕ → Reconciler) → (s : Store) → IsReached s → List WholeEvent → List Entry
+entries_through count reconcilers s reached events =
+    entries_before (opening reached.capacity) reached.requests ++ (run count reconcilers (start s) events).entries
+
+-- it keeps the promises
 abbrev pub RunKeepsPromises : ℕ → (ℕ → Reconciler) → (s : Store) → IsReached s → List WholeEvent → Type 0
 RunKeepsPromises count reconcilers s reached events =
-    KeepsPromises reconcilers reached.capacity (entries_before (opening reached.capacity) reached.requests ++ (run count reconcilers (start s) events).entries)
+    KeepsPromises reconcilers reached.capacity (entries_through count reconcilers s reached events)

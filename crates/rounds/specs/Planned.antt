@@ -1,6 +1,6 @@
--- The plan that a request of a life comes from, and what was answered for it.
-use Rattle.std.specs.Prelude.{◌≡◌, ℕ, List, [], ◌∷◌, ◌++◌}
-use Rattle.objects.specs.declared.kind.Kind.TheVariants.{Pod, PersistentVolumeClaim, ControllerRevision}
+-- The plan or the collection that a request of a life comes from, and what was answered for it.
+use Rattle.std.specs.Prelude.{◌≡◌, ℕ, min, List, [], ◌∷◌, ◌++◌}
+use Rattle.objects.specs.declared.kind.Kind.TheVariants.{StatefulSet, Pod, PersistentVolumeClaim, ControllerRevision}
 use Rattle.objects.specs.declared.object.Object.{Object}
 use Rattle.requests.specs.declared.request.Request.{Request}
 use Rattle.requests.specs.declared.request.Request.TheVariants.{Get}
@@ -32,3 +32,27 @@ pub record IsPlanned (c : Reconciler) (life : List Exchange) (r : Request) : Typ
       ∷ (list_of c PersistentVolumeClaim, Listed claims claims_at)
       ∷ done)
   pub planned : asked done ++ r ∷ later ≡ c.plan set revisions pods claims
+
+-- The request is the next one of a collection. The life was last answered the claims, and the lists of all that may own one,
+-- and then the requests of the collection that stand before this one.
+pub record IsCollected (c : Reconciler) (life : List Exchange) (r : Request) : Type 0 where
+  pub before : List Exchange
+  pub claims : List Object
+  pub claims_at : ℕ
+  pub sets : List Object
+  pub sets_at : ℕ
+  pub pods : List Object
+  pub pods_at : ℕ
+  pub revisions : List Object
+  pub revisions_at : ℕ
+  pub others : List Object
+  pub others_at : ℕ
+  pub done : List Exchange
+  pub later : List Request
+  pub answered : life ≡ before ++ ((list_of c PersistentVolumeClaim, Listed claims claims_at)
+      ∷ (list_of c StatefulSet, Listed sets sets_at)
+      ∷ (list_of c Pod, Listed pods pods_at)
+      ∷ (list_of c ControllerRevision, Listed revisions revisions_at)
+      ∷ (list_of c PersistentVolumeClaim, Listed others others_at)
+      ∷ done)
+  pub collected : asked done ++ r ∷ later ≡ c.collect claims (sets ∷ pods ∷ revisions ∷ others ∷ []) (min (min (min sets_at pods_at) revisions_at) others_at)

@@ -1,7 +1,7 @@
 -- What holds of the requests that one plain store took from controllers and from anybody else.
-use Rattle.std.specs.Prelude.{◌≡◌, ◌≤◌, ℕ, List, ◌∷◌, ◌++◌, Option, Some}
+use Rattle.std.specs.Prelude.{◌≡◌, ◌⊎◌, ◌≤◌, ℕ, List, ◌∷◌, ◌++◌, Option, Some}
 use Rattle.objects.specs.declared.key.Key.{Key}
-use Rattle.objects.specs.declared.kind.Kind.TheVariants.{PersistentVolumeClaim}
+use Rattle.objects.specs.declared.kind.Kind.TheVariants.{Pod, PersistentVolumeClaim, ControllerRevision}
 use Rattle.objects.specs.declared.object.Draft.{Draft}
 use Rattle.objects.specs.declared.object.Object.{Object}
 use Rattle.objects.specs.Metadata.{owners_of}
@@ -18,7 +18,7 @@ use Rattle.rounds.specs.Accepted.{Creates, HasRemoval}
 use Rattle.rounds.specs.Life.{Follows}
 use Rattle.rounds.specs.Phase.{reading_set}
 use Rattle.plain_store.specs.Reached.{most_revisions}
-use Rattle.rounds.specs.Planned.{IsPlanned}
+use Rattle.rounds.specs.Planned.{IsCollected, IsPlanned}
 use Rattle.rounds.specs.Reconciler.{Reconciler}
 use Rattle.rounds.specs.Transcript.{Entry, Exchange, IsRun, Life, exchanges_of, of_life, requests_of}
 
@@ -56,6 +56,15 @@ CreatesArePlanned reconcilers entries =
     (before later : List Entry) (life : Life) (d : Draft) (reply : Reply)
     → entries ≡ before ++ ((Some life, Create d, reply) ∷ later) → IsPlanned (reconcilers life.controller) (of_life life before) (Create d)
 
+-- Each delete that a life asks is of a pod or a revision, and comes from a plan over what was answered to it in this round; or
+-- it is of a claim, and comes from a collection over what was answered to it in this round.
+abbrev pub DeletesArePlannedOrCollected : (ℕ → Reconciler) → List Entry → Type 0
+DeletesArePlannedOrCollected reconcilers entries =
+    (before later : List Entry) (life : Life) (k : Key) (uid version at : Option (List ℕ)) (reply : Reply)
+    → entries ≡ before ++ ((Some life, Delete k uid version at, reply) ∷ later)
+    → (((k.kind ≡ Pod) ⊎ (k.kind ≡ ControllerRevision)) × IsPlanned (reconcilers life.controller) (of_life life before) (Delete k uid version at))
+    ⊎ ((k.kind ≡ PersistentVolumeClaim) × IsCollected (reconcilers life.controller) (of_life life before) (Delete k uid version at))
+
 -- an object of the claim's namespace has the UID of an owner of the claim
 pub record HasOwnerOf (s : Store) (claim : Object) : Type 0 where
   pub key : Key
@@ -72,9 +81,10 @@ OwnersAreGone capacity entries =
     → entries ≡ before ++ ((Some life, Delete k uid version at, Removed claim) ∷ later) → claim.key.kind ≡ PersistentVolumeClaim
     → (more : List Request) → HasOwnerOf (after (opening capacity) (requests_of before ++ more)) claim → ⊥
 
--- all four
+-- all five
 pub record KeepsPromises (reconcilers : ℕ → Reconciler) (capacity : ℕ) (entries : List Entry) : Type 0 where
   pub names : NamesAreFreed (exchanges_of entries)
   pub deletes : PlansTakeWhatTheyRead reconcilers entries
   pub creates : CreatesArePlanned reconcilers entries
+  pub own_deletes : DeletesArePlannedOrCollected reconcilers entries
   pub owners : OwnersAreGone capacity entries

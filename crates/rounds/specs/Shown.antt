@@ -1,15 +1,15 @@
 -- What the program holds of a world, and what one request does to it.
-use Rattle.std.specs.Prelude.{◌≡◌, ℕ, List, [], ◌∷◌, ◌++◌, Option, slice_get, IfSome}
+use Rattle.std.specs.Prelude.{◌≡◌, ℕ, List, [], ◌∷◌, ◌++◌, Option}
 use Rattle.requests.specs.declared.request.Request.{Request}
 use Rattle.plain_store.specs.Store.{Store, step}
 use Rattle.rounds.specs.Phase.{Phase}
 use Rattle.rounds.specs.Reconciler.{Reconciler}
-use Rattle.rounds.specs.World.{Matches, Taken, World}
+use Rattle.rounds.specs.World.{Matches, StandAt, Taken, World}
 
 -- the world is matched, and each controller stands where it stands there
 pub record Shows {X : Type 0} (reconciler : X → Reconciler) (phase : X → Phase) (reconcilers : ℕ → Reconciler) (store : Store) (xs : List X) (taken : List Taken) (w : World) : Type 0 where
   pub matches : Matches store taken w
-  pub controllers : (c : ℕ) → IfSome (slice_get xs c) (λ x. (reconciler x ≡ reconcilers c) × (phase x ≡ w.phases c))
+  pub controllers : StandAt reconciler phase xs reconcilers w.phases
 
 -- the store has not changed, and nothing more was taken
 abbrev pub IsIdle : (before after : Store) (was now : List Taken) → Type 0

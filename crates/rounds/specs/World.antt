@@ -1,5 +1,5 @@
 -- Controllers over one plain store, event by event.
-use Rattle.std.specs.Prelude.{◌≡◌, ◌==◌, ◌+◌, nat_lt, ℕ, List, [], ◌∷◌, ◌++◌, slice_get, Option, Some, None, option_map, IfSome, if◌then◌else◌}
+use Rattle.std.specs.Prelude.{◌≡◌, ◌⊎◌, ◌==◌, ◌<◌, ◌+◌, nat_lt, ℕ, List, [], ◌∷◌, ◌++◌, length, slice_get, take, Option, Some, None, option_map, IfSome, if◌then◌else◌}
 use Rattle.requests.specs.declared.request.Request.{Request}
 use Rattle.requests.specs.declared.reply.Reply.{Reply}
 use Rattle.plain_store.specs.Store.{Store, step}
@@ -76,3 +76,15 @@ pub record Matches (store : Store) (taken : List Taken) (w : World) : Type 0 whe
 -- each controller is made of the reconciler of its number
 abbrev pub AreMadeOf : {X : Type 0} → (X → Reconciler) → List X → (ℕ → Reconciler) → Type 0
 AreMadeOf reconciler xs reconcilers = (c : ℕ) → IfSome (slice_get xs c) (λ x. reconciler x ≡ reconcilers c)
+
+-- each controller is made of the reconciler of its number, and stands at the phase of its number
+abbrev pub StandAt : {X : Type 0} → (X → Reconciler) → (X → Phase) → List X → (ℕ → Reconciler) → (ℕ → Phase) → Type 0
+StandAt reconciler phase xs reconcilers phases = (c : ℕ) → IfSome (slice_get xs c) (λ x. (reconciler x ≡ reconcilers c) × (phase x ≡ phases c))
+
+-- The run stopped at an event. The controllers stand where those before it left them. The store and what it took are as they
+-- were then, or as that event leaves them.
+pub record StopsAt {X : Type 0} (reconciler : X → Reconciler) (phase : X → Phase) (count : ℕ) (reconcilers : ℕ → Reconciler) (s : Store) (events : List WholeEvent) (store : Store) (xs : List X) (taken : List Taken) : Type 0 where
+  pub at : ℕ
+  pub there : at < length events
+  pub stand : StandAt reconciler phase xs reconcilers (run count reconcilers (start s) (take at events)).phases
+  pub matches : Matches store taken (run count reconcilers (start s) (take at events)) ⊎ Matches store taken (run count reconcilers (start s) (take (at + 1) events))

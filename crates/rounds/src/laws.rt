@@ -9,7 +9,7 @@ ghost use Rattle.rounds.specs.declared.event.WholeEvent.{WholeEvent};
 ghost use Rattle.rounds.specs.Before.{RunKeepsPromises};
 ghost use Rattle.rounds.specs.Life.{Follows};
 ghost use Rattle.rounds.specs.Phase.{Phase};
-ghost use Rattle.rounds.specs.Promises.{CreatesArePlanned, IsTranscript, KeepsPromises, NamesAreFreed, OwnersAreGone, PlansTakeWhatTheyRead};
+ghost use Rattle.rounds.specs.Promises.{CreatesArePlanned, DeletesArePlannedOrCollected, IsTranscript, KeepsPromises, NamesAreFreed, OwnersAreGone, PlansTakeWhatTheyRead};
 ghost use Rattle.rounds.specs.Reconciler.{Reconciler};
 ghost use Rattle.rounds.specs.Sound.{IsSound};
 ghost use Rattle.rounds.specs.Transcript.{Entry, Exchange};
@@ -34,13 +34,20 @@ pub fn creates_are_planned()
         → IsTranscript reconcilers capacity entries → CreatesArePlanned reconcilers entries }
 {}
 
+/// Each delete that a controller asks comes from a plan, if it is of a pod or a revision, and else is of a claim, and comes from
+/// a collection. Both are over lists that were answered to it since its last crash, and in that round.
+pub fn deletes_are_planned_or_collected()
+    ensures { (reconcilers : ℕ → Reconciler) (capacity : ℕ) (entries : List Entry) → ((controller : ℕ) → IsSound (reconcilers controller))
+        → IsTranscript reconcilers capacity entries → DeletesArePlannedOrCollected reconcilers entries }
+{}
+
 /// When a claim is removed by a controller's delete, no object of its namespace has the UID of an owner, and none ever will.
 pub fn owners_are_gone()
     ensures { (reconcilers : ℕ → Reconciler) (capacity : ℕ) (entries : List Entry) → ((controller : ℕ) → IsSound (reconcilers controller))
         → IsTranscript reconcilers capacity entries → OwnersAreGone capacity entries }
 {}
 
-/// All four.
+/// All five.
 pub fn transcripts_keep_promises()
     ensures { (reconcilers : ℕ → Reconciler) (capacity : ℕ) (entries : List Entry) → ((controller : ℕ) → IsSound (reconcilers controller))
         → IsTranscript reconcilers capacity entries → KeepsPromises reconcilers capacity entries }
@@ -48,6 +55,7 @@ pub fn transcripts_keep_promises()
     names_are_freed();
     plans_take_what_they_read();
     creates_are_planned();
+    deletes_are_planned_or_collected();
     owners_are_gone();
 }
 

@@ -16,18 +16,22 @@ pub trait Reconcile {
     /// Whether a request of it waits for its reply.
     ghost is_waiting: { Self → Bool };
 
-    /// The next request. Until its reply is taken, the same again.
+    /// The next request. Until its reply is taken, the same again. Where memory is short, it waits only if it waited before.
     fn next(&mut self) -> Result<Request, Memory>
         ensures asked { IfOk result (λ request. request ≡ asks (reconciler self.old) (phase self.old)) }
         ensures waiting { OnOk result (is_waiting self.new ≡ true) }
+        ensures memory { OnErr result (is_waiting self.new ≡ is_waiting self.old) }
         ensures reconciler { reconciler self.new ≡ reconciler self.old }
         ensures phase { phase self.new ≡ phase self.old };
 
-    /// Takes the reply to its last request. Where none waits, or memory is short, it stays where it stands.
+    /// Takes the reply to its last request, and waits no more. Where none waits, it stays where it stands; where memory is
+    /// short, it does too, and goes on waiting.
     fn take(&mut self, reply: &Reply) -> Result<(), Memory>
         ensures taken { OnOk result (is_waiting self.old ≡ true → phase self.new ≡ takes (reconciler self.old) (phase self.old) reply.now) }
         ensures idle { is_waiting self.old ≡ false → phase self.new ≡ phase self.old }
+        ensures answered { OnOk result (is_waiting self.new ≡ false) }
         ensures memory { OnErr result (phase self.new ≡ phase self.old) }
+        ensures waiting { OnErr result (is_waiting self.new ≡ is_waiting self.old) }
         ensures reconciler { reconciler self.new ≡ reconciler self.old };
 
     /// Forgets its round.

@@ -1,5 +1,5 @@
 //! Controllers over one store, event by event.
-ghost use Rattle.std.specs.Prelude.{◌≡◌, ◌<◌, ◌⊎◌, [], ℕ, true, List, length, take, IsErr, OnOk, OnErr, None, Some, vec_len, vec_capacity};
+ghost use Rattle.std.specs.Prelude.{◌≡◌, ◌<◌, ◌⊎◌, [], ℕ, true, List, length, take, IfSome, IsErr, OnOk, OnErr, None, Some, vec_len, vec_capacity};
 ghost use Rattle.std.specs.List.{AllByRecursion};
 ghost use Rattle.requests.specs.declared.request.Request.{Request};
 ghost use Rattle.plain_store.specs.Reached.{IsReached};
@@ -11,7 +11,7 @@ ghost use Rattle.rounds.specs.Phase.{asks, reading_set, takes};
 ghost use Rattle.rounds.specs.Reconciler.{Reconciler};
 ghost use Rattle.rounds.specs.Shown.{HasTaken, IsIdle, Shows};
 ghost use Rattle.rounds.specs.Sound.{IsSound};
-ghost use Rattle.rounds.specs.World.{AreMadeOf, Matches, Taken, World, happens, run, start};
+ghost use Rattle.rounds.specs.World.{AreMadeOf, Matches, StandAt, StopsAt, Taken, World, happens, run, start};
 
 use crate::event::{Taken, WholeEvent};
 use crate::laws::runs_keep_promises;
@@ -28,9 +28,9 @@ pub struct WholeRun {
 }
 
 /// Lets the events happen, one after another, until the end or a fault. What is taken has one entry for each request that
-/// anybody asks, with its reply; an event of a controller that is not there has none. Where memory is short, the store and
-/// what was taken are as the events up to some place leave them. Up to any place, what was taken keeps the promises of sound
-/// controllers.
+/// anybody asks, with its reply; an event of a controller that is not there has none. Where memory is short, the run stops at
+/// an event: the controllers stand where those before it left them, and the store and what was taken are as they were then, or
+/// as that event leaves them. Each controller keeps its reconciler. What was taken keeps the promises of sound controllers.
 pub fn run_whole<A: Api, C: Reconcile>(
     alloc: Global,
     api: &mut A,
@@ -42,8 +42,17 @@ pub fn run_whole<A: Api, C: Reconcile>(
         → Matches (A.store api.new) result.taken.items (run (length controllers.old) reconcilers (start (A.store api.old)) events.now) }
     ensures begun { (reconcilers : ℕ → Reconciler) → AreMadeOf C.reconciler controllers.old reconcilers
         → (n : ℕ) × Matches (A.store api.new) result.taken.items (run (length controllers.old) reconcilers (start (A.store api.old)) (take n events.now)) }
-    ensures promises { (reconcilers : ℕ → Reconciler) (n : ℕ) → ((c : ℕ) → IsSound (reconcilers c)) → (reached : IsReached (A.store api.old))
-        → RunKeepsPromises (length controllers.old) reconcilers (A.store api.old) reached (take n events.now) }
+    ensures many { length controllers.new ≡ length controllers.old }
+    ensures stand { result.fault ≡ None → (reconcilers : ℕ → Reconciler) → AreMadeOf C.reconciler controllers.old reconcilers
+        → StandAt C.reconciler C.phase controllers.new reconcilers (run (length controllers.old) reconcilers (start (A.store api.old)) events.now).phases }
+    ensures stopped { IfSome result.fault (λ fault. (reconcilers : ℕ → Reconciler) → AreMadeOf C.reconciler controllers.old reconcilers
+        → StopsAt C.reconciler C.phase (length controllers.old) reconcilers (A.store api.old) events.now
+        (A.store api.new) controllers.new result.taken.items) }
+    ensures promises { (reconcilers : ℕ → Reconciler) → AreMadeOf C.reconciler controllers.old reconcilers
+        → ((c : ℕ) → IsSound (reconcilers c)) → (reached : IsReached (A.store api.old))
+        → (n : ℕ) × (result.fault ≡ None → take n events.now ≡ events.now)
+        × Matches (A.store api.new) result.taken.items (run (length controllers.old) reconcilers (start (A.store api.old)) (take n events.now))
+        × RunKeepsPromises (length controllers.old) reconcilers (A.store api.old) reached (take n events.now) }
     ensures reached { (result.taken.items ≡ []) ⊎ IsReached (A.store api.old) }
 {
     runs_keep_promises();
@@ -72,7 +81,9 @@ fn happen<A: Api, C: Reconcile>(
         → Shows C.reconciler C.phase reconcilers (A.store api.new) controllers.new taken.new.items (happens (length controllers.old) reconcilers w event.now)) }
     ensures fault { OnErr result ((reconcilers : ℕ → Reconciler) (w : World)
         → Shows C.reconciler C.phase reconcilers (A.store api.old) controllers.old taken.old.items w
-        → Matches (A.store api.new) taken.new.items w ⊎ Matches (A.store api.new) taken.new.items (happens (length controllers.old) reconcilers w event.now)) }
+        → StandAt C.reconciler C.phase controllers.new reconcilers w.phases
+        × (Matches (A.store api.new) taken.new.items w
+        ⊎ Matches (A.store api.new) taken.new.items (happens (length controllers.old) reconcilers w event.now))) }
 {
     match event {
         WholeEvent::Ask(number) => {
@@ -102,10 +113,13 @@ fn ask_number<A: Api, C: Reconcile>(
     ensures reached { IsIdle (A.store api.old) (A.store api.new) taken.old.items taken.new.items ⊎ IsReached (A.store api.old) }
     ensures shows { OnOk result ((reconcilers : ℕ → Reconciler) (w : World)
         → Shows C.reconciler C.phase reconcilers (A.store api.old) controllers.old taken.old.items w
-        → Shows C.reconciler C.phase reconcilers (A.store api.new) controllers.new taken.new.items (happens (length controllers.old) reconcilers w (Ask number))) }
+        → Shows C.reconciler C.phase reconcilers
+        (A.store api.new) controllers.new taken.new.items (happens (length controllers.old) reconcilers w (Ask number))) }
     ensures fault { OnErr result ((reconcilers : ℕ → Reconciler) (w : World)
         → Shows C.reconciler C.phase reconcilers (A.store api.old) controllers.old taken.old.items w
-        → Matches (A.store api.new) taken.new.items w ⊎ Matches (A.store api.new) taken.new.items (happens (length controllers.old) reconcilers w (Ask number))) }
+        → StandAt C.reconciler C.phase controllers.new reconcilers w.phases
+        × (Matches (A.store api.new) taken.new.items w
+        ⊎ Matches (A.store api.new) taken.new.items (happens (length controllers.old) reconcilers w (Ask number)))) }
 {
     ask_one(api, &mut controllers[number], number, taken)
 }
@@ -127,12 +141,16 @@ fn ask_one<A: Api, C: Reconcile>(
     taken: &mut Vec<Taken>,
 ) -> Result<(), ApiFault>
     ensures reconciler { C.reconciler controller.new ≡ C.reconciler controller.old }
+    ensures stays { OnErr result (C.phase controller.new ≡ C.phase controller.old) }
     ensures reached { IsIdle (A.store api.old) (A.store api.new) taken.old.items taken.new.items ⊎ IsReached (A.store api.old) }
-    ensures taken { OnOk result (HasTaken (A.store api.old) (A.store api.new) taken.old.items taken.new.items (Some number) (asks (C.reconciler controller.old) (C.phase controller.old))) }
+    ensures taken { OnOk result (HasTaken (A.store api.old) (A.store api.new) taken.old.items taken.new.items
+        (Some number) (asks (C.reconciler controller.old) (C.phase controller.old))) }
     ensures phase { OnOk result (C.phase controller.new
-        ≡ takes (C.reconciler controller.old) (C.phase controller.old) (step (A.store api.old) (asks (C.reconciler controller.old) (C.phase controller.old))).1) }
+        ≡ takes (C.reconciler controller.old)
+        (C.phase controller.old) (step (A.store api.old) (asks (C.reconciler controller.old) (C.phase controller.old))).1) }
     ensures fault { OnErr result (IsIdle (A.store api.old) (A.store api.new) taken.old.items taken.new.items
-        ⊎ HasTaken (A.store api.old) (A.store api.new) taken.old.items taken.new.items (Some number) (asks (C.reconciler controller.old) (C.phase controller.old))) }
+        ⊎ HasTaken (A.store api.old) (A.store api.new) taken.old.items taken.new.items
+        (Some number) (asks (C.reconciler controller.old) (C.phase controller.old))) }
 {
     if taken.reserve(1).is_err() {
         return Err(ApiFault::Memory);
@@ -159,6 +177,7 @@ fn ask_by<A: Api, C: Reconcile>(
     requires waiting { C.is_waiting controller.old ≡ true }
     requires room { vec_len taken.old < vec_capacity taken.old }
     ensures reconciler { C.reconciler controller.new ≡ C.reconciler controller.old }
+    ensures stays { OnErr result (C.phase controller.new ≡ C.phase controller.old) }
     ensures reached { IsReached (A.store api.old) }
     ensures taken { OnOk result (HasTaken (A.store api.old) (A.store api.new) taken.old.items taken.new.items (Some number) request) }
     ensures phase { OnOk result (C.phase controller.new ≡ takes (C.reconciler controller.old) (C.phase controller.old) (step (A.store api.old) request).1) }
@@ -219,6 +238,7 @@ fn ask_copied<A: Api>(
 fn let_go(request: Request) -> Result<(), ApiFault>
     ensures { IsErr result }
 {
+    // Let go by name, which is proved once for the type and not at each way out.
     drop(request);
     Err(ApiFault::Memory)
 }

@@ -1,16 +1,16 @@
-use Rattle.std.proofs.Common.{◌<◌, ◌≤◌, ◌+◌, ◌∙◌, ℕ, ap, arith, length, refl, rules, subst, sym, take}
+use Rattle.std.proofs.Common.{◌+◌, ◌∙◌, ap, arith, length, refl, rules, subst, sym, take}
 use Rattle.std.specs.Prelude.{IsErrOf, Ok, slice_index_or}
 use Rattle.std.proofs.lemmas.List.{take_all}
 use Rattle.std.proofs.lemmas.List.FromFn.{length-range_with_len}
 use Rattle.interleavings.specs.Linearization.{IsLegal}
 use Rattle.interleavings.specs.World.{Size}
-use Rattle.interleavings.proofs.Basics.{Least, above, atmost, least}
 use Rattle.plain_store.specs.Reached.{most_revisions}
 use Rattle.history.specs.After.{IsAfter}
 use Rattle.history.specs.declared.replay_error.ReplayError.TheVariants.{BadCapacity, BadShards}
 use Rattle.clusters.specs.Cluster.{Cluster, happens, run, start}
+use Rattle.rounds.proofs.Showing.{fresh_stand}
 use Rattle.cluster_runs.specs.Shown.{HasTaken, Shows}
-use Rattle.cluster_runs.proofs.Showing.{run_more, start_shows, used_grow}
+use Rattle.cluster_runs.proofs.Showing.{at_err, run_more, shown_stand, start_shows, still_stand, used_grow, within}
 use Rattle.cluster_runs.proofs.run.run_cluster.Goals as goal
 
 pub returns-in_err-callers-clause-too_many : goal.returns-in_err-callers-clause-too_many
@@ -21,6 +21,26 @@ returns-in_err-callers-clause-too_many g c = λ failed reconcilers made.
     let less = used_grow z count reconcilers (start count) c.args.events.now 0 in
     let all = length-range_with_len 0 count in
     omega (arith, many, less, all)
+
+pub returns-in_err-replay-clause-stopped : goal.returns-in_err-replay-clause-stopped
+returns-in_err-replay-clause-stopped g c =
+    at_err c.from_residual.result _ (λ reconcilers made. (0, fresh_stand g.C.Reconcile.reconciler g.C.Reconcile.phase reconcilers c.args.controllers.now c.requires made))
+
+pub returns-in_err-callers-clause-stopped : goal.returns-in_err-callers-clause-stopped
+returns-in_err-callers-clause-stopped g c =
+    at_err c.from_residual-in_err-callers.result _ (λ reconcilers made. (0, fresh_stand g.C.Reconcile.reconciler g.C.Reconcile.phase reconcilers c.args.controllers.now c.requires made))
+
+pub returns-in_err-happen-clause-stopped : goal.returns-in_err-happen-clause-stopped
+returns-in_err-happen-clause-stopped g c =
+    at_err c.from_residual-in_err-happen.result _ (λ reconcilers made.
+    let z : Size = record { capacity = c.args.capacity; shards = c.args.shards } in
+    let count = length c.args.controllers.now in
+    let i = c.loop-event.event-index in
+    let k = run z count reconcilers (start count) (take i c.args.events.now) in (
+      i,
+      still_stand g.C.Reconcile.reconciler g.C.Reconcile.phase c.loop-event.controllers c.happen.new.controllers reconcilers k.phases c.in_err-happen.ensures.stays
+          (shown_stand g.C.Reconcile.reconciler g.C.Reconcile.phase g.C.Reconcile.is_waiting z reconcilers k c.loop-event.cluster c.loop-event.controllers (c.loop-event.invariant.3 reconcilers made)),
+    ))
 
 pub loop-event-init : goal.loop-event-init
 unfolding HasTaken
@@ -85,19 +105,18 @@ returns-clause-run g c = λ reconcilers made.
       few = shows.0.1.few;
     }
 
+pub returns-clause-stand : goal.returns-clause-stand
+returns-clause-stand g c = λ reconcilers made.
+    let z : Size = record { capacity = c.args.capacity; shards = c.args.shards } in
+    let count = length c.args.controllers.now in
+    let k = run z count reconcilers (start count) c.args.events.now in
+    let all = take_all c.loop-event.event-index c.args.events.now c.loop-event-test.false in
+    let shows = subst (λ l. Shows g.C.Reconcile.reconciler g.C.Reconcile.phase g.C.Reconcile.is_waiting z reconcilers (run z count reconcilers (start count) l) c.loop-event.cluster c.loop-event.controllers)
+    all (c.loop-event.invariant.3 reconcilers made) in
+    shown_stand g.C.Reconcile.reconciler g.C.Reconcile.phase g.C.Reconcile.is_waiting z reconcilers k c.loop-event.cluster c.loop-event.controllers shows
+
 not_err : {T E : Type 0} (x : T) (e : E) → IsErrOf (Ok x) e → ⊥
 not_err x e is = cc
-
-in_range : (n most : ℕ) → ((1 ≤ n → most < n) → ⊥) → (1 ≤ n) × (n ≤ most)
-in_range n most refused = (low (least 1 n), high (least n most))
-  where
-    low : Least 1 n → 1 ≤ n
-    low (atmost le e) = le
-    low (above lt e) = absurd (refused (λ le. absurd (omega arith)))
-
-    high : Least n most → n ≤ most
-    high (atmost le e) = le
-    high (above lt e) = absurd (refused (λ le. lt))
 
 pub returns-clause-promises : goal.returns-clause-promises
 returns-clause-promises g c = λ reconcilers made sound.
@@ -107,7 +126,7 @@ returns-clause-promises g c = λ reconcilers made sound.
     let shows = subst (λ l. Shows g.C.Reconcile.reconciler g.C.Reconcile.phase g.C.Reconcile.is_waiting z reconcilers (run z count reconcilers (start count) l) c.loop-event.cluster c.loop-event.controllers)
     all (c.loop-event.invariant.3 reconcilers made) in
     let run_is = c.finish.ensures z _ shows.0.0.taken in
-    let some = in_range z.shards 64 (λ bad. not_err c.in_ok-replay.replay BadShards (c.in_ok-replay.ensures.bad_shards.1 bad)) in
-    let room = in_range z.capacity most_revisions (λ bad. not_err c.in_ok-replay.replay BadCapacity (c.in_ok-replay.ensures.bad_capacity.1 (some.0, some.1, bad))) in
+    let some = within z.shards 64 (λ bad. not_err c.in_ok-replay.replay BadShards (c.in_ok-replay.ensures.bad_shards.1 bad)) in
+    let room = within z.capacity most_revisions (λ bad. not_err c.in_ok-replay.replay BadCapacity (c.in_ok-replay.ensures.bad_capacity.1 (some.0, some.1, bad))) in
     c.clusters_keep_promises.ensures z count reconcilers c.args.events.now c.finish.result.order.items some.0 room.0 room.1 sound
     (subst (λ l. IsLegal z.capacity l c.finish.result.order.items) run_is.trace_is run_is.legal)

@@ -1,4 +1,6 @@
-use Rattle.std.proofs.Common.{◌∷◌, Some, inl, inr, ap, subst, sym}
+use Rattle.std.proofs.Common.{◌≡◌, ◌⊎◌, ◌∷◌, ◌∙◌, Some, inl, inr, ap, subst, sym}
+use Rattle.objects.specs.declared.kind.Kind.{Kind}
+use Rattle.objects.specs.declared.kind.Kind.TheVariants.{Pod, PersistentVolumeClaim, ControllerRevision}
 use Rattle.requests.specs.declared.request.Request.TheVariants.{Delete}
 use Rattle.requests.specs.declared.reply.Reply.TheVariants.{Removed}
 use Rattle.plain_store.specs.Store.{opening}
@@ -11,6 +13,10 @@ use Rattle.rounds.proofs.Entries.{IsStepwise, asks_at, stepwise, stepwise_at, st
 use Rattle.rounds.proofs.Knowing.{deleted_by, known}
 use Rattle.rounds.proofs.laws.owners_are_gone.Goals as goal
 
+no_claim : (kind : Kind) → kind ≡ PersistentVolumeClaim → (kind ≡ Pod) ⊎ (kind ≡ ControllerRevision) → ⊥
+no_claim kind claim (inl is) = let both : PersistentVolumeClaim ≡ Pod = sym claim ∙ is in cc
+no_claim kind claim (inr is) = let both : PersistentVolumeClaim ≡ ControllerRevision = sym claim ∙ is in cc
+
 pub returns : goal.returns
 returns c = λ reconcilers capacity entries sound is before later life k uid version at claim where' kind more owner.
     let r = reconcilers life.controller in
@@ -20,6 +26,6 @@ returns c = λ reconcilers capacity entries sound is before later life k uid ver
     let told = ap taken (sym (stepwise_at (opening capacity) before ((Some life, Delete k uid version at, Removed claim) ∷ later) run).0) in
     let asked = asks_at r reading_set life before (Delete k uid version at) (Removed claim) later (subst (λ es. Follows r reading_set (of_life life es)) where' (is.lives life)) in
     elim (deleted_by r own (phase_after r reading_set own) k uid version at (known r own asked.0) asked.1) [
-      | inl plan ↦ (plan_takes r capacity before life k uid version at claim is.least is.most first (sound life.controller) plan told).1 kind
+      | inl plan ↦ no_claim claim.key.kind kind (plan_takes r capacity before life k uid version at claim is.least is.most first (sound life.controller) plan told).1
       | inr collected ↦ collector_takes r capacity before life k uid version at claim is.least is.most first (sound life.controller) collected told more owner
     ]

@@ -6,7 +6,7 @@ use Rattle.interleavings.specs.World.{opening}
 use Rattle.history.specs.Named.{callers}
 use Rattle.history.proofs.Pieces.{on_ok_by}
 use Rattle.rounds.proofs.Showing.{get_at}
-use Rattle.cluster_runs.proofs.Showing.{called_few, called_shows, calls_next, present_at}
+use Rattle.cluster_runs.proofs.Showing.{at_err, called_few, called_shows, calls_next, present_at, stay_at}
 use Rattle.cluster_runs.proofs.cluster.Cluster.call_next.Goals as goal
 
 pub returns-clause-shows : goal.returns-clause-shows
@@ -26,3 +26,17 @@ returns-clause-too_many g c = λ failed z reconcilers k shows.
     let at = present_at _ k c.args.self.now shows.0.1 c.args.number c.index-caller.result.now c.requires.there c.index-caller.ensures in
     absurd (called_few g.C.Reconcile.reconciler g.C.Reconcile.phase g.C.Reconcile.is_waiting z reconcilers k c.args.self.now c.args.controllers.now c.args.number c.in_ok-request.request
     c.requires.there shows (subst (λ n. 4096 < callers (k.events ++ event.Call n c.in_ok-request.request ∷ [])) at (c.hand_quietly.ensures.too_many failed z k.events shows.0.0.taken)))
+
+pub returns-in_err-request-clause-stays : goal.returns-in_err-request-clause-stays
+returns-in_err-request-clause-stays g c =
+    let xs = c.args.controllers.now in
+    let x = slice_index_or xs c.args.number c.index-controllers-number.result in
+    at_err c.from_residual.result _ (stay_at g.C.Reconcile.reconciler g.C.Reconcile.phase xs c.args.number x c.next.new.self (get_at xs c.args.number c.index-controllers-number.result c.requires.there)
+    c.next.ensures.reconciler c.next.ensures.phase)
+
+pub returns-clause-stays : goal.returns-clause-stays
+returns-clause-stays g c =
+    let xs = c.args.controllers.now in
+    let x = slice_index_or xs c.args.number c.index-controllers-number.result in
+    at_err c.hand_quietly.result _ (stay_at g.C.Reconcile.reconciler g.C.Reconcile.phase xs c.args.number x c.next.new.self (get_at xs c.args.number c.index-controllers-number.result c.requires.there)
+    c.next.ensures.reconciler c.next.ensures.phase)
