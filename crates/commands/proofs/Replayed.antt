@@ -28,7 +28,7 @@ refused_script BadScript name input is fails = subst (λ o. IfSome o (IsReplayRe
 refused_script Memory name input is fails = subst (λ o. IfSome o (IsReplayRefusal input)) (sym is) tt
 
 -- a run that is refused is that of the script
-pub refused_run : (name : Option (List ℕ)) (input : List ℕ) (script : Size × List Event) → script_of input ≡ Some script → IfSome name IsRunRefusal
+pub refused_run : (name : Option (List ℕ)) (input : List ℕ) (script : Size × List Event) → script_of input ≡ Some script → IfSome name (IsRunRefusal script)
     → IfSome name (IsReplayRefusal input)
 refused_run None input script is refused = tt
 refused_run (Some name) input script is refused = inr (script, is, refused)
@@ -37,10 +37,6 @@ refused_run (Some name) input script is refused = inr (script, is, refused)
 pub told_and : (name : Option (List ℕ)) (Is Said : List ℕ → Type 0) → IsNamed name Is → IfSome name Said → (n : List ℕ) × Is n × Said n
 told_and None Is Said named holds = absurd named
 told_and (Some n) Is Said named holds = (n, named, holds)
-
-pub told : (name : Option (List ℕ)) (Is : List ℕ → Type 0) → IsNamed name Is → (n : List ℕ) × Is n
-told None Is named = absurd named
-told (Some n) Is named = (n, named)
 
 -- a fault of the input has no name
 pub unnamed : (fault : InputFault) → name_of (halt_of fault) ≡ None

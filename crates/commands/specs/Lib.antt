@@ -3,5 +3,6 @@ pub mod Grammar
 pub mod Halts
 pub mod Planning
 pub mod Racing
+pub mod Refusing
 pub mod Replaying
 pub mod Serving

@@ -1,17 +1,23 @@
 -- What a run of the program that was asked to plan has done, where the devices tell.
-use Rattle.std.specs.Prelude.{◌≡◌, ℕ, List, [], Option, Some, Ok, find, map}
+use Rattle.std.specs.Prelude.{◌≡◌, ◌⊎◌, ℕ, List, [], Option, None, Some, Ok, Err, codes, find, map}
 use Rattle.std.specs.Option.{IfSome}
 use Rattle.clap.specs.Words.{Text}
+use Rattle.objects.specs.declared.fault.ReadError.{ReadError}
+use Rattle.objects.specs.declared.fault.ReadError.TheVariants as read
 use Rattle.objects.specs.declared.object.Object.{Object}
 use Rattle.plain.specs.Lines.{lines}
+use Rattle.plain.specs.Replies.{read_error_name}
 use Rattle.plain.specs.Streams.{Puts}
 use Rattle.plain.specs.ValueLines.{text_lines}
+use Rattle.set_views.specs.declared.fault.PlanError.{PlanError}
+use Rattle.set_views.specs.declared.fault.PlanError.TheVariants as errors
 use Rattle.set_views.specs.Set.{SetParts}
 use Rattle.set_views.specs.SetReading.{set_of}
 use Rattle.sets.specs.declared.action.Plan.{Plan}
 use Rattle.sets.specs.Plan.{IsPlan}
 use Rattle.plan_lines.specs.Actions.{action_data}
 use Rattle.plan_lines.specs.Objects.{Lists, is_named, nothing, read_from}
+use Rattle.plan_lines.specs.Refusals.{plan_error_name}
 use Rattle.commands.specs.declared.words.PlanWords.{PlanWords}
 use Rattle.commands.specs.Asked.{IsPlanAsked}
 
@@ -37,3 +43,46 @@ PlansBy asked had left before after = IfSome had (λ input. (left ≡ Some [])
 -- the same by what the words say
 abbrev pub Plans : List Text → Option (List ℕ) → Option (List ℕ) → Option (List ℕ) → Option (List ℕ) → Type 0
 Plans words had left before after = (asked : PlanWords) × IsPlanAsked words asked × PlansBy asked had left before after
+
+-- the name of the refusal of a line; want of memory is none
+abbrev pub read_refusal : ReadError → Option (List ℕ)
+read_refusal read.NotJson = Some (read_error_name read.NotJson)
+read_refusal read.NotWhole = Some (read_error_name read.NotWhole)
+read_refusal read.NoKind = Some (read_error_name read.NoKind)
+read_refusal read.UnknownKind = Some (read_error_name read.UnknownKind)
+read_refusal read.BadName = Some (read_error_name read.BadName)
+read_refusal read.BadMeta = Some (read_error_name read.BadMeta)
+read_refusal read.TooLong = Some (read_error_name read.TooLong)
+read_refusal read.Memory = None
+
+-- the same of a set, or of its plan
+abbrev pub plan_refusal : PlanError → Option (List ℕ)
+plan_refusal errors.NameTooLong = Some (plan_error_name errors.NameTooLong)
+plan_refusal errors.BadSpec = Some (plan_error_name errors.BadSpec)
+plan_refusal (errors.Foreign name) = Some (plan_error_name (errors.Foreign name))
+plan_refusal errors.OrdinalTooLarge = Some (plan_error_name errors.OrdinalTooLarge)
+plan_refusal errors.NoRevisionName = Some (plan_error_name errors.NoRevisionName)
+plan_refusal errors.Memory = None
+
+-- the plan of the set over these objects is refused by this name
+abbrev pub IsPlanOfSetRefused : SetParts → Lists → ℕ → List ℕ → Type 0
+IsPlanOfSetRefused set lists digits name = (e : PlanError) × (plan_refusal e ≡ Some name) × IsPlan set lists.pods lists.claims lists.revisions digits (Err e)
+
+-- the same, or what is read of the set is
+abbrev pub IsSetRefused : Object → Lists → ℕ → List ℕ → Type 0
+IsSetRefused object lists digits name = ((e : PlanError) × (plan_refusal e ≡ Some name) × (set_of object ≡ Err e))
+    ⊎ ((set : SetParts) × (set_of object ≡ Ok set) × IsPlanOfSetRefused set lists digits name)
+
+-- No set among the objects is the one that is asked for, which is NotFound, or the first that is has no plan.
+abbrev pub IsRefusedOver : PlanWords → Lists → List ℕ → Type 0
+IsRefusedOver asked lists name = ((find (is_named asked.namespace.now asked.name.now) lists.sets ≡ None) × (name ≡ codes "NotFound"))
+    ⊎ ((object : Object) × (find (is_named asked.namespace.now asked.name.now) lists.sets ≡ Some object) × IsSetRefused object lists asked.digits name)
+
+-- A line of the input is no object, for the reason of this name, or its objects have no plan.
+abbrev pub IsPlanRefusal : PlanWords → (input name : List ℕ) → Type 0
+IsPlanRefusal asked input name = ((e : ReadError) × (read_refusal e ≡ Some name) × (read_from nothing (lines input) ≡ Err e))
+    ⊎ ((lists : Lists) × (read_from nothing (lines input) ≡ Ok lists) × IsRefusedOver asked lists name)
+
+-- All of the reader's bytes were read, and have no plan, for the reason of this name.
+abbrev pub IsPlanRefusedBy : PlanWords → Option (List ℕ) → Option (List ℕ) → List ℕ → Type 0
+IsPlanRefusedBy asked had left name = IfSome had (λ input. (left ≡ Some []) × IsPlanRefusal asked input name)

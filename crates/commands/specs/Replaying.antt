@@ -1,9 +1,12 @@
 -- What a run of the program that was asked to replay has done, where the devices tell.
-use Rattle.std.specs.Prelude.{◌≡◌, ◌⊎◌, ℕ, List, [], Option, Some, None, codes, true}
+use Rattle.std.specs.Prelude.{◌≡◌, ◌⊎◌, ◌≤◌, ◌<◌, ℕ, List, [], Option, Some, None, codes}
 use Rattle.std.specs.Option.{IfSome}
-use Rattle.clap.specs.Words.{Text}
 use Rattle.plain.specs.Streams.{Puts}
+use Rattle.plain_store.specs.Reached.{most_revisions}
 use Rattle.history.specs.After.{IsRunOf}
+use Rattle.history.specs.Named.{callers}
+use Rattle.history.specs.declared.replay_error.ReplayError.{ReplayError}
+use Rattle.history.specs.declared.replay_error.ReplayError.TheVariants as errors
 use Rattle.interleavings.specs.World.{Size}
 use Rattle.interleavings.specs.declared.event.Event.{Event}
 use Rattle.interleavings.specs.declared.trace.Run.{Run}
@@ -11,7 +14,6 @@ use Rattle.scripts.specs.Printing.{run_text}
 use Rattle.scripts.specs.Scripts.{script_of}
 use Rattle.scripts.specs.declared.fault.ScriptError.{ScriptError}
 use Rattle.scripts.specs.declared.fault.ScriptError.TheVariants.{BadScript, Memory}
-use Rattle.commands.specs.Grammar.{asks_to}
 
 -- the replies of the run of these events, and its order
 abbrev pub IsRunText : Size × List Event → List ℕ → Type 0
@@ -26,22 +28,28 @@ abbrev pub Replays : Option (List ℕ) → Option (List ℕ) → Option (List �
 Replays had left before after = IfSome had (λ input. (left ≡ Some [])
     × ((text : List ℕ) × IsReplayText input text × Puts before text after))
 
--- a name by which a run is refused
-abbrev pub IsRunRefusal : List ℕ → Type 0
-IsRunRefusal name = (name ≡ codes "BadShards") ⊎ ((name ≡ codes "BadCapacity") ⊎ (name ≡ codes "TooManyCallers"))
+-- The run of the script's events is refused by this name: the shards or the capacity are out of range, or the events name
+-- too many callers.
+abbrev pub IsRunRefusal : Size × List Event → (name : List ℕ) → Type 0
+IsRunRefusal script name = ((1 ≤ script.0.shards → 64 < script.0.shards) × (name ≡ codes "BadShards"))
+    ⊎ (((1 ≤ script.0.shards) × (script.0.shards ≤ 64) × (1 ≤ script.0.capacity → most_revisions < script.0.capacity) × (name ≡ codes "BadCapacity"))
+    ⊎ ((4096 < callers script.1) × (name ≡ codes "TooManyCallers")))
+
+-- the name of the refusal of a run; want of memory is none
+abbrev pub run_refusal : ReplayError → Option (List ℕ)
+run_refusal errors.BadShards = Some (codes "BadShards")
+run_refusal errors.BadCapacity = Some (codes "BadCapacity")
+run_refusal errors.TooManyCallers = Some (codes "TooManyCallers")
+run_refusal errors.Memory = None
 
 -- The input is refused as BadScript exactly where it is no script.
 abbrev pub IsReplayRefusal : (input name : List ℕ) → Type 0
 IsReplayRefusal input name = ((script_of input ≡ None) × (name ≡ codes "BadScript"))
-    ⊎ ((script : Size × List Event) × (script_of input ≡ Some script) × IsRunRefusal name)
+    ⊎ ((script : Size × List Event) × (script_of input ≡ Some script) × IsRunRefusal script name)
 
 -- All of the reader's bytes were read, and are refused by this name.
 abbrev pub IsRefusedBy : Option (List ℕ) → Option (List ℕ) → List ℕ → Type 0
 IsRefusedBy had left name = IfSome had (λ input. (left ≡ Some []) × IsReplayRefusal input name)
-
--- A refusal by some name was told, and a script is refused by that name.
-abbrev pub Refuses : List Text → Option (List ℕ) → Option (List ℕ) → (told : List ℕ → Type 0) → Type 0
-Refuses words had left told = (name : List ℕ) × told name × (asks_to (codes "replay") words ≡ true → IsRefusedBy had left name)
 
 -- the name of the refusal of a text that is no script
 abbrev pub script_refusal : ScriptError → Option (List ℕ)

@@ -1,7 +1,8 @@
 //! Why a run over a whole input has no output, and its exit status.
 ghost use Rattle.std.specs.Prelude.{◌≡◌, ◌≢◌, ◌<◌, ◌⊎◌, None, false, true, IfSome};
 ghost use Rattle.commands.specs.Halts.{IsNamed, Tells, halt_of, is_read, name_of};
-ghost use Rattle.commands.specs.Replaying.{IsRunRefusal, script_refusal};
+ghost use Rattle.commands.specs.Planning.{plan_refusal, read_refusal};
+ghost use Rattle.commands.specs.Replaying.{run_refusal, script_refusal};
 
 use crate::status::{BAD_WORDS, FAILURE, Heap, REFUSED, SUCCESS, refused};
 use history::ReplayError;
@@ -24,7 +25,7 @@ pub(crate) enum Halt {
 }
 
 impl From<AllocError> for Halt {
-    ghost from_gives = { λ _ halt. is_read halt ≡ false };
+    ghost from_gives = { λ _ halt. (is_read halt ≡ false) × (name_of halt ≡ None) };
 
     fn from(_error: AllocError) -> Halt {
         Halt::Memory
@@ -51,7 +52,7 @@ impl From<InputFault> for Halt {
 }
 
 impl From<ReadError> for Halt {
-    ghost from_gives = { λ _ halt. is_read halt ≡ false };
+    ghost from_gives = { λ error halt. (is_read halt ≡ false) × (name_of halt ≡ read_refusal error) };
 
     fn from(error: ReadError) -> Halt {
         match error {
@@ -62,7 +63,7 @@ impl From<ReadError> for Halt {
 }
 
 impl From<PlanError> for Halt {
-    ghost from_gives = { λ _ halt. is_read halt ≡ false };
+    ghost from_gives = { λ error halt. (is_read halt ≡ false) × (name_of halt ≡ plan_refusal error) };
 
     fn from(error: PlanError) -> Halt {
         match error {
@@ -84,7 +85,7 @@ impl From<ScriptError> for Halt {
 }
 
 impl From<ReplayError> for Halt {
-    ghost from_gives = { λ _ halt. (is_read halt ≡ false) × IfSome (name_of halt) IsRunRefusal };
+    ghost from_gives = { λ error halt. (is_read halt ≡ false) × (name_of halt ≡ run_refusal error) };
 
     fn from(error: ReplayError) -> Halt {
         match error {

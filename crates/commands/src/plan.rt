@@ -4,8 +4,8 @@ ghost use Rattle.plan_lines.specs.Objects.{lists_of};
 ghost use Rattle.set_views.specs.Set.{set_parts};
 ghost use Rattle.sets.specs.Plan.{IsPlan};
 ghost use Rattle.sets.specs.declared.action.Plan.{Plan};
-ghost use Rattle.commands.specs.Halts.{Tells, is_read};
-ghost use Rattle.commands.specs.Planning.{IsPlanOver, IsPlanText, PlansBy, actions_of};
+ghost use Rattle.commands.specs.Halts.{Tells, is_read, name_of};
+ghost use Rattle.commands.specs.Planning.{IsPlanOfSetRefused, IsPlanOver, IsPlanRefusal, IsPlanRefusedBy, IsPlanText, IsRefusedOver, PlansBy, actions_of};
 
 use crate::halt::{Halt, halted};
 use crate::status::{BAD_WORDS, FAILURE, Heap, REFUSED, SUCCESS, shown};
@@ -29,7 +29,8 @@ pub(crate) fn planned<R: Source, W: Sink, F: Sink>(
     ensures planned { result ≡ SUCCESS → PlansBy asked.now (R.remaining reader.old) (R.remaining reader.new)
         (W.written writer.old) (W.written writer.new) }
     ensures named { result ≡ REFUSED → (name : List ℕ)
-        × (Tells name (F.written faults.old) (F.written faults.new) (F.failures faults.old) (F.failures faults.new)) }
+        × (Tells name (F.written faults.old) (F.written faults.new) (F.failures faults.old) (F.failures faults.new))
+        × IsPlanRefusedBy asked.now (R.remaining reader.old) (R.remaining reader.new) name }
     ensures cause { result ≡ FAILURE → (R.failures reader.old < R.failures reader.new) ⊎ ((W.failures writer.old < W.failures writer.new)
         ⊎ (heap.new.refused ≡ true)) }
     ensures memory { result ≢ FAILURE → heap.new.refused ≡ heap.old.refused }
@@ -50,7 +51,9 @@ fn plan_of_input<R: Source>(
 ) -> Result<Vec<u8>, Halt>
     requires some { 1 ≤ asked.now.digits }
     requires most { asked.now.digits ≤ 64 }
-    ensures planned { IfOk result (λ text. IfSome (R.remaining reader.old) (λ input. (R.remaining reader.new ≡ Some []) × IsPlanText asked.now input text.items)) }
+    ensures planned { IfOk result (λ text. IfSome (R.remaining reader.old)
+        (λ input. (R.remaining reader.new ≡ Some []) × IsPlanText asked.now input text.items)) }
+    ensures refused { IfErr result (λ halt. IfSome (name_of halt) (IsPlanRefusedBy asked.now (R.remaining reader.old) (R.remaining reader.new))) }
     ensures read { IfErr result (λ halt. is_read halt ≡ true → R.failures reader.old < R.failures reader.new) }
 {
     let input = read_all(alloc, reader)?;
@@ -62,6 +65,7 @@ fn plan_of_lines(alloc: Global, asked: &PlanWords<'_>, input: &[u8]) -> Result<V
     requires some { 1 ≤ asked.now.digits }
     requires most { asked.now.digits ≤ 64 }
     ensures planned { IfOk result (λ text. IsPlanText asked.now input.now text.items) }
+    ensures refused { IfErr result (λ halt. IfSome (name_of halt) (IsPlanRefusal asked.now input.now)) }
     ensures read { IfErr result (λ halt. is_read halt ≡ false) }
 {
     let listed = read_objects(alloc, input)?;
@@ -73,6 +77,7 @@ fn plan_of_objects(alloc: Global, asked: &PlanWords<'_>, listed: &Listed) -> Res
     requires some { 1 ≤ asked.now.digits }
     requires most { asked.now.digits ≤ 64 }
     ensures planned { IfOk result (λ text. (plan : Plan) × IsPlanOver asked.now (lists_of listed.now) plan × (text.items ≡ actions_of plan)) }
+    ensures refused { IfErr result (λ halt. IfSome (name_of halt) (IsRefusedOver asked.now (lists_of listed.now))) }
     ensures read { IfErr result (λ halt. is_read halt ≡ false) }
 {
     let Some(object) = named_set(listed.sets.as_slice(), asked.namespace, asked.name) else {
@@ -89,6 +94,7 @@ fn plan_of_set(alloc: Global, digits: usize, listed: &Listed, set: &Set) -> Resu
     ensures planned { IfOk result (λ text. (plan : Plan)
         × IsPlan (set_parts set.now) listed.now.pods.items listed.now.claims.items listed.now.revisions.items digits (Ok plan)
         × (text.items ≡ actions_of plan)) }
+    ensures refused { IfErr result (λ halt. IfSome (name_of halt) (IsPlanOfSetRefused (set_parts set.now) (lists_of listed.now) digits)) }
     ensures read { IfErr result (λ halt. is_read halt ≡ false) }
 {
     let plan = sets::plan(

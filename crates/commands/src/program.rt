@@ -5,7 +5,8 @@ ghost use Rattle.commands.specs.Grammar.{asks_to, faults_of, is_mistake, is_requ
 ghost use Rattle.commands.specs.Halts.{Tells};
 ghost use Rattle.commands.specs.Planning.{Plans};
 ghost use Rattle.commands.specs.Racing.{Races};
-ghost use Rattle.commands.specs.Replaying.{Refuses, Replays};
+ghost use Rattle.commands.specs.Refusing.{Refuses};
+ghost use Rattle.commands.specs.Replaying.{Replays};
 ghost use Rattle.commands.specs.Serving.{AsksOutOfRange, Serves, ServesSome};
 
 use crate::explain::explained;
@@ -62,8 +63,7 @@ pub fn command<T: Threads + Wait + Sync, S: AsStr, R: Source, W: Sink, F: Sink>(
         result ≡ SUCCESS → (faults_of texts ≡ []) → asks_to (codes "plan") texts ≡ true
         → Plans texts (R.remaining reader.old) (R.remaining reader.new) (W.written writer.old) (W.written writer.new) }
 
-    // What was raced: it writes the line of its report, which is not legal exactly at the status of a refusal, and touches
-    // nothing else.
+    // What was raced: the line of the report and nothing else; it is not legal exactly at the status of a refusal.
     ensures raced { let texts = map S.text words.now in
         result ≡ SUCCESS → (faults_of texts ≡ []) → asks_to (codes "race") texts ≡ true
         → Races true texts (W.written writer.old) (W.written writer.new) }

@@ -59,12 +59,13 @@ fn replay_of_lines(alloc: Global, input: &[u8]) -> Result<Vec<u8>, Halt>
 /// The replies and the order of the run of a script.
 fn replay_of_script(alloc: Global, script: &Script) -> Result<Vec<u8>, Halt>
     ensures replayed { IfOk result (λ text. IsRunText (parts_of script.now) text.items) }
-    ensures refused { IfErr result (λ halt. IfSome (name_of halt) IsRunRefusal) }
+    ensures refused { IfErr result (λ halt. IfSome (name_of halt) (IsRunRefusal (parts_of script.now))) }
     ensures read { IfErr result (λ halt. is_read halt ≡ false) }
 {
     let shards = script.shards as usize;
     let run = replay(alloc, shards, script.capacity, script.events.as_slice())?;
     let text = run_text(alloc, &run);
+    // Let go by name, which is proved once for the type and not at each way out.
     drop(run);
     Ok(text?)
 }

@@ -60,7 +60,7 @@ fn grammar<'a>(alloc: Global) -> Result<Command<'a>, AllocError>
 {
     Command::new(alloc, "stsctl")
         .bin_name("stsctl")?
-        .version("0.1.0")
+        .version("0.2.0")
         .about(
             "A plain in-memory store of Kubernetes objects, replays of racing callers, plans of StatefulSets, and races of their controllers",
         )

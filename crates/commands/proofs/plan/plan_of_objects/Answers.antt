@@ -1,8 +1,10 @@
-use Rattle.std.proofs.Common.{sym, ap, ◌∙◌}
+use Rattle.std.proofs.Common.{sym, ap, inr, ◌∙◌}
 use Rattle.std.specs.Prelude.{find}
-use Rattle.std.proofs.lemmas.Result.{IfOk-weaker}
+use Rattle.std.proofs.lemmas.Option.{IfSome_then}
+use Rattle.std.proofs.lemmas.Result.{IfErr-weaker, IfOk-weaker}
 use Rattle.plan_lines.specs.Objects.{is_named}
 use Rattle.set_views.specs.Set.{set_parts}
+use Rattle.commands.specs.Halts.{name_of}
 use Rattle.commands.proofs.plan.plan_of_objects.Goals as goal
 
 pub returns-clause-planned : goal.returns-clause-planned
@@ -11,3 +13,11 @@ returns-clause-planned c =
     let found = sym (c.in-Some.ensures ∙ ap (λ sets. find (is_named asked.namespace.now asked.name.now) sets) c.as_slice.ensures.value) in
     IfOk-weaker c.plan_of_set.result _ _
     (λ text planned. (planned.0, (c.in-Some.object.now, found, (set_parts c.in_ok-set.set, c.in_ok-set.ensures, planned.1)), planned.2)) c.plan_of_set.ensures.planned
+
+pub returns-clause-refused : goal.returns-clause-refused
+returns-clause-refused c =
+    let asked = c.args.asked.now in
+    let found = sym (c.in-Some.ensures ∙ ap (λ sets. find (is_named asked.namespace.now asked.name.now) sets) c.as_slice.ensures.value) in
+    IfErr-weaker c.plan_of_set.result _ _
+    (λ halt refused. IfSome_then (name_of halt) refused
+    (λ name is. inr (c.in-Some.object.now, found, inr (set_parts c.in_ok-set.set, c.in_ok-set.ensures, is)))) c.plan_of_set.ensures.refused

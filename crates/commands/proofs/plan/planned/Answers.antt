@@ -1,6 +1,7 @@
 use Rattle.commands.proofs.Planned.{plans}
-use Rattle.commands.proofs.Replayed.{told}
+use Rattle.commands.proofs.Replayed.{told_and}
 use Rattle.commands.specs.Halts.{Tells, name_of}
+use Rattle.commands.specs.Planning.{IsPlanRefusedBy}
 use Rattle.commands.proofs.plan.planned.Goals as goal
 
 pub returns-in-Ok-clause-planned : goal.returns-in-Ok-clause-planned
@@ -10,6 +11,7 @@ returns-in-Ok-clause-planned g c = λ is.
 
 pub returns-in-Err-clause-named : goal.returns-in-Err-clause-named
 returns-in-Err-clause-named g c = λ is.
-    told (name_of c.in-Err.halt)
+    told_and (name_of c.in-Err.halt)
     (λ name. Tells name (g.F.Sink.written c.args.faults.now) (g.F.Sink.written c.halted.new.faults) (g.F.Sink.failures c.args.faults.now) (g.F.Sink.failures c.halted.new.faults))
-    (c.halted.ensures.named is)
+    (IsPlanRefusedBy c.args.asked.now (g.R.Source.remaining c.args.reader.now) (g.R.Source.remaining c.plan_of_input.new.reader))
+    (c.halted.ensures.named is) c.in-Err.ensures.refused

@@ -2,6 +2,7 @@ use Rattle.std.proofs.Common.{List, sym, subst}
 use Rattle.std.specs.Option.{IfSome}
 use Rattle.history.specs.After.{IsRunOf}
 use Rattle.interleavings.specs.declared.event.Event.{Event}
+use Rattle.scripts.specs.Scripts.{parts_of}
 use Rattle.commands.specs.Replaying.{IsRunRefusal}
 use Rattle.commands.proofs.Replayed.{error_has}
 use Rattle.commands.proofs.replay.replay_of_script.Goals as goal
@@ -13,4 +14,4 @@ returns-clause-replayed c =
 
 pub returns-in_err-text-clause-refused : goal.returns-in_err-text-clause-refused
 returns-in_err-text-clause-refused c =
-    error_has c.from_residual-in_err-text.result _ _ c.from_residual-in_err-text.ensures.1 (λ halt is. subst (λ o. IfSome o IsRunRefusal) (sym is.1) tt)
+    error_has c.from_residual-in_err-text.result _ _ c.from_residual-in_err-text.ensures.1 (λ halt is. subst (λ o. IfSome o (IsRunRefusal (parts_of c.args.script.now))) (sym is.1) tt)
