@@ -220,6 +220,7 @@ fn replayed(rt: &HostRuntime, traffic: Traffic, size: Size, events: &[Event]) ->
     let run = replay(rt.alloc(), size.shards, CAPACITY, events)?;
     let elapsed = start.elapsed(rt)?;
     let (items, order) = (run.trace.items.len(), run.order.len());
+    // Let go by name, which is proved once for the type and not at each way out.
     drop(run);
     let (name, events, callers, shards) = (traffic.name(), size.events, size.callers, size.shards);
     let load = format!(in rt.alloc(); "{events} {name}, {callers} callers, {shards} shards")?;

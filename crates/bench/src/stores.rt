@@ -16,7 +16,7 @@ use crate::timing::report;
 use anyhow::Result;
 use line::{Ends, Line, MAX_NUMBERS};
 use objects::ReadError;
-use pods::{PODS, draft, key};
+use pods::{Drafts, PODS, key};
 use racing::{SharedStore, answered};
 use readers::{Reading, read_all};
 use requests::Request;
@@ -151,9 +151,11 @@ fn together(works: &[Work]) -> Option<Work> {
 /// Creates all pods.
 fn fill<S: SharedStore, R: Wait>(rt: &R, alloc: Global, store: &S) -> Result<(), ReadError> {
     let mut caller = store.caller(rt)?;
+    let mut drafts = Drafts::new(alloc);
     for pod in 0..PODS {
-        let created = Request::Create(draft(alloc, pod, 0)?);
+        let created = Request::Create(drafts.next(pod, 0)?);
         let (reply, _) = answered(rt, store, &NoGate, &mut caller, created)?;
+        // Let go by name, which is proved once for the type and not at each way out.
         drop(reply);
     }
     Ok(())
@@ -164,6 +166,7 @@ fn frontier<S: SharedStore, R: Wait>(rt: &R, alloc: Global, store: &S) -> Result
     let mut caller = store.caller(rt)?;
     let key = key(alloc, 0)?;
     let reply = store.get(rt, &mut caller, &key)?;
+    // Let go by name, which is proved once for the type and not at each way out.
     drop(reply);
     Ok(store.seen(&caller))
 }

@@ -1,6 +1,7 @@
 // The pods that are written and read.
-use objects::{Draft, Key, Kind, Memory, ReadError, Text, read_object};
+use objects::{Draft, Key, Kind, Memory, ReadError, Text, read_draft};
 use std::alloc::Global;
+use trees::TreeReader;
 
 /// How many pods there are.
 pub(crate) const PODS: u64 = 2_000;
@@ -20,11 +21,28 @@ pub(crate) fn key(alloc: Global, pod: u64) -> Result<Key, ReadError> {
     Key::of(alloc, Kind::Pod, namespace.as_str(), name.as_str())
 }
 
-/// A pod of some 170 bytes with that label.
-pub(crate) fn draft(alloc: Global, pod: u64, label: u64) -> Result<Draft, ReadError> {
-    let space = pod / SPACE;
-    let text = format!(in alloc;
-        "{{\"kind\":\"Pod\",\"metadata\":{{\"labels\":{{\"app\":\"web\",\"turn\":\"{label}\"}},\"name\":\"web-{pod}\",\"namespace\":\"ns-{space}\"}},\"spec\":{{\"containers\":[{{\"image\":\"web:1\",\"name\":\"web\"}}],\"nodeName\":\"n-1\"}}}}"
-    )?;
-    read_object(alloc, text.as_bytes())
+/// Makes the pods that are written, in memory that it keeps from pod to pod.
+#[derive(Drop)]
+pub(crate) struct Drafts {
+    alloc: Global,
+    reader: TreeReader,
+}
+
+impl Drafts {
+    pub(crate) fn new(alloc: Global) -> Drafts {
+        Drafts {
+            alloc,
+            reader: TreeReader::new(alloc),
+        }
+    }
+
+    /// A pod of some 170 bytes with that label.
+    pub(crate) fn next(&mut self, pod: u64, label: u64) -> Result<Draft, ReadError> {
+        let space = pod / SPACE;
+        let text = format!(in self.alloc;
+            "{{\"kind\":\"Pod\",\"metadata\":{{\"labels\":{{\"app\":\"web\",\"turn\":\"{label}\"}},\"name\":\"web-{pod}\",\"namespace\":\"ns-{space}\"}},\"spec\":{{\"containers\":[{{\"image\":\"web:1\",\"name\":\"web\"}}],\"nodeName\":\"n-1\"}}}}"
+        )?;
+        let tree = self.reader.read(text.as_bytes())?;
+        read_draft(self.alloc, tree)
+    }
 }

@@ -1,5 +1,5 @@
 // What a thread that writes does.
-use crate::stores::pods::{PODS, draft, key};
+use crate::stores::pods::{Drafts, PODS, key};
 use objects::{Memory, ReadError, Text};
 use racing::{SharedStore, answered};
 use requests::{Reply, Request};
@@ -29,14 +29,20 @@ impl Share {
     }
 }
 
-fn creation(alloc: Global, pod: u64, label: u64) -> Result<Request, ReadError> {
-    Ok(Request::Create(draft(alloc, pod, label)?))
+fn creation(drafts: &mut Drafts, pod: u64, label: u64) -> Result<Request, ReadError> {
+    Ok(Request::Create(drafts.next(pod, label)?))
 }
 
 /// An update at that revision.
-fn update(alloc: Global, pod: u64, label: u64, revision: u64) -> Result<Request, ReadError> {
+fn update(
+    alloc: Global,
+    drafts: &mut Drafts,
+    pod: u64,
+    label: u64,
+    revision: u64,
+) -> Result<Request, ReadError> {
     let version = format!(in alloc; "{revision}")?;
-    let mut draft = draft(alloc, pod, label)?;
+    let mut draft = drafts.next(pod, label)?;
     draft.version = Some(Text::from(version));
     Ok(Request::Update(draft))
 }
@@ -66,6 +72,7 @@ fn accepted<S: SharedStore, R: Wait>(
 ) -> Result<Option<u64>, Memory> {
     let (reply, number) = answered(rt, store, &NoGate, caller, request)?;
     let is_accepted = is_accepted(&reply);
+    // Let go by name, which is proved once for the type and not at each way out.
     drop(reply);
     Ok(is_accepted.then_some(number))
 }
@@ -77,15 +84,16 @@ fn write<S: SharedStore, R: Wait>(
     alloc: Global,
     store: &S,
     caller: &mut S::Caller,
+    drafts: &mut Drafts,
     pod: u64,
     label: u64,
 ) -> Result<u64, ReadError> {
-    let created = creation(alloc, pod, label)?;
+    let created = creation(drafts, pod, label)?;
     let Some(mut revision) = accepted(rt, store, caller, created)? else {
         return Ok(0);
     };
     for count in 1..=UPDATES {
-        let updated = update(alloc, pod, label.wrapping_add(count), revision)?;
+        let updated = update(alloc, drafts, pod, label.wrapping_add(count), revision)?;
         let Some(next) = accepted(rt, store, caller, updated)? else {
             return Ok(count);
         };
@@ -106,9 +114,11 @@ pub(crate) fn write_all<S: SharedStore, R: Wait>(
     caller: &mut S::Caller,
     share: Share,
 ) -> Result<u64, ReadError> {
+    let mut drafts = Drafts::new(alloc);
     let mut accepted = 0_u64;
     for taken in 0..share.writes.div_ceil(WRITES) {
-        let count = write(rt, alloc, store, caller, share.pod(taken), taken)?;
+        let pod = share.pod(taken);
+        let count = write(rt, alloc, store, caller, &mut drafts, pod, taken)?;
         accepted = accepted.wrapping_add(count);
         if count < WRITES {
             break;
