@@ -57,7 +57,7 @@ fn update(
     pod: &str,
     owner: &Option<Owner>,
     claim: &Object,
-) -> Result<Option<ClaimChange>, AllocError>
+) -> Result<Option<ClaimChange>, Memory>
     ensures { IfOk result (λ change. change ≡ update (set_parts set.now) pod.now owner.now claim.now) }
 {
     let entries = claim.owners();
@@ -76,7 +76,7 @@ fn create(
     ordinal: u32,
     pod: &str,
     template: &(Text, Members),
-) -> Result<ClaimChange, AllocError>
+) -> Result<ClaimChange, Memory>
     requires named { pod.now ≡ pod_name set.now.object.key.name ordinal }
     requires short { length pod.now ≤ 63 }
     requires label { is_dns_label template.now.0 ≡ true }
@@ -99,7 +99,7 @@ fn made(
     pod: &str,
     template: &(Text, Members),
     found: Option<&Object>,
-) -> Result<Option<ClaimChange>, AllocError>
+) -> Result<Option<ClaimChange>, Memory>
     requires named { pod.now ≡ pod_name set.now.object.key.name ordinal }
     requires short { length pod.now ≤ 63 }
     requires label { is_dns_label template.now.0 ≡ true }
@@ -182,7 +182,7 @@ fn updated_found(
     pod: &str,
     owner: &Option<Owner>,
     found: Option<&Object>,
-) -> Result<Option<ClaimChange>, AllocError>
+) -> Result<Option<ClaimChange>, Memory>
     ensures { IfOk result (λ change. change ≡ option_and_then (update (set_parts set.now) pod.now owner.now) (option_map (λ o. o.now) found.entry)) }
 {
     match found {

@@ -8,7 +8,7 @@ ghost use Rattle.set_views.specs.Set.{set_parts};
 ghost use Rattle.claims.specs.Owners.{are_wanted, is_of, is_of_pod, is_of_set, is_there, reference, reference_to, stays, wanted, with_owner};
 
 use crate::owner::Owner;
-use objects::{Members, Text, Tree, is_uid_text, uid_text};
+use objects::{Members, Memory, Text, Tree, is_uid_text, uid_text};
 use set_views::{Set, says};
 use std::alloc::{AllocError, Global};
 
@@ -114,21 +114,21 @@ fn reference(
 }
 
 /// A new entry of the owner.
-fn reference_to(alloc: Global, set: &Set, pod: &str, owner: &Owner) -> Result<Tree, AllocError>
+fn reference_to(alloc: Global, set: &Set, pod: &str, owner: &Owner) -> Result<Tree, Memory>
     ensures { IfOk result (λ tree. data_of tree ≡ reference_to (set_parts set.now) pod.now owner.now) }
 {
     match owner {
         Owner::Set => {
             let uid = uid_text(alloc, set.object.meta.uid)?;
-            reference(
+            Ok(reference(
                 alloc,
                 "apps/v1",
                 "StatefulSet",
                 set.object.key.name.as_str(),
                 uid.as_str(),
-            )
+            )?)
         }
-        Owner::Pod(uid) => reference(alloc, "v1", "Pod", pod, uid.as_str()),
+        Owner::Pod(uid) => Ok(reference(alloc, "v1", "Pod", pod, uid.as_str())?),
     }
 }
 
@@ -158,7 +158,7 @@ fn with_owner(
     pod: &str,
     owner: &Owner,
     entries: Vec<Tree>,
-) -> Result<Vec<Tree>, AllocError>
+) -> Result<Vec<Tree>, Memory>
     ensures { IfOk result (λ owned. map data_of owned.items ≡ with_owner (set_parts set.now) pod.now (Some owner.now) (map data_of entries.items)) }
 {
     if have(set, owner, &entries) {
@@ -176,7 +176,7 @@ pub(crate) fn wanted(
     pod: &str,
     owner: &Option<Owner>,
     entries: &[Tree],
-) -> Result<Vec<Tree>, AllocError>
+) -> Result<Vec<Tree>, Memory>
     ensures { IfOk result (λ owned. map data_of owned.items ≡ wanted (set_parts set.now) pod.now owner.now (map data_of entries.now)) }
 {
     let kept = staying(alloc, set, pod, owner, entries)?;

@@ -3,9 +3,9 @@ ghost use Rattle.std.specs.Prelude.{◌≡◌, IfOk};
 ghost use Rattle.set_views.specs.Set.{set_parts};
 ghost use Rattle.claims.specs.Owners.{known_uid, owner_in_range, owner_of_condemned};
 
-use objects::{Text, uid_text};
+use objects::{Memory, Text, uid_text};
 use set_views::{Retention, Set};
-use std::alloc::{AllocError, Global};
+use std::alloc::Global;
 
 /// With whom a claim goes.
 #[derive(Drop)]
@@ -27,7 +27,7 @@ pub(crate) fn owner_in_range(set: &Set) -> Option<Owner>
 }
 
 /// The text of a UID's number. A number that no UID has counts as none.
-fn known_uid(alloc: Global, uid: u64) -> Result<Text, AllocError>
+fn known_uid(alloc: Global, uid: u64) -> Result<Text, Memory>
     ensures { IfOk result (λ text. text ≡ known_uid uid) }
 {
     // 0 is the number of no UID.
@@ -40,7 +40,7 @@ pub(crate) fn owner_of_condemned(
     alloc: Global,
     set: &Set,
     uid: u64,
-) -> Result<Option<Owner>, AllocError>
+) -> Result<Option<Owner>, Memory>
     ensures { IfOk result (λ owner. owner ≡ owner_of_condemned (set_parts set.now) uid) }
 {
     match set.when_scaled {

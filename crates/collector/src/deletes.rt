@@ -69,7 +69,7 @@ fn owner_number(owner: &Tree) -> Option<u64>
     uid_number(owner.as_map()?.get("uid")?.as_text()?)
 }
 
-fn deletion(alloc: Global, claim: &Object) -> Result<Request, AllocError>
+fn deletion(alloc: Global, claim: &Object) -> Result<Request, Memory>
     ensures { IfOk result (λ request. request ≡ deletion claim.now) }
 {
     let key = claim.key.clone()?;
@@ -84,7 +84,7 @@ fn deletion(alloc: Global, claim: &Object) -> Result<Request, AllocError>
 }
 
 /// The text of a UID, unless it is 0.
-fn uid_given(alloc: Global, number: u64) -> Result<Option<Text>, AllocError>
+fn uid_given(alloc: Global, number: u64) -> Result<Option<Text>, Memory>
     requires { number < 2 ^ 48 }
     ensures { IfOk result (λ text. text ≡ given uid_text number) }
 {

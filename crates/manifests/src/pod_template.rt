@@ -10,10 +10,10 @@ ghost use Rattle.manifests.specs.Volumes.{other_volumes};
 use crate::members::{part, part_in, with_some};
 use crate::template::{labels_in, template_of};
 use crate::volumes::other_volumes;
-use objects::{Items, Members, Object};
+use objects::{Items, Members, Memory, Object};
 use revisions::{RevisionView, owned_metadata};
 use set_views::Set;
-use std::alloc::{AllocError, Global};
+use std::alloc::Global;
 
 /// What the pods of a set from one revision have in common. It is made once, so that a pod costs no more than what it has.
 #[derive(Drop)]
@@ -42,7 +42,7 @@ impl<'a> PodTemplate<'a> {
         alloc: Global,
         set: &'a Set,
         revision: &RevisionView<'a>,
-    ) -> Result<PodTemplate<'a>, AllocError>
+    ) -> Result<PodTemplate<'a>, Memory>
         ensures set { IfOk result (λ template. template.set.now ≡ set.now) }
         ensures revision { IfOk result (λ template. template.revision.now ≡ revision.now.object.now) }
     {
@@ -66,10 +66,10 @@ impl<'a> PodTemplate<'a> {
 }
 
 /// The set as the owner, and the annotations of this metadata.
-fn annotated(alloc: Global, set: &Set, metadata: &Members) -> Result<Members, AllocError>
+fn annotated(alloc: Global, set: &Set, metadata: &Members) -> Result<Members, Memory>
     ensures { IfOk result (λ ms. ms ≡ put_some (codes "annotations") (part_in (codes "annotations") metadata.now) (owned_metadata (set_parts set.now))) }
 {
     let annotations = part_in(metadata, "annotations")?;
     let owned = owned_metadata(alloc, set)?;
-    with_some(owned, "annotations", annotations)
+    Ok(with_some(owned, "annotations", annotations)?)
 }

@@ -2,14 +2,15 @@ ghost use Rattle.std.specs.Prelude.{◌≡◌, ℕ, List, Some, ◌<◌, ◌^◌
 ghost use Rattle.hex.specs.Hex.{hex_digit_value};
 ghost use Rattle.objects.specs.Uid.{uid_text, uid_number, version_number, uid_prefix, twelve_digits, hex_value};
 
-use std::alloc::{AllocError, Global};
+use std::alloc::Global;
+use trees::Memory;
 
 const PREFIX: &str = "00000000-0000-4000-8000-";
 
 /// The text of a UID: `00000000-0000-4000-8000-` and twelve lower-case hexadecimal digits of the number; of 0, which
 /// stands for none, the empty text.
 #[tactic(auto, unfolding(crate::specs::Uid::uid_text))]
-pub fn uid_text(alloc: Global, number: u64) -> Result<String, AllocError>
+pub fn uid_text(alloc: Global, number: u64) -> Result<String, Memory>
     requires { number < 2 ^ 48 }
     ensures { IfOk result (λ text. string_bytes text ≡ uid_text number) }
 {

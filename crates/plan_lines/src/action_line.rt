@@ -30,15 +30,15 @@ pub fn actions_text(alloc: Global, actions: &[Action]) -> Result<Vec<u8>, Memory
     Ok(text)
 }
 
-fn put_action(alloc: Global, action: &Action, out: Vec<u8>) -> Result<Vec<u8>, AllocError>
+fn put_action(alloc: Global, action: &Action, out: Vec<u8>) -> Result<Vec<u8>, Memory>
     ensures { IfOk result (λ text. text.items ≡ out.items ++ (compact_text (action_data action.now) ++ 10 ∷ [])) }
 {
     let mut writer = Writer::new(out);
     write_action(alloc, action, &mut writer)?;
-    end_line(writer)
+    Ok(end_line(writer)?)
 }
 
-fn write_action(alloc: Global, action: &Action, out: &mut Writer) -> Result<(), AllocError>
+fn write_action(alloc: Global, action: &Action, out: &mut Writer) -> Result<(), Memory>
     ensures tokens { OnOk result (out.new.tokens ≡ out.old.tokens ++ json_tokens (outline (action_data action.now))) }
     ensures before { out.new.before ≡ out.old.before }
 {
@@ -57,14 +57,14 @@ fn write_action(alloc: Global, action: &Action, out: &mut Writer) -> Result<(), 
 }
 
 // An action that writes an object.
-fn write_written(word: &str, object: &Object, out: &mut Writer) -> Result<(), AllocError>
+fn write_written(word: &str, object: &Object, out: &mut Writer) -> Result<(), Memory>
     ensures tokens { OnOk result (out.new.tokens ≡ out.old.tokens ++ json_tokens (outline (with_object word.now object.now))) }
     ensures before { out.new.before ≡ out.old.before }
 {
     out.begin_object()?;
     write_text_member("do", word, out)?;
     write_object_member("object", object, out)?;
-    out.end_object()
+    Ok(out.end_object()?)
 }
 
 fn write_pod_deletion(
@@ -72,7 +72,7 @@ fn write_pod_deletion(
     name: &str,
     uid: u64,
     out: &mut Writer,
-) -> Result<(), AllocError>
+) -> Result<(), Memory>
     ensures tokens { OnOk result (out.new.tokens ≡ out.old.tokens ++ json_tokens (outline (pod_deletion name.now uid))) }
     ensures before { out.new.before ≡ out.old.before }
 {
@@ -80,7 +80,7 @@ fn write_pod_deletion(
     write_text_member("do", "DeletePod", out)?;
     write_text_member("name", name, out)?;
     write_uid(alloc, uid, out)?;
-    out.end_object()
+    Ok(out.end_object()?)
 }
 
 fn write_revision_deletion(
@@ -89,7 +89,7 @@ fn write_revision_deletion(
     uid: u64,
     version: u64,
     out: &mut Writer,
-) -> Result<(), AllocError>
+) -> Result<(), Memory>
     ensures tokens { OnOk result (out.new.tokens ≡ out.old.tokens ++ json_tokens (outline (revision_deletion name.now version uid))) }
     ensures before { out.new.before ≡ out.old.before }
 {
@@ -98,10 +98,10 @@ fn write_revision_deletion(
     write_text_member("name", name, out)?;
     write_version(version, out)?;
     write_uid(alloc, uid, out)?;
-    out.end_object()
+    Ok(out.end_object()?)
 }
 
-fn write_wait(cause: Cause, name: &str, out: &mut Writer) -> Result<(), AllocError>
+fn write_wait(cause: Cause, name: &str, out: &mut Writer) -> Result<(), Memory>
     ensures tokens { OnOk result (out.new.tokens ≡ out.old.tokens ++ json_tokens (outline (waiting cause name.now))) }
     ensures before { out.new.before ≡ out.old.before }
 {
@@ -109,7 +109,7 @@ fn write_wait(cause: Cause, name: &str, out: &mut Writer) -> Result<(), AllocErr
     write_cause(cause, out)?;
     write_text_member("do", "Wait", out)?;
     write_text_member("name", name, out)?;
-    out.end_object()
+    Ok(out.end_object()?)
 }
 
 fn write_cause(cause: Cause, out: &mut Writer) -> Result<(), AllocError>
@@ -122,15 +122,15 @@ fn write_cause(cause: Cause, out: &mut Writer) -> Result<(), AllocError>
     }
 }
 
-fn write_uid(alloc: Global, number: u64, out: &mut Writer) -> Result<(), AllocError>
+fn write_uid(alloc: Global, number: u64, out: &mut Writer) -> Result<(), Memory>
     ensures tokens { OnOk result (out.new.tokens ≡ out.old.tokens ++ key (codes "uid") ∷ string (uid_shown number) ∷ []) }
     ensures before { out.new.before ≡ out.old.before }
 {
     let text = uid_shown(alloc, number)?;
-    write_text_member("uid", text.as_str(), out)
+    Ok(write_text_member("uid", text.as_str(), out)?)
 }
 
-fn uid_shown(alloc: Global, number: u64) -> Result<String, AllocError>
+fn uid_shown(alloc: Global, number: u64) -> Result<String, Memory>
     ensures { IfOk result (λ text. string_bytes text ≡ uid_shown number) }
 {
     if number < 1 << 48 {

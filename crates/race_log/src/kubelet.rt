@@ -44,7 +44,7 @@ fn ready_status(alloc: Global) -> Result<Tree, AllocError>
     Ok(Tree::Map(whole))
 }
 
-fn given_uid(alloc: Global, number: u64) -> Result<Option<Text>, AllocError>
+fn given_uid(alloc: Global, number: u64) -> Result<Option<Text>, Memory>
     requires { number < 2 ^ 48 }
     ensures { IfOk result (λ text. text ≡ unless_zero uid_text number) }
 {
@@ -65,7 +65,7 @@ fn given_version(alloc: Global, number: u64) -> Result<Option<Text>, AllocError>
 }
 
 /// The texts of the pod's UID and version.
-fn texts_of(alloc: Global, pod: &Object) -> Result<(Option<Text>, Option<Text>), AllocError>
+fn texts_of(alloc: Global, pod: &Object) -> Result<(Option<Text>, Option<Text>), Memory>
     ensures { IfOk result (λ texts. (texts.0 ≡ unless_zero uid_text pod.now.meta.uid) × (texts.1 ≡ unless_zero decimal pod.now.meta.revision)) }
 {
     let uid = given_uid(alloc, pod.meta.uid)?;
@@ -74,7 +74,7 @@ fn texts_of(alloc: Global, pod: &Object) -> Result<(Option<Text>, Option<Text>),
 }
 
 /// The pod, to be written with the status of a ready one.
-fn made_ready(alloc: Global, pod: &Object) -> Result<Draft, AllocError>
+fn made_ready(alloc: Global, pod: &Object) -> Result<Draft, Memory>
     ensures { IfOk result (λ draft. draft ≡ made_ready pod.now) }
 {
     let status = ready_status(alloc)?;
@@ -88,7 +88,7 @@ fn made_ready(alloc: Global, pod: &Object) -> Result<Draft, AllocError>
 }
 
 /// The delete of a pod by its UID.
-fn removal(alloc: Global, pod: &Object) -> Result<Request, AllocError>
+fn removal(alloc: Global, pod: &Object) -> Result<Request, Memory>
     ensures { IfOk result (λ r. r ≡ Delete pod.now.key (Some (uid_text pod.now.meta.uid)) None None) }
 {
     let uid = Text::from(uid_text(alloc, pod.meta.uid)?);
@@ -107,7 +107,7 @@ fn is_ready(readiness: Readiness) -> bool
 }
 
 /// What the kubelet asks of a pod, if anything.
-fn asked_of(alloc: Global, pod: &Object) -> Result<Option<Request>, AllocError>
+fn asked_of(alloc: Global, pod: &Object) -> Result<Option<Request>, Memory>
     ensures { IfOk result (λ asked. option_to_list asked ≡ kubelet_asks pod.now) }
 {
     let view = read_pod(pod);

@@ -24,7 +24,7 @@ fn new(object: Object) -> Draft
 }
 
 /// The object, to be written if it still has its UID and its version.
-fn as_read(alloc: Global, object: Object) -> Result<Draft, AllocError>
+fn as_read(alloc: Global, object: Object) -> Result<Draft, Memory>
     ensures { IfOk result (λ draft. draft ≡ as_read object) }
 {
     match read_texts(alloc, &object) {
@@ -41,7 +41,7 @@ fn as_read(alloc: Global, object: Object) -> Result<Draft, AllocError>
 }
 
 /// The texts of an object's UID and version, each unless it is 0.
-fn read_texts(alloc: Global, object: &Object) -> Result<(Option<Text>, Option<Text>), AllocError>
+fn read_texts(alloc: Global, object: &Object) -> Result<(Option<Text>, Option<Text>), Memory>
     ensures { IfOk result (λ texts. (texts.0 ≡ given uid_text object.now.meta.uid) × (texts.1 ≡ given decimal object.now.meta.revision)) }
 {
     let uid = given_uid(alloc, object.meta.uid)?;
@@ -49,7 +49,7 @@ fn read_texts(alloc: Global, object: &Object) -> Result<(Option<Text>, Option<Te
     Ok((uid, version))
 }
 
-fn given_uid(alloc: Global, number: u64) -> Result<Option<Text>, AllocError>
+fn given_uid(alloc: Global, number: u64) -> Result<Option<Text>, Memory>
     requires { number < 2 ^ 48 }
     ensures { IfOk result (λ text. text ≡ given uid_text number) }
 {

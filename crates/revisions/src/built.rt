@@ -8,7 +8,7 @@ ghost use Rattle.set_views.specs.Set.{set_parts};
 ghost use Rattle.revisions.specs.Built.{new_revision, owned_metadata, owner_reference, with_number};
 ghost use Rattle.revisions.specs.Choice.{data_with};
 
-use objects::{Items, Key, Kind, Members, Object, ReadError, Text, Tree, Whole, uid_text};
+use objects::{Items, Key, Kind, Members, Memory, Object, ReadError, Text, Tree, Whole, uid_text};
 use set_views::Set;
 use std::alloc::{AllocError, Global};
 
@@ -29,7 +29,7 @@ pub(crate) fn data_with(alloc: Global, template: &Members) -> Result<Tree, Alloc
 }
 
 /// The set as the controller of what it owns.
-fn owner_reference(alloc: Global, set: &Set) -> Result<Tree, AllocError>
+fn owner_reference(alloc: Global, set: &Set) -> Result<Tree, Memory>
     ensures { IfOk result (λ tree. data_of tree ≡ owner_reference (set_parts set.now)) }
 {
     let uid = uid_text(alloc, set.object.meta.uid)?;
@@ -45,15 +45,13 @@ fn owner_reference(alloc: Global, set: &Set) -> Result<Tree, AllocError>
 
 /// The metadata of what the set owns, beside its name and namespace: one owner reference, with the set as the controller
 /// that keeps its UID until its dependents are gone (Kubernetes, "Owners and Dependents": `blockOwnerDeletion`).
-pub fn owned_metadata(alloc: Global, set: &Set) -> Result<Members, AllocError>
+pub fn owned_metadata(alloc: Global, set: &Set) -> Result<Members, Memory>
     ensures { IfOk result (λ metadata. metadata ≡ owned_metadata (set_parts set.now)) }
 {
     let mut owners = Vec::new(alloc);
     owners.push(owner_reference(alloc, set)?)?;
-    Members::of(alloc, Vec::new(alloc))?.with(
-        "ownerReferences",
-        Some(Tree::List(Items::of(alloc, owners)?)),
-    )
+    let owners = Tree::List(Items::of(alloc, owners)?);
+    Ok(Members::of(alloc, Vec::new(alloc))?.with("ownerReferences", Some(owners))?)
 }
 
 /// A revision of the set's template, with that name and number.
@@ -63,7 +61,7 @@ pub(crate) fn new_revision(
     name: &str,
     template: Tree,
     number: u64,
-) -> Result<Object, AllocError>
+) -> Result<Object, Memory>
     requires named { is_key (key_parts ControllerRevision set.now.object.key.namespace name.now) ≡ true }
     requires template { data_of template ≡ data_with set.now.template }
     ensures { IfOk result (λ object. object ≡ new_revision (set_parts set.now) name.now number) }
@@ -73,16 +71,16 @@ pub(crate) fn new_revision(
     let members = Members::of(alloc, Vec::new(alloc))?
         .with("data", Some(template))?
         .with("revision", Some(Tree::Whole(Whole::from(number))))?;
-    Object::of(alloc, key, metadata, members)
+    Ok(Object::of(alloc, key, metadata, members)?)
 }
 
-fn revision_key(alloc: Global, namespace: &str, name: &str) -> Result<Key, AllocError>
+fn revision_key(alloc: Global, namespace: &str, name: &str) -> Result<Key, Memory>
     requires { is_key (key_parts ControllerRevision namespace.now name.now) ≡ true }
     ensures { IfOk result (λ key. key ≡ key_parts ControllerRevision namespace.now name.now) }
 {
     match Key::of(alloc, Kind::ControllerRevision, namespace, name) {
         Ok(key) => Ok(key),
-        Err(ReadError::Memory) => Err(AllocError),
+        Err(ReadError::Memory) => Err(Memory),
         Err(_) => unreachable!(),
     }
 }

@@ -17,7 +17,7 @@ use objects::{Memory, Object, Text, pod_name};
 use revisions::Revisions;
 use scaling::{Revision, Step};
 use set_views::{PlanError, Set};
-use std::alloc::{AllocError, Global};
+use std::alloc::Global;
 
 /// The name of the set's pod of that ordinal.
 pub(crate) fn name_at(alloc: Global, set: &Set, ordinal: u32) -> Result<Text, Memory>
@@ -47,7 +47,7 @@ pub(crate) fn templates_of<'a>(
     alloc: Global,
     set: &'a Set,
     revisions: &Revisions<'a>,
-) -> Result<Templates<'a>, AllocError>
+) -> Result<Templates<'a>, Memory>
     ensures current_set { IfOk result (λ templates. templates.current.set.now ≡ set.now) }
     ensures update_set { IfOk result (λ templates. templates.update.set.now ≡ set.now) }
     ensures current { IfOk result (λ templates. templates.current.revision.now ≡ revisions.now.current.object.now) }
