@@ -1,3 +1,4 @@
+-- ---- what public clauses cite
 pub mod Listed
 pub mod Owners
 pub mod Changes

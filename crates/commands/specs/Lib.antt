@@ -1,3 +1,4 @@
+-- ---- what public clauses cite
 pub mod Asked
 pub mod Grammar
 pub mod Halts

@@ -3,7 +3,6 @@ pub mod Cluster
 pub mod Controller
 pub mod InTurn
 pub mod Whole
--- ---- what only proofs use
 pub mod Progress
 -- ---- of the crates below
 pub use Rattle.reconcilers.specs.Planned

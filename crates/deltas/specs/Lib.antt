@@ -1,1 +1,2 @@
+-- ---- what public clauses cite
 pub mod Expanded

@@ -1,7 +1,6 @@
 -- ---- what public clauses cite
 pub mod After
 pub mod Named
--- ---- what only proofs use
 pub mod Begun
 pub mod Mirrors
 pub mod Replayed

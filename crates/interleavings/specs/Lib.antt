@@ -8,5 +8,4 @@ pub mod Spared
 pub mod Step
 pub mod Trace
 pub mod World
--- ---- what only proofs use
 pub mod Facts

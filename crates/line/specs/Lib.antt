@@ -1,4 +1,4 @@
--- ---- what public clauses cite, and the rule that every step keeps
+-- ---- what public clauses cite
 pub mod Seat
 pub mod Notes
 pub mod NotedView
@@ -6,6 +6,6 @@ pub mod NotedSteps
 pub mod View
 pub mod Rule
 pub mod NotedRule
--- ---- what only the types of steps and private functions use
 pub mod Steps
+-- ---- what only proofs use
 pub mod Blanks

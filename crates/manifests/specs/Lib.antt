@@ -1,3 +1,4 @@
+-- ---- what public clauses cite
 pub mod Template
 pub mod Arrays
 pub mod Volumes

@@ -1,12 +1,4 @@
--- What public clauses cite.
-pub use Rattle.trees.specs.Whole
-pub use Rattle.trees.specs.Tree
-pub use Rattle.trees.specs.declared.tree.Tree as DeclaredTree
-pub use Rattle.trees.specs.Members
-pub use Rattle.trees.specs.Places
-pub use Rattle.trees.specs.Same
-pub use Rattle.trees.specs.IfWhole
-pub use Rattle.trees.specs.Proper
+-- ---- what public clauses cite
 pub mod Names
 pub mod Kind
 pub mod Key
@@ -25,8 +17,17 @@ pub mod Again
 pub mod PodNames
 pub mod ShardOf
 pub mod Uid
--- What only types and proofs use.
 pub mod PrintedText
-pub mod Merged
 pub mod Cuts
 pub mod Marks
+-- ---- what only proofs use
+pub mod Merged
+-- ---- of the crate below
+pub use Rattle.trees.specs.Whole
+pub use Rattle.trees.specs.Tree
+pub use Rattle.trees.specs.declared.tree.Tree as DeclaredTree
+pub use Rattle.trees.specs.Members
+pub use Rattle.trees.specs.Places
+pub use Rattle.trees.specs.Same
+pub use Rattle.trees.specs.IfWhole
+pub use Rattle.trees.specs.Proper

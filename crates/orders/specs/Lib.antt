@@ -1,4 +1,5 @@
+-- ---- what public clauses cite
+pub mod Marks
 -- ---- what only proofs use
 pub mod Following
-pub mod Marks
 pub mod Pairing

@@ -1,2 +1,2 @@
--- What only types use.
+-- ---- what only proofs use
 pub mod Delta

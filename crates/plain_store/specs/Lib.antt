@@ -14,7 +14,7 @@ pub mod Store
 pub mod Taken
 -- ---- what only proofs use
 pub mod Held
--- ---- of the crate below
+-- ---- of the crates below
 pub use Rattle.requests.specs.Change
 pub use Rattle.requests.specs.ChangeKinds
 pub use Rattle.requests.specs.Judgments

@@ -1,2 +1,2 @@
--- ---- what the clauses of the running store's callers cite
+-- ---- what public clauses cite
 pub mod Given

@@ -1,9 +1,10 @@
+-- ---- what public clauses cite
 pub mod Revision
 pub mod Name
 pub mod Choice
 pub mod Built
 pub mod Plan
 pub mod History
--- What private clauses cite.
 pub mod Listing
+-- ---- what only proofs use
 pub mod Chosen

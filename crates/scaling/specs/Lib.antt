@@ -1,4 +1,4 @@
--- what public clauses cite
+-- ---- what public clauses cite
 pub mod Replicas
 pub mod Listed
 pub mod Step

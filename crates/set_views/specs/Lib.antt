@@ -1,3 +1,4 @@
+-- ---- what public clauses cite
 pub mod Steps
 pub mod Values
 pub mod Policies

@@ -2,12 +2,12 @@
 pub mod Actions
 pub mod Whole
 pub mod Plan
-pub mod Order
-pub mod Place
 pub mod Planned
 pub mod Laws
--- ---- what private clauses cite
 pub mod Cut
+-- ---- what only proofs use
+pub mod Order
+pub mod Place
 -- ---- of the crates below
 pub use Rattle.claims.specs.Changes
 pub use Rattle.claims.specs.Listed

@@ -3,8 +3,8 @@ pub mod History
 pub mod Callers
 pub mod Tickets
 pub mod Rule
--- ---- what only proofs use
 pub mod Views
+-- ---- what only proofs use
 pub mod Parts
 pub mod Floors
 pub mod Codes

@@ -1,4 +1,4 @@
--- What public clauses cite.
+-- ---- what public clauses cite
 pub mod Whole
 pub mod Tree
 pub mod Members
@@ -8,7 +8,7 @@ pub mod Steps
 pub mod Reading
 pub mod IfWhole
 pub mod Proper
--- What only types and proofs use.
 pub mod Codes
+-- ---- what only proofs use
 pub mod TreeFalls
 pub mod Text

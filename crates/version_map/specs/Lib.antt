@@ -1,9 +1,11 @@
+-- ---- what public clauses cite
 pub mod Keys
 pub mod Keyed
+pub mod Rows
+pub mod Versions
+-- ---- what only proofs use
 pub mod Named
 pub mod ShortName
 pub mod Index
-pub mod Rows
 pub mod Records
-pub mod Versions
 pub mod Whole
