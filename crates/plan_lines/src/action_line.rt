@@ -67,12 +67,7 @@ fn write_written(word: &str, object: &Object, out: &mut Writer) -> Result<(), Me
     Ok(out.end_object()?)
 }
 
-fn write_pod_deletion(
-    alloc: Global,
-    name: &str,
-    uid: u64,
-    out: &mut Writer,
-) -> Result<(), Memory>
+fn write_pod_deletion(alloc: Global, name: &str, uid: u64, out: &mut Writer) -> Result<(), Memory>
     ensures tokens { OnOk result (out.new.tokens ≡ out.old.tokens ++ json_tokens (outline (pod_deletion name.now uid))) }
     ensures before { out.new.before ≡ out.old.before }
 {

@@ -1,9 +1,10 @@
 // The name of a new revision.
-ghost use Rattle.std.specs.Prelude.{◌≡◌, ◌≤◌, ◌<◌, ◌+◌, ◌^◌, ℕ, true, length, string_bytes, IfOk};
+ghost use Rattle.std.specs.Prelude.{◌≡◌, ◌≤◌, ◌<◌, ◌+◌, ◌^◌, ℕ, List, true, length, string_bytes, IfOk};
 ghost use Rattle.objects.specs.Key.{is_key, key_parts};
 ghost use Rattle.objects.specs.Tree.{data_of};
 ghost use Rattle.objects.specs.declared.kind.Kind.TheVariants.{ControllerRevision};
 ghost use Rattle.serde_json.specs.Written.{compact_text};
+ghost use Rattle.sha2.specs.Hashers.{Holds256};
 ghost use Rattle.set_views.specs.Steps.{Gives, required};
 ghost use Rattle.set_views.specs.declared.fault.PlanError.TheVariants.{NoRevisionName};
 ghost use Rattle.revisions.specs.Choice.{data_with};
@@ -19,20 +20,20 @@ use std::collections::BTreeSet;
 /// How many collision counts are tried.
 const MAX_TRIES: u32 = 1024;
 
-/// The name of which `digits` are hexadecimal digits of the digest of the text and the collision count.
+/// The name of which `digits` are hexadecimal digits of the digest of a text, which the hasher holds, and the collision
+/// count.
 #[tactic(auto, unfolding(crate::specs::Name::revision_name))]
 fn revision_name(
     alloc: Global,
     set: &str,
-    text: &[u8],
+    hashed: &Sha256,
     digits: usize,
     count: u32,
 ) -> Result<String, AllocError>
     requires { digits ≤ 64 }
-    ensures { IfOk result (λ name. string_bytes name ≡ revision_name set.now text.now digits count) }
+    ensures { (text : List ℕ) → Holds256 hashed.now text → IfOk result (λ name. string_bytes name ≡ revision_name set.now text digits count) }
 {
-    let mut hasher = Sha256::new();
-    hasher.update(text);
+    let mut hasher = hashed.clone()?;
     hasher.update(itoa::Buffer::new().format(count).as_bytes());
     let digest = hasher.finalize();
     let hexadecimal = hex::encode(alloc, &digest)?;
@@ -42,23 +43,23 @@ fn revision_name(
     Ok(name)
 }
 
-/// The first name that is none of these, by counts from one on.
+/// The first name that is none of these, by counts from one on. The text that the hasher holds is not read again for each.
 fn free_name(
     alloc: Global,
     names: &BTreeSet<&str>,
     set: &str,
-    text: &[u8],
+    hashed: &Sha256,
     digits: usize,
     from: u32,
 ) -> Result<String, PlanError>
     requires digits { digits ≤ 64 }
     requires small { from < 2 ^ 31 }
-    ensures free { Gives (λ name. string_bytes name) result
-        (required NoRevisionName (first_free (λ q. has_name q names.now.keys) (revision_name set.now text.now digits) from most_tries)) }
-    ensures made { IfOk result (λ name. (count : ℕ) × (string_bytes name ≡ revision_name set.now text.now digits count)) }
+    ensures free { (text : List ℕ) → Holds256 hashed.now text → Gives (λ name. string_bytes name) result
+        (required NoRevisionName (first_free (λ q. has_name q names.now.keys) (revision_name set.now text digits) from most_tries)) }
+    ensures made { (text : List ℕ) → Holds256 hashed.now text → IfOk result (λ name. (count : ℕ) × (string_bytes name ≡ revision_name set.now text digits count)) }
 {
     for count in from..from + MAX_TRIES {
-        let name = revision_name(alloc, set, text, digits, count)?;
+        let name = revision_name(alloc, set, hashed, digits, count)?;
         if !names.contains(name.as_str()) {
             return Ok(name);
         }
@@ -91,5 +92,7 @@ pub(crate) fn new_name(
     ensures valid { IfOk result (λ name. is_key (key_parts ControllerRevision set.now.object.key.namespace (string_bytes name)) ≡ true) }
 {
     let text = tree_text(alloc, template)?;
-    free_name(alloc, names, name_of(set), &text, digits, set.collisions)
+    let mut hashed = Sha256::new();
+    hashed.update(text.as_slice());
+    free_name(alloc, names, name_of(set), &hashed, digits, set.collisions)
 }
