@@ -51,7 +51,7 @@ fn tells(base: &[u8], delta: &[u8], text: &[u8]) -> bool
     left.is_empty()
 }
 
-/// Writes a delta that tells the text, if there is one of at most that many bytes. Answers whether there is.
+/// Writes a delta that tells the text, if one of at most that many bytes is found. Answers whether it is.
 pub fn write_delta(
     base: &[u8],
     text: &[u8],
@@ -59,7 +59,8 @@ pub fn write_delta(
     out: &mut Vec<u8>,
 ) -> Result<bool, AllocError>
     requires { out.old.items ≡ [] }
-    ensures { IfOk result (λ told. told ≡ true → expanded base.now out.new.items ≡ text.now) }
+    ensures told { IfOk result (λ told. told ≡ true → expanded base.now out.new.items ≡ text.now) }
+    ensures short { IfOk result (λ told. told ≡ true → length out.new.items ≤ most) }
 {
     write_pieces(base, text, most, out)?;
     Ok(out.len() <= most && tells(base, out.as_slice(), text))
