@@ -1,2 +1,3 @@
 -- ---- what only proofs use
 pub mod Delta
+pub mod Kept

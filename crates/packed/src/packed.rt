@@ -1,4 +1,4 @@
-ghost use Rattle.std.specs.Prelude.{◌≡◌, ◌++◌, IfOk, OnOk, string_bytes};
+ghost use Rattle.std.specs.Prelude.{◌≡◌, ◌≤◌, ◌<◌, ◌+◌, ◌*◌, ◌/◌, ◌++◌, length, IfOk, OnOk, string_bytes};
 ghost use Rattle.deltas.specs.Expanded.{expanded};
 ghost use Rattle.objects.specs.Text.{text};
 
@@ -9,7 +9,8 @@ use std::alloc::AllocError;
 use std::marker::Model;
 use std::sync::Arc;
 
-/// An object as the difference of its text from another text, which a clause sees as the object.
+/// An object as the difference of its text from another text, which a clause sees as the object. What it keeps is in
+/// proportion to the text.
 #[derive(Drop)]
 pub struct Packed {
     pub(crate) base: Arc<String>,
@@ -21,8 +22,8 @@ impl Model for Packed {
     ghost use Rattle.std.specs.Prelude.{string_bytes};
     ghost use Rattle.deltas.specs.Expanded.{expanded};
     ghost use Rattle.objects.specs.Object.{ObjectParts, object_coded};
-    ghost use Rattle.objects.specs.Marks.{AreMarks};
     ghost use Rattle.objects.specs.PrintedText.{object_of_text};
+    ghost use Rattle.packed.specs.Kept.{IsKept};
 
     ghost Value = { ObjectParts };
 
@@ -30,17 +31,36 @@ impl Model for Packed {
 
     ghost view = { λ p. object_of_text (expanded (string_bytes p.base.value) p.delta) };
 
-    ghost invariant = { λ p. AreMarks (expanded (string_bytes p.base.value) p.delta) p.marks };
+    ghost invariant = { λ p. IsKept (string_bytes p.base.value) p.delta p.marks };
 }
 
 impl Packed {
     /// The object, whose text is what the delta tells.
     pub(crate) fn of(base: Arc<String>, delta: Delta, object: &Printed) -> Packed
-        requires { expanded (string_bytes base.value) delta ≡ text object.now }
+        requires told { expanded (string_bytes base.value) delta ≡ text object.now }
+        requires base { length (string_bytes base.value) ≤ 4 * length (text object.now) }
+        requires delta { length delta ≤ length (text object.now) / 4 + 16 }
         ensures { result ≡ object.now }
     {
         let (_, marks) = object.parts();
         Packed { base, delta, marks }
+    }
+
+    /// What is kept of the text: the base, and the delta that tells the text from it. The base is at most four times as long
+    /// as the text, and the delta takes at most a quarter of its bytes and 16 more.
+    pub fn parts(&self) -> (&str, &[u8])
+        ensures told { expanded result.0.now result.1.now ≡ text self.now }
+        ensures base { length result.0.now ≤ 4 * length (text self.now) }
+        ensures delta { length result.1.now ≤ length (text self.now) / 4 + 16 }
+    {
+        (self.base.as_str(), self.delta.as_slice())
+    }
+
+    /// How many have the base in common: packed objects, and the packer while it is the base of a set.
+    pub fn sharers(&self) -> usize
+        ensures { 0 < result }
+    {
+        Arc::strong_count(&self.base)
     }
 
     /// Appends the text of the object.

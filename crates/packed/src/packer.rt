@@ -33,7 +33,7 @@ impl Packer {
         }
     }
 
-    /// The object packed beside the base of its set, if that tells the text in a quarter of its bytes.
+    /// The object packed beside the base of its set, if that takes at most a quarter of the bytes of its text and 16 more.
     pub fn pack_in_set(&mut self, key: &Key, object: &Printed) -> Result<Option<Packed>, Memory>
         ensures { IfOk result (λ found. IfSome found (λ packed. packed ≡ object.now)) }
     {
@@ -66,8 +66,8 @@ impl Packer {
     }
 }
 
-// The object packed beside a base, if that takes no more than a quarter of its text. A base of more than four times its
-// length is not used, so that what a packed object keeps in memory is in proportion to its text.
+// The object packed beside a base, if that takes no more than a quarter of its text and 16 bytes. A base of more than four
+// times its length is not used, so that what a packed object keeps in memory is in proportion to its text.
 fn packed_by(
     alloc: Global,
     base: &Arc<String>,
@@ -77,7 +77,7 @@ fn packed_by(
     ensures { IfOk result (λ found. IfSome found (λ packed. packed ≡ object.now)) }
 {
     let text = object.as_str().as_bytes();
-    if text.len() < base.len() / 4 {
+    if text.len().saturating_mul(4) < base.len() {
         return Ok(None);
     }
     buffer.clear();
