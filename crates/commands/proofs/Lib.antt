@@ -1,5 +1,6 @@
 pub mod Asked
 pub mod Grammars
+pub mod Halted
 pub mod Planned
 pub mod Ranges
 pub mod Replayed

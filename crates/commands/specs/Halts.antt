@@ -1,5 +1,5 @@
 -- Why there is no output, and what is told of it.
-use Rattle.std.specs.Prelude.{◌<◌, ◌⊎◌, ℕ, Bool, true, false, List, [], ◌∷◌, ◌++◌, Option, Some, None, codes}
+use Rattle.std.specs.Prelude.{◌≡◌, ◌<◌, ◌⊎◌, ℕ, Bool, true, false, List, [], ◌∷◌, ◌++◌, Option, Some, None, Result, Ok, Err, codes}
 use Rattle.plain.specs.Streams.{Puts}
 use Rattle.plain.specs.declared.devices.input.InputFault.{InputFault}
 use Rattle.plain.specs.declared.devices.input.InputFault.TheVariants as input
@@ -11,6 +11,13 @@ abbrev pub is_read : Halt → Bool
 is_read Read = true
 is_read Memory = false
 is_read (Refused name) = false
+
+-- the reader's failures before and after: one is counted exactly where the reader failed
+abbrev pub CountsReads : {A : Type 0} → Result A Halt → ℕ → ℕ → Type 0
+CountsReads (Ok x) old new = new ≡ old
+CountsReads (Err Read) old new = old < new
+CountsReads (Err Memory) old new = new ≡ old
+CountsReads (Err (Refused name)) old new = new ≡ old
 
 -- what a fault of the input is
 abbrev pub halt_of : InputFault → Halt

@@ -7,7 +7,7 @@ use Rattle.objects.specs.declared.fault.ReadError.TheVariants as read
 use Rattle.objects.specs.declared.object.Object.{Object}
 use Rattle.plain.specs.Lines.{lines}
 use Rattle.plain.specs.Replies.{read_error_name}
-use Rattle.plain.specs.Streams.{Puts}
+use Rattle.plain.specs.Streams.{Puts, PutsPart}
 use Rattle.plain.specs.ValueLines.{text_lines}
 use Rattle.set_views.specs.declared.fault.PlanError.{PlanError}
 use Rattle.set_views.specs.declared.fault.PlanError.TheVariants as errors
@@ -30,19 +30,26 @@ IsPlanOver asked lists plan = (object : Object) × (find (is_named asked.namespa
 abbrev pub actions_of : Plan → List ℕ
 actions_of plan = text_lines (map action_data plan.actions.items)
 
--- the actions of that plan, where each line of the input is an object
-abbrev pub IsPlanText : PlanWords → (input text : List ℕ) → Type 0
-IsPlanText asked input text = (lists : Lists) × (read_from nothing (lines input) ≡ Ok lists)
-    × ((plan : Plan) × IsPlanOver asked lists plan × (text ≡ actions_of plan))
+-- such a plan, where each line of the input is an object
+abbrev pub IsPlanOf : PlanWords → List ℕ → Plan → Type 0
+IsPlanOf asked input plan = (lists : Lists) × (read_from nothing (lines input) ≡ Ok lists) × IsPlanOver asked lists plan
 
 -- All of the reader's bytes were read, and the actions of the plan that was asked for were written.
 abbrev pub PlansBy : PlanWords → Option (List ℕ) → Option (List ℕ) → Option (List ℕ) → Option (List ℕ) → Type 0
 PlansBy asked had left before after = IfSome had (λ input. (left ≡ Some [])
-    × ((text : List ℕ) × IsPlanText asked input text × Puts before text after))
+    × ((plan : Plan) × IsPlanOf asked input plan × Puts before (actions_of plan) after))
+
+-- the same where a beginning of these lines was written
+abbrev pub PlansPartBy : PlanWords → Option (List ℕ) → Option (List ℕ) → Option (List ℕ) → Option (List ℕ) → Type 0
+PlansPartBy asked had left before after = IfSome had (λ input. (left ≡ Some [])
+    × ((plan : Plan) × IsPlanOf asked input plan × PutsPart before (actions_of plan) after))
 
 -- the same by what the words say
 abbrev pub Plans : List Text → Option (List ℕ) → Option (List ℕ) → Option (List ℕ) → Option (List ℕ) → Type 0
 Plans words had left before after = (asked : PlanWords) × IsPlanAsked words asked × PlansBy asked had left before after
+
+abbrev pub PlansPart : List Text → Option (List ℕ) → Option (List ℕ) → Option (List ℕ) → Option (List ℕ) → Type 0
+PlansPart words had left before after = (asked : PlanWords) × IsPlanAsked words asked × PlansPartBy asked had left before after
 
 -- the name of the refusal of a line; want of memory is none
 abbrev pub read_refusal : ReadError → Option (List ℕ)

@@ -35,6 +35,7 @@ pub(crate) fn explained<W: Sink, F: Sink>(
     ensures mistake { is_request (kind_of error.now) ≡ false → (result ≡ BAD_WORDS) ⊎ (heap.new.refused ≡ true) }
     ensures cause { result ≡ FAILURE → (W.failures writer.old < W.failures writer.new) ⊎ (heap.new.refused ≡ true) }
     ensures memory { result ≢ FAILURE → heap.new.refused ≡ heap.old.refused }
+    ensures spared { W.failures writer.old < W.failures writer.new → heap.new.refused ≡ heap.old.refused }
     ensures quiet { result ≢ BAD_WORDS → faults.new ≡ faults.old }
     ensures untouched { is_request (kind_of error.now) ≡ false → writer.new ≡ writer.old }
 {

@@ -105,6 +105,7 @@ pub(crate) fn halted<F: Sink>(heap: &mut Heap, halt: Halt, faults: &mut F) -> u8
         (λ name. Tells name (F.written faults.old) (F.written faults.new) (F.failures faults.old) (F.failures faults.new)) }
     ensures cause { result ≡ FAILURE → (is_read halt ≡ true) ⊎ (heap.new.refused ≡ true) }
     ensures memory { result ≢ FAILURE → heap.new.refused ≡ heap.old.refused }
+    ensures spared { is_read halt ≡ true → heap.new.refused ≡ heap.old.refused }
     ensures quiet { result < BAD_WORDS → faults.new ≡ faults.old }
 {
     match halt {

@@ -3,16 +3,16 @@ ghost use Rattle.std.specs.Prelude.{◌≡◌, ◌≢◌, ◌≤◌, ◌<◌, �
 ghost use Rattle.plan_lines.specs.Objects.{lists_of};
 ghost use Rattle.set_views.specs.Set.{set_parts};
 ghost use Rattle.sets.specs.Plan.{IsPlan};
-ghost use Rattle.sets.specs.declared.action.Plan.{Plan};
-ghost use Rattle.commands.specs.Halts.{Tells, is_read, name_of};
-ghost use Rattle.commands.specs.Planning.{IsPlanOfSetRefused, IsPlanOver, IsPlanRefusal, IsPlanRefusedBy, IsPlanText, IsRefusedOver, PlansBy, actions_of};
+ghost use Rattle.plain.specs.Streams.{Puts, PutsPart};
+ghost use Rattle.commands.specs.Halts.{CountsReads, Tells, is_read, name_of};
+ghost use Rattle.commands.specs.Planning.{IsPlanOf, IsPlanOfSetRefused, IsPlanOver, IsPlanRefusal, IsPlanRefusedBy, IsRefusedOver, PlansBy, PlansPartBy, actions_of};
 
 use crate::halt::{Halt, halted};
-use crate::status::{BAD_WORDS, FAILURE, Heap, REFUSED, SUCCESS, shown};
+use crate::status::{BAD_WORDS, FAILURE, Heap, REFUSED, SUCCESS};
 use crate::words::PlanWords;
 use plain::{Sink, Source, read_all};
-use plan_lines::{Listed, actions_text, named_set, read_objects};
-use sets::{Set, read_set};
+use plan_lines::{Listed, OutputFault, named_set, read_objects, write_actions};
+use sets::{Plan, Set, read_set};
 use std::alloc::Global;
 
 /// Plans the set that is asked for, given the objects that the reader has, and writes the actions.
@@ -28,43 +28,66 @@ pub(crate) fn planned<R: Source, W: Sink, F: Sink>(
     ensures status { (result < BAD_WORDS) ⊎ (result ≡ REFUSED) }
     ensures planned { result ≡ SUCCESS → PlansBy asked.now (R.remaining reader.old) (R.remaining reader.new)
         (W.written writer.old) (W.written writer.new) }
+    ensures part { result ≡ FAILURE → (writer.new ≡ writer.old) ⊎ PlansPartBy asked.now (R.remaining reader.old) (R.remaining reader.new)
+        (W.written writer.old) (W.written writer.new) }
     ensures named { result ≡ REFUSED → (name : List ℕ)
         × (Tells name (F.written faults.old) (F.written faults.new) (F.failures faults.old) (F.failures faults.new))
         × IsPlanRefusedBy asked.now (R.remaining reader.old) (R.remaining reader.new) name }
     ensures cause { result ≡ FAILURE → (R.failures reader.old < R.failures reader.new) ⊎ ((W.failures writer.old < W.failures writer.new)
         ⊎ (heap.new.refused ≡ true)) }
     ensures memory { result ≢ FAILURE → heap.new.refused ≡ heap.old.refused }
+    ensures spared { (R.failures reader.old < R.failures reader.new) ⊎ (W.failures writer.old < W.failures writer.new)
+        → heap.new.refused ≡ heap.old.refused }
     ensures quiet { result < BAD_WORDS → faults.new ≡ faults.old }
     ensures silent { result ≡ REFUSED → writer.new ≡ writer.old }
 {
     match plan_of_input(heap.alloc, asked, reader) {
-        Ok(text) => shown(writer, text.as_slice()),
+        Ok(plan) => printed(heap, &plan, writer),
         Err(halt) => halted(heap, halt, faults),
     }
 }
 
-/// The actions of the plan, given all that the reader has.
+/// Writes the actions of the plan.
+fn printed<W: Sink>(heap: &mut Heap, plan: &Plan, writer: &mut W) -> u8
+    ensures status { result < BAD_WORDS }
+    ensures all { result ≡ SUCCESS → Puts (W.written writer.old) (actions_of plan.now) (W.written writer.new) }
+    ensures part { PutsPart (W.written writer.old) (actions_of plan.now) (W.written writer.new) }
+    ensures cause { result ≡ FAILURE → (W.failures writer.old < W.failures writer.new) ⊎ (heap.new.refused ≡ true) }
+    ensures memory { result ≢ FAILURE → heap.new.refused ≡ heap.old.refused }
+    ensures spared { W.failures writer.old < W.failures writer.new → heap.new.refused ≡ heap.old.refused }
+{
+    match write_actions(heap.alloc, plan.actions.as_slice(), writer) {
+        Ok(()) => SUCCESS,
+        Err(OutputFault::Write) => FAILURE,
+        Err(OutputFault::Memory) => {
+            heap.refused = true;
+            FAILURE
+        }
+    }
+}
+
+/// The plan, given all that the reader has.
 fn plan_of_input<R: Source>(
     alloc: Global,
     asked: &PlanWords<'_>,
     reader: &mut R,
-) -> Result<Vec<u8>, Halt>
+) -> Result<Plan, Halt>
     requires some { 1 ≤ asked.now.digits }
     requires most { asked.now.digits ≤ 64 }
-    ensures planned { IfOk result (λ text. IfSome (R.remaining reader.old)
-        (λ input. (R.remaining reader.new ≡ Some []) × IsPlanText asked.now input text.items)) }
+    ensures planned { IfOk result (λ plan. IfSome (R.remaining reader.old)
+        (λ input. (R.remaining reader.new ≡ Some []) × IsPlanOf asked.now input plan)) }
     ensures refused { IfErr result (λ halt. IfSome (name_of halt) (IsPlanRefusedBy asked.now (R.remaining reader.old) (R.remaining reader.new))) }
-    ensures read { IfErr result (λ halt. is_read halt ≡ true → R.failures reader.old < R.failures reader.new) }
+    ensures reads { CountsReads result (R.failures reader.old) (R.failures reader.new) }
 {
     let input = read_all(alloc, reader)?;
     plan_of_lines(alloc, asked, input.as_slice())
 }
 
-/// The actions of the plan, given the lines of its objects.
-fn plan_of_lines(alloc: Global, asked: &PlanWords<'_>, input: &[u8]) -> Result<Vec<u8>, Halt>
+/// The plan, given the lines of its objects.
+fn plan_of_lines(alloc: Global, asked: &PlanWords<'_>, input: &[u8]) -> Result<Plan, Halt>
     requires some { 1 ≤ asked.now.digits }
     requires most { asked.now.digits ≤ 64 }
-    ensures planned { IfOk result (λ text. IsPlanText asked.now input.now text.items) }
+    ensures planned { IfOk result (λ plan. IsPlanOf asked.now input.now plan) }
     ensures refused { IfErr result (λ halt. IfSome (name_of halt) (IsPlanRefusal asked.now input.now)) }
     ensures read { IfErr result (λ halt. is_read halt ≡ false) }
 {
@@ -72,11 +95,11 @@ fn plan_of_lines(alloc: Global, asked: &PlanWords<'_>, input: &[u8]) -> Result<V
     plan_of_objects(alloc, asked, &listed)
 }
 
-/// The actions of the plan, given the objects that were listed.
-fn plan_of_objects(alloc: Global, asked: &PlanWords<'_>, listed: &Listed) -> Result<Vec<u8>, Halt>
+/// The plan, given the objects that were listed.
+fn plan_of_objects(alloc: Global, asked: &PlanWords<'_>, listed: &Listed) -> Result<Plan, Halt>
     requires some { 1 ≤ asked.now.digits }
     requires most { asked.now.digits ≤ 64 }
-    ensures planned { IfOk result (λ text. (plan : Plan) × IsPlanOver asked.now (lists_of listed.now) plan × (text.items ≡ actions_of plan)) }
+    ensures planned { IfOk result (λ plan. IsPlanOver asked.now (lists_of listed.now) plan) }
     ensures refused { IfErr result (λ halt. IfSome (name_of halt) (IsRefusedOver asked.now (lists_of listed.now))) }
     ensures read { IfErr result (λ halt. is_read halt ≡ false) }
 {
@@ -87,13 +110,12 @@ fn plan_of_objects(alloc: Global, asked: &PlanWords<'_>, listed: &Listed) -> Res
     plan_of_set(alloc, asked.digits, listed, &set)
 }
 
-/// The actions of the plan of this set.
-fn plan_of_set(alloc: Global, digits: usize, listed: &Listed, set: &Set) -> Result<Vec<u8>, Halt>
+/// The plan of this set.
+fn plan_of_set(alloc: Global, digits: usize, listed: &Listed, set: &Set) -> Result<Plan, Halt>
     requires some { 1 ≤ digits }
     requires most { digits ≤ 64 }
-    ensures planned { IfOk result (λ text. (plan : Plan)
-        × IsPlan (set_parts set.now) listed.now.pods.items listed.now.claims.items listed.now.revisions.items digits (Ok plan)
-        × (text.items ≡ actions_of plan)) }
+    ensures planned { IfOk result (λ plan.
+        IsPlan (set_parts set.now) listed.now.pods.items listed.now.claims.items listed.now.revisions.items digits (Ok plan)) }
     ensures refused { IfErr result (λ halt. IfSome (name_of halt) (IsPlanOfSetRefused (set_parts set.now) (lists_of listed.now) digits)) }
     ensures read { IfErr result (λ halt. is_read halt ≡ false) }
 {
@@ -105,5 +127,5 @@ fn plan_of_set(alloc: Global, digits: usize, listed: &Listed, set: &Set) -> Resu
         listed.revisions.as_slice(),
         digits,
     )?;
-    Ok(actions_text(alloc, plan.actions.as_slice())?)
+    Ok(plan)
 }

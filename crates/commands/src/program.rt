@@ -3,7 +3,7 @@ ghost use Rattle.std.specs.Prelude.{◌≡◌, ◌≢◌, ◌≤◌, ◌<◌, �
 ghost use Rattle.std.specs.List.{list_any};
 ghost use Rattle.commands.specs.Grammar.{asks_to, faults_of, is_mistake, is_request};
 ghost use Rattle.commands.specs.Halts.{Tells};
-ghost use Rattle.commands.specs.Planning.{Plans};
+ghost use Rattle.commands.specs.Planning.{Plans, PlansPart};
 ghost use Rattle.commands.specs.Racing.{Races};
 ghost use Rattle.commands.specs.Refusing.{Refuses};
 ghost use Rattle.commands.specs.Replaying.{Replays};
@@ -62,6 +62,9 @@ pub fn command<T: Threads + Wait + Sync, S: AsStr, R: Source, W: Sink, F: Sink>(
     ensures planned { let texts = map S.text words.now in
         result ≡ SUCCESS → (faults_of texts ≡ []) → asks_to (codes "plan") texts ≡ true
         → Plans texts (R.remaining reader.old) (R.remaining reader.new) (W.written writer.old) (W.written writer.new) }
+    ensures planned_part { let texts = map S.text words.now in
+        result ≡ FAILURE → (faults_of texts ≡ []) → asks_to (codes "plan") texts ≡ true → (writer.new ≡ writer.old)
+        ⊎ PlansPart texts (R.remaining reader.old) (R.remaining reader.new) (W.written writer.old) (W.written writer.new) }
 
     // What was raced: the line of the report and nothing else; it is not legal exactly at the status of a refusal.
     ensures raced { let texts = map S.text words.now in
@@ -85,6 +88,8 @@ pub fn command<T: Threads + Wait + Sync, S: AsStr, R: Source, W: Sink, F: Sink>(
         result ≡ FAILURE → (R.failures reader.old < R.failures reader.new) ⊎ ((W.failures writer.old < W.failures writer.new)
         ⊎ ((heap.new.refused ≡ true) ⊎ AsksOutOfRange texts)) }
     ensures memory { result ≢ FAILURE → heap.new.refused ≡ heap.old.refused }
+    ensures spared { (R.failures reader.old < R.failures reader.new) ⊎ (W.failures writer.old < W.failures writer.new)
+        → heap.new.refused ≡ heap.old.refused }
     ensures quiet { result < BAD_WORDS → faults.new ≡ faults.old }
     ensures reads_nothing { faults_of (map S.text words.now) ≢ [] → reader.new ≡ reader.old }
     ensures writes_nothing { result ≡ BAD_WORDS → writer.new ≡ writer.old }

@@ -26,6 +26,7 @@ pub(crate) fn raced<T: Threads + Wait + Sync, W: Sink>(
     ensures illegal { result ≡ REFUSED → Reports false spec.now (W.written writer.old) (W.written writer.new) }
     ensures cause { result ≡ FAILURE → (W.failures writer.old < W.failures writer.new) ⊎ (heap.new.refused ≡ true) }
     ensures memory { result ≢ FAILURE → heap.new.refused ≡ heap.old.refused }
+    ensures spared { W.failures writer.old < W.failures writer.new → heap.new.refused ≡ heap.old.refused }
 {
     match race(rt, heap.alloc, spec, &NoGate) {
         Ok(report) => reported(heap, &report, writer),
@@ -45,6 +46,7 @@ fn reported<W: Sink>(heap: &mut Heap, report: &RaceReport, writer: &mut W) -> u8
     ensures illegal { result ≡ REFUSED → (report.now.legal ≡ false) × Puts (W.written writer.old) (report_text report.now) (W.written writer.new) }
     ensures cause { result ≡ FAILURE → (W.failures writer.old < W.failures writer.new) ⊎ (heap.new.refused ≡ true) }
     ensures memory { result ≢ FAILURE → heap.new.refused ≡ heap.old.refused }
+    ensures spared { W.failures writer.old < W.failures writer.new → heap.new.refused ≡ heap.old.refused }
 {
     match report_line(heap.alloc, report) {
         Ok(line) => status_of(report.legal, shown(writer, line.as_slice())),

@@ -1,7 +1,7 @@
 //! `stsctl replay`.
 ghost use Rattle.std.specs.Prelude.{◌≡◌, ◌≢◌, ◌<◌, ◌⊎◌, ℕ, List, [], true, false, IfOk, IfErr, IfSome, Some};
 ghost use Rattle.scripts.specs.Scripts.{parts_of};
-ghost use Rattle.commands.specs.Halts.{Tells, is_read, name_of};
+ghost use Rattle.commands.specs.Halts.{CountsReads, Tells, is_read, name_of};
 ghost use Rattle.commands.specs.Replaying.{IsRefusedBy, IsReplayRefusal, IsReplayText, IsRunRefusal, IsRunText, Replays};
 
 use crate::halt::{Halt, halted};
@@ -27,6 +27,8 @@ pub(crate) fn replayed<R: Source, W: Sink, F: Sink>(
     ensures cause { result ≡ FAILURE → (R.failures reader.old < R.failures reader.new) ⊎ ((W.failures writer.old < W.failures writer.new)
         ⊎ (heap.new.refused ≡ true)) }
     ensures memory { result ≢ FAILURE → heap.new.refused ≡ heap.old.refused }
+    ensures spared { (R.failures reader.old < R.failures reader.new) ⊎ (W.failures writer.old < W.failures writer.new)
+        → heap.new.refused ≡ heap.old.refused }
     ensures quiet { result < BAD_WORDS → faults.new ≡ faults.old }
     ensures silent { result ≡ REFUSED → writer.new ≡ writer.old }
 {
@@ -40,7 +42,7 @@ pub(crate) fn replayed<R: Source, W: Sink, F: Sink>(
 fn replay_of_input<R: Source>(alloc: Global, reader: &mut R) -> Result<Vec<u8>, Halt>
     ensures replayed { IfOk result (λ text. IfSome (R.remaining reader.old) (λ input. (R.remaining reader.new ≡ Some []) × IsReplayText input text.items)) }
     ensures refused { IfErr result (λ halt. IfSome (name_of halt) (IsRefusedBy (R.remaining reader.old) (R.remaining reader.new))) }
-    ensures read { IfErr result (λ halt. is_read halt ≡ true → R.failures reader.old < R.failures reader.new) }
+    ensures reads { CountsReads result (R.failures reader.old) (R.failures reader.new) }
 {
     let input = read_all(alloc, reader)?;
     replay_of_lines(alloc, input.as_slice())

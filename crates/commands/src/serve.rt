@@ -23,11 +23,15 @@ pub(crate) fn served<R: Source, W: Sink>(
     ensures cause { result ≢ SUCCESS → (R.failures reader.old < R.failures reader.new) ⊎ ((W.failures writer.old < W.failures writer.new)
         ⊎ ((heap.new.refused ≡ true) ⊎ IsOutOfRange capacity)) }
     ensures memory { result ≡ SUCCESS → heap.new.refused ≡ heap.old.refused }
+    ensures spared { (R.failures reader.old < R.failures reader.new) ⊎ ((W.failures writer.old < W.failures writer.new)
+        ⊎ IsOutOfRange capacity) → heap.new.refused ≡ heap.old.refused }
 {
-    let ended = plain::serve(heap.alloc, reader, writer, capacity);
-    heap.refused |= matches!(ended, Err(ServeFault::Memory));
-    match ended {
+    match plain::serve(heap.alloc, reader, writer, capacity) {
         Ok(_) => SUCCESS,
-        Err(_) => FAILURE,
+        Err(ServeFault::Memory) => {
+            heap.refused = true;
+            FAILURE
+        }
+        Err(ServeFault::Read | ServeFault::Write | ServeFault::BadCapacity) => FAILURE,
     }
 }

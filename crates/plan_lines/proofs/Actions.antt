@@ -1,17 +1,64 @@
--- The lines of actions, one after another.
-use Rattle.std.proofs.Common.{◌≡◌, ℕ, ◌+◌, ◌<◌, List, [], ◌∷◌, ◌++◌, map, length, get_or, drop, sym, ap, ◌∙◌, append_assoc}
+-- The lines of actions, one after another, and how much of them was written.
+use Rattle.std.proofs.Common.{◌≡◌, ℕ, ◌+◌, ◌<◌, List, [], ◌∷◌, ◌++◌, map, length, get_or, drop, Option, sym, ap, ◌∙◌, append_assoc, append-nil, subst}
 use Rattle.serde_json.specs.Written.{compact_text}
+use Rattle.plain.specs.Streams.{PutsPart}
 use Rattle.plain.specs.ValueLines.{text_lines}
+use Rattle.plain.proofs.Flows.{PutsPart-after, Puts-then}
 use Rattle.sets.specs.declared.action.Action.{Action}
 use Rattle.plan_lines.specs.Actions.{action_data}
+use Rattle.plan_lines.specs.Output.{PutsBut}
 use Rattle.plan_lines.proofs.Finding.{at_drop}
 
--- what is written and what is left to write make the whole
-pub lines-next : (actions : List Action) (at : ℕ) (a : Action) (old new all : List ℕ) → at < length actions → a ≡ get_or actions at a
-    → old ++ text_lines (map action_data (drop at actions)) ≡ all → new ≡ old ++ (compact_text (action_data a) ++ 10 ∷ [])
-    → new ++ text_lines (map action_data (drop (at + 1) actions)) ≡ all
-lines-next actions at a old new all inside is so_far written =
-    let left = text_lines (map action_data (drop (at + 1) actions)) in
-    ap (λ t. t ++ left) written ∙ append_assoc old (compact_text (action_data a) ++ 10 ∷ []) left
-    ∙ ap (λ t. old ++ t) (append_assoc (compact_text (action_data a)) (10 ∷ []) left)
-    ∙ ap (λ rest. old ++ text_lines (map action_data rest)) (sym (at_drop actions at a inside is)) ∙ so_far
+-- the lines from an action on are its line and those behind it
+lines_from : (actions : List Action) (at : ℕ) (a : Action) → at < length actions → a ≡ get_or actions at a
+    → text_lines (map action_data (drop at actions)) ≡ (compact_text (action_data a) ++ 10 ∷ []) ++ text_lines (map action_data (drop (at + 1) actions))
+lines_from actions at a inside is =
+    ap (λ rest. text_lines (map action_data rest)) (at_drop actions at a inside is)
+    ∙ sym (append_assoc (compact_text (action_data a)) (10 ∷ []) (text_lines (map action_data (drop (at + 1) actions))))
+
+-- the lines that wait and those from an action on
+waiting_from : (waiting : List ℕ) (actions : List Action) (at : ℕ) (a : Action) → at < length actions → a ≡ get_or actions at a
+    → waiting ++ text_lines (map action_data (drop at actions))
+    ≡ (waiting ++ (compact_text (action_data a) ++ 10 ∷ [])) ++ text_lines (map action_data (drop (at + 1) actions))
+waiting_from waiting actions at a inside is =
+    ap (λ t. waiting ++ t) (lines_from actions at a inside is)
+    ∙ sym (append_assoc waiting (compact_text (action_data a) ++ 10 ∷ []) (text_lines (map action_data (drop (at + 1) actions))))
+
+-- more of the bytes was put
+PutsBut-then : (old now new : Option (List ℕ)) (bytes rest some left more : List ℕ) → PutsBut old bytes rest now → rest ≡ some ++ more
+    → PutsBut now some left new → PutsBut old bytes (left ++ more) new
+PutsBut-then old now new bytes rest some left more (put, e, p) cut (next, f, q) = (
+  put ++ next,
+  e ∙ (ap (λ t. put ++ t) (cut ∙ (ap (λ t. t ++ more) f ∙ append_assoc next left more)) ∙ sym (append_assoc put next (left ++ more))),
+  Puts-then old now new put next p q,
+)
+
+-- a part of the next bytes was put
+PutsBut-part : (old now new : Option (List ℕ)) (bytes rest some more : List ℕ) → PutsBut old bytes rest now → rest ≡ some ++ more
+    → PutsPart now some new → PutsPart old bytes new
+PutsBut-part old now new bytes rest some more (put, e, p) cut (part, left, f, q) = (
+  put ++ part,
+  left ++ more,
+  e ∙ (ap (λ t. put ++ t) (cut ∙ (ap (λ t. t ++ more) f ∙ append_assoc part left more)) ∙ sym (append_assoc put part (left ++ more))),
+  Puts-then old now new put part p q,
+)
+
+-- the line of an action was put behind what waits, and some of it all was written
+pub line-put : (old now new : Option (List ℕ)) (all waiting left : List ℕ) (actions : List Action) (at : ℕ) (a : Action)
+    → at < length actions → a ≡ get_or actions at a → PutsBut old all (waiting ++ text_lines (map action_data (drop at actions))) now
+    → PutsBut now (waiting ++ (compact_text (action_data a) ++ 10 ∷ [])) left new
+    → PutsBut old all (left ++ text_lines (map action_data (drop (at + 1) actions))) new
+line-put old now new all waiting left actions at a inside is so_far next =
+    PutsBut-then old now new all _ _ left (text_lines (map action_data (drop (at + 1) actions))) so_far (waiting_from waiting actions at a inside is) next
+
+pub line-part : (old now new : Option (List ℕ)) (all waiting : List ℕ) (actions : List Action) (at : ℕ) (a : Action)
+    → at < length actions → a ≡ get_or actions at a → PutsBut old all (waiting ++ text_lines (map action_data (drop at actions))) now
+    → PutsPart now (waiting ++ (compact_text (action_data a) ++ 10 ∷ [])) new → PutsPart old all new
+line-part old now new all waiting actions at a inside is so_far next =
+    PutsBut-part old now new all _ _ (text_lines (map action_data (drop (at + 1) actions))) so_far (waiting_from waiting actions at a inside is) next
+
+-- nothing is behind what waits
+pub last-part : (old now new : Option (List ℕ)) (all rest waiting shown : List ℕ) → PutsBut old all rest now → rest ≡ waiting ++ [] → shown ≡ waiting
+    → PutsPart now shown new → PutsPart old all new
+last-part old now new all rest waiting shown (put, e, p) none same q =
+    subst (λ t. PutsPart old t new) (sym (e ∙ ap (λ t. put ++ t) (none ∙ (append-nil waiting ∙ sym same)))) (PutsPart-after old now new put shown p q)

@@ -1,9 +1,8 @@
 // The line of an action.
-ghost use Rattle.std.specs.Prelude.{◌≡◌, ◌++◌, ◌∷◌, [], codes, map, string_bytes, IfOk, OnOk};
+ghost use Rattle.std.specs.Prelude.{◌≡◌, ◌++◌, ◌∷◌, [], codes, string_bytes, IfOk, OnOk};
 ghost use Rattle.json.specs.Token.{key, string};
 ghost use Rattle.json.specs.Tree.{json_tokens};
 ghost use Rattle.serde_json.specs.Written.{compact_text, outline};
-ghost use Rattle.plain.specs.ValueLines.{text_lines};
 ghost use Rattle.plan_lines.specs.Actions.{action_data, cause_name, pod_deletion, revision_deletion, uid_shown, version_shown, waiting, with_object};
 
 use json::Writer;
@@ -12,25 +11,12 @@ use plain::{end_line, write_object_member, write_text_member};
 use sets::{Action, Cause};
 use std::alloc::{AllocError, Global};
 
-/// The actions, one a line and in order:
-///
-/// - `{"do":A,"object":O}` for CreateClaim, CreatePod, UpdateClaim, WriteRevision and WriteStatus;
-/// - `{"do":"DeletePod","name":N,"uid":U}`;
-/// - `{"do":"DeleteRevision","name":N,"resourceVersion":V,"uid":U}`;
-/// - `{"cause":C,"do":"Wait","name":N}`, C Terminating or NotReady.
-///
-/// A UID or a resource version that was not listed is an empty text.
-pub fn actions_text(alloc: Global, actions: &[Action]) -> Result<Vec<u8>, Memory>
-    ensures { IfOk result (λ text. text.items ≡ text_lines (map action_data actions.now)) }
-{
-    let mut text = Vec::new(alloc);
-    for action in actions {
-        text = put_action(alloc, action, text)?;
-    }
-    Ok(text)
-}
-
-fn put_action(alloc: Global, action: &Action, out: Vec<u8>) -> Result<Vec<u8>, Memory>
+/// Puts the line of the action behind what was written.
+pub(crate) fn put_action(
+    alloc: Global,
+    action: &Action,
+    out: Vec<u8>,
+) -> Result<Vec<u8>, Memory>
     ensures { IfOk result (λ text. text.items ≡ out.items ++ (compact_text (action_data action.now) ++ 10 ∷ [])) }
 {
     let mut writer = Writer::new(out);

@@ -3,8 +3,9 @@
 
 mod action_line;
 mod listed;
+mod output;
 mod refusal;
 
-pub use action_line::actions_text;
 pub use listed::{Listed, named_set, read_objects};
+pub use output::{OutputFault, write_actions};
 pub use refusal::plan_error_name;

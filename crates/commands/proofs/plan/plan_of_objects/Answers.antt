@@ -12,7 +12,7 @@ returns-clause-planned c =
     let asked = c.args.asked.now in
     let found = sym (c.in-Some.ensures ∙ ap (λ sets. find (is_named asked.namespace.now asked.name.now) sets) c.as_slice.ensures.value) in
     IfOk-weaker c.plan_of_set.result _ _
-    (λ text planned. (planned.0, (c.in-Some.object.now, found, (set_parts c.in_ok-set.set, c.in_ok-set.ensures, planned.1)), planned.2)) c.plan_of_set.ensures.planned
+    (λ plan planned. (c.in-Some.object.now, found, (set_parts c.in_ok-set.set, c.in_ok-set.ensures, planned))) c.plan_of_set.ensures.planned
 
 pub returns-clause-refused : goal.returns-clause-refused
 returns-clause-refused c =

@@ -1,10 +1,7 @@
-use Rattle.std.proofs.Common.{List, Ok, map, ap, subst, ◌∙◌}
+use Rattle.std.proofs.Common.{List, Ok, subst}
 use Rattle.objects.specs.declared.object.Object.{Object}
-use Rattle.plain.specs.ValueLines.{text_lines}
-use Rattle.plan_lines.specs.Actions.{action_data}
 use Rattle.set_views.specs.Set.{set_parts}
 use Rattle.sets.specs.Plan.{IsPlan}
-use Rattle.sets.specs.declared.action.Action.{Action}
 use Rattle.commands.proofs.plan.plan_of_set.Goals as goal
 
 pub returns-clause-planned : goal.returns-clause-planned
@@ -13,8 +10,5 @@ returns-clause-planned c =
     let plan = c.in_ok-plan.plan in
     let Pods : List Object → Type 0 = λ pods. IsPlan set pods c.as_slice-2.result.now c.as_slice-3.result.now c.args.digits (Ok plan) in
     let Claims : List Object → Type 0 = λ claims. IsPlan set c.args.listed.now.pods.items claims c.as_slice-3.result.now c.args.digits (Ok plan) in
-    let Revisions : List Object → Type 0 = λ revisions. IsPlan set c.args.listed.now.pods.items c.args.listed.now.claims.items revisions c.args.digits (Ok plan) in (
-      plan,
-      subst Revisions c.as_slice-3.ensures.value (subst Claims c.as_slice-2.ensures.value (subst Pods c.as_slice.ensures.value c.in_ok-plan.ensures)),
-      c.in_ok-actions_text.ensures ∙ ap (λ (l : List Action). text_lines (map action_data l)) c.as_slice-4.ensures.value,
-    )
+    let Revisions : List Object → Type 0 = λ revisions. IsPlan set c.args.listed.now.pods.items c.args.listed.now.claims.items revisions c.args.digits (Ok plan) in
+    subst Revisions c.as_slice-3.ensures.value (subst Claims c.as_slice-2.ensures.value (subst Pods c.as_slice.ensures.value c.in_ok-plan.ensures))

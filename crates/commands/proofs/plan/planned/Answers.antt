@@ -1,4 +1,6 @@
-use Rattle.commands.proofs.Planned.{plans}
+use Rattle.std.proofs.Common.{inl, inr}
+use Rattle.commands.proofs.Halted.{read-fails, spared-read, spared-unwritten}
+use Rattle.commands.proofs.Planned.{plans, plans-part}
 use Rattle.commands.proofs.Replayed.{told_and}
 use Rattle.commands.specs.Halts.{Tells, name_of}
 use Rattle.commands.specs.Planning.{IsPlanRefusedBy}
@@ -7,7 +9,18 @@ use Rattle.commands.proofs.plan.planned.Goals as goal
 pub returns-in-Ok-clause-planned : goal.returns-in-Ok-clause-planned
 returns-in-Ok-clause-planned g c = λ is.
     plans c.args.asked.now (g.R.Source.remaining c.args.reader.now) (g.R.Source.remaining c.plan_of_input.new.reader) (g.W.Sink.written c.args.writer.now)
-    (g.W.Sink.written c.shown.new.writer) c.in-Ok.text.items c.as_slice.result.now c.in-Ok.ensures.planned (c.shown.ensures.all is) c.as_slice.ensures.value
+    (g.W.Sink.written c.printed.new.writer) c.in-Ok.plan c.in-Ok.ensures.planned (c.printed.ensures.all is)
+
+pub returns-in-Ok-clause-part : goal.returns-in-Ok-clause-part
+returns-in-Ok-clause-part g c = λ is.
+    inr (plans-part c.args.asked.now (g.R.Source.remaining c.args.reader.now) (g.R.Source.remaining c.plan_of_input.new.reader)
+    (g.W.Sink.written c.args.writer.now) (g.W.Sink.written c.printed.new.writer) c.in-Ok.plan c.in-Ok.ensures.planned c.printed.ensures.part)
+
+pub returns-in-Ok-clause-spared : goal.returns-in-Ok-clause-spared
+returns-in-Ok-clause-spared g c = spared-read _ _ _ _ c.in-Ok.ensures.reads c.printed.ensures.spared
+
+pub returns-in-Err-clause-spared : goal.returns-in-Err-clause-spared
+returns-in-Err-clause-spared g c = spared-unwritten _ c.in-Err.halt _ _ _ c.in-Err.ensures.reads c.halted.ensures.spared
 
 pub returns-in-Err-clause-named : goal.returns-in-Err-clause-named
 returns-in-Err-clause-named g c = λ is.
@@ -15,3 +28,10 @@ returns-in-Err-clause-named g c = λ is.
     (λ name. Tells name (g.F.Sink.written c.args.faults.now) (g.F.Sink.written c.halted.new.faults) (g.F.Sink.failures c.args.faults.now) (g.F.Sink.failures c.halted.new.faults))
     (IsPlanRefusedBy c.args.asked.now (g.R.Source.remaining c.args.reader.now) (g.R.Source.remaining c.plan_of_input.new.reader))
     (c.halted.ensures.named is) c.in-Err.ensures.refused
+
+pub returns-in-Err-clause-cause : goal.returns-in-Err-clause-cause
+returns-in-Err-clause-cause g c = λ is.
+    elim (c.halted.ensures.cause is) [
+      | inl read ↦ inl (read-fails c.in-Err.halt _ _ c.in-Err.ensures.reads read)
+      | inr memory ↦ inr (inr memory)
+    ]

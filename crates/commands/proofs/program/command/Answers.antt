@@ -17,6 +17,27 @@ returns-in-Ok-Serve-clause-cause g c = λ is.
       | inr (inr (inr out)) ↦ inr (inr (inr (c.in-Ok-Serve.ensures.faults, (c.in-Ok-Serve.capacity, asked.3, out))))
     ]
 
+pub returns-in-Ok-Serve-clause-spared : goal.returns-in-Ok-Serve-clause-spared
+returns-in-Ok-Serve-clause-spared g c = λ failed.
+    c.served.ensures.spared (elim failed [
+      | inl read ↦ inl read
+      | inr wrote ↦ inr (inl wrote)
+    ])
+
+pub returns-in-Ok-Plan-clause-planned_part : goal.returns-in-Ok-Plan-clause-planned_part
+returns-in-Ok-Plan-clause-planned_part g c = λ is none plans.
+    let words = map g.S.AsStr.text c.args.words.now in
+    let asked = subst (λ (a : Asked). IsAsked words a) c.in-Ok-Plan.field-0-is c.in-Ok-Plan.ensures.asked in
+    elim (c.planned.ensures.part is) [
+      | inl same ↦ inl same
+      | inr part ↦ inr (c.in-Ok-Plan.plan, asked.3, part)
+    ]
+
+pub returns-in-Err-clause-planned_part : goal.returns-in-Err-clause-planned_part
+returns-in-Err-clause-planned_part g c = λ is none plans.
+    let memory = only_memory c.in-Err.error (map g.S.AsStr.text c.args.words.now) c.in-Err.ensures.faults none in
+    inl (c.explained.ensures.untouched (ap is_request memory))
+
 pub returns-in-Err-clause-success : goal.returns-in-Err-clause-success
 returns-in-Err-clause-success g c = λ same.
     inr (list_any-kind is_request c.in-Err.error (faults_of (map g.S.AsStr.text c.args.words.now)) (search rules) c.in-Err.ensures.faults

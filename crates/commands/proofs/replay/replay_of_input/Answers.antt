@@ -3,6 +3,7 @@ use Rattle.std.specs.Option.{IfSome}
 use Rattle.std.proofs.lemmas.Result.{IfErr-weaker}
 use Rattle.commands.specs.Halts.{name_of}
 use Rattle.commands.specs.Replaying.{IsRefusedBy, IsReplayRefusal}
+use Rattle.commands.proofs.Halted.{counts-input, counts-none}
 use Rattle.commands.proofs.Replayed.{error_has, refused_input, unnamed}
 use Rattle.commands.proofs.replay.replay_of_input.Goals as goal
 
@@ -18,3 +19,9 @@ returns-clause-refused g c =
     (λ halt made. refused_input (name_of halt) (g.R.Source.remaining c.args.reader.now) (g.R.Source.remaining c.read_all.new.reader) c.in_ok-input.input.items
     c.in_ok-input.ensures.all c.in_ok-input.ensures.left
     (subst (λ bytes. IfSome (name_of halt) (IsReplayRefusal bytes)) c.as_slice.ensures.value made)) c.replay_of_lines.ensures.refused
+
+pub returns-in_err-input-clause-reads : goal.returns-in_err-input-clause-reads
+returns-in_err-input-clause-reads g c = counts-input c.from_residual.result c.in_err-input.field-0.0 _ _ c.from_residual.ensures.1 c.in_err-input.ensures.reads
+
+pub returns-clause-reads : goal.returns-clause-reads
+returns-clause-reads g c = counts-none c.replay_of_lines.result _ _ c.replay_of_lines.ensures.read c.in_ok-input.ensures.reads

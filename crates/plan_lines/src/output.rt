@@ -1,0 +1,95 @@
+// The output of a plan: the lines of its actions, written as they are printed.
+ghost use Rattle.std.specs.Prelude.{◌≡◌, ◌++◌, ◌∷◌, [], map, IfOk, OnErr, OnOk};
+ghost use Rattle.serde_json.specs.Written.{compact_text};
+ghost use Rattle.plain.specs.Streams.{Puts, PutsPart};
+ghost use Rattle.plain.specs.ValueLines.{text_lines};
+ghost use Rattle.plan_lines.specs.Actions.{action_data};
+ghost use Rattle.plan_lines.specs.Output.{CountsWrites, PutsBut};
+ghost use Rattle.plan_lines.specs.declared.output.OutputFault.TheVariants.{Memory as OutOfMemory};
+
+use crate::action_line::put_action;
+use objects::Memory;
+use plain::{Sink, write_all};
+use sets::Action;
+use std::alloc::{AllocError, Global};
+use thiserror::Error;
+
+/// How many bytes of lines wait before they are written.
+const ENOUGH: usize = 65_536;
+
+/// Why the lines were not all written.
+#[derive(Clone, Copy, Debug, PartialEq, Eq, Error)]
+pub enum OutputFault {
+    /// The writer failed.
+    #[error("the output could not be written")]
+    Write,
+    /// An allocation was refused.
+    #[error("out of memory")]
+    Memory,
+}
+
+impl From<Memory> for OutputFault {
+    ghost from_gives = { λ _ fault. fault ≡ OutOfMemory };
+
+    fn from(_error: Memory) -> OutputFault {
+        OutputFault::Memory
+    }
+}
+
+impl From<AllocError> for OutputFault {
+    ghost from_gives = { λ _ fault. fault ≡ OutOfMemory };
+
+    fn from(_error: AllocError) -> OutputFault {
+        OutputFault::Memory
+    }
+}
+
+/// Writes the actions, one a line and in order:
+///
+/// - `{"do":A,"object":O}` for CreateClaim, CreatePod, UpdateClaim, WriteRevision and WriteStatus;
+/// - `{"do":"DeletePod","name":N,"uid":U}`;
+/// - `{"do":"DeleteRevision","name":N,"resourceVersion":V,"uid":U}`;
+/// - `{"cause":C,"do":"Wait","name":N}`, C Terminating or NotReady.
+///
+/// A UID or a resource version that was not listed is an empty text. Lines are written once they come to 65,536 bytes, so
+/// at any time it holds one line, and less than 65,536 bytes of others.
+///
+/// # Errors
+///
+/// Where the writer failed or memory ran out, what was written is a beginning of the lines.
+pub fn write_actions<W: Sink>(
+    alloc: Global,
+    actions: &[Action],
+    writer: &mut W,
+) -> Result<(), OutputFault>
+    ensures all { OnOk result (Puts (W.written writer.old) (text_lines (map action_data actions.now)) (W.written writer.new)) }
+    ensures part { PutsPart (W.written writer.old) (text_lines (map action_data actions.now)) (W.written writer.new) }
+    ensures writes { CountsWrites result (W.failures writer.old) (W.failures writer.new) }
+{
+    let mut lines = Vec::new(alloc);
+    for action in actions {
+        lines = put_line(alloc, action, lines, writer)?;
+    }
+    write_all(writer, lines.as_slice()).ok_or(OutputFault::Write)
+}
+
+/// Puts the line of the action behind those that wait, and writes them all where they are enough. Answers what waits still.
+fn put_line<W: Sink>(
+    alloc: Global,
+    action: &Action,
+    waiting: Vec<u8>,
+    writer: &mut W,
+) -> Result<Vec<u8>, OutputFault>
+    ensures put { IfOk result (λ left. PutsBut (W.written writer.old) (waiting.items ++ (compact_text (action_data action.now) ++ 10 ∷ []))
+        left.items (W.written writer.new)) }
+    ensures part { OnErr result (PutsPart (W.written writer.old) (waiting.items ++ (compact_text (action_data action.now) ++ 10 ∷ []))
+        (W.written writer.new)) }
+    ensures writes { CountsWrites result (W.failures writer.old) (W.failures writer.new) }
+{
+    let mut lines = put_action(alloc, action, waiting)?;
+    if ENOUGH <= lines.len() {
+        write_all(writer, lines.as_slice()).ok_or(OutputFault::Write)?;
+        lines.clear();
+    }
+    Ok(lines)
+}
