@@ -1,8 +1,9 @@
 //! What one controller asks, and where replies take it.
 use crate::sample::{controller, request_of, request_text, store};
 use controllers::Controller;
-use objects::Memory;
-use plain::{Plain, Reason, Reply};
+use objects::{Memory, Object};
+use plain::{Plain, Reason, Reply, Request};
+use sets::PlanError;
 use std::alloc::Global;
 use std::process::Abort;
 use std::test::Fail;
@@ -17,11 +18,15 @@ enum Turn {
     NotFound,
     /// It is told of a compaction, which it never asks for.
     Compacted,
+    /// It is told that what it asked to delete is removed, is marked, or stays as it is.
+    Removed,
+    Marked,
+    Unchanged,
     Crash,
     /// Somebody else asks the request of this line.
     Line(&'static str),
-    /// Whether its last plan was refused as `BadSpec`; else it was not refused.
-    IsRefused(bool),
+    /// Its last plan was refused as this; or it was not, `none`.
+    Refusal(&'static str),
 }
 
 const BAD: &str =
@@ -30,9 +35,33 @@ const BAD: &str =
 const GOOD: &str =
     r#"{"do":"update","object":{"kind":"StatefulSet","metadata":{"name":"web"},"spec":{"replicas":1,"template":{}}}}"#;
 
+const TOO_LARGE: &str =
+    r#"{"do":"update","object":{"kind":"StatefulSet","metadata":{"name":"web"},"spec":{"ordinals":{"start":2147483647},"replicas":2,"template":{}}}}"#;
+
+const ONE: &str =
+    r#"{"do":"create","object":{"kind":"StatefulSet","metadata":{"name":"web"},"spec":{"replicas":1,"template":{}}}}"#;
+
+const TO_NONE: &str =
+    r#"{"do":"update","object":{"kind":"StatefulSet","metadata":{"name":"web"},"spec":{"replicas":0,"template":{}}}}"#;
+
+/// A set with no pods and no history, and its next template.
+const NONE: &str =
+    r#"{"do":"create","object":{"kind":"StatefulSet","metadata":{"name":"web"},"spec":{"replicas":0,"revisionHistoryLimit":0,"template":{}}}}"#;
+
+const NONE_TO_LABELS: &str =
+    r#"{"do":"update","object":{"kind":"StatefulSet","metadata":{"name":"web"},"spec":{"replicas":0,"revisionHistoryLimit":0,"template":{"metadata":{"labels":{"a":"b"}}}}}}"#;
+
+const TWO_CLAIMS: &str =
+    r#"{"do":"create","object":{"kind":"StatefulSet","metadata":{"name":"web"},"spec":{"persistentVolumeClaimRetentionPolicy":{"whenDeleted":"Delete"},"replicas":1,"template":{},"volumeClaimTemplates":[{"metadata":{"name":"data"}},{"metadata":{"name":"logs"}}]}}}"#;
+
+const DELETE: &str = r#"{"do":"delete","kind":"StatefulSet","name":"web"}"#;
+
+/// What a delete is answered with here.
+const POD: &str = r#"{"do":"create","object":{"kind":"Pod","metadata":{"name":"web-0"}}}"#;
+
 /// The idea, and what happens. Where the set is not there, a controller has listed the claims after two requests, and waits
 /// for the list of sets.
-static ROWS: [(&str, &[Turn]); 5] = [
+static ROWS: [(&str, &[Turn]); 9] = [
     (
         "the next request is the same until its reply is taken",
         &[
@@ -74,14 +103,97 @@ static ROWS: [(&str, &[Turn]); 5] = [
         "a refused plan is told until the next one",
         &[
             Turn::Line(BAD),
-            Turn::IsRefused(false),
+            Turn::Refusal("none"),
             Turn::Ask(4),
-            Turn::IsRefused(true),
+            Turn::Refusal("BadSpec"),
             Turn::Line(GOOD),
             Turn::Ask(5),
-            Turn::IsRefused(true),
+            Turn::Refusal("BadSpec"),
             Turn::Ask(4),
-            Turn::IsRefused(false),
+            Turn::Refusal("none"),
+        ],
+    ),
+    (
+        "a second refused plan is told in place of the first, until a crash",
+        &[
+            Turn::Line(BAD),
+            Turn::Ask(4),
+            Turn::Line(TOO_LARGE),
+            Turn::Ask(8),
+            Turn::Refusal("BadSpec"),
+            Turn::Ask(1),
+            Turn::Refusal("OrdinalTooLarge"),
+            Turn::Crash,
+            Turn::Refusal("none"),
+        ],
+    ),
+    (
+        // Ten requests make the revision, and eleven the pod and the status. The store never hears of the deletes.
+        "a pod may be removed, be marked or stay as it is",
+        &[
+            Turn::Line(ONE),
+            Turn::Ask(21),
+            Turn::Line(TO_NONE),
+            Turn::Ask(4),
+            Turn::Next("delete Pod web-0"),
+            Turn::Removed,
+            Turn::Next("status StatefulSet web"),
+            Turn::Crash,
+            Turn::Ask(4),
+            Turn::Next("delete Pod web-0"),
+            Turn::Marked,
+            Turn::Next("status StatefulSet web"),
+            Turn::Crash,
+            Turn::Ask(4),
+            Turn::Next("delete Pod web-0"),
+            Turn::Unchanged,
+            Turn::Next("status StatefulSet web"),
+        ],
+    ),
+    (
+        // Ten requests make the revision, ten write the status, and ten make the next revision.
+        "a revision may be removed, be marked or stay as it is",
+        &[
+            Turn::Line(NONE),
+            Turn::Ask(20),
+            Turn::Line(NONE_TO_LABELS),
+            Turn::Ask(14),
+            Turn::Next("delete ControllerRevision web-10203acf9b"),
+            Turn::Removed,
+            Turn::Next("status StatefulSet web"),
+            Turn::Crash,
+            Turn::Ask(4),
+            Turn::Next("delete ControllerRevision web-10203acf9b"),
+            Turn::Marked,
+            Turn::Next("status StatefulSet web"),
+            Turn::Crash,
+            Turn::Ask(4),
+            Turn::Next("delete ControllerRevision web-10203acf9b"),
+            Turn::Unchanged,
+            Turn::Next("status StatefulSet web"),
+        ],
+    ),
+    (
+        // Ten requests make the revision, and thirteen two claims, the pod and the status.
+        "a claim may be removed, be marked or stay as it is",
+        &[
+            Turn::Line(TWO_CLAIMS),
+            Turn::Ask(23),
+            Turn::Line(DELETE),
+            Turn::Ask(6),
+            Turn::Next("delete PersistentVolumeClaim data-web-0"),
+            Turn::Removed,
+            Turn::Next("delete PersistentVolumeClaim logs-web-0"),
+            Turn::Crash,
+            Turn::Ask(6),
+            Turn::Next("delete PersistentVolumeClaim data-web-0"),
+            Turn::Marked,
+            Turn::Next("delete PersistentVolumeClaim logs-web-0"),
+            Turn::Crash,
+            Turn::Ask(6),
+            Turn::Next("delete PersistentVolumeClaim data-web-0"),
+            Turn::Unchanged,
+            Turn::Next("delete PersistentVolumeClaim logs-web-0"),
         ],
     ),
 ];
@@ -119,13 +231,22 @@ fn take_line(alloc: Global, plain: &mut Plain, line: &str) -> Result<(), Memory>
     Ok(())
 }
 
-fn assert_refused(rt: &impl Abort, web: &Controller, expected: bool, idea: &str) {
-    let refusal = web.last_refusal();
-    let is_as_told = match refusal {
-        Some(refusal) => expected && matches!(refusal, sets::PlanError::BadSpec),
-        None => !expected,
+fn refusal_name(web: &Controller) -> &'static str {
+    let Some(refusal) = web.last_refusal() else {
+        return "none";
     };
-    assert!(rt; is_as_told, "{idea}");
+    match refusal {
+        PlanError::BadSpec => "BadSpec",
+        PlanError::OrdinalTooLarge => "OrdinalTooLarge",
+        _ => "another",
+    }
+}
+
+fn pod(alloc: Global) -> Result<Object, Memory> {
+    match request_of(alloc, POD)? {
+        Request::Create(draft) => Ok(draft.object),
+        _ => Err(Memory),
+    }
 }
 
 fn assert_turn(
@@ -141,13 +262,16 @@ fn assert_turn(
         Turn::Ask(times) => ask(plain, web, *times),
         Turn::NotFound => take(web, Reply::Refused(Reason::NotFound)),
         Turn::Compacted => take(web, Reply::Compacted { revision: 1 }),
+        Turn::Removed => take(web, Reply::Removed(pod(alloc)?)),
+        Turn::Marked => take(web, Reply::Marked(pod(alloc)?)),
+        Turn::Unchanged => take(web, Reply::Unchanged(pod(alloc)?)),
         Turn::Crash => {
             web.crash();
             Ok(())
         }
         Turn::Line(line) => take_line(alloc, plain, line),
-        Turn::IsRefused(expected) => {
-            assert_refused(rt, web, *expected, idea);
+        Turn::Refusal(expected) => {
+            assert_eq!(rt; refusal_name(web), *expected, "{idea}");
             Ok(())
         }
     }
