@@ -6,8 +6,8 @@ use std::alloc::{AllocError, AllocFailed};
 use std::fmt;
 use thiserror::Error;
 
-/// Why there is no plan: the first of these that fits, in the order BadSpec, OrdinalTooLarge, NameTooLong, Foreign,
-/// NoRevisionName. `Memory` alone says nothing of the set.
+/// Why there is no plan: the first of these that fits, in the order BadSpec of the set, OrdinalTooLarge, BadSpec of its
+/// revisions (no next number, no template), NameTooLong, Foreign, NoRevisionName. `Memory` alone says nothing of the set.
 #[derive(Drop, Error)]
 pub enum PlanError {
     /// The name of the last pod in range, or that of a revision to be made, has more than 63 bytes.
