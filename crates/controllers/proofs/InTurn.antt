@@ -1,6 +1,6 @@
 -- A create of a pod that a controller asks for is an action of its plan, and so comes in turn.
 use Rattle.std.proofs.Common.{◌≡◌, inl, inr, ℕ, ◌^◌, ◌<◌, ◌≤◌, ◌+◌, Bool, true, false, cond, List, [], ◌∷◌, ◌++◌, Option, Some, None, Result, Ok, Err, map, filter, find, length, length-append, refl, sym, ap, ◌∙◌, subst, true≢false, arith}
-use Rattle.std.specs.Prelude.{⊤, ◌==◌, bytes_eq, nat_le, nat_lt, not, option_and_then, if◌then◌else◌, reverse}
+use Rattle.std.specs.Prelude.{⊤, ◌==◌, nat_le, nat_lt, option_and_then, if◌then◌else◌, reverse}
 use Rattle.std.specs.List.{AllByRecursion, Contains, cons_option, filter_map, flat_map, list_any}
 use Rattle.std.specs.Option.{option_map_or}
 use Rattle.std.proofs.lemmas.Bool.{and_parts}
@@ -22,6 +22,7 @@ use Rattle.requests.specs.declared.request.Request.TheVariants.{Create, Get, Lis
 use Rattle.set_views.specs.declared.fault.PlanError.{PlanError}
 use Rattle.set_views.specs.declared.fault.PlanError.TheVariants as errors
 use Rattle.set_views.specs.declared.policies.Policy.TheVariants.{OrderedReady}
+use Rattle.set_views.specs.Firsts.{first_of_each, is_held}
 use Rattle.set_views.specs.Claims.{Claim}
 use Rattle.set_views.specs.Pod.{PodParts}
 use Rattle.set_views.specs.Set.{SetParts}
@@ -34,7 +35,7 @@ use Rattle.revisions.specs.History.{expired}
 use Rattle.revisions.specs.Name.{first_free, most_tries, revision_name}
 use Rattle.revisions.specs.Plan as revision_plans
 use Rattle.revisions.specs.Plan.{created, renumbered, settled, plan_of}
-use Rattle.revisions.specs.Revision.{first_of_each, is_held, is_listed, is_owned, is_revision, listed, owned_among, revision_cmp}
+use Rattle.revisions.specs.Revision.{is_listed, is_owned, is_revision, listed, owned_among, revision_cmp}
 use Rattle.scaling.specs.declared.step.Revision.{Revision}
 use Rattle.scaling.specs.declared.step.Step.{Step}
 use Rattle.scaling.specs.declared.step.Step.TheVariants as steps
@@ -65,7 +66,7 @@ use Rattle.sets.specs.Planned.{owned_of, planned, views_of}
 use Rattle.sets.specs.Whole.{current_name, deletion, deletions, status_of, status_write, whole}
 use Rattle.sets.proofs.Ordered.{all_among, all_in_order}
 use Rattle.sets.proofs.Origins.{created_alone, healthy_target, in_take, is_from_step, one_pod, origin, planned_over, renumbered_alone}
-use Rattle.sets.proofs.Owned.{filtered, total}
+use Rattle.sets.proofs.Owned.{filtered, first_among, total}
 use Rattle.rounds.proofs.Lists.{among_contained, among_either, contains_among}
 use Rattle.reconcilers.specs.Planned.{as_read, deletions as removals, key_of, new, or_none, request_of, requested, requested_for, requests_of, version_text}
 use Rattle.controllers.specs.InTurn.{IsInTurn, is_on_pod}
@@ -239,11 +240,6 @@ other_kind kinds.StatefulSet h = refl
 other_kind kinds.Pod h = absurd (true≢false (sym h))
 other_kind kinds.PersistentVolumeClaim h = refl
 other_kind kinds.ControllerRevision h = refl
-
-first_among : (os : List Object) (x : Object) → Among x (first_of_each os) → Among x os
-first_among [] x at = absurd at
-first_among (o ∷ os) x (inl is) = inl is
-first_among (o ∷ os) x (inr at) = inr (first_among os x (filtered (λ (p : Object). not (bytes_eq p.key.name o.key.name)) x (first_of_each os) at).0)
 
 owned_are_other : (set : SetParts) (revisions : List Object) → AllByRecursion IsOther (owned_of set revisions)
 unfolding owned_of

@@ -1,21 +1,21 @@
 -- A plan deletes only what was listed for it, and a collection only what is collectable.
-use Rattle.std.proofs.Common.{◌≡◌, ◌⊎◌, inl, inr, ℕ, length, ◌^◌, Bool, true, false, cond, not, ◌+◌, List, [], ◌∷◌, ◌++◌, Option, Some, None, Result, Ok, Err, map, filter, find, refl, sym, ap, ◌∙◌, subst, true≢false}
-use Rattle.std.specs.Prelude.{◌==◌, ◌&&◌, bytes_eq, nat_lt, option_and_then, if◌then◌else◌}
+use Rattle.std.proofs.Common.{◌≡◌, ◌⊎◌, inl, inr, ℕ, ◌^◌, Bool, true, false, cond, ◌+◌, List, [], ◌∷◌, ◌++◌, Option, Some, None, Result, Ok, Err, filter, find, refl, sym, ap, ◌∙◌, subst, true≢false}
+use Rattle.std.specs.Prelude.{◌==◌, ◌&&◌, nat_lt}
 use Rattle.std.specs.List.{AllByRecursion, Contains, flat_map}
 use Rattle.std.specs.Option.{is_some, option_map_or}
-use Rattle.std.proofs.lemmas.Bool.{and_parts, eqb-true}
+use Rattle.std.proofs.lemmas.Bool.{and_parts}
 use Rattle.std.proofs.lemmas.Slice.Eq.{bytes_eq-Decides}
 use Rattle.objects.specs.declared.key.Key.{Key}
 use Rattle.objects.specs.declared.kind.Kind.{Kind}
 use Rattle.objects.specs.declared.kind.Kind.TheVariants as kinds
 use Rattle.objects.specs.declared.object.Object.{Object}
 use Rattle.objects.specs.Key.{is_key, key_parts}
-use Rattle.objects.specs.PodNames.{IsPodName, pod_name}
 use Rattle.objects.specs.Uid.{uid_text}
 use Rattle.requests.specs.declared.request.Request.{Request}
 use Rattle.requests.specs.declared.request.Request.TheVariants.{Create, Update, UpdateStatus, Delete}
 use Rattle.set_views.specs.declared.fault.PlanError.{PlanError}
 use Rattle.set_views.specs.declared.fault.PlanError.TheVariants as errors
+use Rattle.set_views.specs.Firsts.{first_of_each, is_held}
 use Rattle.set_views.specs.Pod.{PodParts}
 use Rattle.set_views.specs.Set.{SetParts}
 use Rattle.set_views.specs.SetReading.{set_of}
@@ -24,9 +24,9 @@ use Rattle.set_views.specs.Words.{ordinal_in}
 use Rattle.revisions.specs.Choice as choice
 use Rattle.revisions.specs.Plan as revision_plans
 use Rattle.revisions.specs.Plan.{created, renumbered, settled, plan_of}
-use Rattle.revisions.specs.Revision.{is_held, is_owned, first_of_each, listed, is_listed, is_revision, owned_among, revision_cmp}
+use Rattle.revisions.specs.Revision.{is_owned, listed, is_listed, is_revision, owned_among, revision_cmp}
 use Rattle.scaling.specs.Listed.{is_named}
-use Rattle.scaling.specs.Views.{is_near, is_pod}
+use Rattle.scaling.specs.Views.{is_near, is_pod, listed_pods}
 use Rattle.scaling.proofs.AtOnce.{alone}
 use Rattle.claims.specs.Listed.{listed_claim}
 use Rattle.collector.specs.Collectable.{Among, collected}
@@ -39,14 +39,13 @@ use Rattle.sets.proofs.Origins.{created_alone, deletes_owned, renumbered_alone}
 use Rattle.rounds.specs.Sound.{HasNamed, IsAction, IsCollection, IsSound}
 use Rattle.rounds.proofs.Lists.{among_contained, among_either, among_left, among_right, contains_among}
 use Rattle.sets.specs.Order.{in_order}
-use Rattle.sets.specs.Planned.{owned_of, planned, view_of, views_of}
+use Rattle.sets.specs.Planned.{owned_of, planned, views_of}
 use Rattle.reconcilers.specs.Planned.{deletions, deletion_of, key_of, or_none, new, as_read, request_of, requested, requested_for, requests_of}
-use Rattle.sets.specs.Place.{place_in}
 use Rattle.reconcilers.specs.Reconciler.{reconciler_with}
 use Rattle.reconcilers.proofs.Deletions.{deletes_controlled}
 use Rattle.sets.proofs.Ordered.{all_among, all_in_order}
-use Rattle.sets.proofs.Owned.{filtered, total}
-use Rattle.sets.proofs.Places.{found_below}
+use Rattle.sets.proofs.FirstPods.{found_in_map, named_is}
+use Rattle.sets.proofs.Owned.{filtered, first_among, total}
 
 -- ---- requests
 
@@ -84,30 +83,11 @@ named os kind namespace name uid version at r o h among key uid_is =
 
 -- ---- listed pods
 
-found_in_map : (p : PodParts → Bool) (os : List Object) (pod : PodParts) → find p (map view_of os) ≡ Some pod → (o : Object) × Among o os × (view_of o ≡ pod) × (p (view_of o) ≡ true)
-found_in_map p [] pod is = let clash : false ≡ true = ap is_some is in absurd (true≢false (sym clash))
-found_in_map p (o ∷ os) pod is =
-    elim (p (view_of o)) as (λ b. p (view_of o) ≡ b → cond b (Some (view_of o)) (find p (map view_of os)) ≡ Some pod → (q : Object) × Among q (o ∷ os) × (view_of q ≡ pod) × (p (view_of q) ≡ true)) [
-      | true ↦ λ e h. (o, inl refl, ap (λ x. option_map_or (λ (v : PodParts). v) x pod) h, e)
-      | false ↦ λ e h. let r = found_in_map p os pod h in (r.0, inr r.1, r.2, r.3)
-    ] refl is
-
 pod_kind : (kind : Kind) → is_pod kind ≡ true → kind ≡ kinds.Pod
 pod_kind kinds.StatefulSet h = absurd (true≢false (sym h))
 pod_kind kinds.Pod h = refl
 pod_kind kinds.PersistentVolumeClaim h = absurd (true≢false (sym h))
 pod_kind kinds.ControllerRevision h = absurd (true≢false (sym h))
-
-named_place : (set : SetParts) (i : ℕ) (place : Option (List ℕ × ℕ))
-    → option_map_or (λ (j : ℕ). i == j) (option_and_then (λ (s : List ℕ × ℕ). if bytes_eq s.0 set.object.key.name then Some s.1 else None) place) false ≡ true
-    → (s : List ℕ × ℕ) × (place ≡ Some s) × (s.0 ≡ set.object.key.name) × (i ≡ s.1)
-named_place set i None h = absurd (true≢false (sym h))
-named_place set i (Some s) h =
-    elim (bytes_eq s.0 set.object.key.name) as (λ b. bytes_eq s.0 set.object.key.name ≡ b → option_map_or (λ (j : ℕ). i == j) (cond b (Some s.1) None) false ≡ true
-    → (t : List ℕ × ℕ) × (Some s ≡ Some t) × (t.0 ≡ set.object.key.name) × (i ≡ t.1)) [
-      | true ↦ λ e k. (s, refl, (bytes_eq-Decides s.0 set.object.key.name).0 e, eqb-true i s.1 k)
-      | false ↦ λ e k. absurd (true≢false (sym k))
-    ] refl h
 
 -- the listed object of that name and UID
 abbrev IsListed : List Object → Kind → List ℕ → List ℕ → ℕ → Type 0
@@ -115,16 +95,14 @@ IsListed os kind namespace name uid = (o : Object) × Among o os × (o.key ≡ k
 
 pod_listed : (set : SetParts) (pods : List Object) (i : ℕ) (name : List ℕ) (uid : ℕ) (pod : PodParts) → name ≡ name_at set i → find (is_named set i) (views_of set pods) ≡ Some pod → pod.uid ≡ uid
     → IsListed pods kinds.Pod set.object.key.namespace name uid
-unfolding views_of place_in
+unfolding views_of
 pod_listed set pods i name uid pod name_is found uid_is =
-    let f = found_in_map (is_named set i) (filter (is_near set) pods) pod found in
+    let f = found_in_map (is_named set i) (listed_pods set pods) pod found in
     let o : Object = f.0 in
-    let near = filtered (is_near set) o pods f.1 in
+    let near = filtered (is_near set) o pods (first_among (filter (is_near set) pods) o f.1) in
     let parts = and_parts (is_pod o.key.kind) _ near.1 in
     let space : o.key.namespace ≡ set.object.key.namespace = (bytes_eq-Decides o.key.namespace set.object.key.namespace).0 parts.1 in
-    let place = named_place set i (place_in o.key.name) f.3 in
-    let called : IsPodName o.key.name place.0.0 place.0.1 = found_below o.key.name (length o.key.name) place.0 place.1 in
-    let same : o.key.name ≡ name = called.joined ∙ (λ j. pod_name (place.2 j) (sym place.3 j)) ∙ sym name_is in
+    let same : o.key.name ≡ name = named_is set i o f.3 ∙ sym name_is in
     (o, near.0, (λ j. key_parts (pod_kind o.key.kind parts.0 j) (space j) (same j)), ap (λ (v : PodParts). v.uid) f.2 ∙ uid_is)
 
 -- ---- plans
@@ -159,11 +137,6 @@ pod_planned set claims pods (Ok (settled owned current update)) actions name uid
 pod_planned set claims pods (Err x) actions name uid e at = absurd (refused set (views_of set pods) x actions e)
 
 -- ---- listed revisions
-
-first_among : (os : List Object) (x : Object) → Among x (first_of_each os) → Among x os
-first_among [] x at = absurd at
-first_among (o ∷ os) x (inl is) = inl is
-first_among (o ∷ os) x (inr at) = inr (first_among os x (filtered (λ (p : Object). not (bytes_eq p.key.name o.key.name)) x (first_of_each os) at).0)
 
 among_all : {X : Type 0} (P : X → Type 0) (xs : List X) (x : X) → AllByRecursion P xs → Among x xs → P x
 among_all P [] x all at = absurd at

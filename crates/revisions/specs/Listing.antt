@@ -3,7 +3,7 @@ use Rattle.std.specs.Prelude.{◌≡◌, ℕ, Bool, List, bytes_eq}
 use Rattle.std.specs.Borrow.{Bor}
 use Rattle.std.specs.List.{list_any}
 use Rattle.objects.specs.declared.object.Object.{Object}
-use Rattle.revisions.specs.Revision.{is_held}
+use Rattle.set_views.specs.Firsts.{is_held}
 
 -- whether the name is one of these
 abbrev pub has_name : List ℕ → List (Bor (List ℕ)) → Bool

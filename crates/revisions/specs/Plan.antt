@@ -7,6 +7,7 @@ use Rattle.objects.specs.Names.{most_label}
 use Rattle.set_views.specs.declared.fault.PlanError.{PlanError}
 use Rattle.set_views.specs.declared.fault.PlanError.TheVariants.{BadSpec, NameTooLong, NoRevisionName}
 use Rattle.set_views.specs.declared.fault.PlanError.TheVariants as errors
+use Rattle.set_views.specs.Firsts.{is_held}
 use Rattle.set_views.specs.Set.{SetParts}
 use Rattle.set_views.specs.Steps.{◌>>=◌, required, guarded, Gives}
 use Rattle.revisions.specs.declared.view.RevisionView.{RevisionView}
@@ -15,7 +16,7 @@ use Rattle.revisions.specs.declared.plan.RevisionPlan.TheVariants.{Create, Renum
 use Rattle.revisions.specs.Built.{new_revision, with_number}
 use Rattle.revisions.specs.Choice.{Choice, in_place, to_renumber, to_create, choice_of, data_with, greatest, most_number, named_current, template_of}
 use Rattle.revisions.specs.Name.{first_free, most_tries, revision_name}
-use Rattle.revisions.specs.Revision.{AreOwned, is_held, listed}
+use Rattle.revisions.specs.Revision.{AreOwned, listed}
 
 pub data Planned : Type 0 where
   -- this revision is to be made

@@ -1,7 +1,7 @@
 -- ControllerRevisions as a plan sees them (Kubernetes API reference, apps/v1, ControllerRevision: `data`, `revision`).
-use Rattle.std.specs.Prelude.{ℕ, Bool, true, false, not, ◌&&◌, List, [], ◌∷◌, codes, bytes_eq, Option, option_and_then, unwrap_or}
+use Rattle.std.specs.Prelude.{ℕ, Bool, true, false, ◌&&◌, List, codes, bytes_eq, Option, option_and_then, unwrap_or}
 use Rattle.std.specs.Cmp.Lexicographic.{slice_cmp}
-use Rattle.std.specs.List.{filter, list_any}
+use Rattle.std.specs.List.{filter}
 use Rattle.std.specs.List.Sorted.{IsPermutation, IsSorted}
 use Rattle.std.specs.Ordering.{nat_cmp, on, then_cmp}
 use Rattle.std.specs.declared.cmp.Ordering.{Ordering}
@@ -12,6 +12,7 @@ use Rattle.objects.specs.declared.kind.Kind.TheVariants.{StatefulSet, Pod, Persi
 use Rattle.objects.specs.declared.object.Object.{Object}
 use Rattle.objects.specs.Metadata.{owners_of}
 use Rattle.objects.specs.Status.{member_of}
+use Rattle.set_views.specs.Firsts.{first_of_each}
 use Rattle.set_views.specs.Owners.{is_controlled}
 use Rattle.set_views.specs.Set.{SetParts}
 
@@ -36,20 +37,11 @@ is_listed set o = is_revision o.key.kind && bytes_eq o.key.namespace set.object.
 abbrev pub is_owned : SetParts → Object → Bool
 is_owned set o = is_controlled set.object.meta.uid (owners_of o.body)
 
--- of several with one name the first counts
-abbrev pub first_of_each : List Object → List Object
-first_of_each [] = []
-first_of_each (o ∷ os) = o ∷ filter (λ p. not (bytes_eq p.key.name o.key.name)) (first_of_each os)
-
 -- the revisions of the set's namespace among these objects
 abbrev pub listed : SetParts → List Object → List Object
 listed set os = filter (is_listed set) os
 
--- one of these has the name
-abbrev pub is_held : List Object → List ℕ → Bool
-is_held os name = list_any (λ o. bytes_eq name o.key.name) os
-
--- those of them that the set controls
+-- of the first of each name, those that the set controls
 abbrev pub owned_among : SetParts → List Object → List Object
 owned_among set os = filter (is_owned set) (first_of_each (listed set os))
 

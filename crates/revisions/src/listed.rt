@@ -1,10 +1,11 @@
 // The revisions of a set, among the objects that were listed.
 ghost use Rattle.std.specs.Prelude.{◌≡◌, ℕ, List, [], ◌∷◌, ◌++◌, ◌&&◌, ◌||◌, not, bytes_eq, true, if◌then◌else◌, IfOk, OnOk};
 ghost use Rattle.std.specs.List.Sorted.{IsPermutation, IsSorted};
+ghost use Rattle.set_views.specs.Firsts.{is_held};
 ghost use Rattle.set_views.specs.Set.{set_parts};
 ghost use Rattle.revisions.specs.Listing.{has_name, HoldsNames};
 ghost use Rattle.revisions.specs.Plan.{objects_of};
-ghost use Rattle.revisions.specs.Revision.{is_listed, is_owned, is_revision, owned_among, revision_cmp, AreOwned, is_held, listed};
+ghost use Rattle.revisions.specs.Revision.{is_listed, is_owned, is_revision, owned_among, revision_cmp, AreOwned, listed};
 
 use crate::view::{RevisionView, read_revision};
 use objects::{Kind, Object};

@@ -1,4 +1,5 @@
 pub mod Chains
 pub mod ClaimNames
 pub mod NameSets
+pub mod Firsts
 pub mod ClaimLabels

@@ -1,6 +1,6 @@
 -- Sets of names that are borrowed: whether a name is one of theirs.
-use Rattle.std.proofs.Common.{◌≡◌, ℕ, List, [], ◌∷◌, Bool, true, false, Bor, refl, ap, ◌∙◌}
-use Rattle.std.specs.Prelude.{◌||◌, not, bytes_eq}
+use Rattle.std.proofs.Common.{◌≡◌, ℕ, List, [], ◌∷◌, Bool, true, false, Bor, refl, sym, ap, ◌∙◌}
+use Rattle.std.specs.Prelude.{◌&&◌, ◌||◌, not, bytes_eq}
 use Rattle.std.specs.BTreeMap.{is_at}
 use Rattle.std.specs.BTreeSet.{insert_key}
 use Rattle.std.specs.Cmp.Lexicographic.{slice_cmp}
@@ -44,6 +44,19 @@ inserted_at Greater q k n names is later = ap (λ b. bytes_eq q n.now || b) late
 pub has_name-insert_key : (q : List ℕ) (k : Name) (names : List Name) → has_name q (insert_key by_bytes names k) ≡ (bytes_eq q k.now || has_name q names)
 has_name-insert_key q k [] = refl
 has_name-insert_key q k (n ∷ names) = inserted_at (by_bytes k n) q k n names refl (has_name-insert_key q k names)
+
+or_swapped : (a b : Bool) → (a || b) ≡ (b || (true && a))
+or_swapped true true = refl
+or_swapped true false = refl
+or_swapped false true = refl
+or_swapped false false = refl
+
+-- a name was put among the names
+pub name_taken : (kept : Bool) (q name : List ℕ) (k : Name) (before after : List Name) → kept ≡ true → after ≡ insert_key by_bytes before k → k.now ≡ name
+    → has_name q after ≡ (has_name q before || (kept && bytes_eq q name))
+name_taken kept q name k before after is after_is k_is =
+    ap (has_name q) after_is ∙ (has_name-insert_key q k before ∙ (ap (λ s. bytes_eq q s || has_name q before) k_is
+    ∙ (or_swapped (bytes_eq q name) (has_name q before) ∙ ap (λ b. has_name q before || (b && bytes_eq q name)) (sym is))))
 
 -- what an insert answers of a name that was there, and of one that was not
 pub was_there : (a b : Bool) → a ≡ not b → a ≡ false → b ≡ true

@@ -10,3 +10,4 @@ pub mod Readiness
 pub mod Owners
 pub mod Pod
 pub mod Words
+pub mod Firsts

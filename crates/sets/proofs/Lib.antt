@@ -2,6 +2,7 @@ pub mod ClaimActions
 pub mod ClaimsFirst
 pub mod Cuts
 pub mod FirstObjects
+pub mod FirstPods
 pub mod Names
 pub mod OnePlan
 pub mod Ordered

@@ -8,8 +8,9 @@ use Rattle.std.proofs.lemmas.Cmp.{nat_cmp_total, nat_list_cmp_total, on_total, t
 use Rattle.std.proofs.lemmas.Map.Lookups.{exact_bytes}
 use Rattle.std.proofs.lemmas.Slice.Eq.{bytes_eq-Decides}
 use Rattle.objects.specs.declared.object.Object.{Object}
+use Rattle.set_views.specs.Firsts.{first_of_each}
 use Rattle.set_views.specs.Set.{SetParts}
-use Rattle.revisions.specs.Revision.{AreOwned, first_of_each, is_owned, listed, number_of, owned_among, revision_cmp}
+use Rattle.revisions.specs.Revision.{AreOwned, is_owned, listed, number_of, owned_among, revision_cmp}
 use Rattle.collector.specs.Collectable.{Among}
 use Rattle.sets.specs.Planned.{owned_of}
 use Rattle.sets.proofs.Ordered.{HasNoTies, sorted_is_in_order}
@@ -22,8 +23,13 @@ filtered p x (y ∷ ys) at =
       | false ↦ λ e h. let r = filtered p x ys h in (inr r.0, r.1)
     ] refl at
 
+pub first_among : (os : List Object) (x : Object) → Among x (first_of_each os) → Among x os
+first_among [] x at = absurd at
+first_among (o ∷ os) x (inl is) = inl is
+first_among (o ∷ os) x (inr at) = inr (first_among os x (filtered (λ (p : Object). not (bytes_eq p.key.name o.key.name)) x (first_of_each os) at).0)
+
 -- one of a name is first
-one_of_a_name : (os : List Object) (x y : Object) → Among x (first_of_each os) → Among y (first_of_each os) → x.key.name ≡ y.key.name → x ≡ y
+pub one_of_a_name : (os : List Object) (x y : Object) → Among x (first_of_each os) → Among y (first_of_each os) → x.key.name ≡ y.key.name → x ≡ y
 one_of_a_name [] x y at_x at_y same = absurd at_x
 one_of_a_name (o ∷ os) x y (inl x_is) (inl y_is) same = x_is ∙ sym y_is
 one_of_a_name (o ∷ os) x y (inl x_is) (inr at_y) same =

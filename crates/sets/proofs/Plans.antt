@@ -1,5 +1,5 @@
 -- What a plan comes to, by what is due of the revisions.
-use Rattle.std.proofs.Common.{◌≡◌, ℕ, ◌≤◌, List, [], ◌∷◌, ◌++◌, length, filter, map, take, Result, Ok, Err, Bool, true, false, refl, sym, ap, ◌∙◌, subst}
+use Rattle.std.proofs.Common.{◌≡◌, ℕ, ◌≤◌, List, [], ◌∷◌, ◌++◌, length, map, take, Result, Ok, Err, Bool, true, false, refl, sym, ap, ◌∙◌, subst}
 use Rattle.std.specs.List.{flat_map}
 use Rattle.std.specs.Option.{option_map_or}
 use Rattle.std.specs.Prelude.{None, if◌then◌else◌}
@@ -18,7 +18,7 @@ use Rattle.scaling.specs.declared.step.Step.{Step}
 use Rattle.scaling.specs.Listed.{replicas_in}
 use Rattle.scaling.specs.Replicas.{Pods}
 use Rattle.scaling.specs.Step.{cut}
-use Rattle.scaling.specs.Views.{AreViews, is_near}
+use Rattle.scaling.specs.Views.{AreViews, listed_pods}
 use Rattle.scaling.specs.Whole.{planned}
 use Rattle.manifests.specs.BuiltStatus.{StatusParts, built_status}
 use Rattle.claims.specs.Listed.{listed_claim}
@@ -98,7 +98,7 @@ for_claims set given claims listed found result same gives =
     let G : Claims → Type 0 = λ c. (q : Result revisions.Planned PlanError) → Gives revisions.planned_of found q → Gives (λ p. p.actions.items) result (plan_by set c listed q) in
     subst G same gives
 
-pub is_plan : (set : SetParts) (pods claims os : List Object) (digits : ℕ) (views : List PodView) (found : Result RevisionPlan PlanError) (result : Result Plan PlanError) → revisions.IsPlan set os digits found → AreViews (filter (is_near set) pods) views → ((q : Result revisions.Planned PlanError) → Gives revisions.planned_of found q → Gives (λ p. p.actions.items) result (plan_by set (listed_claim set claims) (map pod_parts views) q)) → (found ≡ Err errors.Memory → result ≡ Err errors.Memory) → IsPlan set pods claims os digits result
+pub is_plan : (set : SetParts) (pods claims os : List Object) (digits : ℕ) (views : List PodView) (found : Result RevisionPlan PlanError) (result : Result Plan PlanError) → revisions.IsPlan set os digits found → AreViews (listed_pods set pods) views → ((q : Result revisions.Planned PlanError) → Gives revisions.planned_of found q → Gives (λ p. p.actions.items) result (plan_by set (listed_claim set claims) (map pod_parts views) q)) → (found ≡ Err errors.Memory → result ≡ Err errors.Memory) → IsPlan set pods claims os digits result
 unfolding is_memory
 is_plan set pods claims os digits views found (Err errors.Memory) due seen gives memory = tt
 is_plan set pods claims os digits views (Err errors.Memory) result due seen gives memory = let clash : false ≡ true = ap is_memory (memory refl) in absurd (cc)

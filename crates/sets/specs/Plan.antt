@@ -1,18 +1,19 @@
 -- The plan of a StatefulSet, or the first refusal.
-use Rattle.std.specs.Prelude.{◌+◌, ◌-◌, ◌==◌, ◌||◌, ℕ, Bool, nat_le, List, [], ◌∷◌, filter, length, map, take, Result, Ok, Err, ⊤}
+use Rattle.std.specs.Prelude.{◌+◌, ◌-◌, ◌==◌, ◌||◌, ℕ, Bool, nat_le, List, [], ◌∷◌, length, map, take, Result, Ok, Err, ⊤}
 use Rattle.objects.specs.declared.object.Object.{Object}
 use Rattle.set_views.specs.declared.fault.PlanError.{PlanError}
 use Rattle.set_views.specs.declared.fault.PlanError.TheVariants.{NameTooLong, NoRevisionName}
 use Rattle.set_views.specs.declared.fault.PlanError.TheVariants as errors
 use Rattle.set_views.specs.declared.pod.PodView.{PodView}
+use Rattle.set_views.specs.Firsts.{is_held}
 use Rattle.set_views.specs.Pod.{PodParts, pod_parts}
 use Rattle.set_views.specs.Set.{SetParts}
 use Rattle.set_views.specs.Steps.{◌>>=◌, guarded, Gives}
 use Rattle.revisions.specs.Plan.{Planned, created, renumbered, settled, plan_of}
-use Rattle.revisions.specs.Revision.{AreOwned, is_held, listed}
+use Rattle.revisions.specs.Revision.{AreOwned, listed}
 use Rattle.scaling.specs.Listed.{replicas_in}
 use Rattle.scaling.specs.Replicas.{Pods}
-use Rattle.scaling.specs.Views.{AreViews, is_near}
+use Rattle.scaling.specs.Views.{AreViews, listed_pods}
 use Rattle.objects.specs.Names.{most_label}
 use Rattle.claims.specs.Listed.{listed_claim}
 use Rattle.sets.specs.declared.action.Action.{Action}
@@ -62,5 +63,5 @@ abbrev pub IsPlan : SetParts → List Object → List Object → List Object →
 IsPlan set pods claims revisions digits (Err errors.Memory) = ⊤
 IsPlan set pods claims revisions digits result =
     (owned : List Object) × AreOwned set revisions owned
-    × ((views : List PodView) × AreViews (filter (is_near set) pods) views
+    × ((views : List PodView) × AreViews (listed_pods set pods) views
     × Gives (λ p. p.actions.items) result (plan_by set (listed_claim set claims) (map pod_parts views) (plan_of set (is_held (listed set revisions)) digits owned)))

@@ -1,12 +1,13 @@
 -- The plan of a set as one function of what was listed.
-use Rattle.std.specs.Prelude.{ℕ, List, filter, map, Result}
+use Rattle.std.specs.Prelude.{ℕ, List, map, Result}
 use Rattle.objects.specs.declared.object.Object.{Object}
 use Rattle.set_views.specs.declared.fault.PlanError.{PlanError}
+use Rattle.set_views.specs.Firsts.{is_held}
 use Rattle.set_views.specs.Pod.{PodParts, pod_with}
 use Rattle.set_views.specs.Set.{SetParts}
 use Rattle.revisions.specs.Plan.{plan_of}
-use Rattle.revisions.specs.Revision.{is_held, listed, owned_among, revision_cmp}
-use Rattle.scaling.specs.Views.{is_near}
+use Rattle.revisions.specs.Revision.{listed, owned_among, revision_cmp}
+use Rattle.scaling.specs.Views.{listed_pods}
 use Rattle.claims.specs.Listed.{listed_claim}
 use Rattle.sets.specs.declared.action.Action.{Action}
 use Rattle.sets.specs.Order.{in_order}
@@ -18,7 +19,7 @@ view_of o = pod_with (place_in o.key.name) o
 
 -- the pods of the set's namespace, as a plan sees them
 unfoldable pub views_of : SetParts → List Object → List PodParts
-views_of set pods = map view_of (filter (is_near set) pods)
+views_of set pods = map view_of (listed_pods set pods)
 
 -- the revisions that the set controls, the newest last
 unfoldable pub owned_of : SetParts → List Object → List Object

@@ -1,5 +1,5 @@
 // Laws of plans, for every set and all lists.
-ghost use Rattle.std.specs.Prelude.{◌≡◌, ◌≤◌, ◌<◌, ◌^◌, ◌+◌, ◌∷◌, ◌++◌, [], ℕ, List, true, false, find, filter, length, None, Ok, Err};
+ghost use Rattle.std.specs.Prelude.{◌≡◌, ◌≤◌, ◌<◌, ◌^◌, ◌+◌, ◌∷◌, ◌++◌, [], ℕ, List, true, false, find, filter, length, None, Result, Ok, Err};
 ghost use Rattle.std.specs.List.{Contains};
 ghost use Rattle.serde_json.specs.Data.{Data};
 ghost use Rattle.serde_json.specs.View.{items_of};
@@ -13,12 +13,13 @@ ghost use Rattle.set_views.specs.Pod.{PodParts};
 ghost use Rattle.set_views.specs.Set.{SetParts};
 ghost use Rattle.set_views.specs.Steps.{is_memory};
 ghost use Rattle.set_views.specs.Words.{in_range, is_healthy, is_owned};
-ghost use Rattle.revisions.specs.History.{has_pod};
 ghost use Rattle.revisions.specs.Plan.{created, renumbered};
 ghost use Rattle.scaling.specs.Listed.{is_named};
 ghost use Rattle.scaling.specs.Replicas.{is_failed};
+ghost use Rattle.scaling.specs.Views.{listed_pod};
 ghost use Rattle.manifests.specs.BuiltClaim.{built_claim};
 ghost use Rattle.claims.specs.Changes.{updated};
+ghost use Rattle.claims.specs.Listed.{listed_claim};
 ghost use Rattle.sets.specs.declared.action.Action.{Action};
 ghost use Rattle.sets.specs.declared.action.Action.TheVariants.{CreateClaim, CreatePod, DeletePod, UpdateClaim, WriteRevision};
 ghost use Rattle.sets.specs.declared.action.Plan.{Plan};
@@ -122,16 +123,15 @@ pub fn plans_retain_claims()
         → (i : ℕ) × (c : Claim) × (entries : List Data) × (claim ≡ built_claim set i (items_of entries) c) × (name_set_or_pod set i entries ≡ false) }
 {}
 
-/// A plan goes by the first listed pod of each of the set's names, by the revisions that have a pod of the set's, and by the
-/// first listed claim of each name. So the order of pods and of claims does not matter but among those of one name.
+/// A plan goes by the first listed pod and the first listed claim of each name of the set's namespace. So the order of pods
+/// and of claims does not matter but among those of one name, and the later ones of a name are as good as not there.
 pub fn plans_go_by_first_objects()
-    ensures claims { (set : SetParts) (claims others : Claims) (listed : List PodParts) (owned : List Object) (current update : Object)
-        → ((name : List ℕ) → claims name ≡ others name)
-        → plan_of_pods set claims listed owned current update ≡ plan_of_pods set others listed owned current update }
-    ensures pods { (set : SetParts) (listed moved : List PodParts) → ((i : ℕ) → find (is_named set i) listed ≡ find (is_named set i) moved)
-        → ((name : List ℕ) → has_pod set listed name ≡ has_pod set moved name)
-        → (claims : Claims) (owned : List Object) (current update : Object)
-        → plan_of_pods set claims listed owned current update ≡ plan_of_pods set claims moved owned current update }
+    ensures pods { (set : SetParts) (pods others claims revisions : List Object) (digits : ℕ) (result : Result Plan PlanError)
+        → ((name : List ℕ) → listed_pod set pods name ≡ listed_pod set others name)
+        → IsPlan set pods claims revisions digits result → IsPlan set others claims revisions digits result }
+    ensures claims { (set : SetParts) (pods claims others revisions : List Object) (digits : ℕ) (result : Result Plan PlanError)
+        → ((name : List ℕ) → listed_claim set claims name ≡ listed_claim set others name)
+        → IsPlan set pods claims revisions digits result → IsPlan set pods others revisions digits result }
 {}
 
 /// A plan that writes a revision has no other action.

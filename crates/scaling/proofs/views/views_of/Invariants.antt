@@ -1,8 +1,11 @@
-use Rattle.std.proofs.Common.{◌≡◌, List, ◌++◌, drop, filter}
-use Rattle.objects.specs.declared.object.Object.{Object}
+use Rattle.std.proofs.Common.{◌≡◌, ℕ, List, filter, take}
+use Rattle.set_views.specs.Firsts.{is_held}
 use Rattle.set_views.specs.Set.{set_parts}
-use Rattle.scaling.specs.Views.{AreViews, is_near}
+use Rattle.set_views.proofs.NameSets.{has_name}
+use Rattle.scaling.specs.Views.{AreViews, is_near, listed_pods}
 use Rattle.scaling.proofs.views.views_of.Given as goal
 
 abbrev pub invariant-loop-object : goal.invariant-loop-object
-invariant-loop-object l = (done : List Object) × (done ++ drop l.object-index l.objects ≡ l.objects) × AreViews (filter (is_near (set_parts l.set)) done) l.views.items
+invariant-loop-object l =
+    ((q : List ℕ) → has_name q l.names.keys ≡ is_held (filter (is_near (set_parts l.set)) (take l.object-index l.objects)) q)
+    × AreViews (listed_pods (set_parts l.set) (take l.object-index l.objects)) l.views.items

@@ -1,11 +1,11 @@
 use Rattle.std.proofs.Common.{not, sym, ap, ◌∙◌}
 use Rattle.objects.specs.declared.object.Object.{Object}
 use Rattle.set_views.specs.Set.{set_parts}
-use Rattle.set_views.proofs.NameSets.{contains_is, was_there, was_new}
+use Rattle.set_views.proofs.NameSets.{contains_is, name_taken, was_there, was_new}
 use Rattle.revisions.specs.Listing.{has_name}
 use Rattle.revisions.specs.Plan.{objects_of}
 use Rattle.revisions.specs.Revision.{is_listed, is_owned}
-use Rattle.revisions.proofs.Firsts.{name_taken, view_taken, view_left, left_first, left_second}
+use Rattle.revisions.proofs.Firsts.{view_taken, view_left, left_first, left_second}
 use Rattle.revisions.proofs.listed.Listed.take.Goals as goal
 use Rattle.revisions.proofs.listed.Listed.take.Goals.{else-is_first-via-then-is_first+else-controls, else-is_first-via-else-is_first}
 
