@@ -5,3 +5,5 @@
 mod differences;
 #[cfg(test)]
 mod packing;
+#[cfg(test)]
+mod sharing;

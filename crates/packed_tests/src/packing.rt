@@ -36,7 +36,7 @@ fn printed(alloc: Global, text: &str) -> Result<(Key, Printed), ReadError> {
 }
 
 /// The object of the text, packed beside those that were packed before.
-fn packed(
+pub(crate) fn packed(
     alloc: Global,
     packer: &mut Packer,
     text: &str,
