@@ -125,11 +125,14 @@ fn take_line(alloc: Global, plain: &mut Plain, line: &str) -> Result<(), Memory>
     Ok(())
 }
 
-/// The next request. Where a growth is refused, a second call is refused none.
+/// The next request. Where a growth is refused, a second call is refused none, and a reply between them, which would end the
+/// round, is not waited for.
 fn next_at_last(rt: &impl Abort, controller: &mut Controller) -> Result<Request, Memory> {
     match controller.next() {
         Ok(request) => Ok(request),
         Err(_) => {
+            let is_taken = controller.take(&Reply::Compacted { revision: 1 }).is_ok();
+            assert!(rt; is_taken);
             let again = controller.next();
             assert!(rt; again.is_ok());
             again

@@ -296,6 +296,22 @@ fn events_that_are_not_enabled_hand_nothing_on(rt: HostRuntime) -> Result<(), Fa
     Ok(())
 }
 
+#[test]
+fn a_caller_that_a_controller_was_makes_no_calls(rt: HostRuntime) -> Result<(), Fail> {
+    let events = [
+        ClusterEvent::Next(0),
+        ClusterEvent::Crash(0),
+        ClusterEvent::Outside(0, Request::Compact { to: 1 }),
+        ClusterEvent::Step(Event::Read(0)),
+        ClusterEvent::Step(Event::Crash(0)),
+    ];
+    let found = handed_on(rt.alloc(), &events);
+    drop(events);
+    // The call, the step and both crashes.
+    assert!(rt; found? == (4, None));
+    Ok(())
+}
+
 /// The fault of a cluster of so many controllers.
 fn fault_of(
     alloc: Global,
