@@ -4,23 +4,22 @@ use Rattle.requests.specs.declared.reply.Reply.{Reply}
 use Rattle.history.specs.declared.callers.Callers.{Callers}
 use Rattle.interleavings.specs.declared.event.Event.{Event}
 use Rattle.history.specs.declared.machine.Machine.{Machine}
-use Rattle.history.specs.declared.phase.Phase.{Phase as CodePhase}
 use Rattle.history.specs.declared.phase.Phase.TheVariants as code
 use Rattle.interleavings.specs.declared.event.Event.TheVariants as event
 use Rattle.interleavings.specs.Order.{Arrangement, arranged}
 use Rattle.interleavings.specs.Step.{happens, later}
-use Rattle.interleavings.specs.World.{Phase, Idle, Size, World}
-use Rattle.history.specs.Replayed.{Does, Enters, IsAnswer, IsShown, IsTracked, Same, Shows, Stays, Steps, Thins, is_idle, named_phase, or_idle, phase_at}
+use Rattle.interleavings.specs.World.{Size, World}
+use Rattle.history.specs.Replayed.{Does, Enters, IsAnswer, IsTracked, Keeps, Same, Shows, Stays, Steps, Thins, is_idle, named_phase, or_idle, phase_at}
 use Rattle.interleavings.proofs.Basics.{Compared, same, other, compare}
 use Rattle.history.proofs.Showing.{entered_own, entered_other, shows_named}
 
-pub does_after : (e : Event) (m n k : Machine) → Stays m n → Does e n k → Does e m k
-unfolding Stays Does
-does_after e m n k stays does = λ z w a sh facts. does z w a (stays.1 z w a sh) facts
+pub does_after : (e : Event) (m n k : Machine) → Keeps m n → Does e n k → Does e m k
+unfolding Keeps Does
+does_after e m n k keeps does = λ z w a sh facts. does z w a (keeps.1 z w a sh) facts
 
 pub stays_twice : (m n k : Machine) → Stays m n → Stays n k → Stays m k
-unfolding Stays
-stays_twice m n k first second = (second.0 ∙ first.0, λ z w a sh. second.1 z w a (first.1 z w a sh))
+unfolding Keeps Stays
+stays_twice m n k first second = ((second.0.0 ∙ first.0.0, λ z w a sh. second.0.1 z w a (first.0.1 z w a sh)), λ c. second.1 c ∙ first.1 c)
 
 -- a caller that is named for the first time
 pub admitted_same : (old new : Callers) (c : ℕ) → named_phase old c ≡ None → Enters old new c code.Idle → (d : ℕ) → phase_at new d ≡ phase_at old d
@@ -30,41 +29,35 @@ admitted_same old new c none e d = by (compare d c)
     by (same x b) = ap (phase_at new) x ∙ entered_own old new c code.Idle e ∙ sym (ap (phase_at old) x ∙ ap or_idle none)
     by (other x b) = entered_other old new c code.Idle e d x
 
-pub admits : (m m' : Machine) (c : ℕ) → named_phase m.callers c ≡ None → Enters m.callers m'.callers c code.Idle → m' ≡ record m { callers = m'.callers } → Stays m m'
-unfolding Stays
+pub admits : (m m' : Machine) (c : ℕ) → named_phase m.callers c ≡ None → Enters m.callers m'.callers c code.Idle → m' ≡ record m { callers = m'.callers } → Keeps m m'
+unfolding Keeps
 admits m m' c none entering e = (ap (λ (x : Machine). x.compacted) e, λ z w a sh. subst (λ x. Shows z w a x) (sym e) (shows_named z w a m sh m'.callers (admitted_same m.callers m'.callers c none entering) entering.1))
 
-idle_code : (p : CodePhase) (ph : Phase) → ph ≡ Idle → IsShown p ph → p ≡ code.Idle
-idle_code code.Idle ph e h = refl
-idle_code (code.Called p r) ph e h = absurd cc
-idle_code (code.Holding t) ph e h = absurd cc
-idle_code (code.Drawn d) ph e h = absurd cc
-idle_code (code.Waiting s p r) ph e h = absurd cc
-idle_code (code.Reading n p r left) ph e h = let x = h.1.1.0 in absurd cc
-idle_code code.Gone ph e h = absurd cc
-idle_code (code.Left d) ph e h = absurd cc
-idle_code code.Dropped ph e h = absurd cc
-
--- an idle caller is forgotten
-pub dismisses : (m n k : Machine) (c : ℕ) → named_phase m.callers c ≡ None → Stays m n → ((d : ℕ) → named_phase k.callers d ≡ cond (nat_eq d c) None (named_phase n.callers d)) → (is_idle (phase_at n.callers c) ≡ true → IsTracked n.callers → IsTracked k.callers)
-    → k ≡ record n { callers = k.callers } → Stays m k
-unfolding Stays
-dismisses m n k c none stays gone tracks e = (
-  ap (λ (x : Machine). x.compacted) e ∙ stays.0,
-  λ z w a sh. subst (λ x. Shows z w a x) (sym e) (shows_named z w a n (stays.1 z w a sh) k.callers (λ d. by z w a sh d (compare d c)) (tracks (ap is_idle (now_idle z w a sh)))),
+-- a caller was admitted, its event is refused, and it is forgotten
+pub dismisses : (m l n k : Machine) (c : ℕ) → named_phase m.callers c ≡ None → Enters m.callers l.callers c code.Idle → l ≡ record m { callers = l.callers } → Stays l n
+    → ((d : ℕ) → named_phase k.callers d ≡ cond (nat_eq d c) None (named_phase n.callers d)) → (is_idle (phase_at n.callers c) ≡ true → IsTracked n.callers → IsTracked k.callers) → k ≡ record n { callers = k.callers } → Stays m k
+unfolding Keeps Stays
+dismisses m l n k c none entering l_is stays gone tracks k_is = (
+  (
+    ap (λ (x : Machine). x.compacted) k_is ∙ stays.0.0 ∙ admitted.0,
+    λ z w a sh. subst (λ x. Shows z w a x) (sym k_is) (shows_named z w a n (stays.0.1 z w a (admitted.1 z w a sh)) k.callers (λ d. alike d (compare d c)) (tracks (ap is_idle now_idle))),
+  ),
+  λ d. known d (compare d c),
 )
   where
-    was_idle : (z : Size) (w : World) (a : Arrangement) → Shows z w a m → w.phase c ≡ Idle
-    was_idle z w a sh = subst (λ o. IsShown (or_idle o) (w.phase c)) none (sh.phases c)
+    admitted : Keeps m l
+    admitted = admits m l c none entering l_is
 
-    now_idle : (z : Size) (w : World) (a : Arrangement) → Shows z w a m → phase_at n.callers c ≡ code.Idle
-    now_idle z w a sh = idle_code (phase_at n.callers c) (w.phase c) (was_idle z w a sh) ((stays.1 z w a sh).phases c)
+    now_idle : phase_at n.callers c ≡ code.Idle
+    now_idle = ap or_idle (stays.1 c) ∙ entered_own m.callers l.callers c code.Idle entering
 
-    by : (z : Size) (w : World) (a : Arrangement) → Shows z w a m → (d : ℕ) → Compared d c → phase_at k.callers d ≡ phase_at n.callers d
-    by z w a sh d (same x b) =
-        ap or_idle (gone d ∙ ap (λ t. cond t None (named_phase n.callers d)) b)
-        ∙ sym (ap (phase_at n.callers) x ∙ now_idle z w a sh)
-    by z w a sh d (other x b) = ap or_idle (gone d ∙ ap (λ t. cond t None (named_phase n.callers d)) b)
+    alike : (d : ℕ) → Compared d c → phase_at k.callers d ≡ phase_at n.callers d
+    alike d (same x b) = ap or_idle (gone d ∙ ap (λ t. cond t None (named_phase n.callers d)) b) ∙ sym (ap (phase_at n.callers) x ∙ now_idle)
+    alike d (other x b) = ap or_idle (gone d ∙ ap (λ t. cond t None (named_phase n.callers d)) b)
+
+    known : (d : ℕ) → Compared d c → named_phase k.callers d ≡ named_phase m.callers d
+    known d (same x b) = gone d ∙ ap (λ t. cond t None (named_phase n.callers d)) b ∙ sym (ap (named_phase m.callers) x ∙ none)
+    known d (other x b) = gone d ∙ ap (λ t. cond t None (named_phase n.callers d)) b ∙ stays.1 d ∙ entering.0 d ∙ ap (λ t. cond t (Some code.Idle) (named_phase m.callers d)) b
 
 -- where the event is placed does not matter to the order
 placed : (w v : World) (a : Arrangement) (e : Event) → arranged w e (later v) a ≡ arranged w e v a
@@ -112,8 +105,8 @@ answer_same (event.Reply c) m n k told items answer = items ∙ answer
 answer_same e m n k told items answer = answer
 
 pub same_stays : (m m' : Machine) → Same m.callers m'.callers → m' ≡ record m { callers = m'.callers } → Stays m m'
-unfolding Stays
-same_stays m m' names e = (ap (λ (x : Machine). x.compacted) e, λ z w a sh. subst (λ x. Shows z w a x) (sym e) (shows_named z w a m sh m'.callers (λ c. ap or_idle (names.0 c)) names.1))
+unfolding Keeps Stays
+same_stays m m' names e = ((ap (λ (x : Machine). x.compacted) e, λ z w a sh. subst (λ x. Shows z w a x) (sym e) (shows_named z w a m sh m'.callers (λ c. ap or_idle (names.0 c)) names.1)), names.0)
 
 pub unnamed : {A B : Type 0} (f : A → B) (o : Option A) (n : Option B) → option_map f o ≡ n → is_some o ≡ false → n ≡ None
 unnamed f None n e i = sym e

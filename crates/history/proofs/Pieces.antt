@@ -14,37 +14,40 @@ use Rattle.interleavings.specs.Facts.{Facts}
 use Rattle.interleavings.specs.Order.{Arrangement, last_or_parked, with_last}
 use Rattle.interleavings.specs.Step.{begun, given}
 use Rattle.interleavings.specs.World.{Phase, Idle, Called, Holding, Waiting, Reading, Size, World, changed}
-use Rattle.history.specs.Replayed.{Begins, Enters, Holds, IsShown, Settles, Shows, Stands, Stays, Tells, Waits, begun_phase, drops, is_called, is_dropped, is_replying, is_undecided, lot_at, or_idle, phase_at, shard_at, staying, waiters_at, writing_of}
+use Rattle.history.specs.Replayed.{Begins, Enters, Holds, IsShown, Keeps, Settles, Shows, Stands, Stays, Tells, Waits, begun_phase, drops, is_called, is_dropped, is_replying, is_undecided, lot_at, named_phase, or_idle, phase_at, shard_at, staying, waiters_at, writing_of}
 use Rattle.history.specs.declared.phase.Writing.{Writing as CodeWriting}
 use Rattle.interleavings.proofs.Basics.{Least, atmost, above, least}
 use Rattle.history.proofs.Showing.{shows_entered, shows_holder, shows_parked}
 
 pub stays_same : (m : Machine) → Stays m m
-unfolding Stays
-stays_same m = (refl, λ z w a sh. sh)
+unfolding Keeps Stays
+stays_same m = ((refl, λ z w a sh. sh), λ c. refl)
 
 -- the same, piece by piece
 pub stays_by : (m m' : Machine) → m'.items.items ≡ m.items.items → m'.order.items ≡ m.order.items → m'.places.items ≡ m.places.items → ((n : ℕ) → lot_at m'.parking n ≡ lot_at m.parking n)
     → m' ≡ record m { items = m'.items; order = m'.order; places = m'.places; parking = m'.parking } → Stays m m'
-unfolding Stays
+unfolding Keeps Stays
 stays_by m m' items order places lots is = (
-  ap (λ (x : Machine). x.compacted) is,
-  λ z w a sh. subst (λ x. Shows z w a x) (sym is) (record {
-    capacity = sh.capacity;
-    small = sh.small;
-    frontier = sh.frontier;
-    floor = sh.floor;
-    place = sh.place;
-    seats = sh.seats;
-    phases = sh.phases;
-    items = items ∙ sh.items;
-    order = order ∙ sh.order;
-    log = subst (λ ps. Rattle.history.specs.Replayed.ShowsLog z w.log w.drawn ps m.shards.items m.compacted) (sym places) sh.log;
-    parked = λ n. sh.parked n ∙ ap (staying (drops m.callers)) (sym (lots n));
-    tracked = sh.tracked;
-    low = sh.low;
-    unread = sh.unread;
-  }),
+  (
+    ap (λ (x : Machine). x.compacted) is,
+    λ z w a sh. subst (λ x. Shows z w a x) (sym is) (record {
+      capacity = sh.capacity;
+      small = sh.small;
+      frontier = sh.frontier;
+      floor = sh.floor;
+      place = sh.place;
+      seats = sh.seats;
+      phases = sh.phases;
+      items = items ∙ sh.items;
+      order = order ∙ sh.order;
+      log = subst (λ ps. Rattle.history.specs.Replayed.ShowsLog z w.log w.drawn ps m.shards.items m.compacted) (sym places) sh.log;
+      parked = λ n. sh.parked n ∙ ap (staying (drops m.callers)) (sym (lots n));
+      tracked = sh.tracked;
+      low = sh.low;
+      unread = sh.unread;
+    }),
+  ),
+  λ c. ap (λ (x : Machine). named_phase x.callers c) is,
 )
 
 pub undecided_live : (p : CodePhase) → is_undecided p ≡ true → is_dropped p ≡ false

@@ -17,7 +17,7 @@ use Rattle.interleavings.specs.Log.{Writing}
 use Rattle.interleavings.specs.Order.{Arrangement, moved_by}
 use Rattle.interleavings.specs.Step.{published, told}
 use Rattle.interleavings.specs.World.{Phase, Draw, Drawn, Waiting, Gone, Size, World, changed, shard}
-use Rattle.history.specs.Replayed.{Does, Enters, Fills, IsShown, IsUnread, Shows, Stands, Stays, draw_of, drawn_in, is_dropped, phase_at, published_phase, shard_at}
+use Rattle.history.specs.Replayed.{Does, Enters, Fills, IsShown, IsUnread, Keeps, Shows, Stands, Stays, draw_of, drawn_in, is_dropped, phase_at, published_phase, shard_at}
 use Rattle.interleavings.proofs.Basics.{changed-same}
 use Rattle.history.proofs.Mirrors.{above_draw}
 use Rattle.history.proofs.Showing.{shows_entered}
@@ -92,7 +92,7 @@ publish_nothing m c none = λ z w a sh facts. nothing z w c a m _ (not_drawn z w
 -- room is made, the caller goes on, and the write is filled in
 pub publish_done : (m n k m' : Machine) (c s : ℕ) (d : CodeDraw) (v : Version) → drawn_in (phase_at m.callers c) ≡ Some d → s ≡ shard_of d.writing.key (length m.shards.items) → Stays m n → n.callers ≡ m.callers
     → Enters n.callers k.callers c (published_phase (phase_at n.callers c)) → k ≡ record n { callers = k.callers } → v ≡ version_of d.writing.change (d.index + 1) → Fills s d.index d.writing.place v k m' → Does (Publish c) m m'
-unfolding Does Fills Stays shard
+unfolding Does Fills Keeps Stays shard
 publish_done m n k m' c s d v stated is stays same entering k_is v_is fills = λ z w a sh facts.
     by z w a sh facts (drawing (phase_at m.callers c) (w.phase c) d stated (sh.phases c))
   where
@@ -111,7 +111,7 @@ publish_done m n k m' c s d v stated is stays same entering k_is v_is fills = λ
     published_to z w a sh before to at goes_to drop ph shown unread =
         let here : phase_at n.callers c ≡ before = ap (λ cs. phase_at cs c) same ∙ at in
         subst (λ x. Shows z (record w { phase = changed w.phase c ph }) a x) (sym k_is)
-        (shows_entered z w a n (stays.1 z w a sh) k.callers c to ph (subst (λ x. Enters n.callers k.callers c x) (ap published_phase here ∙ goes_to) entering) shown (drop ∙ sym (ap is_dropped here)) unread)
+        (shows_entered z w a n (stays.0.1 z w a sh) k.callers c to ph (subst (λ x. Enters n.callers k.callers c x) (ap published_phase here ∙ goes_to) entering) shown (drop ∙ sym (ap is_dropped here)) unread)
 
     by : (z : Size) (w : World) (a : Arrangement) → Shows z w a m → Facts z w → IsDrawing (phase_at m.callers c) (w.phase c) d → Shows z (published z w c (w.phase c)) (moved_by c w (published z w c (w.phase c)) a) m'
     by z w a sh facts (draws p ph) =

@@ -6,7 +6,7 @@ use Rattle.interleavings.specs.Order.{Arrangement, arranged, arrangement, beginn
 use Rattle.interleavings.specs.Step.{step}
 use Rattle.interleavings.specs.Trace.{after}
 use Rattle.interleavings.specs.World.{Size, World, opening}
-use Rattle.history.specs.Replayed.{IsRun, Shows, Stands, Stays, Steps}
+use Rattle.history.specs.Replayed.{IsRun, Keeps, Shows, Stands, Stays, Steps}
 use Rattle.interleavings.specs.Spared.{IsLeastRead}
 use Rattle.interleavings.proofs.Facts.{facts_after}
 
@@ -34,7 +34,7 @@ run_steps z es e m m' run steps place =
     }
 
 pub run_stays : (z : Size) (es : List Event) (m m' : Machine) → IsRun z es m → Stays m m' → IsRun z es m'
-unfolding Stays
+unfolding Keeps Stays
 run_stays z es m m' run stays =
-    let shown = stays.1 z (after z opening es) (arrangement z opening beginning es) run.shows in
-    record { some = run.some; count = shown.place ∙ sym run.shows.place ∙ run.count; shows = shown; compacted = subst (IsLeastRead (after z opening es)) (sym stays.0) run.compacted }
+    let shown = stays.0.1 z (after z opening es) (arrangement z opening beginning es) run.shows in
+    record { some = run.some; count = shown.place ∙ sym run.shows.place ∙ run.count; shows = shown; compacted = subst (IsLeastRead (after z opening es)) (sym stays.0.0) run.compacted }

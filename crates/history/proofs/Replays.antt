@@ -1,5 +1,5 @@
 -- What a replay promises, by its machine.
-use Rattle.std.proofs.Common.{◌≡◌, ℕ, ◌<◌, ◌↔◌, Bool, true, false, IsTrue, List, [], ◌∷◌, ◌++◌, Option, Result, Ok, Err, OnOk, IfOk, refl, sym, ap, ◌∙◌, subst}
+use Rattle.std.proofs.Common.{◌≡◌, ℕ, ◌+◌, ◌<◌, ◌≤◌, ◌↔◌, Bool, true, false, IsTrue, List, [], ◌∷◌, ◌++◌, Option, Result, Ok, Err, OnOk, IfOk, refl, sym, ap, ◌∙◌, subst, length, arith}
 use Rattle.requests.specs.declared.reply.Reply.{Reply}
 use Rattle.interleavings.specs.declared.event.Event.{Event}
 use Rattle.interleavings.specs.declared.event.Event.TheVariants as event
@@ -7,13 +7,17 @@ use Rattle.history.specs.declared.machine.Machine.{Machine}
 use Rattle.history.specs.declared.phase.Phase.{Phase as CodePhase}
 use Rattle.history.specs.declared.phase.Phase.TheVariants as code
 use Rattle.interleavings.specs.declared.trace.Item.{Item}
-use Rattle.history.specs.After.{IsReplyTo}
+use Rattle.history.specs.After.{IsAfter, IsReplyTo, ReplayParts}
+use Rattle.history.specs.Named.{named, with_named}
+use Rattle.history.specs.declared.names.Names.{Names}
 use Rattle.interleavings.specs.Order.{order}
 use Rattle.interleavings.specs.Linearization.{IsLegal}
 use Rattle.interleavings.specs.Trace.{trace}
 use Rattle.interleavings.specs.World.{Phase, Idle, Size}
-use Rattle.history.specs.Replayed.{IsAnswer, IsRun, IsShown, is_idle, told_at}
+use Rattle.history.specs.Replayed.{IsAnswer, IsRun, IsShown, Stays, Steps, is_idle, named_by, told_at}
 use Rattle.interleavings.proofs.Runs.{orders_are_legal}
+use Rattle.history.proofs.Naming.{named_more}
+use Rattle.history.proofs.Reached.{run_stays, run_steps}
 
 pub on_ok_two : {A E : Type 0} (P Q R : Type 0) (r : Result A E) → (P → Q → R) → OnOk r P → OnOk r Q → OnOk r R
 on_ok_two P Q R (Ok x) f p q = f p q
@@ -22,6 +26,26 @@ on_ok_two P Q R (Err e) f p q = tt
 pub if_ok_three : {A E : Type 0} (P Q : Type 0) (R S : A → Type 0) (r : Result A E) → ((x : A) → P → Q → R x → S x) → OnOk r P → OnOk r Q → IfOk r R → IfOk r S
 if_ok_three P Q R S (Ok x) f p q s = f x p q s
 if_ok_three P Q R S (Err e) f p q s = tt
+
+abbrev parts : Machine → Names → ReplayParts
+parts m n = record { machine = m; names = n }
+
+pub names_next : (es : List Event) (e : Event) (n n' : Names) → n.callers.keys ≡ named [] es → n'.callers.keys ≡ with_named n.callers.keys (named_by e) → n'.callers.keys ≡ named [] (es ++ e ∷ [])
+names_next es e n n' were noted = noted ∙ ap (λ ks. with_named ks (named_by e)) were ∙ sym (named_more es [] e)
+
+-- one event more
+pub after_next : (z : Size) (es : List Event) (e : Event) (m m' : Machine) (n n' : Names) → IsAfter z es (parts m n) → Steps e m m' → m'.now_at ≡ m.now_at + 1 → n'.callers.keys ≡ with_named n.callers.keys (named_by e) → length n'.callers.keys ≤ 4096
+    → IsAfter z (es ++ e ∷ []) (parts m' n')
+unfolding IsAfter
+after_next z es e m m' n n' after steps place noted few = (run_steps z es e m m' after.0 steps place, (names_next es e n n' after.1.0 noted, few))
+
+-- the event was refused
+pub after_still : (z : Size) (es : List Event) (m m' : Machine) (n n' : Names) → IsAfter z es (parts m n) → Stays m m' → n'.callers.keys ≡ n.callers.keys → IsAfter z es (parts m' n')
+unfolding IsAfter
+after_still z es m m' n n' after stays same =
+    let few = after.1.1 in
+    let long = ap length same in
+    (run_stays z es m m' after.0 stays, (same ∙ after.1.0, omega (arith, long, few)))
 
 pub answer_told : (z : Size) (es : List Event) (m m' : Machine) (e : Event) (told : Option Reply) → IsRun z es m → IsRun z (es ++ e ∷ []) m' → IsAnswer e m m' told → IsReplyTo z es e told
 answer_told z es m m' (event.Call c r) told run next answer = answer

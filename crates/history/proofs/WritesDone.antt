@@ -28,7 +28,7 @@ use Rattle.history.specs.Mirrors.{Mirrors}
 use Rattle.interleavings.specs.Order.{Arrangement, passed, places_at}
 use Rattle.interleavings.specs.Step.{called, checked, checked_by, checked_in, drawn_by, enters, judged, raised, reserved}
 use Rattle.interleavings.specs.World.{Phase, Idle, Called, Holding, Drawn, Waiting, Size, World, Draw, changed, shard}
-use Rattle.history.specs.Replayed.{Does, Enters, Fills, Holds, Shows, Stays, Waits, called_in, drops, holding_in, is_idle, named_phase, phase_at, shard_at, with_draw, writing_of, is_dropped, ShowsLog, lot_at, places_in, staying}
+use Rattle.history.specs.Replayed.{Does, Enters, Fills, Holds, Keeps, Shows, Stays, Waits, called_in, drops, holding_in, is_idle, named_phase, phase_at, shard_at, with_draw, writing_of, is_dropped, ShowsLog, lot_at, places_in, staying}
 use Rattle.interleavings.proofs.Basics.{Compared, same, other, compare, changed-same, changed-other}
 use Rattle.history.proofs.Mirrors.{last_is, mirrors_beside, mirrors_drawn, mirrors_pushed, verdict_is}
 use Rattle.history.proofs.Showing.{released, shows_entered, shows_holder, shows_passed}
@@ -316,31 +316,34 @@ fills_by m m' s i n place v sv lt seat small number free sv_is shards places sea
 -- room was made in a shard, or none was got
 pub roomed : (m m' : Machine) (s : ℕ) (sv : Shard) → sv.records ≡ (shard_at m.shards.items s).records → sv.floor ≡ (shard_at m.shards.items s).floor → s < length m.shards.items → m'.shards.items ≡ set m.shards.items s sv
     → m' ≡ record m { shards = m'.shards } → Stays m m'
-unfolding Stays
+unfolding Keeps Stays
 roomed m m' s sv records floor lt shards e = (
-  ap (λ (x : Machine). x.compacted) e,
-  λ z w a sh. subst (λ x. Shows z w a x) (sym e) (record {
-    capacity = sh.capacity;
-    small = sh.small;
-    frontier = sh.frontier;
-    floor = sh.floor;
-    place = sh.place;
-    items = sh.items;
-    order = sh.order;
-    seats = sh.seats;
-    phases = sh.phases;
-    parked = sh.parked;
-    tracked = sh.tracked;
-    low = sh.low;
-    unread = sh.unread;
-    log = record {
-      drawn_is = sh.log.drawn_is;
-      filled = sh.log.filled;
-      count = ap length shards ∙ length-set m.shards.items s sv ∙ sh.log.count;
-      mirrors = λ q lt'. subst (λ rs. Mirrors z w.log w.drawn q rs (shard_at m'.shards.items q).floor) (sym (by_records q (compare q s))) (subst (λ f. Mirrors z w.log w.drawn q (shard_at m.shards.items q).records f) (sym (by_floor q (compare q s))) (sh.log.mirrors q lt'));
-      floors = λ q lt'. by_floor q (compare q s) ∙ sh.log.floors q lt';
-    };
-  }),
+  (
+    ap (λ (x : Machine). x.compacted) e,
+    λ z w a sh. subst (λ x. Shows z w a x) (sym e) (record {
+      capacity = sh.capacity;
+      small = sh.small;
+      frontier = sh.frontier;
+      floor = sh.floor;
+      place = sh.place;
+      items = sh.items;
+      order = sh.order;
+      seats = sh.seats;
+      phases = sh.phases;
+      parked = sh.parked;
+      tracked = sh.tracked;
+      low = sh.low;
+      unread = sh.unread;
+      log = record {
+        drawn_is = sh.log.drawn_is;
+        filled = sh.log.filled;
+        count = ap length shards ∙ length-set m.shards.items s sv ∙ sh.log.count;
+        mirrors = λ q lt'. subst (λ rs. Mirrors z w.log w.drawn q rs (shard_at m'.shards.items q).floor) (sym (by_records q (compare q s))) (subst (λ f. Mirrors z w.log w.drawn q (shard_at m.shards.items q).records f) (sym (by_floor q (compare q s))) (sh.log.mirrors q lt'));
+        floors = λ q lt'. by_floor q (compare q s) ∙ sh.log.floors q lt';
+      };
+    }),
+  ),
+  λ c. ap (λ (x : Machine). named_phase x.callers c) e,
 )
   where
     own_at : shard_at m'.shards.items s ≡ sv

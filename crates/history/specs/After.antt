@@ -1,9 +1,13 @@
 -- What a replay says of the events so far.
-use Rattle.std.specs.Prelude.{◌≡◌, ◌≤◌, ℕ, List, [], ◌∷◌, ◌++◌, length, Option, None}
+use Rattle.std.specs.Prelude.{◌≡◌, ◌≤◌, ℕ, List, [], ◌∷◌, ◌++◌, length, Option, None, refl}
+use Rattle.std.specs.Coded.{Coded, code_by, coded×}
 use Rattle.requests.specs.declared.reply.Reply.{Reply}
 use Rattle.interleavings.specs.declared.event.Event.{Event}
 use Rattle.interleavings.specs.declared.event.Event.TheVariants as event
-use Rattle.history.specs.declared.replaying.Replay.{Replay}
+use Rattle.history.specs.declared.machine.Machine.{Machine}
+use Rattle.history.specs.declared.names.Names.{Names}
+use Rattle.history.specs.contracts.machine.Machine as machine
+use Rattle.history.specs.contracts.names.Names as names
 use Rattle.history.specs.Named.{named}
 use Rattle.history.specs.Replayed.{IsRun, told_at}
 use Rattle.interleavings.specs.declared.trace.Run.{Run}
@@ -12,16 +16,26 @@ use Rattle.interleavings.specs.Order.{order}
 use Rattle.interleavings.specs.Trace.{trace}
 use Rattle.interleavings.specs.World.{Size}
 
+-- a replay: the world of its run, and the callers that its events have named
+pub record ReplayParts : Type 0 where
+  pub machine : Machine
+  pub names : Names
+
+abbrev pub replay_coded : Coded ReplayParts
+replay_coded = code_by (Machine × Names) (coded× machine.the_row.coded names.the_row.coded) (λ r. (r.machine, r.names)) (λ p. record { machine = p.0; names = p.1 }) (λ _. refl)
+
 -- the replay has taken these events, and no others
-unfoldable pub IsAfter : Size → List Event → Replay → Type 0
+unfoldable pub IsAfter : Size → List Event → ReplayParts → Type 0
 IsAfter z events replay = IsRun z events replay.machine × ((replay.names.callers.keys ≡ named [] events) × (length replay.names.callers.keys ≤ 4096))
 
--- some events lead to it
-abbrev pub IsReached : Replay → Type 0
-IsReached replay = (z : Size) × ((events : List Event) × IsAfter z events replay)
+-- some run, over a store of some size, leads to it
+pub record IsReached (replay : ReplayParts) : Type 0 where
+  pub size : Size
+  pub events : List Event
+  pub after : IsAfter size events replay
 
 -- how many events it has taken
-unfoldable pub taken : Replay → ℕ
+unfoldable pub taken : ReplayParts → ℕ
 taken replay = replay.machine.now_at
 
 -- The run has the trace of the events, and the order that is built of them, which is a legal one.

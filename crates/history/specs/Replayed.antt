@@ -345,8 +345,12 @@ pub record Shows (z : Size) (w : World) (a : Arrangement) (m : Machine) : Type 0
 -- ---- what one event does
 
 -- whatever was shown is shown still, and the shards are compacted no further
+unfoldable pub Keeps : Machine → Machine → Type 0
+Keeps old new = (new.compacted ≡ old.compacted) × ((z : Size) (w : World) (a : Arrangement) → Shows z w a old → Shows z w a new)
+
+-- that, and each caller is known as before: one that no event had named is known to nobody
 unfoldable pub Stays : Machine → Machine → Type 0
-Stays old new = (new.compacted ≡ old.compacted) × ((z : Size) (w : World) (a : Arrangement) → Shows z w a old → Shows z w a new)
+Stays old new = Keeps old new × ((c : ℕ) → named_phase new.callers c ≡ named_phase old.callers c)
 
 -- the request of a caller is put into the order, or parked
 unfoldable pub Settles : ℕ → ℕ → ℕ → Machine → Machine → Type 0

@@ -1,9 +1,22 @@
 use crate::machine::Machine;
 use crate::names::Names;
+use std::marker::Model;
 
 /// A run as it goes, one event after another.
 #[derive(Drop)]
 pub struct Replay {
     pub(crate) machine: Machine,
     pub(crate) names: Names,
+}
+
+impl Model for Replay {
+    ghost use Rattle.history.specs.After.{IsReached, ReplayParts, replay_coded};
+
+    ghost Value = { ReplayParts };
+
+    ghost coded = { replay_coded };
+
+    ghost view = { λ r. record { machine = r.machine; names = r.names } };
+
+    ghost invariant = { λ r. IsReached (record { machine = r.machine; names = r.names }) };
 }

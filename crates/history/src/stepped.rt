@@ -50,8 +50,8 @@ impl Replay {
     /// answered with its reply, any other event with nothing. Where the event names a 4,097th caller or memory runs out, it
     /// is refused, and all is as it was.
     pub fn step(&mut self, event: &Event) -> Result<Option<Reply>, ReplayError>
-        requires reached { IsReached self.old }
         requires room { taken self.old < 2 ^ 64 - 1 }
+        ensures reached { IsReached self.old }
         ensures done { (size : Size) (events : List Event) → IsAfter size events self.old → OnOk result (IsAfter size (events ++ event.now ∷ []) self.new) }
         ensures told { (size : Size) (events : List Event) → IsAfter size events self.old → IfOk result (λ told. IsReplyTo size events event.now told) }
         ensures refused { (size : Size) (events : List Event) → IsAfter size events self.old → OnErr result (IsAfter size events self.new) }
@@ -62,7 +62,7 @@ impl Replay {
     {
         let newly = self.names.note(event)?;
         match self.machine.step(event) {
-            Ok(told) => Ok(told),
+            Ok(reply) => Ok(reply),
             Err(Memory) => {
                 self.names.forget(newly);
                 Err(ReplayError::Memory)

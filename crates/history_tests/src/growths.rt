@@ -1,6 +1,5 @@
 //! Refused growths. `rt try --test --fail-alloc N` refuses the Nth allocation of each test. From 1 on, up to an N that no
 //! test of this file comes to, it has to pass: one call may want memory, and the same call after it is ample.
-ghost use Rattle.history.specs.After.{IsReached};
 
 use crate::replays::{CRASHES, STRANGE_STEPS};
 use crate::runs::{Case, events_of};
@@ -119,10 +118,7 @@ fn shown(replay: &Replay) -> Shown {
 }
 
 /// Takes an event. Where a growth is refused all is as it was, and the event is taken once more.
-fn take(rt: &impl Abort, replay: &mut Replay, event: &Event)
-    requires { IsReached replay.old }
-    ensures { IsReached replay.new }
-{
+fn take(rt: &impl Abort, replay: &mut Replay, event: &Event) {
     assert!(rt; replay.events() < u64::MAX);
     let before = shown(replay);
     match replay.step(event) {
@@ -135,10 +131,7 @@ fn take(rt: &impl Abort, replay: &mut Replay, event: &Event)
 }
 
 /// Takes an event that was refused a growth, and that has changed nothing.
-fn take_again(rt: &impl Abort, replay: &mut Replay, event: &Event, before: Shown)
-    requires { IsReached replay.old }
-    ensures { IsReached replay.new }
-{
+fn take_again(rt: &impl Abort, replay: &mut Replay, event: &Event, before: Shown) {
     assert!(rt; replay.events() < u64::MAX);
     assert_eq!(rt; shown(replay), before);
     match replay.step(event) {

@@ -6,9 +6,9 @@ use Rattle.interleavings.specs.World.{Size}
 use Rattle.history.proofs.Naming.{callers_next}
 use Rattle.history.proofs.whole.replay.Goals as goal
 
-pub step-requires-clause-room : goal.step-requires-clause-room
+pub step-requires : goal.step-requires
 unfolding IsAfter taken
-step-requires-clause-room c =
+step-requires c =
     let lt = c.loop-event-test.true in
     let fits = c.well_formed in
     let at = c.loop-event.invariant.0.count ∙ length-take-le c.loop-event.event-index c.args.events.now (omega (arith, lt)) in

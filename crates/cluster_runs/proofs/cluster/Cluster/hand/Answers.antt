@@ -3,13 +3,9 @@ use Rattle.history.specs.After.{IsAfter, taken}
 use Rattle.cluster_runs.specs.Shown.{HasTaken}
 use Rattle.cluster_runs.proofs.cluster.Cluster.hand.Goals as goal
 
-pub step-requires-clause-reached : goal.step-requires-clause-reached
-unfolding HasTaken
-step-requires-clause-reached c = (c.requires.0, (c.args.self.now.events.items, c.requires.1))
-
-pub step-requires-clause-room : goal.step-requires-clause-room
+pub step-requires : goal.step-requires
 unfolding HasTaken IsAfter taken
-step-requires-clause-room c =
+step-requires c =
     let many = c.requires.1.0.count in
     let small = c.args.self.now.events.small in
     let fits = c.args.self.now.events.ok in

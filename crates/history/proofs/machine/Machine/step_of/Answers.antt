@@ -1,5 +1,5 @@
 use Rattle.std.proofs.Common.{refl, sym, ◌∙◌}
-use Rattle.history.proofs.Admitted.{admits, dismisses, does_after, same_stays, stays_twice, unnamed}
+use Rattle.history.proofs.Admitted.{admits, dismisses, does_after, same_stays, unnamed}
 use Rattle.history.proofs.Pieces.{on_err}
 use Rattle.history.proofs.machine.Machine.step_of.Goals as goal
 
@@ -19,4 +19,4 @@ pub returns-in-Err-clause-memory : goal.returns-in-Err-clause-memory
 returns-in-Err-clause-memory c =
     let m = c.args.self.now in
     let none = unnamed _ c.phase.result _ c.phase.ensures (sym c.is_some.ensures ∙ c.if-is_some.false) in
-    dismisses m c.take-2.new.self _ c.args.caller none (stays_twice m _ c.take-2.new.self (admits m _ c.args.caller none c.in_ok-admit.ensures.admitted refl) c.in-Err.ensures.memory) c.dismiss.ensures.dismissed c.dismiss.ensures.tracked refl
+    dismisses m _ c.take-2.new.self _ c.args.caller none c.in_ok-admit.ensures.admitted refl c.in-Err.ensures.memory c.dismiss.ensures.dismissed c.dismiss.ensures.tracked refl
