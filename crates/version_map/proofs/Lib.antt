@@ -9,6 +9,7 @@ pub mod Steps
 pub mod Lists
 pub mod Readings
 pub mod Aside
+pub mod Forgotten
 pub mod Added
 pub mod ShortNames
 pub mod Apart

@@ -9,3 +9,4 @@ pub mod ShortName
 pub mod Index
 pub mod Records
 pub mod Whole
+pub mod Forgotten

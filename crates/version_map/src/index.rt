@@ -90,6 +90,15 @@ impl Index {
         }
     }
 
+    /// Takes the place of a key away.
+    pub(crate) fn forget(&mut self, key: &Key)
+        ensures all { self.new.all ≡ map.remove self.old.all key.now }
+        ensures others { (k : Key) → k ≢ key.now → map.get self.new.listed k ≡ map.get self.old.listed k }
+    {
+        self.listed.remove(key);
+        self.aside.remove(key);
+    }
+
     /// The places of the keys of a kind in a namespace, in the order of the keys.
     pub(crate) fn of(
         &self,

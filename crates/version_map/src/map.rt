@@ -1,8 +1,9 @@
-ghost use Rattle.std.specs.Prelude.{◌≡◌, ◌≤◌, ◌<◌, ◌+◌, ◌++◌, ◌∷◌, [], ℕ, is_some, option_and_then, true, false, Some, IsTrue, IfOk, IfSome, IsSome, OnOk, OnErr, option_map, map, if◌then◌else◌};
+ghost use Rattle.std.specs.Prelude.{◌≡◌, ◌≤◌, ◌<◌, ◌+◌, ◌++◌, ◌∷◌, [], ℕ, is_some, length, option_and_then, true, false, None, Some, IsTrue, IfOk, IfSome, IsSome, OnOk, OnErr, option_map, map, if◌then◌else◌};
 ghost use Rattle.std.specs.Option.{option_copied};
 ghost use Rattle.std.specs.VecDeque.{deque_capacity, deque_len};
 ghost use Rattle.std.specs.FinMap as finite;
 ghost use Rattle.objects.specs.declared.key.Key.{Key};
+ghost use Rattle.version_map.specs.Forgotten.{AreForgotten, AreFree};
 ghost use Rattle.version_map.specs.Index.{AreKept};
 ghost use Rattle.version_map.specs.Rows.{state_to};
 ghost use Rattle.version_map.specs.Whole.{ArePlaced, AreStill, is_roomy, rows_there, values_in};
@@ -23,6 +24,14 @@ struct Superseding {
     place: usize,
 }
 
+/// A key that was put aside, and the number of its newest version then. The key goes once the floor has come up to it, if
+/// nothing was written since.
+#[derive(Drop)]
+struct Removal {
+    number: u64,
+    key: Key,
+}
+
 /// For each of its keys, what it was at each number from the floor on.
 ///
 /// A version is what a key is from its number on: a value, or none after a removal. Whoever reads at a number is answered
@@ -33,6 +42,10 @@ pub struct VersionMap<V> {
     index: Index,
     chains: Vec<Chain<V>>,
     superseding: VecDeque<Superseding>,
+    // In the order of their numbers, as far as the caller keeps it.
+    removed: VecDeque<Removal>,
+    // The places of chains that no key has.
+    free: VecDeque<usize>,
     count: usize,
     floor: u64,
     // The place of the key that a push has room for.
@@ -41,8 +54,9 @@ pub struct VersionMap<V> {
 }
 
 impl<V> Model for VersionMap<V> {
-    ghost use Rattle.std.specs.Prelude.{◌<◌, ◌+◌, ◌^◌, IfSome, IsSome, option_and_then};
+    ghost use Rattle.std.specs.Prelude.{◌<◌, ◌+◌, ◌^◌, IfSome, IsSome, length, option_and_then};
     ghost use Rattle.std.specs.VecDeque.{deque_capacity, deque_len};
+    ghost use Rattle.version_map.specs.Forgotten.{AreFree};
     ghost use Rattle.version_map.specs.Versions.{Versions, versions_coded};
     ghost use Rattle.version_map.specs.Whole.{AreListed, HasRoom, IsListed, IsWhole, by_key, key_at};
 
@@ -55,7 +69,8 @@ impl<V> Model for VersionMap<V> {
     ghost invariant = { λ s. IsWhole s.index.all s.chains.items s.superseding.items s.count
         × IfSome s.room (HasRoom s.index.all s.chains.items)
         × AreListed s.index s.chains.items × IfSome s.room (IsListed s.index)
-        × (IsSome s.room → (deque_len s.superseding < deque_capacity s.superseding) × (s.count + 1 < 2 ^ 64)) };
+        × (IsSome s.room → (deque_len s.superseding < deque_capacity s.superseding) × (s.count + 1 < 2 ^ 64))
+        × AreFree s.index.all (length s.chains.items) s.free.items };
 }
 
 impl<V: Drop> VersionMap<V> {
@@ -67,6 +82,8 @@ impl<V: Drop> VersionMap<V> {
             index: Index::new(alloc),
             chains: Vec::new(alloc),
             superseding: VecDeque::new(alloc),
+            removed: VecDeque::new(alloc),
+            free: VecDeque::new(alloc),
             count: 0,
             floor: 0,
             room: None,
@@ -119,8 +136,26 @@ impl<V: Drop> VersionMap<V> {
         }
         match self.room {
             Some(_) => {}
-            None => self.index.put_aside(self.alloc, key),
+            None => {
+                self.index.put_aside(self.alloc, key);
+                let _ = self.note_removal(key);
+            }
         }
+    }
+
+    /// Notes a key that was put aside, so that it can be forgotten later with no more memory.
+    fn note_removal(&mut self, key: &Key) -> Result<(), AllocError>
+        ensures { self.new ≡ self.old }
+    {
+        let Some((number, None)) = self.newest(key) else {
+            return Ok(());
+        };
+        self.removed.reserve(1)?;
+        self.free.reserve(self.removed.len())?;
+        self.free.reserve(1)?;
+        let key = key.clone()?;
+        self.removed.push_back_reserved(Removal { number, key });
+        Ok(())
     }
 
     /// Whether the key has a value now.
@@ -143,7 +178,13 @@ impl<V: Drop> VersionMap<V> {
             return Err(Memory);
         }
         self.superseding.reserve(1)?;
-        let place = reserve_for(self.alloc, &mut self.index, &mut self.chains, key)?;
+        let place = reserve_for(
+            self.alloc,
+            &mut self.index,
+            &mut self.chains,
+            &mut self.free,
+            key,
+        )?;
         self.room = Some(place);
         Ok(())
     }
@@ -209,6 +250,60 @@ impl<V: Drop> VersionMap<V> {
         true
     }
 
+    /// Forgets the keys that were put aside and have nothing but a removal that is not above the floor. Where room is made
+    /// for a push nothing is forgotten. All readings stay. It takes no memory, and its time is that of the keys which were
+    /// put aside and have come up to the floor, each of which is looked at once.
+    pub fn forget_removed(&mut self)
+        ensures forgotten { AreForgotten self.old self.new }
+        ensures readings { (m : ℕ) → state_at self.new.rows m ≡ state_at self.old.rows m }
+    {
+        for _ in 0..self.removed.len() {
+            if !self.forget_next() {
+                return;
+            }
+        }
+    }
+
+    /// Takes the first removal of the queue, if its number is at most the floor. Answers whether it did.
+    fn forget_next(&mut self) -> bool
+        ensures { AreForgotten self.old self.new }
+    {
+        let Some(next) = self.removed.front() else {
+            return false;
+        };
+        if self.floor < next.number {
+            return false;
+        }
+        let Some(next) = self.removed.pop_front() else {
+            return false;
+        };
+        self.forget(&next.key);
+        true
+    }
+
+    /// Forgets the key if it has a removal and nothing else, unless room is made for a push.
+    fn forget(&mut self, key: &Key)
+        ensures { AreForgotten self.old self.new }
+    {
+        if self.room.is_some() {
+            return;
+        }
+        let Ok(()) = self.free.reserve(1) else {
+            return;
+        };
+        let Some(place) = self.index.get(key) else {
+            return;
+        };
+        if !self.chains[place].is_removal() {
+            return;
+        }
+        self.index.forget(key);
+        let chain = &mut self.chains[place];
+        *chain = Chain::new(self.alloc);
+        self.free.push_back_reserved(place);
+        self.count -= 1;
+    }
+
     /// The number from which on the versions can be read.
     pub fn floor(&self) -> u64
         ensures { result ≡ self.now.floor }
@@ -264,16 +359,19 @@ fn reserve_for<V: Drop>(
     alloc: Global,
     index: &mut Index,
     chains: &mut Vec<Chain<V>>,
+    free: &mut VecDeque<usize>,
     key: &Key,
 ) -> Result<usize, AllocError>
-    requires { ArePlaced index.old.all chains.old.items }
+    requires placed { ArePlaced index.old.all chains.old.items }
+    requires free { AreFree index.old.all (length chains.old.items) free.old.items }
     ensures placed { ArePlaced index.new.all chains.new.items }
+    ensures free { AreFree index.new.all (length chains.new.items) free.new.items }
     ensures still { AreStill index.old.all chains.old.items index.new.all chains.new.items }
     ensures kept { AreKept index.old.listed index.new.listed }
     ensures listed { IfOk result (λ place. finite.get index.new.listed key.now ≡ Some place) }
     ensures room { IfOk result (λ place. (finite.get index.new.all key.now ≡ Some place) × (is_roomy chains.new.items place ≡ true)) }
 {
-    let place = place_of(alloc, index, chains, key)?;
+    let place = place_of(alloc, index, chains, free, key)?;
     let chain = &mut chains[place];
     chain.reserve()?;
     Ok(place)
@@ -284,10 +382,13 @@ fn place_of<V: Drop>(
     alloc: Global,
     index: &mut Index,
     chains: &mut Vec<Chain<V>>,
+    free: &mut VecDeque<usize>,
     key: &Key,
 ) -> Result<usize, AllocError>
-    requires { ArePlaced index.old.all chains.old.items }
+    requires placed { ArePlaced index.old.all chains.old.items }
+    requires free { AreFree index.old.all (length chains.old.items) free.old.items }
     ensures placed { ArePlaced index.new.all chains.new.items }
+    ensures free { AreFree index.new.all (length chains.new.items) free.new.items }
     ensures still { AreStill index.old.all chains.old.items index.new.all chains.new.items }
     ensures kept { AreKept index.old.listed index.new.listed }
     ensures listed { IfOk result (λ place. finite.get index.new.listed key.now ≡ Some place) }
@@ -296,12 +397,35 @@ fn place_of<V: Drop>(
     let found = index.recall(alloc, key)?;
     match found {
         Some(place) => Ok(place),
-        None => {
-            chains.reserve(1)?;
-            let place = chains.len();
-            index.insert(alloc, key, place)?;
-            chains.push_reserved(Chain::new(alloc));
-            Ok(place)
-        }
+        None => match free.front().copied() {
+            Some(place) => {
+                index.insert(alloc, key, place)?;
+                free.pop_front();
+                Ok(place)
+            }
+            None => add_place(alloc, index, chains, key),
+        },
     }
+}
+
+/// Gives a new key a place behind all others.
+fn add_place<V: Drop>(
+    alloc: Global,
+    index: &mut Index,
+    chains: &mut Vec<Chain<V>>,
+    key: &Key,
+) -> Result<usize, AllocError>
+    requires placed { ArePlaced index.old.all chains.old.items }
+    requires new { (finite.get index.old.all key.now ≡ None) × (finite.get index.old.listed key.now ≡ None) }
+    ensures placed { ArePlaced index.new.all chains.new.items }
+    ensures still { AreStill index.old.all chains.old.items index.new.all chains.new.items }
+    ensures kept { AreKept index.old.listed index.new.listed }
+    ensures listed { IfOk result (λ place. finite.get index.new.listed key.now ≡ Some place) }
+    ensures place { IfOk result (λ place. finite.get index.new.all key.now ≡ Some place) }
+{
+    chains.reserve(1)?;
+    let place = chains.len();
+    index.insert(alloc, key, place)?;
+    chains.push_reserved(Chain::new(alloc));
+    Ok(place)
 }

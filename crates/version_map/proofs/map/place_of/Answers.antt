@@ -1,34 +1,45 @@
-use Rattle.std.proofs.Common.{◌≡◌, ap, sym, ◌∙◌, ◌++◌, ◌∷◌, [], length, arith}
-use Rattle.std.specs.FinMap as map
+use Rattle.std.proofs.Common.{◌≡◌, ◌∷◌, length, sym, ap, subst, ◌∙◌, arith}
+use Rattle.std.specs.FinMap as finite
+use Rattle.version_map.specs.Forgotten.{AreFree}
+use Rattle.version_map.specs.Whole.{ArePlaced, AreStill}
 use Rattle.version_map.proofs.Aside.{put_here, put_keeps}
-use Rattle.version_map.proofs.Placing.{placed_new, still_new}
+use Rattle.version_map.proofs.Forgotten.{first_taken, free_taken, placed_taken, still_taken}
 use Rattle.version_map.proofs.map.place_of.Goals as goal
+use Rattle.version_map.proofs.map.place_of.Given.{Over}
 
-pub returns-in_ok-insert-in-None-clause-placed : goal.returns-in_ok-insert-in-None-clause-placed
-returns-in_ok-insert-in-None-clause-placed g c =
-    let size : c.len-place.result ≡ length c.args.chains.now.items = omega arith in
-    placed_new c.args.index.now.all c.insert.new.self.all c.args.chains.now.items c.push_reserved.new.self.items c.args.key.now c.new.result c.requires (sym c.in-None.is ∙ c.in_ok-found.ensures.place) c.new.ensures.rows
-    (c.push_reserved.ensures.items ∙ ap (λ cs. cs ++ c.new.result ∷ []) c.reserve.ensures.items)
-    (ap (λ i. i.all) c.in_ok-insert-in-None.ensures.ok ∙ ap (λ m. map.insert m c.args.key.now c.len-place.result) c.recall.ensures.all ∙ ap (map.insert c.args.index.now.all c.args.key.now) size)
+taken_free : (g : Over) (c : goal.After-pop_front g) → AreFree c.args.index.now.all (length c.args.chains.now.items) (c.in-Some-copied.place ∷ c.pop_front.new.self.items)
+taken_free g c =
+    subst (AreFree c.args.index.now.all (length c.args.chains.now.items))
+    (first_taken c.args.free.now.items c.pop_front.new.self.items c.front.result c.in-Some-copied.place (λ some. let there = c.front.ensures.variant.0 some in omega (arith, there)) c.front.ensures.lookup
+    (sym c.copied.ensures ∙ c.in-Some-copied.is) c.pop_front.ensures.rest) c.requires.free
 
-pub returns-in_ok-insert-in-None-clause-still : goal.returns-in_ok-insert-in-None-clause-still
-returns-in_ok-insert-in-None-clause-still g c =
-    let size : c.len-place.result ≡ length c.args.chains.now.items = omega arith in
-    still_new c.args.index.now.all c.insert.new.self.all c.args.chains.now.items c.push_reserved.new.self.items c.args.key.now c.new.result c.requires (sym c.in-None.is ∙ c.in_ok-found.ensures.place) c.new.ensures.rows
-    (c.push_reserved.ensures.items ∙ ap (λ cs. cs ++ c.new.result ∷ []) c.reserve.ensures.items)
-    (ap (λ i. i.all) c.in_ok-insert-in-None.ensures.ok ∙ ap (λ m. map.insert m c.args.key.now c.len-place.result) c.recall.ensures.all ∙ ap (map.insert c.args.index.now.all c.args.key.now) size)
+put_in : (g : Over) (c : goal.After-pop_front g) → c.insert.new.self.all ≡ finite.insert c.args.index.now.all c.args.key.now c.in-Some-copied.place
+put_in g c = ap (λ i. i.all) c.in_ok-insert-in-Some-copied.ensures.ok ∙ ap (λ m. finite.insert m c.args.key.now c.in-Some-copied.place) c.recall.ensures.all
 
-pub returns-in_ok-insert-in-None-clause-kept : goal.returns-in_ok-insert-in-None-clause-kept
-returns-in_ok-insert-in-None-clause-kept g c k p there =
+pub returns-in_ok-insert-in-Some-copied-clause-placed : goal.returns-in_ok-insert-in-Some-copied-clause-placed
+returns-in_ok-insert-in-Some-copied-clause-placed g c =
+    subst (λ m. ArePlaced m c.args.chains.now.items) (sym (put_in g c)) (placed_taken c.args.index.now.all c.args.chains.now.items c.args.key.now c.in-Some-copied.place c.pop_front.new.self.items c.requires.placed (sym c.in_ok-found.ensures.place ∙ c.in-None.is) (taken_free g c))
+
+pub returns-in_ok-insert-in-Some-copied-clause-free : goal.returns-in_ok-insert-in-Some-copied-clause-free
+returns-in_ok-insert-in-Some-copied-clause-free g c =
+    subst (λ m. AreFree m (length c.args.chains.now.items) c.pop_front.new.self.items) (sym (put_in g c))
+    (free_taken c.args.index.now.all c.args.key.now c.in-Some-copied.place (length c.args.chains.now.items) c.pop_front.new.self.items (taken_free g c))
+
+pub returns-in_ok-insert-in-Some-copied-clause-still : goal.returns-in_ok-insert-in-Some-copied-clause-still
+returns-in_ok-insert-in-Some-copied-clause-still g c =
+    subst (λ m. AreStill c.args.index.now.all c.args.chains.now.items m c.args.chains.now.items) (sym (put_in g c)) (still_taken c.args.index.now.all c.args.chains.now.items c.args.key.now c.in-Some-copied.place c.pop_front.new.self.items c.requires.placed (sym c.in_ok-found.ensures.place ∙ c.in-None.is) (taken_free g c))
+
+pub returns-in_ok-insert-in-Some-copied-clause-kept : goal.returns-in_ok-insert-in-Some-copied-clause-kept
+returns-in_ok-insert-in-Some-copied-clause-kept g c k p there =
     let l = c.recall.new.self.listed in
-    ap (λ i. map.get i.listed k) c.in_ok-insert-in-None.ensures.ok
-    ∙ put_keeps l l c.args.key.now c.len-place.result (sym (c.in_ok-found.ensures.listed ∙ c.in-None.is)) k p (c.recall.ensures.kept k p there)
+    ap (λ i. finite.get i.listed k) c.in_ok-insert-in-Some-copied.ensures.ok
+    ∙ put_keeps l l c.args.key.now c.in-Some-copied.place (sym (c.in_ok-found.ensures.listed ∙ c.in-None.is)) k p (c.recall.ensures.kept k p there)
 
-pub returns-in_ok-insert-in-None-clause-listed : goal.returns-in_ok-insert-in-None-clause-listed
-returns-in_ok-insert-in-None-clause-listed g c =
+pub returns-in_ok-insert-in-Some-copied-clause-listed : goal.returns-in_ok-insert-in-Some-copied-clause-listed
+returns-in_ok-insert-in-Some-copied-clause-listed g c =
     let l = c.recall.new.self.listed in
-    ap (λ i. map.get i.listed c.args.key.now) c.in_ok-insert-in-None.ensures.ok ∙ put_here l l c.args.key.now c.len-place.result
+    ap (λ i. finite.get i.listed c.args.key.now) c.in_ok-insert-in-Some-copied.ensures.ok ∙ put_here l l c.args.key.now c.in-Some-copied.place
 
-pub returns-in_ok-insert-in-None-clause-place : goal.returns-in_ok-insert-in-None-clause-place
-returns-in_ok-insert-in-None-clause-place g c =
-    ap (λ i. map.get i.all c.args.key.now) c.in_ok-insert-in-None.ensures.ok ∙ put_here c.recall.new.self.all c.recall.new.self.all c.args.key.now c.len-place.result
+pub returns-in_ok-insert-in-Some-copied-clause-place : goal.returns-in_ok-insert-in-Some-copied-clause-place
+returns-in_ok-insert-in-Some-copied-clause-place g c =
+    ap (λ i. finite.get i.all c.args.key.now) c.in_ok-insert-in-Some-copied.ensures.ok ∙ put_here c.recall.new.self.all c.recall.new.self.all c.args.key.now c.in-Some-copied.place

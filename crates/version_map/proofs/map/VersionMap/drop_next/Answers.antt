@@ -1,6 +1,7 @@
 use Rattle.std.proofs.Common.{◌≤◌, refl, ap, subst, ◌∙◌, arith}
 use Rattle.version_map.specs.Versions.{compacted, count}
 use Rattle.version_map.proofs.Aside.{listed_dropped}
+use Rattle.version_map.proofs.Forgotten.{same_free}
 use Rattle.version_map.proofs.Steps.{all_wait, count_dropped, front_is, left_dropped, no_front, none_waits, place_within, room_dropped, same_front, two_read, whole_dropped}
 use Rattle.version_map.proofs.map.VersionMap.drop_next.Goals as goal
 
@@ -45,6 +46,7 @@ invariant_of-self g c =
         let held = (c.self.invariant.4 some).0 in omega (arith, len, capacity, held),
         let fits = (c.self.invariant.4 some).1 in omega (arith, fits),
       ),
+      same_free c.self.inside.index.all c.self.inside.chains.items c.in-Some-pop_front.next.place c.drop_first.new.self c.self.inside.free.items c.self.invariant.5,
     )
 
 pub returns-clause-left : goal.returns-clause-left

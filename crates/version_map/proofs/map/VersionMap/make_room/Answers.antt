@@ -12,6 +12,7 @@ invariant_of-self-in_err-place g c =
       listed_still _ _ _ _ c.reserve_for.ensures.still.by_key c.reserve_for.ensures.kept c.self.invariant.2,
       room_listed _ _ c.self.inside.room c.reserve_for.ensures.still.keys c.reserve_for.ensures.kept c.self.invariant.3,
       λ some. (let held = (c.self.invariant.4 some).0 in omega (arith, len, capacity, held), (c.self.invariant.4 some).1),
+      c.reserve_for.ensures.free,
     )
 
 pub returns-in_err-place-clause-memory : goal.returns-in_err-place-clause-memory
@@ -29,6 +30,7 @@ invariant_of-self-2 g c =
       listed_still _ _ _ _ c.reserve_for.ensures.still.by_key c.reserve_for.ensures.kept c.self.invariant.2,
       (c.args.key.now, c.in_ok-place.ensures.room.0, c.in_ok-place.ensures.listed),
       λ some. (omega (arith, more), omega (arith, largest, fits)),
+      c.reserve_for.ensures.free,
     )
 
 pub returns-clause-made : goal.returns-clause-made

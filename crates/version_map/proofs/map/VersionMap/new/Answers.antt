@@ -1,4 +1,5 @@
-use Rattle.std.proofs.Common.{true≢false, ap, sym}
+use Rattle.std.proofs.Common.{true≢false, ap, length, subst, sym}
+use Rattle.version_map.specs.Forgotten.{AreFree}
 use Rattle.version_map.proofs.Aside.{none_listed}
 use Rattle.version_map.proofs.Steps.{empty_view, none_whole}
 use Rattle.version_map.proofs.map.VersionMap.new.Goals as goal
@@ -6,7 +7,8 @@ use Rattle.version_map.proofs.map.VersionMap.new.Goals as goal
 pub invariant_of-result : goal.invariant_of-result
 invariant_of-result g c =
     let all = ap (λ i. i.all) c.new.ensures in
-    (none_whole _ _ _ all c.new-2.ensures.items c.new-3.ensures.items, tt, none_listed c.new.result c.new-2.result.items c.new.ensures, tt, λ some. absurd (true≢false (sym some)))
+    (none_whole _ _ _ all c.new-2.ensures.items c.new-3.ensures.items, tt, none_listed c.new.result c.new-2.result.items c.new.ensures, tt, λ some. absurd (true≢false (sym some)),
+    subst (AreFree c.new.result.all (length c.new-2.result.items)) (sym c.new-5.ensures.items) tt)
 
 pub returns : goal.returns
 returns g c = empty_view _ _ (ap (λ i. i.all) c.new.ensures) c.new-2.ensures.items

@@ -2,15 +2,21 @@ use Rattle.std.proofs.Common.{if◌then◌else◌, ◌++◌, ◌∷◌, [], IfSo
 use Rattle.std.proofs.Math.ListN.{set}
 use Rattle.version_map.specs.Whole.{HasRoom, IsListed}
 use Rattle.version_map.proofs.Aside.{listed_pushed}
+use Rattle.version_map.proofs.Forgotten.{same_free}
 use Rattle.version_map.proofs.Lists.{written_view}
 use Rattle.version_map.proofs.Placing.{key_of}
-use Rattle.version_map.proofs.Steps.{below_read, its_room, pushed_view, rows_pushed, whole_pushed}
+use Rattle.version_map.proofs.Steps.{below_read, its_room, pushed_view, roomy_read, rows_pushed, whole_pushed}
 use Rattle.version_map.proofs.map.VersionMap.push.Goals as goal
 
 pub push-requires-clause-above : goal.push-requires-clause-above
 push-requires-clause-above g c =
     below_read c.self.inside.index.all c.self.inside.chains.items c.in-Some.place c.args.number c.args.state c.index_mut-chain.result.now c.index_mut-chain.result.now c.self.invariant.0.placed
     (its_room c.self.inside.index.all c.self.inside.chains.items c.in-Some.place c.self.inside.room c.in-Some.ensures.value c.self.invariant.1) c.index_mut-chain.ensures.value _ (ap (λ v. v.rows) c.self.view_is) c.requires.above
+
+pub push-requires-clause-room : goal.push-requires-clause-room
+push-requires-clause-room g c =
+    roomy_read c.self.inside.index.all c.self.inside.chains.items c.in-Some.place c.args.number c.args.state c.index_mut-chain.result.now c.index_mut-chain.result.now c.self.invariant.0.placed
+    (its_room c.self.inside.index.all c.self.inside.chains.items c.in-Some.place c.self.inside.room c.in-Some.ensures.value c.self.invariant.1) c.index_mut-chain.ensures.value
 
 pub invariant_of-self : goal.invariant_of-self
 invariant_of-self g c = (
@@ -23,6 +29,7 @@ invariant_of-self g c = (
       (subst (λ r. IfSome r (IsListed c.self.inside.index)) (sym c.in-Some.ensures.value) c.self.invariant.3) c.self.invariant.2,
   subst (λ r. IfSome r (IsListed c.self.inside.index)) (sym c.in-Some.ensures.after) tt,
   λ some. absurd (true≢false (sym some ∙ ap is_some c.in-Some.ensures.after)),
+  same_free c.self.inside.index.all c.self.inside.chains.items c.in-Some.place c.push.new.self c.self.inside.free.items c.self.invariant.5,
 )
 
 pub returns-clause-pushed : goal.returns-clause-pushed

@@ -1,4 +1,5 @@
-use Rattle.std.proofs.Common.{IfSome, sym, ap, subst, ◌∙◌}
+use Rattle.std.proofs.Common.{IfSome, length, sym, ap, subst, ◌∙◌}
+use Rattle.version_map.specs.Forgotten.{AreFree}
 use Rattle.version_map.specs.Whole.{HasRoom, IsListed, IsWhole}
 use Rattle.version_map.proofs.Aside.{listed_aside, no_value}
 use Rattle.version_map.proofs.map.VersionMap.put_aside.Goals as goal
@@ -13,4 +14,5 @@ invariant_of-self g c =
           (no_value c.self.inside.index.all cs _ c.args.key.now (ap (λ v. v.rows) c.self.view_is) (sym c.has_value.ensures ∙ c.if-has_value.false)) c.put_aside.ensures.others c.self.invariant.2,
       subst (λ r. IfSome r (IsListed c.put_aside.new.self)) (sym c.in-None.is) tt,
       c.self.invariant.4,
+      subst (λ ps. AreFree ps (length cs) c.self.inside.free.items) all c.self.invariant.5,
     )
