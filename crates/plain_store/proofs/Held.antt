@@ -11,8 +11,10 @@ use Rattle.objects.specs.declared.key.Key.{Key}
 use Rattle.objects.specs.declared.object.Object.{Object}
 use Rattle.objects.specs.Key.{key_cmp}
 use Rattle.objects.specs.KeyOrder.{exact_keys, key_cmp_total}
+use Rattle.version_map.specs.Forgotten.{AreForgotten}
 use Rattle.version_map.specs.Rows.{AreBelow, state_to}
 use Rattle.version_map.specs.Versions.{Versions, compacted, opening as versions_opening, pushed, raised, state_at, value, with_room}
+use Rattle.version_map.proofs.Forgotten.{forgotten_above, forgotten_readings}
 use Rattle.version_map.proofs.Lists.{get_state, state_left}
 use Rattle.version_map.proofs.Readings.{above_compacted, above_pushed, state_before, state_next, with_row}
 use Rattle.plain_store.specs.Held.{IsUpTo, store_of}
@@ -105,6 +107,22 @@ module _ (v w : Versions Object) (counter capacity n : ℕ) (up : IsUpTo v count
 
   pub compacted_up : IsUpTo w counter
   compacted_up = subst (λ u. IsUpTo u counter) (sym raised_is) (record { floor = upto; rows = above_compacted v.rows n (counter + 1) up.rows })
+
+-- ---- what is left once keys are forgotten
+
+module _ (v w : Versions Object) (counter capacity : ℕ) (forgotten : AreForgotten v w) where
+  pub forgotten_is : store_of w counter capacity ≡ store_of v counter capacity
+  forgotten_is =
+      ap (λ n. store (state_at w.rows counter) (map (state_at w.rows) (range_with_len n (counter - n))) counter capacity n) forgotten.floor
+      ∙ ap (λ o. store o (map (state_at w.rows) (range_with_len v.floor (counter - v.floor))) counter capacity v.floor) (forgotten_readings v w counter forgotten)
+      ∙ ap (λ past. store (state_at v.rows counter) past counter capacity v.floor)
+      (alike (state_at w.rows) (state_at v.rows) v.floor (counter - v.floor) (λ i within from. forgotten_readings v w i forgotten))
+
+  pub forgotten_up : IsUpTo v counter → IsUpTo w counter
+  forgotten_up up = record {
+    floor = subst (λ n. n ≤ counter) (sym forgotten.floor) up.floor;
+    rows = forgotten_above v w (counter + 1) forgotten up.rows;
+  }
 
 -- a push of the key that room was made for
 pub pushed_there : (v u w : Versions Object) (n : ℕ) (k : Key) (s : Option Object) → u ≡ with_room v k → IfSome u.room (λ key. w ≡ pushed u n key s) → w ≡ pushed v n k s

@@ -127,9 +127,10 @@ impl Plain {
         }
     }
 
-    /// Gives up the past below a number, and drops what only it needs: no later list reads there. It takes no memory, and
-    /// its time is that of the versions dropped and of those that have come up to the floor, each of which is looked at
-    /// once. A number above the counter is TooLarge, and one below the floor Expired; then nothing changes.
+    /// Gives up the past below a number, and drops what only it needs: no later list reads there. Names whose last removal
+    /// is not above the floor are forgotten. It takes no memory, and its time is that of the versions dropped, of those
+    /// that have come up to the floor, and of the names forgotten, each of which is looked at once. A number above the
+    /// counter is TooLarge, and one below the floor Expired; then nothing changes.
     pub fn compact(&mut self, to: u64) -> StoredReply<'static>
         ensures { (self.new, reply_stored result) ≡ step self.old (Compact to) }
     {
@@ -150,6 +151,7 @@ impl Plain {
             return Some(reason);
         }
         self.versions.compact(to);
+        self.versions.forget_removed();
         None
     }
 
