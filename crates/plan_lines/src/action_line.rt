@@ -12,11 +12,7 @@ use sets::{Action, Cause};
 use std::alloc::{AllocError, Global};
 
 /// Puts the line of the action behind what was written.
-pub(crate) fn put_action(
-    alloc: Global,
-    action: &Action,
-    out: Vec<u8>,
-) -> Result<Vec<u8>, Memory>
+pub(crate) fn put_action(alloc: Global, action: &Action, out: Vec<u8>) -> Result<Vec<u8>, Memory>
     ensures { IfOk result (λ text. text.items ≡ out.items ++ (compact_text (action_data action.now) ++ 10 ∷ [])) }
 {
     let mut writer = Writer::new(out);

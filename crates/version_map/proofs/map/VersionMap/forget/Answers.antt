@@ -33,15 +33,15 @@ invariant_of-self-2 g c =
     let all = sym c.forget.ensures.all in
     let ds = set c.self.inside.chains.items c.in-Some.place c.new.result in (
       subst (λ m. IsWhole m ds c.self.inside.superseding.items (c.self.inside.count - 1)) all (whole_forgotten c.self.inside.index.all c.self.inside.chains.items c.self.inside.superseding.items c.self.inside.count c.in-Some.place c.args.key.now c.new.result c.self.invariant.0 (sym c.in-Some.ensures)
-    (removal_there c.self.inside.index.all c.self.inside.chains.items c.args.key.now c.in-Some.place c.index.result.now c.self.invariant.0.placed (sym c.in-Some.ensures) c.index.ensures (c.is_removal.ensures c.if-not-is_removal.false)) c.new.ensures.rows),
+          (removal_there c.self.inside.index.all c.self.inside.chains.items c.args.key.now c.in-Some.place c.index.result.now c.self.invariant.0.placed (sym c.in-Some.ensures) c.index.ensures (c.is_removal.ensures c.if-not-is_removal.false)) c.new.ensures.rows),
       subst (λ r. IfSome r (HasRoom c.forget.new.self.all ds)) (sym none) tt,
       listed_forgotten c.self.inside.index.all c.self.inside.chains.items c.self.inside.superseding.items c.self.inside.count c.in-Some.place c.args.key.now c.new.result c.self.invariant.0 (sym c.in-Some.ensures)
-    (removal_there c.self.inside.index.all c.self.inside.chains.items c.args.key.now c.in-Some.place c.index.result.now c.self.invariant.0.placed (sym c.in-Some.ensures) c.index.ensures (c.is_removal.ensures c.if-not-is_removal.false)) c.new.ensures.rows c.self.inside.index c.forget.new.self refl c.forget.ensures.all c.forget.ensures.others c.self.invariant.2,
+          (removal_there c.self.inside.index.all c.self.inside.chains.items c.args.key.now c.in-Some.place c.index.result.now c.self.invariant.0.placed (sym c.in-Some.ensures) c.index.ensures (c.is_removal.ensures c.if-not-is_removal.false)) c.new.ensures.rows c.self.inside.index c.forget.new.self refl c.forget.ensures.all c.forget.ensures.others c.self.invariant.2,
       subst (λ r. IfSome r (IsListed c.forget.new.self)) (sym none) tt,
       λ some. absurd (true≢false (sym some ∙ ap is_some none)),
       subst (AreFree c.forget.new.self.all (length ds)) (sym (c.push_back_reserved.ensures.items ∙ ap (λ xs. xs ++ c.in-Some.place ∷ []) c.reserve.ensures.items))
           (subst (λ m. AreFree m (length ds) (c.self.inside.free.items ++ c.in-Some.place ∷ [])) all (free_forgotten c.self.inside.index.all c.self.inside.chains.items c.self.inside.superseding.items c.self.inside.count c.in-Some.place c.args.key.now c.new.result c.self.invariant.0 (sym c.in-Some.ensures)
-    (removal_there c.self.inside.index.all c.self.inside.chains.items c.args.key.now c.in-Some.place c.index.result.now c.self.invariant.0.placed (sym c.in-Some.ensures) c.index.ensures (c.is_removal.ensures c.if-not-is_removal.false)) c.new.ensures.rows c.self.inside.free.items c.self.invariant.5)),
+          (removal_there c.self.inside.index.all c.self.inside.chains.items c.args.key.now c.in-Some.place c.index.result.now c.self.invariant.0.placed (sym c.in-Some.ensures) c.index.ensures (c.is_removal.ensures c.if-not-is_removal.false)) c.new.ensures.rows c.self.inside.free.items c.self.invariant.5)),
     )
 
 pub returns : goal.returns
