@@ -12,15 +12,19 @@ use sets::{Action, Cause};
 use std::alloc::{AllocError, Global};
 
 /// Puts the line of the action behind what was written.
-pub(crate) fn put_action(alloc: Global, action: &Action, out: Vec<u8>) -> Result<Vec<u8>, Memory>
+pub(crate) fn put_action(
+    alloc: Global,
+    action: &Action,
+    out: Vec<u8>,
+) -> Result<Vec<u8>, AllocError>
     ensures { IfOk result (λ text. text.items ≡ out.items ++ (compact_text (action_data action.now) ++ 10 ∷ [])) }
 {
     let mut writer = Writer::new(out);
     write_action(alloc, action, &mut writer)?;
-    Ok(end_line(writer)?)
+    end_line(writer)
 }
 
-fn write_action(alloc: Global, action: &Action, out: &mut Writer) -> Result<(), Memory>
+fn write_action(alloc: Global, action: &Action, out: &mut Writer) -> Result<(), AllocError>
     ensures tokens { OnOk result (out.new.tokens ≡ out.old.tokens ++ json_tokens (outline (action_data action.now))) }
     ensures before { out.new.before ≡ out.old.before }
 {
@@ -39,17 +43,22 @@ fn write_action(alloc: Global, action: &Action, out: &mut Writer) -> Result<(), 
 }
 
 // An action that writes an object.
-fn write_written(word: &str, object: &Object, out: &mut Writer) -> Result<(), Memory>
+fn write_written(word: &str, object: &Object, out: &mut Writer) -> Result<(), AllocError>
     ensures tokens { OnOk result (out.new.tokens ≡ out.old.tokens ++ json_tokens (outline (with_object word.now object.now))) }
     ensures before { out.new.before ≡ out.old.before }
 {
     out.begin_object()?;
     write_text_member("do", word, out)?;
     write_object_member("object", object, out)?;
-    Ok(out.end_object()?)
+    out.end_object()
 }
 
-fn write_pod_deletion(alloc: Global, name: &str, uid: u64, out: &mut Writer) -> Result<(), Memory>
+fn write_pod_deletion(
+    alloc: Global,
+    name: &str,
+    uid: u64,
+    out: &mut Writer,
+) -> Result<(), AllocError>
     ensures tokens { OnOk result (out.new.tokens ≡ out.old.tokens ++ json_tokens (outline (pod_deletion name.now uid))) }
     ensures before { out.new.before ≡ out.old.before }
 {
@@ -57,7 +66,7 @@ fn write_pod_deletion(alloc: Global, name: &str, uid: u64, out: &mut Writer) -> 
     write_text_member("do", "DeletePod", out)?;
     write_text_member("name", name, out)?;
     write_uid(alloc, uid, out)?;
-    Ok(out.end_object()?)
+    out.end_object()
 }
 
 fn write_revision_deletion(
@@ -66,7 +75,7 @@ fn write_revision_deletion(
     uid: u64,
     version: u64,
     out: &mut Writer,
-) -> Result<(), Memory>
+) -> Result<(), AllocError>
     ensures tokens { OnOk result (out.new.tokens ≡ out.old.tokens ++ json_tokens (outline (revision_deletion name.now version uid))) }
     ensures before { out.new.before ≡ out.old.before }
 {
@@ -75,10 +84,10 @@ fn write_revision_deletion(
     write_text_member("name", name, out)?;
     write_version(version, out)?;
     write_uid(alloc, uid, out)?;
-    Ok(out.end_object()?)
+    out.end_object()
 }
 
-fn write_wait(cause: Cause, name: &str, out: &mut Writer) -> Result<(), Memory>
+fn write_wait(cause: Cause, name: &str, out: &mut Writer) -> Result<(), AllocError>
     ensures tokens { OnOk result (out.new.tokens ≡ out.old.tokens ++ json_tokens (outline (waiting cause name.now))) }
     ensures before { out.new.before ≡ out.old.before }
 {
@@ -86,7 +95,7 @@ fn write_wait(cause: Cause, name: &str, out: &mut Writer) -> Result<(), Memory>
     write_cause(cause, out)?;
     write_text_member("do", "Wait", out)?;
     write_text_member("name", name, out)?;
-    Ok(out.end_object()?)
+    out.end_object()
 }
 
 fn write_cause(cause: Cause, out: &mut Writer) -> Result<(), AllocError>
@@ -99,21 +108,23 @@ fn write_cause(cause: Cause, out: &mut Writer) -> Result<(), AllocError>
     }
 }
 
-fn write_uid(alloc: Global, number: u64, out: &mut Writer) -> Result<(), Memory>
+fn write_uid(alloc: Global, number: u64, out: &mut Writer) -> Result<(), AllocError>
     ensures tokens { OnOk result (out.new.tokens ≡ out.old.tokens ++ key (codes "uid") ∷ string (uid_shown number) ∷ []) }
     ensures before { out.new.before ≡ out.old.before }
 {
     let text = uid_shown(alloc, number)?;
-    Ok(write_text_member("uid", text.as_str(), out)?)
+    write_text_member("uid", text.as_str(), out)
 }
 
-fn uid_shown(alloc: Global, number: u64) -> Result<String, Memory>
+fn uid_shown(alloc: Global, number: u64) -> Result<String, AllocError>
     ensures { IfOk result (λ text. string_bytes text ≡ uid_shown number) }
 {
-    if number < 1 << 48 {
-        uid_text(alloc, number)
-    } else {
-        Ok(String::new(alloc))
+    if number >= 1 << 48 {
+        return Ok(String::new(alloc));
+    }
+    match uid_text(alloc, number) {
+        Ok(text) => Ok(text),
+        Err(Memory) => Err(AllocError),
     }
 }
 
