@@ -1,6 +1,6 @@
 -- The callers that were used, as controllers begin and as they crash.
 use Rattle.std.proofs.Common.{◌≡◌, ◌≢◌, ◌==◌, ℕ, zero, suc, ◌+◌, ◌<◌, ◌≤◌, Bool, true, false, cond, ◌||◌, List, ◌∷◌, length, Option, Some, None, refl, sym, ap, ◌∙◌, subst, arith, get_or, set, get_or-set_other, get_or-set_same, ltb-true}
-use Rattle.std.specs.Prelude.{IfSome, is_some, nat_lt, option_map}
+use Rattle.std.specs.Prelude.{IfSome, is_some, nat_lt, option_and_then, option_map}
 use Rattle.std.specs.BTreeMap.{btree_map_len, get}
 use Rattle.std.specs.List.{list_any, range_with_len}
 use Rattle.std.specs.Ordering.{nat_cmp}
@@ -15,6 +15,7 @@ use Rattle.rounds.specs.World.{put}
 use Rattle.clusters.specs.Cluster.{Cluster, first_life, is_used, life_after, start, with_crash}
 use Rattle.clusters.proofs.Kept.{among, put_other, put_same}
 use Rattle.cluster_runs.specs.Callers.{AreCallers, HoldsCallers, owner}
+use Rattle.cluster_runs.specs.Ran.{owner_in}
 use Rattle.cluster_runs.specs.declared.callers.Callers.{Callers}
 use Rattle.cluster_runs.proofs.Lowest.{as_many, lowest_is}
 
@@ -34,6 +35,16 @@ module _ (count : ℕ) (k : Cluster) (callers : Callers) (are : AreCallers count
       by : (b : Bool) → is_used k n ≡ b → is_used k n ≡ true
       by true is = is
       by false is = absurd (false≢true (sym (ap is_some (are.owners n ∙ ap (λ b. cond b (Some (owner k.lives n)) None) is)) ∙ some))
+
+  -- the owner of each caller is the controller whose life it is or was
+  pub owned_by : (n : ℕ) → owner_in callers.owners n ≡ owner k.lives n
+  owned_by n = by (is_used k n) refl
+    where
+      by : (b : Bool) → is_used k n ≡ b → owner_in callers.owners n ≡ owner k.lives n
+      by true is = ap (option_and_then (λ who. who)) (are.owners n ∙ ap (λ b. cond b (Some (owner k.lives n)) None) is)
+      by false is =
+          ap (option_and_then (λ who. who)) (are.owners n ∙ ap (λ b. cond b (Some (owner k.lives n)) None) is)
+          ∙ sym (ap (option_map (λ (life : Life). life.controller)) (are.unborn n is))
 
   pub used_below : (n : ℕ) → ((m : ℕ) → callers.unused ≤ m → m < n → is_some (get nat_cmp callers.owners m) ≡ true) → (m : ℕ) → m < n → is_used k m ≡ true
   used_below n others m low = by (least callers.unused m)

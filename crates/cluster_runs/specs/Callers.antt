@@ -1,15 +1,12 @@
 -- What the program holds of the callers that were used.
-use Rattle.std.specs.Prelude.{◌≡◌, ◌==◌, ◌<◌, ◌≤◌, ℕ, false, true, List, length, Option, Some, None, option_map, slice_index, IfSome, if◌then◌else◌}
+use Rattle.std.specs.Prelude.{◌≡◌, ◌==◌, ◌<◌, ◌≤◌, ℕ, false, true, List, length, Option, Some, None, slice_index, IfSome, if◌then◌else◌}
 use Rattle.std.specs.BTreeMap.{btree_map_len, get}
 use Rattle.std.specs.List.{list_any}
 use Rattle.std.specs.Ordering.{nat_cmp}
 use Rattle.rounds.specs.Transcript.{Life}
 use Rattle.clusters.specs.Cluster.{Cluster}
 use Rattle.cluster_runs.specs.declared.callers.Callers.{Callers}
-
--- the controller that is or was this caller, if one is or was
-abbrev pub owner : (ℕ → Option Life) → ℕ → Option ℕ
-owner lives n = option_map (λ (life : Life). life.controller) (lives n)
+pub use Rattle.cluster_runs.specs.Ran.{owner}
 
 -- Each controller's caller is its own, each owner is there, and a caller that was not used has no life.
 pub record HoldsCallers (count : ℕ) (present : ℕ → ℕ) (used : List ℕ) (lives : ℕ → Option Life) (callers : Callers) : Type 0 where

@@ -16,12 +16,15 @@ use history::Replay;
 use interleavings::{Event, Run};
 use rounds::Reconcile;
 use std::alloc::Global;
+use std::collections::BTreeMap;
 
 /// The events that were handed on to the store, in order, and the run of them. The places of the run count in these events.
 #[derive(Drop)]
 pub struct ClusterRun {
     pub events: Vec<Event>,
     pub run: Run,
+    /// By each caller that was used: the number of the controller that it is or was, none where it is somebody else.
+    pub owners: BTreeMap<u64, Option<usize>>,
 }
 
 /// Lets the events happen, one after another. Each is handed on to the store as exactly one event, unless it is not enabled;
@@ -77,10 +80,16 @@ pub fn run_cluster<C: Reconcile>(
         callers,
         events,
     } = cluster;
+    let Callers {
+        present,
+        owners,
+        unused: _,
+    } = callers;
     // Let go by name, which is proved once for the type and not at each way out.
-    drop(callers);
+    drop(present);
     Ok(ClusterRun {
         events,
         run: replay.finish(),
+        owners,
     })
 }

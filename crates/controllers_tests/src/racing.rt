@@ -312,6 +312,28 @@ fn a_caller_that_a_controller_was_makes_no_calls(rt: HostRuntime) -> Result<(), 
     Ok(())
 }
 
+#[test]
+fn each_caller_is_told_whose_it_is(rt: HostRuntime) -> Result<(), Fail> {
+    let events = [
+        ClusterEvent::Next(0),
+        ClusterEvent::Outside(7, Request::Compact { to: 1 }),
+        ClusterEvent::Crash(0),
+    ];
+    let found = run_of(rt.alloc(), 1, &events);
+    drop(events);
+    let found = found?;
+    let first = found.owners.get(&0).copied();
+    let second = found.owners.get(&1).copied();
+    let somebody = found.owners.get(&7).copied();
+    let nobody = found.owners.get(&2).copied();
+    drop(found);
+    assert!(rt; first == Some(Some(0)));
+    assert!(rt; second == Some(Some(0)));
+    assert!(rt; somebody == Some(None));
+    assert!(rt; nobody == None);
+    Ok(())
+}
+
 /// The fault of a cluster of so many controllers.
 fn fault_of(
     alloc: Global,

@@ -10,6 +10,7 @@ use Rattle.history.specs.declared.replay_error.ReplayError.TheVariants.{BadCapac
 use Rattle.clusters.specs.Cluster.{Cluster, happens, run, start}
 use Rattle.rounds.proofs.Showing.{fresh_stand}
 use Rattle.cluster_runs.specs.Shown.{HasTaken, Shows}
+use Rattle.cluster_runs.proofs.Calling.{owned_by}
 use Rattle.cluster_runs.proofs.Showing.{at_err, run_more, shown_stand, start_shows, still_stand, used_grow, within}
 use Rattle.cluster_runs.proofs.run.run_cluster.Goals as goal
 
@@ -99,9 +100,11 @@ returns-clause-run g c = λ reconcilers made.
     let all = take_all c.loop-event.event-index c.args.events.now c.loop-event-test.false in
     let shows = subst (λ l. Shows g.C.Reconcile.reconciler g.C.Reconcile.phase g.C.Reconcile.is_waiting z reconcilers (run z count reconcilers (start count) l) c.loop-event.cluster c.loop-event.controllers)
     all (c.loop-event.invariant.3 reconcilers made) in
+    let k = run z count reconcilers (start count) c.args.events.now in
     record {
       handed = shows.0.0.events_are;
       run_is = c.finish.ensures z _ shows.0.0.taken;
+      owned = owned_by (length c.loop-event.controllers) k c.loop-event.cluster.callers shows.0.1;
       few = shows.0.1.few;
     }
 
