@@ -10,7 +10,7 @@ shown-first : (i : Item) (items : List Item) → text_lines (shown (i ∷ items)
 shown-first (item_is.Call place caller r) items = refl
 shown-first (item_is.Reply place caller r) items = sym (append_assoc (compact_text (reply_data_at place caller r)) (10 ∷ []) (text_lines (shown items)))
 
-at_drop : (items : List Item) (at : ℕ) (i : Item) → at < length items → i ≡ get_or items at i → drop at items ≡ i ∷ drop (at + 1) items
+pub at_drop : (items : List Item) (at : ℕ) (i : Item) → at < length items → i ≡ get_or items at i → drop at items ≡ i ∷ drop (at + 1) items
 at_drop items at i inside is = rw add-one (drop-cons items at i inside ∙ ap (λ x. x ∷ drop (suc at) items) (sym is))
 
 -- what is written and what is left to write make the whole

@@ -1,5 +1,5 @@
 -- The event that a line of a script is, if it is one.
-use Rattle.std.specs.Prelude.{◌≡◌, ℕ, List, codes, bytes_eq, Option, Some, None, option_and_then, Result, Ok, Err, if◌then◌else◌, ⊤}
+use Rattle.std.specs.Prelude.{◌≡◌, ℕ, List, codes, bytes_eq, Option, Some, None, option_map, option_and_then, Result, Ok, Err, if◌then◌else◌, ⊤}
 use Rattle.serde_json.specs.Data.{Data, null, boolean, number, string, array, object, Members}
 use Rattle.serde_json.specs.Find.{as_object, as_str, as_u64, get_member}
 use Rattle.trees.specs.Reading.{tree_reading}
@@ -13,10 +13,8 @@ use Rattle.interleavings.specs.declared.event.Event.{Event}
 use Rattle.interleavings.specs.declared.event.Event.TheVariants as event
 use Rattle.scripts.specs.declared.fault.ScriptError.{ScriptError}
 use Rattle.scripts.specs.declared.fault.ScriptError.TheVariants as errors
-use Rattle.scripts.specs.declared.word.Word.{Word}
-use Rattle.scripts.specs.declared.word.Word.TheVariants as word
-use Rattle.scripts.specs.declared.word.Step.{Step}
-use Rattle.scripts.specs.declared.word.Step.TheVariants as step
+use Rattle.scripts.specs.declared.step.Step.{Step}
+use Rattle.scripts.specs.declared.step.Step.TheVariants as step
 
 infixl 10 ◌>>=◌
 abbrev pub ◌>>=◌ : {A B : Type 0} → Option A → (A → Option B) → Option B
@@ -31,6 +29,10 @@ unless_refused (Err e) = None
 -- the value that a line is: JSON whose numbers are whole
 abbrev pub value_of : List ℕ → Option Data
 value_of line = unless_refused (tree_reading line)
+
+-- the members of the object that a line is
+abbrev pub line_members : List ℕ → Option Members
+line_members line = value_of line >>= as_object
 
 abbrev pub text_in : List ℕ → Members → Option (List ℕ)
 text_in name ms = option_and_then as_str (get_member name ms)
@@ -47,24 +49,19 @@ count_of (object ms) = None
 abbrev pub count_in : List ℕ → Members → Option ℕ
 count_in name ms = option_and_then count_of (get_member name ms)
 
--- what the member `event` says
-abbrev pub word_named : List ℕ → Option Word
-word_named s =
-    if bytes_eq s (codes "raise") then Some word.Raise
-    else if bytes_eq s (codes "call") then Some word.Call
-    else if bytes_eq s (codes "check") then Some (word.Step step.Check)
-    else if bytes_eq s (codes "reserve") then Some (word.Step step.Reserve)
-    else if bytes_eq s (codes "publish") then Some (word.Step step.Publish)
-    else if bytes_eq s (codes "read") then Some (word.Step step.Read)
-    else if bytes_eq s (codes "readat") then Some (word.Step step.ReadAt)
-    else if bytes_eq s (codes "compact") then Some (word.Step step.Compact)
-    else if bytes_eq s (codes "part") then Some (word.Step step.Part)
-    else if bytes_eq s (codes "reply") then Some (word.Step step.Reply)
-    else if bytes_eq s (codes "crash") then Some (word.Step step.Crash)
+-- the step of a word
+abbrev pub step_named : List ℕ → Option Step
+step_named s =
+    if bytes_eq s (codes "check") then Some step.Check
+    else if bytes_eq s (codes "reserve") then Some step.Reserve
+    else if bytes_eq s (codes "publish") then Some step.Publish
+    else if bytes_eq s (codes "read") then Some step.Read
+    else if bytes_eq s (codes "readat") then Some step.ReadAt
+    else if bytes_eq s (codes "compact") then Some step.Compact
+    else if bytes_eq s (codes "part") then Some step.Part
+    else if bytes_eq s (codes "reply") then Some step.Reply
+    else if bytes_eq s (codes "crash") then Some step.Crash
     else None
-
-abbrev pub word_in : Members → Option Word
-word_in ms = option_and_then word_named (text_in (codes "event") ms)
 
 -- a step of one caller
 abbrev pub event_at : Step → ℕ → Event
@@ -78,6 +75,12 @@ event_at step.Part caller = event.Part caller
 event_at step.Reply caller = event.Reply caller
 event_at step.Crash caller = event.Crash caller
 
+-- the event of a word that has no request: `raise`, or a step of the caller that the line names
+abbrev pub step_in : (word : List ℕ) → Members → Option Event
+step_in word ms =
+    if bytes_eq word (codes "raise") then Some event.Raise
+    else step_named word >>= λ s. option_map (event_at s) (count_in (codes "caller") ms)
+
 -- the request that is called, as a request line of `serve` has it
 abbrev pub request_in : Members → Option Request
 request_in ms = get_member (codes "request") ms >>= λ d. unless_refused (plain.request_in d)
@@ -88,22 +91,15 @@ call_in ms = do
   request ← request_in ms
   Some (event.Call caller request)
 
-abbrev pub step_in : Step → Members → Option Event
-step_in s ms = count_in (codes "caller") ms >>= λ caller. Some (event_at s caller)
+abbrev pub event_by : (word : List ℕ) → Members → Option Event
+event_by word ms = if bytes_eq word (codes "call") then call_in ms else step_in word ms
 
-abbrev pub event_by : Word → Members → Option Event
-event_by word.Raise ms = Some event.Raise
-event_by word.Call ms = call_in ms
-event_by (word.Step s) ms = step_in s ms
-
+-- the event that the member `event` says
 abbrev pub event_in : Members → Option Event
-event_in ms = word_in ms >>= λ w. event_by w ms
+event_in ms = text_in (codes "event") ms >>= λ word. event_by word ms
 
 unfoldable pub event_of : List ℕ → Option Event
-event_of line = do
-  d ← value_of line
-  ms ← as_object d
-  event_in ms
+event_of line = line_members line >>= event_in
 
 -- reading refuses; nothing is said where memory ran out
 abbrev pub Fails : {A : Type 0} → ScriptError → Option A → Type 0

@@ -2,16 +2,18 @@
 ghost use Rattle.std.specs.Prelude.{◌≡◌, codes};
 ghost use Rattle.objects.specs.Tree.{data_of};
 ghost use Rattle.plain.specs.Requests.{request_in as plain_request_in};
-ghost use Rattle.scripts.specs.Events.{Reads, call_in, count_in, event_by, event_in, event_of, read_fault, request_fault, request_in, step_in, unless_refused, value_of};
+ghost use Rattle.scripts.specs.Events.{Reads, call_in, event_in, event_of, read_fault, request_fault, request_in, unless_refused};
 
 use crate::fault::ScriptError;
-use crate::word::{Step, Word, word_in};
+use crate::line::{count_in, read_members, text_in};
+use crate::step::step_in;
 use history::Event;
-use objects::{Members, ReadError, Tree, TreeError, TreeReader};
+use objects::{Members, ReadError, Tree, TreeReader};
 use plain::{Request, RequestError};
 use std::alloc::Global;
 
 /// The event that a line is.
+#[tactic(auto, using(crate::proofs::Readings::fails_bind), unfolding(crate::specs::Events::event_of))]
 pub(crate) fn read_event(
     alloc: Global,
     reader: &mut TreeReader,
@@ -19,51 +21,26 @@ pub(crate) fn read_event(
 ) -> Result<Event, ScriptError>
     ensures { Reads (λ event. event) result (event_of line.now) }
 {
-    let Tree::Map(members) = read_value(reader, line)? else {
-        return Err(ScriptError::BadScript);
-    };
+    let members = read_members(reader, line)?;
     event_in(alloc, members)
-}
-
-/// The value that a line is.
-pub(crate) fn read_value(reader: &mut TreeReader, line: &[u8]) -> Result<Tree, ScriptError>
-    ensures { Reads data_of result (value_of line.now) }
-{
-    match reader.read(line) {
-        Ok(value) => Ok(value),
-        Err(TreeError::Memory) => Err(ScriptError::Memory),
-        Err(_) => Err(ScriptError::BadScript),
-    }
 }
 
 fn event_in(alloc: Global, members: Members) -> Result<Event, ScriptError>
     ensures { Reads (λ event. event) result (event_in members) }
 {
-    match word_in(&members) {
-        Some(word) => event_by(alloc, word, members),
+    let Some(word) = text_in(&members, "event") else {
+        return Err(ScriptError::BadScript);
+    };
+    if word == "call" {
+        return call_in(alloc, members);
+    }
+    match step_in(word, &members) {
+        Some(event) => Ok(event),
         None => Err(ScriptError::BadScript),
     }
 }
 
-fn event_by(alloc: Global, word: Word, members: Members) -> Result<Event, ScriptError>
-    ensures { Reads (λ event. event) result (event_by word members) }
-{
-    match word {
-        Word::Raise => Ok(Event::Raise),
-        Word::Call => call_in(alloc, members),
-        Word::Step(step) => step_in(step, &members),
-    }
-}
-
-fn step_in(step: Step, members: &Members) -> Result<Event, ScriptError>
-    ensures { Reads (λ event. event) result (step_in step members.now) }
-{
-    match count_in(members, "caller") {
-        Some(caller) => Ok(step.by(caller)),
-        None => Err(ScriptError::BadScript),
-    }
-}
-
+#[tactic(auto, using(crate::proofs::Readings::fails_bind))]
 fn call_in(alloc: Global, members: Members) -> Result<Event, ScriptError>
     ensures { Reads (λ event. event) result (call_in members) }
 {
@@ -74,8 +51,12 @@ fn call_in(alloc: Global, members: Members) -> Result<Event, ScriptError>
     Ok(Event::Call(caller, request))
 }
 
-/// The request that the member `request` is.
-fn request_in(alloc: Global, members: Members) -> Result<Request, ScriptError>
+/// The request that the member `request` is, as a request line of `serve`.
+///
+/// # Errors
+///
+/// `BadScript` where it is missing or no request.
+pub fn request_in(alloc: Global, members: Members) -> Result<Request, ScriptError>
     ensures { Reads (λ request. request) result (request_in members) }
 {
     let Some(value) = members.take("request")? else {
@@ -116,15 +97,5 @@ fn read_fault(error: ReadError) -> ScriptError
         | ReadError::BadMeta
         | ReadError::TooLong => ScriptError::BadScript,
         ReadError::Memory => ScriptError::Memory,
-    }
-}
-
-/// The whole number of a member, if it is one from 0 up that fits 64 bits.
-pub(crate) fn count_in(members: &Members, name: &str) -> Option<u64>
-    ensures { result ≡ count_in name.now members.now }
-{
-    match members.get(name) {
-        Some(Tree::Whole(number)) => number.as_u64(),
-        _ => None,
     }
 }

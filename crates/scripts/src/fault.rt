@@ -8,7 +8,7 @@ use thiserror::Error;
 /// Why a text is no script. `Memory` says nothing of the text.
 #[derive(Clone, Copy, Debug, PartialEq, Eq, Error)]
 pub enum ScriptError {
-    /// The first line is missing or gives no capacity and number of shards, or another line is no event.
+    /// The first line is missing or lacks what it has to have, or another line is no event.
     #[error("the script cannot be read")]
     BadScript,
     /// An allocation was refused.

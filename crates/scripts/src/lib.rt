@@ -1,12 +1,19 @@
-//! Scripts of `stsctl replay`: the events that the lines of a script are, and the lines of what a run of them shows.
+//! Scripts of `stsctl replay`: the events that the lines of a script are, and the lines of what a run of them shows. The parts
+//! of lines that scripts of other kinds have too are public.
 #![tactic(auto)]
 
 mod event;
 mod fault;
+mod header;
+mod line;
 mod printing;
 mod script;
-mod word;
+mod step;
 
+pub use event::request_in;
 pub use fault::ScriptError;
-pub use printing::run_text;
+pub use header::{Header, header_in};
+pub use line::{count_in, count_of, read_members, text_in};
+pub use printing::{put_order, put_reply, run_text};
 pub use script::{Script, read_script};
+pub use step::step_in;

@@ -47,7 +47,13 @@ fn put_item(item: &Item, out: Vec<u8>) -> Result<Vec<u8>, AllocError>
     }
 }
 
-fn put_reply(place: u64, caller: u64, reply: &Reply, out: Vec<u8>) -> Result<Vec<u8>, AllocError>
+/// Puts the line of a reply behind what was written: `{"at":P,"caller":N,"reply":R}`, R as a reply line of `serve`.
+pub fn put_reply(
+    place: u64,
+    caller: u64,
+    reply: &Reply,
+    out: Vec<u8>,
+) -> Result<Vec<u8>, AllocError>
     ensures { IfOk result (λ text. text.items ≡ out.items ++ (compact_text (reply_data_at place caller reply.now) ++ 10 ∷ [])) }
 {
     let mut writer = Writer::new(out);
@@ -72,7 +78,8 @@ fn write_reply_at(
     out.end_object()
 }
 
-fn put_order(order: &[u64], out: Vec<u8>) -> Result<Vec<u8>, AllocError>
+/// Puts the line of an order behind what was written: `{"order":[P,..]}`.
+pub fn put_order(order: &[u64], out: Vec<u8>) -> Result<Vec<u8>, AllocError>
     ensures { IfOk result (λ text. text.items ≡ out.items ++ (compact_text (order_data order.now) ++ 10 ∷ [])) }
 {
     let mut writer = Writer::new(out);

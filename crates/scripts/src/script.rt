@@ -1,11 +1,13 @@
 ghost use Rattle.plain.specs.Lines.{lines};
 ghost use Rattle.scripts.specs.Events.{Reads};
-ghost use Rattle.scripts.specs.Scripts.{events_of, header_of, parts_of, script_of, size_in, size_of};
+ghost use Rattle.scripts.specs.Scripts.{events_of, header_of, parts_of, script_of, size_of};
 
-use crate::event::{count_in, read_event, read_value};
+use crate::event::read_event;
 use crate::fault::ScriptError;
+use crate::header::{Header, header_in};
+use crate::line::read_members;
 use history::Event;
-use objects::{Members, Tree, TreeReader};
+use objects::TreeReader;
 use plain::split_line;
 use std::alloc::Global;
 
@@ -18,13 +20,6 @@ pub struct Script {
     pub events: Vec<Event>,
 }
 
-/// The first line of a script.
-#[derive(Clone, Copy, Drop)]
-pub(crate) struct Header {
-    pub(crate) capacity: u64,
-    pub(crate) shards: u64,
-}
-
 /// The script that a text is. Its first line is `{"capacity":C,"shards":S}`, and each other line is an event:
 /// `{"caller":N,"event":"call","request":L}` with L as a request line of `serve`; `{"caller":N,"event":E}` with E one of
 /// `check`, `reserve`, `publish`, `read`, `readat`, `compact`, `part`, `reply` and `crash`; or `{"event":"raise"}`. Other
@@ -33,6 +28,7 @@ pub(crate) struct Header {
 /// # Errors
 ///
 /// `BadScript` where a line is none of these, also one that is cut off or empty, or where there is no line.
+#[tactic(auto, using(crate::proofs::Readings::fails_bind), unfolding(crate::specs::Scripts::script_of))]
 pub fn read_script(alloc: Global, text: &[u8]) -> Result<Script, ScriptError>
     ensures { Reads parts_of result (script_of text.now) }
 {
@@ -50,28 +46,16 @@ pub fn read_script(alloc: Global, text: &[u8]) -> Result<Script, ScriptError>
     })
 }
 
+#[tactic(auto, using(crate::proofs::Readings::fails_bind))]
 fn read_header(reader: &mut TreeReader, line: &[u8]) -> Result<Header, ScriptError>
     ensures { Reads size_of result (header_of line.now) }
 {
-    let Tree::Map(members) = read_value(reader, line)? else {
-        return Err(ScriptError::BadScript);
-    };
+    let members = read_members(reader, line)?;
     header_in(&members)
 }
 
-fn header_in(members: &Members) -> Result<Header, ScriptError>
-    ensures { Reads size_of result (size_in members.now) }
-{
-    let Some(capacity) = count_in(members, "capacity") else {
-        return Err(ScriptError::BadScript);
-    };
-    let Some(shards) = count_in(members, "shards") else {
-        return Err(ScriptError::BadScript);
-    };
-    Ok(Header { capacity, shards })
-}
-
 /// The events that the lines of a text are.
+#[tactic(auto, using(crate::proofs::Readings::fails_bind))]
 fn read_events(
     alloc: Global,
     reader: &mut TreeReader,
