@@ -1,0 +1,48 @@
+-- The event that a line of a cluster's script is, if it is one.
+use Rattle.std.specs.Prelude.{List, ℕ, codes, bytes_eq, Option, Some, None, option_map, if◌then◌else◌}
+use Rattle.serde_json.specs.Data.{Data, Members}
+use Rattle.serde_json.specs.Find.{get_member}
+use Rattle.clusters.specs.declared.event.ClusterEvent.{ClusterEvent}
+use Rattle.clusters.specs.declared.event.ClusterEvent.TheVariants.{Next, Outside, Step, Crash}
+use Rattle.scripts.specs.Events.{◌>>=◌, count_in, count_of, line_members, request_in, step_in, text_in}
+
+-- `{"controller":I,"event":"next"}`: the controller calls its next request
+abbrev pub next_in : Members → Option ClusterEvent
+next_in ms = option_map Next (count_in (codes "controller") ms)
+
+-- `{"caller":N,"event":"outside","request":L}`: a caller that is no controller calls, L as a request line of `serve`
+abbrev pub outside_in : Members → Option ClusterEvent
+outside_in ms = do
+  caller ← count_in (codes "caller") ms
+  request ← request_in ms
+  Some (Outside caller request)
+
+-- a step of the store, as a line of `stsctl replay` that has no request
+abbrev pub store_step_in : (word : List ℕ) → Members → Option ClusterEvent
+store_step_in word ms = option_map Step (step_in word ms)
+
+-- `{"controller":I,"event":"crash"}` is the crash of that controller, and has to have its number; `{"caller":N,"event":"crash"}`,
+-- with no member `controller` at all, is that of a caller.
+abbrev pub crash_by : (controller : Option Data) → Members → Option ClusterEvent
+crash_by (Some controller) ms = option_map Crash (count_of controller)
+crash_by None ms = store_step_in (codes "crash") ms
+
+abbrev pub crash_in : Members → Option ClusterEvent
+crash_in ms = crash_by (get_member (codes "controller") ms) ms
+
+-- an event that brings no request
+abbrev pub bare_event_in : (word : List ℕ) → Members → Option ClusterEvent
+bare_event_in word ms =
+    if bytes_eq word (codes "next") then next_in ms
+    else if bytes_eq word (codes "crash") then crash_in ms
+    else store_step_in word ms
+
+abbrev pub event_by : (word : List ℕ) → Members → Option ClusterEvent
+event_by word ms = if bytes_eq word (codes "outside") then outside_in ms else bare_event_in word ms
+
+-- the event that the member `event` says
+abbrev pub event_in : Members → Option ClusterEvent
+event_in ms = text_in (codes "event") ms >>= λ word. event_by word ms
+
+unfoldable pub event_of : List ℕ → Option ClusterEvent
+event_of line = line_members line >>= event_in

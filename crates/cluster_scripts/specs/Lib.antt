@@ -1,0 +1,6 @@
+-- ---- what public clauses cite
+pub mod Events
+pub mod Printing
+pub mod RequestLine
+pub mod Scripts
+pub mod Sets

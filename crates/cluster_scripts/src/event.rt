@@ -1,0 +1,84 @@
+// The event that a line of a script is.
+ghost use Rattle.std.specs.Prelude.{◌≡◌, codes};
+ghost use Rattle.cluster_scripts.specs.Events.{bare_event_in, crash_in, event_in, event_of, next_in, outside_in, store_step_in};
+ghost use Rattle.scripts.specs.Events.{Reads};
+
+use clusters::ClusterEvent;
+use objects::{Members, TreeReader};
+use scripts::{ScriptError, count_in, count_of, read_members, request_in, step_in, text_in};
+use std::alloc::Global;
+
+/// The event that a line is.
+#[tactic(auto, using(scripts::proofs::Readings::fails_bind), unfolding(crate::specs::Events::event_of))]
+pub(crate) fn read_event(
+    alloc: Global,
+    reader: &mut TreeReader,
+    line: &[u8],
+) -> Result<ClusterEvent, ScriptError>
+    ensures { Reads (λ event. event) result (event_of line.now) }
+{
+    let members = read_members(reader, line)?;
+    event_in(alloc, members)
+}
+
+fn event_in(alloc: Global, members: Members) -> Result<ClusterEvent, ScriptError>
+    ensures { Reads (λ event. event) result (event_in members) }
+{
+    let Some(word) = text_in(&members, "event") else {
+        return Err(ScriptError::BadScript);
+    };
+    if word == "outside" {
+        return outside_in(alloc, members);
+    }
+    match bare_event_in(word, &members) {
+        Some(event) => Ok(event),
+        None => Err(ScriptError::BadScript),
+    }
+}
+
+#[tactic(auto, using(scripts::proofs::Readings::fails_bind))]
+fn outside_in(alloc: Global, members: Members) -> Result<ClusterEvent, ScriptError>
+    ensures { Reads (λ event. event) result (outside_in members) }
+{
+    let Some(caller) = count_in(&members, "caller") else {
+        return Err(ScriptError::BadScript);
+    };
+    let request = request_in(alloc, members)?;
+    Ok(ClusterEvent::Outside(caller, request))
+}
+
+/// An event that brings no request.
+fn bare_event_in(word: &str, members: &Members) -> Option<ClusterEvent>
+    ensures { result ≡ bare_event_in word.now members.now }
+{
+    if word == "next" {
+        next_in(members)
+    } else if word == "crash" {
+        crash_in(members)
+    } else {
+        store_step_in(word, members)
+    }
+}
+
+fn next_in(members: &Members) -> Option<ClusterEvent>
+    ensures { result ≡ next_in members.now }
+{
+    let controller = count_in(members, "controller")?;
+    Some(ClusterEvent::Next(controller as usize))
+}
+
+/// The crash of a controller, or of a caller where no controller is named.
+fn crash_in(members: &Members) -> Option<ClusterEvent>
+    ensures { result ≡ crash_in members.now }
+{
+    match members.get("controller") {
+        Some(controller) => Some(ClusterEvent::Crash(count_of(controller)? as usize)),
+        None => store_step_in("crash", members),
+    }
+}
+
+fn store_step_in(word: &str, members: &Members) -> Option<ClusterEvent>
+    ensures { result ≡ store_step_in word.now members.now }
+{
+    Some(ClusterEvent::Step(step_in(word, members)?))
+}

@@ -1,0 +1,34 @@
+// The first line: what the cluster is made of.
+ghost use Rattle.cluster_scripts.specs.Scripts.{cluster_in, cluster_of, cluster_parts};
+ghost use Rattle.scripts.specs.Events.{Reads};
+
+use crate::set::sets_in;
+use controllers::ClusterSpec;
+use objects::{Members, TreeReader};
+use scripts::{ScriptError, header_in, read_members};
+use std::alloc::Global;
+
+#[tactic(auto, using(scripts::proofs::Readings::fails_bind))]
+pub(crate) fn read_cluster(
+    alloc: Global,
+    reader: &mut TreeReader,
+    line: &[u8],
+) -> Result<ClusterSpec, ScriptError>
+    ensures { Reads cluster_parts result (cluster_of line.now) }
+{
+    let members = read_members(reader, line)?;
+    cluster_in(alloc, &members)
+}
+
+#[tactic(auto, using(scripts::proofs::Readings::fails_bind))]
+fn cluster_in(alloc: Global, members: &Members) -> Result<ClusterSpec, ScriptError>
+    ensures { Reads cluster_parts result (cluster_in members.now) }
+{
+    let size = header_in(members)?;
+    let sets = sets_in(alloc, members)?;
+    Ok(ClusterSpec {
+        shards: size.shards as usize,
+        capacity: size.capacity,
+        sets,
+    })
+}

@@ -1,0 +1,16 @@
+//! Scripts of `stsctl cluster`: the cluster that the first line names, the events that the other lines are, and the lines of what
+//! a run of them shows.
+#![tactic(auto)]
+
+mod event;
+mod header;
+mod laws;
+mod printing;
+mod request_line;
+mod script;
+mod set;
+
+pub use laws::requests_read_back;
+pub use printing::cluster_text;
+pub use request_line::write_request;
+pub use script::{ClusterScript, read_cluster_script};

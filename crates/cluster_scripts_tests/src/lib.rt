@@ -1,0 +1,8 @@
+//! What scripts of clusters are read as, and what is printed of requests and of runs, with texts that were worked out by hand.
+//! Tests are a crate of their own, so that a library is proved once, and they reach only what it makes public.
+#![tactic(auto)]
+
+#[cfg(test)]
+mod printing;
+#[cfg(test)]
+mod readings;
