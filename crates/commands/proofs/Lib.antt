@@ -1,4 +1,5 @@
 pub mod Asked
+pub mod Clustered
 pub mod Grammars
 pub mod Halted
 pub mod Planned

@@ -16,10 +16,10 @@ use Rattle.plain.specs.Served.{served_so_far}
 use Rattle.plain.specs.Streams.{PutsPart, Takes}
 use Rattle.plain.proofs.Flows.{PutsPart-none, Takes-none}
 use Rattle.race_log.specs.declared.spec.RaceSpec.{RaceSpec}
-use Rattle.commands.specs.Asked.{IsAsked, IsOther, IsRaceBy, IsServing}
+use Rattle.commands.specs.Asked.{IsAsked, IsOther, IsRaceBy, IsScripted, IsServing}
 use Rattle.commands.specs.Serving.{ServesSome}
 use Rattle.commands.specs.declared.words.Asked.{Asked}
-use Rattle.commands.specs.declared.words.Asked.TheVariants.{Plan, Race, Replay, Serve}
+use Rattle.commands.specs.declared.words.Asked.TheVariants.{Cluster, Plan, Race, Replay, Serve}
 use Rattle.commands.specs.Grammar.{IsCapacityBy, IsNumberBy, asks_to, capacity_text, digits_text, is_under, plan_text, race_text, rows_under, stsctl_app}
 
 stsctl-is_simple : is_simple stsctl_app ≡ true
@@ -125,27 +125,58 @@ race_by words m spec same by = (
   subst (λ t. IsNumberBy 3 0 64 t spec.replicas) (race-is words m (codes "replicas") same) by.3,
 )
 
+-- what words without a plan, a race and a replay ask for
+pub served_scripted : (m : ArgMatches) (asked : Asked) → is_under (codes "replay") (subcommand_rows_of m) ≡ false → IsServing (subcommand_rows_of m) asked
+    → IsScripted (subcommand_rows_of m) asked
+served_scripted m (Serve capacity) replay serving = (replay, serving)
+served_scripted m Replay replay serving = absurd serving
+served_scripted m Cluster replay serving = (replay, serving)
+served_scripted m (Plan plan) replay serving = serving
+served_scripted m (Race spec) replay serving = absurd serving
+
 -- what words without a plan and without a race ask for
-pub served_other : (m : ArgMatches) (asked : Asked) → is_under (codes "race") (subcommand_rows_of m) ≡ false → IsServing (subcommand_rows_of m) asked
+pub scripted_other : (m : ArgMatches) (asked : Asked) → is_under (codes "race") (subcommand_rows_of m) ≡ false → IsScripted (subcommand_rows_of m) asked
     → IsOther (subcommand_rows_of m) asked
-served_other m (Serve capacity) race serving = (race, serving)
-served_other m Replay race serving = (race, serving)
-served_other m (Plan plan) race serving = serving
-served_other m (Race spec) race serving = absurd serving
+scripted_other m (Serve capacity) race scripted = (race, scripted)
+scripted_other m Replay race scripted = (race, scripted)
+scripted_other m Cluster race scripted = (race, scripted)
+scripted_other m (Plan plan) race scripted = scripted
+scripted_other m (Race spec) race scripted = absurd scripted
 
 -- what words without a plan ask for
 pub other_asked : (words : List Text) (m : ArgMatches) (asked : Asked) → subcommand_rows_of m ≡ subcommand_of stsctl_app words
     → asks_to (codes "plan") words ≡ false → IsOther (subcommand_rows_of m) asked → IsAsked words asked
 other_asked words m (Serve capacity) same plan other = (
+  (
+    plan,
+    asks-to words m (codes "race") false same other.0,
+    asks-to words m (codes "replay") false same other.1.0,
+    asks-to words m (codes "cluster") false same other.1.1.0,
+  ),
+  subst (λ t. IsCapacityBy t capacity) (capacity-is words m same) other.1.1.1,
+)
+other_asked words m Replay same plan other = (
+  plan,
+  asks-to words m (codes "race") false same other.0,
+  asks-to words m (codes "replay") true same other.1.0,
+  asks-to words m (codes "cluster") false same other.1.1,
+)
+other_asked words m Cluster same plan other = (
   plan,
   asks-to words m (codes "race") false same other.0,
   asks-to words m (codes "replay") false same other.1.0,
-  subst (λ t. IsCapacityBy t capacity) (capacity-is words m same) other.1.1,
+  asks-to words m (codes "cluster") true same other.1.1,
 )
-other_asked words m Replay same plan other = (plan, asks-to words m (codes "race") false same other.0, asks-to words m (codes "replay") true same other.1)
 other_asked words m (Plan asked) same plan other = absurd other
-other_asked words m (Race spec) same plan other =
-    (plan, asks-to words m (codes "race") true same other.0, asks-to words m (codes "replay") false same other.1, (race_by words m spec same other.2, other.3))
+other_asked words m (Race spec) same plan other = (
+  (
+    plan,
+    asks-to words m (codes "race") true same other.0,
+    asks-to words m (codes "replay") false same other.1,
+    asks-to words m (codes "cluster") false same other.2,
+  ),
+  (race_by words m spec same other.3, other.4),
+)
 
 pub plan-is : (words : List Text) (m : ArgMatches) (option : Text) (rows : List Row) → subcommand_rows_of m ≡ subcommand_of stsctl_app words
     → rows_under (codes "plan") (subcommand_rows_of m) ≡ rows → first_of option rows ≡ plan_text option words

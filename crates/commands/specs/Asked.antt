@@ -1,8 +1,8 @@
 -- What the words ask for.
-use Rattle.std.specs.Prelude.{◌≡◌, ◌≤◌, List, [], Option, true, false, codes, unwrap_or}
+use Rattle.std.specs.Prelude.{◌≡◌, ◌≤◌, Bool, List, [], Option, true, false, codes, unwrap_or}
 use Rattle.clap.specs.Words.{Row, Text, one_of}
 use Rattle.commands.specs.declared.words.Asked.{Asked}
-use Rattle.commands.specs.declared.words.Asked.TheVariants.{Serve, Replay, Plan, Race}
+use Rattle.commands.specs.declared.words.Asked.TheVariants.{Serve, Replay, Cluster, Plan, Race}
 use Rattle.commands.specs.declared.words.PlanWords.{PlanWords}
 use Rattle.commands.specs.Grammar.{AsksFor, IsCapacityBy, IsDigitsBy, IsNumberBy, asks_to, digits_text, is_under, plan_text, race_text, rows_under}
 use Rattle.race_log.specs.declared.spec.RaceSpec.{RaceSpec}
@@ -23,27 +23,40 @@ IsRaceBy text spec = IsNumberBy 4 1 64 (text (codes "controllers")) spec.control
 abbrev pub IsRaceAsked : List Text → RaceSpec → Type 0
 IsRaceAsked words spec = IsRaceBy (λ option. race_text option words) spec × (is_race spec ≡ true)
 
-abbrev pub IsAsked : List Text → Asked → Type 0
-IsAsked words (Serve capacity) = (asks_to (codes "plan") words ≡ false) × (asks_to (codes "race") words ≡ false)
-    × (asks_to (codes "replay") words ≡ false) × AsksFor words capacity
-IsAsked words Replay = (asks_to (codes "plan") words ≡ false) × (asks_to (codes "race") words ≡ false) × (asks_to (codes "replay") words ≡ true)
-IsAsked words (Plan plan) = (asks_to (codes "plan") words ≡ true) × (asks_to (codes "race") words ≡ false) × (asks_to (codes "replay") words ≡ false)
-    × IsPlanAsked words plan
-IsAsked words (Race spec) = (asks_to (codes "plan") words ≡ false) × (asks_to (codes "race") words ≡ true) × (asks_to (codes "replay") words ≡ false)
-    × IsRaceAsked words spec
+-- which of the subcommands but `serve` the words name
+abbrev pub AsksTo : (replay cluster plan race : Bool) → List Text → Type 0
+AsksTo replay cluster plan race words = (asks_to (codes "plan") words ≡ plan) × (asks_to (codes "race") words ≡ race)
+    × (asks_to (codes "replay") words ≡ replay) × (asks_to (codes "cluster") words ≡ cluster)
 
--- ---- for private clauses: what words ask for that ask for no plan, and for no race, by the subcommand that was met
+abbrev pub IsAsked : List Text → Asked → Type 0
+IsAsked words (Serve capacity) = AsksTo false false false false words × AsksFor words capacity
+IsAsked words Replay = AsksTo true false false false words
+IsAsked words Cluster = AsksTo false true false false words
+IsAsked words (Plan plan) = AsksTo false false true false words × IsPlanAsked words plan
+IsAsked words (Race spec) = AsksTo false false false true words × IsRaceAsked words spec
+
+-- ---- for private clauses: what words ask for that ask for no plan, for no race, and for no replay, by the subcommand that was
+-- met
 
 abbrev pub IsServing : Option (Text × List Row) → Asked → Type 0
-IsServing met (Serve capacity) = (is_under (codes "replay") met ≡ false)
+IsServing met (Serve capacity) = (is_under (codes "cluster") met ≡ false)
     × IsCapacityBy (one_of (codes "capacity") (rows_under (codes "serve") met)) capacity
-IsServing met Replay = is_under (codes "replay") met ≡ true
+IsServing met Replay = ⊥
+IsServing met Cluster = is_under (codes "cluster") met ≡ true
 IsServing met (Plan plan) = ⊥
 IsServing met (Race spec) = ⊥
 
+abbrev pub IsScripted : Option (Text × List Row) → Asked → Type 0
+IsScripted met (Serve capacity) = (is_under (codes "replay") met ≡ false) × IsServing met (Serve capacity)
+IsScripted met Replay = (is_under (codes "replay") met ≡ true) × (is_under (codes "cluster") met ≡ false)
+IsScripted met Cluster = (is_under (codes "replay") met ≡ false) × IsServing met Cluster
+IsScripted met (Plan plan) = ⊥
+IsScripted met (Race spec) = ⊥
+
 abbrev pub IsOther : Option (Text × List Row) → Asked → Type 0
-IsOther met (Serve capacity) = (is_under (codes "race") met ≡ false) × IsServing met (Serve capacity)
-IsOther met Replay = (is_under (codes "race") met ≡ false) × IsServing met Replay
+IsOther met (Serve capacity) = (is_under (codes "race") met ≡ false) × IsScripted met (Serve capacity)
+IsOther met Replay = (is_under (codes "race") met ≡ false) × IsScripted met Replay
+IsOther met Cluster = (is_under (codes "race") met ≡ false) × IsScripted met Cluster
 IsOther met (Plan plan) = ⊥
-IsOther met (Race spec) = (is_under (codes "race") met ≡ true) × (is_under (codes "replay") met ≡ false)
+IsOther met (Race spec) = (is_under (codes "race") met ≡ true) × (is_under (codes "replay") met ≡ false) × (is_under (codes "cluster") met ≡ false)
     × IsRaceBy (λ option. one_of option (rows_under (codes "race") met)) spec × (is_race spec ≡ true)

@@ -1,5 +1,6 @@
--- What the program takes, as `clap` reads it: `serve [--capacity N]`, `replay`, `plan --set NAME [--namespace NS] [--digits H]`,
--- and `race [--controllers N] [--shards N] [--rounds N] [--replicas N]`. `clap` adds help and the version.
+-- What the program takes, as `clap` reads it: `serve [--capacity N]`, `replay`, `cluster`,
+-- `plan --set NAME [--namespace NS] [--digits H]`, and
+-- `race [--controllers N] [--shards N] [--rounds N] [--replicas N]`. `clap` adds help and the version.
 use Rattle.std.specs.Prelude.{◌≡◌, ◌≤◌, ◌<◌, ◌^◌, ℕ, Bool, true, false, List, [], Option, Some, None, codes, if◌then◌else◌}
 use Rattle.std.specs.Option.{option_map_or}
 use Rattle.std.specs.Str.{bytes_eq}
@@ -24,6 +25,9 @@ serve_app = with_rule (new_app (codes "serve")) capacity_rule
 
 abbrev pub replay_app : App
 replay_app = new_app (codes "replay")
+
+abbrev pub cluster_app : App
+cluster_app = new_app (codes "cluster")
 
 abbrev pub set_rule : Rule
 set_rule = record (new_rule (codes "set")) { long = Some (codes "set"); value_names = 1; required = true }
@@ -51,9 +55,9 @@ race_app = with_rule (with_rule (with_rule (with_rule (new_app (codes "race")) (
     (option_rule (codes "replicas") (parsers.Unsigned 0 64))
 
 abbrev pub stsctl_app : App
-stsctl_app = with_subcommand (with_subcommand (with_subcommand (with_subcommand
+stsctl_app = with_subcommand (with_subcommand (with_subcommand (with_subcommand (with_subcommand
     (record (new_app (codes "stsctl")) { top = record (new_shape (codes "stsctl")) { has_version = true; subcommand_required = true } })
-    serve_app.top) replay_app.top) plan_app.top) race_app.top
+    serve_app.top) replay_app.top) cluster_app.top) plan_app.top) race_app.top
 
 -- why the words, the program's name first, ask for nothing that the program does: nothing where they do ask for it
 unfoldable pub faults_of : List Text → Kinds

@@ -1,5 +1,6 @@
 -- ---- what public clauses cite
 pub mod Asked
+pub mod Clustering
 pub mod Grammar
 pub mod Halts
 pub mod Planning

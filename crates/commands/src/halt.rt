@@ -1,10 +1,12 @@
 //! Why a run over a whole input has no output, and its exit status.
 ghost use Rattle.std.specs.Prelude.{◌≡◌, ◌≢◌, ◌<◌, ◌⊎◌, None, false, true, IfSome};
+ghost use Rattle.commands.specs.Clustering.{cluster_refusal};
 ghost use Rattle.commands.specs.Halts.{IsNamed, Tells, halt_of, is_read, name_of};
 ghost use Rattle.commands.specs.Planning.{plan_refusal, read_refusal};
 ghost use Rattle.commands.specs.Replaying.{run_refusal, script_refusal};
 
 use crate::status::{BAD_WORDS, FAILURE, Heap, REFUSED, SUCCESS, refused};
+use controllers::ClusterFault;
 use history::ReplayError;
 use objects::{Memory, ReadError};
 use plain::{InputFault, RequestError, Sink};
@@ -93,6 +95,19 @@ impl From<ReplayError> for Halt {
             ReplayError::BadShards => Halt::Refused("BadShards"),
             ReplayError::BadCapacity => Halt::Refused("BadCapacity"),
             ReplayError::TooManyCallers => Halt::Refused("TooManyCallers"),
+        }
+    }
+}
+
+impl From<ClusterFault> for Halt {
+    ghost from_gives = { λ error halt. (is_read halt ≡ false) × (name_of halt ≡ cluster_refusal error) };
+
+    fn from(error: ClusterFault) -> Halt {
+        match error {
+            ClusterFault::Memory => Halt::Memory,
+            ClusterFault::BadShards => Halt::Refused("BadShards"),
+            ClusterFault::BadCapacity => Halt::Refused("BadCapacity"),
+            ClusterFault::TooManyCallers => Halt::Refused("TooManyCallers"),
         }
     }
 }

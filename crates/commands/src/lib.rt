@@ -1,7 +1,8 @@
-//! What the words of the command line ask for, done over any readers and writers: `serve`, `replay`, `plan` and `race`. The
+//! What the words of the command line ask for, done over any readers and writers: `serve`, `replay`, `cluster`, `plan` and `race`. The
 //! program hands it the standard streams.
 #![tactic(auto)]
 
+mod cluster;
 mod explain;
 mod halt;
 mod numbers;

@@ -2,6 +2,7 @@
 ghost use Rattle.std.specs.Prelude.{◌≡◌, ◌≢◌, ◌≤◌, ◌<◌, ◌⊎◌, [], codes, map, true, false};
 ghost use Rattle.std.specs.List.{list_any};
 ghost use Rattle.commands.specs.Grammar.{asks_to, faults_of, is_mistake, is_request};
+ghost use Rattle.commands.specs.Clustering.{Clusters};
 ghost use Rattle.commands.specs.Halts.{Tells};
 ghost use Rattle.commands.specs.Planning.{Plans, PlansPart};
 ghost use Rattle.commands.specs.Racing.{Races};
@@ -9,6 +10,7 @@ ghost use Rattle.commands.specs.Refusing.{Refuses};
 ghost use Rattle.commands.specs.Replaying.{Replays};
 ghost use Rattle.commands.specs.Serving.{AsksOutOfRange, Serves, ServesSome};
 
+use crate::cluster::clustered;
 use crate::explain::explained;
 use crate::plan::planned;
 use crate::race::raced;
@@ -24,7 +26,7 @@ use std::thread::Threads;
 /// The whole program: does what the words ask for, the program's name first, and answers the exit status. It is 0 on
 /// success and for help and the version, which go to `writer`; 1, with nothing more said, where reading or writing fails
 /// or memory runs out; 2 where the words are bad, for which the reason goes to `faults`; and 3 where the script of a
-/// replay or the input of a plan is refused, the name of the refusal going to `faults` and nothing to `writer`, or where
+/// replay or a cluster or the input of a plan is refused, the name of the refusal going to `faults` and nothing to `writer`, or where
 /// the report of a race, which `writer` has then, is not legal. Only a race starts threads and waits.
 pub fn command<T: Threads + Wait + Sync, S: AsStr, R: Source, W: Sink, F: Sink>(
     rt: &T,
@@ -41,22 +43,28 @@ pub fn command<T: Threads + Wait + Sync, S: AsStr, R: Source, W: Sink, F: Sink>(
     ensures refused { result ≡ BAD_WORDS → list_any is_mistake (faults_of (map S.text words.now)) ≡ true }
     ensures refused_input { let texts = map S.text words.now in
         result ≡ REFUSED → (faults_of texts ≡ [])
-        × ((asks_to (codes "replay") texts ≡ true) ⊎ ((asks_to (codes "plan") texts ≡ true) ⊎ (asks_to (codes "race") texts ≡ true))) }
+        × ((asks_to (codes "replay") texts ≡ true) ⊎ ((asks_to (codes "cluster") texts ≡ true)
+        ⊎ ((asks_to (codes "plan") texts ≡ true) ⊎ (asks_to (codes "race") texts ≡ true)))) }
 
     // What was served.
     ensures served { let texts = map S.text words.now in
         result ≡ SUCCESS → (faults_of texts ≡ []) → asks_to (codes "plan") texts ≡ false → asks_to (codes "race") texts ≡ false
-        → asks_to (codes "replay") texts ≡ false
+        → asks_to (codes "replay") texts ≡ false → asks_to (codes "cluster") texts ≡ false
         → Serves texts (R.remaining reader.old) (R.remaining reader.new) (W.written writer.old) (W.written writer.new) }
     ensures part { let texts = map S.text words.now in
         result ≡ FAILURE → (faults_of texts ≡ []) → asks_to (codes "plan") texts ≡ false → asks_to (codes "race") texts ≡ false
-        → asks_to (codes "replay") texts ≡ false
+        → asks_to (codes "replay") texts ≡ false → asks_to (codes "cluster") texts ≡ false
         → ServesSome texts (R.remaining reader.old) (R.remaining reader.new) (W.written writer.old) (W.written writer.new) }
 
     // What was replayed.
     ensures replayed { let texts = map S.text words.now in
         result ≡ SUCCESS → (faults_of texts ≡ []) → asks_to (codes "replay") texts ≡ true
         → Replays (R.remaining reader.old) (R.remaining reader.new) (W.written writer.old) (W.written writer.new) }
+
+    // What a cluster asked and was answered.
+    ensures clustered { let texts = map S.text words.now in
+        result ≡ SUCCESS → (faults_of texts ≡ []) → asks_to (codes "cluster") texts ≡ true
+        → Clusters (R.remaining reader.old) (R.remaining reader.new) (W.written writer.old) (W.written writer.new) }
 
     // What was planned.
     ensures planned { let texts = map S.text words.now in
@@ -99,6 +107,7 @@ pub fn command<T: Threads + Wait + Sync, S: AsStr, R: Source, W: Sink, F: Sink>(
     match read_words(heap.alloc, words) {
         Ok(Asked::Serve(capacity)) => served(heap, reader, writer, capacity),
         Ok(Asked::Replay) => replayed(heap, reader, writer, faults),
+        Ok(Asked::Cluster) => clustered(heap, reader, writer, faults),
         Ok(Asked::Plan(plan)) => planned(heap, &plan, reader, writer, faults),
         Ok(Asked::Race(spec)) => raced(rt, heap, &spec, writer),
         Err(error) => explained(heap, &error, writer, faults),

@@ -1,8 +1,8 @@
 //! What the words of the command line ask for.
 ghost use Rattle.std.specs.Prelude.{◌≡◌, ◌≤◌, [], codes, map, unwrap_or, IfOk};
 ghost use Rattle.clap.specs.Words.{FailsBy, app_of, first_of, found_of, one_of, rows_of, subcommand_rows_of};
-ghost use Rattle.commands.specs.Grammar.{IsCapacityBy, IsDigitsBy, faults_of, plan_app, race_app, replay_app, rows_under, serve_app, stsctl_app};
-ghost use Rattle.commands.specs.Asked.{IsAsked, IsOther, IsServing};
+ghost use Rattle.commands.specs.Grammar.{IsCapacityBy, IsDigitsBy, cluster_app, faults_of, plan_app, race_app, replay_app, rows_under, serve_app, stsctl_app};
+ghost use Rattle.commands.specs.Asked.{IsAsked, IsOther, IsScripted, IsServing};
 
 use crate::numbers::{from_1_to_64, number_arg, number_in};
 use crate::race_words::{race_grammar, race_words};
@@ -26,6 +26,10 @@ More in docs/REFERENCE.md"#;
 const REPLAY_END: &str = r#"An input line: {"caller":1,"event":"check"}
 More in docs/INTERLEAVINGS.md"#;
 
+/// The end of the help on `cluster`.
+const CLUSTER_END: &str = r#"An input line: {"controller":0,"event":"next"}
+More in docs/CLUSTERS.md"#;
+
 /// The end of the help on `plan`.
 const PLAN_END: &str =
     r#"An input line: {"kind":"StatefulSet","metadata":{"name":"web","uid":"00000000-0000-4000-8000-000000000001"},"spec":{"replicas":3,"template":{}}}
@@ -47,13 +51,15 @@ pub(crate) enum Asked<'a> {
     Serve(u64),
     /// To run the events of a script.
     Replay,
+    /// To run the controllers of a script, by its events.
+    Cluster,
     /// To plan a set.
     Plan(PlanWords<'a>),
     /// To let controllers race.
     Race(RaceSpec),
 }
 
-/// What the program takes: `serve [--capacity N]`, `replay`, `plan --set NAME [--namespace NS] [--digits H]`, and
+/// What the program takes: `serve [--capacity N]`, `replay`, `cluster`, `plan --set NAME [--namespace NS] [--digits H]`, and
 /// `race [--controllers N] [--shards N] [--rounds N] [--replicas N]`, and what `clap` adds for help and the version.
 fn grammar<'a>(alloc: Global) -> Result<Command<'a>, AllocError>
     ensures { IfOk result (λ c. app_of c ≡ stsctl_app) }
@@ -62,11 +68,12 @@ fn grammar<'a>(alloc: Global) -> Result<Command<'a>, AllocError>
         .bin_name("stsctl")?
         .version("0.2.0")
         .about(
-            "A plain in-memory store of Kubernetes objects, replays of racing callers, plans of StatefulSets, and races of their controllers",
+            "A plain in-memory store of Kubernetes objects, replays of racing callers, plans of StatefulSets, and clusters and races of their controllers",
         )
         .subcommand_required(true)
         .subcommand(serve_grammar(alloc)?)?
         .subcommand(replay_grammar(alloc))?
+        .subcommand(cluster_grammar(alloc))?
         .subcommand(plan_grammar(alloc)?)?
         .subcommand(race_grammar(alloc)?)
 }
@@ -93,6 +100,16 @@ fn replay_grammar<'a>(alloc: Global) -> Command<'a>
             "Runs the events of the script on standard input, and prints their replies and a legal order",
         )
         .after_help(REPLAY_END)
+}
+
+fn cluster_grammar<'a>(alloc: Global) -> Command<'a>
+    ensures { app_of result ≡ cluster_app }
+{
+    Command::new(alloc, "cluster")
+        .about(
+            "Runs the controllers of the script on standard input, and prints what they ask, all replies and a legal order",
+        )
+        .after_help(CLUSTER_END)
 }
 
 fn plan_grammar<'a>(alloc: Global) -> Result<Command<'a>, AllocError>
@@ -140,16 +157,26 @@ fn other_in<'a>(matches: &ArgMatches<'_>) -> Asked<'a>
 {
     match matches.subcommand_matches("race") {
         Some(race) => Asked::Race(race_words(race)),
-        None => serving_in(matches),
+        None => scripted_in(matches),
     }
 }
 
 /// What words ask for that ask for no plan and no race.
-fn serving_in<'a>(matches: &ArgMatches<'_>) -> Asked<'a>
-    ensures { IsServing (subcommand_rows_of matches.now) result }
+fn scripted_in<'a>(matches: &ArgMatches<'_>) -> Asked<'a>
+    ensures { IsScripted (subcommand_rows_of matches.now) result }
 {
     match matches.subcommand_matches("replay") {
         Some(_) => Asked::Replay,
+        None => serving_in(matches),
+    }
+}
+
+/// What words ask for that ask for no plan, no race and no replay.
+fn serving_in<'a>(matches: &ArgMatches<'_>) -> Asked<'a>
+    ensures { IsServing (subcommand_rows_of matches.now) result }
+{
+    match matches.subcommand_matches("cluster") {
+        Some(_) => Asked::Cluster,
         None => Asked::Serve(capacity_in(matches)),
     }
 }

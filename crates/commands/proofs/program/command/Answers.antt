@@ -14,7 +14,7 @@ returns-in-Ok-Serve-clause-cause g c = λ is.
       | inl read ↦ inl read
       | inr (inl wrote) ↦ inr (inl wrote)
       | inr (inr (inl memory)) ↦ inr (inr (inl memory))
-      | inr (inr (inr out)) ↦ inr (inr (inr (c.in-Ok-Serve.ensures.faults, (c.in-Ok-Serve.capacity, asked.3, out))))
+      | inr (inr (inr out)) ↦ inr (inr (inr (c.in-Ok-Serve.ensures.faults, (c.in-Ok-Serve.capacity, asked.1, out))))
     ]
 
 pub returns-in-Ok-Serve-clause-spared : goal.returns-in-Ok-Serve-clause-spared
@@ -30,7 +30,7 @@ returns-in-Ok-Plan-clause-planned_part g c = λ is none plans.
     let asked = subst (λ (a : Asked). IsAsked words a) c.in-Ok-Plan.field-0-is c.in-Ok-Plan.ensures.asked in
     elim (c.planned.ensures.part is) [
       | inl same ↦ inl same
-      | inr part ↦ inr (c.in-Ok-Plan.plan, asked.3, part)
+      | inr part ↦ inr (c.in-Ok-Plan.plan, asked.1, part)
     ]
 
 pub returns-in-Err-clause-planned_part : goal.returns-in-Err-clause-planned_part
@@ -49,7 +49,7 @@ returns-in-Err-clause-refused g c = λ same.
     (c.explained.ensures.refused same)
 
 pub returns-in-Err-clause-part : goal.returns-in-Err-clause-part
-returns-in-Err-clause-part g c = λ is none no_plan no_race no_replay.
+returns-in-Err-clause-part g c = λ is none no_plan no_race no_replay no_cluster.
     let words = map g.S.AsStr.text c.args.words.now in
     let memory = only_memory c.in-Err.error words c.in-Err.ensures.faults none in
     serves_nothing words _ _ _ _ refl (ap g.W.Sink.written (c.explained.ensures.untouched (ap is_request memory)))

@@ -35,9 +35,12 @@ returns-clause-asked g c =
           rows-met (codes "plan") m (rows_of (found_of plan)) (said.found.0 refl) said.rows in
           let says = w.plan_words.ensures in
           let asked : IsAsked words (Plan w.plan_words.result) = (
-            asks-to words m (codes "plan") true same (under-met (codes "plan") m (said.found.0 refl)),
-            asks-to words m (codes "race") false same (other-unmet (codes "plan") (codes "race") m refl (said.found.0 refl)),
-            asks-to words m (codes "replay") false same (other-unmet (codes "plan") (codes "replay") m refl (said.found.0 refl)),
+            (
+              asks-to words m (codes "plan") true same (under-met (codes "plan") m (said.found.0 refl)),
+              asks-to words m (codes "race") false same (other-unmet (codes "plan") (codes "race") m refl (said.found.0 refl)),
+              asks-to words m (codes "replay") false same (other-unmet (codes "plan") (codes "replay") m refl (said.found.0 refl)),
+              asks-to words m (codes "cluster") false same (other-unmet (codes "plan") (codes "cluster") m refl (said.found.0 refl)),
+            ),
             (
               says.namespace ∙ ap (λ o. unwrap_or o (codes "default")) (plan-is words m (codes "namespace") (rows_of (found_of plan)) same rows),
               says.name ∙ ap (λ o. unwrap_or o []) (plan-is words m (codes "set") (rows_of (found_of plan)) same rows),

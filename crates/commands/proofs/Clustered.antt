@@ -1,0 +1,41 @@
+-- What was made of a script of controllers that was read, and written or refused.
+use Rattle.std.proofs.Common.{◌≡◌, ℕ, List, [], Option, Some, None, inl, inr, refl, sym, subst}
+use Rattle.std.specs.Option.{IfSome}
+use Rattle.plain.specs.Streams.{Puts}
+use Rattle.scripts.specs.Events.{Fails}
+use Rattle.scripts.specs.declared.fault.ScriptError.{ScriptError}
+use Rattle.scripts.specs.declared.fault.ScriptError.TheVariants.{BadScript, Memory}
+use Rattle.cluster_scripts.specs.Scripts.{cluster_script_of, parts_of}
+use Rattle.cluster_scripts.specs.declared.script.ClusterScript.{ClusterScript}
+use Rattle.commands.specs.Clustering.{Clusters, IsClusterRefusal, IsClusterRefusedBy, IsClusterRunRefusal, IsClusterTextOf}
+use Rattle.commands.specs.Replaying.{script_refusal}
+
+pub clusters : (had left before after : Option (List ℕ)) (text shown : List ℕ)
+    → IfSome had (λ input. (left ≡ Some []) × IsClusterTextOf input text) → Puts before shown after → shown ≡ text → Clusters had left before after
+clusters None left before after text shown ran puts same = tt
+clusters (Some input) left before after text shown ran puts same = (ran.0, (text, ran.1, subst (λ t. Puts before t after) same puts))
+
+-- what is made of the bytes that were read is made of the input
+pub clustered_input : (had left : Option (List ℕ)) (bytes text : List ℕ) → IfSome had (λ i. bytes ≡ i) → IfSome had (λ _. left ≡ Some [])
+    → IsClusterTextOf bytes text → IfSome had (λ input. (left ≡ Some []) × IsClusterTextOf input text)
+clustered_input None left bytes text all ends made = tt
+clustered_input (Some i) left bytes text all ends made = (ends, subst (λ b. IsClusterTextOf b text) all made)
+
+-- a text that is no script is refused by that name
+pub refused_cluster_script : (error : ScriptError) (name : Option (List ℕ)) (input : List ℕ) → name ≡ script_refusal error
+    → Fails error (cluster_script_of input) → IfSome name (IsClusterRefusal input)
+refused_cluster_script BadScript name input is fails = subst (λ o. IfSome o (IsClusterRefusal input)) (sym is) (inl (fails, refl))
+refused_cluster_script Memory name input is fails = subst (λ o. IfSome o (IsClusterRefusal input)) (sym is) tt
+
+-- a run that is refused is that of the script
+pub refused_cluster : (name : Option (List ℕ)) (input : List ℕ) (script : ClusterScript) → cluster_script_of input ≡ Some (parts_of script)
+    → IfSome name (IsClusterRunRefusal script) → IfSome name (IsClusterRefusal input)
+refused_cluster None input script is refused = tt
+refused_cluster (Some name) input script is refused = inr (script, is, refused)
+
+-- what is refused of the bytes that were read is refused of the input
+pub refused_cluster_input : (name : Option (List ℕ)) (had left : Option (List ℕ)) (bytes : List ℕ) → IfSome had (λ i. bytes ≡ i)
+    → IfSome had (λ _. left ≡ Some []) → IfSome name (IsClusterRefusal bytes) → IfSome name (IsClusterRefusedBy had left)
+refused_cluster_input None had left bytes all ends refused = tt
+refused_cluster_input (Some name) None left bytes all ends refused = tt
+refused_cluster_input (Some name) (Some i) left bytes all ends refused = (ends, subst (λ b. IsClusterRefusal b name) all refused)

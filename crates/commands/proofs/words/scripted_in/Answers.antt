@@ -1,0 +1,13 @@
+use Rattle.std.proofs.Common.{codes, refl}
+use Rattle.commands.proofs.Serving.{false-true, other-unmet, served_scripted, under-met, under-unmet}
+use Rattle.commands.proofs.words.scripted_in.Goals as goal
+
+pub returns-in-Some : goal.returns-in-Some
+returns-in-Some c =
+    let m = c.args.matches.now in
+    let named = c.in-Some.ensures.found.0 refl in (under-met (codes "replay") m named, other-unmet (codes "replay") (codes "cluster") m refl named)
+
+pub returns-in-None : goal.returns-in-None
+returns-in-None c =
+    served_scripted c.args.matches.now c.serving_in.result
+    (under-unmet (codes "replay") c.args.matches.now (λ is. false-true (c.in-None.ensures.found.1 is))) c.serving_in.ensures

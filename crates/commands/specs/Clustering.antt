@@ -1,0 +1,56 @@
+-- What a run of the program that was asked to run a cluster has done, where the devices tell.
+use Rattle.std.specs.Prelude.{◌≡◌, ◌⊎◌, ◌≤◌, ◌<◌, ℕ, List, [], length, Option, Some, None, codes}
+use Rattle.std.specs.Option.{IfSome}
+use Rattle.plain.specs.Streams.{Puts}
+use Rattle.plain_store.specs.Reached.{most_revisions}
+use Rattle.clusters.specs.Cluster.{Cluster}
+use Rattle.cluster_runs.specs.Ran.{IsClusterRun, cluster_after, owner_in}
+use Rattle.cluster_runs.specs.declared.fault.ClusterFault.{ClusterFault}
+use Rattle.cluster_runs.specs.declared.fault.ClusterFault.TheVariants as errors
+use Rattle.cluster_runs.specs.declared.run.ClusterRun.{ClusterRun}
+use Rattle.controllers.specs.Cluster.{reconciler_named, size_of}
+use Rattle.cluster_scripts.specs.Printing.{cluster_text}
+use Rattle.cluster_scripts.specs.Scripts.{cluster_script_of, parts_of}
+use Rattle.cluster_scripts.specs.declared.script.ClusterScript.{ClusterScript}
+
+-- the cluster of the script, after its events
+abbrev pub cluster_by : ClusterScript → Cluster
+cluster_by script = cluster_after (size_of script.spec) (length script.spec.sets.items) (reconciler_named script.spec.sets.items) script.events.items
+
+-- what the controllers ask and everybody is answered in the run of the script, and its order, which is a legal one
+abbrev pub IsClusterText : ClusterScript → List ℕ → Type 0
+IsClusterText script text = (found : ClusterRun)
+    × IsClusterRun (size_of script.spec) (length script.spec.sets.items) (reconciler_named script.spec.sets.items) script.events.items found
+    × (text ≡ cluster_text (owner_in found.owners) found.run.trace.items.items found.run.order.items)
+
+-- the same of a script that the input is
+abbrev pub IsClusterTextOf : (input text : List ℕ) → Type 0
+IsClusterTextOf input text = (script : ClusterScript) × (cluster_script_of input ≡ Some (parts_of script)) × IsClusterText script text
+
+-- All of the reader's bytes were read, and that text was written.
+abbrev pub Clusters : Option (List ℕ) → Option (List ℕ) → Option (List ℕ) → Option (List ℕ) → Type 0
+Clusters had left before after = IfSome had (λ input. (left ≡ Some [])
+    × ((text : List ℕ) × IsClusterTextOf input text × Puts before text after))
+
+-- The run of the script is refused by this name: the shards or the capacity are out of range, or more than 4,096 callers are used.
+abbrev pub IsClusterRunRefusal : ClusterScript → (name : List ℕ) → Type 0
+IsClusterRunRefusal script name = ((1 ≤ script.spec.shards → 64 < script.spec.shards) × (name ≡ codes "BadShards"))
+    ⊎ (((1 ≤ script.spec.shards) × (script.spec.shards ≤ 64) × (1 ≤ script.spec.capacity → most_revisions < script.spec.capacity)
+    × (name ≡ codes "BadCapacity"))
+    ⊎ ((4096 < length (cluster_by script).used) × (name ≡ codes "TooManyCallers")))
+
+-- the name of the refusal of a run; want of memory is none
+abbrev pub cluster_refusal : ClusterFault → Option (List ℕ)
+cluster_refusal errors.BadShards = Some (codes "BadShards")
+cluster_refusal errors.BadCapacity = Some (codes "BadCapacity")
+cluster_refusal errors.TooManyCallers = Some (codes "TooManyCallers")
+cluster_refusal errors.Memory = None
+
+-- The input is refused as BadScript exactly where it is no script.
+abbrev pub IsClusterRefusal : (input name : List ℕ) → Type 0
+IsClusterRefusal input name = ((cluster_script_of input ≡ None) × (name ≡ codes "BadScript"))
+    ⊎ ((script : ClusterScript) × (cluster_script_of input ≡ Some (parts_of script)) × IsClusterRunRefusal script name)
+
+-- All of the reader's bytes were read, and are refused by this name.
+abbrev pub IsClusterRefusedBy : Option (List ℕ) → Option (List ℕ) → List ℕ → Type 0
+IsClusterRefusedBy had left name = IfSome had (λ input. (left ≡ Some []) × IsClusterRefusal input name)
