@@ -1,5 +1,5 @@
 -- The places of keys after one more: another name of a namespace, and other namespaces of a kind.
-use Rattle.std.proofs.Common.{◌≡◌, ℕ, zero, suc, ◌==◌, ◌<◌, length, get_or, Bool, true, false, ◌&&◌, cond, List, [], ◌∷◌, bytes_eq, Option, Some, option_and_then, Result, Ok, Err, OnOk, OnErr, refl, sym, ap, subst, ◌∙◌, arith}
+use Rattle.std.proofs.Common.{◌≡◌, ℕ, zero, suc, ◌==◌, ◌<◌, length, get_or, Bool, true, false, ◌&&◌, cond, List, [], ◌∷◌, bytes_eq, Option, Some, None, option_and_then, Result, Ok, Err, OnOk, OnErr, refl, sym, ap, subst, ◌∙◌, arith}
 use Rattle.std.specs.Prelude.{slice_get}
 use Rattle.std.proofs.Math.ListN.{set}
 use Rattle.std.specs.Ordering.{eq_by_cmp}
@@ -19,31 +19,43 @@ use Rattle.version_map.proofs.Named.{get_placed, place_of, tied}
 
 -- ---- a name of a namespace
 
-module _ (m n : Namespaces) (space : List ℕ) (names : Names) (old : Option Names) (was : old ≡ at_text m space)
-    (written : (q : List ℕ) → at_text n q ≡ cond (bytes_eq space q) (Some names) (at_text m q)) where
+module _ (m n : Namespaces) (space : List ℕ) (now old : Option Names) (was : old ≡ at_text m space)
+    (written : (q : List ℕ) → at_text n q ≡ cond (bytes_eq space q) now (at_text m q)) where
   elsewhere : (q word : List ℕ) → bytes_eq space q ≡ false → place_in n q word ≡ place_in m q word
-  elsewhere q word other = ap (λ o. place_among o word) (written q ∙ ap (λ b. cond b (Some names) (at_text m q)) other)
+  elsewhere q word other = ap (λ o. place_among o word) (written q ∙ ap (λ b. cond b now (at_text m q)) other)
 
-  here : (q word : List ℕ) → bytes_eq space q ≡ true → place_in n q word ≡ at_name names word
-  here q word same = ap (λ o. place_among o word) (written q ∙ ap (λ b. cond b (Some names) (at_text m q)) same)
+  here : (q word : List ℕ) → bytes_eq space q ≡ true → place_in n q word ≡ place_among now word
+  here q word same = ap (λ o. place_among o word) (written q ∙ ap (λ b. cond b now (at_text m q)) same)
 
   before : (q word : List ℕ) → bytes_eq space q ≡ true → place_among old word ≡ place_in m q word
   before q word same = ap (λ o. place_among o word) (was ∙ ap (at_text m) ((bytes_eq-Decides space q).0 same))
 
-  pub as_before : ((word : List ℕ) → at_name names word ≡ place_among old word) → AreAsBefore m n
+  pub as_before : ((word : List ℕ) → place_among now word ≡ place_among old word) → AreAsBefore m n
   as_before kept q word = by (bytes_eq space q) refl
     where
       by : (b : Bool) → bytes_eq space q ≡ b → place_in n q word ≡ place_in m q word
       by true same = here q word same ∙ kept word ∙ before q word same
       by false other = elsewhere q word other
 
-  pub one_more : (name : List ℕ) (place : Option ℕ) → ((word : List ℕ) → at_name names word ≡ cond (bytes_eq name word) place (place_among old word)) → HasNow m n space name place
+  pub one_more : (name : List ℕ) (place : Option ℕ) → ((word : List ℕ) → place_among now word ≡ cond (bytes_eq name word) place (place_among old word)) → HasNow m n space name place
   one_more name place more q word = by (bytes_eq space q) refl
     where
       by : (b : Bool) → bytes_eq space q ≡ b → place_in n q word ≡ cond (bytes_eq space q && bytes_eq name word) place (place_in m q word)
       by true same = here q word same ∙ more word ∙ ap (cond (bytes_eq name word) place) (before q word same)
           ∙ sym (ap (λ b. cond (b && bytes_eq name word) place (place_in m q word)) same)
       by false other = elsewhere q word other ∙ sym (ap (λ b. cond (b && bytes_eq name word) place (place_in m q word)) other)
+
+-- ---- a namespace that goes with its last name
+
+module _ (m n next : Namespaces) (space : List ℕ) (names : Names) (written : (q : List ℕ) → at_text n q ≡ cond (bytes_eq space q) (Some names) (at_text m q))
+    (taken : (q : List ℕ) → at_text next q ≡ cond (bytes_eq space q) None (at_text n q)) where
+  pub taken_away : (q : List ℕ) → at_text next q ≡ cond (bytes_eq space q) None (at_text m q)
+  taken_away q = taken q ∙ ap (cond (bytes_eq space q) None) (written q)
+      ∙ elim (bytes_eq space q) as (λ b. cond b None (cond b (Some names) (at_text m q)) ≡ cond b None (at_text m q)) [ true ↦ refl | false ↦ refl ]
+
+pub no_names : (names : Names) → (length names == 0) ≡ true → (word : List ℕ) → None ≡ at_name names word
+no_names [] none word = refl
+no_names (e ∷ es) none word = let no_length : suc (length es) ≡ 0 = eqb-true (length (e ∷ es)) 0 none in absurd (omega (arith, no_length))
 
 -- ---- the namespaces of a kind
 

@@ -1,5 +1,5 @@
 // The names of a kind in a namespace.
-ghost use Rattle.std.specs.Prelude.{◌≡◌, ◌∷◌, [], ℕ, List, Some, None, bytes_eq, cond, IfOk, OnOk, OnErr};
+ghost use Rattle.std.specs.Prelude.{◌≡◌, ◌==◌, ◌∷◌, [], ℕ, length, List, Some, None, bytes_eq, cond, IfOk, OnOk, OnErr};
 ghost use Rattle.std.specs.BTreeMap.{IsOrdered, values};
 ghost use Rattle.std.specs.Option.{option_or};
 ghost use Rattle.version_map.specs.Named.{at_name, at_text, AreValues, place_at_text};
@@ -36,6 +36,12 @@ impl Names {
             short: BTreeMap::new(alloc),
             long: BTreeMap::new(alloc),
         }
+    }
+
+    pub(crate) fn is_empty(&self) -> bool
+        ensures { result ≡ (length self.now == 0) }
+    {
+        self.short.is_empty() && self.long.is_empty()
     }
 
     pub(crate) fn get(&self, name: &Text) -> Option<usize>

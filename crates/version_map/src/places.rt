@@ -116,7 +116,7 @@ impl Places {
         }
     }
 
-    /// The names of a kind in a namespace, if there was ever one.
+    /// The names of a kind in a namespace, if there is one.
     fn names(&self, kind: Kind, namespace: &Text) -> Option<&Names>
         ensures { AreNames self.now kind namespace.now (option_copied result) }
     {
@@ -154,11 +154,15 @@ fn insert_name(
     Ok(())
 }
 
-/// Takes the place of a name of a namespace away.
+/// Takes the place of a name of a namespace away, and with the last name what the namespace takes. It takes no memory.
 fn remove_name(namespaces: &mut Namespaces, namespace: &Text, name: &Text)
     ensures { HasNow namespaces.old namespaces.new namespace.now name.now None }
 {
-    if let Some(names) = namespaces.get_mut(namespace) {
-        names.remove(name);
+    let Some(names) = namespaces.get_mut(namespace) else {
+        return;
+    };
+    names.remove(name);
+    if names.is_empty() {
+        namespaces.remove(namespace);
     }
 }

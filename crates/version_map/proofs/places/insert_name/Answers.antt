@@ -9,7 +9,7 @@ pub returns-in_err-insert-in-Some-clause-err : goal.returns-in_err-insert-in-Som
 returns-in_err-insert-in-Some-clause-err c =
     let names = c.insert.new.self in
     let spaces = c.get_mut.follows.lender names in
-    on_err c.from_residual.result (as_before c.args.namespaces.now spaces c.args.namespace.now names (Some c.in-Some.names.now) c.in-Some.ensures.value
+    on_err c.from_residual.result (as_before c.args.namespaces.now spaces c.args.namespace.now (Some names) (Some c.in-Some.names.now) c.in-Some.ensures.value
     (updates_text c.args.namespace.now c.args.namespaces.now spaces (Some names) ((c.get_mut.follows.holds names).3 (search rules)))
     (λ word. ap (λ ns. at_name ns word) c.in_err-insert-in-Some.ensures.err))
 
@@ -17,7 +17,7 @@ pub returns-in_ok-insert-in-Some-clause-ok : goal.returns-in_ok-insert-in-Some-c
 returns-in_ok-insert-in-Some-clause-ok c =
     let names = c.insert.new.self in
     let spaces = c.get_mut.follows.lender names in
-    one_more c.args.namespaces.now spaces c.args.namespace.now names (Some c.in-Some.names.now) c.in-Some.ensures.value
+    one_more c.args.namespaces.now spaces c.args.namespace.now (Some names) (Some c.in-Some.names.now) c.in-Some.ensures.value
     (updates_text c.args.namespace.now c.args.namespaces.now spaces (Some names) ((c.get_mut.follows.holds names).3 (search rules))) c.args.name.now (Some c.args.place)
     c.in_ok-insert-in-Some.ensures.ok
 
@@ -26,7 +26,7 @@ returns-in_ok-insert-in-None-2-clause-ok c =
     let spaced : c.in_ok-clone-in-None.field-0 ≡ c.args.namespace.now = search rules in
     let names = c.insert-in-None.new.self in
     let spaces = c.insert-in-None-2.new.self in
-    one_more c.args.namespaces.now spaces c.args.namespace.now names None c.in-None.ensures.value
+    one_more c.args.namespaces.now spaces c.args.namespace.now (Some names) None c.in-None.ensures.value
     (λ q. updates_text c.in_ok-clone-in-None.field-0 c.get_mut.follows.lender-at-none spaces (Some names) c.in_ok-insert-in-None-2.ensures.updates q
     ∙ ap (λ b. cond (bytes_eq b q) (Some names) (at_text c.get_mut.follows.lender-at-none q)) spaced
     ∙ ap (λ m. cond (bytes_eq c.args.namespace.now q) (Some names) (at_text m q)) c.get_mut.follows.holds-at-none)
