@@ -1,5 +1,6 @@
 -- Changes of claims, one template after another.
 use Rattle.std.proofs.Common.{◌≡◌, ℕ, ◌+◌, ◌<◌, ◌≤◌, List, [], ◌∷◌, ◌++◌, length, take, drop, get_or, Bool, true, false, cond, Option, Some, None, refl, sym, ap, ◌∙◌, arith, length-append}
+use Rattle.std.specs.Prelude.{map, option_and_then}
 use Rattle.std.specs.List.{cons_option, filter_map, list_all}
 use Rattle.std.proofs.Math.Seq.{take-append_seam}
 use Rattle.std.proofs.lemmas.List.{append-nil, take_all, take_more, take-append-drop}
@@ -19,6 +20,20 @@ pub change_more : {A B : Type 0} (h : A → Option B) (xs : List A) (i : ℕ) (x
 change_more h xs i x y done after inside is so_far after_is here =
     after_is ∙ (ap (λ l. l ++ cons_option y []) so_far ∙ (ap (λ z. filter_map h (take i xs) ++ cons_option z []) here
     ∙ sym (ap (filter_map h) (take_more xs i x inside ∙ ap (λ v. take i xs ++ v ∷ []) (sym is)) ∙ filter_map-append h (take i xs) (x ∷ []))))
+
+-- what is there is found first, and then changed
+pub found_first : {A X B : Type 0} (f : X → Option B) (g : A → Option X) (xs : List A) → filter_map f (filter_map g xs) ≡ filter_map (λ x. option_and_then f (g x)) xs
+found_first f g [] = refl
+found_first {A} {X} {B} f g (x ∷ xs) = by (g x) (found_first f g xs)
+  where
+    by : (o : Option X) → filter_map f (filter_map g xs) ≡ filter_map (λ y. option_and_then f (g y)) xs
+        → filter_map f (cons_option o (filter_map g xs)) ≡ cons_option (option_and_then f o) (filter_map (λ y. option_and_then f (g y)) xs)
+    by None later = later
+    by (Some y) later = ap (cons_option (f y)) later
+
+pub read_first : {A X B : Type 0} (f : X → Option B) (g : A → X) (xs : List A) → filter_map (λ x. f (g x)) xs ≡ filter_map f (map g xs)
+read_first f g [] = refl
+read_first f g (x ∷ xs) = ap (cons_option (f (g x))) (read_first f g xs)
 
 -- so many of the first are the first so many of all
 pub enough : {A B : Type 0} (h : A → Option B) (xs : List A) (i n : ℕ) (done : List B) → done ≡ filter_map h (take i xs) → length done ≡ n → done ≡ take n (filter_map h xs)

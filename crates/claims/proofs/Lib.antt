@@ -1,4 +1,5 @@
 pub mod OwnerEntries
 pub mod NamedClaims
+pub mod PodClaims
 pub mod ChangeLists
 pub mod OwnerLaws

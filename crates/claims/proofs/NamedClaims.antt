@@ -1,5 +1,5 @@
 -- Claims that were put under their names.
-use Rattle.std.proofs.Common.{◌≡◌, ℕ, List, Bool, true, false, cond, Option, Some, Bor, refl}
+use Rattle.std.proofs.Common.{◌≡◌, Bool, true, false, cond, Option, Some, Bor, refl}
 use Rattle.std.specs.Prelude.{◌&&◌, option_map}
 use Rattle.objects.specs.declared.object.Object.{Object}
 

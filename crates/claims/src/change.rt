@@ -1,19 +1,20 @@
 // The changes of a pod's claims.
 // Values are let go by `drop`, which is proved once for a type and not at each way out.
-ghost use Rattle.std.specs.Prelude.{◌≡◌, ◌++◌, ◌≤◌, ◌<◌, true, [], map, length, string_bytes, take, option_map, option_and_then, IfOk, OnOk};
-ghost use Rattle.std.specs.List.{cons_option};
+ghost use Rattle.std.specs.Prelude.{◌≡◌, ◌++◌, ◌≤◌, ◌<◌, true, [], map, length, string_bytes, take, option_map, IfOk, OnOk};
+ghost use Rattle.std.specs.List.{cons_option, filter_map};
 ghost use Rattle.objects.specs.MetadataShape.{are_owners};
 ghost use Rattle.objects.specs.Names.{is_dns_label};
 ghost use Rattle.objects.specs.PodNames.{claim_name, pod_name};
 ghost use Rattle.objects.specs.Tree.{data_of, items_of};
 ghost use Rattle.set_views.specs.Set.{set_parts};
 ghost use Rattle.set_views.specs.Steps.{Gives};
-ghost use Rattle.claims.specs.Listed.{claim_named};
+ghost use Rattle.claims.specs.Listed.{IsFor, claim_named};
 ghost use Rattle.claims.specs.Changes.{all_made, all_updated, create, first_made, given, kept_claims, made, released_claims, update, updated};
 
 use crate::entries::{are_wanted, wanted};
 use crate::listed::ListedClaims;
 use crate::owner::{Owner, owner_in_range, owner_of_condemned};
+use crate::pods::Numbered;
 use manifests::claim_of;
 use objects::{Items, MAX_LABEL, Members, Memory, Object, Text, Tree, claim_name, pod_name};
 use set_views::{PlanError, Set};
@@ -175,37 +176,19 @@ fn all_made(
     Ok(changes)
 }
 
-/// The update of the claim that was found, if one was.
-fn updated_found(
-    alloc: Global,
-    set: &Set,
-    pod: &str,
-    owner: &Option<Owner>,
-    found: Option<&Object>,
-) -> Result<Option<ClaimChange>, Memory>
-    ensures { IfOk result (λ change. change ≡ option_and_then (update (set_parts set.now) pod.now owner.now) (option_map (λ o. o.now) found.entry)) }
-{
-    match found {
-        Some(claim) => update(alloc, set, pod, owner, claim),
-        None => Ok(None),
-    }
-}
-
+/// The updates of these claims of that pod, which are to have this owner.
 fn all_updated(
     alloc: Global,
     set: &Set,
-    listed: &ListedClaims<'_>,
-    ordinal: u32,
+    claims: &[Numbered<'_>],
     pod: &str,
     owner: &Option<Owner>,
 ) -> Result<Vec<ClaimChange>, Memory>
-    requires { pod.now ≡ pod_name set.now.object.key.name ordinal }
-    ensures { IfOk result (λ changes. changes.items ≡ all_updated (set_parts set.now) (claim_named listed.now) ordinal owner.now set.now.claims.items) }
+    ensures { IfOk result (λ changes. changes.items ≡ filter_map (λ c. update (set_parts set.now) pod.now owner.now c.1.now) claims.now) }
 {
     let mut changes = Vec::new(alloc);
-    for template in &set.claims {
-        let found = listed_at(alloc, set, listed, ordinal, template.0.as_str())?;
-        let change = updated_found(alloc, set, pod, owner, found)?;
+    for claim in claims {
+        let change = update(alloc, set, pod, owner, claim.1)?;
         push_some(&mut changes, change)?;
     }
     Ok(changes)
@@ -219,10 +202,14 @@ fn updates(
     ordinal: u32,
     owner: &Option<Owner>,
 ) -> Result<Vec<ClaimChange>, Memory>
+    requires { IsFor (set_parts set.now) listed.now }
     ensures { IfOk result (λ changes. changes.items ≡ all_updated (set_parts set.now) (claim_named listed.now) ordinal owner.now set.now.claims.items) }
 {
+    let Some(claims) = listed.of_pod(ordinal) else {
+        return Ok(Vec::new(alloc));
+    };
     let pod = pod_of(alloc, set, ordinal)?;
-    let changes = all_updated(alloc, set, listed, ordinal, pod.as_str(), owner)?;
+    let changes = all_updated(alloc, set, claims, pod.as_str(), owner)?;
     Ok(changes)
 }
 
@@ -251,13 +238,15 @@ pub fn made_claims(
     Ok(changes)
 }
 
-/// The updates of the claims of a healthy pod, which are to have the same owners as those of a pod that is created.
+/// The updates of the claims of a healthy pod, which are to have the same owners as those of a pod that is created. The list
+/// is for this set. No template is looked up of which the pod has no claim.
 pub fn kept_claims(
     alloc: Global,
     set: &Set,
     listed: &ListedClaims<'_>,
     ordinal: u32,
 ) -> Result<Vec<ClaimChange>, Memory>
+    requires { IsFor (set_parts set.now) listed.now }
     ensures { IfOk result (λ changes. changes.items ≡ kept_claims (set_parts set.now) (claim_named listed.now) ordinal) }
 {
     let owner = owner_in_range(set);
@@ -267,7 +256,7 @@ pub fn kept_claims(
 
 /// The updates of the claims of a condemned pod with that UID, 0 where none was read, which is then deleted. Under
 /// `whenScaled` Delete the pod is an owner and the set is none, so that the claims go with the pod. Under Retain they are to
-/// have the owners of a pod in range.
+/// have the owners of a pod in range. The list is for this set.
 pub fn released_claims(
     alloc: Global,
     set: &Set,
@@ -275,6 +264,7 @@ pub fn released_claims(
     ordinal: u32,
     uid: u64,
 ) -> Result<Vec<ClaimChange>, Memory>
+    requires { IsFor (set_parts set.now) listed.now }
     ensures { IfOk result (λ changes. changes.items ≡ released_claims (set_parts set.now) (claim_named listed.now) ordinal uid) }
 {
     let owner = owner_of_condemned(alloc, set, uid)?;

@@ -7,6 +7,7 @@ mod entries;
 mod laws;
 mod listed;
 mod owner;
+mod pods;
 
 pub use change::{ClaimChange, kept_claims, made_claims, released_claims};
 pub use laws::{

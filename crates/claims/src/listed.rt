@@ -1,17 +1,22 @@
 // The claims that were listed, by their names.
-ghost use Rattle.std.specs.Prelude.{◌≡◌, ◌&&◌, ℕ, List, Some, bytes_eq, option_map, if◌then◌else◌, IfOk, OnOk};
+ghost use Rattle.std.specs.Prelude.{◌≡◌, ◌&&◌, ℕ, ◌<◌, ◌^◌, [], List, Some, bytes_eq, option_map, if◌then◌else◌, IfOk, OnOk};
+ghost use Rattle.std.specs.Option.{option_map_or};
 ghost use Rattle.set_views.specs.Set.{set_parts};
-ghost use Rattle.claims.specs.Listed.{claim_named, found_in, is_near, listed_claim};
+ghost use Rattle.claims.specs.Listed.{IsFor, claim_named, claims_of, found_in, is_near, listed_claim};
+ghost use Rattle.claims.specs.Pods.{claims_in};
 
+use crate::pods::{Groups, Numbered, by_pod};
 use objects::{Kind, Object};
 use set_views::Set;
 use std::alloc::{AllocError, Global};
 use std::collections::BTreeMap;
 
-/// The claims of a set's namespace by their names, found once for a plan. It borrows the listed objects.
+/// The claims of a set's namespace by their names, and those of each of its pods, found once for a plan. It borrows the
+/// listed objects.
 #[derive(Drop)]
 pub struct ListedClaims<'a> {
     by_name: BTreeMap<&'a str, &'a Object>,
+    by_pod: Groups<'a>,
 }
 
 /// Whether the object is a claim of the set's namespace.
@@ -58,18 +63,19 @@ fn by_name<'a>(
 }
 
 impl<'a> ListedClaims<'a> {
-    /// The claims among these objects. Objects of other kinds and namespaces are passed over; of several claims with one name
-    /// the first counts.
+    /// The claims among these objects, for the plan of this set. Objects of other kinds and namespaces are passed over; of
+    /// several claims with one name the first counts.
     pub fn of(
         alloc: Global,
         set: &Set,
         objects: &'a [Object],
     ) -> Result<ListedClaims<'a>, AllocError>
-        ensures { IfOk result (λ claims. claim_named claims ≡ listed_claim (set_parts set.now) objects.now) }
+        ensures named { IfOk result (λ claims. claim_named claims ≡ listed_claim (set_parts set.now) objects.now) }
+        ensures of_set { IfOk result (λ claims. IsFor (set_parts set.now) claims) }
     {
-        Ok(ListedClaims {
-            by_name: by_name(alloc, set, objects)?,
-        })
+        let by_name = by_name(alloc, set, objects)?;
+        let by_pod = by_pod(alloc, set, &by_name)?;
+        Ok(ListedClaims { by_name, by_pod })
     }
 
     /// The claim of that name.
@@ -78,5 +84,15 @@ impl<'a> ListedClaims<'a> {
         ensures { option_map (λ o. o.now) result ≡ claim_named self.now name.now }
     {
         self.by_name.get(name).copied()
+    }
+
+    /// The claims of the pod of that ordinal, in the order of the claim templates of the set that the list is for.
+    #[tactic(auto, unfolding(crate::specs::Listed::claims_of))]
+    pub(crate) fn of_pod(&self, ordinal: u32) -> Option<&[Numbered<'a>]>
+        ensures { claims_in (option_map_or (λ c. c.now) result []) ≡ claims_of self.now ordinal }
+    {
+        let mut digits = itoa::Buffer::new();
+        let claims = self.by_pod.get(digits.format(ordinal))?;
+        Some(claims)
     }
 }

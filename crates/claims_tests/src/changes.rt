@@ -132,7 +132,7 @@ type Row = (
     &'static [Claim],
 );
 
-static ROWS: [Row; 39] = [
+static ROWS: [Row; 40] = [
     // A missing claim is created before its pod, and one that is there is used.
     (RETAIN, Make(0), &[], &[("data-web-0", &[])], &[]),
     (RETAIN, Make(0), &[("data-web-0", &[])], &[], &[]),
@@ -256,6 +256,21 @@ static ROWS: [Row; 39] = [
         &[("data-web-2", &[Stranger, Pod])],
         &[],
         &[("data-web-2", &[Stranger, Set])],
+    ),
+    // Each claim of the pod, in the order of the templates, and no claim of another pod or of no template.
+    (
+        TWO,
+        Keep(12),
+        &[
+            ("data-web-12", &[]),
+            ("data-web-2", &[]),
+            ("logs-web-12", &[]),
+            ("old-web-12", &[]),
+            ("web-12", &[]),
+            ("data", &[]),
+        ],
+        &[],
+        &[("logs-web-12", &[Set]), ("data-web-12", &[Set])],
     ),
     // A condemned pod: by `whenScaled` Delete its claims go with it, else as those of a pod in range.
     (BOTH, Release(2, 30), &[], &[], &[]),

@@ -12,7 +12,6 @@ use Rattle.revisions.specs.Plan.{plan_of}
 use Rattle.revisions.specs.Revision.{listed}
 use Rattle.scaling.specs.Views.{listed_pods}
 use Rattle.claims.specs.Listed.{listed_claim}
-use Rattle.sets.specs.declared.action.Action.{Action}
 use Rattle.sets.specs.declared.action.Plan.{Plan}
 use Rattle.sets.specs.Plan.{IsPlan, plan_by}
 use Rattle.sets.specs.Planned.{owned_of, planned, views_of}

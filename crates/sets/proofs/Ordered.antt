@@ -1,5 +1,5 @@
 -- A list has one order, where no two of its elements tie.
-use Rattle.std.proofs.Common.{◌≡◌, inl, inr, ◌+◌, ◌<◌, ◌≤◌, ℕ, zero, suc, Bool, true, false, cond, List, [], ◌∷◌, length, refl, sym, ap, ◌∙◌, subst, arith, add-one, Ordering, Less, Equal, Greater, is_lt, IsPermutation, IsSorted, true≢false}
+use Rattle.std.proofs.Common.{◌≡◌, inl, inr, ◌+◌, ℕ, suc, true, false, cond, List, [], ◌∷◌, refl, sym, ap, ◌∙◌, arith, add-one, Ordering, Less, Equal, Greater, is_lt, IsPermutation, IsSorted, true≢false}
 use Rattle.std.specs.List.{AllByRecursion, sum_by}
 use Rattle.std.specs.Cmp.{IsTotalOrder}
 use Rattle.std.specs.Ordering.{ordering_reverse}

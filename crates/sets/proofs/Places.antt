@@ -1,5 +1,5 @@
 -- The place in a pod's name is the one that the name is made of.
-use Rattle.std.proofs.Common.{◌≡◌, ◌+◌, ◌<◌, ◌≤◌, ◌^◌, ℕ, zero, suc, Bool, true, false, cond, List, [], ◌∷◌, ◌++◌, length, take, drop, refl, sym, ap, ◌∙◌, subst, arith, Option, Some, None, decimal, length-append, true≢false, Bor, inl, inr, map}
+use Rattle.std.proofs.Common.{◌≡◌, ◌+◌, ◌<◌, ◌≤◌, ℕ, zero, suc, true, false, cond, List, [], ◌∷◌, ◌++◌, length, take, drop, refl, sym, ap, ◌∙◌, subst, arith, Option, Some, None, decimal, length-append, true≢false, Bor, inl, inr, map}
 use Rattle.std.specs.Prelude.{◌&&◌, nat_lt, nat_le, bytes_eq, codes, option_map, IfSome, IfNone}
 use Rattle.std.specs.Option.{is_some, option_map_or}
 use Rattle.std.specs.Str.{all_ascii_digits}
@@ -13,7 +13,7 @@ use Rattle.objects.specs.declared.object.Object.{Object}
 use Rattle.objects.specs.PodNames.{IsPodName, most_ordinal, pod_name}
 use Rattle.objects.proofs.PodNamesDiffer.{pod_names-differ}
 use Rattle.set_views.specs.declared.pod.PodView.{PodView}
-use Rattle.set_views.specs.Pod.{PodParts, place_of, pod_parts, pod_with}
+use Rattle.set_views.specs.Pod.{place_of, pod_parts, pod_with}
 use Rattle.scaling.specs.Views.{AreViews, IsViewOf}
 use Rattle.sets.specs.Place.{is_cut, number_behind, place_below, place_in}
 use Rattle.sets.specs.Planned.{view_of}

@@ -9,7 +9,7 @@ ghost use Rattle.set_views.specs.Steps.{Gives};
 ghost use Rattle.revisions.specs.Plan.{Planned, objects_of, planned_of};
 ghost use Rattle.sets.specs.declared.action.Action.TheVariants.{WriteRevision};
 ghost use Rattle.sets.specs.Plan.{IsPlan, fitting, most_actions, names_fit, plan_by, plan_of_pods, refusal, unless_refused};
-ghost use Rattle.claims.specs.Listed.{claim_named};
+ghost use Rattle.claims.specs.Listed.{IsFor, claim_named};
 ghost use Rattle.sets.specs.Whole.{whole};
 
 use crate::action::{Action, Plan};
@@ -63,7 +63,8 @@ fn actions_over(
     revisions: &Revisions<'_>,
     pods: &BTreeMap<u32, Replica>,
 ) -> Result<Vec<Action>, Memory>
-    requires { names_fit (set_parts set.now) ≡ true }
+    requires for_set { IsFor (set_parts set.now) claims.now }
+    requires fit { names_fit (set_parts set.now) ≡ true }
     ensures { IfOk result (λ actions. actions.items ≡ take most_actions
         (whole (set_parts set.now) (claim_named claims.now) (map pod_parts views.now) (objects_of revisions.now.owned.items)
         revisions.now.current.object.now revisions.now.update.object.now pods.now.entries)) }
@@ -90,6 +91,7 @@ fn plan_of_pods(
     claims: &ListedClaims<'_>,
     revisions: &Revisions<'_>,
 ) -> Result<Plan, PlanError>
+    requires { IsFor (set_parts set.now) claims.now }
     ensures { Gives (λ plan. plan.actions.items) result
         (plan_of_pods (set_parts set.now) (claim_named claims.now) (map pod_parts views.now) (objects_of revisions.now.owned.items)
         revisions.now.current.object.now revisions.now.update.object.now) }
@@ -166,6 +168,7 @@ fn plan_by(
     claims: &ListedClaims<'_>,
     found: Result<RevisionPlan<'_>, PlanError>,
 ) -> Result<Plan, PlanError>
+    requires { IsFor (set_parts set.now) claims.now }
     ensures planned { (planned : Result Planned PlanError) → Gives planned_of found.entry planned
         → Gives (λ plan. plan.actions.items) result (plan_by (set_parts set.now) (claim_named claims.now) (map pod_parts views.now) planned) }
     ensures memory { found.entry ≡ Err OutOfMemory → result ≡ Err OutOfMemory }

@@ -5,7 +5,7 @@ ghost use Rattle.set_views.specs.declared.fault.PlanError.TheVariants.{Memory as
 ghost use Rattle.set_views.specs.Set.{set_parts};
 ghost use Rattle.objects.specs.Names.{most_label};
 ghost use Rattle.claims.specs.Changes.{made_claims};
-ghost use Rattle.claims.specs.Listed.{claim_named};
+ghost use Rattle.claims.specs.Listed.{IsFor, claim_named};
 ghost use Rattle.sets.specs.Actions.{actions_of, changes_in, claim_action, claim_actions, name_at, new_pod, revision_of};
 ghost use Rattle.sets.specs.Cut.{Adds, AreNameable, is_nameable};
 
@@ -165,6 +165,7 @@ fn add_step(
     templates: &Templates<'_>,
     step: Step,
 ) -> Result<(), Memory>
+    requires for_set { IsFor (set_parts set.now) claims.now }
     requires current_set { templates.now.current.set.now ≡ set.now }
     requires update_set { templates.now.update.set.now ≡ set.now }
     requires nameable { is_nameable (set_parts set.now) step ≡ true }
@@ -208,6 +209,7 @@ pub(crate) fn add_steps(
     templates: &Templates<'_>,
     steps: &[Step],
 ) -> Result<(), Memory>
+    requires for_set { IsFor (set_parts set.now) claims.now }
     requires current_set { templates.now.current.set.now ≡ set.now }
     requires update_set { templates.now.update.set.now ≡ set.now }
     requires nameable { AreNameable (set_parts set.now) steps.now }

@@ -1,8 +1,8 @@
 use Rattle.std.proofs.Common.{◌≡◌, take}
+use Rattle.std.specs.List.{filter_map}
 use Rattle.set_views.specs.Set.{set_parts}
-use Rattle.claims.specs.Changes.{all_updated}
-use Rattle.claims.specs.Listed.{claim_named}
+use Rattle.claims.specs.Changes.{update}
 use Rattle.claims.proofs.change.all_updated.Given as goal
 
-abbrev pub invariant-loop-template : goal.invariant-loop-template
-invariant-loop-template l = l.changes.items ≡ all_updated (set_parts l.set) (claim_named l.listed) l.ordinal l.owner (take l.template-index l.set.claims.items)
+abbrev pub invariant-loop-claim : goal.invariant-loop-claim
+invariant-loop-claim l = l.changes.items ≡ filter_map (λ c. update (set_parts l.set) l.pod l.owner c.1.now) (take l.claim-index l.claims)

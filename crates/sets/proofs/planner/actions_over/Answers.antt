@@ -11,7 +11,7 @@ use Rattle.sets.proofs.planner.actions_over.Goals as goal
 
 pub add_steps-requires-clause-nameable : goal.add_steps-requires-clause-nameable
 add_steps-requires-clause-nameable c =
-    nameable (set_parts c.args.set.now) c.args.pods.now.entries c.deref.result.now c.len-len.ensures.ordered c.args.set.now.in_limits c.requires
+    nameable (set_parts c.args.set.now) c.args.pods.now.entries c.deref.result.now c.len-len.ensures.ordered c.args.set.now.in_limits c.requires.fit
     (c.deref.ensures.value ∙ c.in_ok-steps.ensures.first)
 
 pub returns : goal.returns

@@ -12,5 +12,5 @@ returns c =
     let set = set_parts c.args.set.now in
     is_plan set c.args.pods.now c.args.claims.now c.args.revisions.now c.args.digits c.deref.result.now c.revision_plan-found.result c.plan_by.result c.revision_plan-found.ensures
     (subst (λ (vs : List PodView). AreViews (listed_pods set c.args.pods.now) vs) (sym c.deref.ensures.value) c.in_ok-views.ensures)
-    (for_claims set (claim_named c.in_ok-listed.listed) (listed_claim set c.args.claims.now) (map pod_parts c.deref.result.now) c.revision_plan-found.result c.plan_by.result c.in_ok-listed.ensures c.plan_by.ensures.planned)
+    (for_claims set (claim_named c.in_ok-listed.listed) (listed_claim set c.args.claims.now) (map pod_parts c.deref.result.now) c.revision_plan-found.result c.plan_by.result c.in_ok-listed.ensures.named c.plan_by.ensures.planned)
     c.plan_by.ensures.memory

@@ -11,8 +11,8 @@ returns-in-Err c =
     pods_refused (set_parts c.args.set.now) (claim_named c.args.claims.now) (map pod_parts c.args.views.now) (objects_of c.args.revisions.now.owned.items) c.args.revisions.now.current.object.now c.args.revisions.now.update.object.now
     c.args.revisions.now.update.name.now c.args.revisions.now.current.name.now c.in-Err.error c.args.revisions.now.update.named c.args.revisions.now.current.named c.in-Err.ensures
 
-pub actions_over-requires : goal.actions_over-requires
-actions_over-requires c =
+pub actions_over-requires-clause-fit : goal.actions_over-requires-clause-fit
+actions_over-requires-clause-fit c =
     fitting_fits (set_parts c.args.set.now) (map pod_parts c.args.views.now) c.args.revisions.now.update.name.now c.args.revisions.now.current.name.now c.in-Ok.pods.entries c.in-Ok.ensures
 
 pub returns : goal.returns
