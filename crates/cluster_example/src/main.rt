@@ -7,7 +7,7 @@
 
 mod bench;
 mod fault;
-mod kubelet;
+mod kubelet_turn;
 mod recorder;
 mod steps;
 mod store;

@@ -1,6 +1,6 @@
 //! What an operator does with one set, and how many controllers race for it.
 use crate::fault::Fault;
-use crate::kubelet::kubelet_turn;
+use crate::kubelet_turn::kubelet_turn;
 use crate::recorder::{OPERATOR, Recorder};
 use crate::steps::SHARDS;
 use crate::store::{CAPACITY, Store};

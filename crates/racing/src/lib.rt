@@ -5,7 +5,7 @@
 mod asking;
 mod controller_rounds;
 mod field;
-mod kubelet;
+mod kubelet_turns;
 mod running;
 mod shared;
 mod threads;

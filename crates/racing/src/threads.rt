@@ -5,7 +5,7 @@ ghost use Rattle.race_log.specs.Logged.{Noted};
 
 use crate::controller_rounds::run_controller;
 use crate::field::Field;
-use crate::kubelet::run_kubelet;
+use crate::kubelet_turns::run_kubelet;
 use crate::shared::SharedStore;
 use objects::Memory;
 use race_log::{CAPACITY, Log, RaceFault, RaceReport, RaceSpec, judged, set_creation};

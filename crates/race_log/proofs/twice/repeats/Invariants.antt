@@ -1,6 +1,5 @@
 use Rattle.std.proofs.Common.{◌≡◌, ◌≤◌, List, [], drop}
 use Rattle.requests.specs.declared.reply.Reply.{Reply}
-use Rattle.race_log.specs.declared.twice.Living.{Living}
 use Rattle.race_log.specs.Living.{Knows}
 use Rattle.race_log.specs.Twice.{told}
 use Rattle.race_log.proofs.twice.repeats.Given as goal

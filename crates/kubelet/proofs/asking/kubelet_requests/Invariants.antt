@@ -1,6 +1,6 @@
 use Rattle.std.proofs.Common.{◌≡◌, ◌++◌, drop}
-use Rattle.race_log.specs.Kubelet.{kubelet_asks_all}
-use Rattle.race_log.proofs.kubelet.kubelet_requests.Given as goal
+use Rattle.kubelet.specs.Kubelet.{kubelet_asks_all}
+use Rattle.kubelet.proofs.asking.kubelet_requests.Given as goal
 
 -- what is asked and what is left to ask make the whole
 abbrev pub invariant-loop-pod : goal.invariant-loop-pod

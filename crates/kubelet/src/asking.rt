@@ -4,7 +4,7 @@ ghost use Rattle.serde_json.specs.Data.{array, item, no_items};
 ghost use Rattle.objects.specs.Tree.{data_of};
 ghost use Rattle.objects.specs.Uid.{uid_text};
 ghost use Rattle.requests.specs.declared.request.Request.TheVariants.{Delete, UpdateStatus};
-ghost use Rattle.race_log.specs.Kubelet.{is_ready, kubelet_asks, kubelet_asks_all, made_ready, ready_condition, ready_status, unless_zero};
+ghost use Rattle.kubelet.specs.Kubelet.{is_ready, kubelet_asks, kubelet_asks_all, made_ready, ready_condition, ready_status, unless_zero};
 
 use objects::{Draft, Items, Members, Memory, Object, Text, Tree, uid_text};
 use requests::Request;

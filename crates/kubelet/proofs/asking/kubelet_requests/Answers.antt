@@ -1,5 +1,5 @@
-use Rattle.race_log.proofs.Walks.{asked-next}
-use Rattle.race_log.proofs.kubelet.kubelet_requests.Goals as goal
+use Rattle.kubelet.proofs.Walks.{asked-next}
+use Rattle.kubelet.proofs.asking.kubelet_requests.Goals as goal
 
 pub loop-pod-preserved : goal.loop-pod-preserved
 loop-pod-preserved c =

@@ -1,0 +1,6 @@
+//! A kubelet: what it asks for the pods that it lists (Kubernetes, "Pod Lifecycle").
+#![tactic(auto)]
+
+mod asking;
+
+pub use asking::kubelet_requests;
