@@ -19,3 +19,5 @@ pub mod Opening
 pub mod Naming
 pub mod Entries
 pub mod Gatherings
+pub mod Standings
+pub mod Enabled

@@ -1,5 +1,5 @@
 -- What each way through an event does to what is shown.
-use Rattle.std.proofs.Common.{◌≡◌, ◌≢◌, ℕ, zero, suc, ◌+◌, ◌<◌, ◌≤◌, ◌⊎◌, Bool, true, false, cond, List, [], ◌∷◌, ◌++◌, length, get_or, set, Option, Some, None, option_map, refl, sym, ap, ◌∙◌, subst, nat_eq, nat_le, nat_lt, arith, inl, inr, ltb-true, ltb-false}
+use Rattle.std.proofs.Common.{◌≡◌, ℕ, zero, suc, ◌+◌, ◌<◌, ◌≤◌, Bool, true, false, cond, List, [], ◌∷◌, ◌++◌, get_or, Option, Some, None, refl, sym, ap, ◌∙◌, subst, nat_eq, nat_lt, arith, ltb-true, ltb-false}
 use Rattle.std.proofs.lemmas.Option.{same_Some}
 use Rattle.objects.specs.declared.key.Key.{Key}
 use Rattle.requests.specs.declared.request.Request.{Request}
@@ -9,7 +9,6 @@ use Rattle.requests.specs.declared.reply.Reply.{Reply}
 use Rattle.requests.specs.Keys.{key_named}
 use Rattle.requests.specs.Verdict.{is_write}
 use Rattle.plain_store.specs.Route.{lists, lists_at, route, writes}
-use Rattle.plain_store.specs.Store.{denied}
 use Rattle.history.specs.declared.machine.Machine.{Machine}
 use Rattle.history.specs.declared.phase.Phase.{Phase as CodePhase}
 use Rattle.history.specs.declared.phase.Phase.TheVariants as code
@@ -17,7 +16,7 @@ use Rattle.history.specs.declared.phase.Writing.{Writing as CodeWriting}
 use Rattle.interleavings.specs.Log.{Writing}
 use Rattle.interleavings.specs.Order.{Arrangement, moved, moved_by}
 use Rattle.interleavings.specs.Step.{checked, checked_by, called, compacted, read, read_at, reserved}
-use Rattle.interleavings.specs.World.{Phase, Idle, Called, Holding, Drawn, Waiting, Reading, Gone, Size, World, changed, shard}
+use Rattle.interleavings.specs.World.{Phase, Idle, Called, Holding, Drawn, Waiting, Reading, Gone, Size, World}
 use Rattle.history.specs.Replayed.{IsShown, Shows, called_in, holding_in, is_called, is_idle, is_undecided, writing_of}
 use Rattle.interleavings.proofs.Arranged.{moved_same}
 use Rattle.history.proofs.Showing.{goes}

@@ -3,7 +3,9 @@ pub mod After
 pub mod Named
 pub mod Begun
 pub mod Mirrors
+pub mod NextStep
 pub mod Replayed
+pub mod Standing
 -- ---- of the crate below
 pub use Rattle.interleavings.specs.Examples
 pub use Rattle.interleavings.specs.Linearizable

@@ -6,14 +6,17 @@ mod callers;
 mod compaction;
 mod decision;
 mod gathered;
+mod laws;
 mod machine;
 mod names;
+mod next_step;
 mod open_reads;
 mod parking;
 mod phase;
 mod read_steps;
 mod replay_error;
 mod replaying;
+mod standing;
 mod stepped;
 mod whole;
 mod write_steps;
@@ -22,7 +25,9 @@ pub use interleavings::{
     Event, Item, Run, Trace, built_orders_are_legal, callers_keep_their_order,
     compactions_spare_reads, runs_are_linearizable, short_orders, short_runs,
 };
+pub use laws::next_steps_are_enabled;
 pub use orders::check_order;
 pub use replay_error::ReplayError;
 pub use replaying::Replay;
+pub use standing::{Asked, Standing};
 pub use whole::replay;

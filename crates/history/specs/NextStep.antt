@@ -1,0 +1,34 @@
+-- The step that leads a caller on towards its reply while nobody else moves.
+use Rattle.std.specs.Prelude.{ℕ, zero, suc, Bool, nat_le, Option, Some, None, is_some, if◌then◌else◌}
+use Rattle.interleavings.specs.declared.event.Event.{Event}
+use Rattle.interleavings.specs.declared.event.Event.TheVariants as event
+use Rattle.interleavings.specs.World.{Size, World}
+use Rattle.history.specs.declared.standing.Asked.TheVariants.{Write, Read, ReadAt, Compaction}
+use Rattle.history.specs.declared.standing.Standing.{Standing}
+use Rattle.history.specs.declared.standing.Standing.TheVariants.{Idle, Called, Holding, Drawn, Waiting, Reading, Gone, Left}
+use Rattle.history.specs.Standing.{standing_of}
+
+-- A caller that waits has its reply once the frontier has come to what it saw. Until then the frontier goes on, where it can.
+abbrev pub step_in_wait : (frontier : ℕ) → (can_rise : Bool) → (caller saw : ℕ) → Option Event
+step_in_wait frontier can_rise c saw = if nat_le saw frontier then Some (event.Reply c) else if can_rise then Some event.Raise else None
+
+abbrev pub goes_on : (is_held : ℕ → Bool) → (frontier : ℕ) → (can_rise : Bool) → (caller : ℕ) → Standing → Option Event
+goes_on is_held frontier can_rise c Idle = None
+goes_on is_held frontier can_rise c (Called (Write shard)) = if is_held shard then None else Some (event.Check c)
+goes_on is_held frontier can_rise c (Called Read) = Some (event.Read c)
+goes_on is_held frontier can_rise c (Called ReadAt) = Some (event.ReadAt c)
+goes_on is_held frontier can_rise c (Called Compaction) = Some (event.Compact c)
+goes_on is_held frontier can_rise c (Holding shard) = Some (event.Reserve c)
+goes_on is_held frontier can_rise c (Drawn number shard) = Some (event.Publish c)
+goes_on is_held frontier can_rise c (Waiting saw) = step_in_wait frontier can_rise c saw
+goes_on is_held frontier can_rise c (Reading number shard zero) = Some (event.Reply c)
+goes_on is_held frontier can_rise c (Reading number shard (suc left)) = Some (event.Part c)
+goes_on is_held frontier can_rise c Gone = None
+goes_on is_held frontier can_rise c (Left number shard) = None
+
+-- the number behind the frontier is filled
+abbrev pub can_rise : World → Bool
+can_rise w = is_some (w.log w.frontier)
+
+abbrev pub next_step : Size → World → (caller : ℕ) → Option Event
+next_step z w c = goes_on (λ s. is_some (w.holder s)) w.frontier (can_rise w) c (standing_of z.shards (w.phase c))

@@ -1,0 +1,50 @@
+-- Where a caller stands, as far as its next step goes.
+use Rattle.std.specs.Prelude.{ℕ, suc, length, Option, Some, None}
+use Rattle.objects.specs.ShardOf.{shard_of}
+use Rattle.plain_store.specs.Route.{Route, compacts, gets, lists, lists_at, route, writes}
+use Rattle.interleavings.specs.World as world
+use Rattle.history.specs.declared.phase.Phase.{Phase as CodePhase}
+use Rattle.history.specs.declared.phase.Phase.TheVariants as code
+use Rattle.history.specs.declared.standing.Asked.{Asked}
+use Rattle.history.specs.declared.standing.Asked.TheVariants.{Write, Read, ReadAt, Compaction}
+use Rattle.history.specs.declared.standing.Standing.{Standing}
+use Rattle.history.specs.declared.standing.Standing.TheVariants.{Idle, Called, Holding, Drawn, Waiting, Reading, Gone, Left}
+
+-- which step a request begins with, where there are so many shards
+abbrev pub asked : (shards : ℕ) → Route → Asked
+asked n (writes k) = Write (shard_of k n)
+asked n (gets k) = Read
+asked n (lists kind namespace) = Read
+asked n (lists_at kind namespace number) = ReadAt
+asked n (compacts to) = Compaction
+
+-- the shard that alone answers a read, if one does
+abbrev pub one_shard : (shards : ℕ) → Route → Option ℕ
+one_shard n (gets k) = Some (shard_of k n)
+one_shard n (writes k) = None
+one_shard n (lists kind namespace) = None
+one_shard n (lists_at kind namespace number) = None
+one_shard n (compacts to) = None
+
+-- a number is its index and one
+abbrev pub standing_of : (shards : ℕ) → world.Phase → Standing
+standing_of n world.Idle = Idle
+standing_of n (world.Called place r) = Called (asked n (route r))
+standing_of n (world.Holding t) = Holding (shard_of t.key n)
+standing_of n (world.Drawn d) = Drawn (suc d.index) (shard_of d.writing.key n)
+standing_of n (world.Waiting saw place reply) = Waiting saw
+standing_of n (world.Reading number place r parts found) = Reading number (one_shard n (route r)) (length parts)
+standing_of n (world.Gone None) = Gone
+standing_of n (world.Gone (Some d)) = Left (suc d.index) (shard_of d.writing.key n)
+
+-- ---- for private clauses: the same of a phase as the program holds it
+abbrev pub standing_in : (shards : ℕ) → CodePhase → Standing
+standing_in n code.Idle = Idle
+standing_in n (code.Called place r) = Called (asked n (route r))
+standing_in n (code.Holding t) = Holding (shard_of t.key n)
+standing_in n (code.Drawn d) = Drawn (suc d.index) (shard_of d.writing.key n)
+standing_in n (code.Waiting saw place reply) = Waiting saw
+standing_in n (code.Reading number place r left) = Reading number (one_shard n (route r)) left
+standing_in n code.Gone = Gone
+standing_in n (code.Left d) = Left (suc d.index) (shard_of d.writing.key n)
+standing_in n code.Dropped = Gone

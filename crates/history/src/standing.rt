@@ -1,0 +1,171 @@
+// Where callers stand between two events.
+ghost use Rattle.std.specs.Prelude.{◌≡◌, ◌<◌, ℕ, List, length};
+ghost use Rattle.plain_store.specs.Route.{route};
+ghost use Rattle.history.specs.Replayed.{Stands, phase_at};
+ghost use Rattle.history.specs.Standing.{asked, one_shard, standing_in, standing_of};
+ghost use Rattle.history.specs.After.{IsAfter};
+ghost use Rattle.interleavings.specs.declared.event.Event.{Event};
+ghost use Rattle.interleavings.specs.Trace.{after};
+ghost use Rattle.interleavings.specs.World.{Size, opening};
+
+use crate::machine::Machine;
+use crate::phase::Phase;
+use crate::replaying::Replay;
+use requests::Request;
+
+/// Where a caller stands, as far as its next step goes. A shard is named by its index.
+#[derive(Clone, Copy)]
+pub enum Standing {
+    /// It asks for nothing.
+    Idle,
+    /// It has called a request, and has made no step of it.
+    Called(Asked),
+    /// Its write holds the shard of its key, and has drawn no number.
+    Holding {
+        shard: usize,
+    },
+    /// Its write has drawn a number, and holds its shard until that is published.
+    Drawn {
+        number: u64,
+        shard: usize,
+    },
+    /// Its reply waits until the frontier has come to what it saw.
+    Waiting {
+        saw: u64,
+    },
+    /// It reads at the number, and so many shards have still to answer: of a get the one that it names, of a list the last
+    /// ones of all.
+    Reading {
+        number: u64,
+        shard: Option<usize>,
+        left: usize,
+    },
+    /// It crashed.
+    Gone,
+    /// It crashed once its write had drawn a number, which is still to be published.
+    Left {
+        number: u64,
+        shard: usize,
+    },
+}
+
+/// Which step a request begins with.
+#[derive(Clone, Copy)]
+pub enum Asked {
+    /// A write: the check, in the shard of its key.
+    Write { shard: usize },
+    /// A get or a list of now.
+    Read,
+    /// A list at an exact resource version.
+    ReadAt,
+    /// A compaction.
+    Compaction,
+}
+
+impl Machine {
+    /// Where the caller stands.
+    pub(crate) fn standing(&self, caller: u64) -> Standing
+        requires { Stands self.now }
+        ensures { result ≡ standing_in (length self.now.shards.items) (phase_at self.now.callers caller) }
+    {
+        match self.callers.phase(caller) {
+            None | Some(Phase::Idle) => Standing::Idle,
+            Some(Phase::Called { place: _, request }) => Standing::Called(self.asked(request)),
+            Some(Phase::Holding(writing)) => Standing::Holding {
+                shard: self.shard_of(&writing.key),
+            },
+            Some(Phase::Drawn(draw)) => Standing::Drawn {
+                number: draw.index as u64 + 1,
+                shard: self.shard_of(&draw.writing.key),
+            },
+            Some(
+                Phase::Waiting {
+                    saw,
+                    place: _,
+                    reply: _,
+                },
+            ) => Standing::Waiting { saw: *saw },
+            Some(
+                Phase::Reading {
+                    number,
+                    place: _,
+                    request,
+                    left,
+                },
+            ) => Standing::Reading {
+                number: *number,
+                shard: self.one_shard(request),
+                left: *left,
+            },
+            Some(Phase::Gone | Phase::Dropped) => Standing::Gone,
+            Some(Phase::Left(draw)) => Standing::Left {
+                number: draw.index as u64 + 1,
+                shard: self.shard_of(&draw.writing.key),
+            },
+        }
+    }
+
+    #[tactic(auto, unfolding(plain_store::specs::Route::route))]
+    fn asked(&self, request: &Request) -> Asked
+        requires { 0 < length self.now.shards.items }
+        ensures { result ≡ asked (length self.now.shards.items) (route request.now) }
+    {
+        match request {
+            Request::Create(draft) | Request::Update(draft) | Request::UpdateStatus(draft) => {
+                Asked::Write {
+                    shard: self.shard_of(&draft.object.key),
+                }
+            }
+            Request::Delete {
+                key,
+                uid: _,
+                version: _,
+                at: _,
+            } => Asked::Write {
+                shard: self.shard_of(key),
+            },
+            Request::Get(_) => Asked::Read,
+            Request::List {
+                kind: _,
+                namespace: _,
+                exact,
+            } => {
+                if *exact == 0 {
+                    Asked::Read
+                } else {
+                    Asked::ReadAt
+                }
+            }
+            Request::Compact { to: _ } => Asked::Compaction,
+        }
+    }
+
+    /// The shard that answers a get.
+    #[tactic(auto, unfolding(plain_store::specs::Route::route))]
+    fn one_shard(&self, request: &Request) -> Option<usize>
+        requires { 0 < length self.now.shards.items }
+        ensures { result ≡ one_shard (length self.now.shards.items) (route request.now) }
+    {
+        match request {
+            Request::Get(key) => Some(self.shard_of(key)),
+            _ => None,
+        }
+    }
+}
+
+impl Replay {
+    /// Where the caller stands.
+    pub fn standing(&self, caller: u64) -> Standing
+        ensures { (size : Size) (events : List Event) → IsAfter size events self.now
+            → result ≡ standing_of size.shards ((after size opening events).phase caller) }
+    {
+        self.machine.standing(caller)
+    }
+
+    /// The frontier: all numbers up to it are filled, and reads of now begin at it.
+    pub fn frontier(&self) -> u64
+        ensures { (size : Size) (events : List Event) → IsAfter size events self.now → result ≡ (after size opening events).frontier }
+    {
+        self.machine.frontier
+    }
+}
