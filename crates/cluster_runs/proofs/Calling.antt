@@ -12,7 +12,7 @@ use Rattle.interleavings.proofs.Basics.{Compared, Least, above, atmost, compare,
 use Rattle.history.proofs.Stepping.{lt_false, lt_true}
 use Rattle.rounds.specs.Transcript.{Life}
 use Rattle.rounds.specs.World.{put}
-use Rattle.clusters.specs.Cluster.{Cluster, first_life, is_used, life_after, start, with_crash}
+use Rattle.clusters.specs.Cluster.{Cluster, first_life, is_used, life_after, lowest_unused, start, with_crash}
 use Rattle.clusters.proofs.Kept.{among, put_other, put_same}
 use Rattle.cluster_runs.specs.Callers.{AreCallers, HoldsCallers, owner}
 use Rattle.cluster_runs.specs.Ran.{owner_in}
@@ -56,6 +56,13 @@ module _ (count : ℕ) (k : Cluster) (callers : Callers) (are : AreCallers count
   -- where each of the lowest callers was used, there are as many
   pub all_used : ((m : ℕ) → callers.unused ≤ m → m < 4096 → is_some (get nat_cmp callers.owners m) ≡ true) → 4096 < suc (length k.used)
   all_used others = let many = as_many 4096 k.used (used_below 4096 others) in omega (arith, many)
+
+  -- one caller beyond the most that may be used was not used
+  pub none_left : ((m : ℕ) → callers.unused ≤ m → m < 4097 → is_some (get nat_cmp callers.owners m) ≡ true) → ⊥
+  none_left others = let many = as_many 4097 k.used (used_below 4097 others) in let most = are.few in absurd (omega (arith, many, most))
+
+  pub lowest_here : (n : ℕ) → get nat_cmp callers.owners n ≡ None → ((m : ℕ) → callers.unused ≤ m → m < n → is_some (get nat_cmp callers.owners m) ≡ true) → n ≡ lowest_unused k
+  lowest_here n none others = sym (lowest_is k n (unused_lowest n none) (used_below n others))
 
 -- ---- one caller more
 

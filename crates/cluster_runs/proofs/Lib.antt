@@ -3,3 +3,6 @@ pub mod Naming
 pub mod Lowest
 pub mod Calling
 pub mod Showing
+pub mod Leading
+pub mod Parts
+pub mod Turning

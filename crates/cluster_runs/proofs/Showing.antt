@@ -288,7 +288,7 @@ module _ {X : Type 0} (reconciler : X → Reconciler) (phase : X → Phase) (is_
 
   -- ---- a controller calls
 
-  not_idle : (ph : world.Phase) → ph ≢ Idle → is_idle ph ≡ false
+  pub not_idle : (ph : world.Phase) → ph ≢ Idle → is_idle ph ≡ false
   not_idle Idle busy = absurd (busy refl)
   not_idle ph busy = refl
 
@@ -316,6 +316,24 @@ module _ {X : Type 0} (reconciler : X → Reconciler) (phase : X → Phase) (is_
             (λ d less apart v stands. stands_on z k.events call (reconcilers d) (k.phases d) (k.callers d) v
             (λ free. others_stay z (after z opening k.events) call (k.callers d) (λ f. apart_by (length xs) k old shows.0.1 c d low less apart (sym (same_Some _ _ f))) ∙ free) stands) shows.1,
       )
+
+  -- a controller that says what it asks next, and calls nothing
+  pub peeked_shows : (z : Size) (reconcilers : ℕ → Reconciler) (k : Cluster) (program : Program) (xs : List X) (c : ℕ) (x y : X) → slice_get xs c ≡ Some x
+      → reconciler y ≡ reconciler x → phase y ≡ phase x → is_waiting y ≡ true → Shown z reconcilers k program xs → Shown z reconcilers k program (slice_set xs c y)
+  peeked_shows z reconcilers k program xs c x y there kept stays waits shows =
+      let was = stands_in z reconcilers k program xs c x there shows in (
+        subst (λ n. IsCluster z n k program) (sym (length-set xs c y)) shows.0,
+        standing_at z k.events k.events reconcilers k.phases k.phases k.callers k.callers xs c x y there
+            (record { reconciler_is = kept ∙ was.reconciler_is; phase_is = stays ∙ was.phase_is; waits = λ busy. waits }) (λ d less apart v stands. stands) shows.1,
+      )
+
+  pub asked_is : (z : Size) (reconcilers : ℕ → Reconciler) (k : Cluster) (program : Program) (xs : List X) (c : ℕ) (x : X) (r : Request) → slice_get xs c ≡ Some x
+      → r ≡ asks (reconciler x) (phase x) → Shown z reconcilers k program xs → r ≡ asks (reconcilers c) (k.phases c)
+  asked_is z reconcilers k program xs c x r there next shows =
+      let stood = stands_in z reconcilers k program xs c x there shows in
+      let one : reconciler x ≡ reconcilers c = stood.reconciler_is in
+      let two : phase x ≡ k.phases c = stood.phase_is in
+      cc
 
   pub calls_next : (z : Size) (reconcilers : ℕ → Reconciler) (k : Cluster) (program : Program) (xs : List X) (c : ℕ) (x : X) (n : ℕ) (r : Request) → slice_get xs c ≡ Some x
       → n ≡ k.callers c → r ≡ asks (reconciler x) (phase x) → Shown z reconcilers k program xs → event.Call n r ≡ event.Call (k.callers c) (asks (reconcilers c) (k.phases c))
@@ -445,7 +463,7 @@ module _ {X : Type 0} (reconciler : X → Reconciler) (phase : X → Phase) (is_
 
   -- ---- a reply
 
-  told_is : (z : Size) (events : List Event) (n : ℕ) (reply : Option Reply) → IsReplyTo z events (event.Reply n) reply → told z events (event.Reply n) ≡ reply
+  pub told_is : (z : Size) (events : List Event) (n : ℕ) (reply : Option Reply) → IsReplyTo z events (event.Reply n) reply → told z events (event.Reply n) ≡ reply
   unfolding told
   told_is z events n None is = ap (λ l. reply_in (drop (length (trace z events)) l)) is ∙ ap reply_in (drop-append_seam (trace z events) [])
   told_is z events n (Some reply) is = ap (λ l. reply_in (drop (length (trace z events)) l)) is ∙ ap reply_in (drop-append_seam (trace z events) (told_at (length events) n (Some reply)))
@@ -525,7 +543,7 @@ module _ {X : Type 0} (reconciler : X → Reconciler) (phase : X → Phase) (is_
 
 -- ---- a whole run
 
-run-append : (z : Size) (count : ℕ) (reconcilers : ℕ → Reconciler) (k : Cluster) (es fs : List ClusterEvent)
+pub run-append : (z : Size) (count : ℕ) (reconcilers : ℕ → Reconciler) (k : Cluster) (es fs : List ClusterEvent)
     → run z count reconcilers k (es ++ fs) ≡ run z count reconcilers (run z count reconcilers k es) fs
 run-append z count reconcilers k [] fs = refl
 run-append z count reconcilers k (e ∷ es) fs = run-append z count reconcilers (happens z count reconcilers k e) es fs
@@ -598,7 +616,7 @@ happens_grows z count reconcilers k (Outside n r) = outside_grows k n r (k.lives
 happens_grows z count reconcilers k (Step e) = step_grows z reconcilers k e
 happens_grows z count reconcilers k (Crash c) = used_if (nat_lt c count) k (with_crash k c) (omega arith)
 
-run_grows : (z : Size) (count : ℕ) (reconcilers : ℕ → Reconciler) (k : Cluster) (es : List ClusterEvent) → length k.used ≤ length (run z count reconcilers k es).used
+pub run_grows : (z : Size) (count : ℕ) (reconcilers : ℕ → Reconciler) (k : Cluster) (es : List ClusterEvent) → length k.used ≤ length (run z count reconcilers k es).used
 run_grows z count reconcilers k [] = omega arith
 run_grows z count reconcilers k (e ∷ es) =
     let one = happens_grows z count reconcilers k e in let rest = run_grows z count reconcilers (happens z count reconcilers k e) es in omega (arith, one, rest)

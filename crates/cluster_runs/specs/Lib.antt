@@ -1,6 +1,8 @@
 -- ---- what public clauses cite
 pub mod Faults
 pub mod Ran
+pub mod Turns
 -- ---- what only proofs use
 pub mod Callers
+pub mod Leading
 pub mod Shown

@@ -1,8 +1,9 @@
 -- What the program holds of a cluster, and what one event does to it.
-use Rattle.std.specs.Prelude.{◌≡◌, ◌≢◌, ◌==◌, ◌<◌, ◌++◌, ◌∷◌, [], ℕ, Bool, true, false, List, length, map, Option, Some, slice_get, slice_set, IfSome}
+use Rattle.std.specs.Prelude.{◌≡◌, ◌≢◌, ◌==◌, ◌<◌, ◌++◌, ◌∷◌, [], ℕ, Bool, true, false, List, length, map, Option, Some, None, slice_get, slice_set, IfSome, if◌then◌else◌}
 use Rattle.std.specs.List.{AllByRecursion, list_any}
 use Rattle.requests.specs.declared.reply.Reply.{Reply}
 use Rattle.interleavings.specs.declared.event.Event.{Event}
+use Rattle.interleavings.specs.declared.event.Event.TheVariants as event
 use Rattle.interleavings.specs.Trace.{after}
 use Rattle.interleavings.specs.World.{Idle, Size, opening}
 use Rattle.history.specs.After.{IsAfter}
@@ -11,7 +12,7 @@ use Rattle.history.specs.declared.replaying.Replay.{Replay}
 use Rattle.rounds.specs.Phase.{Phase, takes}
 use Rattle.rounds.specs.Reconciler.{Reconciler}
 use Rattle.clusters.specs.declared.event.ClusterEvent.{ClusterEvent}
-use Rattle.clusters.specs.Cluster.{Cluster, happens}
+use Rattle.clusters.specs.Cluster.{Cluster, happens, is_used, told}
 use Rattle.cluster_runs.specs.declared.cluster.Cluster.{Cluster as Program}
 use Rattle.cluster_runs.specs.Callers.{AreCallers}
 
@@ -57,6 +58,11 @@ module _ {X : Type 0} (reconciler : X → Reconciler) (phase : X → Phase) (is_
   abbrev pub Happens : ClusterEvent → (old new : Program) → (before now : List X) → Type 0
   Happens e old new before now = (z : Size) (reconcilers : ℕ → Reconciler) (k : Cluster) → Shows z reconcilers k old before
       → Shows z reconcilers (happens z (length before) reconcilers k e) new now
+
+  -- what the caller is told by its reply
+  abbrev pub Tells : (caller : ℕ) → Option Reply → Program → List X → Type 0
+  Tells n reply old before = (z : Size) (reconcilers : ℕ → Reconciler) (k : Cluster) → Shows z reconcilers k old before
+      → (if is_used k n then told z k.events (event.Reply n) else None) ≡ reply
 
   -- more callers are used than there may be
   abbrev pub Exceeds : ClusterEvent → Program → List X → Type 0

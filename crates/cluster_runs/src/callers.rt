@@ -97,7 +97,7 @@ impl Callers {
             → (count : ℕ) (k : Cluster) → AreCallers count k self.old → 4096 < length (with_crash k number).used }
         ensures reasons { IfErr result IsShort }
     {
-        let Some(caller) = self.lowest_unused() else {
+        let Some(caller) = self.unused_below(MAX_CALLERS as u64) else {
             return Err(ClusterFault::TooManyCallers);
         };
         self.put(caller, Some(number))?;
@@ -106,14 +106,21 @@ impl Callers {
         Ok(())
     }
 
-    /// The lowest caller that was not used, if it is below the most that may be.
-    fn lowest_unused(&self) -> Option<u64>
+    /// The lowest caller that was not used, if it is below the limit.
+    fn unused_below(&self, limit: u64) -> Option<u64>
         ensures fresh { IfSome result (λ n. get nat_cmp self.now.owners n ≡ None) }
         ensures lowest { IfSome result (λ n. (m : ℕ) → self.now.unused ≤ m → m < n → is_some (get nat_cmp self.now.owners m) ≡ true) }
-        ensures none { result ≡ None → (m : ℕ) → self.now.unused ≤ m → m < 4096 → is_some (get nat_cmp self.now.owners m) ≡ true }
+        ensures none { result ≡ None → (m : ℕ) → self.now.unused ≤ m → m < limit → is_some (get nat_cmp self.now.owners m) ≡ true }
     {
-        let limit = MAX_CALLERS as u64;
         (self.unused..limit).find(|caller| !self.owners.contains_key(caller))
+    }
+
+    /// The lowest caller that was not used. There is one: no more than the most were used.
+    pub(crate) fn fresh(&self) -> Option<u64>
+        ensures lowest { IfSome result (λ n. (count : ℕ) (k : Cluster) → AreCallers count k self.now → n ≡ lowest_unused k) }
+        ensures there { result ≡ None → (count : ℕ) (k : Cluster) → AreCallers count k self.now → ⊥ }
+    {
+        self.unused_below(MAX_CALLERS as u64 + 1)
     }
 
     /// Uses a caller that was not used.

@@ -5,10 +5,10 @@ ghost use Rattle.interleavings.specs.World.{Size};
 ghost use Rattle.history.specs.After.{IsAfter, IsReplyTo};
 ghost use Rattle.history.specs.Named.{callers};
 ghost use Rattle.history.specs.Replayed.{named_by};
-ghost use Rattle.clusters.specs.declared.event.ClusterEvent.TheVariants.{Next, Step, Crash};
+ghost use Rattle.clusters.specs.declared.event.ClusterEvent.TheVariants.{Next, Outside, Step, Crash};
 ghost use Rattle.clusters.specs.Cluster.{controller_at, hand_if, is_nobody, is_used, with_outside};
 ghost use Rattle.cluster_runs.specs.Faults.{IsShort};
-ghost use Rattle.cluster_runs.specs.Shown.{Becomes, Exceeds, Follows, Hands, Happens, Hears, Overfills, Stay};
+ghost use Rattle.cluster_runs.specs.Shown.{Becomes, Exceeds, Follows, Hands, Happens, Hears, Overfills, Stay, Tells};
 ghost use Rattle.cluster_runs.specs.declared.fault.ClusterFault.TheVariants.{Memory as OutOfMemory};
 
 use crate::cluster::Cluster;
@@ -42,7 +42,7 @@ impl Cluster {
                 }
                 Ok(())
             }
-            ClusterEvent::Outside(caller, request) => self.call_outside(*caller, request),
+            ClusterEvent::Outside(caller, request) => self.outside(controllers, *caller, request),
             ClusterEvent::Step(event) => self.step(controllers, event),
             ClusterEvent::Crash(number) => {
                 if *number < controllers.len() {
@@ -54,7 +54,7 @@ impl Cluster {
     }
 
     /// The controller calls its next request, if its caller is idle.
-    fn call_next<C: Reconcile>(
+    pub(crate) fn call_next<C: Reconcile>(
         &mut self,
         controllers: &mut [C],
         number: usize,
@@ -76,6 +76,27 @@ impl Cluster {
         }
         let request = controllers[number].next()?;
         self.hand_quietly(Event::Call(caller, request))
+    }
+
+    /// Somebody else calls, beside the controllers.
+    pub(crate) fn outside<C: Reconcile>(
+        &mut self,
+        controllers: &mut [C],
+        caller: u64,
+        request: &Request,
+    ) -> Result<(), ClusterFault>
+        requires present { length controllers.old ≡ length self.old.callers.present.items }
+        requires follows { Follows self.old }
+        ensures many { length controllers.new ≡ length controllers.old }
+        ensures present { length self.new.callers.present.items ≡ length self.old.callers.present.items }
+        ensures follows { OnOk result (Follows self.new) }
+        ensures shows { OnOk result (Happens C.reconciler C.phase C.is_waiting (Outside caller request.now) self.old self.new controllers.old controllers.new) }
+        ensures stays { OnErr result (Stay C.reconciler C.phase controllers.old controllers.new) }
+        ensures too_many { IsErrOf result ClusterFault.TooManyCallers → Exceeds C.reconciler C.phase C.is_waiting (Outside caller request.now) self.old controllers.old }
+        ensures reasons { IfErr result IsShort }
+    {
+        let _ = controllers.len();
+        self.call_outside(caller, request)
     }
 
     /// Somebody else calls, by a caller that no controller is or was.
@@ -121,7 +142,7 @@ impl Cluster {
     }
 
     /// A step of the store.
-    fn step<C: Reconcile>(
+    pub(crate) fn step<C: Reconcile>(
         &mut self,
         controllers: &mut [C],
         event: &Event,
@@ -168,15 +189,47 @@ impl Cluster {
             → Exceeds C.reconciler C.phase C.is_waiting (Step (event.Reply caller)) self.old controllers.old }
         ensures reasons { IfErr result IsShort }
     {
+        match self.tell(controllers, caller) {
+            Ok(told) => {
+                drop(told);
+                Ok(())
+            }
+            Err(fault) => Err(fault),
+        }
+    }
+
+    /// The same, and what it was told.
+    pub(crate) fn tell<C: Reconcile>(
+        &mut self,
+        controllers: &mut [C],
+        caller: u64,
+    ) -> Result<Option<Reply>, ClusterFault>
+        requires present { length controllers.old ≡ length self.old.callers.present.items }
+        requires follows { Follows self.old }
+        ensures many { length controllers.new ≡ length controllers.old }
+        ensures present { length self.new.callers.present.items ≡ length self.old.callers.present.items }
+        ensures follows { OnOk result (Follows self.new) }
+        ensures shows { OnOk result (Happens C.reconciler C.phase C.is_waiting (Step (event.Reply caller)) self.old self.new controllers.old controllers.new) }
+        ensures told { IfOk result (λ told. Tells C.reconciler C.phase C.is_waiting caller told self.old controllers.old) }
+        ensures stays { OnErr result (Stay C.reconciler C.phase controllers.old controllers.new) }
+        ensures too_many { IsErrOf result ClusterFault.TooManyCallers
+            → Exceeds C.reconciler C.phase C.is_waiting (Step (event.Reply caller)) self.old controllers.old }
+        ensures reasons { IfErr result IsShort }
+    {
         if !self.callers.is_used(caller) {
-            return Ok(());
+            return Ok(None);
         }
         let controller = self.callers.controller_at(caller);
         let told = self.hand(Event::Reply(caller))?;
         let heard = hear(controllers, controller, &told);
-        // Let go by name, which is proved once for the type and not at each way out.
-        drop(told);
-        heard
+        match heard {
+            Ok(()) => Ok(told),
+            Err(fault) => {
+                // Let go by name, which is proved once for the type and not at each way out.
+                drop(told);
+                Err(fault)
+            }
+        }
     }
 
     /// A caller that was used goes on.

@@ -63,7 +63,7 @@ pub fn run_cluster(
 }
 
 /// A controller for each of these.
-fn controllers_of(alloc: Global, sets: &[SetSpec]) -> Result<Vec<Controller>, Memory>
+pub(crate) fn controllers_of(alloc: Global, sets: &[SetSpec]) -> Result<Vec<Controller>, Memory>
     ensures made { IfOk result (λ controllers. map reconciler_of controllers.items ≡ map reconciler_for sets.now) }
     ensures begun { IfOk result (λ controllers. AllByRecursion (λ c. (phase_of c ≡ reading_set)) controllers.items) }
 {

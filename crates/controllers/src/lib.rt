@@ -2,6 +2,7 @@
 //! leader.
 #![tactic(auto)]
 
+mod by_turns;
 mod cluster;
 mod cluster_spec;
 mod controller;
@@ -14,8 +15,9 @@ mod round;
 mod set_spec;
 mod whole;
 
+pub use by_turns::run_turns;
 pub use cluster::run_cluster;
-pub use cluster_runs::{ClusterFault, ClusterRun};
+pub use cluster_runs::{ClusterFault, ClusterRun, Turn};
 pub use cluster_spec::ClusterSpec;
 pub use clusters::ClusterEvent;
 pub use controller::Controller;

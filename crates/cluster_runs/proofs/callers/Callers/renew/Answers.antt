@@ -7,7 +7,7 @@ use Rattle.cluster_runs.proofs.Lowest.{lowest_is}
 use Rattle.cluster_runs.proofs.callers.Callers.renew.Goals as goal
 
 pub returns-in_default-clause-too_many : goal.returns-in_default-clause-too_many
-returns-in_default-clause-too_many c = λ failed count k are. all_used count k c.args.self.now are (c.lowest_unused.ensures.none c.in_default.is)
+returns-in_default-clause-too_many c = λ failed count k are. all_used count k c.args.self.now are (c.unused_below.ensures.none c.in_default.is)
 
 pub returns-clause-callers : goal.returns-clause-callers
 returns-clause-callers c = λ count k are.

@@ -3,7 +3,7 @@ use Rattle.std.specs.Prelude.{IfSome, is_some}
 use Rattle.std.specs.BTreeMap.{get}
 use Rattle.std.specs.Ordering.{nat_cmp}
 use Rattle.std.proofs.lemmas.Iterator.{first_from_Range}
-use Rattle.cluster_runs.proofs.callers.Callers.lowest_unused.Goals as goal
+use Rattle.cluster_runs.proofs.callers.Callers.unused_below.Goals as goal
 
 some_of : (A : Type 0) (B E : ℕ → Type 0) (r : Option ℕ) → MatchOption r A B → ((n : ℕ) → B n → E n) → IfSome r E
 some_of A B E None found goes = tt

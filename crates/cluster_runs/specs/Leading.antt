@@ -1,0 +1,60 @@
+-- How the program goes along a course.
+use Rattle.std.specs.Prelude.{◌≡◌, ◌<◌, ◌++◌, ℕ, Bool, List, length}
+use Rattle.interleavings.specs.World.{Size}
+use Rattle.rounds.specs.Phase.{Phase}
+use Rattle.rounds.specs.Reconciler.{Reconciler}
+use Rattle.rounds.specs.World.{StandAt}
+use Rattle.clusters.specs.declared.event.ClusterEvent.{ClusterEvent}
+use Rattle.clusters.specs.Cluster.{Cluster, run}
+use Rattle.cluster_runs.specs.Shown.{Shows}
+use Rattle.cluster_runs.specs.Turns.{Course, ends_with, is_within}
+use Rattle.cluster_runs.specs.declared.carrying.Advance.{Advance}
+use Rattle.cluster_runs.specs.declared.carrying.Advance.TheVariants.{On, Over}
+use Rattle.cluster_runs.specs.declared.cluster.Cluster.{Cluster as Program}
+use Rattle.cluster_runs.specs.declared.fault.ClusterFault.{ClusterFault}
+use Rattle.cluster_runs.specs.declared.fault.ClusterFault.TheVariants.{TooManyCallers}
+
+-- what is said of a cluster
+abbrev pub Claim : Type 1
+Claim = Size → ℕ → (ℕ → Reconciler) → Cluster → Type 0
+
+-- Some first events of the course lead to a cluster of which the claim holds, and what is left of the course.
+pub record HasCome (claim : Claim) (z : Size) (count : ℕ) (reconcilers : ℕ → Reconciler) (k : Cluster) (whole left : Course) : Type 0 where
+  pub done : List ClusterEvent
+  pub whole_is : (whole z count reconcilers k).0 ≡ done ++ (left z count reconcilers (run z count reconcilers k done)).0
+  pub told_is : (whole z count reconcilers k).1 ≡ (left z count reconcilers (run z count reconcilers k done)).1
+  pub holds : claim z count reconcilers (run z count reconcilers k done)
+
+-- more callers are used than there may be
+abbrev pub Overruns : ClusterFault → Course → Claim
+Overruns fault left z count reconcilers k = fault ≡ TooManyCallers → 4096 < length (run z count reconcilers k (left z count reconcilers k).0).used
+
+module _ {X : Type 0} (reconciler : X → Reconciler) (phase : X → Phase) (is_waiting : X → Bool) where
+  abbrev pub Comes : Claim → (whole left : Course) → Program → List X → Type 0
+  Comes claim whole left old before = (z : Size) (reconcilers : ℕ → Reconciler) (k : Cluster) → Shows reconciler phase is_waiting z reconcilers k old before
+      → HasCome claim z (length before) reconcilers k whole left
+
+  -- what is shown has gone so far
+  abbrev pub IsShownAs : Program → List X → Claim
+  IsShownAs program xs z count reconcilers k = Shows reconciler phase is_waiting z reconcilers k program xs
+
+  abbrev pub Leads : (whole left : Course) → (old new : Program) → (before now : List X) → Type 0
+  Leads whole left old new before now = Comes (IsShownAs new now) whole left old before
+
+  -- At a fault the controllers stand where some first events left them.
+  abbrev pub StandsStill : ClusterFault → Course → List X → Claim
+  StandsStill fault left xs z count reconcilers k = StandAt reconciler phase xs reconcilers k.phases × Overruns fault left z count reconcilers k
+
+  abbrev pub Halts : ClusterFault → Course → Program → (before now : List X) → Type 0
+  Halts fault whole old before now = (left : Course) × Comes (StandsStill fault left now) whole left old before
+
+-- Whether the round of the controller goes on is known, and it stands where it stood.
+module _ {X : Type 0} (reconciler : X → Reconciler) (phase : X → Phase) (is_waiting : X → Bool) where
+  abbrev pub Peeks : (controller : ℕ) → Bool → Program → (before now : List X) → Type 0
+  Peeks c within program before now = (z : Size) (reconcilers : ℕ → Reconciler) (k : Cluster) → Shows reconciler phase is_waiting z reconcilers k program before
+      → (is_within z reconcilers k c ≡ within) × Shows reconciler phase is_waiting z reconcilers k program now
+
+-- what is left after a step
+abbrev pub after_step : Advance → (next : Course) → Course
+after_step On next = next
+after_step (Over told) next = ends_with told

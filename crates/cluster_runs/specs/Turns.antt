@@ -1,0 +1,162 @@
+-- The events that short lines of a script stand for: each time those that come next, given the cluster as the ones before left it.
+use Rattle.std.specs.Prelude.{ℕ, zero, suc, Bool, true, false, not, ◌&&◌, nat_lt, List, [], ◌∷◌, ◌++◌, Option, Some, None, if◌then◌else◌}
+use Rattle.std.specs.List.{range_with_len}
+use Rattle.objects.specs.declared.kind.Kind.TheVariants.{Pod}
+use Rattle.requests.specs.declared.reply.Reply.{Reply}
+use Rattle.requests.specs.declared.reply.Reply.TheVariants as reply
+use Rattle.requests.specs.declared.request.Request.{Request}
+use Rattle.requests.specs.declared.request.Request.TheVariants as request
+use Rattle.interleavings.specs.declared.event.Event.{Event}
+use Rattle.interleavings.specs.declared.event.Event.TheVariants as event
+use Rattle.interleavings.specs.Trace.{after}
+use Rattle.interleavings.specs.World.{Size, opening}
+use Rattle.history.specs.NextStep.{next_step}
+use Rattle.kubelet.specs.Kubelet.{kubelet_asks_all}
+use Rattle.rounds.specs.Phase.{asks}
+use Rattle.rounds.specs.Reconciler.{Reconciler}
+use Rattle.clusters.specs.declared.event.ClusterEvent.{ClusterEvent}
+use Rattle.clusters.specs.declared.event.ClusterEvent.TheVariants.{Next, Outside, Step}
+use Rattle.clusters.specs.Cluster.{Cluster, happens, is_idle, is_used, lowest_unused, run, start, told}
+use Rattle.cluster_runs.specs.declared.turn.Turn.{Turn}
+use Rattle.cluster_runs.specs.declared.turn.Turn.TheVariants as turn
+
+-- the events that are to come, by the cluster that they find, and the reply that ends them, if one does
+abbrev pub Course : Type 0
+Course = Size → ℕ → (ℕ → Reconciler) → Cluster → List ClusterEvent × Option Reply
+
+abbrev pub ends_with : Option Reply → Course
+ends_with reply = λ z count reconcilers k. ([], reply)
+
+abbrev pub nothing : Course
+nothing = ends_with None
+
+-- one course, and then another over the cluster that it leaves, by the reply that ended it
+abbrev pub followed_by : (first : Course) → (next : Option Reply → Course) → Course
+followed_by first next = λ z count reconcilers k.
+    let one = first z count reconcilers k in
+    let two = next one.1 z count reconcilers (run z count reconcilers k one.0) in
+    (one.0 ++ two.0, two.1)
+
+-- an event, and then a course over the cluster that it leaves
+abbrev pub event_and : ClusterEvent → (next : Course) → Course
+event_and e next = λ z count reconcilers k.
+    let two = next z count reconcilers (happens z count reconcilers k e) in
+    (e ∷ two.0, two.1)
+
+-- ---- run: the steps that carry an open request to its reply while nobody else moves
+abbrev pub reply_of : Event → Option ℕ
+reply_of (event.Reply n) = Some n
+reply_of e = None
+
+-- what is told by the reply to a caller
+abbrev pub reply_to : (caller : ℕ) → Course
+reply_to n = λ z count reconcilers k. (Step (event.Reply n) ∷ [], if is_used k n then told z k.events (event.Reply n) else None)
+
+abbrev pub step_by : Event → (replied : Option ℕ) → (next : Course) → Course
+step_by e (Some n) next = reply_to n
+step_by e None next = event_and (Step e) next
+
+abbrev pub step_and : (step : Option Event) → (next : Course) → Course
+step_and None next = nothing
+step_and (Some e) next = step_by e (reply_of e) next
+
+-- Each is the step that leads the caller on; after its reply there is none, nor where no step leads on.
+unfoldable pub carried_in : (steps caller : ℕ) → Course
+carried_in zero n = nothing
+carried_in (suc steps) n = λ z count reconcilers k. step_and (next_step z (after z opening k.events) n) (carried_in steps n) z count reconcilers k
+
+-- More steps no request takes: a write takes a check, a reserve and a publish, a read one step and one a shard, of which there are
+-- at most 64; then the frontier is raised at most once for each of at most 1,048,576 numbers, and there is a reply.
+abbrev pub most_steps : ℕ
+most_steps = 2097152
+
+unfoldable pub carried : (caller : ℕ) → Course
+carried n = carried_in most_steps n
+
+-- of a controller that is there
+abbrev pub run_of : (controller : ℕ) → Course
+run_of c = λ z count reconcilers k. if nat_lt c count then carried (k.callers c) z count reconcilers k else ([], None)
+
+-- ---- a controller's round
+abbrev pub is_idle_at : Size → Cluster → (caller : ℕ) → Bool
+is_idle_at z k n = is_idle ((after z opening k.events).phase n)
+
+-- the controller calls its next request, which is carried to its reply
+abbrev pub asked : (controller : ℕ) → Course
+asked c = event_and (Next c) (λ z count reconcilers k. carried (k.callers c) z count reconcilers k)
+
+-- a round begins with the read of the set
+abbrev pub begins : Request → Bool
+begins (request.Get k) = true
+begins r = false
+
+-- its reply was given, and the request that it asks next does not begin a round
+abbrev pub is_within : Size → (ℕ → Reconciler) → Cluster → (controller : ℕ) → Bool
+is_within z reconcilers k c = is_idle_at z k (k.callers c) && not (begins (asks (reconcilers c) (k.phases c)))
+
+unfoldable pub round_in : (requests controller : ℕ) → Course
+round_in zero c = nothing
+round_in (suc requests) c =
+    followed_by (asked c) (λ told z count reconcilers k. if is_within z reconcilers k c then round_in requests c z count reconcilers k else ([], None))
+
+-- more requests no round has
+abbrev pub most_requests : ℕ
+most_requests = 4294967296
+
+unfoldable pub round : (controller : ℕ) → Course
+round c = round_in most_requests c
+
+-- one after another
+abbrev pub rounds_of : (controllers : List ℕ) → Course
+rounds_of [] = nothing
+rounds_of (c ∷ cs) = followed_by (round c) (λ told. rounds_of cs)
+
+-- ---- the kubelet's turn: it asks as somebody else, if its caller is idle
+abbrev pub asked_as : (caller : ℕ) → Request → Course
+asked_as n r = λ z count reconcilers k. if is_idle_at z k n then event_and (Outside n r) (carried n) z count reconcilers k else ([], None)
+
+abbrev pub asked_all : (caller : ℕ) → List Request → Course
+asked_all n [] = nothing
+asked_all n (r ∷ rs) = followed_by (asked_as n r) (λ told. asked_all n rs)
+
+-- what it asks after a list
+abbrev pub tends : Option Reply → List Request
+tends (Some (reply.Listed pods at)) = kubelet_asks_all pods
+tends told = []
+
+abbrev pub tended : (caller : ℕ) → (namespace : List ℕ) → Course
+tended n namespace = followed_by (asked_as n (request.List Pod namespace 0)) (λ told. asked_all n (tends told))
+
+abbrev pub tended_all : (caller : ℕ) → (namespaces : List (List ℕ)) → Course
+tended_all n [] = nothing
+tended_all n (s ∷ ss) = followed_by (tended n s) (λ told. tended_all n ss)
+
+-- a request of its last turn that is still open comes first
+abbrev pub kubelet_turn : (caller : ℕ) → (namespaces : List (List ℕ)) → Course
+kubelet_turn n namespaces = followed_by (carried n) (λ told. tended_all n namespaces)
+
+-- ---- settle: each controller makes a round, and then the kubelet a turn, so many times
+abbrev pub settled_once : (kubelet : ℕ) → (namespaces : List (List ℕ)) → Course
+settled_once n namespaces =
+    followed_by (λ z count reconcilers k. rounds_of (range_with_len 0 count) z count reconcilers k) (λ told. kubelet_turn n namespaces)
+
+unfoldable pub settled_as : (rounds kubelet : ℕ) → (namespaces : List (List ℕ)) → Course
+settled_as zero n namespaces = nothing
+settled_as (suc rounds) n namespaces = followed_by (settled_once n namespaces) (λ told. settled_as rounds n namespaces)
+
+abbrev pub settled : (rounds : ℕ) → (namespaces : List (List ℕ)) → Course
+settled rounds namespaces = λ z count reconcilers k. settled_as rounds (lowest_unused k) namespaces z count reconcilers k
+
+-- ---- what turns stand for
+abbrev pub course_of : (namespaces : List (List ℕ)) → Turn → Course
+course_of namespaces (turn.Event e) = event_and e nothing
+course_of namespaces (turn.Run c) = run_of c
+course_of namespaces (turn.Settle rounds) = settled rounds namespaces
+
+abbrev pub course_of_all : (namespaces : List (List ℕ)) → List Turn → Course
+course_of_all namespaces [] = nothing
+course_of_all namespaces (t ∷ ts) = followed_by (course_of namespaces t) (λ told. course_of_all namespaces ts)
+
+-- the events of a whole run, where the controllers' sets have these namespaces
+unfoldable pub events_of_turns : Size → ℕ → (ℕ → Reconciler) → (namespaces : List (List ℕ)) → List Turn → List ClusterEvent
+events_of_turns z count reconcilers namespaces turns = (course_of_all namespaces turns z count reconcilers (start count)).0

@@ -1,0 +1,134 @@
+// A request is carried to its reply.
+ghost use Rattle.std.specs.Prelude.{◌≡◌, ℕ, suc, length, IfOk, IfErr, OnOk};
+ghost use Rattle.cluster_runs.specs.Faults.{IsShort};
+ghost use Rattle.cluster_runs.specs.Leading.{Halts, Leads, after_step};
+ghost use Rattle.cluster_runs.specs.Shown.{Follows};
+ghost use Rattle.cluster_runs.specs.Turns.{Course, carried, carried_in, ends_with, nothing, reply_of, run_of, step_by};
+
+use crate::cluster::Cluster;
+use crate::fault::ClusterFault;
+use interleavings::Event;
+use requests::Reply;
+use rounds::Reconcile;
+
+/// More steps no request takes.
+const MOST_STEPS: u64 = 2_097_152;
+
+/// How far a step has led a caller on.
+#[derive(Drop)]
+pub(crate) enum Advance {
+    /// There may be another one.
+    On,
+    /// There is none: it was the reply, or none leads on.
+    Over(Option<Reply>),
+}
+
+/// The caller that the event replies to, if it is a reply.
+fn reply_of(event: &Event) -> Option<u64>
+    ensures { result ≡ reply_of event.now }
+{
+    match event {
+        Event::Reply(caller) => Some(*caller),
+        _ => None,
+    }
+}
+
+impl Cluster {
+    /// The steps that carry the open request of the controller to its reply.
+    pub(crate) fn run<C: Reconcile>(
+        &mut self,
+        controllers: &mut [C],
+        number: usize,
+    ) -> Result<Option<Reply>, ClusterFault>
+        requires present { length controllers.old ≡ length self.old.callers.present.items }
+        requires follows { Follows self.old }
+        ensures many { length controllers.new ≡ length controllers.old }
+        ensures present { length self.new.callers.present.items ≡ length self.old.callers.present.items }
+        ensures follows { OnOk result (Follows self.new) }
+        ensures leads { IfOk result (λ told. Leads C.reconciler C.phase C.is_waiting (run_of number) (ends_with told) self.old self.new controllers.old controllers.new) }
+        ensures halts { IfErr result (λ fault. Halts C.reconciler C.phase C.is_waiting fault (run_of number) self.old controllers.old controllers.new) }
+        ensures reasons { IfErr result IsShort }
+    {
+        if number < controllers.len() {
+            let caller = self.callers.present[number];
+            return self.carry(controllers, caller);
+        }
+        Ok(None)
+    }
+
+    /// The steps that carry the open request of the caller to its reply, and the reply.
+    pub(crate) fn carry<C: Reconcile>(
+        &mut self,
+        controllers: &mut [C],
+        caller: u64,
+    ) -> Result<Option<Reply>, ClusterFault>
+        requires present { length controllers.old ≡ length self.old.callers.present.items }
+        requires follows { Follows self.old }
+        ensures many { length controllers.new ≡ length controllers.old }
+        ensures present { length self.new.callers.present.items ≡ length self.old.callers.present.items }
+        ensures follows { OnOk result (Follows self.new) }
+        ensures leads { IfOk result (λ told. Leads C.reconciler C.phase C.is_waiting (carried caller) (ends_with told) self.old self.new controllers.old controllers.new) }
+        ensures halts { IfErr result (λ fault. Halts C.reconciler C.phase C.is_waiting fault (carried caller) self.old controllers.old controllers.new) }
+        ensures reasons { IfErr result IsShort }
+    {
+        for _ in 0..MOST_STEPS {
+            let went = self.advance(controllers, caller)?;
+            match went {
+                Advance::On => {}
+                Advance::Over(told) => return Ok(told),
+            }
+        }
+        Ok(None)
+    }
+
+    /// The next step of them.
+    fn advance<C: Reconcile>(
+        &mut self,
+        controllers: &mut [C],
+        caller: u64,
+    ) -> Result<Advance, ClusterFault>
+        requires present { length controllers.old ≡ length self.old.callers.present.items }
+        requires follows { Follows self.old }
+        ensures many { length controllers.new ≡ length controllers.old }
+        ensures present { length self.new.callers.present.items ≡ length self.old.callers.present.items }
+        ensures follows { OnOk result (Follows self.new) }
+        ensures leads { IfOk result (λ went. (steps : ℕ) → Leads C.reconciler C.phase C.is_waiting (carried_in (suc steps) caller)
+            (after_step went (carried_in steps caller)) self.old self.new controllers.old controllers.new) }
+        ensures halts { IfErr result (λ fault. (steps : ℕ) → Halts C.reconciler C.phase C.is_waiting fault (carried_in (suc steps) caller)
+            self.old controllers.old controllers.new) }
+        ensures reasons { IfErr result IsShort }
+    {
+        let Some(event) = self.replay.next_step(caller) else {
+            return Ok(Advance::Over(None));
+        };
+        let went = self.make(controllers, &event);
+        // Let go by name, which is proved once for the type and not at each way out.
+        drop(event);
+        went
+    }
+
+    /// That step.
+    fn make<C: Reconcile>(
+        &mut self,
+        controllers: &mut [C],
+        event: &Event,
+    ) -> Result<Advance, ClusterFault>
+        requires present { length controllers.old ≡ length self.old.callers.present.items }
+        requires follows { Follows self.old }
+        ensures many { length controllers.new ≡ length controllers.old }
+        ensures present { length self.new.callers.present.items ≡ length self.old.callers.present.items }
+        ensures follows { OnOk result (Follows self.new) }
+        ensures leads { IfOk result (λ went. (next : Course) → Leads C.reconciler C.phase C.is_waiting (step_by event.now (reply_of event.now) next)
+            (after_step went next) self.old self.new controllers.old controllers.new) }
+        ensures halts { IfErr result (λ fault. (next : Course) → Halts C.reconciler C.phase C.is_waiting fault
+            (step_by event.now (reply_of event.now) next) self.old controllers.old controllers.new) }
+        ensures reasons { IfErr result IsShort }
+    {
+        let Some(caller) = reply_of(event) else {
+            self.step(controllers, event)?;
+            return Ok(Advance::On);
+        };
+        let told = self.tell(controllers, caller)?;
+        Ok(Advance::Over(told))
+    }
+}

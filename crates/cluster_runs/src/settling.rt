@@ -1,0 +1,289 @@
+// Controllers make rounds, and a kubelet turns, one after another.
+ghost use Rattle.std.specs.Prelude.{◌≡◌, ◌<◌, ◌∷◌, ℕ, suc, length, map, IfErr, IfOk, OnErr, OnOk, if◌then◌else◌};
+ghost use Rattle.std.specs.List.{range_with_len};
+ghost use Rattle.objects.specs.declared.kind.Kind.TheVariants.{Pod};
+ghost use Rattle.requests.specs.declared.request.Request.TheVariants as request;
+ghost use Rattle.cluster_runs.specs.Faults.{IsShort};
+ghost use Rattle.cluster_runs.specs.Leading.{Halts, Leads, Peeks};
+ghost use Rattle.cluster_runs.specs.Shown.{Follows, Stay};
+ghost use Rattle.cluster_runs.specs.declared.fault.ClusterFault.TheVariants.{Memory as OutOfMemory};
+ghost use Rattle.cluster_runs.specs.Turns.{asked, asked_all, asked_as, begins, ends_with, kubelet_turn, nothing, round, round_in, rounds_of, settled, settled_as, settled_once, tended, tended_all, tends};
+
+use crate::cluster::Cluster;
+use crate::fault::ClusterFault;
+use kubelet::kubelet_requests;
+use objects::{Kind, Memory, Text};
+use requests::{Reply, Request};
+use rounds::Reconcile;
+use std::alloc::Global;
+
+/// More requests no round has.
+const MOST_REQUESTS: u64 = 4_294_967_296;
+
+/// Whether a round begins with the request.
+fn begins(request: &Request) -> bool
+    ensures { result ≡ begins request.now }
+{
+    matches!(request, Request::Get(_))
+}
+
+/// The list of the pods of a namespace, as they are now.
+fn list_of_pods(alloc: Global, namespace: &Text) -> Result<Request, Memory>
+    ensures { IfOk result (λ r. r ≡ request.List Pod namespace.now 0) }
+{
+    Ok(Request::List {
+        kind: Kind::Pod,
+        namespace: Text::copy_of(alloc, namespace.as_str())?,
+        exact: 0,
+    })
+}
+
+/// What the kubelet asks after a list.
+fn requests_after(alloc: Global, told: &Option<Reply>) -> Result<Vec<Request>, Memory>
+    ensures { IfOk result (λ requests. requests.items ≡ tends told.now) }
+{
+    match told {
+        Some(
+            Reply::Listed {
+                objects,
+                revision: _,
+            },
+        ) => kubelet_requests(alloc, objects.as_slice()),
+        _ => Ok(Vec::new(alloc)),
+    }
+}
+
+impl Cluster {
+    /// So many times, each controller makes a round, and then the kubelet makes a turn. It is the lowest caller that was not
+    /// used before.
+    pub(crate) fn settle<C: Reconcile>(
+        &mut self,
+        controllers: &mut [C],
+        namespaces: &[Text],
+        rounds: u64,
+    ) -> Result<(), ClusterFault>
+        requires present { length controllers.old ≡ length self.old.callers.present.items }
+        requires follows { Follows self.old }
+        ensures many { length controllers.new ≡ length controllers.old }
+        ensures present { length self.new.callers.present.items ≡ length self.old.callers.present.items }
+        ensures follows { OnOk result (Follows self.new) }
+        ensures leads { OnOk result (Leads C.reconciler C.phase C.is_waiting (settled rounds namespaces.now) nothing self.old self.new controllers.old controllers.new) }
+        ensures halts { IfErr result (λ fault. Halts C.reconciler C.phase C.is_waiting fault (settled rounds namespaces.now) self.old controllers.old controllers.new) }
+        ensures reasons { IfErr result IsShort }
+    {
+        let Some(kubelet) = self.callers.fresh() else {
+            return Err(ClusterFault::TooManyCallers);
+        };
+        for _ in 0..rounds {
+            self.settle_once(controllers, kubelet, namespaces)?;
+        }
+        Ok(())
+    }
+
+    fn settle_once<C: Reconcile>(
+        &mut self,
+        controllers: &mut [C],
+        kubelet: u64,
+        namespaces: &[Text],
+    ) -> Result<(), ClusterFault>
+        requires present { length controllers.old ≡ length self.old.callers.present.items }
+        requires follows { Follows self.old }
+        ensures many { length controllers.new ≡ length controllers.old }
+        ensures present { length self.new.callers.present.items ≡ length self.old.callers.present.items }
+        ensures follows { OnOk result (Follows self.new) }
+        ensures leads { OnOk result (Leads C.reconciler C.phase C.is_waiting (settled_once kubelet namespaces.now) nothing self.old self.new controllers.old controllers.new) }
+        ensures halts { IfErr result (λ fault. Halts C.reconciler C.phase C.is_waiting fault (settled_once kubelet namespaces.now) self.old controllers.old controllers.new) }
+        ensures reasons { IfErr result IsShort }
+    {
+        self.make_rounds(controllers)?;
+        self.make_turn(controllers, kubelet, namespaces)
+    }
+
+    /// Each controller makes a round, in the order of the numbers.
+    fn make_rounds<C: Reconcile>(&mut self, controllers: &mut [C]) -> Result<(), ClusterFault>
+        requires present { length controllers.old ≡ length self.old.callers.present.items }
+        requires follows { Follows self.old }
+        ensures many { length controllers.new ≡ length controllers.old }
+        ensures present { length self.new.callers.present.items ≡ length self.old.callers.present.items }
+        ensures follows { OnOk result (Follows self.new) }
+        ensures leads { OnOk result (Leads C.reconciler C.phase C.is_waiting (rounds_of (range_with_len 0 (length controllers.old))) nothing self.old self.new controllers.old controllers.new) }
+        ensures halts { IfErr result (λ fault. Halts C.reconciler C.phase C.is_waiting fault (rounds_of (range_with_len 0 (length controllers.old))) self.old controllers.old controllers.new) }
+        ensures reasons { IfErr result IsShort }
+    {
+        for number in 0..controllers.len() {
+            self.make_round(controllers, number)?;
+        }
+        Ok(())
+    }
+
+    /// The controller goes on until its round is over, or a reply does not come.
+    fn make_round<C: Reconcile>(
+        &mut self,
+        controllers: &mut [C],
+        number: usize,
+    ) -> Result<(), ClusterFault>
+        requires present { length controllers.old ≡ length self.old.callers.present.items }
+        requires follows { Follows self.old }
+        requires there { number < length controllers.old }
+        ensures many { length controllers.new ≡ length controllers.old }
+        ensures present { length self.new.callers.present.items ≡ length self.old.callers.present.items }
+        ensures follows { OnOk result (Follows self.new) }
+        ensures leads { OnOk result (Leads C.reconciler C.phase C.is_waiting (round number) nothing self.old self.new controllers.old controllers.new) }
+        ensures halts { IfErr result (λ fault. Halts C.reconciler C.phase C.is_waiting fault (round number) self.old controllers.old controllers.new) }
+        ensures reasons { IfErr result IsShort }
+    {
+        for _ in 0..MOST_REQUESTS {
+            self.ask_next(controllers, number)?;
+            let within = self.is_within(controllers, number)?;
+            if !within {
+                return Ok(());
+            }
+        }
+        Ok(())
+    }
+
+    /// The controller asks its next request.
+    fn ask_next<C: Reconcile>(
+        &mut self,
+        controllers: &mut [C],
+        number: usize,
+    ) -> Result<Option<Reply>, ClusterFault>
+        requires present { length controllers.old ≡ length self.old.callers.present.items }
+        requires follows { Follows self.old }
+        requires there { number < length controllers.old }
+        ensures many { length controllers.new ≡ length controllers.old }
+        ensures present { length self.new.callers.present.items ≡ length self.old.callers.present.items }
+        ensures follows { OnOk result (Follows self.new) }
+        ensures leads { IfOk result (λ told. Leads C.reconciler C.phase C.is_waiting (asked number) (ends_with told) self.old self.new controllers.old controllers.new) }
+        ensures halts { IfErr result (λ fault. Halts C.reconciler C.phase C.is_waiting fault (asked number) self.old controllers.old controllers.new) }
+        ensures reasons { IfErr result IsShort }
+    {
+        self.call_next(controllers, number)?;
+        let caller = self.callers.present[number];
+        self.carry(controllers, caller)
+    }
+
+    /// Whether the controller's reply was given, and its round goes on.
+    fn is_within<C: Reconcile>(
+        &self,
+        controllers: &mut [C],
+        number: usize,
+    ) -> Result<bool, ClusterFault>
+        requires present { length controllers.old ≡ length self.now.callers.present.items }
+        requires there { number < length controllers.old }
+        ensures many { length controllers.new ≡ length controllers.old }
+        ensures peeks { IfOk result (λ within. Peeks C.reconciler C.phase C.is_waiting number within self.now controllers.old controllers.new) }
+        ensures stays { OnErr result (Stay C.reconciler C.phase controllers.old controllers.new) }
+        ensures reasons { IfErr result (λ fault. fault ≡ OutOfMemory) }
+    {
+        let caller = self.callers.present[number];
+        if !self.replay.idle(caller) {
+            return Ok(false);
+        }
+        let request = controllers[number].next()?;
+        let begins = begins(&request);
+        // Let go by name, which is proved once for the type and not at each way out.
+        drop(request);
+        Ok(!begins)
+    }
+
+    /// The kubelet's turn: what is still open is carried on, and then the pods of each namespace are tended.
+    fn make_turn<C: Reconcile>(
+        &mut self,
+        controllers: &mut [C],
+        caller: u64,
+        namespaces: &[Text],
+    ) -> Result<(), ClusterFault>
+        requires present { length controllers.old ≡ length self.old.callers.present.items }
+        requires follows { Follows self.old }
+        ensures many { length controllers.new ≡ length controllers.old }
+        ensures present { length self.new.callers.present.items ≡ length self.old.callers.present.items }
+        ensures follows { OnOk result (Follows self.new) }
+        ensures leads { OnOk result (Leads C.reconciler C.phase C.is_waiting (kubelet_turn caller namespaces.now) nothing self.old self.new controllers.old controllers.new) }
+        ensures halts { IfErr result (λ fault. Halts C.reconciler C.phase C.is_waiting fault (kubelet_turn caller namespaces.now) self.old controllers.old controllers.new) }
+        ensures reasons { IfErr result IsShort }
+    {
+        let told = self.carry(controllers, caller)?;
+        drop(told);
+        for namespace in namespaces {
+            self.tend(controllers, caller, namespace)?;
+        }
+        Ok(())
+    }
+
+    /// The pods of the namespace are listed, and what the kubelet then asks for them is asked.
+    fn tend<C: Reconcile>(
+        &mut self,
+        controllers: &mut [C],
+        caller: u64,
+        namespace: &Text,
+    ) -> Result<(), ClusterFault>
+        requires present { length controllers.old ≡ length self.old.callers.present.items }
+        requires follows { Follows self.old }
+        ensures many { length controllers.new ≡ length controllers.old }
+        ensures present { length self.new.callers.present.items ≡ length self.old.callers.present.items }
+        ensures follows { OnOk result (Follows self.new) }
+        ensures leads { OnOk result (Leads C.reconciler C.phase C.is_waiting (tended caller namespace.now) nothing self.old self.new controllers.old controllers.new) }
+        ensures halts { IfErr result (λ fault. Halts C.reconciler C.phase C.is_waiting fault (tended caller namespace.now) self.old controllers.old controllers.new) }
+        ensures reasons { IfErr result IsShort }
+    {
+        let alloc = *self.events.allocator();
+        let list = list_of_pods(alloc, namespace)?;
+        let listed = self.ask(controllers, caller, &list);
+        // Let go by name, which is proved once for the type and not at each way out.
+        drop(list);
+        let told = listed?;
+        let requests = requests_after(alloc, &told);
+        drop(told);
+        let requests = requests?;
+        let asked = self.ask_all(controllers, caller, requests.as_slice());
+        drop(requests);
+        asked
+    }
+
+    /// Somebody else asks these, one after another.
+    fn ask_all<C: Reconcile>(
+        &mut self,
+        controllers: &mut [C],
+        caller: u64,
+        requests: &[Request],
+    ) -> Result<(), ClusterFault>
+        requires present { length controllers.old ≡ length self.old.callers.present.items }
+        requires follows { Follows self.old }
+        ensures many { length controllers.new ≡ length controllers.old }
+        ensures present { length self.new.callers.present.items ≡ length self.old.callers.present.items }
+        ensures follows { OnOk result (Follows self.new) }
+        ensures leads { OnOk result (Leads C.reconciler C.phase C.is_waiting (asked_all caller requests.now) nothing self.old self.new controllers.old controllers.new) }
+        ensures halts { IfErr result (λ fault. Halts C.reconciler C.phase C.is_waiting fault (asked_all caller requests.now) self.old controllers.old controllers.new) }
+        ensures reasons { IfErr result IsShort }
+    {
+        for request in requests {
+            let told = self.ask(controllers, caller, request)?;
+            drop(told);
+        }
+        Ok(())
+    }
+
+    /// Somebody else asks, where the caller is idle.
+    fn ask<C: Reconcile>(
+        &mut self,
+        controllers: &mut [C],
+        caller: u64,
+        request: &Request,
+    ) -> Result<Option<Reply>, ClusterFault>
+        requires present { length controllers.old ≡ length self.old.callers.present.items }
+        requires follows { Follows self.old }
+        ensures many { length controllers.new ≡ length controllers.old }
+        ensures present { length self.new.callers.present.items ≡ length self.old.callers.present.items }
+        ensures follows { OnOk result (Follows self.new) }
+        ensures leads { IfOk result (λ told. Leads C.reconciler C.phase C.is_waiting (asked_as caller request.now) (ends_with told) self.old self.new controllers.old controllers.new) }
+        ensures halts { IfErr result (λ fault. Halts C.reconciler C.phase C.is_waiting fault (asked_as caller request.now) self.old controllers.old controllers.new) }
+        ensures reasons { IfErr result IsShort }
+    {
+        if !self.replay.idle(caller) {
+            return Ok(None);
+        }
+        self.outside(controllers, caller, request)?;
+        self.carry(controllers, caller)
+    }
+}

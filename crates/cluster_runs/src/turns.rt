@@ -1,0 +1,142 @@
+ghost use Rattle.std.specs.Prelude.{◌≡◌, ◌<◌, ◌≤◌, ◌↔◌, ℕ, length, take, IfErr, IfOk, IsErrOf, OnErr, OnOk};
+ghost use Rattle.std.specs.List.{AllByRecursion};
+ghost use Rattle.plain_store.specs.Reached.{most_revisions};
+ghost use Rattle.rounds.specs.Phase.{reading_set};
+ghost use Rattle.rounds.specs.Reconciler.{Reconciler};
+ghost use Rattle.rounds.specs.Sound.{IsSound};
+ghost use Rattle.rounds.specs.World.{AreMadeOf, StandAt};
+ghost use Rattle.clusters.specs.Ordered.{OrderKeepsPromises};
+ghost use Rattle.cluster_runs.specs.Faults.{IsShort};
+ghost use Rattle.cluster_runs.specs.Leading.{Halts, Leads};
+ghost use Rattle.cluster_runs.specs.Ran.{IsClusterRun, cluster_after};
+ghost use Rattle.cluster_runs.specs.Shown.{Follows};
+ghost use Rattle.cluster_runs.specs.Turns.{course_of, course_of_all, ends_with, events_of_turns, nothing};
+
+use crate::callers::Callers;
+use crate::cluster::Cluster;
+use crate::fault::ClusterFault;
+use crate::run::ClusterRun;
+use crate::turn::Turn;
+use clusters::clusters_keep_promises;
+use history::Replay;
+use objects::Text;
+use requests::Reply;
+use rounds::Reconcile;
+use std::alloc::Global;
+
+/// Lets the events happen that the turns stand for, one after another: each turn finds the cluster as the ones before left it.
+/// The namespaces are those whose pods a kubelet tends.
+/// All else is as of `run_cluster` over these events.
+pub fn run_turns<C: Reconcile>(
+    alloc: Global,
+    shards: usize,
+    capacity: u64,
+    controllers: &mut [C],
+    namespaces: &[Text],
+    turns: &[Turn],
+) -> Result<ClusterRun, ClusterFault>
+    requires { AllByRecursion (λ c. (C.phase c ≡ reading_set)) controllers.old }
+    ensures run { IfOk result (λ found. (reconcilers : ℕ → Reconciler) → AreMadeOf C.reconciler controllers.old reconcilers
+        → IsClusterRun (record { capacity = capacity; shards = shards }) (length controllers.old) reconcilers
+        (events_of_turns (record { capacity = capacity; shards = shards }) (length controllers.old) reconcilers namespaces.now turns.now) found) }
+    ensures promises { IfOk result (λ found. (reconcilers : ℕ → Reconciler) → AreMadeOf C.reconciler controllers.old reconcilers
+        → ((c : ℕ) → IsSound (reconcilers c))
+        → OrderKeepsPromises (record { capacity = capacity; shards = shards }) reconcilers
+        (cluster_after (record { capacity = capacity; shards = shards }) (length controllers.old) reconcilers
+        (events_of_turns (record { capacity = capacity; shards = shards }) (length controllers.old) reconcilers namespaces.now turns.now)) found.run.order.items) }
+    ensures many { length controllers.new ≡ length controllers.old }
+    ensures stand { OnOk result ((reconcilers : ℕ → Reconciler) → AreMadeOf C.reconciler controllers.old reconcilers
+        → StandAt C.reconciler C.phase controllers.new reconcilers
+        (cluster_after (record { capacity = capacity; shards = shards }) (length controllers.old) reconcilers
+        (events_of_turns (record { capacity = capacity; shards = shards }) (length controllers.old) reconcilers namespaces.now turns.now)).phases) }
+    ensures stopped { OnErr result ((reconcilers : ℕ → Reconciler) → AreMadeOf C.reconciler controllers.old reconcilers
+        → (n : ℕ) × StandAt C.reconciler C.phase controllers.new reconcilers
+        (cluster_after (record { capacity = capacity; shards = shards }) (length controllers.old) reconcilers
+        (take n (events_of_turns (record { capacity = capacity; shards = shards }) (length controllers.old) reconcilers namespaces.now turns.now))).phases) }
+    ensures bad_shards { IsErrOf result ClusterFault.BadShards ↔ (1 ≤ shards → 64 < shards) }
+    ensures bad_capacity { IsErrOf result ClusterFault.BadCapacity ↔ ((1 ≤ shards) × (shards ≤ 64) × (1 ≤ capacity → most_revisions < capacity)) }
+    ensures too_many { IsErrOf result ClusterFault.TooManyCallers → (reconcilers : ℕ → Reconciler) → AreMadeOf C.reconciler controllers.old reconcilers
+        → 4096 < length (cluster_after (record { capacity = capacity; shards = shards }) (length controllers.old) reconcilers
+        (events_of_turns (record { capacity = capacity; shards = shards }) (length controllers.old) reconcilers namespaces.now turns.now)).used }
+{
+    clusters_keep_promises();
+    let replay = Replay::new(alloc, shards, capacity)?;
+    let callers = Callers::of(alloc, controllers.len())?;
+    let mut cluster = Cluster {
+        replay,
+        callers,
+        events: Vec::new(alloc),
+    };
+    cluster.go(controllers, namespaces, turns)?;
+    let Cluster {
+        replay,
+        callers,
+        events,
+    } = cluster;
+    let Callers {
+        present,
+        owners,
+        unused: _,
+    } = callers;
+    // Let go by name, which is proved once for the type and not at each way out.
+    drop(present);
+    Ok(ClusterRun {
+        events,
+        run: replay.finish(),
+        owners,
+    })
+}
+
+impl Cluster {
+    /// The events of all turns.
+    fn go<C: Reconcile>(
+        &mut self,
+        controllers: &mut [C],
+        namespaces: &[Text],
+        turns: &[Turn],
+    ) -> Result<(), ClusterFault>
+        requires present { length controllers.old ≡ length self.old.callers.present.items }
+        requires follows { Follows self.old }
+        ensures many { length controllers.new ≡ length controllers.old }
+        ensures present { length self.new.callers.present.items ≡ length self.old.callers.present.items }
+        ensures follows { OnOk result (Follows self.new) }
+        ensures leads { OnOk result (Leads C.reconciler C.phase C.is_waiting (course_of_all namespaces.now turns.now) nothing self.old self.new controllers.old controllers.new) }
+        ensures halts { IfErr result (λ fault. Halts C.reconciler C.phase C.is_waiting fault (course_of_all namespaces.now turns.now) self.old controllers.old controllers.new) }
+        ensures reasons { IfErr result IsShort }
+    {
+        for turn in turns {
+            let told = self.turn(controllers, namespaces, turn)?;
+            drop(told);
+        }
+        Ok(())
+    }
+
+    /// The events of one turn, and the reply that ends them, if one does.
+    fn turn<C: Reconcile>(
+        &mut self,
+        controllers: &mut [C],
+        namespaces: &[Text],
+        turn: &Turn,
+    ) -> Result<Option<Reply>, ClusterFault>
+        requires present { length controllers.old ≡ length self.old.callers.present.items }
+        requires follows { Follows self.old }
+        ensures many { length controllers.new ≡ length controllers.old }
+        ensures present { length self.new.callers.present.items ≡ length self.old.callers.present.items }
+        ensures follows { OnOk result (Follows self.new) }
+        ensures leads { IfOk result (λ told. Leads C.reconciler C.phase C.is_waiting (course_of namespaces.now turn.now) (ends_with told) self.old self.new controllers.old controllers.new) }
+        ensures halts { IfErr result (λ fault. Halts C.reconciler C.phase C.is_waiting fault (course_of namespaces.now turn.now) self.old controllers.old controllers.new) }
+        ensures reasons { IfErr result IsShort }
+    {
+        match turn {
+            Turn::Event(event) => {
+                self.happen(controllers, event)?;
+                Ok(None)
+            }
+            Turn::Run(number) => self.run(controllers, *number),
+            Turn::Settle { rounds } => {
+                self.settle(controllers, namespaces, *rounds)?;
+                Ok(None)
+            }
+        }
+    }
+}
