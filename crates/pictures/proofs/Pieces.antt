@@ -1,0 +1,50 @@
+-- A line whose words were put behind its beginning.
+use Rattle.std.proofs.Common.{◌≡◌, ℕ, List, [], ◌++◌, codes, decimal, ap, ◌∙◌, append_assoc}
+use Rattle.pictures.specs.Lines.{frontier_to_caller, note_over_caller, said}
+
+said_on : (place : ℕ) (text : List ℕ) → said place [] ++ text ≡ said place text
+said_on place text = ap (λ t. codes ": " ++ t) (append_assoc (decimal place) (codes ": ") text)
+
+noted_on : (c place : ℕ) (text : List ℕ) → note_over_caller c place [] ++ text ≡ note_over_caller c place text
+noted_on c place text =
+    ap (λ t. codes "    Note over C" ++ t) (append_assoc (decimal c) (said place []) text ∙ ap (λ t. decimal c ++ t) (said_on place text))
+
+given_on : (c place : ℕ) (text : List ℕ) → frontier_to_caller c place [] ++ text ≡ frontier_to_caller c place text
+given_on c place text =
+    ap (λ t. codes "    F-->>C" ++ t) (append_assoc (decimal c) (said place []) text ∙ ap (λ t. decimal c ++ t) (said_on place text))
+
+-- what was put in three pieces
+three : (old one two new a b c : List ℕ) → one ≡ old ++ a → two ≡ one ++ b → new ≡ two ++ c → new ≡ old ++ (a ++ (b ++ c))
+three old one two new a b c first second third =
+    third ∙ ap (λ t. t ++ c) (second ∙ ap (λ t. t ++ b) first ∙ append_assoc old a b)
+    ∙ append_assoc old (a ++ b) c ∙ ap (λ t. old ++ t) (append_assoc a b c)
+
+pub noted : (old one two new words : List ℕ) (c place : ℕ) → one ≡ old ++ note_over_caller c place [] → two ≡ one ++ words → new ≡ two ++ codes "\n"
+    → new ≡ old ++ note_over_caller c place (words ++ codes "\n")
+noted old one two new words c place first second third =
+    three old one two new (note_over_caller c place []) words (codes "\n") first second third ∙ ap (λ t. old ++ t) (noted_on c place (words ++ codes "\n"))
+
+pub given : (old one two new words : List ℕ) (c place : ℕ) → one ≡ old ++ frontier_to_caller c place [] → two ≡ one ++ words → new ≡ two ++ codes "\n"
+    → new ≡ old ++ frontier_to_caller c place (words ++ codes "\n")
+given old one two new words c place first second third =
+    three old one two new (frontier_to_caller c place []) words (codes "\n") first second third ∙ ap (λ t. old ++ t) (given_on c place (words ++ codes "\n"))
+
+-- the line of a caller
+pub introduced : (old one two new role : List ℕ) (c : ℕ) → one ≡ old ++ (codes "    participant C" ++ (decimal c ++ codes " as ")) → two ≡ one ++ role
+    → new ≡ two ++ (codes "caller " ++ (decimal c ++ codes "\n"))
+    → new ≡ old ++ (codes "    participant C" ++ (decimal c ++ (codes " as " ++ (role ++ (codes "caller " ++ (decimal c ++ codes "\n"))))))
+introduced old one two new role c first second third =
+    let last = codes "caller " ++ (decimal c ++ codes "\n") in
+    three old one two new (codes "    participant C" ++ (decimal c ++ codes " as ")) role last first second third
+    ∙ ap (λ t. old ++ (codes "    participant C" ++ t)) (append_assoc (decimal c) (codes " as ") (role ++ last))
+
+-- what was put in four pieces
+pub four : (old one two three_of new a b c d : List ℕ) → one ≡ old ++ a → two ≡ one ++ b → three_of ≡ two ++ c → new ≡ three_of ++ d
+    → new ≡ old ++ (a ++ (b ++ (c ++ d)))
+four old one two three_of new a b c d first second third fourth =
+    fourth ∙ ap (λ t. t ++ d) (three old one two three_of a b c first second third) ∙ append_assoc old (a ++ (b ++ c)) d
+    ∙ ap (λ t. old ++ t) (append_assoc a (b ++ c) d ∙ ap (λ t. a ++ t) (append_assoc b c d))
+
+-- what was put in two pieces
+pub two : (old one new a b : List ℕ) → one ≡ old ++ a → new ≡ one ++ b → new ≡ old ++ (a ++ b)
+two old one new a b first second = second ∙ ap (λ t. t ++ b) first ∙ append_assoc old a b

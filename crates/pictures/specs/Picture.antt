@@ -1,0 +1,61 @@
+-- The picture of a run: a Mermaid `sequenceDiagram` of its events.
+use Rattle.std.specs.Prelude.{ℕ, suc, List, [], ◌∷◌, ◌++◌, drop, length, Option, Some, None}
+use Rattle.requests.specs.declared.reply.Reply.{Reply}
+use Rattle.interleavings.specs.declared.event.Event.{Event}
+use Rattle.interleavings.specs.declared.event.Event.TheVariants as event
+use Rattle.interleavings.specs.declared.trace.Item.{Item}
+use Rattle.interleavings.specs.declared.trace.Item.TheVariants as item
+use Rattle.interleavings.specs.Step.{step}
+use Rattle.interleavings.specs.World.{Size, World, opening}
+use Rattle.history.specs.Named.{named}
+use Rattle.history.specs.NextStep.{can_rise}
+use Rattle.history.specs.Replayed.{named_by}
+use Rattle.history.specs.Standing.{standing_of}
+use Rattle.history.specs.declared.standing.Standing.{Standing}
+use Rattle.history.specs.declared.standing.Standing.TheVariants as standing
+use Rattle.pictures.specs.Heading.{heading}
+use Rattle.pictures.specs.Lines.{call_line, check_line, compact_line, crash_line, part_line, publish_lines, raise_line, read_at_line, read_line, reply_line, reserve_line}
+use Rattle.pictures.specs.declared.moment.Moment.{Moment}
+
+-- ---- what lines tell of the world before an event, and after it
+abbrev pub standing_by : Size → World → Option ℕ → Standing
+standing_by z w None = standing.Idle
+standing_by z w (Some c) = standing_of z.shards (w.phase c)
+
+-- where the caller stands that the event names, the frontier, and whether the number behind it is filled
+abbrev pub moment_of : Size → World → Option ℕ → Moment
+moment_of z w caller = record { standing = standing_by z w caller; can_rise = can_rise w; frontier = w.frontier }
+
+abbrev pub reply_in : List Item → Option Reply
+reply_in (item.Reply place caller reply ∷ items) = Some reply
+reply_in items = None
+
+-- the reply that an event gives, if it gives one: what it adds to the trace
+abbrev pub told : (before after : World) → Option Reply
+told before after = reply_in (drop (length before.trace) after.trace)
+
+-- ---- the lines of one event
+abbrev pub event_lines : (shards place : ℕ) → Event → (before after : Moment) → (told : Option Reply) → List ℕ
+event_lines shards place (event.Call c r) before after told = call_line place c r before.standing
+event_lines shards place (event.Check c) before after told = check_line place c before.standing after.standing
+event_lines shards place (event.Reserve c) before after told = reserve_line place c before.standing after.standing
+event_lines shards place (event.Publish c) before after told = publish_lines place c before.standing after.can_rise after.frontier
+event_lines shards place event.Raise before after told = raise_line place before.can_rise after.frontier
+event_lines shards place (event.Read c) before after told = read_line place c before.standing after.standing
+event_lines shards place (event.ReadAt c) before after told = read_at_line place c before.standing after.standing
+event_lines shards place (event.Compact c) before after told = compact_line place c before.standing
+event_lines shards place (event.Part c) before after told = part_line shards place c before.standing
+event_lines shards place (event.Reply c) before after told = reply_line place c told
+event_lines shards place (event.Crash c) before after told = crash_line place c before.standing
+
+abbrev pub lines_between : Size → (place : ℕ) → Event → (before after : World) → List ℕ
+lines_between z place e before after = event_lines z.shards place e (moment_of z before (named_by e)) (moment_of z after (named_by e)) (told before after)
+
+-- ---- the lines of a run
+-- the first event has this place
+abbrev pub lines_of : Size → (place : ℕ) → World → List Event → List ℕ
+lines_of z place w [] = []
+lines_of z place w (e ∷ es) = lines_between z place e w (step z w e) ++ lines_of z (suc place) (step z w e) es
+
+abbrev pub picture_text : Size → (role : ℕ → List ℕ) → List Event → List ℕ
+picture_text z role events = heading z.shards role (named [] events) ++ lines_of z 0 opening events

@@ -1,0 +1,129 @@
+ghost use Rattle.std.specs.Prelude.{◌≡◌, ◌<◌, ◌≤◌, ◌-◌, ◌^◌, ◌↔◌, ◌⊎◌, ◌++◌, ◌∷◌, [], ℕ, List, length, string_bytes, IfErr, IfOk, IsErrOf, OnOk};
+ghost use Rattle.plain_store.specs.Reached.{most_revisions};
+ghost use Rattle.history.specs.After.{IsAfter, taken};
+ghost use Rattle.history.specs.Named.{callers, named};
+ghost use Rattle.interleavings.specs.declared.event.Event.{Event};
+ghost use Rattle.interleavings.specs.Step.{step};
+ghost use Rattle.interleavings.specs.Trace.{after};
+ghost use Rattle.interleavings.specs.World.{Size, opening};
+ghost use Rattle.pictures.specs.Picture.{event_lines, lines_between, picture_text};
+ghost use Rattle.pictures.specs.Heading.{heading};
+
+use crate::heading::put_heading;
+use crate::lines::{
+    put_call, put_check, put_compact, put_crash, put_given, put_part, put_publish, put_raise,
+    put_read, put_read_at, put_reserve,
+};
+use crate::moment::{Moment, look};
+use crate::names::{named, named_by};
+use crate::roles::Roles;
+use history::{Replay, ReplayError};
+use interleavings::Event;
+use requests::Reply;
+use std::alloc::{AllocError, Global};
+
+/// The run of these events from the opening world, as a Mermaid `sequenceDiagram`: who takes part, and for each event that is
+/// enabled a line with its place. A publication above a number that is not filled yet has a second line, which names that
+/// number.
+///
+/// # Errors
+///
+/// As `history::replay`. Where the events name more than 4,096 callers it is refused for that, or for memory if that ran out
+/// first.
+pub fn picture<R: Roles>(
+    alloc: Global,
+    shards: usize,
+    capacity: u64,
+    events: &[Event],
+    roles: &R,
+) -> Result<Vec<u8>, ReplayError>
+    ensures picture { IfOk result (λ text. text.items ≡ picture_text (record { capacity = capacity; shards = shards }) (R.role roles.now) events.now) }
+    ensures few { OnOk result (callers events.now ≤ 4096) }
+    ensures bad_shards { IsErrOf result ReplayError.BadShards ↔ (1 ≤ shards → 64 < shards) }
+    ensures bad_capacity { IsErrOf result ReplayError.BadCapacity ↔ ((1 ≤ shards) × (shards ≤ 64) × (1 ≤ capacity → most_revisions < capacity)) }
+    ensures too_many { IsErrOf result ReplayError.TooManyCallers → 4096 < callers events.now }
+{
+    let mut replay = Replay::new(alloc, shards, capacity)?;
+    let mut text = begun(alloc, shards, events, roles)?;
+    for event in events {
+        put_step(shards, &mut replay, event, &mut text)?;
+    }
+    Ok(text.into_bytes())
+}
+
+/// The lines of those who take part.
+fn begun<R: Roles>(
+    alloc: Global,
+    shards: usize,
+    events: &[Event],
+    roles: &R,
+) -> Result<String, AllocError>
+    ensures { IfOk result (λ text. string_bytes text ≡ heading shards (R.role roles.now) (named [] events.now)) }
+{
+    let callers = named(alloc, events)?;
+    let mut text = String::new(alloc);
+    put_heading(shards, &callers, roles, &mut text)?;
+    Ok(text)
+}
+
+/// Takes one event, and puts its lines behind the text.
+fn put_step(
+    shards: usize,
+    replay: &mut Replay,
+    event: &Event,
+    out: &mut String,
+) -> Result<(), ReplayError>
+    requires room { taken replay.old < 2 ^ 64 - 1 }
+    ensures done { (size : Size) (events : List Event) → IsAfter size events replay.old → OnOk result (IsAfter size (events ++ event.now ∷ []) replay.new) }
+    ensures put { (size : Size) (events : List Event) → IsAfter size events replay.old → size.shards ≡ shards
+        → OnOk result (string_bytes out.new ≡ string_bytes out.old
+        ++ lines_between size (length events) event.now (after size opening events) (step size (after size opening events) event.now)) }
+    ensures reasons { IfErr result (λ reason. (reason ≡ ReplayError.TooManyCallers) ⊎ (reason ≡ ReplayError.Memory)) }
+    ensures too_many { (size : Size) (events : List Event) → IsAfter size events replay.old
+        → IsErrOf result ReplayError.TooManyCallers → 4096 < callers (events ++ event.now ∷ []) }
+{
+    let place = replay.events();
+    let caller = named_by(event);
+    let before = look(replay, caller);
+    let told = replay.step(event)?;
+    let after = look(replay, caller);
+    let put = put_event(shards, place, event, before, after, &told, out);
+    // Let go by name, which is proved once for the type and not at each way out.
+    drop(told);
+    Ok(put?)
+}
+
+/// Puts the lines of an event behind the text, by the moment before it and the one after it, and by what its caller is told.
+fn put_event(
+    shards: usize,
+    place: u64,
+    event: &Event,
+    before: Moment,
+    after: Moment,
+    told: &Option<Reply>,
+    out: &mut String,
+) -> Result<(), AllocError>
+    requires { after.frontier < 2 ^ 64 - 1 }
+    ensures { OnOk result (string_bytes out.new ≡ string_bytes out.old ++ event_lines shards place event.now before after told.now) }
+{
+    match event {
+        Event::Call(caller, request) => put_call(place, *caller, request, before.standing, out),
+        Event::Check(caller) => put_check(place, *caller, before.standing, after.standing, out),
+        Event::Reserve(caller) => put_reserve(place, *caller, before.standing, after.standing, out),
+        Event::Publish(caller) => put_publish(
+            place,
+            *caller,
+            before.standing,
+            after.can_rise,
+            after.frontier,
+            out,
+        ),
+        Event::Raise => put_raise(place, before.can_rise, after.frontier, out),
+        Event::Read(caller) => put_read(place, *caller, before.standing, after.standing, out),
+        Event::ReadAt(caller) => put_read_at(place, *caller, before.standing, after.standing, out),
+        Event::Compact(caller) => put_compact(place, *caller, before.standing, out),
+        Event::Part(caller) => put_part(shards, place, *caller, before.standing, out),
+        Event::Reply(caller) => put_given(place, *caller, told, out),
+        Event::Crash(caller) => put_crash(place, *caller, before.standing, out),
+    }
+}

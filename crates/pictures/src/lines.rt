@@ -1,0 +1,321 @@
+//! The line of each event that is enabled, by its place and by where its caller stands before and after it.
+ghost use Rattle.std.specs.Prelude.{◌≡◌, ◌<◌, ◌-◌, ◌^◌, ◌++◌, string_bytes, OnOk};
+ghost use Rattle.history.specs.declared.standing.Standing.TheVariants.{Idle};
+ghost use Rattle.pictures.specs.Lines.{answering, begun_line, call_line, check_line, checked_line, compact_line, crash_line, drawn_line, hole_line, left_line, part_line, publish_lines, published_line, raise_line, read_at_line, read_line, reply_line, reserve_line};
+
+use crate::words::{put_reply, put_request};
+use history::{Asked, Standing};
+use requests::{Reply, Request};
+use std::alloc::AllocError;
+
+pub(crate) fn put_call(
+    place: u64,
+    caller: u64,
+    request: &Request,
+    before: Standing,
+    out: &mut String,
+) -> Result<(), AllocError>
+    ensures { OnOk result (string_bytes out.new ≡ string_bytes out.old ++ call_line place caller request.now before) }
+{
+    match before {
+        Standing::Idle => put_called(place, caller, request, out),
+        _ => Ok(()),
+    }
+}
+
+fn put_called(
+    place: u64,
+    caller: u64,
+    request: &Request,
+    out: &mut String,
+) -> Result<(), AllocError>
+    ensures { OnOk result (string_bytes out.new ≡ string_bytes out.old ++ call_line place caller request.now Idle) }
+{
+    write!(out, "    Note over C{caller}: {place}: ")?;
+    put_request(request, out)?;
+    write!(out, "\n")
+}
+
+pub(crate) fn put_check(
+    place: u64,
+    caller: u64,
+    before: Standing,
+    after: Standing,
+    out: &mut String,
+) -> Result<(), AllocError>
+    ensures { OnOk result (string_bytes out.new ≡ string_bytes out.old ++ check_line place caller before after) }
+{
+    match before {
+        Standing::Called(Asked::Write { shard }) => put_checked(place, caller, shard, after, out),
+        _ => Ok(()),
+    }
+}
+
+fn put_checked(
+    place: u64,
+    caller: u64,
+    shard: usize,
+    after: Standing,
+    out: &mut String,
+) -> Result<(), AllocError>
+    ensures { OnOk result (string_bytes out.new ≡ string_bytes out.old ++ checked_line place caller shard after) }
+{
+    match after {
+        Standing::Holding { shard: _ } => {
+            write!(
+                out,
+                "    C{caller}->>S{shard}: {place}: check, holds the shard\n"
+            )
+        }
+        Standing::Waiting { saw } => {
+            write!(
+                out,
+                "    C{caller}->>S{shard}: {place}: check, sees {saw}\n"
+            )
+        }
+        _ => Ok(()),
+    }
+}
+
+pub(crate) fn put_reserve(
+    place: u64,
+    caller: u64,
+    before: Standing,
+    after: Standing,
+    out: &mut String,
+) -> Result<(), AllocError>
+    ensures { OnOk result (string_bytes out.new ≡ string_bytes out.old ++ reserve_line place caller before after) }
+{
+    match before {
+        Standing::Holding { shard: _ } => put_drawn(place, caller, after, out),
+        _ => Ok(()),
+    }
+}
+
+fn put_drawn(place: u64, caller: u64, after: Standing, out: &mut String) -> Result<(), AllocError>
+    ensures { OnOk result (string_bytes out.new ≡ string_bytes out.old ++ drawn_line place caller after) }
+{
+    match after {
+        Standing::Drawn { number, shard: _ } => {
+            write!(out, "    Note over C{caller}: {place}: draws {number}\n")
+        }
+        Standing::Waiting { saw: _ } => {
+            write!(out, "    Note over C{caller}: {place}: no number is left\n")
+        }
+        _ => Ok(()),
+    }
+}
+
+/// The publication, and where the number behind the frontier is not filled, a line that says so.
+pub(crate) fn put_publish(
+    place: u64,
+    caller: u64,
+    before: Standing,
+    can_rise: bool,
+    frontier: u64,
+    out: &mut String,
+) -> Result<(), AllocError>
+    requires { frontier < 2 ^ 64 - 1 }
+    ensures { OnOk result (string_bytes out.new ≡ string_bytes out.old ++ publish_lines place caller before can_rise frontier) }
+{
+    match before {
+        Standing::Drawn { number, shard } => {
+            put_published(place, caller, number, shard, out)?;
+            put_hole(can_rise, frontier, out)
+        }
+        Standing::Left { number, shard } => {
+            put_left(place, caller, number, shard, out)?;
+            put_hole(can_rise, frontier, out)
+        }
+        _ => Ok(()),
+    }
+}
+
+fn put_published(
+    place: u64,
+    caller: u64,
+    number: u64,
+    shard: usize,
+    out: &mut String,
+) -> Result<(), AllocError>
+    ensures { OnOk result (string_bytes out.new ≡ string_bytes out.old ++ published_line place caller number shard) }
+{
+    write!(out, "    C{caller}->>S{shard}: {place}: publish {number}\n")
+}
+
+/// The same of a caller that is gone.
+fn put_left(
+    place: u64,
+    caller: u64,
+    number: u64,
+    shard: usize,
+    out: &mut String,
+) -> Result<(), AllocError>
+    ensures { OnOk result (string_bytes out.new ≡ string_bytes out.old ++ left_line place caller number shard) }
+{
+    write!(
+        out,
+        "    Note over S{shard}: {place}: publish {number} of caller {caller}\n"
+    )
+}
+
+fn put_hole(can_rise: bool, frontier: u64, out: &mut String) -> Result<(), AllocError>
+    requires { frontier < 2 ^ 64 - 1 }
+    ensures { OnOk result (string_bytes out.new ≡ string_bytes out.old ++ hole_line can_rise frontier) }
+{
+    if can_rise {
+        return Ok(());
+    }
+    let hole = frontier + 1;
+    write!(out, "    Note over F: hole at {hole}\n")
+}
+
+pub(crate) fn put_raise(
+    place: u64,
+    could_rise: bool,
+    frontier: u64,
+    out: &mut String,
+) -> Result<(), AllocError>
+    ensures { OnOk result (string_bytes out.new ≡ string_bytes out.old ++ raise_line place could_rise frontier) }
+{
+    if could_rise {
+        return write!(out, "    Note over F: {place}: raised to {frontier}\n");
+    }
+    Ok(())
+}
+
+pub(crate) fn put_read(
+    place: u64,
+    caller: u64,
+    before: Standing,
+    after: Standing,
+    out: &mut String,
+) -> Result<(), AllocError>
+    ensures { OnOk result (string_bytes out.new ≡ string_bytes out.old ++ read_line place caller before after) }
+{
+    match before {
+        Standing::Called(Asked::Read) => put_begun(place, caller, after, out),
+        _ => Ok(()),
+    }
+}
+
+pub(crate) fn put_read_at(
+    place: u64,
+    caller: u64,
+    before: Standing,
+    after: Standing,
+    out: &mut String,
+) -> Result<(), AllocError>
+    ensures { OnOk result (string_bytes out.new ≡ string_bytes out.old ++ read_at_line place caller before after) }
+{
+    match before {
+        Standing::Called(Asked::ReadAt) => put_begun(place, caller, after, out),
+        _ => Ok(()),
+    }
+}
+
+fn put_begun(place: u64, caller: u64, after: Standing, out: &mut String) -> Result<(), AllocError>
+    ensures { OnOk result (string_bytes out.new ≡ string_bytes out.old ++ begun_line place caller after) }
+{
+    match after {
+        Standing::Reading {
+            number,
+            shard: _,
+            left: _,
+        } => write!(out, "    C{caller}->>F: {place}: read at {number}\n"),
+        Standing::Waiting { saw: _ } => write!(out, "    C{caller}->>F: {place}: read, denied\n"),
+        _ => Ok(()),
+    }
+}
+
+pub(crate) fn put_compact(
+    place: u64,
+    caller: u64,
+    before: Standing,
+    out: &mut String,
+) -> Result<(), AllocError>
+    ensures { OnOk result (string_bytes out.new ≡ string_bytes out.old ++ compact_line place caller before) }
+{
+    match before {
+        Standing::Called(Asked::Compaction) => write!(out, "    C{caller}->>F: {place}: compact\n"),
+        _ => Ok(()),
+    }
+}
+
+pub(crate) fn put_part(
+    shards: usize,
+    place: u64,
+    caller: u64,
+    before: Standing,
+    out: &mut String,
+) -> Result<(), AllocError>
+    ensures { OnOk result (string_bytes out.new ≡ string_bytes out.old ++ part_line shards place caller before) }
+{
+    match before {
+        Standing::Reading {
+            number,
+            shard,
+            left,
+        } => {
+            if left == 0 {
+                return Ok(());
+            }
+            let shard = answering(shards, shard, left);
+            write!(
+                out,
+                "    S{shard}-->>C{caller}: {place}: part at {number}\n"
+            )
+        }
+        _ => Ok(()),
+    }
+}
+
+/// The shard that answers a read: that of a get, or of a list the first of those that have still to answer.
+fn answering(shards: usize, shard: Option<usize>, left: usize) -> usize
+    ensures { result ≡ answering shards shard left }
+{
+    match shard {
+        Some(shard) => shard,
+        None => shards.saturating_sub(left),
+    }
+}
+
+pub(crate) fn put_given(
+    place: u64,
+    caller: u64,
+    told: &Option<Reply>,
+    out: &mut String,
+) -> Result<(), AllocError>
+    ensures { OnOk result (string_bytes out.new ≡ string_bytes out.old ++ reply_line place caller told.now) }
+{
+    match told {
+        Some(reply) => put_told(place, caller, reply, out),
+        None => Ok(()),
+    }
+}
+
+fn put_told(place: u64, caller: u64, reply: &Reply, out: &mut String) -> Result<(), AllocError>
+    ensures { OnOk result (string_bytes out.new ≡ string_bytes out.old ++ reply_line place caller (Some reply.now)) }
+{
+    write!(out, "    F-->>C{caller}: {place}: ")?;
+    put_reply(reply, out)?;
+    write!(out, "\n")
+}
+
+pub(crate) fn put_crash(
+    place: u64,
+    caller: u64,
+    before: Standing,
+    out: &mut String,
+) -> Result<(), AllocError>
+    ensures { OnOk result (string_bytes out.new ≡ string_bytes out.old ++ crash_line place caller before) }
+{
+    match before {
+        Standing::Gone
+        | Standing::Left {
+            number: _,
+            shard: _,
+        } => Ok(()),
+        _ => write!(out, "    C{caller}-xF: {place}: crash\n"),
+    }
+}

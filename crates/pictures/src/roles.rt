@@ -1,0 +1,27 @@
+ghost use Rattle.std.specs.Prelude.{◌≡◌, ◌++◌, ℕ, List, string_bytes, OnOk};
+ghost use Rattle.pictures.specs.Heading.{no_role};
+
+use std::alloc::AllocError;
+
+/// Who the callers of a run are.
+pub trait Roles {
+    /// What a caller is called before its number.
+    ghost role: { Self → ℕ → List ℕ };
+
+    /// Puts what the caller is called before its number behind the text: nothing, or words with a comma and a space behind
+    /// them.
+    fn put_role(&self, caller: u64, out: &mut String) -> Result<(), AllocError>
+        ensures { OnOk result (string_bytes out.new ≡ string_bytes out.old ++ role self.now caller) };
+}
+
+/// Callers with no other name than their number.
+#[derive(Clone, Copy, Drop)]
+pub struct Callers;
+
+impl Roles for Callers {
+    ghost role = { λ _ caller. no_role caller };
+
+    fn put_role(&self, _caller: u64, _out: &mut String) -> Result<(), AllocError> {
+        Ok(())
+    }
+}
