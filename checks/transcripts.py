@@ -4,7 +4,8 @@ An example NAME, in the folder of the word that it shows, is made of these files
 
     NAME.args    its words, one a line; else those of its folder, below. Words behind an empty line are another way to ask
                  for the same, and have to be answered alike
-    NAME.jsonl   its standard input; else that of serve/first-run, so that a run that is to read nothing could read something
+    NAME.jsonl   its standard input; else, where there is a NAME.input, that of the example that this names, as replay/hole; else
+                 that of serve/first-run, so that a run that is to read nothing could read something
     NAME.out     its standard output; else nothing
     NAME.err     its standard error; else nothing
     NAME.status  its exit status; else 0
@@ -17,7 +18,7 @@ EXAMPLES = f"{TOP}/examples"
 FOLDERS = {
     "serve": ["serve"], "replay": ["replay"], "cluster": ["cluster"], "plan": ["plan", "--set", "web"], "race": ["race"], "words": ["serve"],
 }
-DEFAULT_INPUT = f"{EXAMPLES}/serve/first-run.jsonl"
+DEFAULT_INPUT = b"serve/first-run"
 
 
 def read(path, default=b""):
@@ -37,7 +38,8 @@ class Example:
         self.asked = [FOLDERS[folder]]
         if os.path.exists(f"{at}.args"):
             self.asked = [words.splitlines() for words in read(f"{at}.args").decode().split("\n\n")]
-        self.stdin = read(f"{at}.jsonl", read(DEFAULT_INPUT))
+        other = read(f"{at}.input", DEFAULT_INPUT).decode().strip()
+        self.stdin = read(f"{at}.jsonl", read(f"{EXAMPLES}/{other}.jsonl"))
         self.said = (int(read(f"{at}.status", b"0")), read(f"{at}.out"), read(f"{at}.err"))
 
 

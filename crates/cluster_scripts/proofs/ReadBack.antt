@@ -22,7 +22,7 @@ use Rattle.objects.proofs.UidRound.{length-decimal, version_number-decimal}
 use Rattle.requests.specs.declared.request.Request.{Request}
 use Rattle.requests.specs.declared.request.Request.TheVariants as request
 use Rattle.plain.specs.declared.lines.request_error.RequestError.TheVariants as errors
-use Rattle.plain.specs.RequestParts.{◌>>=◌, required, compaction_in, deletion_in, exact_in, exact_number, field_text, list_in, named_in, named_number, stored_number}
+use Rattle.plain.specs.RequestParts.{◌>>=◌, required, exact_in, exact_number, field_text, named_in, named_number, stored_number}
 use Rattle.plain.specs.Requests.{request_in}
 use Rattle.plain.specs.Verbs.{request_by, verb_in, verb_named}
 use Rattle.plain.proofs.Readings.{compaction_read, deletion_read, list_read, of_create, of_get, of_status, of_update, part_read}

@@ -1,9 +1,11 @@
--- The event that a line of a cluster's script is, if it is one.
-use Rattle.std.specs.Prelude.{List, ℕ, codes, bytes_eq, Option, Some, None, option_map, if◌then◌else◌}
+-- The turn that a line of a cluster's script is, if it is one: an event, or what stands for several.
+use Rattle.std.specs.Prelude.{List, ℕ, nat_le, ◌&&◌, codes, bytes_eq, Option, Some, None, option_map, if◌then◌else◌}
 use Rattle.serde_json.specs.Data.{Data, Members}
 use Rattle.serde_json.specs.Find.{get_member}
 use Rattle.clusters.specs.declared.event.ClusterEvent.{ClusterEvent}
 use Rattle.clusters.specs.declared.event.ClusterEvent.TheVariants.{Next, Outside, Step, Crash}
+use Rattle.cluster_runs.specs.declared.turn.Turn.{Turn}
+use Rattle.cluster_runs.specs.declared.turn.Turn.TheVariants as turn
 use Rattle.scripts.specs.Events.{◌>>=◌, count_in, count_of, line_members, request_in, step_in, text_in}
 
 -- `{"controller":I,"event":"next"}`: the controller calls its next request
@@ -40,9 +42,26 @@ bare_event_in word ms =
 abbrev pub event_by : (word : List ℕ) → Members → Option ClusterEvent
 event_by word ms = if bytes_eq word (codes "outside") then outside_in ms else bare_event_in word ms
 
--- the event that the member `event` says
-abbrev pub event_in : Members → Option ClusterEvent
-event_in ms = text_in (codes "event") ms >>= λ word. event_by word ms
+-- `{"controller":I,"event":"run"}`: the steps that carry the controller's open request to its reply
+abbrev pub run_in : Members → Option Turn
+run_in ms = option_map turn.Run (count_in (codes "controller") ms)
 
-unfoldable pub event_of : List ℕ → Option ClusterEvent
-event_of line = line_members line >>= event_in
+-- from 1 to 1,024
+abbrev pub rounds_of : ℕ → Option ℕ
+rounds_of n = if nat_le 1 n && nat_le n 1024 then Some n else None
+
+-- `{"event":"settle","rounds":N}`: so many times each controller makes a round, and the kubelet a turn
+abbrev pub settle_in : Members → Option Turn
+settle_in ms = option_map turn.Settle (count_in (codes "rounds") ms >>= rounds_of)
+
+abbrev pub turn_by : (word : List ℕ) → Members → Option Turn
+turn_by word ms = if bytes_eq word (codes "run") then run_in ms
+    else if bytes_eq word (codes "settle") then settle_in ms
+    else option_map turn.Event (event_by word ms)
+
+-- the turn that the member `event` says
+abbrev pub turn_in : Members → Option Turn
+turn_in ms = text_in (codes "event") ms >>= λ word. turn_by word ms
+
+unfoldable pub turn_of : List ℕ → Option Turn
+turn_of line = line_members line >>= turn_in

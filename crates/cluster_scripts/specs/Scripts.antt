@@ -1,14 +1,14 @@
--- The script that a text is: its first line says what the cluster is made of, and each other line is an event.
+-- The script that a text is: its first line says what the cluster is made of, and each other line is a turn.
 use Rattle.std.specs.Prelude.{ℕ, List, map, Option, Some}
 use Rattle.serde_json.specs.Data.{Members}
 use Rattle.plain.specs.Lines.{lines}
 use Rattle.interleavings.specs.World.{Size}
-use Rattle.clusters.specs.declared.event.ClusterEvent.{ClusterEvent}
+use Rattle.cluster_runs.specs.declared.turn.Turn.{Turn}
 use Rattle.controllers.specs.Cluster.{size_of}
 use Rattle.controllers.specs.declared.cluster_spec.ClusterSpec.{ClusterSpec}
 use Rattle.scripts.specs.Events.{◌>>=◌, line_members}
 use Rattle.scripts.specs.Scripts.{each_of, script_by, size_in}
-use Rattle.cluster_scripts.specs.Events.{event_of}
+use Rattle.cluster_scripts.specs.Events.{turn_of}
 use Rattle.cluster_scripts.specs.Sets.{SetParts, set_parts, sets_in}
 use Rattle.cluster_scripts.specs.declared.script.ClusterScript.{ClusterScript}
 
@@ -30,12 +30,12 @@ cluster_in ms = do
 abbrev pub cluster_of : List ℕ → Option ClusterParts
 cluster_of line = line_members line >>= cluster_in
 
--- the events of the lines, where each line is one
-abbrev pub events_of : List (List ℕ) → Option (List ClusterEvent)
-events_of ls = each_of event_of ls
+-- the turns of the lines, where each line is one
+abbrev pub turns_of : List (List ℕ) → Option (List Turn)
+turns_of ls = each_of turn_of ls
 
-unfoldable pub cluster_script_of : List ℕ → Option (ClusterParts × List ClusterEvent)
-cluster_script_of text = script_by cluster_of event_of (lines text)
+unfoldable pub cluster_script_of : List ℕ → Option (ClusterParts × List Turn)
+cluster_script_of text = script_by cluster_of turn_of (lines text)
 
-abbrev pub parts_of : ClusterScript → ClusterParts × List ClusterEvent
-parts_of s = (cluster_parts s.spec, s.events.items)
+abbrev pub parts_of : ClusterScript → ClusterParts × List Turn
+parts_of s = (cluster_parts s.spec, s.turns.items)

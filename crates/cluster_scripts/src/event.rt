@@ -1,39 +1,62 @@
-// The event that a line of a script is.
+// The turn that a line of a script is.
 ghost use Rattle.std.specs.Prelude.{◌≡◌, codes};
-ghost use Rattle.cluster_scripts.specs.Events.{bare_event_in, crash_in, event_in, event_of, next_in, outside_in, store_step_in};
+ghost use Rattle.cluster_scripts.specs.Events.{bare_event_in, crash_in, event_by, next_in, outside_in, run_in, settle_in, store_step_in, turn_by, turn_in, turn_of};
 ghost use Rattle.scripts.specs.Events.{Reads};
 
 use clusters::ClusterEvent;
+use controllers::Turn;
 use objects::{Members, TreeReader};
 use scripts::{ScriptError, count_in, count_of, read_members, request_in, step_in, text_in};
 use std::alloc::Global;
 
-/// The event that a line is.
-#[tactic(auto, using(scripts::proofs::Readings::fails_bind), unfolding(crate::specs::Events::event_of))]
-pub(crate) fn read_event(
+/// The most rounds of a line `settle`.
+const MAX_ROUNDS: u64 = 1024;
+
+/// The turn that a line is.
+#[tactic(auto, using(scripts::proofs::Readings::fails_bind), unfolding(crate::specs::Events::turn_of))]
+pub(crate) fn read_turn(
     alloc: Global,
     reader: &mut TreeReader,
     line: &[u8],
-) -> Result<ClusterEvent, ScriptError>
-    ensures { Reads (λ event. event) result (event_of line.now) }
+) -> Result<Turn, ScriptError>
+    ensures { Reads (λ turn. turn) result (turn_of line.now) }
 {
     let members = read_members(reader, line)?;
-    event_in(alloc, members)
+    turn_in(alloc, members)
 }
 
-fn event_in(alloc: Global, members: Members) -> Result<ClusterEvent, ScriptError>
-    ensures { Reads (λ event. event) result (event_in members) }
+fn turn_in(alloc: Global, members: Members) -> Result<Turn, ScriptError>
+    ensures { Reads (λ turn. turn) result (turn_in members) }
 {
     let Some(word) = text_in(&members, "event") else {
         return Err(ScriptError::BadScript);
     };
+    if word == "run" {
+        return match run_in(&members) {
+            Some(turn) => Ok(turn),
+            None => Err(ScriptError::BadScript),
+        };
+    }
+    if word == "settle" {
+        return match settle_in(&members) {
+            Some(turn) => Ok(turn),
+            None => Err(ScriptError::BadScript),
+        };
+    }
     if word == "outside" {
-        return outside_in(alloc, members);
+        return Ok(Turn::Event(outside_in(alloc, members)?));
     }
     match bare_event_in(word, &members) {
-        Some(event) => Ok(event),
+        Some(event) => Ok(Turn::Event(event)),
         None => Err(ScriptError::BadScript),
     }
+}
+
+fn run_in(members: &Members) -> Option<Turn>
+    ensures { result ≡ run_in members.now }
+{
+    let controller = count_in(members, "controller")?;
+    Some(Turn::Run(controller as usize))
 }
 
 #[tactic(auto, using(scripts::proofs::Readings::fails_bind))]
@@ -57,6 +80,18 @@ fn bare_event_in(word: &str, members: &Members) -> Option<ClusterEvent>
         crash_in(members)
     } else {
         store_step_in(word, members)
+    }
+}
+
+/// From 1 to 1,024 rounds.
+fn settle_in(members: &Members) -> Option<Turn>
+    ensures { result ≡ settle_in members.now }
+{
+    let rounds = count_in(members, "rounds")?;
+    if 1 <= rounds && rounds <= MAX_ROUNDS {
+        Some(Turn::Settle { rounds })
+    } else {
+        None
     }
 }
 

@@ -1,22 +1,21 @@
 ghost use Rattle.plain.specs.Lines.{lines};
-ghost use Rattle.cluster_scripts.specs.Scripts.{cluster_script_of, events_of, parts_of};
+ghost use Rattle.cluster_scripts.specs.Scripts.{cluster_script_of, parts_of, turns_of};
 ghost use Rattle.scripts.specs.Events.{Reads};
 
-use crate::event::read_event;
+use crate::event::read_turn;
 use crate::header::read_cluster;
-use clusters::ClusterEvent;
-use controllers::ClusterSpec;
+use controllers::{ClusterSpec, Turn};
 use objects::TreeReader;
 use plain::split_line;
 use scripts::ScriptError;
 use std::alloc::Global;
 
-/// A run of a cluster: what it is made of, and the events, first to last. Neither the capacity nor the number of shards is
-/// bounded here, and a controller that an event names may be none of the cluster's.
+/// A run of a cluster: what it is made of, and its turns, first to last. Neither the capacity nor the number of shards is
+/// bounded here, and a controller that a turn names may be none of the cluster's.
 #[derive(Drop)]
 pub struct ClusterScript {
     pub spec: ClusterSpec,
-    pub events: Vec<ClusterEvent>,
+    pub turns: Vec<Turn>,
 }
 
 /// The script that a text is. Its first line is
@@ -26,14 +25,16 @@ pub struct ClusterScript {
 /// is missing. `moment` is what pods are marked with for deletion (`metadata.deletionTimestamp`), a text that is not empty,
 /// `2024-01-01T00:00:00Z` where it is missing.
 ///
-/// Each other line is an event:
+/// Each other line is a turn: an event, or what stands for several:
 ///
 /// - `{"controller":I,"event":"next"}`: the controller calls its next request;
 /// - `{"controller":I,"event":"crash"}`: the controller crashes;
 /// - `{"caller":N,"event":"outside","request":L}`: anybody else calls, with L as a request line of `serve`;
 /// - `{"caller":N,"event":E}`, E one of `check`, `reserve`, `publish`, `read`, `readat`, `compact`, `part`, `reply` and
 ///   `crash`, or `{"event":"raise"}`: a step of the store, as in a script of `stsctl replay`. A `crash` with a member
-///   `controller` is that of a controller.
+///   `controller` is that of a controller;
+/// - `{"controller":I,"event":"run"}`: the steps that carry the controller's open request to its reply, as `Turn::Run` says;
+/// - `{"event":"settle","rounds":R}`, R from 1 to 1,024: rounds of all controllers and turns of a kubelet, as `Turn::Settle` says.
 ///
 /// Other members are passed over, and of members of one name the last counts. C, K, I and N are whole numbers below 2^64.
 ///
@@ -50,26 +51,22 @@ pub fn read_cluster_script(alloc: Global, text: &[u8]) -> Result<ClusterScript, 
     let (first, rest) = cut;
     let mut reader = TreeReader::new(alloc);
     let spec = read_cluster(alloc, &mut reader, first)?;
-    let events = read_events(alloc, &mut reader, rest)?;
-    Ok(ClusterScript { spec, events })
+    let turns = read_turns(alloc, &mut reader, rest)?;
+    Ok(ClusterScript { spec, turns })
 }
 
-/// The events that the lines of a text are.
+/// The turns that the lines of a text are.
 #[tactic(auto, using(scripts::proofs::Readings::fails_bind))]
-fn read_events(
-    alloc: Global,
-    reader: &mut TreeReader,
-    text: &[u8],
-) -> Result<Vec<ClusterEvent>, ScriptError>
-    ensures { Reads (λ events. events.items) result (events_of (lines text.now)) }
+fn read_turns(alloc: Global, reader: &mut TreeReader, text: &[u8]) -> Result<Vec<Turn>, ScriptError>
+    ensures { Reads (λ turns. turns.items) result (turns_of (lines text.now)) }
 {
-    let mut events = Vec::new(alloc);
+    let mut turns = Vec::new(alloc);
     let mut rest = text;
     'lines: while let Some(cut) = split_line(rest) {
         let (line, after) = cut;
-        let event = read_event(alloc, reader, line)?;
-        events.push(event)?;
+        let turn = read_turn(alloc, reader, line)?;
+        turns.push(turn)?;
         rest = after;
     }
-    Ok(events)
+    Ok(turns)
 }

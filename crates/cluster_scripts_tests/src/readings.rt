@@ -1,7 +1,7 @@
 //! Texts that are scripts of clusters, and texts that are none.
 use cluster_scripts::{ClusterScript, read_cluster_script};
 use clusters::ClusterEvent;
-use controllers::SetSpec;
+use controllers::{SetSpec, Turn};
 use history::Event;
 use scripts::ScriptError;
 use std::alloc::{AllocError, Global};
@@ -10,8 +10,8 @@ use std::test::Fail;
 
 const FIRST: &str = r#"{"capacity":7,"sets":[{"name":"web"}],"shards":2}"#;
 
-/// A line for each kind of event, and what each is.
-static EVENTS: [(&str, (&str, u64)); 15] = [
+/// A line for each kind of turn, and what each is.
+static TURNS: [(&str, (&str, u64)); 18] = [
     (r#"{"controller":0,"event":"next"}"#, ("next", 0)),
     (
         r#"{"controller":1,"event":"crash"}"#,
@@ -36,6 +36,9 @@ static EVENTS: [(&str, (&str, u64)); 15] = [
         r#"{"caller":12,"controller":18446744073709551615,"event":"crash"}"#,
         ("crash of a controller", 18446744073709551615),
     ),
+    (r#"{"controller":14,"event":"run"}"#, ("run", 14)),
+    (r#"{"event":"settle","rounds":1}"#, ("settle", 1)),
+    (r#"{"event":"settle","rounds":1024}"#, ("settle", 1024)),
     // Other members, and a member that comes twice, of which the last counts.
     (
         r#"{"at":true,"controller":1,"controller":13,"event":"raise","event":"next"}"#,
@@ -43,8 +46,8 @@ static EVENTS: [(&str, (&str, u64)); 15] = [
     ),
 ];
 
-/// Lines that are no event.
-static NO_EVENTS: [&str; 15] = [
+/// Lines that are no turn.
+static NO_TURNS: [&str; 21] = [
     "",
     "[]",
     "{}",
@@ -54,6 +57,12 @@ static NO_EVENTS: [&str; 15] = [
     r#"{"caller":0,"event":"next"}"#,
     r#"{"controller":-1,"event":"next"}"#,
     r#"{"controller":18446744073709551616,"event":"next"}"#,
+    r#"{"event":"run"}"#,
+    r#"{"caller":0,"event":"run"}"#,
+    r#"{"event":"settle"}"#,
+    r#"{"event":"settle","rounds":0}"#,
+    r#"{"event":"settle","rounds":1025}"#,
+    r#"{"event":"settle","rounds":"3"}"#,
     r#"{"event":"crash"}"#,
     r#"{"caller":1,"controller":null,"event":"crash"}"#,
     r#"{"caller":1,"event":"outside"}"#,
@@ -113,6 +122,15 @@ fn word_of(event: &ClusterEvent) -> (&'static str, u64) {
     }
 }
 
+/// The word of a turn, and whose it is.
+fn word_of_turn(turn: &Turn) -> (&'static str, u64) {
+    match turn {
+        Turn::Event(event) => word_of(event),
+        Turn::Run(controller) => ("run", *controller as u64),
+        Turn::Settle { rounds } => ("settle", *rounds),
+    }
+}
+
 /// A first line, and one line more.
 fn two_lines(alloc: Global, first: &str, second: &str) -> Result<String, AllocError> {
     format!(in alloc; "{first}\n{second}\n")
@@ -138,23 +156,23 @@ fn is_set(set: Option<&SetSpec>, namespace: &str, name: &str, digits: usize, mom
     }
 }
 
-fn assert_events(rt: &impl Abort, script: &ClusterScript) {
-    assert!(rt; script.events.len() == EVENTS.len());
-    for (event, (line, expected)) in script.events.iter().zip(EVENTS.iter()) {
-        assert!(rt; word_of(event) == *expected, "{line}");
+fn assert_turns(rt: &impl Abort, script: &ClusterScript) {
+    assert!(rt; script.turns.len() == TURNS.len());
+    for (turn, (line, expected)) in script.turns.iter().zip(TURNS.iter()) {
+        assert!(rt; word_of_turn(turn) == *expected, "{line}");
     }
 }
 
 #[test]
-fn each_word_is_an_event(rt: HostRuntime) -> Result<(), Fail> {
+fn each_word_is_a_turn(rt: HostRuntime) -> Result<(), Fail> {
     let mut text = String::from_str(rt.alloc(), FIRST)?;
-    for (line, _) in EVENTS.iter() {
+    for (line, _) in TURNS.iter() {
         text.push_str("\n")?;
         text.push_str(line)?;
     }
     // The last line has no line feed.
     let script = read_cluster_script(rt.alloc(), text.as_bytes())?;
-    assert_events(&rt, &script);
+    assert_turns(&rt, &script);
     drop(script);
     Ok(())
 }
@@ -165,8 +183,8 @@ fn an_outsider_has_its_request(rt: HostRuntime) -> Result<(), Fail> {
         r#"{"caller":9,"event":"outside","request":{"do":"create","object":{"kind":"Pod","metadata":{"name":"a"}}}}"#;
     let text = two_lines(rt.alloc(), FIRST, outside)?;
     let script = read_cluster_script(rt.alloc(), text.as_bytes())?;
-    let is_create = match script.events.first() {
-        Some(ClusterEvent::Outside(9, request)) => request.is_write(),
+    let is_create = match script.turns.first() {
+        Some(Turn::Event(ClusterEvent::Outside(9, request))) => request.is_write(),
         _ => false,
     };
     drop(script);
@@ -183,7 +201,7 @@ fn is_three_sets(script: &ClusterScript) -> bool {
         && is_set(sets.first(), "default", "web", 10, "2024-01-01T00:00:00Z")
         && is_set(sets.get(1), "kube-system", "db", 64, "now")
         && is_set(sets.get(2), "default", "web", 1, "2024-01-01T00:00:00Z")
-        && script.events.is_empty()
+        && script.turns.is_empty()
 }
 
 #[test]
@@ -210,8 +228,8 @@ fn a_cluster_may_have_no_controller(rt: HostRuntime) -> Result<(), Fail> {
 }
 
 #[test]
-fn lines_that_are_no_event(rt: HostRuntime) -> Result<(), Fail> {
-    for line in NO_EVENTS {
+fn lines_that_are_no_turn(rt: HostRuntime) -> Result<(), Fail> {
+    for line in NO_TURNS {
         let text = two_lines(rt.alloc(), FIRST, line)?;
         assert!(rt; is_refused(rt.alloc(), text.as_str()), "{line}");
     }

@@ -7,19 +7,21 @@ use Rattle.scripts.specs.declared.fault.ScriptError.{ScriptError}
 use Rattle.scripts.specs.declared.fault.ScriptError.TheVariants.{BadScript, Memory}
 use Rattle.cluster_scripts.specs.Scripts.{cluster_script_of, parts_of}
 use Rattle.cluster_scripts.specs.declared.script.ClusterScript.{ClusterScript}
-use Rattle.commands.specs.Clustering.{Clusters, IsClusterRefusal, IsClusterRefusedBy, IsClusterRunRefusal, IsClusterTextOf}
+use Rattle.commands.specs.Clustering.{ClustersAs, IsClusterRefusal, IsClusterRefusedBy, IsClusterRunRefusal, IsClusterTextOf}
 use Rattle.commands.specs.Replaying.{script_refusal}
+use Rattle.commands.specs.declared.form.Form.{Form}
 
-pub clusters : (had left before after : Option (List ℕ)) (text shown : List ℕ)
-    → IfSome had (λ input. (left ≡ Some []) × IsClusterTextOf input text) → Puts before shown after → shown ≡ text → Clusters had left before after
-clusters None left before after text shown ran puts same = tt
-clusters (Some input) left before after text shown ran puts same = (ran.0, (text, ran.1, subst (λ t. Puts before t after) same puts))
+pub clusters : (form : Form) (had left before after : Option (List ℕ)) (text shown : List ℕ)
+    → IfSome had (λ input. (left ≡ Some []) × IsClusterTextOf form input text) → Puts before shown after → shown ≡ text
+    → ClustersAs form had left before after
+clusters form None left before after text shown ran puts same = tt
+clusters form (Some input) left before after text shown ran puts same = (ran.0, (text, ran.1, subst (λ t. Puts before t after) same puts))
 
 -- what is made of the bytes that were read is made of the input
-pub clustered_input : (had left : Option (List ℕ)) (bytes text : List ℕ) → IfSome had (λ i. bytes ≡ i) → IfSome had (λ _. left ≡ Some [])
-    → IsClusterTextOf bytes text → IfSome had (λ input. (left ≡ Some []) × IsClusterTextOf input text)
-clustered_input None left bytes text all ends made = tt
-clustered_input (Some i) left bytes text all ends made = (ends, subst (λ b. IsClusterTextOf b text) all made)
+pub clustered_input : (form : Form) (had left : Option (List ℕ)) (bytes text : List ℕ) → IfSome had (λ i. bytes ≡ i) → IfSome had (λ _. left ≡ Some [])
+    → IsClusterTextOf form bytes text → IfSome had (λ input. (left ≡ Some []) × IsClusterTextOf form input text)
+clustered_input form None left bytes text all ends made = tt
+clustered_input form (Some i) left bytes text all ends made = (ends, subst (λ b. IsClusterTextOf form b text) all made)
 
 -- a text that is no script is refused by that name
 pub refused_cluster_script : (error : ScriptError) (name : Option (List ℕ)) (input : List ℕ) → name ≡ script_refusal error

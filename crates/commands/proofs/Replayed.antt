@@ -11,14 +11,16 @@ use Rattle.scripts.specs.Scripts.{script_of}
 use Rattle.scripts.specs.declared.fault.ScriptError.{ScriptError}
 use Rattle.scripts.specs.declared.fault.ScriptError.TheVariants.{BadScript, Memory}
 use Rattle.commands.specs.Halts.{IsNamed, halt_of, name_of}
-use Rattle.commands.specs.Replaying.{IsRefusedBy, IsReplayRefusal, IsReplayText, IsRunRefusal, Replays, script_refusal}
+use Rattle.commands.specs.Replaying.{IsRefusedBy, IsReplayRefusal, IsReplayText, IsRunRefusal, ReplaysAs, script_refusal}
+use Rattle.commands.specs.declared.form.Form.{Form}
 use Rattle.interleavings.specs.World.{Size}
 use Rattle.interleavings.specs.declared.event.Event.{Event}
 
-pub replays : (had left before after : Option (List ℕ)) (text shown : List ℕ)
-    → IfSome had (λ input. (left ≡ Some []) × IsReplayText input text) → Puts before shown after → shown ≡ text → Replays had left before after
-replays None left before after text shown replayed puts same = tt
-replays (Some input) left before after text shown replayed puts same =
+pub replays : (form : Form) (had left before after : Option (List ℕ)) (text shown : List ℕ)
+    → IfSome had (λ input. (left ≡ Some []) × IsReplayText form input text) → Puts before shown after → shown ≡ text
+    → ReplaysAs form had left before after
+replays form None left before after text shown replayed puts same = tt
+replays form (Some input) left before after text shown replayed puts same =
     (replayed.0, (text, replayed.1, subst (λ t. Puts before t after) same puts))
 
 -- a text that is no script is refused by that name

@@ -18,9 +18,12 @@ use Rattle.plain.proofs.Flows.{PutsPart-none, Takes-none}
 use Rattle.race_log.specs.declared.spec.RaceSpec.{RaceSpec}
 use Rattle.commands.specs.Asked.{IsAsked, IsOther, IsRaceBy, IsScripted, IsServing}
 use Rattle.commands.specs.Serving.{ServesSome}
+use Rattle.commands.specs.declared.form.Form.{Form}
+use Rattle.commands.specs.declared.form.Form.TheVariants.{Lines, Picture}
 use Rattle.commands.specs.declared.words.Asked.{Asked}
 use Rattle.commands.specs.declared.words.Asked.TheVariants.{Cluster, Plan, Race, Replay, Serve}
-use Rattle.commands.specs.Grammar.{IsCapacityBy, IsNumberBy, asks_to, capacity_text, digits_text, is_under, plan_text, race_text, rows_under, stsctl_app}
+use Rattle.commands.specs.Forms.{IsFormBy}
+use Rattle.commands.specs.Grammar.{IsCapacityBy, IsNumberBy, asks_to, capacity_text, digits_text, flag_text, is_under, plan_text, race_text, rows_under, stsctl_app}
 
 stsctl-is_simple : is_simple stsctl_app ≡ true
 unfolding clap_on_literals
@@ -102,6 +105,11 @@ pub capacity-is : (words : List Text) (m : ArgMatches) → subcommand_rows_of m 
 unfolding capacity_text
 capacity-is words m same = ap (λ e. one_of (codes "capacity") (rows_under (codes "serve") e)) same
 
+pub flag-is : (words : List Text) (m : ArgMatches) (word : Text) → subcommand_rows_of m ≡ subcommand_of stsctl_app words
+    → one_of (codes "picture") (rows_under word (subcommand_rows_of m)) ≡ flag_text word words
+unfolding flag_text
+flag-is words m word same = ap (λ e. one_of (codes "picture") (rows_under word e)) same
+
 -- one word or another
 named-apart : (here other : Text) → bytes_eq here other ≡ false → Some here ≡ Some other → ⊥
 named-apart here other apart is = false-true (sym apart ∙ (bytes_eq-Decides here other).1 (ap (λ o. unwrap_or o []) is))
@@ -129,8 +137,8 @@ race_by words m spec same by = (
 pub served_scripted : (m : ArgMatches) (asked : Asked) → is_under (codes "replay") (subcommand_rows_of m) ≡ false → IsServing (subcommand_rows_of m) asked
     → IsScripted (subcommand_rows_of m) asked
 served_scripted m (Serve capacity) replay serving = (replay, serving)
-served_scripted m Replay replay serving = absurd serving
-served_scripted m Cluster replay serving = (replay, serving)
+served_scripted m (Replay form) replay serving = absurd serving
+served_scripted m (Cluster form) replay serving = (replay, serving)
 served_scripted m (Plan plan) replay serving = serving
 served_scripted m (Race spec) replay serving = absurd serving
 
@@ -138,8 +146,8 @@ served_scripted m (Race spec) replay serving = absurd serving
 pub scripted_other : (m : ArgMatches) (asked : Asked) → is_under (codes "race") (subcommand_rows_of m) ≡ false → IsScripted (subcommand_rows_of m) asked
     → IsOther (subcommand_rows_of m) asked
 scripted_other m (Serve capacity) race scripted = (race, scripted)
-scripted_other m Replay race scripted = (race, scripted)
-scripted_other m Cluster race scripted = (race, scripted)
+scripted_other m (Replay form) race scripted = (race, scripted)
+scripted_other m (Cluster form) race scripted = (race, scripted)
 scripted_other m (Plan plan) race scripted = scripted
 scripted_other m (Race spec) race scripted = absurd scripted
 
@@ -155,17 +163,23 @@ other_asked words m (Serve capacity) same plan other = (
   ),
   subst (λ t. IsCapacityBy t capacity) (capacity-is words m same) other.1.1.1,
 )
-other_asked words m Replay same plan other = (
-  plan,
-  asks-to words m (codes "race") false same other.0,
-  asks-to words m (codes "replay") true same other.1.0,
-  asks-to words m (codes "cluster") false same other.1.1,
+other_asked words m (Replay form) same plan other = (
+  (
+    plan,
+    asks-to words m (codes "race") false same other.0,
+    asks-to words m (codes "replay") true same other.1.0,
+    asks-to words m (codes "cluster") false same other.1.1,
+  ),
+  subst (λ t. IsFormBy t form) (flag-is words m (codes "replay") same) other.1.2,
 )
-other_asked words m Cluster same plan other = (
-  plan,
-  asks-to words m (codes "race") false same other.0,
-  asks-to words m (codes "replay") false same other.1.0,
-  asks-to words m (codes "cluster") true same other.1.1,
+other_asked words m (Cluster form) same plan other = (
+  (
+    plan,
+    asks-to words m (codes "race") false same other.0,
+    asks-to words m (codes "replay") false same other.1.0,
+    asks-to words m (codes "cluster") true same other.1.1.0,
+  ),
+  subst (λ t. IsFormBy t form) (flag-is words m (codes "cluster") same) other.1.1.1,
 )
 other_asked words m (Plan asked) same plan other = absurd other
 other_asked words m (Race spec) same plan other = (
@@ -214,3 +228,12 @@ serves_nothing words had left before after same_left same_after =
       asked.1,
       ([], subst (λ o. Takes had [] o) (sym same_left) (Takes-none had), inl (subst (λ o. PutsPart before text o) (sym same_after) (PutsPart-none before text))),
     )
+
+-- what is printed, as `clap` has the flag
+abbrev pub form_in : Bool → Form
+form_in picture = if picture then Picture else Lines
+
+pub form_by : (text : Option Text) (picture : Bool) → (text ≡ None → picture ≡ false) → (text ≡ Some (codes "true") → picture ≡ true)
+    → (text ≡ Some (codes "false") → picture ≡ false) → IsFormBy text (form_in picture)
+form_by None picture none value other = ap form_in (none refl)
+form_by (Some t) picture none value other = ((λ is. ap form_in (value (ap Some is))), (λ is. ap form_in (other (ap Some is))))

@@ -4,7 +4,8 @@ use Rattle.clap.specs.Words.{Row, Text, one_of}
 use Rattle.commands.specs.declared.words.Asked.{Asked}
 use Rattle.commands.specs.declared.words.Asked.TheVariants.{Serve, Replay, Cluster, Plan, Race}
 use Rattle.commands.specs.declared.words.PlanWords.{PlanWords}
-use Rattle.commands.specs.Grammar.{AsksFor, IsCapacityBy, IsDigitsBy, IsNumberBy, asks_to, digits_text, is_under, plan_text, race_text, rows_under}
+use Rattle.commands.specs.Forms.{IsFormBy}
+use Rattle.commands.specs.Grammar.{AsksFor, IsCapacityBy, IsDigitsBy, IsNumberBy, asks_to, digits_text, flag_text, is_under, plan_text, race_text, rows_under}
 use Rattle.race_log.specs.declared.spec.RaceSpec.{RaceSpec}
 use Rattle.race_log.specs.Limits.{is_race}
 
@@ -30,8 +31,8 @@ AsksTo replay cluster plan race words = (asks_to (codes "plan") words ≡ plan) 
 
 abbrev pub IsAsked : List Text → Asked → Type 0
 IsAsked words (Serve capacity) = AsksTo false false false false words × AsksFor words capacity
-IsAsked words Replay = AsksTo true false false false words
-IsAsked words Cluster = AsksTo false true false false words
+IsAsked words (Replay form) = AsksTo true false false false words × IsFormBy (flag_text (codes "replay") words) form
+IsAsked words (Cluster form) = AsksTo false true false false words × IsFormBy (flag_text (codes "cluster") words) form
 IsAsked words (Plan plan) = AsksTo false false true false words × IsPlanAsked words plan
 IsAsked words (Race spec) = AsksTo false false false true words × IsRaceAsked words spec
 
@@ -41,22 +42,23 @@ IsAsked words (Race spec) = AsksTo false false false true words × IsRaceAsked w
 abbrev pub IsServing : Option (Text × List Row) → Asked → Type 0
 IsServing met (Serve capacity) = (is_under (codes "cluster") met ≡ false)
     × IsCapacityBy (one_of (codes "capacity") (rows_under (codes "serve") met)) capacity
-IsServing met Replay = ⊥
-IsServing met Cluster = is_under (codes "cluster") met ≡ true
+IsServing met (Replay form) = ⊥
+IsServing met (Cluster form) = (is_under (codes "cluster") met ≡ true) × IsFormBy (one_of (codes "picture") (rows_under (codes "cluster") met)) form
 IsServing met (Plan plan) = ⊥
 IsServing met (Race spec) = ⊥
 
 abbrev pub IsScripted : Option (Text × List Row) → Asked → Type 0
 IsScripted met (Serve capacity) = (is_under (codes "replay") met ≡ false) × IsServing met (Serve capacity)
-IsScripted met Replay = (is_under (codes "replay") met ≡ true) × (is_under (codes "cluster") met ≡ false)
-IsScripted met Cluster = (is_under (codes "replay") met ≡ false) × IsServing met Cluster
+IsScripted met (Replay form) = (is_under (codes "replay") met ≡ true) × (is_under (codes "cluster") met ≡ false)
+    × IsFormBy (one_of (codes "picture") (rows_under (codes "replay") met)) form
+IsScripted met (Cluster form) = (is_under (codes "replay") met ≡ false) × IsServing met (Cluster form)
 IsScripted met (Plan plan) = ⊥
 IsScripted met (Race spec) = ⊥
 
 abbrev pub IsOther : Option (Text × List Row) → Asked → Type 0
 IsOther met (Serve capacity) = (is_under (codes "race") met ≡ false) × IsScripted met (Serve capacity)
-IsOther met Replay = (is_under (codes "race") met ≡ false) × IsScripted met Replay
-IsOther met Cluster = (is_under (codes "race") met ≡ false) × IsScripted met Cluster
+IsOther met (Replay form) = (is_under (codes "race") met ≡ false) × IsScripted met (Replay form)
+IsOther met (Cluster form) = (is_under (codes "race") met ≡ false) × IsScripted met (Cluster form)
 IsOther met (Plan plan) = ⊥
 IsOther met (Race spec) = (is_under (codes "race") met ≡ true) × (is_under (codes "replay") met ≡ false) × (is_under (codes "cluster") met ≡ false)
     × IsRaceBy (λ option. one_of option (rows_under (codes "race") met)) spec × (is_race spec ≡ true)

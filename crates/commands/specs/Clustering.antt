@@ -4,33 +4,60 @@ use Rattle.std.specs.Option.{IfSome}
 use Rattle.plain.specs.Streams.{Puts}
 use Rattle.plain_store.specs.Reached.{most_revisions}
 use Rattle.clusters.specs.Cluster.{Cluster}
+use Rattle.clusters.specs.declared.event.ClusterEvent.{ClusterEvent}
 use Rattle.cluster_runs.specs.Ran.{IsClusterRun, cluster_after, owner_in}
+use Rattle.cluster_runs.specs.Turns.{events_of_turns}
 use Rattle.cluster_runs.specs.declared.fault.ClusterFault.{ClusterFault}
 use Rattle.cluster_runs.specs.declared.fault.ClusterFault.TheVariants as errors
 use Rattle.cluster_runs.specs.declared.run.ClusterRun.{ClusterRun}
-use Rattle.controllers.specs.Cluster.{reconciler_named, size_of}
+use Rattle.controllers.specs.Cluster.{namespaces_of, reconciler_named, size_of}
 use Rattle.cluster_scripts.specs.Printing.{cluster_text}
 use Rattle.cluster_scripts.specs.Scripts.{cluster_script_of, parts_of}
 use Rattle.cluster_scripts.specs.declared.script.ClusterScript.{ClusterScript}
+use Rattle.clap.specs.Words.{Text}
+use Rattle.pictures.specs.Picture.{picture_text}
+use Rattle.commands.specs.Forms.{IsFormBy}
+use Rattle.commands.specs.Grammar.{flag_text}
+use Rattle.commands.specs.Roles.{role_by}
+use Rattle.commands.specs.declared.form.Form.{Form}
+use Rattle.commands.specs.declared.form.Form.TheVariants.{Lines, Picture}
+
+-- the events that its turns stand for
+abbrev pub events_by : ClusterScript → List ClusterEvent
+events_by script = events_of_turns (size_of script.spec) (length script.spec.sets.items) (reconciler_named script.spec.sets.items) (namespaces_of script.spec.sets.items) script.turns.items
 
 -- the cluster of the script, after its events
 abbrev pub cluster_by : ClusterScript → Cluster
-cluster_by script = cluster_after (size_of script.spec) (length script.spec.sets.items) (reconciler_named script.spec.sets.items) script.events.items
+cluster_by script = cluster_after (size_of script.spec) (length script.spec.sets.items) (reconciler_named script.spec.sets.items) (events_by script)
 
 -- what the controllers ask and everybody is answered in the run of the script, and its order, which is a legal one
 abbrev pub IsClusterText : ClusterScript → List ℕ → Type 0
 IsClusterText script text = (found : ClusterRun)
-    × IsClusterRun (size_of script.spec) (length script.spec.sets.items) (reconciler_named script.spec.sets.items) script.events.items found
+    × IsClusterRun (size_of script.spec) (length script.spec.sets.items) (reconciler_named script.spec.sets.items) (events_by script) found
     × (text ≡ cluster_text (owner_in found.owners) found.run.trace.items.items found.run.order.items)
 
+-- the picture of that run, in which a caller that is or was a controller is called by its set and its number
+abbrev pub IsClusterPicture : ClusterScript → List ℕ → Type 0
+IsClusterPicture script text = (found : ClusterRun)
+    × IsClusterRun (size_of script.spec) (length script.spec.sets.items) (reconciler_named script.spec.sets.items) (events_by script) found
+    × (text ≡ picture_text (size_of script.spec) (λ n. role_by script.spec.sets.items (owner_in found.owners n)) found.events.items)
+
+abbrev pub IsClusterShown : Form → ClusterScript → List ℕ → Type 0
+IsClusterShown Lines script text = IsClusterText script text
+IsClusterShown Picture script text = IsClusterPicture script text
+
 -- the same of a script that the input is
-abbrev pub IsClusterTextOf : (input text : List ℕ) → Type 0
-IsClusterTextOf input text = (script : ClusterScript) × (cluster_script_of input ≡ Some (parts_of script)) × IsClusterText script text
+abbrev pub IsClusterTextOf : Form → (input text : List ℕ) → Type 0
+IsClusterTextOf form input text = (script : ClusterScript) × (cluster_script_of input ≡ Some (parts_of script)) × IsClusterShown form script text
 
 -- All of the reader's bytes were read, and that text was written.
-abbrev pub Clusters : Option (List ℕ) → Option (List ℕ) → Option (List ℕ) → Option (List ℕ) → Type 0
-Clusters had left before after = IfSome had (λ input. (left ≡ Some [])
-    × ((text : List ℕ) × IsClusterTextOf input text × Puts before text after))
+abbrev pub ClustersAs : Form → Option (List ℕ) → Option (List ℕ) → Option (List ℕ) → Option (List ℕ) → Type 0
+ClustersAs form had left before after = IfSome had (λ input. (left ≡ Some [])
+    × ((text : List ℕ) × IsClusterTextOf form input text × Puts before text after))
+
+-- the same in the form that the words ask for
+abbrev pub Clusters : List Text → Option (List ℕ) → Option (List ℕ) → Option (List ℕ) → Option (List ℕ) → Type 0
+Clusters words had left before after = (form : Form) × IsFormBy (flag_text (codes "cluster") words) form × ClustersAs form had left before after
 
 -- The run of the script is refused by this name: the shards or the capacity are out of range, or more than 4,096 callers are used.
 abbrev pub IsClusterRunRefusal : ClusterScript → (name : List ℕ) → Type 0

@@ -1,4 +1,4 @@
--- What the program takes, as `clap` reads it: `serve [--capacity N]`, `replay`, `cluster`,
+-- What the program takes, as `clap` reads it: `serve [--capacity N]`, `replay [--picture]`, `cluster [--picture]`,
 -- `plan --set NAME [--namespace NS] [--digits H]`, and
 -- `race [--controllers N] [--shards N] [--rounds N] [--replicas N]`. `clap` adds help and the version.
 use Rattle.std.specs.Prelude.{◌≡◌, ◌≤◌, ◌<◌, ◌^◌, ℕ, Bool, true, false, List, [], Option, Some, None, codes, if◌then◌else◌}
@@ -7,6 +7,7 @@ use Rattle.std.specs.Str.{bytes_eq}
 use Rattle.std.specs.Str.Parse.{IsNumeral, digits_value, without_leading_plus}
 use Rattle.clap.specs.Words.{App, Kinds, Row, Rule, Text, fault_of, first_of, new_app, new_rule, one_of, subcommand_of, with_rule, with_subcommand}
 use Rattle.clap.specs.Simple.{new_shape}
+use Rattle.clap.specs.declared.builder.action.ArgAction.TheVariants.{SetTrue}
 use Rattle.clap.specs.declared.builder.value_parser.ValueParser.{ValueParser}
 use Rattle.clap.specs.declared.builder.value_parser.ValueParser.TheVariants as parsers
 use Rattle.clap.specs.declared.error.kind.ErrorKind.{ErrorKind}
@@ -23,11 +24,15 @@ capacity_rule = record (new_rule (codes "capacity")) {
 abbrev pub serve_app : App
 serve_app = with_rule (new_app (codes "serve")) capacity_rule
 
+-- the flag `--picture`
+abbrev pub picture_rule : Rule
+picture_rule = record (new_rule (codes "picture")) { long = Some (codes "picture"); action = Some SetTrue }
+
 abbrev pub replay_app : App
-replay_app = new_app (codes "replay")
+replay_app = with_rule (new_app (codes "replay")) picture_rule
 
 abbrev pub cluster_app : App
-cluster_app = new_app (codes "cluster")
+cluster_app = with_rule (new_app (codes "cluster")) picture_rule
 
 abbrev pub set_rule : Rule
 set_rule = record (new_rule (codes "set")) { long = Some (codes "set"); value_names = 1; required = true }
@@ -77,6 +82,10 @@ asks_to word words = is_under word (subcommand_of stsctl_app words)
 -- the text after `--capacity`, if the words have one
 unfoldable pub capacity_text : List Text → Option Text
 capacity_text words = one_of (codes "capacity") (rows_under (codes "serve") (subcommand_of stsctl_app words))
+
+-- what `clap` has for the flag `--picture` of this subcommand
+unfoldable pub flag_text : Text → List Text → Option Text
+flag_text word words = one_of (codes "picture") (rows_under word (subcommand_of stsctl_app words))
 
 -- the text after this option of `plan`, if the words have one
 unfoldable pub plan_text : Text → List Text → Option Text

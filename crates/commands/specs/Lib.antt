@@ -1,10 +1,12 @@
 -- ---- what public clauses cite
 pub mod Asked
 pub mod Clustering
+pub mod Forms
 pub mod Grammar
 pub mod Halts
 pub mod Planning
 pub mod Racing
 pub mod Refusing
 pub mod Replaying
+pub mod Roles
 pub mod Serving

@@ -13,20 +13,36 @@ use Rattle.interleavings.specs.declared.trace.Run.{Run}
 use Rattle.scripts.specs.Printing.{run_text}
 use Rattle.scripts.specs.Scripts.{script_of}
 use Rattle.scripts.specs.declared.fault.ScriptError.{ScriptError}
+use Rattle.clap.specs.Words.{Text}
+use Rattle.pictures.specs.Heading.{no_role}
+use Rattle.pictures.specs.Picture.{picture_text}
+use Rattle.commands.specs.Forms.{IsFormBy}
+use Rattle.commands.specs.Grammar.{flag_text}
+use Rattle.commands.specs.declared.form.Form.{Form}
+use Rattle.commands.specs.declared.form.Form.TheVariants.{Lines, Picture}
 use Rattle.scripts.specs.declared.fault.ScriptError.TheVariants.{BadScript, Memory}
 
 -- the replies of the run of these events, and its order
 abbrev pub IsRunText : Size × List Event → List ℕ → Type 0
 IsRunText script text = (run : Run) × IsRunOf script.0 script.1 run × (text ≡ run_text run.trace.items.items run.order.items)
 
--- the same of the script that the input is
-abbrev pub IsReplayText : (input text : List ℕ) → Type 0
-IsReplayText input text = (script : Size × List Event) × (script_of input ≡ Some script) × IsRunText script text
+-- that text, or the picture of the run
+abbrev pub IsShownText : Form → Size × List Event → List ℕ → Type 0
+IsShownText Lines script text = IsRunText script text
+IsShownText Picture script text = text ≡ picture_text script.0 no_role script.1
 
--- All of the reader's bytes were read, and the replies of that run and its order were written.
-abbrev pub Replays : Option (List ℕ) → Option (List ℕ) → Option (List ℕ) → Option (List ℕ) → Type 0
-Replays had left before after = IfSome had (λ input. (left ≡ Some [])
-    × ((text : List ℕ) × IsReplayText input text × Puts before text after))
+-- the same of the script that the input is
+abbrev pub IsReplayText : Form → (input text : List ℕ) → Type 0
+IsReplayText form input text = (script : Size × List Event) × (script_of input ≡ Some script) × IsShownText form script text
+
+-- All of the reader's bytes were read, and that text was written.
+abbrev pub ReplaysAs : Form → Option (List ℕ) → Option (List ℕ) → Option (List ℕ) → Option (List ℕ) → Type 0
+ReplaysAs form had left before after = IfSome had (λ input. (left ≡ Some [])
+    × ((text : List ℕ) × IsReplayText form input text × Puts before text after))
+
+-- the same in the form that the words ask for: the replies of the run and its order, or its picture
+abbrev pub Replays : List Text → Option (List ℕ) → Option (List ℕ) → Option (List ℕ) → Option (List ℕ) → Type 0
+Replays words had left before after = (form : Form) × IsFormBy (flag_text (codes "replay") words) form × ReplaysAs form had left before after
 
 -- The run of the script's events is refused by this name: the shards or the capacity are out of range, or the events name
 -- too many callers.

@@ -3,7 +3,9 @@
 #![tactic(auto)]
 
 mod cluster;
+mod cluster_roles;
 mod explain;
+mod form;
 mod halt;
 mod numbers;
 mod plan;

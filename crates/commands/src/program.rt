@@ -59,12 +59,12 @@ pub fn command<T: Threads + Wait + Sync, S: AsStr, R: Source, W: Sink, F: Sink>(
     // What was replayed.
     ensures replayed { let texts = map S.text words.now in
         result ≡ SUCCESS → (faults_of texts ≡ []) → asks_to (codes "replay") texts ≡ true
-        → Replays (R.remaining reader.old) (R.remaining reader.new) (W.written writer.old) (W.written writer.new) }
+        → Replays texts (R.remaining reader.old) (R.remaining reader.new) (W.written writer.old) (W.written writer.new) }
 
     // What a cluster asked and was answered.
     ensures clustered { let texts = map S.text words.now in
         result ≡ SUCCESS → (faults_of texts ≡ []) → asks_to (codes "cluster") texts ≡ true
-        → Clusters (R.remaining reader.old) (R.remaining reader.new) (W.written writer.old) (W.written writer.new) }
+        → Clusters texts (R.remaining reader.old) (R.remaining reader.new) (W.written writer.old) (W.written writer.new) }
 
     // What was planned.
     ensures planned { let texts = map S.text words.now in
@@ -106,8 +106,8 @@ pub fn command<T: Threads + Wait + Sync, S: AsStr, R: Source, W: Sink, F: Sink>(
 {
     match read_words(heap.alloc, words) {
         Ok(Asked::Serve(capacity)) => served(heap, reader, writer, capacity),
-        Ok(Asked::Replay) => replayed(heap, reader, writer, faults),
-        Ok(Asked::Cluster) => clustered(heap, reader, writer, faults),
+        Ok(Asked::Replay(form)) => replayed(heap, form, reader, writer, faults),
+        Ok(Asked::Cluster(form)) => clustered(heap, form, reader, writer, faults),
         Ok(Asked::Plan(plan)) => planned(heap, &plan, reader, writer, faults),
         Ok(Asked::Race(spec)) => raced(rt, heap, &spec, writer),
         Err(error) => explained(heap, &error, writer, faults),

@@ -2,24 +2,29 @@
 ghost use Rattle.std.specs.Prelude.{◌≡◌, ◌≢◌, ◌<◌, ◌⊎◌, ℕ, List, [], true, false, IfOk, IfErr, IfSome, Some};
 ghost use Rattle.scripts.specs.Scripts.{parts_of};
 ghost use Rattle.commands.specs.Halts.{CountsReads, Tells, is_read, name_of};
-ghost use Rattle.commands.specs.Replaying.{IsRefusedBy, IsReplayRefusal, IsReplayText, IsRunRefusal, IsRunText, Replays};
+ghost use Rattle.pictures.specs.Heading.{no_role};
+ghost use Rattle.pictures.specs.Picture.{picture_text};
+ghost use Rattle.commands.specs.Replaying.{IsRefusedBy, IsReplayRefusal, IsReplayText, IsRunRefusal, IsRunText, IsShownText, ReplaysAs};
 
+use crate::form::Form;
 use crate::halt::{Halt, halted};
 use crate::status::{BAD_WORDS, FAILURE, Heap, REFUSED, SUCCESS, shown};
 use history::replay;
+use pictures::{Callers, picture};
 use plain::{Sink, Source, read_all};
 use scripts::{Script, read_script, run_text};
 use std::alloc::Global;
 
-/// Runs the events of the script that the reader has, and writes the replies and the order.
+/// Runs the events of the script that the reader has, and writes the replies and the order, or a picture of the run.
 pub(crate) fn replayed<R: Source, W: Sink, F: Sink>(
     heap: &mut Heap,
+    form: Form,
     reader: &mut R,
     writer: &mut W,
     faults: &mut F,
 ) -> u8
     ensures status { (result < BAD_WORDS) ⊎ (result ≡ REFUSED) }
-    ensures replayed { result ≡ SUCCESS → Replays (R.remaining reader.old) (R.remaining reader.new)
+    ensures replayed { result ≡ SUCCESS → ReplaysAs form (R.remaining reader.old) (R.remaining reader.new)
         (W.written writer.old) (W.written writer.new) }
     ensures named { result ≡ REFUSED → (name : List ℕ)
         × (Tells name (F.written faults.old) (F.written faults.new) (F.failures faults.old) (F.failures faults.new))
@@ -32,34 +37,47 @@ pub(crate) fn replayed<R: Source, W: Sink, F: Sink>(
     ensures quiet { result < BAD_WORDS → faults.new ≡ faults.old }
     ensures silent { result ≡ REFUSED → writer.new ≡ writer.old }
 {
-    match replay_of_input(heap.alloc, reader) {
+    match replay_of_input(heap.alloc, form, reader) {
         Ok(text) => shown(writer, text.as_slice()),
         Err(halt) => halted(heap, halt, faults),
     }
 }
 
-/// The replies and the order, given all that the reader has.
-fn replay_of_input<R: Source>(alloc: Global, reader: &mut R) -> Result<Vec<u8>, Halt>
-    ensures replayed { IfOk result (λ text. IfSome (R.remaining reader.old) (λ input. (R.remaining reader.new ≡ Some []) × IsReplayText input text.items)) }
+/// What is to be written, given all that the reader has.
+fn replay_of_input<R: Source>(alloc: Global, form: Form, reader: &mut R) -> Result<Vec<u8>, Halt>
+    ensures replayed { IfOk result (λ text. IfSome (R.remaining reader.old)
+        (λ input. (R.remaining reader.new ≡ Some []) × IsReplayText form input text.items)) }
     ensures refused { IfErr result (λ halt. IfSome (name_of halt) (IsRefusedBy (R.remaining reader.old) (R.remaining reader.new))) }
     ensures reads { CountsReads result (R.failures reader.old) (R.failures reader.new) }
 {
     let input = read_all(alloc, reader)?;
-    replay_of_lines(alloc, input.as_slice())
+    replay_of_lines(alloc, form, input.as_slice())
 }
 
-/// The replies and the order, given the lines of the script.
-fn replay_of_lines(alloc: Global, input: &[u8]) -> Result<Vec<u8>, Halt>
-    ensures replayed { IfOk result (λ text. IsReplayText input.now text.items) }
+/// The same, given the lines of the script.
+fn replay_of_lines(alloc: Global, form: Form, input: &[u8]) -> Result<Vec<u8>, Halt>
+    ensures replayed { IfOk result (λ text. IsReplayText form input.now text.items) }
     ensures refused { IfErr result (λ halt. IfSome (name_of halt) (IsReplayRefusal input.now)) }
     ensures read { IfErr result (λ halt. is_read halt ≡ false) }
 {
     let script = read_script(alloc, input)?;
-    replay_of_script(alloc, &script)
+    replay_of_script(alloc, form, &script)
+}
+
+/// The same, given the script.
+fn replay_of_script(alloc: Global, form: Form, script: &Script) -> Result<Vec<u8>, Halt>
+    ensures replayed { IfOk result (λ text. IsShownText form (parts_of script.now) text.items) }
+    ensures refused { IfErr result (λ halt. IfSome (name_of halt) (IsRunRefusal (parts_of script.now))) }
+    ensures read { IfErr result (λ halt. is_read halt ≡ false) }
+{
+    match form {
+        Form::Lines => lines_of_script(alloc, script),
+        Form::Picture => picture_of_script(alloc, script),
+    }
 }
 
 /// The replies and the order of the run of a script.
-fn replay_of_script(alloc: Global, script: &Script) -> Result<Vec<u8>, Halt>
+fn lines_of_script(alloc: Global, script: &Script) -> Result<Vec<u8>, Halt>
     ensures replayed { IfOk result (λ text. IsRunText (parts_of script.now) text.items) }
     ensures refused { IfErr result (λ halt. IfSome (name_of halt) (IsRunRefusal (parts_of script.now))) }
     ensures read { IfErr result (λ halt. is_read halt ≡ false) }
@@ -70,4 +88,15 @@ fn replay_of_script(alloc: Global, script: &Script) -> Result<Vec<u8>, Halt>
     // Let go by name, which is proved once for the type and not at each way out.
     drop(run);
     Ok(text?)
+}
+
+/// The picture of the run of a script.
+fn picture_of_script(alloc: Global, script: &Script) -> Result<Vec<u8>, Halt>
+    ensures pictured { IfOk result (λ text. text.items ≡ picture_text (parts_of script.now).0 no_role (parts_of script.now).1) }
+    ensures refused { IfErr result (λ halt. IfSome (name_of halt) (IsRunRefusal (parts_of script.now))) }
+    ensures read { IfErr result (λ halt. is_read halt ≡ false) }
+{
+    let shards = script.shards as usize;
+    let events = script.events.as_slice();
+    Ok(picture(alloc, shards, script.capacity, events, &Callers)?)
 }

@@ -4,6 +4,7 @@ ghost use Rattle.clap.specs.Words.{FailsBy, app_of, first_of, found_of, one_of, 
 ghost use Rattle.commands.specs.Grammar.{IsCapacityBy, IsDigitsBy, cluster_app, faults_of, plan_app, race_app, replay_app, rows_under, serve_app, stsctl_app};
 ghost use Rattle.commands.specs.Asked.{IsAsked, IsOther, IsScripted, IsServing};
 
+use crate::form::{Form, form_in, picture_arg};
 use crate::numbers::{from_1_to_64, number_arg, number_in};
 use crate::race_words::{race_grammar, race_words};
 use clap::{Arg, ArgMatches, Command, Error, value_parser};
@@ -50,16 +51,16 @@ pub(crate) enum Asked<'a> {
     /// To answer requests from a store with room for this many revisions.
     Serve(u64),
     /// To run the events of a script.
-    Replay,
+    Replay(Form),
     /// To run the controllers of a script, by its events.
-    Cluster,
+    Cluster(Form),
     /// To plan a set.
     Plan(PlanWords<'a>),
     /// To let controllers race.
     Race(RaceSpec),
 }
 
-/// What the program takes: `serve [--capacity N]`, `replay`, `cluster`, `plan --set NAME [--namespace NS] [--digits H]`, and
+/// What the program takes: `serve [--capacity N]`, `replay [--picture]`, `cluster [--picture]`, `plan --set NAME [--namespace NS] [--digits H]`, and
 /// `race [--controllers N] [--shards N] [--rounds N] [--replicas N]`, and what `clap` adds for help and the version.
 fn grammar<'a>(alloc: Global) -> Result<Command<'a>, AllocError>
     ensures { IfOk result (λ c. app_of c ≡ stsctl_app) }
@@ -72,8 +73,8 @@ fn grammar<'a>(alloc: Global) -> Result<Command<'a>, AllocError>
         )
         .subcommand_required(true)
         .subcommand(serve_grammar(alloc)?)?
-        .subcommand(replay_grammar(alloc))?
-        .subcommand(cluster_grammar(alloc))?
+        .subcommand(replay_grammar(alloc)?)?
+        .subcommand(cluster_grammar(alloc)?)?
         .subcommand(plan_grammar(alloc)?)?
         .subcommand(race_grammar(alloc)?)
 }
@@ -92,24 +93,26 @@ fn serve_grammar<'a>(alloc: Global) -> Result<Command<'a>, AllocError>
         .arg(capacity)
 }
 
-fn replay_grammar<'a>(alloc: Global) -> Command<'a>
-    ensures { app_of result ≡ replay_app }
+fn replay_grammar<'a>(alloc: Global) -> Result<Command<'a>, AllocError>
+    ensures { IfOk result (λ c. app_of c ≡ replay_app) }
 {
     Command::new(alloc, "replay")
         .about(
             "Runs the events of the script on standard input, and prints their replies and a legal order",
         )
         .after_help(REPLAY_END)
+        .arg(picture_arg(alloc))
 }
 
-fn cluster_grammar<'a>(alloc: Global) -> Command<'a>
-    ensures { app_of result ≡ cluster_app }
+fn cluster_grammar<'a>(alloc: Global) -> Result<Command<'a>, AllocError>
+    ensures { IfOk result (λ c. app_of c ≡ cluster_app) }
 {
     Command::new(alloc, "cluster")
         .about(
             "Runs the controllers of the script on standard input, and prints what they ask, all replies and a legal order",
         )
         .after_help(CLUSTER_END)
+        .arg(picture_arg(alloc))
 }
 
 fn plan_grammar<'a>(alloc: Global) -> Result<Command<'a>, AllocError>
@@ -166,7 +169,7 @@ fn scripted_in<'a>(matches: &ArgMatches<'_>) -> Asked<'a>
     ensures { IsScripted (subcommand_rows_of matches.now) result }
 {
     match matches.subcommand_matches("replay") {
-        Some(_) => Asked::Replay,
+        Some(replay) => Asked::Replay(form_in(replay)),
         None => serving_in(matches),
     }
 }
@@ -176,7 +179,7 @@ fn serving_in<'a>(matches: &ArgMatches<'_>) -> Asked<'a>
     ensures { IsServing (subcommand_rows_of matches.now) result }
 {
     match matches.subcommand_matches("cluster") {
-        Some(_) => Asked::Cluster,
+        Some(cluster) => Asked::Cluster(form_in(cluster)),
         None => Asked::Serve(capacity_in(matches)),
     }
 }

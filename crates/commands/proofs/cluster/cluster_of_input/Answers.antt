@@ -17,8 +17,8 @@ returns-in_err-input-clause-refused g c =
 pub returns-clause-clustered : goal.returns-clause-clustered
 returns-clause-clustered g c =
     IfOk-weaker c.cluster_of_lines.result _ _
-    (λ text made. clustered_input (g.R.Source.remaining c.args.reader.now) (g.R.Source.remaining c.read_all.new.reader) c.in_ok-input.input.items text.items
-    c.in_ok-input.ensures.all c.in_ok-input.ensures.left (subst (λ bytes. IsClusterTextOf bytes text.items) c.as_slice.ensures.value made))
+    (λ text made. clustered_input c.args.form (g.R.Source.remaining c.args.reader.now) (g.R.Source.remaining c.read_all.new.reader) c.in_ok-input.input.items text.items
+    c.in_ok-input.ensures.all c.in_ok-input.ensures.left (subst (λ bytes. IsClusterTextOf c.args.form bytes text.items) c.as_slice.ensures.value made))
     c.cluster_of_lines.ensures.clustered
 
 pub returns-clause-refused : goal.returns-clause-refused

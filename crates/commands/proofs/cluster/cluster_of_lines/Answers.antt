@@ -11,9 +11,9 @@ returns-in_err-script-clause-refused c =
 
 pub returns-clause-clustered : goal.returns-clause-clustered
 returns-clause-clustered c =
-    IfOk-weaker c.cluster_of_script.result _ _ (λ text made. (c.in_ok-script.script, c.in_ok-script.ensures, made)) c.cluster_of_script.ensures.clustered
+    IfOk-weaker c.cluster_in_form.result _ _ (λ text made. (c.in_ok-script.script, c.in_ok-script.ensures, made)) c.cluster_in_form.ensures.clustered
 
 pub returns-clause-refused : goal.returns-clause-refused
 returns-clause-refused c =
-    IfErr-weaker c.cluster_of_script.result _ _
-    (λ halt made. refused_cluster (name_of halt) c.args.input.now c.in_ok-script.script c.in_ok-script.ensures made) c.cluster_of_script.ensures.refused
+    IfErr-weaker c.cluster_in_form.result _ _
+    (λ halt made. refused_cluster (name_of halt) c.args.input.now c.in_ok-script.script c.in_ok-script.ensures made) c.cluster_in_form.ensures.refused

@@ -1,8 +1,9 @@
 use Rattle.std.proofs.Common.{List, length, sym, subst}
 use Rattle.std.specs.Option.{IfSome}
-use Rattle.clusters.specs.declared.event.ClusterEvent.{ClusterEvent}
 use Rattle.cluster_runs.specs.Ran.{IsClusterRun}
-use Rattle.controllers.specs.Cluster.{reconciler_named, size_of}
+use Rattle.cluster_runs.specs.Turns.{events_of_turns}
+use Rattle.cluster_runs.specs.declared.turn.Turn.{Turn}
+use Rattle.controllers.specs.Cluster.{namespaces_of, reconciler_named, size_of}
 use Rattle.commands.specs.Clustering.{IsClusterRunRefusal}
 use Rattle.commands.proofs.Replayed.{error_has}
 use Rattle.commands.proofs.cluster.cluster_of_script.Goals as goal
@@ -10,7 +11,9 @@ use Rattle.commands.proofs.cluster.cluster_of_script.Goals as goal
 pub returns-clause-clustered : goal.returns-clause-clustered
 returns-clause-clustered c =
     let spec = c.args.script.now.spec in
-    let Is : List ClusterEvent → Type 0 = λ events. IsClusterRun (size_of spec) (length spec.sets.items) (reconciler_named spec.sets.items) events c.in_ok-found.found in
+    let Is : List Turn → Type 0 =
+    λ turns. IsClusterRun (size_of spec) (length spec.sets.items) (reconciler_named spec.sets.items)
+    (events_of_turns (size_of spec) (length spec.sets.items) (reconciler_named spec.sets.items) (namespaces_of spec.sets.items) turns) c.in_ok-found.found in
     (c.in_ok-found.found, subst Is c.as_slice.ensures.value c.in_ok-found.ensures.run, c.in_ok-text.ensures)
 
 pub returns-in_err-text-clause-refused : goal.returns-in_err-text-clause-refused

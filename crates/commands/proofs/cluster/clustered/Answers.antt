@@ -8,7 +8,7 @@ use Rattle.commands.proofs.cluster.clustered.Goals as goal
 
 pub returns-in-Ok-clause-clustered : goal.returns-in-Ok-clause-clustered
 returns-in-Ok-clause-clustered g c = λ is.
-    clusters (g.R.Source.remaining c.args.reader.now) (g.R.Source.remaining c.cluster_of_input.new.reader) (g.W.Sink.written c.args.writer.now)
+    clusters c.args.form (g.R.Source.remaining c.args.reader.now) (g.R.Source.remaining c.cluster_of_input.new.reader) (g.W.Sink.written c.args.writer.now)
     (g.W.Sink.written c.shown.new.writer) c.in-Ok.text.items c.as_slice.result.now c.in-Ok.ensures.clustered (c.shown.ensures.all is) c.as_slice.ensures.value
 
 pub returns-in-Err-clause-named : goal.returns-in-Err-clause-named

@@ -63,3 +63,13 @@ pub returns-in-Err-clause-silent : goal.returns-in-Err-clause-silent
 returns-in-Err-clause-silent g c = λ some none.
     c.explained.ensures.untouched
     (no_kind is_request c.in-Err.error (faults_of (map g.S.AsStr.text c.args.words.now)) (search rules) c.in-Err.ensures.faults none)
+
+pub returns-in-Ok-Replay-clause-replayed : goal.returns-in-Ok-Replay-clause-replayed
+returns-in-Ok-Replay-clause-replayed g c = λ is none asks.
+    let asked = subst (λ (a : Asked). IsAsked (map g.S.AsStr.text c.args.words.now) a) c.in-Ok-Replay.field-0-is c.in-Ok-Replay.ensures.asked in
+    (c.in-Ok-Replay.form, asked.1, c.replayed.ensures.replayed is)
+
+pub returns-in-Ok-Cluster-clause-clustered : goal.returns-in-Ok-Cluster-clause-clustered
+returns-in-Ok-Cluster-clause-clustered g c = λ is none asks.
+    let asked = subst (λ (a : Asked). IsAsked (map g.S.AsStr.text c.args.words.now) a) c.in-Ok-Cluster.field-0-is c.in-Ok-Cluster.ensures.asked in
+    (c.in-Ok-Cluster.form, asked.1, c.clustered.ensures.clustered is)

@@ -7,7 +7,7 @@ use Rattle.commands.proofs.replay.replayed.Goals as goal
 
 pub returns-in-Ok-clause-replayed : goal.returns-in-Ok-clause-replayed
 returns-in-Ok-clause-replayed g c = λ is.
-    replays (g.R.Source.remaining c.args.reader.now) (g.R.Source.remaining c.replay_of_input.new.reader) (g.W.Sink.written c.args.writer.now)
+    replays c.args.form (g.R.Source.remaining c.args.reader.now) (g.R.Source.remaining c.replay_of_input.new.reader) (g.W.Sink.written c.args.writer.now)
     (g.W.Sink.written c.shown.new.writer) c.in-Ok.text.items c.as_slice.result.now c.in-Ok.ensures.replayed (c.shown.ensures.all is) c.as_slice.ensures.value
 
 pub returns-in-Err-clause-named : goal.returns-in-Err-clause-named

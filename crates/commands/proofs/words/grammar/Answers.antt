@@ -11,8 +11,8 @@ returns c =
     let required : App → App = λ a. record a { top = record a.top { subcommand_required = true } } in
     let versioned : App → App = λ a. record a { top = record a.top { has_version = true } } in
     let serve_is = c.in_ok-serve_grammar.ensures in
-    let replay_is = c.replay_grammar.ensures in
-    let cluster_is = c.cluster_grammar.ensures in
+    let replay_is = c.in_ok-replay_grammar.ensures in
+    let cluster_is = c.in_ok-cluster_grammar.ensures in
     let plan_is = c.in_ok-plan_grammar.ensures in
     let race_is = c.in_ok-race_grammar.ensures in
     let top_is : app_of c.subcommand_required.result ≡ required (versioned (new_app (codes "stsctl"))) =

@@ -1,9 +1,17 @@
-use Rattle.std.proofs.Common.{codes, refl}
-use Rattle.commands.proofs.Serving.{false-true, under-met, under-unmet}
+use Rattle.std.proofs.Common.{codes, refl, subst, sym}
+use Rattle.clap.specs.Words.{found_of, one_of, rows_of}
+use Rattle.commands.specs.Forms.{IsFormBy}
+use Rattle.commands.proofs.Serving.{false-true, rows-met, under-met, under-unmet}
 use Rattle.commands.proofs.words.serving_in.Goals as goal
 
 pub returns-in-Some : goal.returns-in-Some
-returns-in-Some c = under-met (codes "cluster") c.args.matches.now (c.in-Some.ensures.found.0 refl)
+returns-in-Some c =
+    let m = c.args.matches.now in
+    let named = c.in-Some.ensures.found.0 refl in (
+      under-met (codes "cluster") m named,
+      subst (λ rs. IsFormBy (one_of (codes "picture") rs) c.form_in.result)
+          (sym (rows-met (codes "cluster") m (rows_of (found_of c.in-Some.cluster.now)) named c.in-Some.ensures.rows)) c.form_in.ensures,
+    )
 
 pub returns-in-None : goal.returns-in-None
 returns-in-None c = (under-unmet (codes "cluster") c.args.matches.now (λ is. false-true (c.in-None.ensures.found.1 is)), c.capacity_in.ensures)

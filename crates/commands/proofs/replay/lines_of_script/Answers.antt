@@ -5,7 +5,7 @@ use Rattle.interleavings.specs.declared.event.Event.{Event}
 use Rattle.scripts.specs.Scripts.{parts_of}
 use Rattle.commands.specs.Replaying.{IsRunRefusal}
 use Rattle.commands.proofs.Replayed.{error_has}
-use Rattle.commands.proofs.replay.replay_of_script.Goals as goal
+use Rattle.commands.proofs.replay.lines_of_script.Goals as goal
 
 pub returns-clause-replayed : goal.returns-clause-replayed
 returns-clause-replayed c =

@@ -1,0 +1,10 @@
+use Rattle.std.proofs.Common.{◌≡◌, ◌∙◌, ap, ap₂, codes}
+use Rattle.std.proofs.lemmas.Result.{IfOk-weaker}
+use Rattle.clap.specs.Words.{app_of, new_app, with_rule}
+use Rattle.clap.specs.Simple.{app_of_fields}
+use Rattle.commands.proofs.words.cluster_grammar.Goals as goal
+
+pub returns : goal.returns
+returns c =
+    let top_is : app_of c.after_help.result ≡ new_app (codes "cluster") = ap app_of_fields c.after_help.ensures ∙ ap app_of_fields c.about.ensures ∙ c.new.ensures.app in
+    IfOk-weaker c.arg.result _ _ (λ r h. h.shape c.picture_arg.ensures.own ∙ ap₂ with_rule top_is c.picture_arg.ensures.rule) c.arg.ensures
