@@ -4,7 +4,7 @@ use Rattle.serde_json.specs.Data.{Data}
 use Rattle.serde_json.specs.Written.{compact_text}
 use Rattle.plain.specs.ValueLines.{text_lines}
 use Rattle.interleavings.specs.declared.trace.Item.{Item}
-use Rattle.scripts.proofs.Lines.{at_drop}
+use Rattle.replay_lines.proofs.Lines.{at_drop}
 use Rattle.cluster_scripts.specs.Printing.{item_shown, shown}
 
 lines_append : (ds es : List Data) → text_lines (ds ++ es) ≡ text_lines ds ++ text_lines es

@@ -6,7 +6,7 @@ use Rattle.clusters.specs.declared.event.ClusterEvent.{ClusterEvent}
 use Rattle.clusters.specs.declared.event.ClusterEvent.TheVariants.{Next, Outside, Step, Crash}
 use Rattle.cluster_runs.specs.declared.turn.Turn.{Turn}
 use Rattle.cluster_runs.specs.declared.turn.Turn.TheVariants as turn
-use Rattle.scripts.specs.Events.{◌>>=◌, count_in, count_of, line_members, request_in, step_in, text_in}
+use Rattle.replay_lines.specs.Events.{◌>>=◌, count_in, count_of, line_members, request_in, step_in, text_in}
 
 -- `{"controller":I,"event":"next"}`: the controller calls its next request
 abbrev pub next_in : Members → Option ClusterEvent

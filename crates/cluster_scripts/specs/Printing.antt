@@ -9,7 +9,7 @@ use Rattle.requests.specs.declared.request.Request.{Request}
 use Rattle.plain.specs.ValueLines.{text_lines}
 use Rattle.interleavings.specs.declared.trace.Item.{Item}
 use Rattle.interleavings.specs.declared.trace.Item.TheVariants as item_is
-use Rattle.scripts.specs.Printing.{order_data, reply_data_at}
+use Rattle.replay_lines.specs.Printing.{order_data, reply_data_at}
 pub use Rattle.cluster_runs.specs.Ran.{owner_in}
 use Rattle.cluster_scripts.specs.RequestLine.{request_data}
 

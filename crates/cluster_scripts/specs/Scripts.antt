@@ -6,8 +6,8 @@ use Rattle.interleavings.specs.World.{Size}
 use Rattle.cluster_runs.specs.declared.turn.Turn.{Turn}
 use Rattle.controllers.specs.Cluster.{size_of}
 use Rattle.controllers.specs.declared.cluster_spec.ClusterSpec.{ClusterSpec}
-use Rattle.scripts.specs.Events.{◌>>=◌, line_members}
-use Rattle.scripts.specs.Scripts.{each_of, script_by, size_in}
+use Rattle.replay_lines.specs.Events.{◌>>=◌, line_members}
+use Rattle.replay_lines.specs.Scripts.{each_of, script_by, size_in}
 use Rattle.cluster_scripts.specs.Events.{turn_of}
 use Rattle.cluster_scripts.specs.Sets.{SetParts, set_parts, sets_in}
 use Rattle.cluster_scripts.specs.declared.script.ClusterScript.{ClusterScript}

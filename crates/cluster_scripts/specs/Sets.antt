@@ -4,7 +4,7 @@ use Rattle.serde_json.specs.Data.{Data, Items, no_items, item, Members}
 use Rattle.serde_json.specs.Find.{as_array, as_object, as_str, get_member}
 use Rattle.objects.specs.Names.{is_dns_label}
 use Rattle.controllers.specs.declared.set_spec.SetSpec.{SetSpec}
-use Rattle.scripts.specs.Events.{◌>>=◌, count_of}
+use Rattle.replay_lines.specs.Events.{◌>>=◌, count_of}
 
 -- what a `SetSpec` says
 pub record SetParts : Type 0 where

@@ -1,19 +1,19 @@
 // The turn that a line of a script is.
 ghost use Rattle.std.specs.Prelude.{◌≡◌, codes};
 ghost use Rattle.cluster_scripts.specs.Events.{bare_event_in, crash_in, event_by, next_in, outside_in, run_in, settle_in, store_step_in, turn_by, turn_in, turn_of};
-ghost use Rattle.scripts.specs.Events.{Reads};
+ghost use Rattle.replay_lines.specs.Events.{Reads};
 
 use clusters::ClusterEvent;
 use controllers::Turn;
 use objects::{Members, TreeReader};
-use scripts::{ScriptError, count_in, count_of, read_members, request_in, step_in, text_in};
+use replay_lines::{ScriptError, count_in, count_of, read_members, request_in, step_in, text_in};
 use std::alloc::Global;
 
 /// The most rounds of a line `settle`.
 const MAX_ROUNDS: u64 = 1024;
 
 /// The turn that a line is.
-#[tactic(auto, using(scripts::proofs::Readings::fails_bind), unfolding(crate::specs::Events::turn_of))]
+#[tactic(auto, using(replay_lines::proofs::Readings::fails_bind), unfolding(crate::specs::Events::turn_of))]
 pub(crate) fn read_turn(
     alloc: Global,
     reader: &mut TreeReader,
@@ -59,7 +59,7 @@ fn run_in(members: &Members) -> Option<Turn>
     Some(Turn::Run(controller as usize))
 }
 
-#[tactic(auto, using(scripts::proofs::Readings::fails_bind))]
+#[tactic(auto, using(replay_lines::proofs::Readings::fails_bind))]
 fn outside_in(alloc: Global, members: Members) -> Result<ClusterEvent, ScriptError>
     ensures { Reads (λ event. event) result (outside_in members) }
 {

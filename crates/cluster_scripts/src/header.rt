@@ -1,14 +1,14 @@
 // The first line: what the cluster is made of.
 ghost use Rattle.cluster_scripts.specs.Scripts.{cluster_in, cluster_of, cluster_parts};
-ghost use Rattle.scripts.specs.Events.{Reads};
+ghost use Rattle.replay_lines.specs.Events.{Reads};
 
 use crate::set::sets_in;
 use controllers::ClusterSpec;
 use objects::{Members, TreeReader};
-use scripts::{ScriptError, header_in, read_members};
+use replay_lines::{ScriptError, header_in, read_members};
 use std::alloc::Global;
 
-#[tactic(auto, using(scripts::proofs::Readings::fails_bind))]
+#[tactic(auto, using(replay_lines::proofs::Readings::fails_bind))]
 pub(crate) fn read_cluster(
     alloc: Global,
     reader: &mut TreeReader,
@@ -20,7 +20,7 @@ pub(crate) fn read_cluster(
     cluster_in(alloc, &members)
 }
 
-#[tactic(auto, using(scripts::proofs::Readings::fails_bind))]
+#[tactic(auto, using(replay_lines::proofs::Readings::fails_bind))]
 fn cluster_in(alloc: Global, members: &Members) -> Result<ClusterSpec, ScriptError>
     ensures { Reads cluster_parts result (cluster_in members.now) }
 {

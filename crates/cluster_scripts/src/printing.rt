@@ -11,7 +11,7 @@ use interleavings::Item;
 use json::Writer;
 use objects::Memory;
 use plain::{Request, end_line, write_whole_member};
-use scripts::{put_order, put_reply};
+use replay_lines::{put_order, put_reply};
 use std::alloc::{AllocError, Global};
 use std::collections::BTreeMap;
 

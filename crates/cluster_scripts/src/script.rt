@@ -1,13 +1,13 @@
 ghost use Rattle.plain.specs.Lines.{lines};
 ghost use Rattle.cluster_scripts.specs.Scripts.{cluster_script_of, parts_of, turns_of};
-ghost use Rattle.scripts.specs.Events.{Reads};
+ghost use Rattle.replay_lines.specs.Events.{Reads};
 
 use crate::event::read_turn;
 use crate::header::read_cluster;
 use controllers::{ClusterSpec, Turn};
 use objects::TreeReader;
 use plain::split_line;
-use scripts::ScriptError;
+use replay_lines::ScriptError;
 use std::alloc::Global;
 
 /// A run of a cluster: what it is made of, and its turns, first to last. Neither the capacity nor the number of shards is
@@ -41,7 +41,7 @@ pub struct ClusterScript {
 /// # Errors
 ///
 /// `BadScript` where a line is none of these, also one that is cut off or empty, or where there is no line.
-#[tactic(auto, using(scripts::proofs::Readings::fails_bind), unfolding(crate::specs::Scripts::cluster_script_of))]
+#[tactic(auto, using(replay_lines::proofs::Readings::fails_bind), unfolding(crate::specs::Scripts::cluster_script_of))]
 pub fn read_cluster_script(alloc: Global, text: &[u8]) -> Result<ClusterScript, ScriptError>
     ensures { Reads parts_of result (cluster_script_of text.now) }
 {
@@ -56,7 +56,7 @@ pub fn read_cluster_script(alloc: Global, text: &[u8]) -> Result<ClusterScript, 
 }
 
 /// The turns that the lines of a text are.
-#[tactic(auto, using(scripts::proofs::Readings::fails_bind))]
+#[tactic(auto, using(replay_lines::proofs::Readings::fails_bind))]
 fn read_turns(alloc: Global, reader: &mut TreeReader, text: &[u8]) -> Result<Vec<Turn>, ScriptError>
     ensures { Reads (λ turns. turns.items) result (turns_of (lines text.now)) }
 {

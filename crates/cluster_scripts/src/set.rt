@@ -4,11 +4,11 @@ ghost use Rattle.objects.specs.Names.{is_dns_label};
 ghost use Rattle.objects.specs.Tree.{data_of, items_of};
 ghost use Rattle.cluster_scripts.specs.Sets.{digits_in, digits_of, label_of, moment_in, moment_of, name_in, namespace_in};
 ghost use Rattle.cluster_scripts.specs.Sets.{set_in, set_of, set_parts, sets_in, sets_of};
-ghost use Rattle.scripts.specs.Events.{Reads};
+ghost use Rattle.replay_lines.specs.Events.{Reads};
 
 use controllers::SetSpec;
 use objects::{Members, Tree, is_dns_label};
-use scripts::{ScriptError, count_of};
+use replay_lines::{ScriptError, count_of};
 use std::alloc::Global;
 
 /// The most hex digits that a hash has.
@@ -27,7 +27,7 @@ pub(crate) fn sets_in(alloc: Global, members: &Members) -> Result<Vec<SetSpec>, 
     sets_of(alloc, items.as_slice())
 }
 
-#[tactic(auto, using(scripts::proofs::Readings::fails_bind))]
+#[tactic(auto, using(replay_lines::proofs::Readings::fails_bind))]
 fn sets_of(alloc: Global, items: &[Tree]) -> Result<Vec<SetSpec>, ScriptError>
     ensures { Reads (λ sets. map set_parts sets.items) result (sets_of (items_of items.now)) }
 {

@@ -3,7 +3,7 @@ use cluster_scripts::{ClusterScript, read_cluster_script};
 use clusters::ClusterEvent;
 use controllers::{SetSpec, Turn};
 use history::Event;
-use scripts::ScriptError;
+use replay_lines::ScriptError;
 use std::alloc::{AllocError, Global};
 use std::process::Abort;
 use std::test::Fail;

@@ -2,9 +2,9 @@
 use Rattle.std.proofs.Common.{◌≡◌, ℕ, List, [], Option, Some, None, inl, inr, refl, sym, subst}
 use Rattle.std.specs.Option.{IfSome}
 use Rattle.plain.specs.Streams.{Puts}
-use Rattle.scripts.specs.Events.{Fails}
-use Rattle.scripts.specs.declared.fault.ScriptError.{ScriptError}
-use Rattle.scripts.specs.declared.fault.ScriptError.TheVariants.{BadScript, Memory}
+use Rattle.replay_lines.specs.Events.{Fails}
+use Rattle.replay_lines.specs.declared.fault.ScriptError.{ScriptError}
+use Rattle.replay_lines.specs.declared.fault.ScriptError.TheVariants.{BadScript, Memory}
 use Rattle.cluster_scripts.specs.Scripts.{cluster_script_of, parts_of}
 use Rattle.cluster_scripts.specs.declared.script.ClusterScript.{ClusterScript}
 use Rattle.commands.specs.Clustering.{ClustersAs, IsClusterRefusal, IsClusterRefusedBy, IsClusterRunRefusal, IsClusterTextOf}

@@ -6,10 +6,10 @@ use Rattle.std.specs.Result.{IsErrAnd}
 use Rattle.plain.specs.declared.devices.input.InputFault.{InputFault}
 use Rattle.plain.specs.declared.devices.input.InputFault.TheVariants as input
 use Rattle.plain.specs.Streams.{Puts}
-use Rattle.scripts.specs.Events.{Fails}
-use Rattle.scripts.specs.Scripts.{script_of}
-use Rattle.scripts.specs.declared.fault.ScriptError.{ScriptError}
-use Rattle.scripts.specs.declared.fault.ScriptError.TheVariants.{BadScript, Memory}
+use Rattle.replay_lines.specs.Events.{Fails}
+use Rattle.replay_lines.specs.Scripts.{script_of}
+use Rattle.replay_lines.specs.declared.fault.ScriptError.{ScriptError}
+use Rattle.replay_lines.specs.declared.fault.ScriptError.TheVariants.{BadScript, Memory}
 use Rattle.commands.specs.Halts.{IsNamed, halt_of, name_of}
 use Rattle.commands.specs.Replaying.{IsRefusedBy, IsReplayRefusal, IsReplayText, IsRunRefusal, ReplaysAs, script_refusal}
 use Rattle.commands.specs.declared.form.Form.{Form}

@@ -10,9 +10,9 @@ use Rattle.history.specs.declared.replay_error.ReplayError.TheVariants as errors
 use Rattle.interleavings.specs.World.{Size}
 use Rattle.interleavings.specs.declared.event.Event.{Event}
 use Rattle.interleavings.specs.declared.trace.Run.{Run}
-use Rattle.scripts.specs.Printing.{run_text}
-use Rattle.scripts.specs.Scripts.{script_of}
-use Rattle.scripts.specs.declared.fault.ScriptError.{ScriptError}
+use Rattle.replay_lines.specs.Printing.{run_text}
+use Rattle.replay_lines.specs.Scripts.{script_of}
+use Rattle.replay_lines.specs.declared.fault.ScriptError.{ScriptError}
 use Rattle.clap.specs.Words.{Text}
 use Rattle.pictures.specs.Heading.{no_role}
 use Rattle.pictures.specs.Picture.{picture_text}
@@ -20,7 +20,7 @@ use Rattle.commands.specs.Forms.{IsFormBy}
 use Rattle.commands.specs.Grammar.{flag_text}
 use Rattle.commands.specs.declared.form.Form.{Form}
 use Rattle.commands.specs.declared.form.Form.TheVariants.{Lines, Picture}
-use Rattle.scripts.specs.declared.fault.ScriptError.TheVariants.{BadScript, Memory}
+use Rattle.replay_lines.specs.declared.fault.ScriptError.TheVariants.{BadScript, Memory}
 
 -- the replies of the run of these events, and its order
 abbrev pub IsRunText : Size × List Event → List ℕ → Type 0

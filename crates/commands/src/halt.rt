@@ -11,7 +11,7 @@ use history::ReplayError;
 use objects::{Memory, ReadError};
 use plain::{InputFault, RequestError, Sink};
 use plan_lines::plan_error_name;
-use scripts::ScriptError;
+use replay_lines::ScriptError;
 use sets::PlanError;
 use std::alloc::AllocError;
 

@@ -1,6 +1,6 @@
 //! `stsctl replay`.
 ghost use Rattle.std.specs.Prelude.{◌≡◌, ◌≢◌, ◌<◌, ◌⊎◌, ℕ, List, [], true, false, IfOk, IfErr, IfSome, Some};
-ghost use Rattle.scripts.specs.Scripts.{parts_of};
+ghost use Rattle.replay_lines.specs.Scripts.{parts_of};
 ghost use Rattle.commands.specs.Halts.{CountsReads, Tells, is_read, name_of};
 ghost use Rattle.pictures.specs.Heading.{no_role};
 ghost use Rattle.pictures.specs.Picture.{picture_text};
@@ -12,7 +12,7 @@ use crate::status::{BAD_WORDS, FAILURE, Heap, REFUSED, SUCCESS, shown};
 use history::replay;
 use pictures::{Callers, picture};
 use plain::{Sink, Source, read_all};
-use scripts::{Script, read_script, run_text};
+use replay_lines::{Script, read_script, run_text};
 use std::alloc::Global;
 
 /// Runs the events of the script that the reader has, and writes the replies and the order, or a picture of the run.

@@ -1,5 +1,5 @@
 use Rattle.std.proofs.lemmas.Result.{IfErr-weaker, IfOk-weaker}
-use Rattle.scripts.specs.Scripts.{parts_of}
+use Rattle.replay_lines.specs.Scripts.{parts_of}
 use Rattle.commands.specs.Halts.{name_of}
 use Rattle.commands.proofs.Replayed.{error_has, refused_run, refused_script}
 use Rattle.commands.proofs.replay.replay_of_lines.Goals as goal
