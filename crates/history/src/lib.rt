@@ -26,7 +26,7 @@ pub use interleavings::{
     compactions_spare_reads, runs_are_linearizable, short_orders, short_runs,
 };
 pub use laws::next_steps_are_enabled;
-pub use orders::check_order;
+pub use order_check::check_order;
 pub use replay_error::ReplayError;
 pub use replaying::Replay;
 pub use standing::{Asked, Standing};

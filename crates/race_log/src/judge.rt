@@ -8,7 +8,7 @@ use crate::spec::RaceSpec;
 use crate::twice::repeats;
 use interleavings::Trace;
 use objects::Memory;
-use orders::check_order;
+use order_check::check_order;
 use std::alloc::Global;
 
 /// Judges a race by its log: whether its order is legal for a store of that many revisions, and how often a pod was created

@@ -1,0 +1,32 @@
+use Rattle.std.proofs.Common.{arith, rules, subst, sym}
+use Rattle.plain_store.specs.Store.{step}
+use Rattle.order_check.specs.Following.{IsCalled, IsTold}
+use Rattle.order_check.proofs.walk.Walk.take.Goals as goal
+
+pub returns-in_default-called_at-clause-complete : goal.returns-in_default-called_at-clause-complete
+returns-in_default-called_at-clause-complete c = λ may.
+    let found = c.in_default-called_at.ensures.complete may.request (subst (λ m. IsCalled c.args.items.now m c.args.place may.request) (sym c.in-Some.ensures.value) may.called) in
+    cc
+
+pub returns-clause-takes : goal.returns-clause-takes
+returns-clause-takes c = λ yes.
+    let items = c.args.items.now in
+    let place = c.args.place in
+    let request = c.in-Some-called_at.request.now in
+    let old = c.args.self.now in
+    let heard = c.in_ok-told.ensures in
+    let largest = c.max-self.ensures in
+    let same = heard.stays.2 in
+    record {
+      may = record {
+        request = request;
+        called = subst (λ m. IsCalled items m place request) c.in-Some.ensures.value c.in-Some-called_at.ensures.called;
+        told = subst (λ m. IsTold items m old.latest (step old.store request).1) c.remove-answer.ensures.value (heard.told.0 yes);
+      };
+      stepped = heard.stepped;
+      calls = search rules;
+      answers = search rules;
+      grows = omega arith;
+      reached = omega arith;
+      least = λ n low high. omega arith;
+    }
