@@ -36,19 +36,19 @@ use Rattle.revisions.specs.Name.{first_free, most_tries, revision_name}
 use Rattle.revisions.specs.Plan as revision_plans
 use Rattle.revisions.specs.Plan.{created, renumbered, settled, plan_of}
 use Rattle.revisions.specs.Revision.{is_listed, is_owned, is_revision, listed, owned_among, revision_cmp}
-use Rattle.scaling.specs.declared.step.Revision.{Revision}
-use Rattle.scaling.specs.declared.step.Step.{Step}
-use Rattle.scaling.specs.declared.step.Step.TheVariants as steps
-use Rattle.scaling.specs.Listed.{is_named}
-use Rattle.scaling.specs.Replicas.{Pods}
-use Rattle.scaling.specs.Step.{is_of_pod}
-use Rattle.scaling.specs.Views.{is_pod}
-use Rattle.scaling.specs.Whole as scaling
-use Rattle.scaling.proofs.AtOnce.{alone, nowhere}
-use Rattle.scaling.proofs.Causes as causes
-use Rattle.scaling.proofs.Causes.{created_is_absent}
-use Rattle.scaling.proofs.Firsts.{replicas_in_order}
-use Rattle.scaling.proofs.ListedPlans.{created_is_free}
+use Rattle.pod_steps.specs.declared.step.Revision.{Revision}
+use Rattle.pod_steps.specs.declared.step.Step.{Step}
+use Rattle.pod_steps.specs.declared.step.Step.TheVariants as steps
+use Rattle.pod_steps.specs.Listed.{is_named}
+use Rattle.pod_steps.specs.Replicas.{Pods}
+use Rattle.pod_steps.specs.Step.{is_of_pod}
+use Rattle.pod_steps.specs.Views.{is_pod}
+use Rattle.pod_steps.specs.Whole as pod_steps
+use Rattle.pod_steps.proofs.AtOnce.{alone, nowhere}
+use Rattle.pod_steps.proofs.Causes as causes
+use Rattle.pod_steps.proofs.Causes.{created_is_absent}
+use Rattle.pod_steps.proofs.Firsts.{replicas_in_order}
+use Rattle.pod_steps.proofs.ListedPlans.{created_is_free}
 use Rattle.manifests.specs.BuiltClaim.{built_claim}
 use Rattle.manifests.specs.BuiltStatus.{built_status}
 use Rattle.claims.specs.declared.change.ClaimChange.{ClaimChange}
@@ -164,11 +164,11 @@ apart_whole : (set : SetParts) (claims : Claims) (views : List PodParts) (owned 
 unfolding whole
 apart_whole set claims views owned current newest pods =
     let name : List ℕ = current_name set pods current newest in
-    let made : List Action = flat_map (actions_of set claims current newest) (scaling.planned set pods) in
-    let gone : List Action = deletions set views owned name newest.key.name (scaling.planned set pods) in
+    let made : List Action = flat_map (actions_of set claims current newest) (pod_steps.planned set pods) in
+    let gone : List Action = deletions set views owned name newest.key.name (pod_steps.planned set pods) in
     let written : List Action = status_write set (status_of set pods name newest.key.name) in
     all_joined IsApart (made ++ gone) written
-    (all_joined IsApart made gone (apart_steps set claims current newest (scaling.planned set pods)) (apart_deletions (list_any is_of_pod (scaling.planned set pods)) (expired set views name newest.key.name owned)))
+    (all_joined IsApart made gone (apart_steps set claims current newest (pod_steps.planned set pods)) (apart_deletions (list_any is_of_pod (pod_steps.planned set pods)) (expired set views name newest.key.name owned)))
     (apart_status (built_status set (status_of set pods name newest.key.name)))
 
 apart_in_place : (set : SetParts) (claims : Claims) (views : List PodParts) (owned : List Object) (current newest : Object) (actions : List Action) (a : Action) → plan_of_pods set claims views owned current newest ≡ Ok actions → Contains actions a → IsApart a
@@ -334,7 +334,7 @@ created_next set claims views owned current newest actions pod policy e h =
     let p = planned_over set claims views owned current newest actions e in
     let s = origin set claims views owned current newest actions p.0 (CreatePod pod) refl p.1 h in
     let c = created_from set claims current newest s.0 pod s.2 in
-    let there = subst (λ (x : Step). Contains (scaling.planned set p.0) x) c.2 s.1 in
+    let there = subst (λ (x : Step). Contains (pod_steps.planned set p.0) x) c.2 s.1 in
     record {
       ordinal = c.0;
       name_is = ap (λ (o : Object). o.key.name) (sym c.3);

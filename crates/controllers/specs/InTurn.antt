@@ -13,8 +13,8 @@ use Rattle.set_views.specs.declared.policies.Policy.TheVariants.{OrderedReady}
 use Rattle.set_views.specs.Set.{SetParts}
 use Rattle.set_views.specs.SetReading.{set_of}
 use Rattle.set_views.specs.Words.{in_range}
-use Rattle.scaling.specs.Listed.{is_named}
-use Rattle.scaling.specs.Views.{is_pod}
+use Rattle.pod_steps.specs.Listed.{is_named}
+use Rattle.pod_steps.specs.Views.{is_pod}
 use Rattle.sets.specs.Actions.{name_at}
 use Rattle.sets.specs.Laws.{HasHealthyTarget}
 use Rattle.sets.specs.Planned.{views_of}

@@ -4,8 +4,8 @@ use Rattle.serde_json.specs.Data.{Data, string, object, no_members, member}
 use Rattle.objects.specs.declared.object.Object.{Object}
 use Rattle.objects.specs.Text.{printed}
 use Rattle.objects.specs.Uid.{uid_text}
-use Rattle.scaling.specs.declared.step.Cause.{Cause}
-use Rattle.scaling.specs.declared.step.Cause.TheVariants.{Terminating, NotReady}
+use Rattle.pod_steps.specs.declared.step.Cause.{Cause}
+use Rattle.pod_steps.specs.declared.step.Cause.TheVariants.{Terminating, NotReady}
 use Rattle.sets.specs.declared.action.Action.{Action}
 use Rattle.sets.specs.declared.action.Action.TheVariants.{CreateClaim, CreatePod, DeletePod, UpdateClaim, WriteRevision, DeleteRevision, WriteStatus, Wait}
 

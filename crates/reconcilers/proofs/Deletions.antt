@@ -11,12 +11,12 @@ use Rattle.set_views.specs.Pod.{PodParts}
 use Rattle.set_views.specs.Set.{SetParts}
 use Rattle.set_views.specs.Steps.{◌>>=◌, guarded}
 use Rattle.revisions.specs.History.{all_but_last, expired, history, is_live}
-use Rattle.scaling.specs.declared.step.Step.{Step}
-use Rattle.scaling.specs.declared.step.Step.TheVariants as steps
-use Rattle.scaling.specs.Replicas.{Pods}
-use Rattle.scaling.specs.Step.{is_of_pod}
-use Rattle.scaling.specs.Whole.{planned}
-use Rattle.scaling.proofs.AtOnce.{alone, nowhere, single, was_there}
+use Rattle.pod_steps.specs.declared.step.Step.{Step}
+use Rattle.pod_steps.specs.declared.step.Step.TheVariants as steps
+use Rattle.pod_steps.specs.Replicas.{Pods}
+use Rattle.pod_steps.specs.Step.{is_of_pod}
+use Rattle.pod_steps.specs.Whole.{planned}
+use Rattle.pod_steps.proofs.AtOnce.{alone, nowhere, single, was_there}
 use Rattle.manifests.specs.BuiltStatus.{built_status}
 use Rattle.claims.specs.declared.change.ClaimChange.{ClaimChange}
 use Rattle.claims.specs.declared.change.ClaimChange.TheVariants.{Create, Update as Change}

@@ -25,9 +25,9 @@ use Rattle.revisions.specs.Choice as choice
 use Rattle.revisions.specs.Plan as revision_plans
 use Rattle.revisions.specs.Plan.{created, renumbered, settled, plan_of}
 use Rattle.revisions.specs.Revision.{is_owned, listed, is_listed, is_revision, owned_among, revision_cmp}
-use Rattle.scaling.specs.Listed.{is_named}
-use Rattle.scaling.specs.Views.{is_near, is_pod, listed_pods}
-use Rattle.scaling.proofs.AtOnce.{alone}
+use Rattle.pod_steps.specs.Listed.{is_named}
+use Rattle.pod_steps.specs.Views.{is_near, is_pod, listed_pods}
+use Rattle.pod_steps.proofs.AtOnce.{alone}
 use Rattle.claims.specs.Listed.{listed_claim}
 use Rattle.collector.specs.Collectable.{Among, collected}
 use Rattle.collector.proofs.Collected.{claim_of}

@@ -17,15 +17,15 @@ use Rattle.set_views.specs.Set.{SetParts}
 use Rattle.set_views.specs.Steps.{guarded}
 use Rattle.set_views.specs.Words.{in_range, is_ready}
 use Rattle.revisions.specs.History.{expired}
-use Rattle.scaling.specs.declared.replica.Replica.{Replica}
-use Rattle.scaling.specs.declared.step.Step.{Step}
-use Rattle.scaling.specs.declared.step.Step.TheVariants as steps
-use Rattle.scaling.specs.Replicas.{Pods, is_condemned, is_due, is_failed, lacks_healthy, ordinals, pod_at}
-use Rattle.scaling.specs.Step.{is_of_pod}
-use Rattle.scaling.specs.Whole.{all_brought, at_once, brought, goes_unless, in_order, in_order_at, is_other_unhealthy, kept, let_go, made, mended, planned, planned_by, removed, replaced, retired, retired_or_updated, revision_at, rolled, scaled_at_once, updated, updated_by, wait_for}
-use Rattle.scaling.proofs.AtOnce.{alone, nowhere, single}
-use Rattle.scaling.proofs.Causes.{found_in}
-use Rattle.scaling.proofs.InOrder.{bounds, inside}
+use Rattle.pod_steps.specs.declared.replica.Replica.{Replica}
+use Rattle.pod_steps.specs.declared.step.Step.{Step}
+use Rattle.pod_steps.specs.declared.step.Step.TheVariants as steps
+use Rattle.pod_steps.specs.Replicas.{Pods, is_condemned, is_due, is_failed, lacks_healthy, ordinals, pod_at}
+use Rattle.pod_steps.specs.Step.{is_of_pod}
+use Rattle.pod_steps.specs.Whole.{all_brought, at_once, brought, goes_unless, in_order, in_order_at, is_other_unhealthy, kept, let_go, made, mended, planned, planned_by, removed, replaced, retired, retired_or_updated, revision_at, rolled, scaled_at_once, updated, updated_by, wait_for}
+use Rattle.pod_steps.proofs.AtOnce.{alone, nowhere, single}
+use Rattle.pod_steps.proofs.Causes.{found_in}
+use Rattle.pod_steps.proofs.InOrder.{bounds, inside}
 use Rattle.manifests.specs.BuiltClaim.{built_claim}
 use Rattle.manifests.specs.BuiltStatus.{built_status}
 use Rattle.claims.specs.declared.change.ClaimChange.{ClaimChange}

@@ -5,9 +5,9 @@ use Rattle.std.proofs.Math.Seq.{take-append-add}
 use Rattle.std.proofs.lemmas.Grind.{flat_map-append}
 use Rattle.std.specs.List.{flat_map, list_any}
 use Rattle.std.specs.Prelude.{Bool, true, false, get_or, map, not, if◌then◌else◌}
-use Rattle.scaling.specs.declared.step.Step.{Step}
-use Rattle.scaling.specs.Step.{cut, is_of_pod, up_to}
-use Rattle.scaling.proofs.Cuts.{cut_keeps_quiet}
+use Rattle.pod_steps.specs.declared.step.Step.{Step}
+use Rattle.pod_steps.specs.Step.{cut, is_of_pod, up_to}
+use Rattle.pod_steps.proofs.Cuts.{cut_keeps_quiet}
 use Rattle.claims.specs.declared.change.ClaimChange.{ClaimChange}
 use Rattle.sets.specs.declared.action.Action.{Action}
 use Rattle.sets.specs.Actions.{claim_action, claim_actions}

@@ -13,12 +13,12 @@ use Rattle.set_views.specs.Steps.{◌>>=◌, Gives, guarded}
 use Rattle.revisions.specs.History.{all_but_last, expired, has_pod}
 use Rattle.revisions.specs.Plan.{Planned, created, renumbered, settled, plan_of}
 use Rattle.revisions.specs.Revision.{listed}
-use Rattle.scaling.specs.Listed.{is_named, replicas_in}
-use Rattle.scaling.specs.Replicas.{Pods}
-use Rattle.scaling.specs.Step.{is_of_pod}
-use Rattle.scaling.specs.Views.{AreViews, listed_pod, listed_pods}
-use Rattle.scaling.specs.Whole.{planned}
-use Rattle.scaling.proofs.Same.{same_replicas}
+use Rattle.pod_steps.specs.Listed.{is_named, replicas_in}
+use Rattle.pod_steps.specs.Replicas.{Pods}
+use Rattle.pod_steps.specs.Step.{is_of_pod}
+use Rattle.pod_steps.specs.Views.{AreViews, listed_pod, listed_pods}
+use Rattle.pod_steps.specs.Whole.{planned}
+use Rattle.pod_steps.proofs.Same.{same_replicas}
 use Rattle.claims.specs.Listed.{listed_claim}
 use Rattle.sets.specs.declared.action.Action.{Action}
 use Rattle.sets.specs.declared.action.Action.TheVariants.{WriteRevision}

@@ -13,8 +13,8 @@ use Rattle.set_views.specs.Pod.{PodParts}
 use Rattle.set_views.specs.Set.{SetParts}
 use Rattle.set_views.specs.Words.{is_owned}
 use Rattle.revisions.specs.History.{has_pod}
-use Rattle.scaling.specs.Listed.{is_named}
-use Rattle.scaling.specs.Views.{AreViews, IsViewOf, is_near, listed_pod, listed_pods}
+use Rattle.pod_steps.specs.Listed.{is_named}
+use Rattle.pod_steps.specs.Views.{AreViews, IsViewOf, is_near, listed_pod, listed_pods}
 use Rattle.collector.specs.Collectable.{Among}
 use Rattle.sets.specs.Actions.{name_at}
 use Rattle.sets.specs.Place.{place_in}

@@ -9,14 +9,14 @@ use Rattle.std.proofs.Math.Nat.{pow-suc}
 use Rattle.std.specs.Prelude.{◌==◌, ◌||◌, Bool, true, false, decimal, get_or, nat_le, Result, Ok, Err}
 use Rattle.objects.specs.PodNames.{pod_name}
 use Rattle.set_views.specs.Set.{SetParts}
-use Rattle.scaling.specs.declared.step.Step.{Step}
-use Rattle.scaling.specs.declared.step.Step.TheVariants.{MakeClaims, KeepClaims, ReleaseClaims, CreatePod, DeletePod, Wait}
-use Rattle.scaling.specs.Replicas.{AreInOrder, Pods}
-use Rattle.scaling.specs.Step.{cut}
-use Rattle.scaling.specs.Whole.{planned}
-use Rattle.scaling.proofs.Causes.{created_is_absent}
-use Rattle.scaling.proofs.Cuts.{cut_is_a_beginning}
-use Rattle.scaling.proofs.InOrder.{bounds}
+use Rattle.pod_steps.specs.declared.step.Step.{Step}
+use Rattle.pod_steps.specs.declared.step.Step.TheVariants.{MakeClaims, KeepClaims, ReleaseClaims, CreatePod, DeletePod, Wait}
+use Rattle.pod_steps.specs.Replicas.{AreInOrder, Pods}
+use Rattle.pod_steps.specs.Step.{cut}
+use Rattle.pod_steps.specs.Whole.{planned}
+use Rattle.pod_steps.proofs.Causes.{created_is_absent}
+use Rattle.pod_steps.proofs.Cuts.{cut_is_a_beginning}
+use Rattle.pod_steps.proofs.InOrder.{bounds}
 use Rattle.objects.specs.declared.object.Object.{Object}
 use Rattle.set_views.specs.declared.fault.PlanError.{PlanError}
 use Rattle.set_views.specs.declared.fault.PlanError.TheVariants as errors

@@ -10,7 +10,7 @@ use Rattle.set_views.specs.Set.{SetParts}
 use Rattle.set_views.specs.Steps.{Gives, is_memory}
 use Rattle.revisions.specs.Plan.{plan_of}
 use Rattle.revisions.specs.Revision.{listed}
-use Rattle.scaling.specs.Views.{listed_pods}
+use Rattle.pod_steps.specs.Views.{listed_pods}
 use Rattle.claims.specs.Listed.{listed_claim}
 use Rattle.sets.specs.declared.action.Plan.{Plan}
 use Rattle.sets.specs.Plan.{IsPlan, plan_by}

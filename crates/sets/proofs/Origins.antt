@@ -16,19 +16,19 @@ use Rattle.set_views.specs.Steps.{◌>>=◌, guarded}
 use Rattle.set_views.specs.Words.{in_range, is_owned, is_healthy}
 use Rattle.revisions.specs.History.{expired}
 use Rattle.revisions.specs.Plan.{created, renumbered}
-use Rattle.scaling.specs.declared.replica.Replica.{Replica}
-use Rattle.scaling.specs.declared.step.Revision.{Revision}
-use Rattle.scaling.specs.declared.step.Step.{Step}
-use Rattle.scaling.specs.declared.step.Step.TheVariants as steps
-use Rattle.scaling.specs.Listed.{is_named, replicas_in}
-use Rattle.scaling.specs.Replicas as replicas
-use Rattle.scaling.specs.Replicas.{Pods, has_healthy_pod, pod_at}
-use Rattle.scaling.specs.Step.{is_of_pod, pod_steps}
-use Rattle.scaling.specs.Whole.{planned}
-use Rattle.scaling.proofs.AtOnce.{alone, nowhere, single}
-use Rattle.scaling.proofs.Causes.{created_in_turn, created_is_absent, deleted, one_at_a_time}
-use Rattle.scaling.proofs.Firsts.{is_listed, replicas_in_order}
-use Rattle.scaling.proofs.ListedPlans.{created_is_free, deleted_is_owned, kept_of_list}
+use Rattle.pod_steps.specs.declared.replica.Replica.{Replica}
+use Rattle.pod_steps.specs.declared.step.Revision.{Revision}
+use Rattle.pod_steps.specs.declared.step.Step.{Step}
+use Rattle.pod_steps.specs.declared.step.Step.TheVariants as steps
+use Rattle.pod_steps.specs.Listed.{is_named, replicas_in}
+use Rattle.pod_steps.specs.Replicas as replicas
+use Rattle.pod_steps.specs.Replicas.{Pods, has_healthy_pod, pod_at}
+use Rattle.pod_steps.specs.Step.{is_of_pod, pod_steps}
+use Rattle.pod_steps.specs.Whole.{planned}
+use Rattle.pod_steps.proofs.AtOnce.{alone, nowhere, single}
+use Rattle.pod_steps.proofs.Causes.{created_in_turn, created_is_absent, deleted, one_at_a_time}
+use Rattle.pod_steps.proofs.Firsts.{is_listed, replicas_in_order}
+use Rattle.pod_steps.proofs.ListedPlans.{created_is_free, deleted_is_owned, kept_of_list}
 use Rattle.manifests.specs.BuiltStatus.{built_status}
 use Rattle.claims.specs.declared.change.ClaimChange.{ClaimChange}
 use Rattle.claims.specs.declared.change.ClaimChange.TheVariants.{Create, Update as Change}

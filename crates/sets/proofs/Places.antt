@@ -14,7 +14,7 @@ use Rattle.objects.specs.PodNames.{IsPodName, most_ordinal, pod_name}
 use Rattle.objects.proofs.PodNamesDiffer.{pod_names-differ}
 use Rattle.set_views.specs.declared.pod.PodView.{PodView}
 use Rattle.set_views.specs.Pod.{place_of, pod_parts, pod_with}
-use Rattle.scaling.specs.Views.{AreViews, IsViewOf}
+use Rattle.pod_steps.specs.Views.{AreViews, IsViewOf}
 use Rattle.sets.specs.Place.{is_cut, number_behind, place_below, place_in}
 use Rattle.sets.specs.Planned.{view_of}
 

@@ -14,12 +14,12 @@ use Rattle.set_views.proofs.Chains.{fails_then}
 use Rattle.revisions.specs.declared.plan.RevisionPlan.{RevisionPlan}
 use Rattle.revisions.specs.History.{expired}
 use Rattle.revisions.specs.Plan as revisions
-use Rattle.scaling.specs.declared.step.Step.{Step}
-use Rattle.scaling.specs.Listed.{replicas_in}
-use Rattle.scaling.specs.Replicas.{Pods}
-use Rattle.scaling.specs.Step.{cut}
-use Rattle.scaling.specs.Views.{AreViews, listed_pods}
-use Rattle.scaling.specs.Whole.{planned}
+use Rattle.pod_steps.specs.declared.step.Step.{Step}
+use Rattle.pod_steps.specs.Listed.{replicas_in}
+use Rattle.pod_steps.specs.Replicas.{Pods}
+use Rattle.pod_steps.specs.Step.{cut}
+use Rattle.pod_steps.specs.Views.{AreViews, listed_pods}
+use Rattle.pod_steps.specs.Whole.{planned}
 use Rattle.manifests.specs.BuiltStatus.{StatusParts, built_status}
 use Rattle.claims.specs.Listed.{listed_claim}
 use Rattle.sets.specs.declared.action.Action.{Action}

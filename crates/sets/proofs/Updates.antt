@@ -8,17 +8,17 @@ use Rattle.set_views.specs.declared.policies.Strategy.TheVariants.{RollingUpdate
 use Rattle.set_views.specs.Pod.{PodParts}
 use Rattle.set_views.specs.Set.{SetParts}
 use Rattle.set_views.specs.Words.{in_range}
-use Rattle.scaling.specs.declared.replica.Replica.{Replica}
-use Rattle.scaling.specs.declared.step.Step.{Step}
-use Rattle.scaling.specs.declared.step.Step.TheVariants as steps
-use Rattle.scaling.specs.Listed.{replica_of}
-use Rattle.scaling.specs.Replicas as replicas
-use Rattle.scaling.specs.Replicas.{AreInOrder, Pods, is_failed, is_settled, pod_at}
-use Rattle.scaling.specs.Step.{pod_steps}
-use Rattle.scaling.specs.Whole.{planned}
-use Rattle.scaling.proofs.Causes.{deleted, replaced_from_partition, replaced_in_turn, replaced_where_all_healthy}
-use Rattle.scaling.proofs.Firsts.{is_listed, replicas_in_order}
-use Rattle.scaling.proofs.Replaced.{IsReplaced, by_the_update, none_is_absent, one_is_touched, replaced_is_outdated}
+use Rattle.pod_steps.specs.declared.replica.Replica.{Replica}
+use Rattle.pod_steps.specs.declared.step.Step.{Step}
+use Rattle.pod_steps.specs.declared.step.Step.TheVariants as steps
+use Rattle.pod_steps.specs.Listed.{replica_of}
+use Rattle.pod_steps.specs.Replicas as replicas
+use Rattle.pod_steps.specs.Replicas.{AreInOrder, Pods, is_failed, is_settled, pod_at}
+use Rattle.pod_steps.specs.Step.{pod_steps}
+use Rattle.pod_steps.specs.Whole.{planned}
+use Rattle.pod_steps.proofs.Causes.{deleted, replaced_from_partition, replaced_in_turn, replaced_where_all_healthy}
+use Rattle.pod_steps.proofs.Firsts.{is_listed, replicas_in_order}
+use Rattle.pod_steps.proofs.Replaced.{IsReplaced, by_the_update, none_is_absent, one_is_touched, replaced_is_outdated}
 use Rattle.sets.specs.declared.action.Action.{Action}
 use Rattle.sets.specs.declared.action.Action.TheVariants.{DeletePod}
 use Rattle.sets.specs.Actions.{Claims, name_at}

@@ -4,10 +4,10 @@ use Rattle.objects.specs.declared.object.Object.{Object}
 use Rattle.objects.specs.PodNames.{pod_name}
 use Rattle.set_views.specs.declared.fault.PlanError.{PlanError}
 use Rattle.set_views.specs.Set.{SetParts}
-use Rattle.scaling.specs.declared.step.Revision.{Revision}
-use Rattle.scaling.specs.declared.step.Revision.TheVariants.{Current, Update}
-use Rattle.scaling.specs.declared.step.Step.{Step}
-use Rattle.scaling.specs.declared.step.Step.TheVariants as steps
+use Rattle.pod_steps.specs.declared.step.Revision.{Revision}
+use Rattle.pod_steps.specs.declared.step.Revision.TheVariants.{Current, Update}
+use Rattle.pod_steps.specs.declared.step.Step.{Step}
+use Rattle.pod_steps.specs.declared.step.Step.TheVariants as steps
 use Rattle.manifests.specs.BuiltPod.{named_pod}
 use Rattle.manifests.specs.Template.{template_of}
 use Rattle.claims.specs.declared.change.ClaimChange.{ClaimChange}

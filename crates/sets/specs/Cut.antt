@@ -2,8 +2,8 @@
 use Rattle.std.specs.Prelude.{◌≡◌, Bool, true, List, ◌++◌, length, nat_le, take}
 use Rattle.std.specs.List.{All}
 use Rattle.set_views.specs.Set.{SetParts}
-use Rattle.scaling.specs.declared.step.Step.{Step}
-use Rattle.scaling.specs.declared.step.Step.TheVariants.{MakeClaims, KeepClaims, ReleaseClaims, CreatePod, DeletePod, Wait}
+use Rattle.pod_steps.specs.declared.step.Step.{Step}
+use Rattle.pod_steps.specs.declared.step.Step.TheVariants.{MakeClaims, KeepClaims, ReleaseClaims, CreatePod, DeletePod, Wait}
 use Rattle.objects.specs.Names.{most_label}
 use Rattle.sets.specs.declared.action.Action.{Action}
 use Rattle.sets.specs.Actions.{name_at}

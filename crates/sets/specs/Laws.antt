@@ -10,7 +10,7 @@ use Rattle.set_views.specs.Claims.{Claim}
 use Rattle.set_views.specs.Pod.{PodParts}
 use Rattle.set_views.specs.Set.{SetParts}
 use Rattle.set_views.specs.Words.{in_range, is_healthy, is_owned}
-use Rattle.scaling.specs.Listed.{has_revision, is_named}
+use Rattle.pod_steps.specs.Listed.{has_revision, is_named}
 use Rattle.claims.specs.Changes.{entries_of, updated}
 use Rattle.claims.specs.Owners.{is_of_pod, is_of_set, is_stranger, owner_in_range, owner_of_condemned}
 use Rattle.sets.specs.declared.action.Action.{Action}

@@ -24,13 +24,13 @@ pub use Rattle.revisions.specs.History
 pub use Rattle.revisions.specs.Name
 pub use Rattle.revisions.specs.Plan as Revisions
 pub use Rattle.revisions.specs.Revision
-pub use Rattle.scaling.specs.Listed as Replicas
-pub use Rattle.scaling.specs.Scaling
-pub use Rattle.scaling.specs.Status
-pub use Rattle.scaling.specs.Step
-pub use Rattle.scaling.specs.Update
-pub use Rattle.scaling.specs.Views
-pub use Rattle.scaling.specs.Whole as Steps
+pub use Rattle.pod_steps.specs.Listed as Replicas
+pub use Rattle.pod_steps.specs.Scaling
+pub use Rattle.pod_steps.specs.Status
+pub use Rattle.pod_steps.specs.Step
+pub use Rattle.pod_steps.specs.Update
+pub use Rattle.pod_steps.specs.Views
+pub use Rattle.pod_steps.specs.Whole as Steps
 pub use Rattle.set_views.specs.Pod
 pub use Rattle.set_views.specs.Readiness
 pub use Rattle.set_views.specs.Set

@@ -11,9 +11,9 @@ use Rattle.set_views.specs.Set.{SetParts}
 use Rattle.set_views.specs.Steps.{◌>>=◌, guarded, Gives}
 use Rattle.revisions.specs.Plan.{Planned, created, renumbered, settled, plan_of}
 use Rattle.revisions.specs.Revision.{AreOwned, listed}
-use Rattle.scaling.specs.Listed.{replicas_in}
-use Rattle.scaling.specs.Replicas.{Pods}
-use Rattle.scaling.specs.Views.{AreViews, listed_pods}
+use Rattle.pod_steps.specs.Listed.{replicas_in}
+use Rattle.pod_steps.specs.Replicas.{Pods}
+use Rattle.pod_steps.specs.Views.{AreViews, listed_pods}
 use Rattle.objects.specs.Names.{most_label}
 use Rattle.claims.specs.Listed.{listed_claim}
 use Rattle.sets.specs.declared.action.Action.{Action}

@@ -7,7 +7,7 @@ use Rattle.set_views.specs.Pod.{PodParts, pod_with}
 use Rattle.set_views.specs.Set.{SetParts}
 use Rattle.revisions.specs.Plan.{plan_of}
 use Rattle.revisions.specs.Revision.{listed, owned_among, revision_cmp}
-use Rattle.scaling.specs.Views.{listed_pods}
+use Rattle.pod_steps.specs.Views.{listed_pods}
 use Rattle.claims.specs.Listed.{listed_claim}
 use Rattle.sets.specs.declared.action.Action.{Action}
 use Rattle.sets.specs.Order.{in_order}

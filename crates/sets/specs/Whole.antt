@@ -7,12 +7,12 @@ use Rattle.objects.specs.declared.object.Object.{Object}
 use Rattle.set_views.specs.Pod.{PodParts}
 use Rattle.set_views.specs.Set.{SetParts}
 use Rattle.revisions.specs.History.{expired}
-use Rattle.scaling.specs.Replicas.{Pods}
-use Rattle.scaling.specs.Status.{counts_of, is_rolled_out}
-use Rattle.scaling.specs.Step.{is_of_pod}
-use Rattle.scaling.specs.Whole.{planned}
-use Rattle.scaling.specs.declared.status.Counts.{Counts}
-use Rattle.scaling.specs.declared.step.Step.{Step}
+use Rattle.pod_steps.specs.Replicas.{Pods}
+use Rattle.pod_steps.specs.Status.{counts_of, is_rolled_out}
+use Rattle.pod_steps.specs.Step.{is_of_pod}
+use Rattle.pod_steps.specs.Whole.{planned}
+use Rattle.pod_steps.specs.declared.status.Counts.{Counts}
+use Rattle.pod_steps.specs.declared.step.Step.{Step}
 use Rattle.manifests.specs.BuiltStatus.{StatusParts, built_status}
 use Rattle.sets.specs.declared.action.Action.{Action}
 use Rattle.sets.specs.declared.action.Action.TheVariants.{DeleteRevision, WriteStatus}

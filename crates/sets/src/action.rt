@@ -1,6 +1,6 @@
 // What a plan consists of.
 use objects::{Object, Text};
-use scaling::Cause;
+use pod_steps::Cause;
 
 /// One action of a plan. Each but `Wait` is one request to the API.
 #[derive(Drop)]

@@ -19,8 +19,8 @@ pub use laws::{
     revisions_are_written_alone,
 };
 pub use planner::plan;
+pub use pod_steps::Cause;
 pub use revisions::{RevisionPlan, RevisionView, Revisions, revision_plan};
-pub use scaling::Cause;
 pub use set_views::{
     PlanError, PodView, Policy, Readiness, Retention, Set, Strategy, read_pod, read_set,
 };

@@ -14,8 +14,8 @@ use crate::actions::Actions;
 use claims::{ClaimChange, ListedClaims, kept_claims, made_claims, released_claims};
 use manifests::{PodTemplate, pod_of};
 use objects::{Memory, Object, Text, pod_name};
+use pod_steps::{Revision, Step};
 use revisions::Revisions;
-use scaling::{Revision, Step};
 use set_views::{PlanError, Set};
 use std::alloc::Global;
 

@@ -1,6 +1,6 @@
 use Rattle.std.proofs.Common.{sym, ◌∙◌}
 use Rattle.std.specs.List.{list_any}
-use Rattle.scaling.specs.Step.{is_of_pod}
+use Rattle.pod_steps.specs.Step.{is_of_pod}
 use Rattle.sets.proofs.Cuts.{none_gone}
 use Rattle.sets.proofs.ending.add_history.Goals as goal
 

@@ -2,7 +2,7 @@ use Rattle.std.proofs.Common.{List, map, sym, subst}
 use Rattle.set_views.specs.declared.pod.PodView.{PodView}
 use Rattle.set_views.specs.Pod.{pod_parts}
 use Rattle.set_views.specs.Set.{set_parts}
-use Rattle.scaling.specs.Views.{AreViews, listed_pods}
+use Rattle.pod_steps.specs.Views.{AreViews, listed_pods}
 use Rattle.claims.specs.Listed.{claim_named, listed_claim}
 use Rattle.sets.proofs.Plans.{for_claims, is_plan}
 use Rattle.sets.proofs.planner.plan.Goals as goal

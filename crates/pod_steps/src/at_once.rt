@@ -1,0 +1,106 @@
+// Parallel: each pod at once.
+ghost use Rattle.std.specs.Prelude.{◌≡◌, [], OnOk, reverse};
+ghost use Rattle.std.specs.List.{flat_map};
+ghost use Rattle.set_views.specs.Set.{set_parts};
+ghost use Rattle.pod_steps.specs.Replicas.{pod_at};
+ghost use Rattle.pod_steps.specs.Step.{Adds};
+ghost use Rattle.pod_steps.specs.Whole.{all_brought, at_once, brought, let_go, scaled_at_once};
+
+use crate::replica::Replica;
+use crate::single::{create, delete, keep, remove};
+use crate::step::Steps;
+use crate::update::update;
+use crate::words::end_of;
+use set_views::Set;
+use std::alloc::AllocError;
+use std::collections::BTreeMap;
+
+/// Scales a set at once, and updates it where there is nothing to scale.
+pub(crate) fn plan_at_once(
+    steps: &mut Steps,
+    set: &Set,
+    pods: &BTreeMap<u32, Replica>,
+) -> Result<(), AllocError>
+    requires { steps.old.list.items ≡ [] }
+    ensures { OnOk result (Adds steps.old.list.items steps.new.list.items (at_once (set_parts set.now) pods.now.entries)) }
+{
+    scale(steps, set, pods)?;
+    if steps.is_full() {
+        return Ok(());
+    }
+    if steps.are_of_pods() {
+        return Ok(());
+    }
+    update(steps, set, pods)
+}
+
+/// Brings about each pod in range, and deletes each condemned one.
+#[tactic(auto, using(crate::proofs::Cuts::adds_more), unfolding(crate::specs::Whole::scaled_at_once))]
+fn scale(steps: &mut Steps, set: &Set, pods: &BTreeMap<u32, Replica>) -> Result<(), AllocError>
+    ensures { OnOk result (Adds steps.old.list.items steps.new.list.items (scaled_at_once (set_parts set.now) pods.now.entries)) }
+{
+    bring_all(steps, set, pods)?;
+    let_all_go(steps, set, pods)
+}
+
+/// Brings about each pod in range. It stops where the steps are full, since the range may be far longer than the list
+/// of pods.
+fn bring_all(steps: &mut Steps, set: &Set, pods: &BTreeMap<u32, Replica>) -> Result<(), AllocError>
+    ensures { OnOk result (Adds steps.old.list.items steps.new.list.items (all_brought (set_parts set.now) pods.now.entries)) }
+{
+    for ordinal in set.start..end_of(set) {
+        if steps.is_full() {
+            return Ok(());
+        }
+        bring(steps, set, pods, ordinal)?;
+    }
+    Ok(())
+}
+
+/// Brings about a pod at an ordinal in range.
+#[tactic(auto, using(crate::proofs::Cuts::adds_none))]
+fn bring(
+    steps: &mut Steps,
+    set: &Set,
+    pods: &BTreeMap<u32, Replica>,
+    ordinal: u32,
+) -> Result<(), AllocError>
+    ensures { OnOk result (Adds steps.old.list.items steps.new.list.items (brought (set_parts set.now) ordinal (pod_at pods.now.entries ordinal))) }
+{
+    match pods.get(&ordinal) {
+        None => create(steps, set, ordinal),
+        Some(pod) => {
+            if pod.terminating {
+                Ok(())
+            } else if pod.is_failed() {
+                delete(steps, ordinal, pod)
+            } else if pod.is_ready() {
+                keep(steps, ordinal)
+            } else {
+                Ok(())
+            }
+        }
+    }
+}
+
+/// Deletes each condemned pod, from the highest down.
+fn let_all_go(steps: &mut Steps, set: &Set, pods: &BTreeMap<u32, Replica>) -> Result<(), AllocError>
+    ensures { OnOk result (Adds steps.old.list.items steps.new.list.items (flat_map (let_go (set_parts set.now)) (reverse pods.now.entries))) }
+{
+    for (ordinal, pod) in pods.iter().rev() {
+        let_go(steps, set, *ordinal, pod)?;
+    }
+    Ok(())
+}
+
+/// Deletes a condemned pod, unless it is terminating.
+#[tactic(auto, using(crate::proofs::Cuts::adds_none))]
+fn let_go(steps: &mut Steps, set: &Set, ordinal: u32, pod: &Replica) -> Result<(), AllocError>
+    ensures { OnOk result (Adds steps.old.list.items steps.new.list.items (let_go (set_parts set.now) (ordinal, pod.now))) }
+{
+    if set.has_in_range(ordinal) || pod.terminating {
+        Ok(())
+    } else {
+        remove(steps, ordinal, pod)
+    }
+}

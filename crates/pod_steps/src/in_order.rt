@@ -1,0 +1,103 @@
+// OrderedReady: one pod at a time.
+ghost use Rattle.std.specs.Prelude.{◌≡◌, OnOk, find, reverse, option_map};
+ghost use Rattle.std.specs.Map.Iter.{deref_pair};
+ghost use Rattle.set_views.specs.Set.{set_parts};
+ghost use Rattle.pod_steps.specs.Replicas.{is_condemned, pod_at};
+ghost use Rattle.pod_steps.specs.Step.{Adds};
+ghost use Rattle.pod_steps.specs.Whole.{in_order, is_other_unhealthy, mended, retired};
+
+use crate::replica::Replica;
+use crate::single::{create, delete, keep_below, remove, wait};
+use crate::step::Steps;
+use crate::update::update;
+use crate::words::{end_of, first_gap};
+use set_views::Set;
+use std::alloc::AllocError;
+use std::collections::BTreeMap;
+
+/// Scales and updates a set in order.
+pub(crate) fn plan_in_order(
+    steps: &mut Steps,
+    set: &Set,
+    pods: &BTreeMap<u32, Replica>,
+) -> Result<(), AllocError>
+    ensures { OnOk result (Adds steps.old.list.items steps.new.list.items (in_order (set_parts set.now) pods.now.entries)) }
+{
+    match first_gap(set, pods) {
+        Some(ordinal) => {
+            keep_below(steps, set, ordinal)?;
+            mend(steps, set, pods, ordinal)
+        }
+        None => {
+            keep_below(steps, set, end_of(set))?;
+            match highest_condemned(set, pods) {
+                Some((ordinal, pod)) => retire(steps, set, pods, *ordinal, pod),
+                None => update(steps, set, pods),
+            }
+        }
+    }
+}
+
+/// Brings about a healthy pod at an ordinal that has none.
+fn mend(
+    steps: &mut Steps,
+    set: &Set,
+    pods: &BTreeMap<u32, Replica>,
+    ordinal: u32,
+) -> Result<(), AllocError>
+    ensures { OnOk result (Adds steps.old.list.items steps.new.list.items (mended (set_parts set.now) ordinal (pod_at pods.now.entries ordinal))) }
+{
+    match pods.get(&ordinal) {
+        None => create(steps, set, ordinal),
+        Some(pod) => {
+            if pod.is_failed() && !pod.terminating {
+                delete(steps, ordinal, pod)
+            } else {
+                wait(steps, ordinal, pod)
+            }
+        }
+    }
+}
+
+fn highest_condemned<'a>(
+    set: &Set,
+    pods: &'a BTreeMap<u32, Replica>,
+) -> Option<(&'a u32, &'a Replica)>
+    ensures { option_map deref_pair result ≡ find (is_condemned (set_parts set.now)) (reverse pods.now.entries) }
+{
+    pods.iter()
+        .rev()
+        .find(|(ordinal, _)| !set.has_in_range(**ordinal))
+}
+
+/// The least condemned pod that is not healthy, beside the highest.
+fn first_unhealthy<'a>(
+    set: &Set,
+    pods: &'a BTreeMap<u32, Replica>,
+    highest: u32,
+) -> Option<(&'a u32, &'a Replica)>
+    ensures { option_map deref_pair result ≡ find (is_other_unhealthy (set_parts set.now) highest) pods.now.entries }
+{
+    pods.iter().find(|(ordinal, pod)| !set.has_in_range(**ordinal)
+        && **ordinal != highest
+        && !pod.is_healthy())
+}
+
+/// Deletes the highest condemned pod, once each other one is healthy.
+fn retire(
+    steps: &mut Steps,
+    set: &Set,
+    pods: &BTreeMap<u32, Replica>,
+    highest: u32,
+    pod: &Replica,
+) -> Result<(), AllocError>
+    ensures { OnOk result (Adds steps.old.list.items steps.new.list.items (retired (set_parts set.now) pods.now.entries (highest, pod.now))) }
+{
+    if pod.terminating {
+        return wait(steps, highest, pod);
+    }
+    match first_unhealthy(set, pods, highest) {
+        Some((ordinal, other)) => wait(steps, *ordinal, other),
+        None => remove(steps, highest, pod),
+    }
+}

@@ -1,5 +1,0 @@
-use Rattle.scaling.proofs.ListedPlans.{deleted_is_owned}
-use Rattle.scaling.proofs.laws.deletes_are_of_owned_pods.Goals as goal
-
-pub returns : goal.returns
-returns c = deleted_is_owned

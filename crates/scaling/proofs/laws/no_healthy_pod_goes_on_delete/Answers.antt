@@ -1,5 +1,0 @@
-use Rattle.scaling.proofs.ListedPlans.{kept_of_list}
-use Rattle.scaling.proofs.laws.no_healthy_pod_goes_on_delete.Goals as goal
-
-pub returns : goal.returns
-returns c = kept_of_list

@@ -1,8 +1,0 @@
-use Rattle.scaling.proofs.Causes.{replaced_from_partition, replaced_in_turn}
-use Rattle.scaling.proofs.laws.replacements_go_downward.Goals as goal
-
-pub returns-clause-reached : goal.returns-clause-reached
-returns-clause-reached c = replaced_from_partition
-
-pub returns-clause-settled : goal.returns-clause-settled
-returns-clause-settled c = replaced_in_turn

@@ -1,5 +1,0 @@
-use Rattle.scaling.proofs.ListedPlans.{replaced_of_list}
-use Rattle.scaling.proofs.laws.replacements_wait_for_all_in_order.Goals as goal
-
-pub returns : goal.returns
-returns c = replaced_of_list

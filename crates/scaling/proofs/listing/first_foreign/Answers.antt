@@ -1,9 +1,0 @@
-use Rattle.std.proofs.Common.{rules, tests}
-use Rattle.std.proofs.lemmas.Iterator.Consumers.{YieldsList-from_rest}
-use Rattle.std.proofs.lemmas.Iterator.Search.{find_from_yields_List}
-use Rattle.set_views.specs.Set.{set_parts}
-use Rattle.scaling.specs.Listed.{is_foreign}
-use Rattle.scaling.proofs.listing.first_foreign.Goals as goal
-
-pub returns : goal.returns
-returns c = find_from_yields_List (is_foreign (set_parts c.args.set.now)) _ _ _ c.find.ensures.ran (YieldsList-from_rest c.args.pods.now.entries c.iter.ensures.rest) (λ x b q k. search (rules, tests))

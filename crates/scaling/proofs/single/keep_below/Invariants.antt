@@ -1,8 +1,0 @@
-use Rattle.std.proofs.Common.{◌-◌}
-use Rattle.std.specs.List.{flat_map, range_with_len}
-use Rattle.scaling.specs.Step.{Adds}
-use Rattle.scaling.specs.Whole.{kept}
-use Rattle.scaling.proofs.single.keep_below.Given as goal
-
-abbrev pub invariant-loop-ordinal : goal.invariant-loop-ordinal
-invariant-loop-ordinal l = Adds l.fn.steps.list.items l.steps.list.items (flat_map kept (range_with_len l.set.start (l.ordinal - l.set.start)))
