@@ -14,8 +14,8 @@ use Rattle.controllers.specs.declared.progress.Progress.{Progress}
 use Rattle.controllers.specs.declared.progress.Progress.TheVariants.{ReadingSet, ListingRevisions, ListingPods, ListingClaims, Acting, ListingOldClaims, ListingOwnerSets, ListingOwnerPods, ListingOwnerRevisions, ListingOwnerClaims, Deleting}
 use Rattle.controllers.specs.Controller.{Refusals, refusal_after, refusals_with}
 use Rattle.controllers.specs.Progress.{is_carrying, is_list, is_listing, is_planning, phase_at, planned_at}
-use Rattle.reconcilers.specs.Planned.{or_none, requested, why_not}
-use Rattle.reconcilers.specs.Reconciler.{reconciler_with}
+use Rattle.plan_requests.specs.Planned.{or_none, requested, why_not}
+use Rattle.plan_requests.specs.Reconciler.{reconciler_with}
 
 -- a reply without a list ends the round where one is waited for
 from_none : (next : List Object → ℕ → Phase) (reply : Reply) → is_list reply ≡ false → from_list next reply ≡ phases.reading_set

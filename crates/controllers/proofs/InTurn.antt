@@ -68,7 +68,7 @@ use Rattle.sets.proofs.Ordered.{all_among, all_in_order}
 use Rattle.sets.proofs.Origins.{created_alone, healthy_target, in_take, is_from_step, one_pod, origin, planned_over, renumbered_alone}
 use Rattle.sets.proofs.Owned.{filtered, first_among, total}
 use Rattle.rounds.proofs.Lists.{among_contained, among_either, contains_among}
-use Rattle.reconcilers.specs.Planned.{as_read, deletions as removals, key_of, new, or_none, request_of, requested, requested_for, requests_of, version_text}
+use Rattle.plan_requests.specs.Planned.{as_read, deletions as removals, key_of, new, or_none, request_of, requested, requested_for, requests_of, version_text}
 use Rattle.controllers.specs.InTurn.{IsInTurn, is_on_pod}
 
 module _ {X : Type 0} (P : X → Type 0) where

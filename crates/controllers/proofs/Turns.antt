@@ -12,8 +12,8 @@ use Rattle.rounds.specs.Promises.{CreatesArePlanned}
 use Rattle.rounds.specs.Reconciler.{Reconciler}
 use Rattle.rounds.specs.Transcript.{Entry, Exchange, of_life}
 use Rattle.rounds.proofs.Lists.{among_right}
-use Rattle.reconcilers.specs.Planned.{or_none, requested}
-use Rattle.reconcilers.specs.Reconciler.{reconciler_with}
+use Rattle.plan_requests.specs.Planned.{or_none, requested}
+use Rattle.plan_requests.specs.Reconciler.{reconciler_with}
 use Rattle.controllers.specs.InTurn.{ComesInTurn, IsInTurn, IsOfSet, PodsComeInTurn}
 use Rattle.controllers.proofs.InTurn.{created_in_turn}
 

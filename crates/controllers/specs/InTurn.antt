@@ -21,7 +21,7 @@ use Rattle.sets.specs.Planned.{views_of}
 use Rattle.rounds.specs.Planned.{IsPlanned}
 use Rattle.rounds.specs.Reconciler.{Reconciler}
 use Rattle.rounds.specs.Transcript.{Entry, Exchange, Life, of_life}
-use Rattle.reconcilers.specs.Reconciler.{reconciler_with}
+use Rattle.plan_requests.specs.Reconciler.{reconciler_with}
 
 -- the request creates or deletes a pod
 abbrev pub is_on_pod : Request → Bool

@@ -5,8 +5,8 @@ pub mod InTurn
 pub mod Whole
 pub mod Progress
 -- ---- of the crates below
-pub use Rattle.reconcilers.specs.Planned
-pub use Rattle.reconcilers.specs.Reconciler
+pub use Rattle.plan_requests.specs.Planned
+pub use Rattle.plan_requests.specs.Reconciler
 pub use Rattle.rounds.specs.Accepted
 pub use Rattle.rounds.specs.Before
 pub use Rattle.rounds.specs.Life

@@ -12,7 +12,7 @@ ghost use Rattle.collector.specs.Collectable.{Among};
 ghost use Rattle.rounds.specs.Promises.{CreatesArePlanned};
 ghost use Rattle.rounds.specs.Reconciler.{Reconciler};
 ghost use Rattle.rounds.specs.Transcript.{Entry};
-ghost use Rattle.reconcilers.specs.Planned.{requested};
+ghost use Rattle.plan_requests.specs.Planned.{requested};
 ghost use Rattle.controllers.specs.InTurn.{IsInTurn, IsOfSet, PodsComeInTurn};
 
 /// Under OrderedReady a controller asks for a pod only of an ordinal in range, under a name that none of the pods has that were

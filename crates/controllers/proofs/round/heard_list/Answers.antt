@@ -1,6 +1,6 @@
 use Rattle.std.proofs.Common.{sym}
 use Rattle.controllers.specs.Progress.{phase_at}
-use Rattle.reconcilers.specs.Reconciler.{reconciler_with}
+use Rattle.plan_requests.specs.Reconciler.{reconciler_with}
 use Rattle.controllers.proofs.Heard.{list_ends}
 use Rattle.controllers.proofs.round.heard_list.Goals as goal
 

@@ -6,7 +6,7 @@ ghost use Rattle.objects.specs.declared.fault.ReadError.TheVariants.{Memory as O
 ghost use Rattle.objects.specs.declared.kind.Kind.TheVariants.{Pod, ControllerRevision};
 ghost use Rattle.requests.specs.declared.request.Request.TheVariants.{Create, Delete, Update, UpdateStatus};
 ghost use Rattle.collector.specs.Collectable.{given};
-ghost use Rattle.reconcilers.specs.Planned.{as_read, deletion_of, deletions, key_of, new, request_of, requests_of, version_text};
+ghost use Rattle.plan_requests.specs.Planned.{as_read, deletion_of, deletions, key_of, new, request_of, requests_of, version_text};
 
 use objects::{Draft, Key, Kind, Memory, Object, ReadError, Text, uid_text};
 use requests::Request;

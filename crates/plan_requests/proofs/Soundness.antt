@@ -40,9 +40,9 @@ use Rattle.rounds.specs.Sound.{HasNamed, IsAction, IsCollection, IsSound}
 use Rattle.rounds.proofs.Lists.{among_contained, among_either, among_left, among_right, contains_among}
 use Rattle.sets.specs.Order.{in_order}
 use Rattle.sets.specs.Planned.{owned_of, planned, views_of}
-use Rattle.reconcilers.specs.Planned.{deletions, deletion_of, key_of, or_none, new, as_read, request_of, requested, requested_for, requests_of}
-use Rattle.reconcilers.specs.Reconciler.{reconciler_with}
-use Rattle.reconcilers.proofs.Deletions.{deletes_controlled}
+use Rattle.plan_requests.specs.Planned.{deletions, deletion_of, key_of, or_none, new, as_read, request_of, requested, requested_for, requests_of}
+use Rattle.plan_requests.specs.Reconciler.{reconciler_with}
+use Rattle.plan_requests.proofs.Deletions.{deletes_controlled}
 use Rattle.sets.proofs.Ordered.{all_among, all_in_order}
 use Rattle.sets.proofs.FirstPods.{found_in_map, named_is}
 use Rattle.sets.proofs.Owned.{filtered, first_among, total}

@@ -1,6 +1,6 @@
 //! The requests of plans.
 use objects::{Draft, Object, Text, read_object};
-use reconcilers::requested;
+use plan_requests::requested;
 use requests::Request;
 use std::alloc::Global;
 use std::test::Fail;

@@ -3,7 +3,7 @@ use Rattle.std.specs.Prelude.{ℕ, List}
 use Rattle.objects.specs.declared.key.Key.{Key}
 use Rattle.collector.specs.Collectable.{collected}
 use Rattle.rounds.specs.Reconciler.{Reconciler}
-use Rattle.reconcilers.specs.Planned.{or_none, requested}
+use Rattle.plan_requests.specs.Planned.{or_none, requested}
 
 -- The controller of a set: it asks the plan of the set, and collects claims. The names of new revisions have that many
 -- digits, and pods are marked with that moment.

@@ -1,8 +1,8 @@
 use Rattle.std.proofs.Common.{◌≡◌, [], ◌++◌, rules, append_assoc, append-nil, sym, ap, ◌∙◌}
 use Rattle.std.proofs.lemmas.List.{nil_from_length}
 use Rattle.std.specs.Vec.Iter.{into_iter_deque, into_iter_items}
-use Rattle.reconcilers.specs.Planned.{requests_of}
-use Rattle.reconcilers.proofs.actions.requests_of.Goals as goal
+use Rattle.plan_requests.specs.Planned.{requests_of}
+use Rattle.plan_requests.proofs.actions.requests_of.Goals as goal
 
 pub loop-action-init : goal.loop-action-init
 loop-action-init c =

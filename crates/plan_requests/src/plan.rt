@@ -3,7 +3,7 @@ ghost use Rattle.std.specs.Prelude.{◌≡◌, ◌≤◌};
 ghost use Rattle.set_views.specs.Set.{set_parts};
 ghost use Rattle.set_views.specs.Steps.{Gives};
 ghost use Rattle.sets.specs.Planned.{planned};
-ghost use Rattle.reconcilers.specs.Planned.{requested, requested_for};
+ghost use Rattle.plan_requests.specs.Planned.{requested, requested_for};
 
 use crate::actions::requests_of;
 use objects::{Object, Text};

@@ -1,7 +1,7 @@
 use Rattle.std.proofs.Common.{◌≡◌, ◌++◌}
 use Rattle.std.specs.Vec.Iter.{into_iter_items}
-use Rattle.reconcilers.specs.Planned.{requests_of}
-use Rattle.reconcilers.proofs.actions.requests_of.Given as goal
+use Rattle.plan_requests.specs.Planned.{requests_of}
+use Rattle.plan_requests.proofs.actions.requests_of.Given as goal
 
 -- the requests so far, and those of the actions that are still to come
 abbrev pub invariant-loop-action : goal.invariant-loop-action

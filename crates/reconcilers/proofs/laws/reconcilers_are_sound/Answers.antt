@@ -1,5 +1,0 @@
-use Rattle.reconcilers.proofs.Soundness.{is_sound}
-use Rattle.reconcilers.proofs.laws.reconcilers_are_sound.Goals as goal
-
-pub returns : goal.returns
-returns c = is_sound
