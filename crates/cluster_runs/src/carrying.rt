@@ -9,7 +9,7 @@ use crate::cluster::Cluster;
 use crate::fault::ClusterFault;
 use interleavings::Event;
 use requests::Reply;
-use rounds::Reconcile;
+use rounds::ControlLoop;
 
 /// More steps no request takes.
 const MOST_STEPS: u64 = 2_097_152;
@@ -35,7 +35,7 @@ fn reply_of(event: &Event) -> Option<u64>
 
 impl Cluster {
     /// The steps that carry the open request of the controller to its reply.
-    pub(crate) fn run<C: Reconcile>(
+    pub(crate) fn run<C: ControlLoop>(
         &mut self,
         controllers: &mut [C],
         number: usize,
@@ -57,7 +57,7 @@ impl Cluster {
     }
 
     /// The steps that carry the open request of the caller to its reply, and the reply.
-    pub(crate) fn carry<C: Reconcile>(
+    pub(crate) fn carry<C: ControlLoop>(
         &mut self,
         controllers: &mut [C],
         caller: u64,
@@ -82,7 +82,7 @@ impl Cluster {
     }
 
     /// The next step of them.
-    fn advance<C: Reconcile>(
+    fn advance<C: ControlLoop>(
         &mut self,
         controllers: &mut [C],
         caller: u64,
@@ -108,7 +108,7 @@ impl Cluster {
     }
 
     /// That step.
-    fn make<C: Reconcile>(
+    fn make<C: ControlLoop>(
         &mut self,
         controllers: &mut [C],
         event: &Event,

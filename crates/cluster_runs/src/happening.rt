@@ -16,11 +16,11 @@ use crate::fault::ClusterFault;
 use clusters::ClusterEvent;
 use interleavings::Event;
 use requests::{Reply, Request};
-use rounds::Reconcile;
+use rounds::ControlLoop;
 
 impl Cluster {
     /// One event. One that is not enabled changes nothing. At a fault the controllers stand where they stood.
-    pub(crate) fn happen<C: Reconcile>(
+    pub(crate) fn happen<C: ControlLoop>(
         &mut self,
         controllers: &mut [C],
         event: &ClusterEvent,
@@ -54,7 +54,7 @@ impl Cluster {
     }
 
     /// The controller calls its next request, if its caller is idle.
-    pub(crate) fn call_next<C: Reconcile>(
+    pub(crate) fn call_next<C: ControlLoop>(
         &mut self,
         controllers: &mut [C],
         number: usize,
@@ -79,7 +79,7 @@ impl Cluster {
     }
 
     /// Somebody else calls, beside the controllers.
-    pub(crate) fn outside<C: Reconcile>(
+    pub(crate) fn outside<C: ControlLoop>(
         &mut self,
         controllers: &mut [C],
         caller: u64,
@@ -118,7 +118,7 @@ impl Cluster {
 
     /// The controller forgets its round, and goes on as another caller. It does so once the other one is there, so that at a
     /// fault it stands where it stood.
-    fn crash<C: Reconcile>(
+    fn crash<C: ControlLoop>(
         &mut self,
         controllers: &mut [C],
         number: usize,
@@ -142,7 +142,7 @@ impl Cluster {
     }
 
     /// A step of the store.
-    pub(crate) fn step<C: Reconcile>(
+    pub(crate) fn step<C: ControlLoop>(
         &mut self,
         controllers: &mut [C],
         event: &Event,
@@ -173,7 +173,7 @@ impl Cluster {
     }
 
     /// A caller that was used is replied to. The controller that it is takes the reply.
-    fn reply<C: Reconcile>(
+    fn reply<C: ControlLoop>(
         &mut self,
         controllers: &mut [C],
         caller: u64,
@@ -199,7 +199,7 @@ impl Cluster {
     }
 
     /// The same, and what it was told.
-    pub(crate) fn tell<C: Reconcile>(
+    pub(crate) fn tell<C: ControlLoop>(
         &mut self,
         controllers: &mut [C],
         caller: u64,
@@ -310,7 +310,7 @@ impl Cluster {
 }
 
 /// The controller of the number takes what was told.
-fn hear<C: Reconcile>(
+fn hear<C: ControlLoop>(
     controllers: &mut [C],
     number: Option<usize>,
     told: &Option<Reply>,

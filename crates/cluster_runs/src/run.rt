@@ -14,7 +14,7 @@ use crate::fault::ClusterFault;
 use clusters::{ClusterEvent, clusters_keep_promises};
 use history::Replay;
 use interleavings::{Event, Run};
-use rounds::Reconcile;
+use rounds::ControlLoop;
 use std::alloc::Global;
 use std::collections::BTreeMap;
 
@@ -38,7 +38,7 @@ pub struct ClusterRun {
 ///
 /// Each controller keeps its reconciler, and stands where the events left it; at a fault, where those before the one that
 /// failed left it. So each of them can crash, and another run follow.
-pub fn run_cluster<C: Reconcile>(
+pub fn run_cluster<C: ControlLoop>(
     alloc: Global,
     shards: usize,
     capacity: u64,

@@ -14,7 +14,7 @@ use crate::fault::ClusterFault;
 use kubelet::kubelet_requests;
 use objects::{Kind, Memory, Text};
 use requests::{Reply, Request};
-use rounds::Reconcile;
+use rounds::ControlLoop;
 use std::alloc::Global;
 
 /// More requests no round has.
@@ -56,7 +56,7 @@ fn requests_after(alloc: Global, told: &Option<Reply>) -> Result<Vec<Request>, M
 impl Cluster {
     /// So many times, each controller makes a round, and then the kubelet makes a turn. It is the lowest caller that was not
     /// used before.
-    pub(crate) fn settle<C: Reconcile>(
+    pub(crate) fn settle<C: ControlLoop>(
         &mut self,
         controllers: &mut [C],
         namespaces: &[Text],
@@ -80,7 +80,7 @@ impl Cluster {
         Ok(())
     }
 
-    fn settle_once<C: Reconcile>(
+    fn settle_once<C: ControlLoop>(
         &mut self,
         controllers: &mut [C],
         kubelet: u64,
@@ -100,7 +100,7 @@ impl Cluster {
     }
 
     /// Each controller makes a round, in the order of the numbers.
-    fn make_rounds<C: Reconcile>(&mut self, controllers: &mut [C]) -> Result<(), ClusterFault>
+    fn make_rounds<C: ControlLoop>(&mut self, controllers: &mut [C]) -> Result<(), ClusterFault>
         requires present { length controllers.old ≡ length self.old.callers.present.items }
         requires follows { Follows self.old }
         ensures many { length controllers.new ≡ length controllers.old }
@@ -117,7 +117,7 @@ impl Cluster {
     }
 
     /// The controller goes on until its round is over, or a reply does not come.
-    fn make_round<C: Reconcile>(
+    fn make_round<C: ControlLoop>(
         &mut self,
         controllers: &mut [C],
         number: usize,
@@ -143,7 +143,7 @@ impl Cluster {
     }
 
     /// The controller asks its next request.
-    fn ask_next<C: Reconcile>(
+    fn ask_next<C: ControlLoop>(
         &mut self,
         controllers: &mut [C],
         number: usize,
@@ -164,7 +164,7 @@ impl Cluster {
     }
 
     /// Whether the controller's reply was given, and its round goes on.
-    fn is_within<C: Reconcile>(
+    fn is_within<C: ControlLoop>(
         &self,
         controllers: &mut [C],
         number: usize,
@@ -188,7 +188,7 @@ impl Cluster {
     }
 
     /// The kubelet's turn: what is still open is carried on, and then the pods of each namespace are tended.
-    fn make_turn<C: Reconcile>(
+    fn make_turn<C: ControlLoop>(
         &mut self,
         controllers: &mut [C],
         caller: u64,
@@ -212,7 +212,7 @@ impl Cluster {
     }
 
     /// The pods of the namespace are listed, and what the kubelet then asks for them is asked.
-    fn tend<C: Reconcile>(
+    fn tend<C: ControlLoop>(
         &mut self,
         controllers: &mut [C],
         caller: u64,
@@ -242,7 +242,7 @@ impl Cluster {
     }
 
     /// Somebody else asks these, one after another.
-    fn ask_all<C: Reconcile>(
+    fn ask_all<C: ControlLoop>(
         &mut self,
         controllers: &mut [C],
         caller: u64,
@@ -265,7 +265,7 @@ impl Cluster {
     }
 
     /// Somebody else asks, where the caller is idle.
-    fn ask<C: Reconcile>(
+    fn ask<C: ControlLoop>(
         &mut self,
         controllers: &mut [C],
         caller: u64,

@@ -21,13 +21,13 @@ use clusters::clusters_keep_promises;
 use history::Replay;
 use objects::Text;
 use requests::Reply;
-use rounds::Reconcile;
+use rounds::ControlLoop;
 use std::alloc::Global;
 
 /// Lets the events happen that the turns stand for, one after another: each turn finds the cluster as the ones before left it.
 /// The namespaces are those whose pods a kubelet tends.
 /// All else is as of `run_cluster` over these events.
-pub fn run_turns<C: Reconcile>(
+pub fn run_turns<C: ControlLoop>(
     alloc: Global,
     shards: usize,
     capacity: u64,
@@ -89,7 +89,7 @@ pub fn run_turns<C: Reconcile>(
 
 impl Cluster {
     /// The events of all turns.
-    fn go<C: Reconcile>(
+    fn go<C: ControlLoop>(
         &mut self,
         controllers: &mut [C],
         namespaces: &[Text],
@@ -112,7 +112,7 @@ impl Cluster {
     }
 
     /// The events of one turn, and the reply that ends them, if one does.
-    fn turn<C: Reconcile>(
+    fn turn<C: ControlLoop>(
         &mut self,
         controllers: &mut [C],
         namespaces: &[Text],

@@ -22,6 +22,6 @@ pub use cluster_spec::ClusterSpec;
 pub use clusters::ClusterEvent;
 pub use controller::Controller;
 pub use laws::{creates_wait_for_lower_pods, pods_come_in_turn};
-pub use rounds::{Reconcile, Taken, WholeEvent, WholeRun};
+pub use rounds::{ControlLoop, Taken, WholeEvent, WholeRun};
 pub use set_spec::SetSpec;
 pub use whole::run_whole;

@@ -3,9 +3,9 @@ ghost use Rattle.std.specs.Prelude.{◌≡◌};
 use crate::controller::Controller;
 use objects::Memory;
 use requests::{Reply, Request};
-use rounds::Reconcile;
+use rounds::ControlLoop;
 
-impl Reconcile for Controller {
+impl ControlLoop for Controller {
     ghost use Rattle.controllers.specs.Controller.{is_waiting, phase_of, reconciler_of};
 
     ghost reconciler = { reconciler_of };

@@ -13,9 +13,9 @@ ghost use Rattle.rounds.specs.Shown.{HasTaken, IsIdle, Shows};
 ghost use Rattle.rounds.specs.Sound.{IsSound};
 ghost use Rattle.rounds.specs.World.{AreMadeOf, Matches, StandAt, StopsAt, Taken, World, happens, run, start};
 
+use crate::control_loop::ControlLoop;
 use crate::event::{Taken, WholeEvent};
 use crate::laws::runs_keep_promises;
-use crate::reconcile::Reconcile;
 use plain_store::{Api, ApiFault};
 use requests::Request;
 use std::alloc::Global;
@@ -31,7 +31,7 @@ pub struct WholeRun {
 /// anybody asks, with its reply; an event of a controller that is not there has none. Where memory is short, the run stops at
 /// an event: the controllers stand where those before it left them, and the store and what was taken are as they were then, or
 /// as that event leaves them. Each controller keeps its reconciler. What was taken keeps the promises of sound controllers.
-pub fn run_whole<A: Api, C: Reconcile>(
+pub fn run_whole<A: Api, C: ControlLoop>(
     alloc: Global,
     api: &mut A,
     controllers: &mut [C],
@@ -68,7 +68,7 @@ pub fn run_whole<A: Api, C: Reconcile>(
     WholeRun { taken, fault: None }
 }
 
-fn happen<A: Api, C: Reconcile>(
+fn happen<A: Api, C: ControlLoop>(
     api: &mut A,
     controllers: &mut [C],
     event: &WholeEvent,
@@ -102,7 +102,7 @@ fn happen<A: Api, C: Reconcile>(
     }
 }
 
-fn ask_number<A: Api, C: Reconcile>(
+fn ask_number<A: Api, C: ControlLoop>(
     api: &mut A,
     controllers: &mut [C],
     number: usize,
@@ -124,7 +124,7 @@ fn ask_number<A: Api, C: Reconcile>(
     ask_one(api, &mut controllers[number], number, taken)
 }
 
-fn crash_number<C: Reconcile>(controllers: &mut [C], number: usize)
+fn crash_number<C: ControlLoop>(controllers: &mut [C], number: usize)
     requires { number < length controllers.old }
     ensures many { length controllers.new ≡ length controllers.old }
     ensures shows { (reconcilers : ℕ → Reconciler) (store : Store) (taken : List Taken) (w : World)
@@ -134,7 +134,7 @@ fn crash_number<C: Reconcile>(controllers: &mut [C], number: usize)
     controllers[number].crash();
 }
 
-fn ask_one<A: Api, C: Reconcile>(
+fn ask_one<A: Api, C: ControlLoop>(
     api: &mut A,
     controller: &mut C,
     number: usize,
@@ -164,7 +164,7 @@ fn ask_one<A: Api, C: Reconcile>(
     ask_by(api, controller, number, request, asked, taken)
 }
 
-fn ask_by<A: Api, C: Reconcile>(
+fn ask_by<A: Api, C: ControlLoop>(
     api: &mut A,
     controller: &mut C,
     number: usize,

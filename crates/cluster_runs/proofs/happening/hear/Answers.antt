@@ -10,7 +10,7 @@ returns-in_err-take-clause-stays g c =
     let xs = c.args.controllers.now in
     let low = subst (λ o. IfSome o (λ n. n < length xs)) c.in-Some.is c.requires in
     let x = slice_index_or xs c.in-Some.number c.index-controllers-number.result in
-    at_err c.from_residual.result _ (stay_at g.C.Reconcile.reconciler g.C.Reconcile.phase xs c.in-Some.number x c.take.new.self
+    at_err c.from_residual.result _ (stay_at g.C.ControlLoop.reconciler g.C.ControlLoop.phase xs c.in-Some.number x c.take.new.self
     (get_at xs c.in-Some.number c.index-controllers-number.result low) c.take.ensures.reconciler c.in_err-take.ensures.memory)
 
 pub returns-clause-hears : goal.returns-clause-hears
@@ -18,8 +18,8 @@ returns-clause-hears g c =
     let xs = c.args.controllers.now in
     let low = subst (λ o. IfSome o (λ n. n < length xs)) c.in-Some.is c.requires in
     let ys = slice_set xs c.in-Some.number c.take.new.self in
-    subst (λ o. Hears g.C.Reconcile.reconciler g.C.Reconcile.phase g.C.Reconcile.is_waiting xs ys o c.args.told.now) (sym c.in-Some.is)
-    (subst (λ r. Hears g.C.Reconcile.reconciler g.C.Reconcile.phase g.C.Reconcile.is_waiting xs ys (Some c.in-Some.number) r) (sym c.in-Some-told.is) (record {
+    subst (λ o. Hears g.C.ControlLoop.reconciler g.C.ControlLoop.phase g.C.ControlLoop.is_waiting xs ys o c.args.told.now) (sym c.in-Some.is)
+    (subst (λ r. Hears g.C.ControlLoop.reconciler g.C.ControlLoop.phase g.C.ControlLoop.is_waiting xs ys (Some c.in-Some.number) r) (sym c.in-Some-told.is) (record {
       old = slice_index_or xs c.in-Some.number c.index-controllers-number.result;
       new = c.take.new.self;
       there = get_at xs c.in-Some.number c.index-controllers-number.result low;

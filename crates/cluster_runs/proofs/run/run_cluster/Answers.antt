@@ -25,11 +25,11 @@ returns-in_err-callers-clause-too_many g c = λ failed reconcilers made.
 
 pub returns-in_err-replay-clause-stopped : goal.returns-in_err-replay-clause-stopped
 returns-in_err-replay-clause-stopped g c =
-    at_err c.from_residual.result _ (λ reconcilers made. (0, fresh_stand g.C.Reconcile.reconciler g.C.Reconcile.phase reconcilers c.args.controllers.now c.requires made))
+    at_err c.from_residual.result _ (λ reconcilers made. (0, fresh_stand g.C.ControlLoop.reconciler g.C.ControlLoop.phase reconcilers c.args.controllers.now c.requires made))
 
 pub returns-in_err-callers-clause-stopped : goal.returns-in_err-callers-clause-stopped
 returns-in_err-callers-clause-stopped g c =
-    at_err c.from_residual-in_err-callers.result _ (λ reconcilers made. (0, fresh_stand g.C.Reconcile.reconciler g.C.Reconcile.phase reconcilers c.args.controllers.now c.requires made))
+    at_err c.from_residual-in_err-callers.result _ (λ reconcilers made. (0, fresh_stand g.C.ControlLoop.reconciler g.C.ControlLoop.phase reconcilers c.args.controllers.now c.requires made))
 
 pub returns-in_err-happen-clause-stopped : goal.returns-in_err-happen-clause-stopped
 returns-in_err-happen-clause-stopped g c =
@@ -39,8 +39,8 @@ returns-in_err-happen-clause-stopped g c =
     let i = c.loop-event.event-index in
     let k = run z count reconcilers (start count) (take i c.args.events.now) in (
       i,
-      still_stand g.C.Reconcile.reconciler g.C.Reconcile.phase c.loop-event.controllers c.happen.new.controllers reconcilers k.phases c.in_err-happen.ensures.stays
-          (shown_stand g.C.Reconcile.reconciler g.C.Reconcile.phase g.C.Reconcile.is_waiting z reconcilers k c.loop-event.cluster c.loop-event.controllers (c.loop-event.invariant.3 reconcilers made)),
+      still_stand g.C.ControlLoop.reconciler g.C.ControlLoop.phase c.loop-event.controllers c.happen.new.controllers reconcilers k.phases c.in_err-happen.ensures.stays
+          (shown_stand g.C.ControlLoop.reconciler g.C.ControlLoop.phase g.C.ControlLoop.is_waiting z reconcilers k c.loop-event.cluster c.loop-event.controllers (c.loop-event.invariant.3 reconcilers made)),
     ))
 
 pub loop-event-init : goal.loop-event-init
@@ -54,7 +54,7 @@ loop-event-init g c =
       sym are.count_is,
       (z, subst (λ l. IsAfter z l c.in_ok-replay.replay) (sym none) opened),
       λ reconcilers made.
-          start_shows g.C.Reconcile.reconciler g.C.Reconcile.phase g.C.Reconcile.is_waiting z reconcilers
+          start_shows g.C.ControlLoop.reconciler g.C.ControlLoop.phase g.C.ControlLoop.is_waiting z reconcilers
           (record { replay = c.in_ok-replay.replay; callers = c.in_ok-callers.callers; events = c.new-2.result }) c.args.controllers.now c.requires made opened none are,
     )
 
@@ -86,7 +86,7 @@ loop-event-preserved g c =
       c.in_ok-happen.ensures.follows,
       λ reconcilers made.
           let k = run z count reconcilers (start count) (take i es) in
-          subst (λ v. Shows g.C.Reconcile.reconciler g.C.Reconcile.phase g.C.Reconcile.is_waiting z reconcilers v c.happen.new.self c.happen.new.controllers)
+          subst (λ v. Shows g.C.ControlLoop.reconciler g.C.ControlLoop.phase g.C.ControlLoop.is_waiting z reconcilers v c.happen.new.self c.happen.new.controllers)
           (ap (happens z (length c.loop-event.controllers) reconcilers k) c.event-item.is
           ∙ ap (λ n. happens z n reconcilers k (slice_index_or es i c.event-item.result)) kept.0
           ∙ run_more z count reconcilers (start count) es i c.event-item.result c.loop-event-test.true)
@@ -98,7 +98,7 @@ returns-clause-run g c = λ reconcilers made.
     let z : Size = record { capacity = c.args.capacity; shards = c.args.shards } in
     let count = length c.args.controllers.now in
     let all = take_all c.loop-event.event-index c.args.events.now c.loop-event-test.false in
-    let shows = subst (λ l. Shows g.C.Reconcile.reconciler g.C.Reconcile.phase g.C.Reconcile.is_waiting z reconcilers (run z count reconcilers (start count) l) c.loop-event.cluster c.loop-event.controllers)
+    let shows = subst (λ l. Shows g.C.ControlLoop.reconciler g.C.ControlLoop.phase g.C.ControlLoop.is_waiting z reconcilers (run z count reconcilers (start count) l) c.loop-event.cluster c.loop-event.controllers)
     all (c.loop-event.invariant.3 reconcilers made) in
     let k = run z count reconcilers (start count) c.args.events.now in
     record {
@@ -114,9 +114,9 @@ returns-clause-stand g c = λ reconcilers made.
     let count = length c.args.controllers.now in
     let k = run z count reconcilers (start count) c.args.events.now in
     let all = take_all c.loop-event.event-index c.args.events.now c.loop-event-test.false in
-    let shows = subst (λ l. Shows g.C.Reconcile.reconciler g.C.Reconcile.phase g.C.Reconcile.is_waiting z reconcilers (run z count reconcilers (start count) l) c.loop-event.cluster c.loop-event.controllers)
+    let shows = subst (λ l. Shows g.C.ControlLoop.reconciler g.C.ControlLoop.phase g.C.ControlLoop.is_waiting z reconcilers (run z count reconcilers (start count) l) c.loop-event.cluster c.loop-event.controllers)
     all (c.loop-event.invariant.3 reconcilers made) in
-    shown_stand g.C.Reconcile.reconciler g.C.Reconcile.phase g.C.Reconcile.is_waiting z reconcilers k c.loop-event.cluster c.loop-event.controllers shows
+    shown_stand g.C.ControlLoop.reconciler g.C.ControlLoop.phase g.C.ControlLoop.is_waiting z reconcilers k c.loop-event.cluster c.loop-event.controllers shows
 
 not_err : {T E : Type 0} (x : T) (e : E) → IsErrOf (Ok x) e → ⊥
 not_err x e is = cc
@@ -126,7 +126,7 @@ returns-clause-promises g c = λ reconcilers made sound.
     let z : Size = record { capacity = c.args.capacity; shards = c.args.shards } in
     let count = length c.args.controllers.now in
     let all = take_all c.loop-event.event-index c.args.events.now c.loop-event-test.false in
-    let shows = subst (λ l. Shows g.C.Reconcile.reconciler g.C.Reconcile.phase g.C.Reconcile.is_waiting z reconcilers (run z count reconcilers (start count) l) c.loop-event.cluster c.loop-event.controllers)
+    let shows = subst (λ l. Shows g.C.ControlLoop.reconciler g.C.ControlLoop.phase g.C.ControlLoop.is_waiting z reconcilers (run z count reconcilers (start count) l) c.loop-event.cluster c.loop-event.controllers)
     all (c.loop-event.invariant.3 reconcilers made) in
     let run_is = c.finish.ensures z _ shows.0.0.taken in
     let some = within z.shards 64 (λ bad. not_err c.in_ok-replay.replay BadShards (c.in_ok-replay.ensures.bad_shards.1 bad)) in

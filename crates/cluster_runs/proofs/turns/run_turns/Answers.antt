@@ -27,11 +27,11 @@ returns-in_err-callers-clause-too_many g c = λ failed reconcilers made.
 
 pub returns-in_err-replay-clause-stopped : goal.returns-in_err-replay-clause-stopped
 returns-in_err-replay-clause-stopped g c =
-    at_err c.from_residual.result _ (λ reconcilers made. (0, fresh_stand g.C.Reconcile.reconciler g.C.Reconcile.phase reconcilers c.args.controllers.now c.requires made))
+    at_err c.from_residual.result _ (λ reconcilers made. (0, fresh_stand g.C.ControlLoop.reconciler g.C.ControlLoop.phase reconcilers c.args.controllers.now c.requires made))
 
 pub returns-in_err-callers-clause-stopped : goal.returns-in_err-callers-clause-stopped
 returns-in_err-callers-clause-stopped g c =
-    at_err c.from_residual-in_err-callers.result _ (λ reconcilers made. (0, fresh_stand g.C.Reconcile.reconciler g.C.Reconcile.phase reconcilers c.args.controllers.now c.requires made))
+    at_err c.from_residual-in_err-callers.result _ (λ reconcilers made. (0, fresh_stand g.C.ControlLoop.reconciler g.C.ControlLoop.phase reconcilers c.args.controllers.now c.requires made))
 
 pub go-requires : goal.go-requires
 unfolding HasTaken
@@ -45,18 +45,18 @@ pub returns-in_err-go-clause-stopped : goal.returns-in_err-go-clause-stopped
 returns-in_err-go-clause-stopped g c =
     at_err c.from_residual-in_err-go.result _ (λ reconcilers made.
     let z : Size = record { capacity = c.args.capacity; shards = c.args.shards } in
-    (goes_stops g.C.Reconcile.reconciler g.C.Reconcile.phase g.C.Reconcile.is_waiting z reconcilers c.args.namespaces.now c.args.turns.now (record { replay = c.in_ok-replay.replay; callers = c.in_ok-callers.callers; events = c.new-2.result }) c.args.controllers.now c.go.new.controllers (start_shows g.C.Reconcile.reconciler g.C.Reconcile.phase g.C.Reconcile.is_waiting z reconcilers (record { replay = c.in_ok-replay.replay; callers = c.in_ok-callers.callers; events = c.new-2.result }) c.args.controllers.now c.requires made c.in_ok-replay.ensures.opened c.new-2.ensures.items c.in_ok-callers.ensures.callers) c.in_err-go.field-0.0 c.in_err-go.ensures.halts).0)
+    (goes_stops g.C.ControlLoop.reconciler g.C.ControlLoop.phase g.C.ControlLoop.is_waiting z reconcilers c.args.namespaces.now c.args.turns.now (record { replay = c.in_ok-replay.replay; callers = c.in_ok-callers.callers; events = c.new-2.result }) c.args.controllers.now c.go.new.controllers (start_shows g.C.ControlLoop.reconciler g.C.ControlLoop.phase g.C.ControlLoop.is_waiting z reconcilers (record { replay = c.in_ok-replay.replay; callers = c.in_ok-callers.callers; events = c.new-2.result }) c.args.controllers.now c.requires made c.in_ok-replay.ensures.opened c.new-2.ensures.items c.in_ok-callers.ensures.callers) c.in_err-go.field-0.0 c.in_err-go.ensures.halts).0)
 
 pub returns-in_err-go-clause-too_many : goal.returns-in_err-go-clause-too_many
 returns-in_err-go-clause-too_many g c = λ failed reconcilers made.
     let z : Size = record { capacity = c.args.capacity; shards = c.args.shards } in
-    (goes_stops g.C.Reconcile.reconciler g.C.Reconcile.phase g.C.Reconcile.is_waiting z reconcilers c.args.namespaces.now c.args.turns.now (record { replay = c.in_ok-replay.replay; callers = c.in_ok-callers.callers; events = c.new-2.result }) c.args.controllers.now c.go.new.controllers (start_shows g.C.Reconcile.reconciler g.C.Reconcile.phase g.C.Reconcile.is_waiting z reconcilers (record { replay = c.in_ok-replay.replay; callers = c.in_ok-callers.callers; events = c.new-2.result }) c.args.controllers.now c.requires made c.in_ok-replay.ensures.opened c.new-2.ensures.items c.in_ok-callers.ensures.callers) c.in_err-go.field-0.0 c.in_err-go.ensures.halts).1 (search (rules, failed))
+    (goes_stops g.C.ControlLoop.reconciler g.C.ControlLoop.phase g.C.ControlLoop.is_waiting z reconcilers c.args.namespaces.now c.args.turns.now (record { replay = c.in_ok-replay.replay; callers = c.in_ok-callers.callers; events = c.new-2.result }) c.args.controllers.now c.go.new.controllers (start_shows g.C.ControlLoop.reconciler g.C.ControlLoop.phase g.C.ControlLoop.is_waiting z reconcilers (record { replay = c.in_ok-replay.replay; callers = c.in_ok-callers.callers; events = c.new-2.result }) c.args.controllers.now c.requires made c.in_ok-replay.ensures.opened c.new-2.ensures.items c.in_ok-callers.ensures.callers) c.in_err-go.field-0.0 c.in_err-go.ensures.halts).1 (search (rules, failed))
 
 pub returns-clause-run : goal.returns-clause-run
 returns-clause-run g c = λ reconcilers made.
     let z : Size = record { capacity = c.args.capacity; shards = c.args.shards } in
     let count = length c.args.controllers.now in
-    let shows = goes_all g.C.Reconcile.reconciler g.C.Reconcile.phase g.C.Reconcile.is_waiting z reconcilers c.args.namespaces.now c.args.turns.now (record { replay = c.in_ok-replay.replay; callers = c.in_ok-callers.callers; events = c.new-2.result }) c.args.controllers.now c.go.new.controllers (start_shows g.C.Reconcile.reconciler g.C.Reconcile.phase g.C.Reconcile.is_waiting z reconcilers (record { replay = c.in_ok-replay.replay; callers = c.in_ok-callers.callers; events = c.new-2.result }) c.args.controllers.now c.requires made c.in_ok-replay.ensures.opened c.new-2.ensures.items c.in_ok-callers.ensures.callers) c.go.new.self c.in_ok-go.ensures.leads in
+    let shows = goes_all g.C.ControlLoop.reconciler g.C.ControlLoop.phase g.C.ControlLoop.is_waiting z reconcilers c.args.namespaces.now c.args.turns.now (record { replay = c.in_ok-replay.replay; callers = c.in_ok-callers.callers; events = c.new-2.result }) c.args.controllers.now c.go.new.controllers (start_shows g.C.ControlLoop.reconciler g.C.ControlLoop.phase g.C.ControlLoop.is_waiting z reconcilers (record { replay = c.in_ok-replay.replay; callers = c.in_ok-callers.callers; events = c.new-2.result }) c.args.controllers.now c.requires made c.in_ok-replay.ensures.opened c.new-2.ensures.items c.in_ok-callers.ensures.callers) c.go.new.self c.in_ok-go.ensures.leads in
     record {
       handed = shows.0.0.events_are;
       run_is = c.finish.ensures z _ shows.0.0.taken;
@@ -68,8 +68,8 @@ pub returns-clause-stand : goal.returns-clause-stand
 returns-clause-stand g c = λ reconcilers made.
     let z : Size = record { capacity = c.args.capacity; shards = c.args.shards } in
     let count = length c.args.controllers.now in
-    shown_stand g.C.Reconcile.reconciler g.C.Reconcile.phase g.C.Reconcile.is_waiting z reconcilers (cluster_after z count reconcilers (events_of_turns z count reconcilers c.args.namespaces.now c.args.turns.now)) c.go.new.self c.go.new.controllers
-    (goes_all g.C.Reconcile.reconciler g.C.Reconcile.phase g.C.Reconcile.is_waiting z reconcilers c.args.namespaces.now c.args.turns.now (record { replay = c.in_ok-replay.replay; callers = c.in_ok-callers.callers; events = c.new-2.result }) c.args.controllers.now c.go.new.controllers (start_shows g.C.Reconcile.reconciler g.C.Reconcile.phase g.C.Reconcile.is_waiting z reconcilers (record { replay = c.in_ok-replay.replay; callers = c.in_ok-callers.callers; events = c.new-2.result }) c.args.controllers.now c.requires made c.in_ok-replay.ensures.opened c.new-2.ensures.items c.in_ok-callers.ensures.callers) c.go.new.self c.in_ok-go.ensures.leads)
+    shown_stand g.C.ControlLoop.reconciler g.C.ControlLoop.phase g.C.ControlLoop.is_waiting z reconcilers (cluster_after z count reconcilers (events_of_turns z count reconcilers c.args.namespaces.now c.args.turns.now)) c.go.new.self c.go.new.controllers
+    (goes_all g.C.ControlLoop.reconciler g.C.ControlLoop.phase g.C.ControlLoop.is_waiting z reconcilers c.args.namespaces.now c.args.turns.now (record { replay = c.in_ok-replay.replay; callers = c.in_ok-callers.callers; events = c.new-2.result }) c.args.controllers.now c.go.new.controllers (start_shows g.C.ControlLoop.reconciler g.C.ControlLoop.phase g.C.ControlLoop.is_waiting z reconcilers (record { replay = c.in_ok-replay.replay; callers = c.in_ok-callers.callers; events = c.new-2.result }) c.args.controllers.now c.requires made c.in_ok-replay.ensures.opened c.new-2.ensures.items c.in_ok-callers.ensures.callers) c.go.new.self c.in_ok-go.ensures.leads)
 
 not_err : {T E : Type 0} (x : T) (e : E) → IsErrOf (Ok x) e → ⊥
 not_err x e is = cc
@@ -78,7 +78,7 @@ pub returns-clause-promises : goal.returns-clause-promises
 returns-clause-promises g c = λ reconcilers made sound.
     let z : Size = record { capacity = c.args.capacity; shards = c.args.shards } in
     let count = length c.args.controllers.now in
-    let shows = goes_all g.C.Reconcile.reconciler g.C.Reconcile.phase g.C.Reconcile.is_waiting z reconcilers c.args.namespaces.now c.args.turns.now (record { replay = c.in_ok-replay.replay; callers = c.in_ok-callers.callers; events = c.new-2.result }) c.args.controllers.now c.go.new.controllers (start_shows g.C.Reconcile.reconciler g.C.Reconcile.phase g.C.Reconcile.is_waiting z reconcilers (record { replay = c.in_ok-replay.replay; callers = c.in_ok-callers.callers; events = c.new-2.result }) c.args.controllers.now c.requires made c.in_ok-replay.ensures.opened c.new-2.ensures.items c.in_ok-callers.ensures.callers) c.go.new.self c.in_ok-go.ensures.leads in
+    let shows = goes_all g.C.ControlLoop.reconciler g.C.ControlLoop.phase g.C.ControlLoop.is_waiting z reconcilers c.args.namespaces.now c.args.turns.now (record { replay = c.in_ok-replay.replay; callers = c.in_ok-callers.callers; events = c.new-2.result }) c.args.controllers.now c.go.new.controllers (start_shows g.C.ControlLoop.reconciler g.C.ControlLoop.phase g.C.ControlLoop.is_waiting z reconcilers (record { replay = c.in_ok-replay.replay; callers = c.in_ok-callers.callers; events = c.new-2.result }) c.args.controllers.now c.requires made c.in_ok-replay.ensures.opened c.new-2.ensures.items c.in_ok-callers.ensures.callers) c.go.new.self c.in_ok-go.ensures.leads in
     let run_is = c.finish.ensures z _ shows.0.0.taken in
     let some = within z.shards 64 (λ bad. not_err c.in_ok-replay.replay BadShards (c.in_ok-replay.ensures.bad_shards.1 bad)) in
     let room = within z.capacity most_revisions (λ bad. not_err c.in_ok-replay.replay BadCapacity (c.in_ok-replay.ensures.bad_capacity.1 (some.0, some.1, bad))) in

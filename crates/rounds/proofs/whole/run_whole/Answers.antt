@@ -11,7 +11,7 @@ returns-in-Err-clause-begun g c = λ reconcilers made.
     let count = length c.args.controllers.now in
     let i = c.loop-event.event-index in
     let w = run count reconcilers (start s) (take i c.args.events.now) in
-    let shows = c.loop-event.invariant.2 reconcilers (start s) (start_shows g.C.Reconcile.reconciler g.C.Reconcile.phase reconcilers s c.args.controllers.now c.requires made) in
+    let shows = c.loop-event.invariant.2 reconcilers (start s) (start_shows g.C.ControlLoop.reconciler g.C.ControlLoop.phase reconcilers s c.args.controllers.now c.requires made) in
     elim (c.in-Err.ensures.fault reconcilers w shows).1 [
       | inl before ↦ (i, before)
       | inr more ↦ (
@@ -34,7 +34,7 @@ returns-in-Err-clause-stopped g c = λ reconcilers made.
     let count = length c.args.controllers.now in
     let i = c.loop-event.event-index in
     let w = run count reconcilers (start s) (take i c.args.events.now) in
-    let shows = c.loop-event.invariant.2 reconcilers (start s) (start_shows g.C.Reconcile.reconciler g.C.Reconcile.phase reconcilers s c.args.controllers.now c.requires made) in
+    let shows = c.loop-event.invariant.2 reconcilers (start s) (start_shows g.C.ControlLoop.reconciler g.C.ControlLoop.phase reconcilers s c.args.controllers.now c.requires made) in
     let fault = c.in-Err.ensures.fault reconcilers w shows in
     record {
       at = i;
@@ -67,7 +67,7 @@ loop-event-preserved g c = (
       let count = length c.args.controllers.now in
       let i = c.loop-event.event-index in
       let now = run count reconcilers w (take i c.args.events.now) in
-      subst (Shows g.C.Reconcile.reconciler g.C.Reconcile.phase reconcilers (g.A.Api.store c.happen.new.api) c.happen.new.controllers c.happen.new.taken.items)
+      subst (Shows g.C.ControlLoop.reconciler g.C.ControlLoop.phase reconcilers (g.A.Api.store c.happen.new.api) c.happen.new.controllers c.happen.new.taken.items)
       (ap (happens (length c.loop-event.controllers) reconcilers now) c.event-item.is
       ∙ ap (λ n. happens n reconcilers now (slice_index_or c.args.events.now i c.event-item.result)) c.loop-event.invariant.0
       ∙ run_more count reconcilers w c.args.events.now i c.event-item.result c.loop-event-test.true)
@@ -78,22 +78,22 @@ pub returns-clause-whole : goal.returns-clause-whole
 returns-clause-whole g c = λ none reconcilers made.
     let s = g.A.Api.store c.args.api.now in
     let count = length c.args.controllers.now in
-    let shows = c.loop-event.invariant.2 reconcilers (start s) (start_shows g.C.Reconcile.reconciler g.C.Reconcile.phase reconcilers s c.args.controllers.now c.requires made) in
+    let shows = c.loop-event.invariant.2 reconcilers (start s) (start_shows g.C.ControlLoop.reconciler g.C.ControlLoop.phase reconcilers s c.args.controllers.now c.requires made) in
     subst (Matches (g.A.Api.store c.loop-event.api) c.loop-event.taken.items)
     (run_past count reconcilers (start s) c.args.events.now c.loop-event.event-index c.loop-event-test.false) shows.matches
 
 pub returns-clause-begun : goal.returns-clause-begun
 returns-clause-begun g c = λ reconcilers made.
     let s = g.A.Api.store c.args.api.now in
-    let shows = c.loop-event.invariant.2 reconcilers (start s) (start_shows g.C.Reconcile.reconciler g.C.Reconcile.phase reconcilers s c.args.controllers.now c.requires made) in
+    let shows = c.loop-event.invariant.2 reconcilers (start s) (start_shows g.C.ControlLoop.reconciler g.C.ControlLoop.phase reconcilers s c.args.controllers.now c.requires made) in
     (c.loop-event.event-index, shows.matches)
 
 pub returns-clause-stand : goal.returns-clause-stand
 returns-clause-stand g c = λ none reconcilers made.
     let s = g.A.Api.store c.args.api.now in
     let count = length c.args.controllers.now in
-    let shows = c.loop-event.invariant.2 reconcilers (start s) (start_shows g.C.Reconcile.reconciler g.C.Reconcile.phase reconcilers s c.args.controllers.now c.requires made) in
-    subst (λ (w : World). StandAt g.C.Reconcile.reconciler g.C.Reconcile.phase c.loop-event.controllers reconcilers w.phases)
+    let shows = c.loop-event.invariant.2 reconcilers (start s) (start_shows g.C.ControlLoop.reconciler g.C.ControlLoop.phase reconcilers s c.args.controllers.now c.requires made) in
+    subst (λ (w : World). StandAt g.C.ControlLoop.reconciler g.C.ControlLoop.phase c.loop-event.controllers reconcilers w.phases)
     (run_past count reconcilers (start s) c.args.events.now c.loop-event.event-index c.loop-event-test.false) shows.controllers
 
 pub returns-clause-promises : goal.returns-clause-promises

@@ -9,6 +9,6 @@ abbrev pub invariant-loop-event : goal.invariant-loop-event
 invariant-loop-event g l = (length l.controllers ≡ length l.fn.controllers)
     × (IsIdle (g.A.Api.store l.fn.api) (g.A.Api.store l.api) [] l.taken.items ⊎ IsReached (g.A.Api.store l.fn.api))
     × ((reconcilers : ℕ → Reconciler) (w : World)
-    → Shows g.C.Reconcile.reconciler g.C.Reconcile.phase reconcilers (g.A.Api.store l.fn.api) l.fn.controllers [] w
-    → Shows g.C.Reconcile.reconciler g.C.Reconcile.phase reconcilers (g.A.Api.store l.api) l.controllers l.taken.items
+    → Shows g.C.ControlLoop.reconciler g.C.ControlLoop.phase reconcilers (g.A.Api.store l.fn.api) l.fn.controllers [] w
+    → Shows g.C.ControlLoop.reconciler g.C.ControlLoop.phase reconcilers (g.A.Api.store l.api) l.controllers l.taken.items
     (run (length l.fn.controllers) reconcilers w (take l.event-index l.events)))

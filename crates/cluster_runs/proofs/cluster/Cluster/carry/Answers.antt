@@ -10,7 +10,7 @@ loop-init g c = record {
   many = refl;
   present = c.requires.present;
   follows = c.requires.follows;
-  leads = carrying_begins g.C.Reconcile.reconciler g.C.Reconcile.phase g.C.Reconcile.is_waiting c.args.caller c.args.self.now c.args.controllers.now;
+  leads = carrying_begins g.C.ControlLoop.reconciler g.C.ControlLoop.phase g.C.ControlLoop.is_waiting c.args.caller c.args.self.now c.args.controllers.now;
 }
 
 pub loop-preserved : goal.loop-preserved
@@ -19,8 +19,8 @@ loop-preserved g c = let kept = c.loop.invariant in record {
   present = c.in_ok-went.ensures.many ∙ kept.present ∙ sym c.in_ok-went.ensures.present;
   follows = c.in_ok-went.ensures.follows;
   leads = (let left = carried_in (most_steps - (c.loop.counter + 1)) c.args.caller in
-      subst (λ w. Leads g.C.Reconcile.reconciler g.C.Reconcile.phase g.C.Reconcile.is_waiting (carried c.args.caller) (after_step w left) c.args.self.now c.advance.new.self c.args.controllers.now c.advance.new.controllers) c.in-On.is
-      (far_on g.C.Reconcile.reconciler g.C.Reconcile.phase g.C.Reconcile.is_waiting (carried c.args.caller) (λ steps. carried_in steps c.args.caller) most_steps c.loop.counter (after_step c.in_ok-went.went left) c.args.self.now c.loop.self c.advance.new.self c.args.controllers.now c.loop.controllers
+      subst (λ w. Leads g.C.ControlLoop.reconciler g.C.ControlLoop.phase g.C.ControlLoop.is_waiting (carried c.args.caller) (after_step w left) c.args.self.now c.advance.new.self c.args.controllers.now c.advance.new.controllers) c.in-On.is
+      (far_on g.C.ControlLoop.reconciler g.C.ControlLoop.phase g.C.ControlLoop.is_waiting (carried c.args.caller) (λ steps. carried_in steps c.args.caller) most_steps c.loop.counter (after_step c.in_ok-went.went left) c.args.self.now c.loop.self c.advance.new.self c.args.controllers.now c.loop.controllers
       c.advance.new.controllers c.loop-test.true kept.many kept.leads (c.in_ok-went.ensures.leads (most_steps - (c.loop.counter + 1)))));
 }
 
@@ -28,8 +28,8 @@ pub returns-in-Over-clause-leads : goal.returns-in-Over-clause-leads
 returns-in-Over-clause-leads g c =
     let kept = c.loop.invariant in
     let left = carried_in (most_steps - (c.loop.counter + 1)) c.args.caller in
-    subst (λ w. Leads g.C.Reconcile.reconciler g.C.Reconcile.phase g.C.Reconcile.is_waiting (carried c.args.caller) (after_step w left) c.args.self.now c.advance.new.self c.args.controllers.now c.advance.new.controllers) c.in-Over.is
-    (far_on g.C.Reconcile.reconciler g.C.Reconcile.phase g.C.Reconcile.is_waiting (carried c.args.caller) (λ steps. carried_in steps c.args.caller) most_steps c.loop.counter (after_step c.in_ok-went.went left) c.args.self.now c.loop.self c.advance.new.self c.args.controllers.now c.loop.controllers
+    subst (λ w. Leads g.C.ControlLoop.reconciler g.C.ControlLoop.phase g.C.ControlLoop.is_waiting (carried c.args.caller) (after_step w left) c.args.self.now c.advance.new.self c.args.controllers.now c.advance.new.controllers) c.in-Over.is
+    (far_on g.C.ControlLoop.reconciler g.C.ControlLoop.phase g.C.ControlLoop.is_waiting (carried c.args.caller) (λ steps. carried_in steps c.args.caller) most_steps c.loop.counter (after_step c.in_ok-went.went left) c.args.self.now c.loop.self c.advance.new.self c.args.controllers.now c.loop.controllers
     c.advance.new.controllers c.loop-test.true kept.many kept.leads (c.in_ok-went.ensures.leads (most_steps - (c.loop.counter + 1))))
 
 pub returns-in_err-went-clause-halts : goal.returns-in_err-went-clause-halts
@@ -37,11 +37,11 @@ returns-in_err-went-clause-halts g c =
     let kept = c.loop.invariant in
     let fault = c.in_err-went.field-0.0 in
     let is : c.from_residual.result ≡ Err fault = search rules in
-    subst (λ r. IfErr r (λ fault. Halts g.C.Reconcile.reconciler g.C.Reconcile.phase g.C.Reconcile.is_waiting fault (carried c.args.caller) c.args.self.now c.args.controllers.now c.advance.new.controllers)) (sym is)
-    (far_halts g.C.Reconcile.reconciler g.C.Reconcile.phase g.C.Reconcile.is_waiting (carried c.args.caller) (λ steps. carried_in steps c.args.caller) most_steps c.loop.counter fault c.args.self.now c.loop.self c.args.controllers.now c.loop.controllers
+    subst (λ r. IfErr r (λ fault. Halts g.C.ControlLoop.reconciler g.C.ControlLoop.phase g.C.ControlLoop.is_waiting fault (carried c.args.caller) c.args.self.now c.args.controllers.now c.advance.new.controllers)) (sym is)
+    (far_halts g.C.ControlLoop.reconciler g.C.ControlLoop.phase g.C.ControlLoop.is_waiting (carried c.args.caller) (λ steps. carried_in steps c.args.caller) most_steps c.loop.counter fault c.args.self.now c.loop.self c.args.controllers.now c.loop.controllers
     c.advance.new.controllers c.loop-test.true kept.many kept.leads (c.in_err-went.ensures.halts (most_steps - (c.loop.counter + 1))))
 
 pub returns-clause-leads : goal.returns-clause-leads
 returns-clause-leads g c =
-    far_ends g.C.Reconcile.reconciler g.C.Reconcile.phase g.C.Reconcile.is_waiting (carried c.args.caller) (λ steps. carried_in steps c.args.caller) most_steps c.loop.counter c.args.self.now c.loop.self c.args.controllers.now c.loop.controllers (none_carried c.args.caller)
+    far_ends g.C.ControlLoop.reconciler g.C.ControlLoop.phase g.C.ControlLoop.is_waiting (carried c.args.caller) (λ steps. carried_in steps c.args.caller) most_steps c.loop.counter c.args.self.now c.loop.self c.args.controllers.now c.loop.controllers (none_carried c.args.caller)
     c.loop-test.false c.loop.invariant.leads

@@ -9,5 +9,5 @@ invariant-loop g l = record {
   many : length l.controllers ≡ length l.initial.controllers;
   present : length l.controllers ≡ length l.self.callers.present.items;
   follows : Follows l.self;
-  leads : GoneFar g.C.Reconcile.reconciler g.C.Reconcile.phase g.C.Reconcile.is_waiting (carried l.caller) (λ steps. carried_in steps l.caller) most_steps l.counter l.initial.self l.self l.initial.controllers l.controllers;
+  leads : GoneFar g.C.ControlLoop.reconciler g.C.ControlLoop.phase g.C.ControlLoop.is_waiting (carried l.caller) (λ steps. carried_in steps l.caller) most_steps l.counter l.initial.self l.self l.initial.controllers l.controllers;
 }

@@ -18,7 +18,7 @@ pub returns-in_err-hand_quietly-clause-too_many : goal.returns-in_err-hand_quiet
 returns-in_err-hand_quietly-clause-too_many g c = λ failed z reconcilers k shows.
     let middle : Program = record { replay = c.args.self.now.replay; callers = c.renew.new.self; events = c.args.self.now.events } in
     let at = present_at _ k c.args.self.now shows.0.1 c.args.number c.index-caller.result.now c.requires.there c.index-caller.ensures in
-    absurd (crash_few g.C.Reconcile.reconciler g.C.Reconcile.phase g.C.Reconcile.is_waiting z reconcilers k c.args.self.now middle c.args.controllers.now c.args.number
+    absurd (crash_few g.C.ControlLoop.reconciler g.C.ControlLoop.phase g.C.ControlLoop.is_waiting z reconcilers k c.args.self.now middle c.args.controllers.now c.args.number
     c.requires.there shows (c.in_ok-renew.ensures.callers (length c.args.controllers.now) k shows.0.1)
     (subst (λ n. 4096 < callers (k.events ++ event.Crash n ∷ [])) at (c.in_err-hand_quietly.ensures.too_many (search (rules, failed)) z k.events shows.0.0.taken)))
 
@@ -29,6 +29,6 @@ returns-clause-shows g c = λ z reconcilers k shows.
     let x = slice_index_or xs c.args.number c.index-controllers-number.result in
     let there = get_at xs c.args.number c.index-controllers-number.result c.requires.there in
     let at = present_at _ k c.args.self.now shows.0.1 c.args.number c.index-caller.result.now c.requires.there c.index-caller.ensures in
-    crashed_shows g.C.Reconcile.reconciler g.C.Reconcile.phase g.C.Reconcile.is_waiting z reconcilers k c.args.self.now middle c.hand_quietly.new.self xs c.args.number x c.crash.new.self _
+    crashed_shows g.C.ControlLoop.reconciler g.C.ControlLoop.phase g.C.ControlLoop.is_waiting z reconcilers k c.args.self.now middle c.hand_quietly.new.self xs c.args.number x c.crash.new.self _
     there c.crash.ensures.reconciler c.crash.ensures.forgotten (c.in_ok-renew.ensures.callers (length xs) k shows.0.1) (c.in_ok-renew.ensures.fresh (length xs) k shows.0.1) refl refl
     (ap event.Crash at) c.in_ok-hand_quietly.ensures.hands shows

@@ -9,5 +9,5 @@ invariant-loop g l = record {
   many : length l.controllers ≡ length l.fn.controllers;
   present : length l.controllers ≡ length l.self.callers.present.items;
   follows : Follows l.self;
-  leads : GoneFar g.C.Reconcile.reconciler g.C.Reconcile.phase g.C.Reconcile.is_waiting (round l.number) (λ requests. round_in requests l.number) most_requests l.counter l.fn.self l.self l.fn.controllers l.controllers;
+  leads : GoneFar g.C.ControlLoop.reconciler g.C.ControlLoop.phase g.C.ControlLoop.is_waiting (round l.number) (λ requests. round_in requests l.number) most_requests l.counter l.fn.self l.self l.fn.controllers l.controllers;
 }

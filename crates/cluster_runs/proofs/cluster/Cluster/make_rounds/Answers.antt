@@ -7,14 +7,14 @@ use Rattle.cluster_runs.proofs.Parts.{rounded_all, rounded_halts, rounded_more, 
 use Rattle.cluster_runs.proofs.cluster.Cluster.make_rounds.Goals as goal
 
 pub loop-number-init : goal.loop-number-init
-loop-number-init g c = record { many = refl; present = c.requires.present; follows = c.requires.follows; leads = rounded_none g.C.Reconcile.reconciler g.C.Reconcile.phase g.C.Reconcile.is_waiting (rounds_of (range_with_len 0 (length c.args.controllers.now))) (length c.args.controllers.now) c.args.self.now c.args.controllers.now refl }
+loop-number-init g c = record { many = refl; present = c.requires.present; follows = c.requires.follows; leads = rounded_none g.C.ControlLoop.reconciler g.C.ControlLoop.phase g.C.ControlLoop.is_waiting (rounds_of (range_with_len 0 (length c.args.controllers.now))) (length c.args.controllers.now) c.args.self.now c.args.controllers.now refl }
 
 pub loop-number-preserved : goal.loop-number-preserved
 loop-number-preserved g c = let kept = c.loop-number.invariant in record {
   many = c.in_ok-make_round.ensures.many ∙ kept.many;
   present = c.in_ok-make_round.ensures.many ∙ kept.present ∙ sym c.in_ok-make_round.ensures.present;
   follows = c.in_ok-make_round.ensures.follows;
-  leads = rounded_more g.C.Reconcile.reconciler g.C.Reconcile.phase g.C.Reconcile.is_waiting (rounds_of (range_with_len 0 (length c.args.controllers.now))) (length c.args.controllers.now) c.loop-number.number c.args.self.now c.loop-number.self c.make_round.new.self c.args.controllers.now c.loop-number.controllers c.make_round.new.controllers
+  leads = rounded_more g.C.ControlLoop.reconciler g.C.ControlLoop.phase g.C.ControlLoop.is_waiting (rounds_of (range_with_len 0 (length c.args.controllers.now))) (length c.args.controllers.now) c.loop-number.number c.args.self.now c.loop-number.self c.make_round.new.self c.args.controllers.now c.loop-number.controllers c.make_round.new.controllers
       c.loop-number-test.true kept.many kept.leads c.in_ok-make_round.ensures.leads;
 }
 
@@ -23,10 +23,10 @@ returns-in_err-make_round-clause-halts g c =
     let kept = c.loop-number.invariant in
     let fault = c.in_err-make_round.field-0.0 in
     let is : c.from_residual.result ≡ Err fault = search rules in
-    subst (λ r. IfErr r (λ fault. Halts g.C.Reconcile.reconciler g.C.Reconcile.phase g.C.Reconcile.is_waiting fault (rounds_of (range_with_len 0 (length c.args.controllers.now))) c.args.self.now c.args.controllers.now c.make_round.new.controllers)) (sym is)
-    (rounded_halts g.C.Reconcile.reconciler g.C.Reconcile.phase g.C.Reconcile.is_waiting (rounds_of (range_with_len 0 (length c.args.controllers.now))) (length c.args.controllers.now) c.loop-number.number fault c.args.self.now c.loop-number.self c.args.controllers.now c.loop-number.controllers c.make_round.new.controllers
+    subst (λ r. IfErr r (λ fault. Halts g.C.ControlLoop.reconciler g.C.ControlLoop.phase g.C.ControlLoop.is_waiting fault (rounds_of (range_with_len 0 (length c.args.controllers.now))) c.args.self.now c.args.controllers.now c.make_round.new.controllers)) (sym is)
+    (rounded_halts g.C.ControlLoop.reconciler g.C.ControlLoop.phase g.C.ControlLoop.is_waiting (rounds_of (range_with_len 0 (length c.args.controllers.now))) (length c.args.controllers.now) c.loop-number.number fault c.args.self.now c.loop-number.self c.args.controllers.now c.loop-number.controllers c.make_round.new.controllers
     c.loop-number-test.true kept.many kept.leads c.in_err-make_round.ensures.halts)
 
 pub returns-clause-leads : goal.returns-clause-leads
 returns-clause-leads g c =
-    rounded_all g.C.Reconcile.reconciler g.C.Reconcile.phase g.C.Reconcile.is_waiting (rounds_of (range_with_len 0 (length c.args.controllers.now))) (length c.args.controllers.now) c.loop-number.number c.args.self.now c.loop-number.self c.args.controllers.now c.loop-number.controllers c.loop-number-test.false c.loop-number.invariant.leads
+    rounded_all g.C.ControlLoop.reconciler g.C.ControlLoop.phase g.C.ControlLoop.is_waiting (rounds_of (range_with_len 0 (length c.args.controllers.now))) (length c.args.controllers.now) c.loop-number.number c.args.self.now c.loop-number.self c.args.controllers.now c.loop-number.controllers c.loop-number-test.false c.loop-number.invariant.leads

@@ -10,5 +10,5 @@ invariant-loop-number g l = record {
   many : length l.controllers ≡ length l.fn.controllers;
   present : length l.controllers ≡ length l.self.callers.present.items;
   follows : Follows l.self;
-  leads : Rounded g.C.Reconcile.reconciler g.C.Reconcile.phase g.C.Reconcile.is_waiting (rounds_of (range_with_len 0 (length l.fn.controllers))) (length l.fn.controllers) l.number l.fn.self l.self l.fn.controllers l.controllers;
+  leads : Rounded g.C.ControlLoop.reconciler g.C.ControlLoop.phase g.C.ControlLoop.is_waiting (rounds_of (range_with_len 0 (length l.fn.controllers))) (length l.fn.controllers) l.number l.fn.self l.self l.fn.controllers l.controllers;
 }

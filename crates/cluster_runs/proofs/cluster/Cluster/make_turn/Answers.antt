@@ -10,15 +10,15 @@ pub returns-in_err-told-clause-halts : goal.returns-in_err-told-clause-halts
 returns-in_err-told-clause-halts g c =
     let fault = c.in_err-told.field-0.0 in
     let is : c.from_residual.result ≡ Err fault = search rules in
-    subst (λ r. IfErr r (λ fault. Halts g.C.Reconcile.reconciler g.C.Reconcile.phase g.C.Reconcile.is_waiting fault (kubelet_turn c.args.caller c.args.namespaces.now) c.args.self.now c.args.controllers.now c.carry.new.controllers)) (sym is)
-    (first_halts g.C.Reconcile.reconciler g.C.Reconcile.phase g.C.Reconcile.is_waiting fault (carried c.args.caller) (λ told. tended_all c.args.caller c.args.namespaces.now) c.args.self.now c.args.controllers.now c.carry.new.controllers c.in_err-told.ensures.halts)
+    subst (λ r. IfErr r (λ fault. Halts g.C.ControlLoop.reconciler g.C.ControlLoop.phase g.C.ControlLoop.is_waiting fault (kubelet_turn c.args.caller c.args.namespaces.now) c.args.self.now c.args.controllers.now c.carry.new.controllers)) (sym is)
+    (first_halts g.C.ControlLoop.reconciler g.C.ControlLoop.phase g.C.ControlLoop.is_waiting fault (carried c.args.caller) (λ told. tended_all c.args.caller c.args.namespaces.now) c.args.self.now c.args.controllers.now c.carry.new.controllers c.in_err-told.ensures.halts)
 
 pub loop-namespace-init : goal.loop-namespace-init
 loop-namespace-init g c = record {
   many = c.in_ok-told.ensures.many;
   present = c.in_ok-told.ensures.many ∙ c.requires.present ∙ sym c.in_ok-told.ensures.present;
   follows = c.in_ok-told.ensures.follows;
-  leads = first_leads g.C.Reconcile.reconciler g.C.Reconcile.phase g.C.Reconcile.is_waiting (carried c.args.caller) c.in_ok-told.told (λ told. tended_all c.args.caller c.args.namespaces.now) c.args.self.now c.carry.new.self c.args.controllers.now c.carry.new.controllers c.in_ok-told.ensures.leads;
+  leads = first_leads g.C.ControlLoop.reconciler g.C.ControlLoop.phase g.C.ControlLoop.is_waiting (carried c.args.caller) c.in_ok-told.told (λ told. tended_all c.args.caller c.args.namespaces.now) c.args.self.now c.carry.new.self c.args.controllers.now c.carry.new.controllers c.in_ok-told.ensures.leads;
 }
 
 pub loop-namespace-preserved : goal.loop-namespace-preserved
@@ -26,7 +26,7 @@ loop-namespace-preserved g c = let kept = c.loop-namespace.invariant in record {
   many = c.in_ok-tend.ensures.many ∙ kept.many;
   present = c.in_ok-tend.ensures.many ∙ kept.present ∙ sym c.in_ok-tend.ensures.present;
   follows = c.in_ok-tend.ensures.follows;
-  leads = walked_more g.C.Reconcile.reconciler g.C.Reconcile.phase g.C.Reconcile.is_waiting (λ xs. tended_all c.args.caller xs) (λ x. tended c.args.caller x) refl (λ x xs. refl) (kubelet_turn c.args.caller c.args.namespaces.now) c.args.namespaces.now c.loop-namespace.namespace-index c.namespace-item.result None c.args.self.now c.loop-namespace.self c.tend.new.self c.args.controllers.now c.loop-namespace.controllers c.tend.new.controllers
+  leads = walked_more g.C.ControlLoop.reconciler g.C.ControlLoop.phase g.C.ControlLoop.is_waiting (λ xs. tended_all c.args.caller xs) (λ x. tended c.args.caller x) refl (λ x xs. refl) (kubelet_turn c.args.caller c.args.namespaces.now) c.args.namespaces.now c.loop-namespace.namespace-index c.namespace-item.result None c.args.self.now c.loop-namespace.self c.tend.new.self c.args.controllers.now c.loop-namespace.controllers c.tend.new.controllers
       c.loop-namespace-test.true c.namespace-item.is kept.many kept.leads c.in_ok-tend.ensures.leads;
 }
 
@@ -35,9 +35,9 @@ returns-in_err-tend-clause-halts g c =
     let kept = c.loop-namespace.invariant in
     let fault = c.in_err-tend.field-0.0 in
     let is : c.from_residual-in_err-tend.result ≡ Err fault = search rules in
-    subst (λ r. IfErr r (λ fault. Halts g.C.Reconcile.reconciler g.C.Reconcile.phase g.C.Reconcile.is_waiting fault (kubelet_turn c.args.caller c.args.namespaces.now) c.args.self.now c.args.controllers.now c.tend.new.controllers)) (sym is)
-    (walked_halts g.C.Reconcile.reconciler g.C.Reconcile.phase g.C.Reconcile.is_waiting (λ xs. tended_all c.args.caller xs) (λ x. tended c.args.caller x) refl (λ x xs. refl) (kubelet_turn c.args.caller c.args.namespaces.now) c.args.namespaces.now c.loop-namespace.namespace-index c.namespace-item.result fault c.args.self.now c.loop-namespace.self c.args.controllers.now c.loop-namespace.controllers c.tend.new.controllers
+    subst (λ r. IfErr r (λ fault. Halts g.C.ControlLoop.reconciler g.C.ControlLoop.phase g.C.ControlLoop.is_waiting fault (kubelet_turn c.args.caller c.args.namespaces.now) c.args.self.now c.args.controllers.now c.tend.new.controllers)) (sym is)
+    (walked_halts g.C.ControlLoop.reconciler g.C.ControlLoop.phase g.C.ControlLoop.is_waiting (λ xs. tended_all c.args.caller xs) (λ x. tended c.args.caller x) refl (λ x xs. refl) (kubelet_turn c.args.caller c.args.namespaces.now) c.args.namespaces.now c.loop-namespace.namespace-index c.namespace-item.result fault c.args.self.now c.loop-namespace.self c.args.controllers.now c.loop-namespace.controllers c.tend.new.controllers
     c.loop-namespace-test.true c.namespace-item.is kept.many kept.leads c.in_err-tend.ensures.halts)
 
 pub returns-clause-leads : goal.returns-clause-leads
-returns-clause-leads g c = walked_all g.C.Reconcile.reconciler g.C.Reconcile.phase g.C.Reconcile.is_waiting (λ xs. tended_all c.args.caller xs) (λ x. tended c.args.caller x) refl (λ x xs. refl) (kubelet_turn c.args.caller c.args.namespaces.now) c.args.namespaces.now c.loop-namespace.namespace-index c.args.self.now c.loop-namespace.self c.args.controllers.now c.loop-namespace.controllers c.loop-namespace-test.false c.loop-namespace.invariant.leads
+returns-clause-leads g c = walked_all g.C.ControlLoop.reconciler g.C.ControlLoop.phase g.C.ControlLoop.is_waiting (λ xs. tended_all c.args.caller xs) (λ x. tended c.args.caller x) refl (λ x xs. refl) (kubelet_turn c.args.caller c.args.namespaces.now) c.args.namespaces.now c.loop-namespace.namespace-index c.args.self.now c.loop-namespace.self c.args.controllers.now c.loop-namespace.controllers c.loop-namespace-test.false c.loop-namespace.invariant.leads

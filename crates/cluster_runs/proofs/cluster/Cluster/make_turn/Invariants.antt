@@ -9,5 +9,5 @@ invariant-loop-namespace g l = record {
   many : length l.controllers ≡ length l.fn.controllers;
   present : length l.controllers ≡ length l.self.callers.present.items;
   follows : Follows l.self;
-  leads : Walked g.C.Reconcile.reconciler g.C.Reconcile.phase g.C.Reconcile.is_waiting (λ xs. tended_all l.caller xs) (λ x. tended l.caller x) refl (λ x xs. refl) (kubelet_turn l.caller l.namespaces) l.namespaces l.namespace-index l.fn.self l.self l.fn.controllers l.controllers;
+  leads : Walked g.C.ControlLoop.reconciler g.C.ControlLoop.phase g.C.ControlLoop.is_waiting (λ xs. tended_all l.caller xs) (λ x. tended l.caller x) refl (λ x xs. refl) (kubelet_turn l.caller l.namespaces) l.namespaces l.namespace-index l.fn.self l.self l.fn.controllers l.controllers;
 }

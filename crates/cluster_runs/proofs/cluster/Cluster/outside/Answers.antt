@@ -6,5 +6,5 @@ use Rattle.cluster_runs.proofs.cluster.Cluster.outside.Goals as goal
 pub returns-clause-shows : goal.returns-clause-shows
 returns-clause-shows g c =
     on_ok_by _ _ c.call_outside.result (λ becomes z reconcilers k shows.
-    outside_shows g.C.Reconcile.reconciler g.C.Reconcile.phase g.C.Reconcile.is_waiting z reconcilers k c.args.self.now c.call_outside.new.self c.args.controllers.now _ _ shows (becomes z (length c.args.controllers.now) k shows.0))
+    outside_shows g.C.ControlLoop.reconciler g.C.ControlLoop.phase g.C.ControlLoop.is_waiting z reconcilers k c.args.self.now c.call_outside.new.self c.args.controllers.now _ _ shows (becomes z (length c.args.controllers.now) k shows.0))
     c.call_outside.ensures.shows

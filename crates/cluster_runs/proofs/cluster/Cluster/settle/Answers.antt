@@ -8,15 +8,15 @@ use Rattle.cluster_runs.proofs.cluster.Cluster.settle.Goals as goal
 
 pub returns-in_default-clause-halts : goal.returns-in_default-clause-halts
 returns-in_default-clause-halts g c =
-    never_halts g.C.Reconcile.reconciler g.C.Reconcile.phase g.C.Reconcile.is_waiting _ (settled c.args.rounds c.args.namespaces.now) c.args.self.now c.args.controllers.now c.args.controllers.now (λ z reconcilers k shows. c.fresh.ensures.there c.in_default.is (length c.args.controllers.now) k shows.0.1)
+    never_halts g.C.ControlLoop.reconciler g.C.ControlLoop.phase g.C.ControlLoop.is_waiting _ (settled c.args.rounds c.args.namespaces.now) c.args.self.now c.args.controllers.now c.args.controllers.now (λ z reconcilers k shows. c.fresh.ensures.there c.in_default.is (length c.args.controllers.now) k shows.0.1)
 
 pub loop-init : goal.loop-init
 loop-init g c = record {
   many = refl;
   present = c.requires.present;
   follows = c.requires.follows;
-  leads = far_begins g.C.Reconcile.reconciler g.C.Reconcile.phase g.C.Reconcile.is_waiting (settled c.args.rounds c.args.namespaces.now) (λ rounds. settled_as rounds c.in-Some.kubelet c.args.namespaces.now) c.args.rounds c.args.self.now c.args.controllers.now
-      (ends_as g.C.Reconcile.reconciler g.C.Reconcile.phase g.C.Reconcile.is_waiting (settled c.args.rounds c.args.namespaces.now) (settled_as c.args.rounds c.in-Some.kubelet c.args.namespaces.now) c.args.self.now c.args.controllers.now
+  leads = far_begins g.C.ControlLoop.reconciler g.C.ControlLoop.phase g.C.ControlLoop.is_waiting (settled c.args.rounds c.args.namespaces.now) (λ rounds. settled_as rounds c.in-Some.kubelet c.args.namespaces.now) c.args.rounds c.args.self.now c.args.controllers.now
+      (ends_as g.C.ControlLoop.reconciler g.C.ControlLoop.phase g.C.ControlLoop.is_waiting (settled c.args.rounds c.args.namespaces.now) (settled_as c.args.rounds c.in-Some.kubelet c.args.namespaces.now) c.args.self.now c.args.controllers.now
       (λ z reconcilers k shows. ap (λ n. settled_as c.args.rounds n c.args.namespaces.now z (length c.args.controllers.now) reconcilers k) (sym (c.in-Some.ensures.lowest (length c.args.controllers.now) k shows.0.1))));
 }
 
@@ -28,10 +28,10 @@ loop-preserved g c =
       many = c.in_ok-settle_once.ensures.many ∙ kept.many;
       present = c.in_ok-settle_once.ensures.many ∙ kept.present ∙ sym c.in_ok-settle_once.ensures.present;
       follows = c.in_ok-settle_once.ensures.follows;
-      leads = far_on g.C.Reconcile.reconciler g.C.Reconcile.phase g.C.Reconcile.is_waiting (settled c.args.rounds c.args.namespaces.now) (λ rounds. settled_as rounds c.in-Some.kubelet c.args.namespaces.now) c.args.rounds c.loop.counter rest c.args.self.now c.loop.self c.settle_once.new.self
+      leads = far_on g.C.ControlLoop.reconciler g.C.ControlLoop.phase g.C.ControlLoop.is_waiting (settled c.args.rounds c.args.namespaces.now) (λ rounds. settled_as rounds c.in-Some.kubelet c.args.namespaces.now) c.args.rounds c.loop.counter rest c.args.self.now c.loop.self c.settle_once.new.self
           c.args.controllers.now c.loop.controllers c.settle_once.new.controllers c.loop-test.true kept.many kept.leads
-          (subst (λ whole. Leads g.C.Reconcile.reconciler g.C.Reconcile.phase g.C.Reconcile.is_waiting whole rest c.loop.self c.settle_once.new.self c.loop.controllers c.settle_once.new.controllers) (sym (settles_on left c.in-Some.kubelet c.args.namespaces.now))
-          (first_leads g.C.Reconcile.reconciler g.C.Reconcile.phase g.C.Reconcile.is_waiting (settled_once c.in-Some.kubelet c.args.namespaces.now) None (λ told. rest) c.loop.self c.settle_once.new.self c.loop.controllers c.settle_once.new.controllers c.in_ok-settle_once.ensures.leads));
+          (subst (λ whole. Leads g.C.ControlLoop.reconciler g.C.ControlLoop.phase g.C.ControlLoop.is_waiting whole rest c.loop.self c.settle_once.new.self c.loop.controllers c.settle_once.new.controllers) (sym (settles_on left c.in-Some.kubelet c.args.namespaces.now))
+          (first_leads g.C.ControlLoop.reconciler g.C.ControlLoop.phase g.C.ControlLoop.is_waiting (settled_once c.in-Some.kubelet c.args.namespaces.now) None (λ told. rest) c.loop.self c.settle_once.new.self c.loop.controllers c.settle_once.new.controllers c.in_ok-settle_once.ensures.leads));
     }
 
 pub returns-in_err-settle_once-clause-halts : goal.returns-in_err-settle_once-clause-halts
@@ -41,13 +41,13 @@ returns-in_err-settle_once-clause-halts g c =
     let rest = settled_as left c.in-Some.kubelet c.args.namespaces.now in
     let fault = c.in_err-settle_once.field-0.0 in
     let is : c.from_residual.result ≡ Err fault = search rules in
-    subst (λ r. IfErr r (λ fault. Halts g.C.Reconcile.reconciler g.C.Reconcile.phase g.C.Reconcile.is_waiting fault (settled c.args.rounds c.args.namespaces.now) c.args.self.now c.args.controllers.now c.settle_once.new.controllers)) (sym is)
-    (far_halts g.C.Reconcile.reconciler g.C.Reconcile.phase g.C.Reconcile.is_waiting (settled c.args.rounds c.args.namespaces.now) (λ rounds. settled_as rounds c.in-Some.kubelet c.args.namespaces.now) c.args.rounds c.loop.counter fault c.args.self.now c.loop.self c.args.controllers.now c.loop.controllers
+    subst (λ r. IfErr r (λ fault. Halts g.C.ControlLoop.reconciler g.C.ControlLoop.phase g.C.ControlLoop.is_waiting fault (settled c.args.rounds c.args.namespaces.now) c.args.self.now c.args.controllers.now c.settle_once.new.controllers)) (sym is)
+    (far_halts g.C.ControlLoop.reconciler g.C.ControlLoop.phase g.C.ControlLoop.is_waiting (settled c.args.rounds c.args.namespaces.now) (λ rounds. settled_as rounds c.in-Some.kubelet c.args.namespaces.now) c.args.rounds c.loop.counter fault c.args.self.now c.loop.self c.args.controllers.now c.loop.controllers
     c.settle_once.new.controllers c.loop-test.true kept.many kept.leads
-    (subst (λ whole. Halts g.C.Reconcile.reconciler g.C.Reconcile.phase g.C.Reconcile.is_waiting fault whole c.loop.self c.loop.controllers c.settle_once.new.controllers) (sym (settles_on left c.in-Some.kubelet c.args.namespaces.now))
-    (first_halts g.C.Reconcile.reconciler g.C.Reconcile.phase g.C.Reconcile.is_waiting fault (settled_once c.in-Some.kubelet c.args.namespaces.now) (λ told. rest) c.loop.self c.loop.controllers c.settle_once.new.controllers c.in_err-settle_once.ensures.halts)))
+    (subst (λ whole. Halts g.C.ControlLoop.reconciler g.C.ControlLoop.phase g.C.ControlLoop.is_waiting fault whole c.loop.self c.loop.controllers c.settle_once.new.controllers) (sym (settles_on left c.in-Some.kubelet c.args.namespaces.now))
+    (first_halts g.C.ControlLoop.reconciler g.C.ControlLoop.phase g.C.ControlLoop.is_waiting fault (settled_once c.in-Some.kubelet c.args.namespaces.now) (λ told. rest) c.loop.self c.loop.controllers c.settle_once.new.controllers c.in_err-settle_once.ensures.halts)))
 
 pub returns-clause-leads : goal.returns-clause-leads
 returns-clause-leads g c =
-    far_ends g.C.Reconcile.reconciler g.C.Reconcile.phase g.C.Reconcile.is_waiting (settled c.args.rounds c.args.namespaces.now) (λ rounds. settled_as rounds c.in-Some.kubelet c.args.namespaces.now) c.args.rounds c.loop.counter c.args.self.now c.loop.self c.args.controllers.now c.loop.controllers
+    far_ends g.C.ControlLoop.reconciler g.C.ControlLoop.phase g.C.ControlLoop.is_waiting (settled c.args.rounds c.args.namespaces.now) (λ rounds. settled_as rounds c.in-Some.kubelet c.args.namespaces.now) c.args.rounds c.loop.counter c.args.self.now c.loop.self c.args.controllers.now c.loop.controllers
     (settles_none c.in-Some.kubelet c.args.namespaces.now) c.loop-test.false c.loop.invariant.leads

@@ -9,7 +9,7 @@ use Rattle.cluster_runs.proofs.cluster.Cluster.step.Goals as goal
 
 pub returns-in-Raise-clause-shows : goal.returns-in-Raise-clause-shows
 returns-in-Raise-clause-shows g c =
-    went_shows g.C.Reconcile.reconciler g.C.Reconcile.phase g.C.Reconcile.is_waiting c.hand_quietly.result event.Raise _ (λ k. true) c.args.self.now c.hand_quietly.new.self c.args.controllers.now c.in-Raise.is refl (λ z reconcilers k. refl)
+    went_shows g.C.ControlLoop.reconciler g.C.ControlLoop.phase g.C.ControlLoop.is_waiting c.hand_quietly.result event.Raise _ (λ k. true) c.args.self.now c.hand_quietly.new.self c.args.controllers.now c.in-Raise.is refl (λ z reconcilers k. refl)
     (on_ok_by _ _ c.hand_quietly.result (λ hands z count k is. cluster_more z count k c.args.self.now c.hand_quietly.new.self event.Raise is hands tt) c.hand_quietly.ensures.hands)
 
 pub returns-in-Raise-clause-too_many : goal.returns-in-Raise-clause-too_many
@@ -18,41 +18,41 @@ returns-in-Raise-clause-too_many g c = λ failed z reconcilers k shows.
 
 pub returns-in-Check-clause-shows : goal.returns-in-Check-clause-shows
 returns-in-Check-clause-shows g c =
-    went_shows g.C.Reconcile.reconciler g.C.Reconcile.phase g.C.Reconcile.is_waiting c.go_on.result _ _ (λ k. is_used k c.in-Check.caller) c.args.self.now c.go_on.new.self c.args.controllers.now c.in-Check.is refl (λ z reconcilers k. refl)
+    went_shows g.C.ControlLoop.reconciler g.C.ControlLoop.phase g.C.ControlLoop.is_waiting c.go_on.result _ _ (λ k. is_used k c.in-Check.caller) c.args.self.now c.go_on.new.self c.args.controllers.now c.in-Check.is refl (λ z reconcilers k. refl)
     c.go_on.ensures.shows
 
 pub returns-in-Reserve-clause-shows : goal.returns-in-Reserve-clause-shows
 returns-in-Reserve-clause-shows g c =
-    went_shows g.C.Reconcile.reconciler g.C.Reconcile.phase g.C.Reconcile.is_waiting c.go_on-in-Reserve.result _ _ (λ k. is_used k c.in-Reserve.caller) c.args.self.now c.go_on-in-Reserve.new.self c.args.controllers.now c.in-Reserve.is refl (λ z reconcilers k. refl)
+    went_shows g.C.ControlLoop.reconciler g.C.ControlLoop.phase g.C.ControlLoop.is_waiting c.go_on-in-Reserve.result _ _ (λ k. is_used k c.in-Reserve.caller) c.args.self.now c.go_on-in-Reserve.new.self c.args.controllers.now c.in-Reserve.is refl (λ z reconcilers k. refl)
     c.go_on-in-Reserve.ensures.shows
 
 pub returns-in-Publish-clause-shows : goal.returns-in-Publish-clause-shows
 returns-in-Publish-clause-shows g c =
-    went_shows g.C.Reconcile.reconciler g.C.Reconcile.phase g.C.Reconcile.is_waiting c.go_on-in-Publish.result _ _ (λ k. is_used k c.in-Publish.caller) c.args.self.now c.go_on-in-Publish.new.self c.args.controllers.now c.in-Publish.is refl (λ z reconcilers k. refl)
+    went_shows g.C.ControlLoop.reconciler g.C.ControlLoop.phase g.C.ControlLoop.is_waiting c.go_on-in-Publish.result _ _ (λ k. is_used k c.in-Publish.caller) c.args.self.now c.go_on-in-Publish.new.self c.args.controllers.now c.in-Publish.is refl (λ z reconcilers k. refl)
     c.go_on-in-Publish.ensures.shows
 
 pub returns-in-Read-clause-shows : goal.returns-in-Read-clause-shows
 returns-in-Read-clause-shows g c =
-    went_shows g.C.Reconcile.reconciler g.C.Reconcile.phase g.C.Reconcile.is_waiting c.go_on-in-Read.result _ _ (λ k. is_used k c.in-Read.caller) c.args.self.now c.go_on-in-Read.new.self c.args.controllers.now c.in-Read.is refl (λ z reconcilers k. refl)
+    went_shows g.C.ControlLoop.reconciler g.C.ControlLoop.phase g.C.ControlLoop.is_waiting c.go_on-in-Read.result _ _ (λ k. is_used k c.in-Read.caller) c.args.self.now c.go_on-in-Read.new.self c.args.controllers.now c.in-Read.is refl (λ z reconcilers k. refl)
     c.go_on-in-Read.ensures.shows
 
 pub returns-in-ReadAt-clause-shows : goal.returns-in-ReadAt-clause-shows
 returns-in-ReadAt-clause-shows g c =
-    went_shows g.C.Reconcile.reconciler g.C.Reconcile.phase g.C.Reconcile.is_waiting c.go_on-in-ReadAt.result _ _ (λ k. is_used k c.in-ReadAt.caller) c.args.self.now c.go_on-in-ReadAt.new.self c.args.controllers.now c.in-ReadAt.is refl (λ z reconcilers k. refl)
+    went_shows g.C.ControlLoop.reconciler g.C.ControlLoop.phase g.C.ControlLoop.is_waiting c.go_on-in-ReadAt.result _ _ (λ k. is_used k c.in-ReadAt.caller) c.args.self.now c.go_on-in-ReadAt.new.self c.args.controllers.now c.in-ReadAt.is refl (λ z reconcilers k. refl)
     c.go_on-in-ReadAt.ensures.shows
 
 pub returns-in-Compact-clause-shows : goal.returns-in-Compact-clause-shows
 returns-in-Compact-clause-shows g c =
-    went_shows g.C.Reconcile.reconciler g.C.Reconcile.phase g.C.Reconcile.is_waiting c.go_on-in-Compact.result _ _ (λ k. is_used k c.in-Compact.caller) c.args.self.now c.go_on-in-Compact.new.self c.args.controllers.now c.in-Compact.is refl (λ z reconcilers k. refl)
+    went_shows g.C.ControlLoop.reconciler g.C.ControlLoop.phase g.C.ControlLoop.is_waiting c.go_on-in-Compact.result _ _ (λ k. is_used k c.in-Compact.caller) c.args.self.now c.go_on-in-Compact.new.self c.args.controllers.now c.in-Compact.is refl (λ z reconcilers k. refl)
     c.go_on-in-Compact.ensures.shows
 
 pub returns-in-Part-clause-shows : goal.returns-in-Part-clause-shows
 returns-in-Part-clause-shows g c =
-    went_shows g.C.Reconcile.reconciler g.C.Reconcile.phase g.C.Reconcile.is_waiting c.go_on-in-Part.result _ _ (λ k. is_used k c.in-Part.caller) c.args.self.now c.go_on-in-Part.new.self c.args.controllers.now c.in-Part.is refl (λ z reconcilers k. refl)
+    went_shows g.C.ControlLoop.reconciler g.C.ControlLoop.phase g.C.ControlLoop.is_waiting c.go_on-in-Part.result _ _ (λ k. is_used k c.in-Part.caller) c.args.self.now c.go_on-in-Part.new.self c.args.controllers.now c.in-Part.is refl (λ z reconcilers k. refl)
     c.go_on-in-Part.ensures.shows
 
 pub returns-in-Crash-clause-shows : goal.returns-in-Crash-clause-shows
 returns-in-Crash-clause-shows g c =
     on_ok_by _ _ c.crash_outside.result (λ becomes.
-    subst (λ e. Happens g.C.Reconcile.reconciler g.C.Reconcile.phase g.C.Reconcile.is_waiting (Step e) c.args.self.now c.crash_outside.new.self c.args.controllers.now c.args.controllers.now) (sym c.in-Crash.is)
-    (gone_shows g.C.Reconcile.reconciler g.C.Reconcile.phase g.C.Reconcile.is_waiting _ c.args.self.now c.crash_outside.new.self c.args.controllers.now becomes)) c.crash_outside.ensures.shows
+    subst (λ e. Happens g.C.ControlLoop.reconciler g.C.ControlLoop.phase g.C.ControlLoop.is_waiting (Step e) c.args.self.now c.crash_outside.new.self c.args.controllers.now c.args.controllers.now) (sym c.in-Crash.is)
+    (gone_shows g.C.ControlLoop.reconciler g.C.ControlLoop.phase g.C.ControlLoop.is_waiting _ c.args.self.now c.crash_outside.new.self c.args.controllers.now becomes)) c.crash_outside.ensures.shows

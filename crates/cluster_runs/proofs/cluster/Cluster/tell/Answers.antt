@@ -13,7 +13,7 @@ returns-then-not-is_used-clause-told g c = λ z reconcilers k shows.
 pub returns-in-Ok-clause-shows : goal.returns-in-Ok-clause-shows
 returns-in-Ok-clause-shows g c = λ z reconcilers k shows.
     let count = length c.args.controllers.now in
-    replied_shows g.C.Reconcile.reconciler g.C.Reconcile.phase g.C.Reconcile.is_waiting z reconcilers k c.args.self.now c.hand.new.self c.args.controllers.now c.hear-heard.new.controllers
+    replied_shows g.C.ControlLoop.reconciler g.C.ControlLoop.phase g.C.ControlLoop.is_waiting z reconcilers k c.args.self.now c.hand.new.self c.args.controllers.now c.hear-heard.new.controllers
     c.args.caller c.controller_at-controller.result c.in_ok-told.told (c.controller_at-controller.ensures.controller count k shows.0.1)
     (sym (c.is_used.ensures.used count k shows.0.1) ∙ c.if-not-is_used.false)
     (c.in_ok-told.ensures.told z k.events shows.0.0.taken) c.in_ok-told.ensures.hands c.in-Ok.ensures.hears shows
@@ -22,7 +22,7 @@ pub returns-in-Ok-clause-told : goal.returns-in-Ok-clause-told
 returns-in-Ok-clause-told g c = λ z reconcilers k shows.
     let count = length c.args.controllers.now in
     ap (λ b. if b then told z k.events (Reply c.args.caller) else None) (sym (c.is_used.ensures.used count k shows.0.1) ∙ c.if-not-is_used.false)
-    ∙ told_is g.C.Reconcile.reconciler g.C.Reconcile.phase g.C.Reconcile.is_waiting z k.events c.args.caller c.in_ok-told.told (c.in_ok-told.ensures.told z k.events shows.0.0.taken)
+    ∙ told_is g.C.ControlLoop.reconciler g.C.ControlLoop.phase g.C.ControlLoop.is_waiting z k.events c.args.caller c.in_ok-told.told (c.in_ok-told.ensures.told z k.events shows.0.0.taken)
 
 pub returns-in_err-told-clause-too_many : goal.returns-in_err-told-clause-too_many
 returns-in_err-told-clause-too_many g c = λ failed z reconcilers k shows.

@@ -6,7 +6,7 @@ use objects::Memory;
 use requests::{Reply, Request};
 
 /// A controller: what goes round by the phases, one request at a time (Kubernetes, "Controllers").
-pub trait Reconcile {
+pub trait ControlLoop {
     /// What it is made of.
     ghost reconciler: { Self → Reconciler };
 
