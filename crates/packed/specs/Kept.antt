@@ -1,6 +1,6 @@
 -- What is kept of an object beside its base.
 use Rattle.std.specs.Prelude.{◌≤◌, ◌+◌, ◌*◌, ◌/◌, ℕ, List, length}
-use Rattle.deltas.specs.Expanded.{expanded}
+use Rattle.packed.specs.Expanded.{expanded}
 use Rattle.objects.specs.Marks.{AreMarks}
 use Rattle.objects.specs.declared.marks.Marks.{Marks}
 

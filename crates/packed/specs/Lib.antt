@@ -1,3 +1,5 @@
+-- ---- what public clauses cite
+pub mod Expanded
 -- ---- what only proofs use
 pub mod Delta
 pub mod Kept

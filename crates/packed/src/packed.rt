@@ -1,9 +1,9 @@
 ghost use Rattle.std.specs.Prelude.{◌≡◌, ◌≤◌, ◌<◌, ◌+◌, ◌*◌, ◌/◌, ◌++◌, length, IfOk, OnOk, string_bytes};
-ghost use Rattle.deltas.specs.Expanded.{expanded};
+ghost use Rattle.packed.specs.Expanded.{expanded};
 ghost use Rattle.objects.specs.Text.{text};
 
 use crate::delta::Delta;
-use deltas::write_expanded;
+use crate::difference::write_expanded;
 use objects::{Marks, Memory, Object, Printed, Printer, TreeReader};
 use std::alloc::AllocError;
 use std::marker::Model;
@@ -20,7 +20,7 @@ pub struct Packed {
 
 impl Model for Packed {
     ghost use Rattle.std.specs.Prelude.{string_bytes};
-    ghost use Rattle.deltas.specs.Expanded.{expanded};
+    ghost use Rattle.packed.specs.Expanded.{expanded};
     ghost use Rattle.objects.specs.Object.{ObjectParts, object_coded};
     ghost use Rattle.objects.specs.PrintedText.{object_of_text};
     ghost use Rattle.packed.specs.Kept.{IsKept};

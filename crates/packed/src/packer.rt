@@ -1,8 +1,8 @@
 ghost use Rattle.std.specs.Prelude.{◌≡◌, IfOk, IfSome};
 
 use crate::delta::Delta;
+use crate::difference::write_delta;
 use crate::packed::Packed;
-use deltas::write_delta;
 use memchr::memrchr;
 use objects::{Key, Memory, Printed};
 use std::alloc::{AllocError, Global};

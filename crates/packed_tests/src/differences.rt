@@ -1,5 +1,5 @@
 //! Deltas that were written by hand, and deltas that are made.
-use deltas::{write_delta, write_expanded};
+use packed::{write_delta, write_expanded};
 use std::alloc::{AllocError, Global};
 use std::process::Abort;
 

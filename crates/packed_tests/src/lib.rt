@@ -1,4 +1,4 @@
-//! What crates `deltas` and `packed` keep of texts, with deltas and texts that were worked out by hand.
+//! What crate `packed` keeps of texts, with deltas and texts that were worked out by hand.
 #![tactic(auto)]
 
 #[cfg(test)]

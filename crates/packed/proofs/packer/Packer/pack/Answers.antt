@@ -1,6 +1,6 @@
 use Rattle.std.proofs.Common.{ap, ◌∙◌, string_bytes}
-use Rattle.deltas.specs.Expanded.{expanded}
-use Rattle.deltas.proofs.Pieces.{expanded_nothing}
+use Rattle.packed.specs.Expanded.{expanded}
+use Rattle.packed.proofs.Pieces.{expanded_nothing}
 use Rattle.packed.proofs.packer.Packer.pack.Goals as goal
 
 pub of-requires-clause-told : goal.of-requires-clause-told

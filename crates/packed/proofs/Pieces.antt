@@ -3,7 +3,7 @@ use Rattle.std.proofs.Common.{◌≡◌, ℕ, zero, suc, ◌+◌, ◌<◌, List,
 use Rattle.std.specs.Cmp.Lexicographic.{pointwise}
 use Rattle.std.proofs.lemmas.Bool.{eqb-true}
 use Rattle.std.proofs.lemmas.Slice.Eq.{bytes_eq-Decides}
-use Rattle.deltas.specs.Expanded.{pieces, expanded}
+use Rattle.packed.specs.Expanded.{pieces, expanded}
 
 pub pieces_added : (base : List ℕ) (n : ℕ) (xs : List ℕ) → pieces base n xs ≡ take n xs ++ pieces base 0 (drop n xs)
 unfolding pieces

@@ -1,5 +1,5 @@
-use Rattle.deltas.proofs.Pieces.{pieces_some, pieces_short}
-use Rattle.deltas.proofs.piece.next_piece.Goals as goal
+use Rattle.packed.proofs.Pieces.{pieces_some, pieces_short}
+use Rattle.packed.proofs.piece.next_piece.Goals as goal
 
 pub returns-in_err-head-clause-none : goal.returns-in_err-head-clause-none
 returns-in_err-head-clause-none c = λ _. pieces_short c.args.base.now c.args.delta.now c.in_err-head.ensures.cases

@@ -1,6 +1,6 @@
 use Rattle.std.proofs.Common.{sym, ◌∙◌, ap, ◌++◌, rules, append-nil, refl}
-use Rattle.deltas.proofs.Pieces.{expanded_none, expanded_some}
-use Rattle.deltas.proofs.delta.write_expanded.Goals as goal
+use Rattle.packed.proofs.Pieces.{expanded_none, expanded_some}
+use Rattle.packed.proofs.difference.write_expanded.Goals as goal
 
 pub returns-then-is_empty : goal.returns-then-is_empty
 returns-then-is_empty c = rw (expanded_none c.args.base.now c.args.delta.now _ c.is_empty.ensures c.if-is_empty.true) (search rules)

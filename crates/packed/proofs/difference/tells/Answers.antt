@@ -1,6 +1,6 @@
 use Rattle.std.proofs.Common.{sym, ◌∙◌, refl}
-use Rattle.deltas.proofs.Pieces.{expanded_none, expanded_some, none_of_empty, same_bytes, stripped, whole_of_parts}
-use Rattle.deltas.proofs.delta.tells.Goals as goal
+use Rattle.packed.proofs.Pieces.{expanded_none, expanded_some, none_of_empty, same_bytes, stripped, whole_of_parts}
+use Rattle.packed.proofs.difference.tells.Goals as goal
 
 pub returns-then-is_empty : goal.returns-then-is_empty
 returns-then-is_empty c = λ h. expanded_none c.args.base.now c.args.delta.now _ c.is_empty.ensures c.if-is_empty.true ∙ same_bytes _ _ _ c.eq.ensures h

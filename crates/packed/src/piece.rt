@@ -1,6 +1,6 @@
 // The pieces of a delta.
 ghost use Rattle.std.specs.Prelude.{◌≡◌, ◌<◌, ◌++◌, [], None, length, take, drop, IfSome};
-ghost use Rattle.deltas.specs.Expanded.{pieces};
+ghost use Rattle.packed.specs.Expanded.{pieces};
 
 /// What a piece copies from the base and what it adds, and the base and the delta behind these.
 #[derive(Clone, Copy, Drop)]

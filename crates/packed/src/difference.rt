@@ -1,6 +1,6 @@
 ghost use Rattle.std.specs.Prelude.{◌≡◌, ◌<◌, ◌≤◌, ◌++◌, [], length, true, IfOk, OnOk, IsTrue};
-ghost use Rattle.deltas.specs.Expanded.{expanded};
-ghost use Rattle.deltas.specs.declared.delta.TheConstants.{MOST};
+ghost use Rattle.packed.specs.Expanded.{expanded};
+ghost use Rattle.packed.specs.declared.difference.TheConstants.{MOST};
 
 use crate::meeting::{Meeting, PATIENCE, common_length, next_meeting};
 use crate::piece::next_piece;

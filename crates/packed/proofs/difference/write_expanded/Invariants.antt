@@ -1,6 +1,6 @@
 use Rattle.std.proofs.Common.{◌≡◌, ◌++◌, length}
-use Rattle.deltas.specs.Expanded.{pieces}
-use Rattle.deltas.proofs.delta.write_expanded.Given as goal
+use Rattle.packed.specs.Expanded.{pieces}
+use Rattle.packed.proofs.difference.write_expanded.Given as goal
 
 -- what is written and what the rest tells make the whole
 abbrev pub invariant-loop-piece : goal.invariant-loop-piece

@@ -1,6 +1,6 @@
 use Rattle.std.proofs.Common.{◌≡◌, length}
-use Rattle.deltas.specs.Expanded.{pieces}
-use Rattle.deltas.proofs.delta.tells.Given as goal
+use Rattle.packed.specs.Expanded.{pieces}
+use Rattle.packed.proofs.difference.tells.Given as goal
 
 -- where what is left of the text is what the rest tells, the text is what all tells
 abbrev pub invariant-loop-piece : goal.invariant-loop-piece

@@ -1,5 +1,5 @@
 use Rattle.std.proofs.Common.{◌≡◌, ◌+◌, length}
-use Rattle.deltas.proofs.meeting.common_length.Given as goal
+use Rattle.packed.proofs.meeting.common_length.Given as goal
 
 -- what was found alike and what is left make the whole
 abbrev pub invariant-loop-here : goal.invariant-loop-here
