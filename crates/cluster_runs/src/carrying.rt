@@ -45,7 +45,8 @@ impl Cluster {
         ensures many { length controllers.new ≡ length controllers.old }
         ensures present { length self.new.callers.present.items ≡ length self.old.callers.present.items }
         ensures follows { OnOk result (Follows self.new) }
-        ensures leads { IfOk result (λ told. Leads C.reconciler C.phase C.is_waiting (run_of number) (ends_with told) self.old self.new controllers.old controllers.new) }
+        ensures leads { IfOk result (λ told. Leads C.reconciler C.phase C.is_waiting
+            (run_of number) (ends_with told) self.old self.new controllers.old controllers.new) }
         ensures halts { IfErr result (λ fault. Halts C.reconciler C.phase C.is_waiting fault (run_of number) self.old controllers.old controllers.new) }
         ensures reasons { IfErr result IsShort }
     {
@@ -67,7 +68,8 @@ impl Cluster {
         ensures many { length controllers.new ≡ length controllers.old }
         ensures present { length self.new.callers.present.items ≡ length self.old.callers.present.items }
         ensures follows { OnOk result (Follows self.new) }
-        ensures leads { IfOk result (λ told. Leads C.reconciler C.phase C.is_waiting (carried caller) (ends_with told) self.old self.new controllers.old controllers.new) }
+        ensures leads { IfOk result (λ told. Leads C.reconciler C.phase C.is_waiting
+            (carried caller) (ends_with told) self.old self.new controllers.old controllers.new) }
         ensures halts { IfErr result (λ fault. Halts C.reconciler C.phase C.is_waiting fault (carried caller) self.old controllers.old controllers.new) }
         ensures reasons { IfErr result IsShort }
     {

@@ -92,7 +92,8 @@ impl Cluster {
         ensures follows { OnOk result (Follows self.new) }
         ensures shows { OnOk result (Happens C.reconciler C.phase C.is_waiting (Outside caller request.now) self.old self.new controllers.old controllers.new) }
         ensures stays { OnErr result (Stay C.reconciler C.phase controllers.old controllers.new) }
-        ensures too_many { IsErrOf result ClusterFault.TooManyCallers → Exceeds C.reconciler C.phase C.is_waiting (Outside caller request.now) self.old controllers.old }
+        ensures too_many { IsErrOf result ClusterFault.TooManyCallers
+            → Exceeds C.reconciler C.phase C.is_waiting (Outside caller request.now) self.old controllers.old }
         ensures reasons { IfErr result IsShort }
     {
         let _ = controllers.len();

@@ -67,8 +67,10 @@ impl Cluster {
         ensures many { length controllers.new ≡ length controllers.old }
         ensures present { length self.new.callers.present.items ≡ length self.old.callers.present.items }
         ensures follows { OnOk result (Follows self.new) }
-        ensures leads { OnOk result (Leads C.reconciler C.phase C.is_waiting (settled rounds namespaces.now) nothing self.old self.new controllers.old controllers.new) }
-        ensures halts { IfErr result (λ fault. Halts C.reconciler C.phase C.is_waiting fault (settled rounds namespaces.now) self.old controllers.old controllers.new) }
+        ensures leads { OnOk result (Leads C.reconciler C.phase C.is_waiting
+            (settled rounds namespaces.now) nothing self.old self.new controllers.old controllers.new) }
+        ensures halts { IfErr result (λ fault. Halts C.reconciler C.phase C.is_waiting fault
+            (settled rounds namespaces.now) self.old controllers.old controllers.new) }
         ensures reasons { IfErr result IsShort }
     {
         let Some(kubelet) = self.callers.fresh() else {
@@ -91,8 +93,10 @@ impl Cluster {
         ensures many { length controllers.new ≡ length controllers.old }
         ensures present { length self.new.callers.present.items ≡ length self.old.callers.present.items }
         ensures follows { OnOk result (Follows self.new) }
-        ensures leads { OnOk result (Leads C.reconciler C.phase C.is_waiting (settled_once kubelet namespaces.now) nothing self.old self.new controllers.old controllers.new) }
-        ensures halts { IfErr result (λ fault. Halts C.reconciler C.phase C.is_waiting fault (settled_once kubelet namespaces.now) self.old controllers.old controllers.new) }
+        ensures leads { OnOk result (Leads C.reconciler C.phase C.is_waiting
+            (settled_once kubelet namespaces.now) nothing self.old self.new controllers.old controllers.new) }
+        ensures halts { IfErr result (λ fault. Halts C.reconciler C.phase C.is_waiting fault
+            (settled_once kubelet namespaces.now) self.old controllers.old controllers.new) }
         ensures reasons { IfErr result IsShort }
     {
         self.make_rounds(controllers)?;
@@ -106,8 +110,10 @@ impl Cluster {
         ensures many { length controllers.new ≡ length controllers.old }
         ensures present { length self.new.callers.present.items ≡ length self.old.callers.present.items }
         ensures follows { OnOk result (Follows self.new) }
-        ensures leads { OnOk result (Leads C.reconciler C.phase C.is_waiting (rounds_of (range_with_len 0 (length controllers.old))) nothing self.old self.new controllers.old controllers.new) }
-        ensures halts { IfErr result (λ fault. Halts C.reconciler C.phase C.is_waiting fault (rounds_of (range_with_len 0 (length controllers.old))) self.old controllers.old controllers.new) }
+        ensures leads { OnOk result (Leads C.reconciler C.phase C.is_waiting
+            (rounds_of (range_with_len 0 (length controllers.old))) nothing self.old self.new controllers.old controllers.new) }
+        ensures halts { IfErr result (λ fault. Halts C.reconciler C.phase C.is_waiting fault
+            (rounds_of (range_with_len 0 (length controllers.old))) self.old controllers.old controllers.new) }
         ensures reasons { IfErr result IsShort }
     {
         for number in 0..controllers.len() {
@@ -154,7 +160,8 @@ impl Cluster {
         ensures many { length controllers.new ≡ length controllers.old }
         ensures present { length self.new.callers.present.items ≡ length self.old.callers.present.items }
         ensures follows { OnOk result (Follows self.new) }
-        ensures leads { IfOk result (λ told. Leads C.reconciler C.phase C.is_waiting (asked number) (ends_with told) self.old self.new controllers.old controllers.new) }
+        ensures leads { IfOk result (λ told. Leads C.reconciler C.phase C.is_waiting
+            (asked number) (ends_with told) self.old self.new controllers.old controllers.new) }
         ensures halts { IfErr result (λ fault. Halts C.reconciler C.phase C.is_waiting fault (asked number) self.old controllers.old controllers.new) }
         ensures reasons { IfErr result IsShort }
     {
@@ -199,8 +206,10 @@ impl Cluster {
         ensures many { length controllers.new ≡ length controllers.old }
         ensures present { length self.new.callers.present.items ≡ length self.old.callers.present.items }
         ensures follows { OnOk result (Follows self.new) }
-        ensures leads { OnOk result (Leads C.reconciler C.phase C.is_waiting (kubelet_turn caller namespaces.now) nothing self.old self.new controllers.old controllers.new) }
-        ensures halts { IfErr result (λ fault. Halts C.reconciler C.phase C.is_waiting fault (kubelet_turn caller namespaces.now) self.old controllers.old controllers.new) }
+        ensures leads { OnOk result (Leads C.reconciler C.phase C.is_waiting
+            (kubelet_turn caller namespaces.now) nothing self.old self.new controllers.old controllers.new) }
+        ensures halts { IfErr result (λ fault. Halts C.reconciler C.phase C.is_waiting fault
+            (kubelet_turn caller namespaces.now) self.old controllers.old controllers.new) }
         ensures reasons { IfErr result IsShort }
     {
         let told = self.carry(controllers, caller)?;
@@ -223,8 +232,10 @@ impl Cluster {
         ensures many { length controllers.new ≡ length controllers.old }
         ensures present { length self.new.callers.present.items ≡ length self.old.callers.present.items }
         ensures follows { OnOk result (Follows self.new) }
-        ensures leads { OnOk result (Leads C.reconciler C.phase C.is_waiting (tended caller namespace.now) nothing self.old self.new controllers.old controllers.new) }
-        ensures halts { IfErr result (λ fault. Halts C.reconciler C.phase C.is_waiting fault (tended caller namespace.now) self.old controllers.old controllers.new) }
+        ensures leads { OnOk result (Leads C.reconciler C.phase C.is_waiting
+            (tended caller namespace.now) nothing self.old self.new controllers.old controllers.new) }
+        ensures halts { IfErr result (λ fault. Halts C.reconciler C.phase C.is_waiting fault
+            (tended caller namespace.now) self.old controllers.old controllers.new) }
         ensures reasons { IfErr result IsShort }
     {
         let alloc = *self.events.allocator();
@@ -253,8 +264,10 @@ impl Cluster {
         ensures many { length controllers.new ≡ length controllers.old }
         ensures present { length self.new.callers.present.items ≡ length self.old.callers.present.items }
         ensures follows { OnOk result (Follows self.new) }
-        ensures leads { OnOk result (Leads C.reconciler C.phase C.is_waiting (asked_all caller requests.now) nothing self.old self.new controllers.old controllers.new) }
-        ensures halts { IfErr result (λ fault. Halts C.reconciler C.phase C.is_waiting fault (asked_all caller requests.now) self.old controllers.old controllers.new) }
+        ensures leads { OnOk result (Leads C.reconciler C.phase C.is_waiting
+            (asked_all caller requests.now) nothing self.old self.new controllers.old controllers.new) }
+        ensures halts { IfErr result (λ fault. Halts C.reconciler C.phase C.is_waiting fault
+            (asked_all caller requests.now) self.old controllers.old controllers.new) }
         ensures reasons { IfErr result IsShort }
     {
         for request in requests {
@@ -276,8 +289,10 @@ impl Cluster {
         ensures many { length controllers.new ≡ length controllers.old }
         ensures present { length self.new.callers.present.items ≡ length self.old.callers.present.items }
         ensures follows { OnOk result (Follows self.new) }
-        ensures leads { IfOk result (λ told. Leads C.reconciler C.phase C.is_waiting (asked_as caller request.now) (ends_with told) self.old self.new controllers.old controllers.new) }
-        ensures halts { IfErr result (λ fault. Halts C.reconciler C.phase C.is_waiting fault (asked_as caller request.now) self.old controllers.old controllers.new) }
+        ensures leads { IfOk result (λ told. Leads C.reconciler C.phase C.is_waiting
+            (asked_as caller request.now) (ends_with told) self.old self.new controllers.old controllers.new) }
+        ensures halts { IfErr result (λ fault. Halts C.reconciler C.phase C.is_waiting fault
+            (asked_as caller request.now) self.old controllers.old controllers.new) }
         ensures reasons { IfErr result IsShort }
     {
         if !self.replay.idle(caller) {

@@ -43,7 +43,8 @@ pub fn run_turns<C: ControlLoop>(
         → ((c : ℕ) → IsSound (reconcilers c))
         → OrderKeepsPromises (record { capacity = capacity; shards = shards }) reconcilers
         (cluster_after (record { capacity = capacity; shards = shards }) (length controllers.old) reconcilers
-        (events_of_turns (record { capacity = capacity; shards = shards }) (length controllers.old) reconcilers namespaces.now turns.now)) found.run.order.items) }
+        (events_of_turns (record { capacity = capacity; shards = shards }) (length controllers.old)
+        reconcilers namespaces.now turns.now)) found.run.order.items) }
     ensures many { length controllers.new ≡ length controllers.old }
     ensures stand { OnOk result ((reconcilers : ℕ → Reconciler) → AreMadeOf C.reconciler controllers.old reconcilers
         → StandAt C.reconciler C.phase controllers.new reconcilers
@@ -100,8 +101,10 @@ impl Cluster {
         ensures many { length controllers.new ≡ length controllers.old }
         ensures present { length self.new.callers.present.items ≡ length self.old.callers.present.items }
         ensures follows { OnOk result (Follows self.new) }
-        ensures leads { OnOk result (Leads C.reconciler C.phase C.is_waiting (course_of_all namespaces.now turns.now) nothing self.old self.new controllers.old controllers.new) }
-        ensures halts { IfErr result (λ fault. Halts C.reconciler C.phase C.is_waiting fault (course_of_all namespaces.now turns.now) self.old controllers.old controllers.new) }
+        ensures leads { OnOk result (Leads C.reconciler C.phase C.is_waiting
+            (course_of_all namespaces.now turns.now) nothing self.old self.new controllers.old controllers.new) }
+        ensures halts { IfErr result (λ fault. Halts C.reconciler C.phase C.is_waiting fault
+            (course_of_all namespaces.now turns.now) self.old controllers.old controllers.new) }
         ensures reasons { IfErr result IsShort }
     {
         for turn in turns {
@@ -123,8 +126,10 @@ impl Cluster {
         ensures many { length controllers.new ≡ length controllers.old }
         ensures present { length self.new.callers.present.items ≡ length self.old.callers.present.items }
         ensures follows { OnOk result (Follows self.new) }
-        ensures leads { IfOk result (λ told. Leads C.reconciler C.phase C.is_waiting (course_of namespaces.now turn.now) (ends_with told) self.old self.new controllers.old controllers.new) }
-        ensures halts { IfErr result (λ fault. Halts C.reconciler C.phase C.is_waiting fault (course_of namespaces.now turn.now) self.old controllers.old controllers.new) }
+        ensures leads { IfOk result (λ told. Leads C.reconciler C.phase C.is_waiting
+            (course_of namespaces.now turn.now) (ends_with told) self.old self.new controllers.old controllers.new) }
+        ensures halts { IfErr result (λ fault. Halts C.reconciler C.phase C.is_waiting fault
+            (course_of namespaces.now turn.now) self.old controllers.old controllers.new) }
         ensures reasons { IfErr result IsShort }
     {
         match turn {

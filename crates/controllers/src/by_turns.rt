@@ -26,13 +26,16 @@ pub fn run_turns(
     turns: &[Turn],
 ) -> Result<ClusterRun, ClusterFault>
     ensures run { IfOk result (λ found. IsClusterRun (size_of spec.now) (length spec.now.sets.items) (reconciler_named spec.now.sets.items)
-        (events_of_turns (size_of spec.now) (length spec.now.sets.items) (reconciler_named spec.now.sets.items) (namespaces_of spec.now.sets.items) turns.now) found) }
+        (events_of_turns (size_of spec.now) (length spec.now.sets.items)
+        (reconciler_named spec.now.sets.items) (namespaces_of spec.now.sets.items) turns.now) found) }
     ensures promises { IfOk result (λ found. OrderKeepsPromises (size_of spec.now) (reconciler_named spec.now.sets.items)
         (cluster_after (size_of spec.now) (length spec.now.sets.items) (reconciler_named spec.now.sets.items)
-        (events_of_turns (size_of spec.now) (length spec.now.sets.items) (reconciler_named spec.now.sets.items) (namespaces_of spec.now.sets.items) turns.now)) found.run.order.items) }
+        (events_of_turns (size_of spec.now) (length spec.now.sets.items)
+        (reconciler_named spec.now.sets.items) (namespaces_of spec.now.sets.items) turns.now)) found.run.order.items) }
     ensures in_turn { IfOk result (λ found. PodsComeInTurn (reconciler_named spec.now.sets.items) (entries_in (size_of spec.now)
         (cluster_after (size_of spec.now) (length spec.now.sets.items) (reconciler_named spec.now.sets.items)
-        (events_of_turns (size_of spec.now) (length spec.now.sets.items) (reconciler_named spec.now.sets.items) (namespaces_of spec.now.sets.items) turns.now)) found.run.order.items)) }
+        (events_of_turns (size_of spec.now) (length spec.now.sets.items)
+        (reconciler_named spec.now.sets.items) (namespaces_of spec.now.sets.items) turns.now)) found.run.order.items)) }
     ensures bad_shards { IsErrOf result ClusterFault.BadShards → 1 ≤ spec.now.shards → 64 < spec.now.shards }
     ensures shards { IfOk result (λ found. (1 ≤ spec.now.shards) × (spec.now.shards ≤ 64)) }
     ensures bad_capacity { IsErrOf result ClusterFault.BadCapacity → (1 ≤ spec.now.shards) × (spec.now.shards ≤ 64)
@@ -41,7 +44,8 @@ pub fn run_turns(
     ensures too_many { IsErrOf result ClusterFault.TooManyCallers → (1 ≤ spec.now.shards) × (spec.now.shards ≤ 64)
         × (1 ≤ spec.now.capacity) × (spec.now.capacity ≤ most_revisions)
         × (4096 < length (cluster_after (size_of spec.now) (length spec.now.sets.items) (reconciler_named spec.now.sets.items)
-        (events_of_turns (size_of spec.now) (length spec.now.sets.items) (reconciler_named spec.now.sets.items) (namespaces_of spec.now.sets.items) turns.now)).used) }
+        (events_of_turns (size_of spec.now) (length spec.now.sets.items)
+        (reconciler_named spec.now.sets.items) (namespaces_of spec.now.sets.items) turns.now)).used) }
 {
     let mut controllers = controllers_of(alloc, spec.sets.as_slice())?;
     let namespaces = namespaces_of(alloc, spec.sets.as_slice())?;

@@ -56,7 +56,8 @@ fn free_name(
     requires small { from < 2 ^ 31 }
     ensures free { (text : List ℕ) → Holds256 hashed.now text → Gives (λ name. string_bytes name) result
         (required NoRevisionName (first_free (λ q. has_name q names.now.keys) (revision_name set.now text digits) from most_tries)) }
-    ensures made { (text : List ℕ) → Holds256 hashed.now text → IfOk result (λ name. (count : ℕ) × (string_bytes name ≡ revision_name set.now text digits count)) }
+    ensures made { (text : List ℕ) → Holds256 hashed.now text
+        → IfOk result (λ name. (count : ℕ) × (string_bytes name ≡ revision_name set.now text digits count)) }
 {
     for count in from..from + MAX_TRIES {
         let name = revision_name(alloc, set, hashed, digits, count)?;
