@@ -56,6 +56,7 @@ fn by_name<'a>(
     ensures { IfOk result (λ claims. (name : List ℕ) → found_in claims name ≡ listed_claim (set_parts set.now) objects.now name) }
 {
     let mut claims = BTreeMap::new(alloc);
+    // From the last to the first, as a later insert replaces: of one name the first object stays.
     for object in objects.iter().rev() {
         put_claim(&mut claims, set, object)?;
     }

@@ -96,6 +96,7 @@ impl Cluster {
             → Exceeds C.reconciler C.phase C.is_waiting (Outside caller request.now) self.old controllers.old }
         ensures reasons { IfErr result IsShort }
     {
+        // For the contract alone, which speaks of the controllers; it costs nothing.
         let _ = controllers.len();
         self.call_outside(caller, request)
     }

@@ -96,6 +96,7 @@ impl Callers {
     {
         match self.phases.insert(caller, phase) {
             Ok(Some(before)) => before,
+            // The caller has a phase already, so the insert replaces it and wants no memory.
             _ => unreachable!(),
         }
     }
@@ -170,6 +171,7 @@ impl Callers {
         requires { named_phase self.old caller ≢ None }
         ensures { Enters self.old self.new caller (with_draw index (phase_at self.old caller)) }
     {
+        // Idle stands in while the phase is taken apart, here and below, since the map only lends it.
         match self.replace(caller, Phase::Idle) {
             Phase::Holding(writing) => {
                 drop(self.replace(caller, Phase::Drawn(Draw { index, writing })));
@@ -218,6 +220,7 @@ impl Callers {
         ensures begun { OnOk result (Enters self.old self.new caller (begun_phase number left (phase_at self.old caller))) }
         ensures memory { OnErr result (Same self.old self.new) }
     {
+        // First, as it alone can want memory: a read that is not among the open ones does not begin.
         self.open_reads.begin(caller, number)?;
         match self.replace(caller, Phase::Idle) {
             Phase::Called { place, request } => {

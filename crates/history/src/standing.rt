@@ -130,6 +130,7 @@ impl Machine {
                 namespace: _,
                 exact,
             } => {
+                // 0 asks for the objects as they are now.
                 if *exact == 0 {
                     Asked::Read
                 } else {

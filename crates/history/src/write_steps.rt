@@ -145,6 +145,7 @@ impl Machine {
         };
         let index = self.places.len();
         if (index as u64) < self.capacity {
+            // Nothing stands there until the publication, so the frontier waits before it.
             self.places.push(None)?;
             self.callers.draw(caller, index);
             return Ok(());
@@ -177,6 +178,7 @@ impl Machine {
         let index = draw.index;
         let place = draw.writing.place;
         let shard = shard_of(&draw.writing.key, self.shards.len());
+        // First, as it alone can want memory: a publication is not taken back.
         self.shards[shard].make_room(&draw.writing.key)?;
         let version = self.callers.publish(caller);
         self.fill(shard, index, place, version);

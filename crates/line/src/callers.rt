@@ -21,6 +21,7 @@ impl<E, K: Judging<E>> Line<E, K> {
         ensures new { IfOk result (λ s. (s.line ≡ seat.old.line) × (s.view ≡ caller_noted seat.old.view)) }
         ensures plain { IfOk result (λ s. caller_seat s ≡ new_caller_seat seat.old.line seat.old.view.plain.seen) }
     {
+        // A `Result` all the same, so that a caller is written alike for a line whose seats take memory.
         Ok(CallerSeat {
             place: self.table.shared.split_seat::<ForCaller>(&mut seat.place),
             seen: seat.seen,

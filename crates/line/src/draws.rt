@@ -27,6 +27,7 @@ impl<E, K: Judging<E>> Line<E, K> {
         ensures none { IfNone result (seat.new.view ≡ with_plain seat.old.view (used_up seat.old.view.plain)) }
         ensures spent { seat.old.view.plain.spent ≡ true → result ≡ None }
     {
+        // So each seat adds to the count in vain at most once, and the count never wraps.
         if seat.spent {
             return None;
         }

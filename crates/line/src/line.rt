@@ -83,6 +83,7 @@ impl<E, K: Judging<E>> Line<E, K> {
         if shards == 0 || shards > MAX_SHARDS {
             return Err(LineError::BadShards);
         }
+        // Two more than there are numbers: the frontier and the count stand before the marks.
         let words = vec![in alloc; 0; capacity as usize + 2]?;
         let (table, mut place) = Words::of_words(alloc, words.as_slice(), &capacity)?;
         let shards = shard_seats::<E, K>(alloc, &table, &mut place, shards)?;

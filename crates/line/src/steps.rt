@@ -10,6 +10,7 @@ use crate::line::Line;
 use crate::notes::{Judging, Noting};
 use crate::rule::{Draw, Fill, Lift, Look, Name, Observe, Place, Try};
 
+// The table loads word 0 where it splits or joins seats: of the frontier such a load tells nothing new.
 pub(crate) const FRONTIER: usize = 0;
 
 pub(crate) const COUNT: usize = 1;
@@ -84,6 +85,7 @@ impl<E, K: Judging<E>> Line<E, K> {
         ensures capacity { place.old.me.0.plain.capacity ≡ self.now.capacity }
         ensures observed { Observes K.home K.by K.accepts place.old.me.0 place.new.me.0 }
     {
+        // What a seat knows changes by a step of the table alone, here and below; a load changes no word.
         let _ = self.table.shared.load::<Observe<K>>(place, FRONTIER);
     }
 

@@ -113,6 +113,7 @@ fn claim_key(alloc: Global, set: &Set, name: &str) -> Result<Key, AllocError>
     ) {
         Ok(key) => Ok(key),
         Err(ReadError::Memory) => Err(AllocError),
+        // The caller knows that the name makes a key, so memory alone can be wanting.
         Err(_) => unreachable!(),
     }
 }

@@ -110,6 +110,7 @@ fn pod_key(alloc: Global, set: &Set, name: &str) -> Result<Key, AllocError>
     match Key::of(alloc, Kind::Pod, set.object.key.namespace.as_str(), name) {
         Ok(key) => Ok(key),
         Err(ReadError::Memory) => Err(AllocError),
+        // The caller knows that the name makes a key, so memory alone can be wanting.
         Err(_) => unreachable!(),
     }
 }

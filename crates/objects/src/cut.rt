@@ -53,6 +53,7 @@ fn write_head<'a>(object: &'a Object, out: &mut Writer) -> Result<Head<'a>, Allo
         → IsProper object.now.body) }
     ensures rules { OnOk result (KeepsRules object.now) }
 {
+    // By the invariant of an object its body is a map, with a map as its `metadata`; so nothing fails here and below.
     let Tree::Map(members) = &object.body else {
         unreachable!();
     };

@@ -45,6 +45,7 @@ impl Printed {
         let Ok(text) = from_utf8(bytes) else {
             unreachable!();
         };
+        // 0 says that not all was known of the text, or did not fit, so it is read.
         if marks.version == 0 {
             let object = object_in(alloc, text, reader)?;
             return printer.print(&object);

@@ -123,6 +123,7 @@ pub(crate) fn object_in(
     match read_draft(alloc, tree) {
         Ok(draft) => Ok(draft.object),
         Err(ReadError::Memory) => Err(Memory),
+        // No test refuses a text that an object was printed as.
         Err(_) => unreachable!(),
     }
 }

@@ -108,6 +108,7 @@ fn splice(
         → IfOk result (λ p. p.1 ≡ length (parts.front ++ (version_text new ++ parts.middle))) }
 {
     let mut buffer = itoa::Buffer::new();
+    // 2 for the quotes around the old resource version.
     let behind = cut.version + 2 + buffer.format(old).len();
     out.extend_from_slice(&text[..cut.version])?;
     out.push(b'"')?;

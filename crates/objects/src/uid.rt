@@ -61,6 +61,7 @@ pub fn uid_number(text: &str) -> Option<u64>
         return None;
     }
     let number = hex_value(&text.as_bytes()[24..]);
+    // Compared with its own text, as upper-case digits and other bytes have a value too.
     if 0 < number && number < 1 << 48 && is_uid_text(text, number) {
         Some(number)
     } else {

@@ -101,6 +101,7 @@ impl Walk {
                     self.latest,
                     &printed,
                 );
+                // Let go by name, which is proved once for the type and not at each way out.
                 drop(printed);
                 told
             }

@@ -62,6 +62,7 @@ impl Packer {
         if base.len() <= LONGEST {
             self.bases.insert(slot_of(key), Arc::try_clone(&base)?)?;
         }
+        // An empty delta tells the base itself.
         Ok(Packed::of(base, Delta::copy_of(self.alloc, &[])?, object))
     }
 }
@@ -96,6 +97,7 @@ fn slot_of(key: &Key) -> u32 {
         Some(end) => &name[..end],
         None => name,
     };
+    // The sum may wrap, and two sets may share a slot: their objects are then packed less well, and no worse than that.
     let mut sum = key.kind as u32;
     for byte in key.namespace.as_str().as_bytes() {
         sum = sum.wrapping_mul(31).wrapping_add(u32::from(*byte));

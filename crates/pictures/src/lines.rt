@@ -257,6 +257,7 @@ pub(crate) fn put_part(
             shard,
             left,
         } => {
+            // All shards have answered, so the event does nothing, and what does nothing has no line.
             if left == 0 {
                 return Ok(());
             }

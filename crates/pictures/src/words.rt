@@ -44,6 +44,7 @@ fn put_list(kind: Kind, namespace: &str, exact: u64, out: &mut String) -> Result
     ensures { OnOk result (string_bytes out.new ≡ string_bytes out.old ++ list_words kind namespace.now exact) }
 {
     let kind = kind.name();
+    // 0 asks for the list as it is now.
     if exact == 0 {
         return write!(out, "list {kind}/{namespace}");
     }

@@ -40,6 +40,7 @@ fn by_ordinal(
     ensures { IfOk result (λ pods. pods.entries ≡ by_ordinal (set_parts set.now) update.now current.now (map pod_parts listed.now)) }
 {
     let mut pods = BTreeMap::new(alloc);
+    // From the last to the first, as a later one replaces: of one name the first pod stays.
     for pod in listed.iter().rev() {
         place(&mut pods, set, update, current, pod)?;
     }

@@ -53,6 +53,7 @@ fn make_turn<S: SharedStore, R: Wait, G: Gate>(
 ) -> Result<bool, Memory> {
     let reply = field.ask(rt, me, caller, list_of_pods(field.alloc)?)?;
     let requests = requests_after(field.alloc, &reply);
+    // Let go before the `?`, by name, which is proved once for the type and not at each way out.
     drop(reply);
     let requests = requests?;
     let is_busy = !requests.is_empty();

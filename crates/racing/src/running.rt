@@ -144,6 +144,7 @@ fn race_over_shards<H: Sharding + Send + Sync, R: Threads + Wait + Sync, G: Gate
     match Line::<Writing, ByShards<H>>::new(alloc, CAPACITY, spec.shards as usize) {
         Ok(ends) => race_over_line::<H, Brand, R, G>(rt, alloc, ends, spec, gate),
         Err(LineError::Memory) => Err(RaceFault::Memory),
+        // A race that is allowed has no more shards than a line may have.
         Err(_) => unreachable!(),
     }
 }

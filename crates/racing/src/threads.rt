@@ -71,6 +71,7 @@ where
     S::Ticket: Send,
 {
     let controllers = field.spec.controllers;
+    // Racers are told apart by numbers: first come the controllers', then the kubelet's, then this one.
     create_set(rt, field, controllers.wrapping_add(1))?;
     let jobs = jobs_of(rt, field.alloc, field.store, controllers)?;
     let (store, gate, log) = (field.store, field.gate, field.log);

@@ -81,6 +81,7 @@ fn revision_key(alloc: Global, namespace: &str, name: &str) -> Result<Key, Memor
     match Key::of(alloc, Kind::ControllerRevision, namespace, name) {
         Ok(key) => Ok(key),
         Err(ReadError::Memory) => Err(Memory),
+        // The caller knows that the name makes a key, so memory alone can be wanting.
         Err(_) => unreachable!(),
     }
 }

@@ -51,6 +51,7 @@ fn number_of(revision: &Object) -> u64
 {
     match revision.member("revision") {
         Some(Tree::Whole(number)) => number.as_u64().unwrap_or(0),
+        // A revision that states no number is put among the oldest.
         _ => 0,
     }
 }

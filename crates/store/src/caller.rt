@@ -12,6 +12,7 @@ use std::marker::{Model, PhantomData};
 /// made one after another; different callers' go at once.
 #[derive(Drop)]
 pub struct Caller<H: Sharding, N: Naming> {
+    // None only within a call, while the seat visits a shard's.
     pub(crate) seat: Option<CallerSeat<Writing>>,
     pub(crate) of: PhantomData<(H, N)>,
 }
@@ -108,6 +109,7 @@ pub(crate) fn meet<H: Sharding, N: Naming>(
     ensures second { HasRead N.capacity second.old second.new }
     ensures met { IsPrefix first.new.seen second.new.seen }
 {
+    // In this order: what is told bounds only the frontiers that the second loads later.
     first.frontier(line);
     second.hear(line, first);
     second.frontier(line);

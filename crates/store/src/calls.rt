@@ -49,6 +49,7 @@ pub(crate) fn submit<H: Sharding, N: Naming, G: Gate>(
     ensures memory { OnErr result (GoesOn caller.old caller.new) }
 {
     let mut locked = shard.lock(rt);
+    // No run meets another shard here, but no clause can say so; an error would have to be handled by each caller.
     if locked.index() != index {
         for _ in rt.forever() {}
         unreachable!()
@@ -71,6 +72,7 @@ pub(crate) fn get<H: Sharding, N: Naming, W: Wait>(
     ensures read { HasRead N.capacity caller.old caller.new }
     ensures reply { IfOk result (λ reply. reply ≡ (step (store_after N.capacity caller.new.seen) (Get key.now)).1) }
 {
+    // A compaction may be faster. To hold the floor's lock instead would make all reads wait for compactions.
     for _ in rt.forever() {
         caller.frontier(line);
         match read(rt, line, shard, index, caller, key) {

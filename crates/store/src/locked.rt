@@ -105,6 +105,7 @@ impl<H: Sharding, N: Naming> Locked<H, N> {
         let Some(seat) = caller.seat.take() else {
             unreachable!();
         };
+        // By this visit the shard's seat knows a frontier not below the floor: a number drawn later is above it.
         let seen = line.enter(&mut self.seat, seat);
         caller.seat = Some(line.leave(&mut self.seat, seen));
         self.shard.compact(number);
@@ -121,6 +122,7 @@ impl<H: Sharding, N: Naming> Locked<H, N> {
             unreachable!();
         };
         let seen = line.enter(&mut self.seat, seat);
+        // Any later frontier of the caller has to agree with what is noted here.
         line.observe(&mut self.seat);
         caller.seat = Some(line.leave(&mut self.seat, seen));
     }
@@ -176,6 +178,7 @@ impl<H: Sharding, N: Naming> Locked<H, N> {
     /// Memory. All memory is taken before a number is drawn: so none was drawn, and the shard is as it was.
     pub fn write<G: Gate>(
         &mut self,
+        // Not used: it is here because the calls around have one.
         _rt: &impl Wait,
         line: &Line<Writing, ByShards<H>>,
         caller: &mut Caller<H, N>,
@@ -198,6 +201,7 @@ impl<H: Sharding, N: Naming> Locked<H, N> {
             unreachable!();
         };
         line.enter(&mut self.seat, seat);
+        // By the seat of both, and before the verdict: the number that is drawn is then above the shard's floor.
         let loaded = line.look(&mut self.seat);
         let handed = hand_in::<H, N, G>(
             line,

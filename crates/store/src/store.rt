@@ -216,6 +216,7 @@ impl<H: Sharding, N: Naming> Store<H, N> {
     pub fn compact<W: Wait>(&self, rt: &W, caller: &mut Caller<H, N>, number: u64) -> Reply
         ensures { HasRead N.capacity caller.old caller.new }
     {
+        // Taken before any shard's lock, and never by a thread that holds one, so that no two wait for each other.
         let mut floor = self.floor.lock(rt);
         self.compact_from(rt, &mut floor, caller, number)
     }
@@ -267,6 +268,7 @@ impl<H: Sharding, N: Naming> Store<H, N> {
     ) -> Result<Reply, Memory>
         ensures { HasRead N.capacity caller.old caller.new }
     {
+        // It is held while the shards are read, so that no compaction passes the number meanwhile.
         let floor = self.floor.lock(rt);
         self.list_from(rt, &floor, caller, kind, namespace, number)
     }

@@ -172,6 +172,7 @@ fn carry_out<H: Sharding, N: Naming, G: Gate>(
     ensures wrote { IfOk result (λ t. WritesNotes seat.old.view.notes t seat.new.view.notes) }
     ensures memory { OnErr result ((seat.new.view ≡ seat.old.view) × (shard.new ≡ shard.old)) }
 {
+    // Before the draw: a number that was drawn has to be filled, and by then nothing may want memory.
     if make_room(shard, &request).is_err() {
         drop(request);
         drop(change);

@@ -154,6 +154,7 @@ fn members_in(
         match value_in(alloc, reader, depth, spares)? {
             Some(value) if goes_last(&entries, name) => entries.push((key, value))?,
             Some(value) if entries.len() < FEW => put_entry(&mut entries, key, value)?,
+            // Too many to be moved for each, or not whole: then another value of the key may yet take its place.
             value => {
                 let mut found = by_key(alloc, entries)?;
                 // A value that the key had before is let go, since the last one counts.

@@ -26,6 +26,7 @@ pub fn place_of(entries: &[(Text, Tree)], key: &str) -> Result<usize, usize>
     ensures found { IfOk result (λ i. IsAt key.now i entries.now) }
     ensures gap { IfErr result (λ i. IsGap key.now i entries.now) }
 {
+    // One by one, as most maps have few members.
     for (i, (name, _)) in entries.iter().enumerate() {
         match key.cmp(name.as_str()) {
             Ordering::Greater => {}

@@ -86,6 +86,7 @@ impl TreeReader {
         ) {
             Ok(Some(tree)) => Ok(tree),
             Err(TreeError::Memory) => Err(Memory),
+            // The caller knows that the text is JSON with whole numbers, so memory alone can be wanting.
             _ => unreachable!(),
         }
     }

@@ -59,6 +59,7 @@ impl Index {
         let Some(place) = self.aside.get(key) else {
             return Ok(None);
         };
+        // Listed before it leaves the others: where memory runs out, it still has its place.
         self.listed.insert(alloc, key, place)?;
         self.aside.remove(key);
         Ok(Some(place))

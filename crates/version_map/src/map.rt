@@ -138,6 +138,7 @@ impl<V: Drop> VersionMap<V> {
             Some(_) => {}
             None => {
                 self.index.put_aside(self.alloc, key);
+                // Where the note finds no memory the key is not forgotten, which changes no reading.
                 let _ = self.note_removal(key);
             }
         }
@@ -174,6 +175,7 @@ impl<V: Drop> VersionMap<V> {
         ensures made { OnOk result (self.new ≡ with_room self.old key.now) }
         ensures memory { OnErr result (self.new ≡ self.old) }
     {
+        // The push will add one to the count, and has no way to refuse.
         if self.count == usize::MAX {
             return Err(Memory);
         }
@@ -285,9 +287,11 @@ impl<V: Drop> VersionMap<V> {
     fn forget(&mut self, key: &Key)
         ensures { AreForgotten self.old self.new }
     {
+        // The key may be the one with room, whose place no other key may get.
         if self.room.is_some() {
             return;
         }
+        // The room was made when the key was noted, so nothing is refused here.
         let Ok(()) = self.free.reserve(1) else {
             return;
         };
@@ -399,6 +403,7 @@ fn place_of<V: Drop>(
         Some(place) => Ok(place),
         None => match free.front().copied() {
             Some(place) => {
+                // The place is taken off once the index has it, so that want of memory loses none.
                 index.insert(alloc, key, place)?;
                 free.pop_front();
                 Ok(place)
@@ -423,6 +428,7 @@ fn add_place<V: Drop>(
     ensures listed { IfOk result (λ place. finite.get index.new.listed key.now ≡ Some place) }
     ensures place { IfOk result (λ place. finite.get index.new.all key.now ≡ Some place) }
 {
+    // Before the index knows of the place, so that there is none without a chain.
     chains.reserve(1)?;
     let place = chains.len();
     index.insert(alloc, key, place)?;

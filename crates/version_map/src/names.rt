@@ -103,6 +103,7 @@ impl Names {
         ensures { IfOk result (λ places. AreValues places.items (λ word. option_or (at_name self.now word) (at_name more.now word))) }
     {
         let mut all = BTreeMap::new(alloc);
+        // Its own come last, as a later entry of a name replaces an earlier one.
         more.add_to(&mut all)?;
         self.add_to(&mut all)?;
         places_in(alloc, &all)

@@ -69,6 +69,7 @@ impl Plain {
             drop(object);
             return self.print(Reply::Refused(Reason::StoreFull));
         }
+        // The whole reply is made first: once the object is put, nothing may want memory.
         let whole = self.ready(kind, object)?;
         let (Some(key), Some(text)) = (whole.key(), whole.text()) else {
             unreachable!();
