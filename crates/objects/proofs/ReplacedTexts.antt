@@ -15,15 +15,15 @@ use Rattle.trees.proofs.Sameness.{same-itself, same-equal}
 use Rattle.trees.proofs.TextDepth.{text_depth}
 use Rattle.trees.proofs.WholeTokens.{no_float_printable}
 use Rattle.objects.specs.declared.object.Object.{Object}
-use Rattle.objects.specs.declared.printed.Sheet.{Sheet}
-use Rattle.objects.specs.Cuts.{IsOpen, IsProperStatus, IsSheet, IsSpecAt, IsSpliced, spec_text, spec_tokens, version_text}
+use Rattle.objects.specs.declared.printed.IndexedText.{IndexedText}
+use Rattle.objects.specs.Cuts.{IsOpen, IsProperStatus, IsIndexedText, IsSpecAt, IsSpliced, spec_text, spec_tokens, version_text}
 use Rattle.objects.specs.Key.{KeyParts as Key}
 use Rattle.objects.specs.Rewrites.{at_version, generation_after, meta_after, replaced, with_status}
 use Rattle.objects.specs.Status.{member_of, same_found}
 use Rattle.objects.specs.Text.{text}
 use Rattle.objects.proofs.BodyMembers.{member_of-with_other}
 use Rattle.objects.proofs.CutTexts.{printable_text}
-use Rattle.objects.proofs.SplicedTexts.{apart_by, found_equal, parts_at, proper_member, sheet_parts, spliced_sheet, status_of_cut, status_proper}
+use Rattle.objects.proofs.SplicedTexts.{apart_by, found_equal, parts_at, proper_member, indexed_parts, spliced_indexed, status_of_cut, status_proper}
 
 -- ---- the bytes of the spec
 
@@ -33,18 +33,18 @@ between t lead part rest begin end is here there =
     let left : end - begin ≡ length part = omega (arith, here, there) in
     rw (left, here, is) (ap (take (length part)) (drop-append_seam lead (part ++ rest)) ∙ take-append_seam part rest)
 
--- where the spec stands in the text of a sheet
-pub record IsSpecIn (o : Object) (s : Sheet) : Type 0 where
+-- where the spec stands in the text of an indexed text
+pub record IsSpecIn (o : Object) (s : IndexedText) : Type 0 where
   pub lead : List ℕ
   pub rest : List ℕ
   pub text : string_bytes s.text ≡ lead ++ (spec_text (member_of (codes "spec") o.body) ++ rest)
   pub size : s.spec ≡ length (spec_text (member_of (codes "spec") o.body))
   pub status : s.status ≡ length lead + length (spec_text (member_of (codes "spec") o.body))
 
-pub spec_in : (o : Object) (s : Sheet) → IsSheet o s → IsOpen o s → IsSpecIn o s
-spec_in o s sheet known =
+pub spec_in : (o : Object) (s : IndexedText) → IsIndexedText o s → IsOpen o s → IsSpecIn o s
+spec_in o s indexed known =
     let spec = known.spec in
-    let parts = parts_at o s sheet spec.at in
+    let parts = parts_at o s indexed spec.at in
     let bytes = spec_text (member_of (codes "spec") o.body) in
     let version = version_text s.revision in
     let lead = parts.front ++ (version ++ spec.before) in
@@ -62,12 +62,12 @@ spec_in o s sheet known =
           ∙ length-append lead bytes;
     }
 
-pub spec_taken : (o : Object) (s : Sheet) → IsSpecIn o s → take (s.status - (s.status - s.spec)) (drop (s.status - s.spec) (string_bytes s.text)) ≡ spec_text (member_of (codes "spec") o.body)
+pub spec_taken : (o : Object) (s : IndexedText) → IsSpecIn o s → take (s.status - (s.status - s.spec)) (drop (s.status - s.spec) (string_bytes s.text)) ≡ spec_text (member_of (codes "spec") o.body)
 spec_taken o s h =
     let here : s.status - s.spec ≡ length h.lead = omega (arith, h.size, h.status) in
     between (string_bytes s.text) h.lead (spec_text (member_of (codes "spec") o.body)) h.rest (s.status - s.spec) s.status h.text here h.status
 
-pub spec_fits : (o : Object) (s : Sheet) → IsSpecIn o s → (s.spec ≤ s.status) × (s.status ≤ length (string_bytes s.text))
+pub spec_fits : (o : Object) (s : IndexedText) → IsSpecIn o s → (s.spec ≤ s.status) × (s.status ≤ length (string_bytes s.text))
 spec_fits o s h =
     let bytes = spec_text (member_of (codes "spec") o.body) in
     let whole : length (string_bytes s.text) ≡ length h.lead + (length bytes + length h.rest) =
@@ -107,7 +107,7 @@ same_texts_by false a b p q g h is =
     sym (apart_by (same_found a b) (λ same. let both : true ≡ false = sym ((bytes_eq-Decides (spec_text a) (spec_text b)).1 (ap spec_text (found_equal a b same))) ∙ is in absurd cc))
 
 -- the texts of two specs are the same exactly where the specs are
-pub same_texts : (o p : Object) (s t : Sheet) → IsOpen o s → IsOpen p t
+pub same_texts : (o p : Object) (s t : IndexedText) → IsOpen o s → IsOpen p t
     → bytes_eq (spec_text (member_of (codes "spec") o.body)) (spec_text (member_of (codes "spec") p.body)) ≡ same_found (member_of (codes "spec") o.body) (member_of (codes "spec") p.body)
 same_texts o p s t left right =
     same_texts_by _ (member_of (codes "spec") o.body) (member_of (codes "spec") p.body) (spec_proper o s.version s.status s.spec left.spec) (spec_proper p t.version t.status t.spec right.spec) left.spec.printable right.spec.printable refl
@@ -115,25 +115,25 @@ same_texts o p s t left right =
 -- ---- the object in the place of the other
 
 -- the text with the status of the other is that of what the update makes
-pub replaced_sheet : (o u p : Object) (found : Option Object) (s t new : Sheet) (made : Option Sheet) (end : List ℕ) (sheet : IsSheet o s) → IfSome found (λ (q : Object). q ≡ record { key = u.key; meta = meta_after o u; body = u.body }) → found ≡ Some p
-    → IsSheet p t → (some : s.version ≢ 0) → end ≡ (sheet_parts o s sheet some).rest → IfSome made (IsSpliced t end s.revision) → made ≡ Some new → IsSheet (replaced o u) new
-replaced_sheet o u p found s t new made end sheet told found_is printed some ends spliced made_is =
-    let at = sheet.cut some in
+pub replaced_indexed : (o u p : Object) (found : Option Object) (s t new : IndexedText) (made : Option IndexedText) (end : List ℕ) (indexed : IsIndexedText o s) → IfSome found (λ (q : Object). q ≡ record { key = u.key; meta = meta_after o u; body = u.body }) → found ≡ Some p
+    → IsIndexedText p t → (some : s.version ≢ 0) → end ≡ (indexed_parts o s indexed some).rest → IfSome made (IsSpliced t end s.revision) → made ≡ Some new → IsIndexedText (replaced o u) new
+replaced_indexed o u p found s t new made end indexed told found_is printed some ends spliced made_is =
+    let at = indexed.cut some in
     let cut = at.cut in
     let own : Object = record { key = u.key; meta = meta_after o u; body = u.body } in
-    let own_sheet : IsSheet own t = subst (λ q. IsSheet q t) (subst (λ f. IfSome f (λ q. q ≡ own)) found_is told) printed in
-    let small : s.revision < 2 ^ 64 = subst (λ n. n < 2 ^ 64) (sym sheet.revision) cut.rules.meta.revision in
+    let own_indexed : IsIndexedText own t = subst (λ q. IsIndexedText q t) (subst (λ f. IfSome f (λ q. q ≡ own)) found_is told) printed in
+    let small : s.revision < 2 ^ 64 = subst (λ n. n < 2 ^ 64) (sym indexed.revision) cut.rules.meta.revision in
     let h : IsSpliced t end s.revision new = subst (λ f. IfSome f (IsSpliced t end s.revision)) made_is spliced in
-    subst (λ n. IsSheet (at_version (with_status (member_of (codes "status") o.body) own) n) new) sheet.revision
-    (subst (λ v. IsSheet (at_version (with_status v own) s.revision) new) (sym (status_of_cut o at.front at.middle cut))
-    (spliced_sheet own t cut.status end s.revision new own_sheet small cut.printable (status_proper o at.front at.middle cut) ends h))
+    subst (λ n. IsIndexedText (at_version (with_status (member_of (codes "status") o.body) own) n) new) indexed.revision
+    (subst (λ v. IsIndexedText (at_version (with_status v own) s.revision) new) (sym (status_of_cut o at.front at.middle cut))
+    (spliced_indexed own t cut.status end s.revision new own_indexed small cut.printable (status_proper o at.front at.middle cut) ends h))
 
 as_it_was : (o : Object) (k : Key) (g : ℕ) (b : Data) → o.key ≡ k → g ≡ o.meta.generation → o.body ≡ b
     → record { key = k; meta = record { uid = o.meta.uid; revision = o.meta.revision; generation = g; deletion = o.meta.deletion }; body = b } ≡ o
 as_it_was o k g b key generation body = rw (generation, sym key, sym body) refl
 
 -- with the same key and body, it is as it was
-replaced_same : (o u : Object) (s : Sheet) → IsOpen o s → o.key ≡ u.key → o.body ≡ (replaced o u).body → replaced o u ≡ o
+replaced_same : (o u : Object) (s : IndexedText) → IsOpen o s → o.key ≡ u.key → o.body ≡ (replaced o u).body → replaced o u ≡ o
 replaced_same o u s known key body =
     let status = member_of (codes "status") o.body in
     let spec : member_of (codes "spec") o.body ≡ member_of (codes "spec") u.body = ap (member_of (codes "spec")) body ∙ member_of-with_other (codes "spec") (codes "status") status u.body (λ same. absurd cc) in
@@ -141,7 +141,7 @@ replaced_same o u s known key body =
     as_it_was o u.key _ _ key (ap (generation_after o.meta.generation) told) body
 
 -- another text is that of another key or another body
-pub replaced_apart : (o u : Object) (s new : Sheet) → IsSheet o s → IsOpen o s → IsSheet (replaced o u) new → (string_bytes new.text ≡ string_bytes s.text → ⊥) → o.key ≡ u.key → same_data o.body (replaced o u).body ≡ false
-replaced_apart o u s new sheet known made differ key = apart_by _ (λ same.
+pub replaced_apart : (o u : Object) (s new : IndexedText) → IsIndexedText o s → IsOpen o s → IsIndexedText (replaced o u) new → (string_bytes new.text ≡ string_bytes s.text → ⊥) → o.key ≡ u.key → same_data o.body (replaced o u).body ≡ false
+replaced_apart o u s new indexed known made differ key = apart_by _ (λ same.
     let whole : replaced o u ≡ o = replaced_same o u s known key (same-equal o.body (replaced o u).body same) in
-    differ (made.text.text ∙ ap text whole ∙ sym sheet.text.text))
+    differ (made.text.text ∙ ap text whole ∙ sym indexed.text.text))

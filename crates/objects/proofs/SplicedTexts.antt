@@ -18,8 +18,8 @@ use Rattle.trees.proofs.SetMembers.{ascending_set, get_member-set_member}
 use Rattle.trees.proofs.WholeTokens.{no_float_printable}
 use Rattle.objects.specs.declared.object.Object.{Object}
 use Rattle.objects.specs.Object.{IsBody, KeepsRules}
-use Rattle.objects.specs.declared.printed.Sheet.{Sheet}
-use Rattle.objects.specs.Cuts.{AreParts, IsCut, IsCutAt, IsOpen, IsProperStatus, IsSheet, IsSpecAt, IsSpliced, rewritten, spec_text, spec_tokens, status_text, status_tokens, version_text}
+use Rattle.objects.specs.declared.printed.IndexedText.{IndexedText}
+use Rattle.objects.specs.Cuts.{AreParts, IsCut, IsCutAt, IsOpen, IsProperStatus, IsIndexedText, IsSpecAt, IsSpliced, rewritten, spec_text, spec_tokens, status_text, status_tokens, version_text}
 use Rattle.objects.specs.PrintedText.{IsTextOf}
 use Rattle.objects.specs.Rewrites.{at_version, with_status}
 use Rattle.objects.specs.Status.{member_of, same_found, with_member}
@@ -258,76 +258,76 @@ ends_alike o version status at value t whole printable one same =
 pub ends_apart : (o : Object) (version status : ℕ) (at : IsCutAt o version status) (value : Option Data) → (status_text at.cut.status ≡ status_text value → ⊥) → same_found (member_of (codes "status") o.body) value ≡ false
 ends_apart o version status at value differ = apart_by _ (λ h. differ (ap status_text (sym (status_of_cut o at.front at.middle at.cut) ∙ found_equal (member_of (codes "status") o.body) value h)))
 
--- ---- sheets
+-- ---- indexed texts
 
--- what holds of a sheet that is found holds of the one that is answered
-pub if_found : {E : Type 0} (P Q : Sheet → Type 0) (r : Result (Option Sheet) E) → ((s : Sheet) → P s → Q s) → IfOk r (λ f. IfSome f P) → IfOk r (λ f. IfSome f Q)
+-- what holds of an indexed text that is found holds of the one that is answered
+pub if_found : {E : Type 0} (P Q : IndexedText → Type 0) (r : Result (Option IndexedText) E) → ((s : IndexedText) → P s → Q s) → IfOk r (λ f. IfSome f P) → IfOk r (λ f. IfSome f Q)
 if_found P Q (Ok None) f h = h
 if_found P Q (Ok (Some s)) f h = f s h
 if_found P Q (Err e) f h = h
 
--- the parts of a sheet's text that is cut so
-abbrev pub parts_at : (o : Object) (s : Sheet) (sheet : IsSheet o s) → IsCutAt o s.version s.status → AreParts (string_bytes s.text) s.revision s.version s.status
-parts_at o s sheet at =
-    let parts = parts_of o s.version s.status at (string_bytes s.text) sheet.text.text in
+-- the parts of an indexed text's text that is cut so
+abbrev pub parts_at : (o : Object) (s : IndexedText) (indexed : IsIndexedText o s) → IsCutAt o s.version s.status → AreParts (string_bytes s.text) s.revision s.version s.status
+parts_at o s indexed at =
+    let parts = parts_of o s.version s.status at (string_bytes s.text) indexed.text.text in
     record {
       front = at.front;
       middle = at.middle;
       rest = status_text at.cut.status;
-      text = parts.text ∙ ap (λ r. at.front ++ (version_text r ++ (at.middle ++ status_text at.cut.status))) (sym sheet.revision);
+      text = parts.text ∙ ap (λ r. at.front ++ (version_text r ++ (at.middle ++ status_text at.cut.status))) (sym indexed.revision);
       version_at = at.version_at;
-      status_at = at.status_at ∙ ap (λ r. length (at.front ++ (version_text r ++ at.middle))) (sym sheet.revision);
+      status_at = at.status_at ∙ ap (λ r. length (at.front ++ (version_text r ++ at.middle))) (sym indexed.revision);
     }
 
--- the parts of a sheet that can be cut
-abbrev pub sheet_parts : (o : Object) (s : Sheet) (sheet : IsSheet o s) → s.version ≢ 0 → AreParts (string_bytes s.text) s.revision s.version s.status
-sheet_parts o s sheet some = parts_at o s sheet (sheet.cut some)
+-- the parts of an indexed text that can be cut
+abbrev pub indexed_parts : (o : Object) (s : IndexedText) (indexed : IsIndexedText o s) → s.version ≢ 0 → AreParts (string_bytes s.text) s.revision s.version s.status
+indexed_parts o s indexed some = parts_at o s indexed (indexed.cut some)
 
--- a spliced sheet knows the spec and the generation where the old one does
-spliced_known : (o : Object) (s : Sheet) (value : Option Data) (end : List ℕ) (n : ℕ) (new : Sheet) → IsSheet o s → n < 2 ^ 64 → ArePrintableOrBad (status_tokens value) → IsProperStatus value
+-- a spliced indexed text knows the spec and the generation where the old one does
+spliced_known : (o : Object) (s : IndexedText) (value : Option Data) (end : List ℕ) (n : ℕ) (new : IndexedText) → IsIndexedText o s → n < 2 ^ 64 → ArePrintableOrBad (status_tokens value) → IsProperStatus value
     → IsSpliced s end n new → new.version ≢ 0 → new.generation ≢ 0 → IsOpen (at_version (with_status value o) n) new
-spliced_known o s value end n new sheet small printable one h some told =
-    let old = sheet.known h.cut (λ none. told (h.generation ∙ none)) in
-    let there = h.places (parts_at o s sheet old.spec.at) some in
+spliced_known o s value end n new indexed small printable one h some told =
+    let old = indexed.known h.cut (λ none. told (h.generation ∙ none)) in
+    let there = h.places (parts_at o s indexed old.spec.at) some in
     record {
       spec = subst (IsSpecAt (at_version (with_status value o) n) new.version new.status) (sym h.spec) (spliced_spec o s.version s.status s.spec old.spec n value new.version new.status h.written small printable one there.0 there.1);
       generation = h.generation ∙ old.generation;
       unmarked = old.unmarked;
     }
 
--- a spliced sheet is that of the object with that status at that version
-pub spliced_sheet : (o : Object) (s : Sheet) (value : Option Data) (end : List ℕ) (n : ℕ) (new : Sheet) → IsSheet o s → n < 2 ^ 64 → ArePrintableOrBad (status_tokens value) → IsProperStatus value
-    → end ≡ status_text value → IsSpliced s end n new → IsSheet (at_version (with_status value o) n) new
-spliced_sheet o s value end n new sheet small printable one ends h =
-    let at = sheet.cut h.cut in
-    let parts = sheet_parts o s sheet h.cut in
+-- a spliced indexed text is that of the object with that status at that version
+pub spliced_indexed : (o : Object) (s : IndexedText) (value : Option Data) (end : List ℕ) (n : ℕ) (new : IndexedText) → IsIndexedText o s → n < 2 ^ 64 → ArePrintableOrBad (status_tokens value) → IsProperStatus value
+    → end ≡ status_text value → IsSpliced s end n new → IsIndexedText (at_version (with_status value o) n) new
+spliced_indexed o s value end n new indexed small printable one ends h =
+    let at = indexed.cut h.cut in
+    let parts = indexed_parts o s indexed h.cut in
     record {
       text = spliced_text o s.version s.status at n value (string_bytes new.text) h.written small printable one (h.text parts ∙ ap (λ e. at.front ++ (version_text n ++ (at.middle ++ e))) ends);
-      uid = h.uid ∙ sheet.uid;
+      uid = h.uid ∙ indexed.uid;
       revision = h.revision;
       cut = λ some. let there = h.places parts some in spliced_cut o s.version s.status at n value new.version new.status h.written small printable one there.0 there.1;
-      known = spliced_known o s value end n new sheet small printable one h;
+      known = spliced_known o s value end n new indexed small printable one h;
     }
 
 -- with the status that it has, it is that of the object at that version
-pub spliced_again : (o : Object) (s : Sheet) (end : List ℕ) (n : ℕ) (new : Sheet) (sheet : IsSheet o s) → n < 2 ^ 64 → ((some : s.version ≢ 0) → end ≡ (sheet_parts o s sheet some).rest) → IsSpliced s end n new → IsSheet (at_version o n) new
-spliced_again o s end n new sheet small ends h =
-    let at = sheet.cut h.cut in
-    subst (λ p. IsSheet p new) (status_kept o at.front at.middle at.cut n)
-    (spliced_sheet o s at.cut.status end n new sheet small at.cut.printable (status_proper o at.front at.middle at.cut) (ends h.cut) h)
+pub spliced_again : (o : Object) (s : IndexedText) (end : List ℕ) (n : ℕ) (new : IndexedText) (indexed : IsIndexedText o s) → n < 2 ^ 64 → ((some : s.version ≢ 0) → end ≡ (indexed_parts o s indexed some).rest) → IsSpliced s end n new → IsIndexedText (at_version o n) new
+spliced_again o s end n new indexed small ends h =
+    let at = indexed.cut h.cut in
+    subst (λ p. IsIndexedText p new) (status_kept o at.front at.middle at.cut n)
+    (spliced_indexed o s at.cut.status end n new indexed small at.cut.printable (status_proper o at.front at.middle at.cut) (ends h.cut) h)
 
 -- the text ends as one with that status exactly where the object has it
-ends_by : (b : Bool) (o : Object) (s : Sheet) (sheet : IsSheet o s) (some : s.version ≢ 0) (value : Option Data) → ArePrintableOrBad (status_tokens value) → IsProperStatus value
-    → bytes_eq (status_text (sheet.cut some).cut.status) (status_text value) ≡ b → b ≡ same_found (member_of (codes "status") o.body) value
-ends_by true o s sheet some value printable one is =
-    sym (ends_alike o s.version s.status (sheet.cut some) value (string_bytes s.text) sheet.text printable one ((bytes_eq-Decides (status_text (sheet.cut some).cut.status) (status_text value)).0 is))
-ends_by false o s sheet some value printable one is =
-    sym (ends_apart o s.version s.status (sheet.cut some) value (λ same. let both : true ≡ false = sym ((bytes_eq-Decides (status_text (sheet.cut some).cut.status) (status_text value)).1 same) ∙ is in absurd cc))
+ends_by : (b : Bool) (o : Object) (s : IndexedText) (indexed : IsIndexedText o s) (some : s.version ≢ 0) (value : Option Data) → ArePrintableOrBad (status_tokens value) → IsProperStatus value
+    → bytes_eq (status_text (indexed.cut some).cut.status) (status_text value) ≡ b → b ≡ same_found (member_of (codes "status") o.body) value
+ends_by true o s indexed some value printable one is =
+    sym (ends_alike o s.version s.status (indexed.cut some) value (string_bytes s.text) indexed.text printable one ((bytes_eq-Decides (status_text (indexed.cut some).cut.status) (status_text value)).0 is))
+ends_by false o s indexed some value printable one is =
+    sym (ends_apart o s.version s.status (indexed.cut some) value (λ same. let both : true ≡ false = sym ((bytes_eq-Decides (status_text (indexed.cut some).cut.status) (status_text value)).1 same) ∙ is in absurd cc))
 
-pub ends_same : (o : Object) (s : Sheet) (sheet : IsSheet o s) (some : s.version ≢ 0) (value : Option Data) (end : List ℕ) → ArePrintableOrBad (status_tokens value) → IsProperStatus value → end ≡ status_text value
-    → bytes_eq (sheet_parts o s sheet some).rest end ≡ same_found (member_of (codes "status") o.body) value
-ends_same o s sheet some value end printable one ends =
-    ap (bytes_eq (status_text (sheet.cut some).cut.status)) ends ∙ ends_by _ o s sheet some value printable one refl
+pub ends_same : (o : Object) (s : IndexedText) (indexed : IsIndexedText o s) (some : s.version ≢ 0) (value : Option Data) (end : List ℕ) → ArePrintableOrBad (status_tokens value) → IsProperStatus value → end ≡ status_text value
+    → bytes_eq (indexed_parts o s indexed some).rest end ≡ same_found (member_of (codes "status") o.body) value
+ends_same o s indexed some value end printable one ends =
+    ap (bytes_eq (status_text (indexed.cut some).cut.status)) ends ∙ ends_by _ o s indexed some value printable one refl
 
 pub end_is : (value : Option Data) (out items end : List ℕ) → end ≡ items → items ≡ out ++ status_text value → out ≡ [] → end ≡ status_text value
 end_is value out items end same is empty = same ∙ is ∙ ap (λ o. o ++ status_text value) empty

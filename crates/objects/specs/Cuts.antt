@@ -16,7 +16,7 @@ use Rattle.trees.specs.Members.{set_member}
 use Rattle.trees.specs.Places.{IsAbove}
 use Rattle.trees.specs.Proper.{AreProperMembers, IsProper}
 use Rattle.objects.specs.declared.object.Object.{Object}
-use Rattle.objects.specs.declared.printed.Sheet.{Sheet}
+use Rattle.objects.specs.declared.printed.IndexedText.{IndexedText}
 use Rattle.objects.specs.Object.{KeepsRules}
 use Rattle.objects.specs.Merged.{IsFront, StopsAt, after_version, entry_tokens}
 use Rattle.objects.specs.PrintedText.{IsTextOf}
@@ -136,8 +136,8 @@ pub record IsSpecAt (o : Object) (version status spec : ℕ) : Type 0 where
   pub size : spec ≡ length (spec_text (member_of (codes "spec") o.body))
   pub printable : ArePrintableOrBad (spec_tokens (member_of (codes "spec") o.body))
 
--- the sheet has what an update needs to know of the object
-pub record IsOpen (o : Object) (s : Sheet) : Type 0 where
+-- the indexed text has what an update needs to know of the object
+pub record IsOpen (o : Object) (s : IndexedText) : Type 0 where
   pub spec : IsSpecAt o s.version s.status s.spec
   pub generation : s.generation ≡ o.meta.generation
   pub unmarked : o.meta.deletion ≡ None
@@ -151,16 +151,16 @@ pub record AreParts (t : List ℕ) (revision version status : ℕ) : Type 0 wher
   pub version_at : version ≡ length front
   pub status_at : status ≡ length (front ++ (version_text revision ++ middle))
 
--- the sheet has the object's text and numbers, and can be cut where it says
-pub record IsSheet (o : Object) (s : Sheet) : Type 0 where
+-- the indexed text has the object's text and numbers, and can be cut where it says
+pub record IsIndexedText (o : Object) (s : IndexedText) : Type 0 where
   pub text : IsTextOf o (string_bytes s.text)
   pub uid : s.uid ≡ o.meta.uid
   pub revision : s.revision ≡ o.meta.revision
   pub cut : s.version ≢ 0 → IsCutAt o s.version s.status
   pub known : s.version ≢ 0 → s.generation ≢ 0 → IsOpen o s
 
--- the sheet has that version and that end
-pub record IsSpliced (old : Sheet) (end : List ℕ) (n : ℕ) (new : Sheet) : Type 0 where
+-- the indexed text has that version and that end
+pub record IsSpliced (old : IndexedText) (end : List ℕ) (n : ℕ) (new : IndexedText) : Type 0 where
   pub cut : old.version ≢ 0
   pub written : n ≢ 0
   pub uid : new.uid ≡ old.uid

@@ -2,11 +2,11 @@
 use Rattle.std.specs.Prelude.{◌≡◌, ◌≢◌, ℕ, List, string_bytes}
 use Rattle.std.specs.Str.{IsUtf8}
 use Rattle.objects.specs.declared.marks.Marks.{Marks}
-use Rattle.objects.specs.declared.printed.Sheet.{Sheet}
-use Rattle.objects.specs.Cuts.{IsSheet}
+use Rattle.objects.specs.declared.printed.IndexedText.{IndexedText}
+use Rattle.objects.specs.Cuts.{IsIndexedText}
 use Rattle.objects.specs.PrintedText.{object_of_text}
 
-pub record SameNumbers (m : Marks) (s : Sheet) : Type 0 where
+pub record SameNumbers (m : Marks) (s : IndexedText) : Type 0 where
   pub uid : m.uid ≡ s.uid
   pub revision : m.revision ≡ s.revision
   pub version : m.version ≡ s.version
@@ -14,10 +14,10 @@ pub record SameNumbers (m : Marks) (s : Sheet) : Type 0 where
   pub spec : m.spec ≡ s.spec
   pub generation : m.generation ≡ s.generation
 
--- the text is that of an object, and the marks are the numbers of its sheet or say nothing
+-- the text is that of an object, and the marks are the numbers of its indexed text or say nothing
 pub record AreMarks (t : List ℕ) (m : Marks) : Type 0 where
-  pub sheet : Sheet
-  pub is : IsSheet (object_of_text t) sheet
-  pub text : string_bytes sheet.text ≡ t
+  pub indexed : IndexedText
+  pub is : IsIndexedText (object_of_text t) indexed
+  pub text : string_bytes indexed.text ≡ t
   pub utf8 : IsUtf8 t
-  pub numbers : m.version ≢ 0 → SameNumbers m sheet
+  pub numbers : m.version ≢ 0 → SameNumbers m indexed

@@ -4,7 +4,7 @@ ghost use Rattle.objects.specs.Marks.{AreMarks, SameNumbers};
 ghost use Rattle.objects.specs.PrintedText.{object_of_text};
 ghost use Rattle.objects.specs.Text.{text};
 
-use crate::printed::{Printed, Printer, Sheet, object_in};
+use crate::printed::{IndexedText, Printed, Printer, object_in};
 use simdutf8::basic::from_utf8;
 use std::alloc::Global;
 use trees::{Memory, TreeReader};
@@ -27,8 +27,8 @@ impl Printed {
         ensures marks { AreMarks result.0.now result.1 }
         ensures object { object_of_text result.0.now ≡ self.now }
     {
-        let sheet = self.sheet();
-        (sheet.text.as_str().as_bytes(), marks_of(sheet))
+        let indexed = self.indexed();
+        (indexed.text.as_str().as_bytes(), marks_of(indexed))
     }
 
     /// The object of a text and its marks. It is not read back unless the marks are 0.
@@ -50,9 +50,9 @@ impl Printed {
             let object = object_in(alloc, text, reader)?;
             return printer.print(&object);
         }
-        Printed::of_sheet(
+        Printed::of_indexed(
             alloc,
-            Sheet {
+            IndexedText {
                 text: String::from_str(alloc, text)?,
                 uid: u64::from(marks.uid),
                 revision: u64::from(marks.revision),
@@ -65,11 +65,11 @@ impl Printed {
     }
 }
 
-/// The numbers of a sheet in fewer bits, or 0 where they do not fit.
-fn marks_of(sheet: &Sheet) -> Marks
-    ensures { result.version ≢ 0 → SameNumbers result sheet.now }
+/// The numbers of an indexed text in fewer bits, or 0 where they do not fit.
+fn marks_of(indexed: &IndexedText) -> Marks
+    ensures { result.version ≢ 0 → SameNumbers result indexed.now }
 {
-    match short_marks(sheet) {
+    match short_marks(indexed) {
         Some(marks) => marks,
         None => Marks {
             uid: 0,
@@ -82,16 +82,16 @@ fn marks_of(sheet: &Sheet) -> Marks
     }
 }
 
-/// The numbers of a sheet in fewer bits, if they fit.
-fn short_marks(sheet: &Sheet) -> Option<Marks>
-    ensures { IfSome result (λ marks. SameNumbers marks sheet.now) }
+/// The numbers of an indexed text in fewer bits, if they fit.
+fn short_marks(indexed: &IndexedText) -> Option<Marks>
+    ensures { IfSome result (λ marks. SameNumbers marks indexed.now) }
 {
     Some(Marks {
-        uid: u32::try_from(sheet.uid).ok()?,
-        revision: u32::try_from(sheet.revision).ok()?,
-        version: u16::try_from(sheet.version).ok()?,
-        status: u16::try_from(sheet.status).ok()?,
-        spec: u16::try_from(sheet.spec).ok()?,
-        generation: u16::try_from(sheet.generation).ok()?,
+        uid: u32::try_from(indexed.uid).ok()?,
+        revision: u32::try_from(indexed.revision).ok()?,
+        version: u16::try_from(indexed.version).ok()?,
+        status: u16::try_from(indexed.status).ok()?,
+        spec: u16::try_from(indexed.spec).ok()?,
+        generation: u16::try_from(indexed.generation).ok()?,
     })
 }

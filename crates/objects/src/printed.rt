@@ -2,7 +2,7 @@ ghost use Rattle.std.specs.Prelude.{◌≡◌, ◌≢◌, [], None, Some, IfOk, 
 ghost use Rattle.std.specs.Option.{IsSomeAnd};
 ghost use Rattle.std.specs.Str.{IsUtf8};
 ghost use Rattle.objects.specs.declared.object.Object.{Object as SpecObject};
-ghost use Rattle.objects.specs.Cuts.{IsCutAt, IsSheet, IsSpecAt};
+ghost use Rattle.objects.specs.Cuts.{IsCutAt, IsIndexedText, IsSpecAt};
 ghost use Rattle.objects.specs.PrintedText.{IsTextOf, object_of_text};
 ghost use Rattle.objects.specs.Text.{text};
 
@@ -20,12 +20,12 @@ use trees::{Memory, TreeReader};
 /// An object as its text, which a clause sees as the object. A copy shares the text.
 #[derive(Drop)]
 pub struct Printed {
-    sheet: Arc<Sheet>,
+    indexed: Arc<IndexedText>,
 }
 
 /// A text of an object, and what is known of the object without reading the text.
 #[derive(Drop)]
-pub(crate) struct Sheet {
+pub(crate) struct IndexedText {
     pub(crate) text: String,
     pub(crate) uid: u64,
     pub(crate) revision: u64,
@@ -40,7 +40,7 @@ pub(crate) struct Sheet {
 
 impl Model for Printed {
     ghost use Rattle.std.specs.Prelude.{string_bytes};
-    ghost use Rattle.objects.specs.Cuts.{IsSheet};
+    ghost use Rattle.objects.specs.Cuts.{IsIndexedText};
     ghost use Rattle.objects.specs.Object.{ObjectParts, object_coded};
     ghost use Rattle.objects.specs.PrintedText.{object_of_text};
 
@@ -48,9 +48,9 @@ impl Model for Printed {
 
     ghost coded = { object_coded };
 
-    ghost view = { λ p. object_of_text (string_bytes p.sheet.value.text) };
+    ghost view = { λ p. object_of_text (string_bytes p.indexed.value.text) };
 
-    ghost invariant = { λ p. IsSheet (object_of_text (string_bytes p.sheet.value.text)) p.sheet.value };
+    ghost invariant = { λ p. IsIndexedText (object_of_text (string_bytes p.indexed.value.text)) p.indexed.value };
 }
 
 impl Printed {
@@ -61,41 +61,41 @@ impl Printed {
         Printer::new(alloc).print(object)
     }
 
-    /// The object of a sheet.
-    pub(crate) fn of_sheet(alloc: Global, sheet: Sheet) -> Result<Printed, Memory>
-        requires { (o : SpecObject) × IsSheet o sheet }
-        ensures { (o : SpecObject) → IsSheet o sheet → IfOk result (λ printed. printed ≡ o) }
+    /// The object of an indexed text.
+    pub(crate) fn of_indexed(alloc: Global, indexed: IndexedText) -> Result<Printed, Memory>
+        requires { (o : SpecObject) × IsIndexedText o indexed }
+        ensures { (o : SpecObject) → IsIndexedText o indexed → IfOk result (λ printed. printed ≡ o) }
     {
         Ok(Printed {
-            sheet: Arc::new(alloc, sheet)?,
+            indexed: Arc::new(alloc, indexed)?,
         })
     }
 
-    pub(crate) fn sheet(&self) -> &Sheet
-        ensures { IsSheet self.now result.now }
+    pub(crate) fn indexed(&self) -> &IndexedText
+        ensures { IsIndexedText self.now result.now }
     {
-        &self.sheet
+        &self.indexed
     }
 
     /// The text of the object.
     pub fn as_str(&self) -> &str
         ensures { result.now ≡ text self.now }
     {
-        self.sheet.text.as_str()
+        self.indexed.text.as_str()
     }
 
     /// The number of the object's `uid`.
     pub fn uid(&self) -> u64
         ensures { result ≡ self.now.meta.uid }
     {
-        self.sheet.uid
+        self.indexed.uid
     }
 
     /// The number of the object's `resourceVersion`.
     pub fn revision(&self) -> u64
         ensures { result ≡ self.now.meta.revision }
     {
-        self.sheet.revision
+        self.indexed.revision
     }
 
     /// The object, read back from its text.
@@ -103,8 +103,8 @@ impl Printed {
         ensures { IfOk result (λ object. object ≡ self.now) }
     {
         object_in(
-            *self.sheet.text.allocator(),
-            self.sheet.text.as_str(),
+            *self.indexed.text.allocator(),
+            self.indexed.text.as_str(),
             reader,
         )
     }
@@ -133,7 +133,7 @@ impl Clone for Printed {
 
     fn clone(&self) -> Result<Printed, AllocError> {
         Ok(Printed {
-            sheet: Arc::try_clone(&self.sheet)?,
+            indexed: Arc::try_clone(&self.indexed)?,
         })
     }
 }
@@ -209,9 +209,9 @@ fn printed_as(
             let (version, status) = short_places(cut);
             let (spec, generation) = short_spec(object, cut);
             let text = String::from_str(alloc, text)?;
-            Printed::of_sheet(
+            Printed::of_indexed(
                 alloc,
-                Sheet {
+                IndexedText {
                     text,
                     uid,
                     revision,

@@ -3,14 +3,14 @@
 ghost use Rattle.std.specs.Prelude.{◌≡◌, ◌<◌, ◌^◌, None, codes, option_map, false, IfOk, IfSome};
 ghost use Rattle.trees.specs.Tree.{data_of};
 ghost use Rattle.objects.specs.declared.object.Object.{Object as SpecObject};
-ghost use Rattle.objects.specs.Cuts.{IsOpen, IsSheet, spec_text};
+ghost use Rattle.objects.specs.Cuts.{IsOpen, IsIndexedText, spec_text};
 ghost use Rattle.objects.specs.Rewrites.{generation_after, meta_after, replaced};
 ghost use Rattle.objects.specs.Status.{member_of, same_found};
 ghost use Rattle.trees.specs.Same.{same_data};
 
 use crate::meta::Meta;
 use crate::object::Object;
-use crate::printed::{Printed, Printer, Sheet};
+use crate::printed::{IndexedText, Printed, Printer};
 use crate::rewrite::{alloc_of, same_found};
 use crate::splice::{spliced, status_end};
 use std::alloc::AllocError;
@@ -102,47 +102,52 @@ impl Printed {
         ensures text { IfOk result (λ found. IfSome found (λ new. new ≡ replaced self.now object.old)) }
         ensures differs { IfOk result (λ found. IfSome found (λ new. self.now.key ≡ new.key → same_data self.now.body new.body ≡ false)) }
     {
-        let sheet = self.sheet();
+        let indexed = self.indexed();
         // 0 says that the text can't be cut, or that it is not known where its spec stands and what its generation is.
-        if sheet.version == 0 || sheet.generation == 0 {
+        if indexed.version == 0 || indexed.generation == 0 {
             return Ok(None);
         }
-        let Some(printed) = print_in_place(sheet, printer, object)? else {
+        let Some(printed) = print_in_place(indexed, printer, object)? else {
             return Ok(None);
         };
-        let spliced = spliced(printed.sheet(), printer, status_end(sheet), sheet.revision);
+        let spliced = spliced(
+            printed.indexed(),
+            printer,
+            status_end(indexed),
+            indexed.revision,
+        );
         drop(printed);
         let Some(new) = spliced? else {
             return Ok(None);
         };
-        if new.text.as_str() == sheet.text.as_str() {
+        if new.text.as_str() == indexed.text.as_str() {
             return Ok(None);
         }
-        Ok(Some(Printed::of_sheet(alloc_of(sheet), new)?))
+        Ok(Some(Printed::of_indexed(alloc_of(indexed), new)?))
     }
 }
 
-/// The object as it is once it has taken the place of the sheet's object, printed with its own status. None where the
+/// The object as it is once it has taken the place of the indexed text's object, printed with its own status. None where the
 /// place of the spec in the new text is not known.
 fn print_in_place(
-    sheet: &Sheet,
+    indexed: &IndexedText,
     printer: &mut Printer,
     object: &mut Object,
 ) -> Result<Option<Printed>, Memory>
-    requires { (o : SpecObject) × IsSheet o sheet.now × IsOpen o sheet.now }
+    requires { (o : SpecObject) × IsIndexedText o indexed.now × IsOpen o indexed.now }
     ensures key { object.new.key ≡ object.old.key }
     ensures body { object.new.body ≡ object.old.body }
-    ensures text { (o : SpecObject) → IsSheet o sheet.now → IsOpen o sheet.now
+    ensures text { (o : SpecObject) → IsIndexedText o indexed.now → IsOpen o indexed.now
         → IfOk result (λ found. IfSome found (λ printed. printed ≡ record { key = object.old.key; meta = meta_after o object.old; body = object.old.body })) }
 {
-    let generation = u64::from(sheet.generation);
+    let generation = u64::from(indexed.generation);
     let expected = printer.expects_same_spec();
     put_meta(
         object,
-        kept_meta(sheet, generation_after(generation, expected)),
+        kept_meta(indexed, generation_after(generation, expected)),
     );
     let printed = printer.print(object)?;
-    let Some(is_same) = has_same_spec(sheet, printed.sheet()) else {
+    let Some(is_same) = has_same_spec(indexed, printed.indexed()) else {
         drop(printed);
         return Ok(None);
     };
@@ -153,7 +158,7 @@ fn print_in_place(
     printer.expect_same_spec(is_same);
     put_meta(
         object,
-        kept_meta(sheet, generation_after(generation, is_same)),
+        kept_meta(indexed, generation_after(generation, is_same)),
     );
     Ok(Some(printer.print(object)?))
 }
@@ -165,26 +170,26 @@ fn put_meta(object: &mut Object, meta: Meta)
     object.meta = meta;
 }
 
-/// What stays of the meta of a sheet's object, with that generation.
-fn kept_meta(sheet: &Sheet, generation: u64) -> Meta
-    requires known { (o : SpecObject) × IsSheet o sheet.now × IsOpen o sheet.now }
+/// What stays of the meta of an indexed text's object, with that generation.
+fn kept_meta(indexed: &IndexedText, generation: u64) -> Meta
+    requires known { (o : SpecObject) × IsIndexedText o indexed.now × IsOpen o indexed.now }
     requires generation { generation < 2 ^ 63 }
-    ensures { (o : SpecObject) → IsSheet o sheet.now → IsOpen o sheet.now
+    ensures { (o : SpecObject) → IsIndexedText o indexed.now → IsOpen o indexed.now
         → result ≡ record { uid = o.meta.uid; revision = o.meta.revision; generation = generation; deletion = o.meta.deletion } }
 {
     Meta {
-        uid: sheet.uid,
-        revision: sheet.revision,
+        uid: indexed.uid,
+        revision: indexed.revision,
         generation,
         deletion: None,
     }
 }
 
 /// Whether both objects have the same spec. None where the place of the second one's spec is not known.
-fn has_same_spec(left: &Sheet, right: &Sheet) -> Option<bool>
-    requires left { (o : SpecObject) × IsSheet o left.now × IsOpen o left.now }
-    requires right { (p : SpecObject) × IsSheet p right.now }
-    ensures { (o : SpecObject) → (p : SpecObject) → IsSheet o left.now → IsOpen o left.now → IsSheet p right.now
+fn has_same_spec(left: &IndexedText, right: &IndexedText) -> Option<bool>
+    requires left { (o : SpecObject) × IsIndexedText o left.now × IsOpen o left.now }
+    requires right { (p : SpecObject) × IsIndexedText p right.now }
+    ensures { (o : SpecObject) → (p : SpecObject) → IsIndexedText o left.now → IsOpen o left.now → IsIndexedText p right.now
         → IfSome result (λ same. same ≡ same_found (member_of (codes "spec") o.body) (member_of (codes "spec") p.body)) }
 {
     if right.version == 0 || right.generation == 0 {
@@ -194,12 +199,12 @@ fn has_same_spec(left: &Sheet, right: &Sheet) -> Option<bool>
 }
 
 /// The bytes of the spec, with the comma before it.
-fn spec_bytes(sheet: &Sheet) -> &[u8]
-    requires { (o : SpecObject) × IsSheet o sheet.now × IsOpen o sheet.now }
-    ensures { (o : SpecObject) → IsSheet o sheet.now → IsOpen o sheet.now → result.now ≡ spec_text (member_of (codes "spec") o.body) }
+fn spec_bytes(indexed: &IndexedText) -> &[u8]
+    requires { (o : SpecObject) × IsIndexedText o indexed.now × IsOpen o indexed.now }
+    ensures { (o : SpecObject) → IsIndexedText o indexed.now → IsOpen o indexed.now → result.now ≡ spec_text (member_of (codes "spec") o.body) }
 {
-    let status = sheet.status as usize;
-    &sheet.text.as_str().as_bytes()[status - sheet.spec as usize..status]
+    let status = indexed.status as usize;
+    &indexed.text.as_str().as_bytes()[status - indexed.spec as usize..status]
 }
 
 /// What stays of the current object once an update has put this one in its place: what the store knows of it, and its

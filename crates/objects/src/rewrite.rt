@@ -6,7 +6,7 @@ ghost use Rattle.objects.specs.Status.{member_of, same_found};
 
 use crate::meta::Meta;
 use crate::object::Object;
-use crate::printed::{Printed, Printer, Sheet};
+use crate::printed::{IndexedText, Printed, Printer};
 use crate::splice::{ends_so, spliced, status_end, write_end};
 use std::alloc::Global;
 use trees::{Memory, Tree, TreeReader};
@@ -70,11 +70,11 @@ impl Printed {
         ensures { IfOk result (λ found. IfSome found (λ printed. printed
             ≡ at_version (with_status (option_map (λ t. data_of t.now) status.entry) self.now) revision)) }
     {
-        let sheet = self.sheet();
-        let end = write_end(status, Vec::with_capacity(alloc_of(sheet), END_ROOM)?)?;
-        let spliced = spliced(sheet, printer, &end, revision)?;
+        let indexed = self.indexed();
+        let end = write_end(status, Vec::with_capacity(alloc_of(indexed), END_ROOM)?)?;
+        let spliced = spliced(indexed, printer, &end, revision)?;
         match spliced {
-            Some(new) => Ok(Some(Printed::of_sheet(alloc_of(sheet), new)?)),
+            Some(new) => Ok(Some(Printed::of_indexed(alloc_of(indexed), new)?)),
             None => Ok(None),
         }
     }
@@ -87,10 +87,10 @@ impl Printed {
     ) -> Result<Option<Printed>, Memory>
         ensures { IfOk result (λ found. IfSome found (λ printed. printed ≡ at_version self.now revision)) }
     {
-        let sheet = self.sheet();
-        let spliced = spliced(sheet, printer, status_end(sheet), revision)?;
+        let indexed = self.indexed();
+        let spliced = spliced(indexed, printer, status_end(indexed), revision)?;
         match spliced {
-            Some(new) => Ok(Some(Printed::of_sheet(alloc_of(sheet), new)?)),
+            Some(new) => Ok(Some(Printed::of_indexed(alloc_of(indexed), new)?)),
             None => Ok(None),
         }
     }
@@ -112,14 +112,14 @@ impl Printed {
         ensures { IfOk result (λ found. IfSome found (λ same. same
             ≡ same_found (member_of (codes "status") self.now.body) (option_map (λ t. data_of t.now) status.entry))) }
     {
-        let sheet = self.sheet();
-        let end = write_end(status, Vec::with_capacity(alloc_of(sheet), END_ROOM)?)?;
-        Ok(ends_so(sheet, &end))
+        let indexed = self.indexed();
+        let end = write_end(status, Vec::with_capacity(alloc_of(indexed), END_ROOM)?)?;
+        Ok(ends_so(indexed, &end))
     }
 }
 
-pub(crate) fn alloc_of(sheet: &Sheet) -> Global {
-    *sheet.text.allocator()
+pub(crate) fn alloc_of(indexed: &IndexedText) -> Global {
+    *indexed.text.allocator()
 }
 
 fn at_version(object: Object, revision: u64) -> Object

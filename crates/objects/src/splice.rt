@@ -5,7 +5,7 @@ ghost use Rattle.trees.specs.Tree.{data_of};
 ghost use Rattle.objects.specs.Cuts.{AreParts, IsProperStatus, IsSpliced, status_text, status_tokens, version_text};
 
 use crate::cut::Cut;
-use crate::printed::{Printer, Sheet, short_places};
+use crate::printed::{IndexedText, Printer, short_places};
 use json::Writer;
 use simdutf8::basic::from_utf8;
 use std::alloc::{AllocError, Global};
@@ -13,50 +13,50 @@ use trees::{Memory, Tree, write_tree};
 
 /// The text with another resource version and another end, from its status on, if it can be cut.
 pub(crate) fn spliced(
-    sheet: &Sheet,
+    indexed: &IndexedText,
     printer: &mut Printer,
     end: &[u8],
     revision: u64,
-) -> Result<Option<Sheet>, Memory>
-    requires { sheet.now.version ≢ 0 → AreParts (string_bytes sheet.now.text) sheet.now.revision sheet.now.version sheet.now.status }
-    ensures { IfOk result (λ found. IfSome found (λ new. IsSpliced sheet.now end.now revision new)) }
+) -> Result<Option<IndexedText>, Memory>
+    requires { indexed.now.version ≢ 0 → AreParts (string_bytes indexed.now.text) indexed.now.revision indexed.now.version indexed.now.status }
+    ensures { IfOk result (λ found. IfSome found (λ new. IsSpliced indexed.now end.now revision new)) }
 {
     // 0 says that the text can't be cut, or that there is no resource version.
-    if sheet.version == 0 || revision == 0 {
+    if indexed.version == 0 || revision == 0 {
         return Ok(None);
     }
     let cut = Cut {
-        version: sheet.version as usize,
-        status: sheet.status as usize,
+        version: indexed.version as usize,
+        status: indexed.status as usize,
         spec: None,
     };
-    let text = sheet.text.as_str().as_bytes();
-    let (bytes, status) = splice(text, cut, sheet.revision, revision, end, printer.lent())?;
+    let text = indexed.text.as_str().as_bytes();
+    let (bytes, status) = splice(text, cut, indexed.revision, revision, end, printer.lent())?;
     let places = short_places(Some(Cut {
         version: cut.version,
         status,
         spec: None,
     }));
-    let new = sheet_of(sheet, &bytes, revision, places);
+    let new = indexed_of(indexed, &bytes, revision, places);
     printer.keep(bytes);
     new
 }
 
-// The sheet of these bytes, if they are a text, which has the UID, the spec and the generation of the old one.
-fn sheet_of(
-    old: &Sheet,
+// The indexed text of these bytes, if they are a text, which has the UID, the spec and the generation of the old one.
+fn indexed_of(
+    old: &IndexedText,
     bytes: &[u8],
     revision: u64,
     places: (u32, u32),
-) -> Result<Option<Sheet>, Memory>
-    ensures { IfOk result (λ found. IfSome found (λ sheet. (string_bytes sheet.text ≡ bytes.now) × (sheet.uid ≡ old.now.uid) × (sheet.revision ≡ revision)
-        × (sheet.version ≡ places.0) × (sheet.status ≡ places.1) × (sheet.spec ≡ old.now.spec) × (sheet.generation ≡ old.now.generation))) }
+) -> Result<Option<IndexedText>, Memory>
+    ensures { IfOk result (λ found. IfSome found (λ indexed. (string_bytes indexed.text ≡ bytes.now) × (indexed.uid ≡ old.now.uid) × (indexed.revision ≡ revision)
+        × (indexed.version ≡ places.0) × (indexed.status ≡ places.1) × (indexed.spec ≡ old.now.spec) × (indexed.generation ≡ old.now.generation))) }
 {
     let Ok(text) = from_utf8(bytes) else {
         return Ok(None);
     };
     let (version, status) = places;
-    Ok(Some(Sheet {
+    Ok(Some(IndexedText {
         text: String::from_str(*old.text.allocator(), text)?,
         uid: old.uid,
         revision,
@@ -68,27 +68,27 @@ fn sheet_of(
 }
 
 /// The text from its status on, if it can be cut.
-pub(crate) fn status_end(sheet: &Sheet) -> &[u8]
-    requires { sheet.now.version ≢ 0 → AreParts (string_bytes sheet.now.text) sheet.now.revision sheet.now.version sheet.now.status }
-    ensures { sheet.now.version ≢ 0
-        → (parts : AreParts (string_bytes sheet.now.text) sheet.now.revision sheet.now.version sheet.now.status) → result.now ≡ parts.rest }
+pub(crate) fn status_end(indexed: &IndexedText) -> &[u8]
+    requires { indexed.now.version ≢ 0 → AreParts (string_bytes indexed.now.text) indexed.now.revision indexed.now.version indexed.now.status }
+    ensures { indexed.now.version ≢ 0
+        → (parts : AreParts (string_bytes indexed.now.text) indexed.now.revision indexed.now.version indexed.now.status) → result.now ≡ parts.rest }
 {
-    if sheet.version == 0 {
+    if indexed.version == 0 {
         return &[];
     }
-    &sheet.text.as_str().as_bytes()[sheet.status as usize..]
+    &indexed.text.as_str().as_bytes()[indexed.status as usize..]
 }
 
 /// Whether the text ends so from its status on, if it can be cut.
-pub(crate) fn ends_so(sheet: &Sheet, end: &[u8]) -> Option<bool>
-    requires { sheet.now.version ≢ 0 → AreParts (string_bytes sheet.now.text) sheet.now.revision sheet.now.version sheet.now.status }
-    ensures { IfSome result (λ same. (sheet.now.version ≢ 0)
-        × ((parts : AreParts (string_bytes sheet.now.text) sheet.now.revision sheet.now.version sheet.now.status) → same ≡ bytes_eq parts.rest end.now)) }
+pub(crate) fn ends_so(indexed: &IndexedText, end: &[u8]) -> Option<bool>
+    requires { indexed.now.version ≢ 0 → AreParts (string_bytes indexed.now.text) indexed.now.revision indexed.now.version indexed.now.status }
+    ensures { IfSome result (λ same. (indexed.now.version ≢ 0)
+        × ((parts : AreParts (string_bytes indexed.now.text) indexed.now.revision indexed.now.version indexed.now.status) → same ≡ bytes_eq parts.rest end.now)) }
 {
-    if sheet.version == 0 {
+    if indexed.version == 0 {
         return None;
     }
-    Some(status_end(sheet) == end)
+    Some(status_end(indexed) == end)
 }
 
 // Writes the text with another resource version and another end, from its status on, and answers where that is.

@@ -16,8 +16,8 @@ spec_there o None places size h is found = absurd is
 spec_there o (Some cut) places size h is found =
     subst (λ v. IsSpecAt o v places.1 size) (sym is.0) (subst (λ s. IsSpecAt o cut.version s size) (sym is.1) (subst (λ f. IfSome f (IsSpecAt o cut.version cut.status)) found h))
 
-pub of_sheet-requires : goal.of_sheet-requires
-of_sheet-requires c = (
+pub of_indexed-requires : goal.of_indexed-requires
+of_indexed-requires c = (
   c.args.object.now,
   record {
     text = subst (IsTextOf c.args.object.now) (sym (c.in_ok-text-in-Ok.ensures.ok ∙ c.in-Ok.ensures.0)) c.requires.text;
@@ -33,7 +33,7 @@ of_sheet-requires c = (
 )
 
 pub returns : goal.returns
-returns c = c.of_sheet.ensures c.args.object.now (record {
+returns c = c.of_indexed.ensures c.args.object.now (record {
   text = subst (IsTextOf c.args.object.now) (sym (c.in_ok-text-in-Ok.ensures.ok ∙ c.in-Ok.ensures.0)) c.requires.text;
   uid = ap (λ (p : ℕ × ℕ). p.0) c.numbers_of-uid.ensures;
   revision = ap (λ (p : ℕ × ℕ). p.1) c.numbers_of-uid.ensures;

@@ -3,16 +3,16 @@ use Rattle.objects.proofs.replace.kept_meta.Goals as goal
 
 pub invariant_of-result : goal.invariant_of-result
 invariant_of-result c =
-    let sheet = c.requires.known.1 in
+    let indexed = c.requires.known.1 in
     let rules = c.requires.known.2.spec.at.cut.rules.meta in
     record {
-      uid = subst (λ n. n < 2 ^ 48) (sym sheet.uid) rules.uid;
-      revision = subst (λ n. n < 2 ^ 64) (sym sheet.revision) rules.revision;
+      uid = subst (λ n. n < 2 ^ 48) (sym indexed.uid) rules.uid;
+      revision = subst (λ n. n < 2 ^ 64) (sym indexed.revision) rules.revision;
       generation = c.requires.generation;
     }
 
 pub returns : goal.returns
-returns c = λ o sheet known.
-    ap (λ (n : ℕ). record { uid = n; revision = c.args.sheet.now.revision; generation = c.args.generation; deletion = None }) sheet.uid
-    ∙ ap (λ (n : ℕ). record { uid = o.meta.uid; revision = n; generation = c.args.generation; deletion = None }) sheet.revision
+returns c = λ o indexed known.
+    ap (λ (n : ℕ). record { uid = n; revision = c.args.indexed.now.revision; generation = c.args.generation; deletion = None }) indexed.uid
+    ∙ ap (λ (n : ℕ). record { uid = o.meta.uid; revision = n; generation = c.args.generation; deletion = None }) indexed.revision
     ∙ ap (λ (d : Option (List ℕ)). record { uid = o.meta.uid; revision = o.meta.revision; generation = c.args.generation; deletion = d }) (sym known.unmarked)

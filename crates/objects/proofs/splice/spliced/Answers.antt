@@ -5,8 +5,8 @@ use Rattle.objects.proofs.splice.spliced.Goals as goal
 
 pub returns : goal.returns
 returns c =
-    if_found _ (λ new. IsSpliced c.args.sheet.now c.args.end.now c.args.revision new) c.sheet_of-new.result (λ new h. record {
-      cut = c.if-sheet-eq0.false;
+    if_found _ (λ new. IsSpliced c.args.indexed.now c.args.end.now c.args.revision new) c.indexed_of-new.result (λ new h. record {
+      cut = c.if-indexed-eq0.false;
       written = c.if-revision-eq0.false;
       uid = h.1;
       revision = h.2;
@@ -16,4 +16,4 @@ returns c =
       places = λ parts some.
           let there = c.short_places-places.ensures (λ none. some (h.3 ∙ none)) in
           (h.3 ∙ there.0 ∙ parts.version_at, h.4 ∙ there.1 ∙ c.in_ok-bytes.ensures.status (parts_as _ _ _ _ _ (c.as_bytes-text.ensures.value ∙ c.as_str.ensures.value) parts));
-    }) c.sheet_of-new.ensures
+    }) c.indexed_of-new.ensures

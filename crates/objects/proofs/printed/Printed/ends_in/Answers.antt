@@ -1,13 +1,13 @@
 use Rattle.std.proofs.Common.{◌≡◌, ◌∙◌}
-use Rattle.objects.proofs.SplicedTexts.{end_is, ends_same, if_told, sheet_parts}
+use Rattle.objects.proofs.SplicedTexts.{end_is, ends_same, if_told, indexed_parts}
 use Rattle.objects.proofs.printed.Printed.ends_in.Goals as goal
 
 pub ends_so-requires : goal.ends_so-requires
-ends_so-requires c = sheet_parts c.args.self.now c.sheet-sheet.result.now c.sheet-sheet.ensures
+ends_so-requires c = indexed_parts c.args.self.now c.indexed-indexed.result.now c.indexed-indexed.ensures
 
 pub returns : goal.returns
 returns c =
     if_told _ (λ same. same ≡ _) c.ends_so.result (λ same h.
-    h.1 (sheet_parts c.args.self.now c.sheet-sheet.result.now c.sheet-sheet.ensures h.0)
-    ∙ ends_same c.args.self.now c.sheet-sheet.result.now c.sheet-sheet.ensures h.0 _ _ c.in_ok-end.ensures.printable c.in_ok-end.ensures.proper
+    h.1 (indexed_parts c.args.self.now c.indexed-indexed.result.now c.indexed-indexed.ensures h.0)
+    ∙ ends_same c.args.self.now c.indexed-indexed.result.now c.indexed-indexed.ensures h.0 _ _ c.in_ok-end.ensures.printable c.in_ok-end.ensures.proper
     (end_is _ _ _ _ c.deref.ensures.value c.in_ok-end.ensures.bytes c.in_ok-with_capacity.ensures.items)) c.ends_so.ensures
