@@ -108,7 +108,7 @@ exact_by false n is small =
 -- ---- the requests
 
 draft_read : (d : Draft) → IsOfItsObject d → draft_of (printed d.object) ≡ Ok d
-draft_read d h = draft_again d.object h.rules.body h.rules.key h.rules.meta h.proper ∙ ap Ok (sym h.again)
+draft_read d h = draft_again d.object h.rules.body h.rules.key h.rules.meta h.canonical ∙ ap Ok (sym h.again)
 
 abbrev object_members : List ℕ → Data → Members
 object_members name o = member (codes "do") (string name) (member (codes "object") o no_members)

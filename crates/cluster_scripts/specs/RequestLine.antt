@@ -4,7 +4,7 @@ use Rattle.std.specs.Prelude.{◌≡◌, ◌<◌, ◌^◌, ℕ, List, [], ◌∷
 use Rattle.json.specs.Token as token
 use Rattle.json.specs.Token.{Token}
 use Rattle.serde_json.specs.Data.{Data, string, object, Members, no_members, member}
-use Rattle.trees.specs.Proper.{IsProper}
+use Rattle.trees.specs.Canonical.{IsCanonical}
 use Rattle.objects.specs.declared.kind.Kind.{Kind}
 use Rattle.objects.specs.declared.object.Draft.{Draft}
 use Rattle.objects.specs.declared.object.Object.{Object}
@@ -68,7 +68,7 @@ request_data (request.Compact to) = compaction_data to
 pub record IsOfItsObject (d : Draft) : Type 0 where
   pub again : d ≡ draft_again_of d.object
   pub rules : KeepsRules d.object
-  pub proper : IsProper d.object.body
+  pub canonical : IsCanonical d.object.body
 
 -- an empty text counts as none
 abbrev pub IsGiven : Option (List ℕ) → Type 0

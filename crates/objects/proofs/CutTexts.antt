@@ -23,7 +23,7 @@ use Rattle.serde_json.proofs.Texts.{print-outline}
 use Rattle.trees.specs.declared.tree.Tree.{Tree}
 use Rattle.trees.specs.Tree.{data_of, members_of}
 use Rattle.trees.specs.Members.{set_member}
-use Rattle.trees.specs.Proper.{IsProper}
+use Rattle.trees.specs.Canonical.{IsCanonical}
 use Rattle.trees.proofs.Joining.{join_members}
 use Rattle.objects.specs.declared.object.Object.{Object}
 use Rattle.objects.specs.Object.{KeepsRules}
@@ -290,9 +290,9 @@ twin_parts o versioned after mid h head n value some below =
     ∙ ap (λ ts. keyed h ++ string_token (decimal n) ∷ ts) (sym (append_assoc (after_version o versioned) (entry_tokens mid) (status_tokens value)))
 
 pub cut_of : (o : Object) (versioned after tail : List (List ℕ × Tree)) (h m : List Token) (head : WritesHead o versioned after [] h) (middle : WritesMiddle o versioned after tail [] m) → o.meta.revision ≢ 0
-    → IsStatusAlone tail → ArePrintableOrBad (keyed h) → ArePrintableOrBad m → ArePrintableOrBad (tail_tokens tail) → KeepsRules o → IsProper o.body
+    → IsStatusAlone tail → ArePrintableOrBad (keyed h) → ArePrintableOrBad m → ArePrintableOrBad (tail_tokens tail) → KeepsRules o → IsCanonical o.body
     → IsCut o (print (keyed h)) (print_from true (between o versioned (take middle.count after)))
-cut_of o versioned after tail h m head middle written last a b c rules proper =
+cut_of o versioned after tail h m head middle written last a b c rules canonical =
     let mid = take middle.count after in
     let others = members_of (head.first ++ head.entry ∷ mid) in
     let status = status_in tail in
@@ -316,7 +316,7 @@ cut_of o versioned after tail h m head middle written last a b c rules proper =
           (printable_parts (keyed h) (between o versioned mid) (status_tokens value) (decimal n) a (printable_between o versioned after tail m middle b) printable));
       printable = subst ArePrintableOrBad (ap (λ ms. members_tokens (members_outline ms)) (tail_is tail last) ∙ status_tokens_are status) c;
       rules = rules;
-      proper = proper;
+      canonical = canonical;
       written = written;
     }
 
@@ -367,13 +367,13 @@ whole_utf8 first before front second before_second bytes last whole empty is sam
 
 abbrev pub cut_at : (o : Object) (versioned after tail : List (List ℕ × Tree)) (h m : List Token) (head : WritesHead o versioned after [] h) (middle : WritesMiddle o versioned after tail [] m) (front bytes : List ℕ) (version status : ℕ) → o.meta.revision ≢ 0
     → front ≡ print (keyed h) → bytes ≡ front ++ (quoted (decimal o.meta.revision) ++ print_from true (between o versioned (take middle.count after)))
-    → version ≡ length front → status ≡ length bytes → ArePrintableOrBad (keyed h) → ArePrintableOrBad m → ArePrintableOrBad (tail_tokens tail) → KeepsRules o → IsProper o.body → IsStatusAlone tail → IsCutAt o version status
-cut_at o versioned after tail h m head middle front bytes version status written first second version_is status_is a b c rules proper last =
+    → version ≡ length front → status ≡ length bytes → ArePrintableOrBad (keyed h) → ArePrintableOrBad m → ArePrintableOrBad (tail_tokens tail) → KeepsRules o → IsCanonical o.body → IsStatusAlone tail → IsCutAt o version status
+cut_at o versioned after tail h m head middle front bytes version status written first second version_is status_is a b c rules canonical last =
     let between_bytes = print_from true (between o versioned (take middle.count after)) in
     record {
       front = print (keyed h);
       middle = between_bytes;
-      cut = cut_of o versioned after tail h m head middle written last a b c rules proper;
+      cut = cut_of o versioned after tail h m head middle written last a b c rules canonical;
       version_at = version_is ∙ ap length first;
       status_at = status_is ∙ ap length (second ∙ ap (λ f. f ++ (quoted (decimal o.meta.revision) ++ between_bytes)) first
           ∙ ap (λ (e : List ℕ). print (keyed h) ++ ((34 ∷ (e ++ 34 ∷ [])) ++ between_bytes)) (plain_decimal o.meta.revision rules.meta.revision));

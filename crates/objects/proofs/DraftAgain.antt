@@ -19,7 +19,7 @@ use Rattle.objects.specs.Meta.{MetaParts, IsMeta}
 use Rattle.objects.specs.MetadataShape.{labels_fit, owners_fit, metadata_fits}
 use Rattle.objects.specs.Object.{IsBody, is_missing_or, without_held}
 use Rattle.trees.specs.Tree.{AreAscending}
-use Rattle.trees.specs.Proper.{IsProper}
+use Rattle.trees.specs.Canonical.{IsCanonical}
 use Rattle.objects.specs.Reading.{kind_in, namespace_in, key_of, stated_in, draft_in, draft_of, draft_parts, Stated, stated, meta_of, optional_text, unless_empty, generation_of}
 use Rattle.objects.specs.Text.{unless_zero, whole_metadata, printed}
 use Rattle.objects.specs.Uid.{uid_text, uid_number, version_number}
@@ -27,7 +27,7 @@ use Rattle.objects.specs.Again.{text_unless_zero, draft_again_of}
 use Rattle.trees.proofs.PutOrder.{apart, put_back}
 use Rattle.objects.proofs.HeldMembers.{whole_without, whole_name, whole_namespace, whole_uid, whole_version, whole_generation, whole_deletion, whole_unheld}
 use Rattle.objects.proofs.UidRound.{version_number-decimal, uid_number-uid_text, length-decimal, length-uid}
-use Rattle.objects.proofs.PrintedObjects.{printed_members, printed_is, body_proper}
+use Rattle.objects.proofs.PrintedObjects.{printed_members, printed_is, body_canonical}
 
 pub kind_named-kind_name : (k : Kind) → kind_named (kind_name k) ≡ Some k
 kind_named-kind_name StatefulSet = refl
@@ -159,6 +159,6 @@ members_again o b right meta ascending =
     ∙ (λ i. Ok (draft_from o (meta_again o meta i) (body_again o b ascending i)))
 
 -- an object that is printed reads back as itself, with the texts of its UID and its resource version
-pub draft_again : (o : Object) → IsBody o.key.kind o.body → is_key o.key ≡ true → IsMeta o.meta → IsProper o.body → draft_of (printed o) ≡ Ok (draft_again_of o)
+pub draft_again : (o : Object) → IsBody o.key.kind o.body → is_key o.key ≡ true → IsMeta o.meta → IsCanonical o.body → draft_of (printed o) ≡ Ok (draft_again_of o)
 unfolding draft_of
-draft_again o b right meta proper = ap draft_of (printed_is o.key.kind o b) ∙ members_again o b right meta (body_proper o b proper).0
+draft_again o b right meta canonical = ap draft_of (printed_is o.key.kind o b) ∙ members_again o b right meta (body_canonical o b canonical).0

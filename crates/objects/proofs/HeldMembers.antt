@@ -14,11 +14,11 @@ use Rattle.objects.specs.declared.object.Object.{Object}
 use Rattle.objects.specs.Meta.{IsMeta}
 use Rattle.objects.specs.Object.{is_held, without_held, has_held}
 use Rattle.trees.specs.Tree.{ComesBefore, AreAscending}
-use Rattle.trees.specs.Proper.{IsProper, AreProperMembers}
+use Rattle.trees.specs.Canonical.{IsCanonical, AreCanonicalMembers}
 use Rattle.objects.specs.Text.{put_some, unless_zero, whole_metadata}
 use Rattle.objects.specs.Uid.{uid_text}
 use Rattle.trees.proofs.EntryPlaces.{ascending_put}
-use Rattle.trees.proofs.PutOrder.{apart, before_next, equal_texts, proper_put}
+use Rattle.trees.proofs.PutOrder.{apart, before_next, equal_texts, canonical_put}
 
 without_put_at : (o : Ordering) (k l : List ℕ) (d e : Data) (ms : Members) → slice_cmp nat_cmp k l ≡ o → is_held k ≡ true → without_held (put k d ms) ≡ without_held ms
     → without_held (match_ordering o (member k d (member l e ms)) (member l d ms) (member l e (put k d ms))) ≡ without_held (member l e ms)
@@ -96,13 +96,13 @@ ascending_put_some : (k : List ℕ) (o : Option Data) (ms : Members) → AreAsce
 ascending_put_some k None ms h = h
 ascending_put_some k (Some d) ms h = ascending_put k d ms h
 
-abbrev IsProperIfThere : Option Data → Type 0
-IsProperIfThere None = ⊤
-IsProperIfThere (Some d) = IsProper d
+abbrev IsCanonicalIfThere : Option Data → Type 0
+IsCanonicalIfThere None = ⊤
+IsCanonicalIfThere (Some d) = IsCanonical d
 
-proper_put_some : (k : List ℕ) (o : Option Data) (ms : Members) → IsProperIfThere o → AreProperMembers ms → AreProperMembers (put_some k o ms)
-proper_put_some k None ms proper h = h
-proper_put_some k (Some d) ms proper h = proper_put k d ms proper h
+canonical_put_some : (k : List ℕ) (o : Option Data) (ms : Members) → IsCanonicalIfThere o → AreCanonicalMembers ms → AreCanonicalMembers (put_some k o ms)
+canonical_put_some k None ms canonical h = h
+canonical_put_some k (Some d) ms canonical h = canonical_put k d ms canonical h
 
 found_put_some : (k : List ℕ) (o : Option Data) (ms : Members) → get_member k ms ≡ None → get_member k (put_some k o ms) ≡ o
 found_put_some k None ms missing = missing
@@ -112,13 +112,13 @@ other_put_some : (q k : List ℕ) (o : Option Data) (ms : Members) → (q ≡ k 
 other_put_some q k None ms other = refl
 other_put_some q k (Some d) ms other = get_member-put_other q k d ms other
 
-proper_unless_at : (zero : Bool) (d : Data) → IsProper d → IsProperIfThere (cond zero None (Some d))
-proper_unless_at true d h = tt
-proper_unless_at false d h = h
+canonical_unless_at : (zero : Bool) (d : Data) → IsCanonical d → IsCanonicalIfThere (cond zero None (Some d))
+canonical_unless_at true d h = tt
+canonical_unless_at false d h = h
 
-proper_text : (o : Option (List ℕ)) → IsProperIfThere (option_map string o)
-proper_text None = tt
-proper_text (Some s) = tt
+canonical_text : (o : Option (List ℕ)) → IsCanonicalIfThere (option_map string o)
+canonical_text None = tt
+canonical_text (Some s) = tt
 
 -- ---- the six
 
@@ -154,14 +154,14 @@ module _ (t g : Option Data) (name namespace : Data) (v u : Option Data) (mm : M
       (ascending_put_some (codes "resourceVersion") v (with_uid u mm)
       (ascending_put_some (codes "uid") u mm h)))))
 
-  proper_all : IsProperIfThere t → IsProperIfThere g → IsProper name → IsProper namespace → IsProperIfThere v → IsProperIfThere u → AreProperMembers mm → AreProperMembers (with_all t g name namespace v u mm)
-  proper_all pt pg pn ps pv pu h =
-      proper_put_some (codes "deletionTimestamp") t (put_some (codes "generation") g (with_key name namespace (with_version v u mm))) pt
-      (proper_put_some (codes "generation") g (with_key name namespace (with_version v u mm)) pg
-      (proper_put (codes "name") name (put (codes "namespace") namespace (with_version v u mm)) pn
-      (proper_put (codes "namespace") namespace (with_version v u mm) ps
-      (proper_put_some (codes "resourceVersion") v (with_uid u mm) pv
-      (proper_put_some (codes "uid") u mm pu h)))))
+  canonical_all : IsCanonicalIfThere t → IsCanonicalIfThere g → IsCanonical name → IsCanonical namespace → IsCanonicalIfThere v → IsCanonicalIfThere u → AreCanonicalMembers mm → AreCanonicalMembers (with_all t g name namespace v u mm)
+  canonical_all pt pg pn ps pv pu h =
+      canonical_put_some (codes "deletionTimestamp") t (put_some (codes "generation") g (with_key name namespace (with_version v u mm))) pt
+      (canonical_put_some (codes "generation") g (with_key name namespace (with_version v u mm)) pg
+      (canonical_put (codes "name") name (put (codes "namespace") namespace (with_version v u mm)) pn
+      (canonical_put (codes "namespace") namespace (with_version v u mm) ps
+      (canonical_put_some (codes "resourceVersion") v (with_uid u mm) pv
+      (canonical_put_some (codes "uid") u mm pu h)))))
 
   -- past the members put last
   past_last : (q : List ℕ) → (q ≡ codes "deletionTimestamp" → ⊥) → (q ≡ codes "generation" → ⊥) → get_member q (with_all t g name namespace v u mm) ≡ get_member q (with_key name namespace (with_version v u mm))
@@ -243,12 +243,12 @@ whole_unheld q o mm other none = sym (unheld_found q (whole_metadata o mm) other
 pub whole_ascending : (o : Object) (mm : Members) → AreAscending mm → AreAscending (whole_metadata o mm)
 whole_ascending o mm h = ascending_all (deletion_put o) (generation_put o) (string o.key.name) (string o.key.namespace) (version_put o) (uid_put o) mm h
 
-pub whole_proper : (o : Object) (mm : Members) → IsMeta o.meta → AreProperMembers mm → AreProperMembers (whole_metadata o mm)
-whole_proper o mm meta h =
+pub whole_canonical : (o : Object) (mm : Members) → IsMeta o.meta → AreCanonicalMembers mm → AreCanonicalMembers (whole_metadata o mm)
+whole_canonical o mm meta h =
     let small : o.meta.generation < 2 ^ 64 = omega (arith, meta.generation) in
-    proper_all (deletion_put o) (generation_put o) (string o.key.name) (string o.key.namespace) (version_put o) (uid_put o) mm
-    (proper_text o.meta.deletion) (proper_unless_at (o.meta.generation == 0) (number (unsigned o.meta.generation)) (number_of-decimal o.meta.generation small)) tt tt
-    (proper_unless_at (o.meta.revision == 0) (string (decimal o.meta.revision)) tt) (proper_unless_at (o.meta.uid == 0) (string (uid_text o.meta.uid)) tt) h
+    canonical_all (deletion_put o) (generation_put o) (string o.key.name) (string o.key.namespace) (version_put o) (uid_put o) mm
+    (canonical_text o.meta.deletion) (canonical_unless_at (o.meta.generation == 0) (number (unsigned o.meta.generation)) (number_of-decimal o.meta.generation small)) tt tt
+    (canonical_unless_at (o.meta.revision == 0) (string (decimal o.meta.revision)) tt) (canonical_unless_at (o.meta.uid == 0) (string (uid_text o.meta.uid)) tt) h
 
 pub whole_name : (o : Object) (mm : Members) → get_member (codes "name") (whole_metadata o mm) ≡ Some (string o.key.name)
 whole_name o mm = all_name (deletion_put o) (generation_put o) (string o.key.name) (string o.key.namespace) (version_put o) (uid_put o) mm

@@ -16,7 +16,7 @@ use Rattle.trees.specs.Tree.{data_of, members_of, ComesBefore}
 use Rattle.objects.specs.Object.{is_held, has_held}
 use Rattle.objects.specs.Text.{put_some}
 use Rattle.trees.specs.Places.{IsAbove}
-use Rattle.trees.specs.Proper.{IsProper, AreProperMembers}
+use Rattle.trees.specs.Canonical.{IsCanonical, AreCanonicalMembers}
 use Rattle.objects.specs.Merged.{puts, IsBelowAll, IsFront, entry_tokens, some_tokens, StopsAt, WritesFront, WritesStep}
 use Rattle.trees.proofs.Joining.{join_members}
 use Rattle.trees.proofs.EntryPlaces.{before_put}
@@ -74,10 +74,10 @@ tokens_more old now keyed new es i e name inside is named first second third =
     ∙ append_assoc old (entry_tokens (take i es)) (key e.0 ∷ json_tokens (outline (data_of e.1)))
     ∙ ap (λ ts. old ++ ts) (sym last)
 
-pub proper_more : (es : List (List ℕ × Tree)) (i : ℕ) (e : List ℕ × Tree) (P : Type 0) → i < length es → e ≡ get_or es i e → IsProper (data_of e.1) → (AreProperMembers (members_of (drop i es)) → P)
-    → AreProperMembers (members_of (drop (i + 1) es)) → P
-proper_more es i e P inside is own goes rest =
-    goes (subst (λ xs. AreProperMembers (members_of xs)) (sym (drop_more es i e inside ∙ ap (λ x. x ∷ drop (i + 1) es) (sym is))) (own, rest))
+pub canonical_more : (es : List (List ℕ × Tree)) (i : ℕ) (e : List ℕ × Tree) (P : Type 0) → i < length es → e ≡ get_or es i e → IsCanonical (data_of e.1) → (AreCanonicalMembers (members_of (drop i es)) → P)
+    → AreCanonicalMembers (members_of (drop (i + 1) es)) → P
+canonical_more es i e P inside is own goes rest =
+    goes (subst (λ xs. AreCanonicalMembers (members_of xs)) (sym (drop_more es i e inside ∙ ap (λ x. x ∷ drop (i + 1) es) (sym is))) (own, rest))
 
 pub tokens_join : (front : List (List ℕ × Tree)) (ms : Members) → members_tokens (members_outline (join_members (members_of front) ms)) ≡ entry_tokens front ++ members_tokens (members_outline ms)
 tokens_join [] ms = refl

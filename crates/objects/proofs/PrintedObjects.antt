@@ -1,4 +1,4 @@
--- What is printed of an object with a body, and that it is proper.
+-- What is printed of an object with a body, and that it is canonical.
 use Rattle.std.proofs.Common.{◌≡◌, refl, sym, subst}
 use Rattle.std.specs.Prelude.{codes}
 use Rattle.serde_json.specs.Data.{object, Members, put}
@@ -7,11 +7,11 @@ use Rattle.objects.specs.declared.object.Object.{Object}
 use Rattle.objects.specs.Meta.{IsMeta}
 use Rattle.objects.specs.Object.{IsBody}
 use Rattle.trees.specs.Tree.{AreAscending}
-use Rattle.trees.specs.Proper.{IsProper, AreProperMembers}
+use Rattle.trees.specs.Canonical.{IsCanonical, AreCanonicalMembers}
 use Rattle.objects.specs.Text.{whole_metadata, printed}
 use Rattle.trees.proofs.EntryPlaces.{ascending_put}
-use Rattle.trees.proofs.PutOrder.{proper_put, proper_found}
-use Rattle.objects.proofs.HeldMembers.{whole_ascending, whole_proper}
+use Rattle.trees.proofs.PutOrder.{canonical_put, canonical_found}
+use Rattle.objects.proofs.HeldMembers.{whole_ascending, whole_canonical}
 
 -- the members with the whole metadata in them
 abbrev pub printed_members : Object → Members → Members → Members
@@ -22,20 +22,20 @@ pub printed_is : (kind : Kind) (o : Object) (b : IsBody kind o.body) → printed
 unfolding printed
 printed_is kind o b = rw (b.whole, b.metadata_said) refl
 
--- the members of a proper body
-pub body_proper : (o : Object) (b : IsBody o.key.kind o.body) → IsProper o.body → AreAscending b.members × AreProperMembers b.members
-body_proper o b proper = subst IsProper b.whole proper
+-- the members of a canonical body
+pub body_canonical : (o : Object) (b : IsBody o.key.kind o.body) → IsCanonical o.body → AreAscending b.members × AreCanonicalMembers b.members
+body_canonical o b canonical = subst IsCanonical b.whole canonical
 
--- the metadata of a proper body
-pub metadata_proper : (o : Object) (b : IsBody o.key.kind o.body) → IsProper o.body → AreAscending b.metadata × AreProperMembers b.metadata
-metadata_proper o b proper = proper_found (codes "metadata") (object b.metadata) b.members (body_proper o b proper).1 b.metadata_said
+-- the metadata of a canonical body
+pub metadata_canonical : (o : Object) (b : IsBody o.key.kind o.body) → IsCanonical o.body → AreAscending b.metadata × AreCanonicalMembers b.metadata
+metadata_canonical o b canonical = canonical_found (codes "metadata") (object b.metadata) b.members (body_canonical o b canonical).1 b.metadata_said
 
--- an object with a proper body is printed as a proper value
-pub printed_proper : (o : Object) → IsBody o.key.kind o.body → IsProper o.body → IsMeta o.meta → IsProper (printed o)
-printed_proper o b proper meta =
-    let members = body_proper o b proper in
-    let metadata = metadata_proper o b proper in
-    subst IsProper (sym (printed_is o.key.kind o b)) (
+-- an object with a canonical body is printed as a canonical value
+pub printed_canonical : (o : Object) → IsBody o.key.kind o.body → IsCanonical o.body → IsMeta o.meta → IsCanonical (printed o)
+printed_canonical o b canonical meta =
+    let members = body_canonical o b canonical in
+    let metadata = metadata_canonical o b canonical in
+    subst IsCanonical (sym (printed_is o.key.kind o b)) (
       ascending_put (codes "metadata") (object (whole_metadata o b.metadata)) b.members members.0,
-      proper_put (codes "metadata") (object (whole_metadata o b.metadata)) b.members (whole_ascending o b.metadata metadata.0, whole_proper o b.metadata meta metadata.1) members.1,
+      canonical_put (codes "metadata") (object (whole_metadata o b.metadata)) b.members (whole_ascending o b.metadata metadata.0, whole_canonical o b.metadata meta metadata.1) members.1,
     )

@@ -6,24 +6,24 @@ use Rattle.json.specs.Print.{ArePrintableOrBad}
 use Rattle.serde_json.specs.Data.{Data}
 use Rattle.serde_json.specs.Written.{compact_text}
 use Rattle.trees.specs.Members.{set_member}
-use Rattle.trees.specs.Proper.{IsProper, AreProperMembers}
+use Rattle.trees.specs.Canonical.{IsCanonical, AreCanonicalMembers}
 use Rattle.trees.specs.Same.{same_data}
 use Rattle.trees.specs.Reading.{read_within}
 use Rattle.trees.specs.Tree.{AreAscending}
-use Rattle.trees.proofs.ProperText.{read_back_within}
+use Rattle.trees.proofs.CanonicalText.{read_back_within}
 use Rattle.trees.proofs.Sameness.{same-itself, same-equal}
 use Rattle.trees.proofs.TextDepth.{text_depth}
 use Rattle.trees.proofs.WholeTokens.{no_float_printable}
 use Rattle.objects.specs.declared.object.Object.{Object}
 use Rattle.objects.specs.declared.printed.IndexedText.{IndexedText}
-use Rattle.objects.specs.Cuts.{IsOpen, IsProperStatus, IsIndexedText, IsSpecAt, IsSpliced, spec_text, spec_tokens, version_text}
+use Rattle.objects.specs.Cuts.{IsOpen, IsCanonicalStatus, IsIndexedText, IsSpecAt, IsSpliced, spec_text, spec_tokens, version_text}
 use Rattle.objects.specs.Key.{KeyParts as Key}
 use Rattle.objects.specs.Rewrites.{at_version, generation_after, meta_after, replaced, with_status}
 use Rattle.objects.specs.Status.{member_of, same_found}
 use Rattle.objects.specs.Text.{text}
 use Rattle.objects.proofs.BodyMembers.{member_of-with_other}
 use Rattle.objects.proofs.CutTexts.{printable_text}
-use Rattle.objects.proofs.SplicedTexts.{apart_by, found_equal, parts_at, proper_member, indexed_parts, spliced_indexed, status_of_cut, status_proper}
+use Rattle.objects.proofs.SplicedTexts.{apart_by, found_equal, parts_at, canonical_member, indexed_parts, spliced_indexed, status_of_cut, status_canonical}
 
 -- ---- the bytes of the spec
 
@@ -76,11 +76,11 @@ spec_fits o s h =
 
 -- ---- the text of a spec tells it
 
-read_again : (d : Data) (t : List ℕ) → IsProper d → ArePrintableOrBad (spec_tokens (Some d)) → t ≡ compact_text d → read_within (length t) t ≡ Some d
-read_again d t proper printable is =
-    subst (λ u. read_within (length u) u ≡ Some d) (sym is) (read_back_within (length (compact_text d)) d (compact_text d) proper (printable_text d printable.1) (text_depth d))
+read_again : (d : Data) (t : List ℕ) → IsCanonical d → ArePrintableOrBad (spec_tokens (Some d)) → t ≡ compact_text d → read_within (length t) t ≡ Some d
+read_again d t canonical printable is =
+    subst (λ u. read_within (length u) u ≡ Some d) (sym is) (read_back_within (length (compact_text d)) d (compact_text d) canonical (printable_text d printable.1) (text_depth d))
 
-spec_told : (a b : Option Data) → IsProperStatus a → IsProperStatus b → ArePrintableOrBad (spec_tokens a) → ArePrintableOrBad (spec_tokens b) → spec_text a ≡ spec_text b → a ≡ b
+spec_told : (a b : Option Data) → IsCanonicalStatus a → IsCanonicalStatus b → ArePrintableOrBad (spec_tokens a) → ArePrintableOrBad (spec_tokens b) → spec_text a ≡ spec_text b → a ≡ b
 spec_told None None p q g h same = refl
 spec_told None (Some e) p q g h same = absurd cc
 spec_told (Some d) None p q g h same = absurd cc
@@ -92,14 +92,14 @@ pub same_spec : (a : Option Data) → ArePrintableOrBad (spec_tokens a) → same
 same_spec None h = refl
 same_spec (Some d) h = same-itself d (no_float_printable d h.1)
 
-pub spec_proper : (o : Object) (version status size : ℕ) → IsSpecAt o version status size → IsProperStatus (member_of (codes "spec") o.body)
-spec_proper o version status size spec =
+pub spec_canonical : (o : Object) (version status size : ℕ) → IsSpecAt o version status size → IsCanonicalStatus (member_of (codes "spec") o.body)
+spec_canonical o version status size spec =
     let cut = spec.at.cut in
     let now = set_member (codes "status") cut.status cut.others in
-    let proper : AreAscending now × AreProperMembers now = subst IsProper cut.body cut.proper in
-    proper_member (codes "spec") now (member_of (codes "spec") o.body) proper.1 (sym (ap (member_of (codes "spec")) cut.body))
+    let canonical : AreAscending now × AreCanonicalMembers now = subst IsCanonical cut.body cut.canonical in
+    canonical_member (codes "spec") now (member_of (codes "spec") o.body) canonical.1 (sym (ap (member_of (codes "spec")) cut.body))
 
-same_texts_by : (same : Bool) (a b : Option Data) → IsProperStatus a → IsProperStatus b → ArePrintableOrBad (spec_tokens a) → ArePrintableOrBad (spec_tokens b) → bytes_eq (spec_text a) (spec_text b) ≡ same → same ≡ same_found a b
+same_texts_by : (same : Bool) (a b : Option Data) → IsCanonicalStatus a → IsCanonicalStatus b → ArePrintableOrBad (spec_tokens a) → ArePrintableOrBad (spec_tokens b) → bytes_eq (spec_text a) (spec_text b) ≡ same → same ≡ same_found a b
 same_texts_by true a b p q g h is =
     let equal : a ≡ b = spec_told a b p q g h ((bytes_eq-Decides (spec_text a) (spec_text b)).0 is) in
     sym (subst (λ x. same_found a x ≡ true) equal (same_spec a g))
@@ -110,7 +110,7 @@ same_texts_by false a b p q g h is =
 pub same_texts : (o p : Object) (s t : IndexedText) → IsOpen o s → IsOpen p t
     → bytes_eq (spec_text (member_of (codes "spec") o.body)) (spec_text (member_of (codes "spec") p.body)) ≡ same_found (member_of (codes "spec") o.body) (member_of (codes "spec") p.body)
 same_texts o p s t left right =
-    same_texts_by _ (member_of (codes "spec") o.body) (member_of (codes "spec") p.body) (spec_proper o s.version s.status s.spec left.spec) (spec_proper p t.version t.status t.spec right.spec) left.spec.printable right.spec.printable refl
+    same_texts_by _ (member_of (codes "spec") o.body) (member_of (codes "spec") p.body) (spec_canonical o s.version s.status s.spec left.spec) (spec_canonical p t.version t.status t.spec right.spec) left.spec.printable right.spec.printable refl
 
 -- ---- the object in the place of the other
 
@@ -126,7 +126,7 @@ replaced_indexed o u p found s t new made end indexed told found_is printed some
     let h : IsSpliced t end s.revision new = subst (λ f. IfSome f (IsSpliced t end s.revision)) made_is spliced in
     subst (λ n. IsIndexedText (at_version (with_status (member_of (codes "status") o.body) own) n) new) indexed.revision
     (subst (λ v. IsIndexedText (at_version (with_status v own) s.revision) new) (sym (status_of_cut o at.front at.middle cut))
-    (spliced_indexed own t cut.status end s.revision new own_indexed small cut.printable (status_proper o at.front at.middle cut) ends h))
+    (spliced_indexed own t cut.status end s.revision new own_indexed small cut.printable (status_canonical o at.front at.middle cut) ends h))
 
 as_it_was : (o : Object) (k : Key) (g : ℕ) (b : Data) → o.key ≡ k → g ≡ o.meta.generation → o.body ≡ b
     → record { key = k; meta = record { uid = o.meta.uid; revision = o.meta.revision; generation = g; deletion = o.meta.deletion }; body = b } ≡ o

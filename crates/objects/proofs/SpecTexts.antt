@@ -91,7 +91,7 @@ between_written after tail old begun before new start ts front is same empty las
       bytes = last ∙ ap (λ b. b ++ print ts) (same ∙ is) ∙ ap (λ t. (old ++ comma_before mid) ++ print t) wrote ∙ append_assoc old (comma_before mid) (print (entry_tokens mid)) ∙ ap (λ x. old ++ x) (entries_text mid);
       utf8 = subst IsUtf8 (entries_text mid) (IsUtf8-append (comma_before mid) (print (entry_tokens mid)) (utf8_comma mid) (subst (λ t. IsUtf8 (print t)) wrote utf8));
       printable = subst ArePrintableOrBad wrote (printable_again ts again);
-      proper = front.proper;
+      canonical = front.canonical;
     }
 
 -- what stands between the version and the status, in two parts

@@ -10,16 +10,16 @@ use Rattle.serde_json.specs.Data.{Data, object, Members, no_members, member}
 use Rattle.serde_json.specs.Find.{get_member}
 use Rattle.serde_json.specs.Written.{outline, has_float}
 use Rattle.trees.specs.Members.{without_member, set_member}
-use Rattle.trees.specs.Proper.{IsProper, AreProperMembers}
+use Rattle.trees.specs.Canonical.{IsCanonical, AreCanonicalMembers}
 use Rattle.trees.specs.Tree.{AreAscending}
-use Rattle.trees.proofs.PutOrder.{proper_found, proper_put}
+use Rattle.trees.proofs.PutOrder.{canonical_found, canonical_put}
 use Rattle.trees.proofs.Sameness.{same-itself, same-equal}
 use Rattle.trees.proofs.SetMembers.{ascending_set, get_member-set_member}
 use Rattle.trees.proofs.WholeTokens.{no_float_printable}
 use Rattle.objects.specs.declared.object.Object.{Object}
 use Rattle.objects.specs.Object.{IsBody, KeepsRules}
 use Rattle.objects.specs.declared.printed.IndexedText.{IndexedText}
-use Rattle.objects.specs.Cuts.{AreParts, IsCut, IsCutAt, IsOpen, IsProperStatus, IsIndexedText, IsSpecAt, IsSpliced, rewritten, spec_text, spec_tokens, status_text, status_tokens, version_text}
+use Rattle.objects.specs.Cuts.{AreParts, IsCut, IsCutAt, IsOpen, IsCanonicalStatus, IsIndexedText, IsSpecAt, IsSpliced, rewritten, spec_text, spec_tokens, status_text, status_tokens, version_text}
 use Rattle.objects.specs.PrintedText.{IsTextOf}
 use Rattle.objects.specs.Rewrites.{at_version, with_status}
 use Rattle.objects.specs.Status.{member_of, same_found, with_member}
@@ -97,24 +97,24 @@ body_is o front middle cut value = ap (with_member (codes "status") value) cut.b
 rewritten_is : (o : Object) (front middle : List ℕ) (cut : IsCut o front middle) (n : ℕ) (value : Option Data) → at_version (with_status value o) n ≡ rewritten o cut.others n value
 rewritten_is o front middle cut n value = ap (λ b. at_version (record { key = o.key; meta = o.meta; body = b }) n) (body_is o front middle cut value)
 
-proper_without_by : (b : Bool) (l : List ℕ) (d : Data) (ms rest : Members) → IsProper d → AreProperMembers rest → AreProperMembers (cond b rest (member l d rest))
-proper_without_by true l d ms rest one all = all
-proper_without_by false l d ms rest one all = (one, all)
+canonical_without_by : (b : Bool) (l : List ℕ) (d : Data) (ms rest : Members) → IsCanonical d → AreCanonicalMembers rest → AreCanonicalMembers (cond b rest (member l d rest))
+canonical_without_by true l d ms rest one all = all
+canonical_without_by false l d ms rest one all = (one, all)
 
-proper_without : (k : List ℕ) (ms : Members) → AreProperMembers ms → AreProperMembers (without_member k ms)
-proper_without k no_members h = tt
-proper_without k (member l d ms) h = proper_without_by (bytes_eq k l) l d ms (without_member k ms) h.0 (proper_without k ms h.1)
+canonical_without : (k : List ℕ) (ms : Members) → AreCanonicalMembers ms → AreCanonicalMembers (without_member k ms)
+canonical_without k no_members h = tt
+canonical_without k (member l d ms) h = canonical_without_by (bytes_eq k l) l d ms (without_member k ms) h.0 (canonical_without k ms h.1)
 
-proper_set : (value : Option Data) (ms : Members) → IsProperStatus value → AreProperMembers ms → AreProperMembers (set_member (codes "status") value ms)
-proper_set None ms one all = proper_without (codes "status") ms all
-proper_set (Some d) ms one all = proper_put (codes "status") d ms one all
+canonical_set : (value : Option Data) (ms : Members) → IsCanonicalStatus value → AreCanonicalMembers ms → AreCanonicalMembers (set_member (codes "status") value ms)
+canonical_set None ms one all = canonical_without (codes "status") ms all
+canonical_set (Some d) ms one all = canonical_put (codes "status") d ms one all
 
-proper_body : (o : Object) (front middle : List ℕ) (cut : IsCut o front middle) (value : Option Data) → IsProperStatus value → IsProper (object (set_member (codes "status") value cut.others))
-proper_body o front middle cut value one =
+canonical_body : (o : Object) (front middle : List ℕ) (cut : IsCut o front middle) (value : Option Data) → IsCanonicalStatus value → IsCanonical (object (set_member (codes "status") value cut.others))
+canonical_body o front middle cut value one =
     let now = set_member (codes "status") cut.status cut.others in
     let again = set_again value cut.status cut.others cut.below in
-    let proper : AreAscending now × AreProperMembers now = subst IsProper cut.body cut.proper in
-    (subst AreAscending again (ascending_set (codes "status") value now proper.0), subst AreProperMembers again (proper_set value now one proper.1))
+    let canonical : AreAscending now × AreCanonicalMembers now = subst IsCanonical cut.body cut.canonical in
+    (subst AreAscending again (ascending_set (codes "status") value now canonical.0), subst AreCanonicalMembers again (canonical_set value now one canonical.1))
 
 keeps_rules : (o : Object) (front middle : List ℕ) (cut : IsCut o front middle) (n : ℕ) (value : Option Data) → n < 2 ^ 64 → KeepsRules (rewritten o cut.others n value)
 keeps_rules o front middle cut n value small = record {
@@ -124,16 +124,16 @@ keeps_rules o front middle cut n value small = record {
 }
 
 -- the text is that of the object with that status at that version
-pub spliced_text : (o : Object) (version status : ℕ) (at : IsCutAt o version status) (n : ℕ) (value : Option Data) (t : List ℕ) → n ≢ 0 → n < 2 ^ 64 → ArePrintableOrBad (status_tokens value) → IsProperStatus value
+pub spliced_text : (o : Object) (version status : ℕ) (at : IsCutAt o version status) (n : ℕ) (value : Option Data) (t : List ℕ) → n ≢ 0 → n < 2 ^ 64 → ArePrintableOrBad (status_tokens value) → IsCanonicalStatus value
     → t ≡ at.front ++ (version_text n ++ (at.middle ++ status_text value)) → IsTextOf (at_version (with_status value o) n) t
 spliced_text o version status at n value t some small printable one is =
     let cut = at.cut in
     let text_is = is ∙ sym (cut.texts n value some small) in
     subst (λ p. IsTextOf p t) (sym (rewritten_is o at.front at.middle cut n value))
-    (text_of (rewritten o cut.others n value) (keeps_rules o at.front at.middle cut n value small) (proper_body o at.front at.middle cut value one) t text_is (ap tokens text_is ∙ cut.tokens n value some small printable))
+    (text_of (rewritten o cut.others n value) (keeps_rules o at.front at.middle cut n value small) (canonical_body o at.front at.middle cut value one) t text_is (ap tokens text_is ∙ cut.tokens n value some small printable))
 
 -- and can be cut again
-abbrev rewritten_cut : (o : Object) (version status : ℕ) (at : IsCutAt o version status) (n : ℕ) (value : Option Data) (here there : ℕ) → n ≢ 0 → n < 2 ^ 64 → ArePrintableOrBad (status_tokens value) → IsProperStatus value
+abbrev rewritten_cut : (o : Object) (version status : ℕ) (at : IsCutAt o version status) (n : ℕ) (value : Option Data) (here there : ℕ) → n ≢ 0 → n < 2 ^ 64 → ArePrintableOrBad (status_tokens value) → IsCanonicalStatus value
     → here ≡ length at.front → there ≡ length (at.front ++ (version_text n ++ at.middle)) → IsCutAt (rewritten o at.cut.others n value) here there
 rewritten_cut o version status at n value here there some small printable one here_is there_is =
     let cut = at.cut in
@@ -149,14 +149,14 @@ rewritten_cut o version status at n value here there some small printable one he
         tokens = cut.tokens;
         printable = printable;
         rules = keeps_rules o at.front at.middle cut n value small;
-        proper = proper_body o at.front at.middle cut value one;
+        canonical = canonical_body o at.front at.middle cut value one;
         written = some;
       };
       version_at = here_is;
       status_at = there_is;
     }
 
-pub spliced_cut : (o : Object) (version status : ℕ) (at : IsCutAt o version status) (n : ℕ) (value : Option Data) (here there : ℕ) → n ≢ 0 → n < 2 ^ 64 → ArePrintableOrBad (status_tokens value) → IsProperStatus value
+pub spliced_cut : (o : Object) (version status : ℕ) (at : IsCutAt o version status) (n : ℕ) (value : Option Data) (here there : ℕ) → n ≢ 0 → n < 2 ^ 64 → ArePrintableOrBad (status_tokens value) → IsCanonicalStatus value
     → here ≡ length at.front → there ≡ length (at.front ++ (version_text n ++ at.middle)) → IsCutAt (at_version (with_status value o) n) here there
 spliced_cut o version status at n value here there some small printable one here_is there_is =
     subst (λ p. IsCutAt p here there) (sym (rewritten_is o at.front at.middle at.cut n value)) (rewritten_cut o version status at n value here there some small printable one here_is there_is)
@@ -169,7 +169,7 @@ spec_stays o front middle cut n value =
 
 -- and where it stands
 pub spliced_spec : (o : Object) (version status size : ℕ) (spec : IsSpecAt o version status size) (n : ℕ) (value : Option Data) (here there : ℕ) → n ≢ 0 → n < 2 ^ 64 → ArePrintableOrBad (status_tokens value)
-    → IsProperStatus value → here ≡ length spec.at.front → there ≡ length (spec.at.front ++ (version_text n ++ spec.at.middle)) → IsSpecAt (at_version (with_status value o) n) here there size
+    → IsCanonicalStatus value → here ≡ length spec.at.front → there ≡ length (spec.at.front ++ (version_text n ++ spec.at.middle)) → IsSpecAt (at_version (with_status value o) n) here there size
 spliced_spec o version status size spec n value here there some small printable one here_is there_is =
     let at = spec.at in
     let cut = at.cut in
@@ -186,15 +186,15 @@ spliced_spec o version status size spec n value here there some small printable 
 pub status_of_cut : (o : Object) (front middle : List ℕ) (cut : IsCut o front middle) → member_of (codes "status") o.body ≡ cut.status
 status_of_cut o front middle cut = ap (member_of (codes "status")) cut.body ∙ set_found (codes "status") cut.status cut.others
 
-pub proper_member : (k : List ℕ) (ms : Members) (value : Option Data) → AreProperMembers ms → get_member k ms ≡ value → IsProperStatus value
-proper_member k ms None all found = tt
-proper_member k ms (Some d) all found = proper_found k d ms all found
+pub canonical_member : (k : List ℕ) (ms : Members) (value : Option Data) → AreCanonicalMembers ms → get_member k ms ≡ value → IsCanonicalStatus value
+canonical_member k ms None all found = tt
+canonical_member k ms (Some d) all found = canonical_found k d ms all found
 
-pub status_proper : (o : Object) (front middle : List ℕ) (cut : IsCut o front middle) → IsProperStatus cut.status
-status_proper o front middle cut =
+pub status_canonical : (o : Object) (front middle : List ℕ) (cut : IsCut o front middle) → IsCanonicalStatus cut.status
+status_canonical o front middle cut =
     let now = set_member (codes "status") cut.status cut.others in
-    let proper : AreAscending now × AreProperMembers now = subst IsProper cut.body cut.proper in
-    proper_member (codes "status") now cut.status proper.1 (set_found (codes "status") cut.status cut.others)
+    let canonical : AreAscending now × AreCanonicalMembers now = subst IsCanonical cut.body cut.canonical in
+    canonical_member (codes "status") now cut.status canonical.1 (set_found (codes "status") cut.status cut.others)
 
 -- with that one it stays as it is
 pub status_kept : (o : Object) (front middle : List ℕ) (cut : IsCut o front middle) (n : ℕ) → at_version (with_status cut.status o) n ≡ at_version o n
@@ -243,7 +243,7 @@ found_equal None (Some e) h = absurd cc
 found_equal (Some d) None h = absurd cc
 found_equal (Some d) (Some e) h = ap Some (same-equal d e h)
 
-pub ends_alike : (o : Object) (version status : ℕ) (at : IsCutAt o version status) (value : Option Data) (t : List ℕ) → IsTextOf o t → ArePrintableOrBad (status_tokens value) → IsProperStatus value
+pub ends_alike : (o : Object) (version status : ℕ) (at : IsCutAt o version status) (value : Option Data) (t : List ℕ) → IsTextOf o t → ArePrintableOrBad (status_tokens value) → IsCanonicalStatus value
     → status_text at.cut.status ≡ status_text value → same_found (member_of (codes "status") o.body) value ≡ true
 ends_alike o version status at value t whole printable one same =
     let cut = at.cut in
@@ -284,7 +284,7 @@ abbrev pub indexed_parts : (o : Object) (s : IndexedText) (indexed : IsIndexedTe
 indexed_parts o s indexed some = parts_at o s indexed (indexed.cut some)
 
 -- a spliced indexed text knows the spec and the generation where the old one does
-spliced_known : (o : Object) (s : IndexedText) (value : Option Data) (end : List ℕ) (n : ℕ) (new : IndexedText) → IsIndexedText o s → n < 2 ^ 64 → ArePrintableOrBad (status_tokens value) → IsProperStatus value
+spliced_known : (o : Object) (s : IndexedText) (value : Option Data) (end : List ℕ) (n : ℕ) (new : IndexedText) → IsIndexedText o s → n < 2 ^ 64 → ArePrintableOrBad (status_tokens value) → IsCanonicalStatus value
     → IsSpliced s end n new → new.version ≢ 0 → new.generation ≢ 0 → IsOpen (at_version (with_status value o) n) new
 spliced_known o s value end n new indexed small printable one h some told =
     let old = indexed.known h.cut (λ none. told (h.generation ∙ none)) in
@@ -296,7 +296,7 @@ spliced_known o s value end n new indexed small printable one h some told =
     }
 
 -- a spliced indexed text is that of the object with that status at that version
-pub spliced_indexed : (o : Object) (s : IndexedText) (value : Option Data) (end : List ℕ) (n : ℕ) (new : IndexedText) → IsIndexedText o s → n < 2 ^ 64 → ArePrintableOrBad (status_tokens value) → IsProperStatus value
+pub spliced_indexed : (o : Object) (s : IndexedText) (value : Option Data) (end : List ℕ) (n : ℕ) (new : IndexedText) → IsIndexedText o s → n < 2 ^ 64 → ArePrintableOrBad (status_tokens value) → IsCanonicalStatus value
     → end ≡ status_text value → IsSpliced s end n new → IsIndexedText (at_version (with_status value o) n) new
 spliced_indexed o s value end n new indexed small printable one ends h =
     let at = indexed.cut h.cut in
@@ -314,17 +314,17 @@ pub spliced_again : (o : Object) (s : IndexedText) (end : List ℕ) (n : ℕ) (n
 spliced_again o s end n new indexed small ends h =
     let at = indexed.cut h.cut in
     subst (λ p. IsIndexedText p new) (status_kept o at.front at.middle at.cut n)
-    (spliced_indexed o s at.cut.status end n new indexed small at.cut.printable (status_proper o at.front at.middle at.cut) (ends h.cut) h)
+    (spliced_indexed o s at.cut.status end n new indexed small at.cut.printable (status_canonical o at.front at.middle at.cut) (ends h.cut) h)
 
 -- the text ends as one with that status exactly where the object has it
-ends_by : (b : Bool) (o : Object) (s : IndexedText) (indexed : IsIndexedText o s) (some : s.version ≢ 0) (value : Option Data) → ArePrintableOrBad (status_tokens value) → IsProperStatus value
+ends_by : (b : Bool) (o : Object) (s : IndexedText) (indexed : IsIndexedText o s) (some : s.version ≢ 0) (value : Option Data) → ArePrintableOrBad (status_tokens value) → IsCanonicalStatus value
     → bytes_eq (status_text (indexed.cut some).cut.status) (status_text value) ≡ b → b ≡ same_found (member_of (codes "status") o.body) value
 ends_by true o s indexed some value printable one is =
     sym (ends_alike o s.version s.status (indexed.cut some) value (string_bytes s.text) indexed.text printable one ((bytes_eq-Decides (status_text (indexed.cut some).cut.status) (status_text value)).0 is))
 ends_by false o s indexed some value printable one is =
     sym (ends_apart o s.version s.status (indexed.cut some) value (λ same. let both : true ≡ false = sym ((bytes_eq-Decides (status_text (indexed.cut some).cut.status) (status_text value)).1 same) ∙ is in absurd cc))
 
-pub ends_same : (o : Object) (s : IndexedText) (indexed : IsIndexedText o s) (some : s.version ≢ 0) (value : Option Data) (end : List ℕ) → ArePrintableOrBad (status_tokens value) → IsProperStatus value → end ≡ status_text value
+pub ends_same : (o : Object) (s : IndexedText) (indexed : IsIndexedText o s) (some : s.version ≢ 0) (value : Option Data) (end : List ℕ) → ArePrintableOrBad (status_tokens value) → IsCanonicalStatus value → end ≡ status_text value
     → bytes_eq (indexed_parts o s indexed some).rest end ≡ same_found (member_of (codes "status") o.body) value
 ends_same o s indexed some value end printable one ends =
     ap (bytes_eq (status_text (indexed.cut some).cut.status)) ends ∙ ends_by _ o s indexed some value printable one refl

@@ -14,7 +14,7 @@ use Rattle.trees.specs.declared.tree.Tree.{Tree}
 use Rattle.trees.specs.Tree.{data_of, members_of}
 use Rattle.trees.specs.Members.{set_member}
 use Rattle.trees.specs.Places.{IsAbove}
-use Rattle.trees.specs.Proper.{AreProperMembers, IsProper}
+use Rattle.trees.specs.Canonical.{AreCanonicalMembers, IsCanonical}
 use Rattle.objects.specs.declared.object.Object.{Object}
 use Rattle.objects.specs.declared.printed.IndexedText.{IndexedText}
 use Rattle.objects.specs.Object.{KeepsRules}
@@ -57,7 +57,7 @@ pub record IsCut (o : Object) (front middle : List ℕ) : Type 0 where
       → tokens (text (rewritten o others n value)) ≡ json_tokens (outline (printed (rewritten o others n value)))
   pub printable : ArePrintableOrBad (status_tokens status)
   pub rules : KeepsRules o
-  pub proper : IsProper o.body
+  pub canonical : IsCanonical o.body
   pub written : o.meta.revision ≢ 0
 
 -- the text can be cut before the version that begins here, and before the status that begins there
@@ -92,7 +92,7 @@ pub record WritesBetween (after tail : List (List ℕ × Tree)) (old new : List 
   pub bytes : new ≡ old ++ print_from true (entry_tokens (take count after))
   pub utf8 : IsUtf8 (print_from true (entry_tokens (take count after)))
   pub printable : ArePrintableOrBad (entry_tokens (take count after))
-  pub proper : AreProperMembers (members_of tail) → AreProperMembers (members_of after)
+  pub canonical : AreCanonicalMembers (members_of tail) → AreCanonicalMembers (members_of after)
 
 -- there is no entry, or the spec alone
 abbrev pub IsSpecAlone : List (List ℕ × Tree) → Type 0
@@ -172,6 +172,6 @@ pub record IsSpliced (old : IndexedText) (end : List ℕ) (n : ℕ) (new : Index
       → (new.version ≡ length parts.front) × (new.status ≡ length (parts.front ++ (version_text n ++ parts.middle)))
 
 -- the status is a value that reads back as it is written
-abbrev pub IsProperStatus : Option Data → Type 0
-IsProperStatus None = ⊤
-IsProperStatus (Some d) = IsProper d
+abbrev pub IsCanonicalStatus : Option Data → Type 0
+IsCanonicalStatus None = ⊤
+IsCanonicalStatus (Some d) = IsCanonical d

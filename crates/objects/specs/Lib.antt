@@ -30,4 +30,4 @@ pub use Rattle.trees.specs.Members
 pub use Rattle.trees.specs.Places
 pub use Rattle.trees.specs.Same
 pub use Rattle.trees.specs.IfWhole
-pub use Rattle.trees.specs.Proper
+pub use Rattle.trees.specs.Canonical

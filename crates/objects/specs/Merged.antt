@@ -15,7 +15,7 @@ use Rattle.objects.specs.declared.object.Object.{Object}
 use Rattle.objects.specs.Text.{put_some, unless_zero}
 use Rattle.objects.specs.Uid.{uid_text}
 use Rattle.trees.specs.Places.{IsAbove}
-use Rattle.trees.specs.Proper.{AreProperMembers}
+use Rattle.trees.specs.Canonical.{AreCanonicalMembers}
 
 abbrev pub held_data : Held → Data
 held_data (Text s) = string s.now
@@ -57,7 +57,7 @@ pub record WritesFront (k : List ℕ) (es rest : List (List ℕ × Tree)) (old n
   pub above : IsAbove k count es
   pub stops : StopsAt k rest
   pub tokens : new ≡ old ++ entry_tokens (take count es)
-  pub proper : AreProperMembers (members_of rest) → AreProperMembers (members_of es)
+  pub canonical : AreCanonicalMembers (members_of rest) → AreCanonicalMembers (members_of es)
 
 abbrev pub rest_tokens : List (List ℕ × Option Data) → List (List ℕ × Tree) → List Token
 rest_tokens hs es = members_tokens (members_outline (puts hs (members_of es)))

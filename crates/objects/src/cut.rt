@@ -7,7 +7,7 @@ ghost use Rattle.json.specs.Token.{string as string_token};
 ghost use Rattle.json.specs.Tree.{members_tokens};
 ghost use Rattle.serde_json.specs.Written.{members_outline};
 ghost use Rattle.trees.specs.Places.{IsAbove};
-ghost use Rattle.trees.specs.Proper.{AreProperMembers, IsProper};
+ghost use Rattle.trees.specs.Canonical.{AreCanonicalMembers, IsCanonical};
 ghost use Rattle.trees.specs.Tree.{members_of};
 ghost use Rattle.objects.specs.Cuts.{IsCutAt, IsSpecAlone, IsSpecAt, IsStatusAlone, WritesBetween, WritesHead, comma_before};
 ghost use Rattle.objects.specs.Merged.{StopsAt, after_version};
@@ -49,8 +49,8 @@ fn write_head<'a>(object: &'a Object, out: &mut Writer) -> Result<Head<'a>, Allo
     ensures written { IfOk result (λ head. WritesHead object.now head.versioned.now head.after.now out.old.tokens out.new.tokens) }
     ensures none { IfOk result (λ head. has_held (members_of head.versioned.now) ≡ false) }
     ensures before { out.new.before ≡ out.old.before }
-    ensures proper { IfOk result (λ head. AreProperMembers (members_of head.versioned.now) → AreProperMembers (members_of head.after.now)
-        → IsProper object.now.body) }
+    ensures canonical { IfOk result (λ head. AreCanonicalMembers (members_of head.versioned.now) → AreCanonicalMembers (members_of head.after.now)
+        → IsCanonical object.now.body) }
     ensures rules { OnOk result (KeepsRules object.now) }
 {
     // By the invariant of an object its body is a map, with a map as its `metadata`; so nothing fails here and below.
@@ -81,7 +81,7 @@ fn write_version(
     requires { has_held (members_of versioned.now) ≡ false }
     ensures tokens { OnOk result (out.new.tokens ≡ out.old.tokens ++ string_token (decimal object.now.meta.revision) ∷ after_version object.now versioned.now) }
     ensures before { out.new.before ≡ out.old.before }
-    ensures versioned { OnOk result (AreProperMembers (members_of versioned.now)) }
+    ensures versioned { OnOk result (AreCanonicalMembers (members_of versioned.now)) }
 {
     let meta = &object.meta;
     let mut buffer = itoa::Buffer::new();
@@ -136,7 +136,7 @@ fn write_tail(tail: &[(Text, Tree)], bytes: Vec<u8>) -> Result<Vec<u8>, AllocErr
     ensures bytes { IfOk result (λ v. v.items ≡ bytes.items ++ print_from true (members_tokens (members_outline (members_of tail.now)))) }
     ensures utf8 { OnOk result (IsUtf8 (print_from true (members_tokens (members_outline (members_of tail.now))))) }
     ensures printable { OnOk result (ArePrintableOrBad (members_tokens (members_outline (members_of tail.now)))) }
-    ensures proper { OnOk result (AreProperMembers (members_of tail.now)) }
+    ensures canonical { OnOk result (AreCanonicalMembers (members_of tail.now)) }
 {
     let begun = begin_tail(tail, bytes)?;
     let mut writer = Writer::new(begun);

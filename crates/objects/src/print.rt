@@ -9,7 +9,7 @@ ghost use Rattle.trees.specs.Tree.{data_of, members_of, AreAscending};
 ghost use Rattle.objects.specs.Object.{is_held, has_held, KeepsRules};
 ghost use Rattle.objects.specs.Key.{is_key};
 ghost use Rattle.objects.specs.Meta.{IsMeta};
-ghost use Rattle.trees.specs.Proper.{IsProper, AreProperMembers};
+ghost use Rattle.trees.specs.Canonical.{IsCanonical, AreCanonicalMembers};
 ghost use Rattle.objects.specs.PrintedText.{IsTextOf};
 ghost use Rattle.objects.specs.Text.{text, printed, whole_metadata, unless_zero};
 ghost use Rattle.objects.specs.Uid.{uid_text, uid_prefix, twelve_digits};
@@ -83,7 +83,7 @@ fn write_step<'a>(
     ensures step { IfOk result (λ rest. WritesStep key.now (option_map held_data value.entry) entries.now rest.now out.old.tokens out.new.tokens) }
     ensures none { IfOk result (λ rest. has_held (members_of rest.now) ≡ false) }
     ensures before { out.new.before ≡ out.old.before }
-    ensures proper { IfOk result (λ rest. AreProperMembers (members_of rest.now) → AreProperMembers (members_of entries.now)) }
+    ensures canonical { IfOk result (λ rest. AreCanonicalMembers (members_of rest.now) → AreCanonicalMembers (members_of entries.now)) }
 {
     let rest = write_front(entries, key, out)?;
     write_held(key, value, out)?;
@@ -148,7 +148,7 @@ pub(crate) fn write_to_version<'a>(
     ensures written { IfOk result (λ rest. WritesToVersion object.now entries.now rest.now out.old.tokens out.new.tokens) }
     ensures none { IfOk result (λ rest. has_held (members_of rest.now) ≡ false) }
     ensures before { out.new.before ≡ out.old.before }
-    ensures proper { IfOk result (λ rest. AreProperMembers (members_of rest.now) → AreProperMembers (members_of entries.now)) }
+    ensures canonical { IfOk result (λ rest. AreCanonicalMembers (members_of rest.now) → AreCanonicalMembers (members_of entries.now)) }
     ensures rules { OnOk result ((is_key object.now.key ≡ true) × IsMeta object.now.meta) }
 {
     let meta = &object.meta;
@@ -183,7 +183,7 @@ fn write_step_front<'a>(
         → WritesStep key.now value entries.now rest.now out.old.tokens (out.new.tokens ++ some_tokens key.now value)) }
     ensures none { IfOk result (λ rest. has_held (members_of rest.now) ≡ false) }
     ensures before { out.new.before ≡ out.old.before }
-    ensures proper { IfOk result (λ rest. AreProperMembers (members_of rest.now) → AreProperMembers (members_of entries.now)) }
+    ensures canonical { IfOk result (λ rest. AreCanonicalMembers (members_of rest.now) → AreCanonicalMembers (members_of entries.now)) }
 {
     let rest = write_front(entries, key, out)?;
     Ok(rest)
@@ -198,7 +198,7 @@ pub(crate) fn write_after_version(
     requires { has_held (members_of entries.now) ≡ false }
     ensures tokens { OnOk result (out.new.tokens ≡ out.old.tokens ++ after_version object.now entries.now) }
     ensures before { out.new.before ≡ out.old.before }
-    ensures proper { OnOk result (AreProperMembers (members_of entries.now)) }
+    ensures canonical { OnOk result (AreCanonicalMembers (members_of entries.now)) }
 {
     let meta = &object.meta;
     let text = uid_bytes(meta.uid);
@@ -215,7 +215,7 @@ fn write_metadata(
     requires { has_held (members_of entries.now) ≡ false }
     ensures tokens { OnOk result (out.new.tokens ≡ out.old.tokens ++ members_tokens (members_outline (whole_metadata object.now (members_of entries.now)))) }
     ensures before { out.new.before ≡ out.old.before }
-    ensures proper { OnOk result (AreProperMembers (members_of entries.now)) }
+    ensures canonical { OnOk result (AreCanonicalMembers (members_of entries.now)) }
     ensures rules { OnOk result ((is_key object.now.key ≡ true) × IsMeta object.now.meta) }
 {
     let meta = &object.meta;
@@ -238,7 +238,7 @@ fn write_members(
         → OnOk result (out.new.tokens ≡ out.old.tokens ++ members_tokens
         (members_outline (put (codes "metadata") (map (whole_metadata object.now metadata)) (members_of entries.now)))) }
     ensures before { out.new.before ≡ out.old.before }
-    ensures proper { OnOk result (AreProperMembers (members_of entries.now)) }
+    ensures canonical { OnOk result (AreCanonicalMembers (members_of entries.now)) }
     ensures rules { OnOk result ((is_key object.now.key ≡ true) × IsMeta object.now.meta) }
 {
     let rest = write_front(entries, "metadata", out)?;
@@ -258,7 +258,7 @@ fn write_members(
 pub fn write_object(object: &Object, out: &mut Writer) -> Result<(), AllocError>
     ensures tokens { OnOk result (out.new.tokens ≡ out.old.tokens ++ json_tokens (outline (printed object.now))) }
     ensures before { out.new.before ≡ out.old.before }
-    ensures proper { OnOk result (IsProper object.now.body) }
+    ensures canonical { OnOk result (IsCanonical object.now.body) }
     ensures rules { OnOk result (KeepsRules object.now) }
 {
     let Tree::Map(members) = &object.body else {

@@ -2,7 +2,7 @@
 ghost use Rattle.std.specs.Prelude.{◌≡◌, ◌≢◌, ◌++◌, [], None, Some, IfOk, IfSome, OnOk, bytes_eq, length, option_map, string_bytes};
 ghost use Rattle.json.specs.Print.{ArePrintableOrBad};
 ghost use Rattle.trees.specs.Tree.{data_of};
-ghost use Rattle.objects.specs.Cuts.{AreParts, IsProperStatus, IsSpliced, status_text, status_tokens, version_text};
+ghost use Rattle.objects.specs.Cuts.{AreParts, IsCanonicalStatus, IsSpliced, status_text, status_tokens, version_text};
 
 use crate::cut::Cut;
 use crate::printed::{IndexedText, Printer, short_places};
@@ -124,7 +124,7 @@ fn splice(
 pub(crate) fn write_end(status: Option<&Tree>, out: Vec<u8>) -> Result<Vec<u8>, AllocError>
     ensures bytes { IfOk result (λ v. v.items ≡ out.items ++ status_text (option_map (λ t. data_of t.now) status.entry)) }
     ensures printable { OnOk result (ArePrintableOrBad (status_tokens (option_map (λ t. data_of t.now) status.entry))) }
-    ensures proper { OnOk result (IsProperStatus (option_map (λ t. data_of t.now) status.entry)) }
+    ensures canonical { OnOk result (IsCanonicalStatus (option_map (λ t. data_of t.now) status.entry)) }
 {
     match status {
         Some(status) => write_status(status, out),
@@ -135,7 +135,7 @@ pub(crate) fn write_end(status: Option<&Tree>, out: Vec<u8>) -> Result<Vec<u8>, 
 fn write_status(status: &Tree, mut out: Vec<u8>) -> Result<Vec<u8>, AllocError>
     ensures bytes { IfOk result (λ v. v.items ≡ out.items ++ status_text (Some (data_of status.now))) }
     ensures printable { OnOk result (ArePrintableOrBad (status_tokens (Some (data_of status.now)))) }
-    ensures proper { OnOk result (IsProperStatus (Some (data_of status.now))) }
+    ensures canonical { OnOk result (IsCanonicalStatus (Some (data_of status.now))) }
 {
     out.push(b',')?;
     let mut writer = Writer::new(out);
@@ -148,7 +148,7 @@ fn write_status(status: &Tree, mut out: Vec<u8>) -> Result<Vec<u8>, AllocError>
 fn write_brace(mut out: Vec<u8>) -> Result<Vec<u8>, AllocError>
     ensures bytes { IfOk result (λ v. v.items ≡ out.items ++ status_text None) }
     ensures printable { OnOk result (ArePrintableOrBad (status_tokens None)) }
-    ensures proper { OnOk result (IsProperStatus None) }
+    ensures canonical { OnOk result (IsCanonicalStatus None) }
 {
     out.push(b'}')?;
     Ok(out)

@@ -7,7 +7,7 @@ pub mod SetMembers
 pub mod Chains
 pub mod Printing
 pub mod PutOrder
-pub mod ProperText
+pub mod CanonicalText
 pub mod WholeTokens
 pub mod Sameness
 pub mod TextDepth

@@ -11,7 +11,7 @@ use Rattle.std.proofs.lemmas.Slice.Eq.{bytes_eq-Decides}
 use Rattle.serde_json.specs.Data.{Data, Members, no_members, member, put}
 use Rattle.serde_json.specs.Find.{get_member}
 use Rattle.trees.specs.Tree.{ComesBefore, AreAscending}
-use Rattle.trees.specs.Proper.{IsProper, AreProperMembers}
+use Rattle.trees.specs.Canonical.{IsCanonical, AreCanonicalMembers}
 use Rattle.trees.proofs.Joining.{join_members, join_members-none}
 
 -- these members, put in turn onto those found before
@@ -72,26 +72,26 @@ put_all-join (member k d ms) done ascending =
 pub put_all-none : (ms : Members) → AreAscending ms → put_all ms no_members ≡ ms
 put_all-none ms ascending = put_all-join ms no_members ascending
 
-proper_put_at : (o : Ordering) (k l : List ℕ) (d e : Data) (ms : Members) → IsProper d → AreProperMembers (member l e ms) → AreProperMembers (put k d ms)
-    → AreProperMembers (match_ordering o (member k d (member l e ms)) (member l d ms) (member l e (put k d ms)))
-proper_put_at Less k l d e ms proper h later = (proper, h)
-proper_put_at Equal k l d e ms proper h later = (proper, h.1)
-proper_put_at Greater k l d e ms proper h later = (h.0, later)
+canonical_put_at : (o : Ordering) (k l : List ℕ) (d e : Data) (ms : Members) → IsCanonical d → AreCanonicalMembers (member l e ms) → AreCanonicalMembers (put k d ms)
+    → AreCanonicalMembers (match_ordering o (member k d (member l e ms)) (member l d ms) (member l e (put k d ms)))
+canonical_put_at Less k l d e ms canonical h later = (canonical, h)
+canonical_put_at Equal k l d e ms canonical h later = (canonical, h.1)
+canonical_put_at Greater k l d e ms canonical h later = (h.0, later)
 
--- a proper member that is put leaves them proper
-pub proper_put : (k : List ℕ) (d : Data) (ms : Members) → IsProper d → AreProperMembers ms → AreProperMembers (put k d ms)
-proper_put k d no_members proper h = (proper, tt)
-proper_put k d (member l e ms) proper h = proper_put_at (slice_cmp nat_cmp k l) k l d e ms proper h (proper_put k d ms proper h.1)
+-- a canonical member that is put leaves them canonical
+pub canonical_put : (k : List ℕ) (d : Data) (ms : Members) → IsCanonical d → AreCanonicalMembers ms → AreCanonicalMembers (put k d ms)
+canonical_put k d no_members canonical h = (canonical, tt)
+canonical_put k d (member l e ms) canonical h = canonical_put_at (slice_cmp nat_cmp k l) k l d e ms canonical h (canonical_put k d ms canonical h.1)
 
-proper_found_at : (o : Ordering) (k l : List ℕ) (d e : Data) (ms : Members) → IsProper e → (get_member k ms ≡ Some d → IsProper d) → match_ordering o (get_member k ms) (Some e) (get_member k ms) ≡ Some d → IsProper d
-proper_found_at Less k l d e ms proper later is = later is
-proper_found_at Equal k l d e ms proper later is = let same : e ≡ d = cc in subst IsProper same proper
-proper_found_at Greater k l d e ms proper later is = later is
+canonical_found_at : (o : Ordering) (k l : List ℕ) (d e : Data) (ms : Members) → IsCanonical e → (get_member k ms ≡ Some d → IsCanonical d) → match_ordering o (get_member k ms) (Some e) (get_member k ms) ≡ Some d → IsCanonical d
+canonical_found_at Less k l d e ms canonical later is = later is
+canonical_found_at Equal k l d e ms canonical later is = let same : e ≡ d = cc in subst IsCanonical same canonical
+canonical_found_at Greater k l d e ms canonical later is = later is
 
--- a member of proper members is proper
-pub proper_found : (k : List ℕ) (d : Data) (ms : Members) → AreProperMembers ms → get_member k ms ≡ Some d → IsProper d
-proper_found k d no_members h is = absurd cc
-proper_found k d (member l e ms) h is = proper_found_at (slice_cmp nat_cmp k l) k l d e ms h.0 (λ i. proper_found k d ms h.1 i) is
+-- a member of canonical members is canonical
+pub canonical_found : (k : List ℕ) (d : Data) (ms : Members) → AreCanonicalMembers ms → get_member k ms ≡ Some d → IsCanonical d
+canonical_found k d no_members h is = absurd cc
+canonical_found k d (member l e ms) h is = canonical_found_at (slice_cmp nat_cmp k l) k l d e ms h.0 (λ i. canonical_found k d ms h.1 i) is
 
 put_found_at : (o : Ordering) (k l : List ℕ) (d e : Data) (ms : Members) → slice_cmp nat_cmp k l ≡ o → AreAscending (member l e ms) → (get_member k ms ≡ Some d → put k d ms ≡ ms)
     → match_ordering o (get_member k ms) (Some e) (get_member k ms) ≡ Some d → match_ordering o (member k d (member l e ms)) (member l d ms) (member l e (put k d ms)) ≡ member l e ms

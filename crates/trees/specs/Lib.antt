@@ -7,7 +7,7 @@ pub mod Same
 pub mod Steps
 pub mod Reading
 pub mod IfWhole
-pub mod Proper
+pub mod Canonical
 pub mod Codes
 -- ---- what only proofs use
 pub mod TreeFalls

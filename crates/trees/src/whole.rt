@@ -71,7 +71,7 @@ impl Whole {
     pub(crate) fn write(&self, out: &mut Writer) -> Result<(), AllocError>
         ensures tokens { OnOk result (out.new.tokens ≡ out.old.tokens ++ number_token (number_text (of_integer self.now)) ∷ []) }
         ensures before { out.new.before ≡ out.old.before }
-        ensures proper { number_of (number_text (of_integer self.now)) ≡ Some (of_integer self.now) }
+        ensures canonical { number_of (number_text (of_integer self.now)) ≡ Some (of_integer self.now) }
     {
         match self.number {
             Number::Count(count) => out.u64(count),

@@ -6,7 +6,7 @@ ghost use Rattle.serde_json.specs.Find.{of_integer};
 ghost use Rattle.serde_json.specs.Read.{number_of};
 ghost use Rattle.serde_json.specs.Written.{compact_text, number_text, outline, items_outline, members_outline};
 ghost use Rattle.trees.specs.Tree.{data_of, items_of, members_of};
-ghost use Rattle.trees.specs.Proper.{IsProper, AreProperItems, AreProperMembers};
+ghost use Rattle.trees.specs.Canonical.{IsCanonical, AreCanonicalItems, AreCanonicalMembers};
 
 use crate::text::Text;
 use crate::tree::Tree;
@@ -19,7 +19,7 @@ use std::alloc::{AllocError, Global};
 pub fn write_tree(tree: &Tree, out: &mut Writer) -> Result<(), AllocError>
     ensures tokens { OnOk result (out.new.tokens ≡ out.old.tokens ++ json_tokens (outline (data_of tree.now))) }
     ensures before { out.new.before ≡ out.old.before }
-    ensures proper { OnOk result (IsProper (data_of tree.now)) }
+    ensures canonical { OnOk result (IsCanonical (data_of tree.now)) }
 {
     match tree {
         Tree::Null => out.token(Token::Null),
@@ -42,7 +42,7 @@ pub fn write_tree(tree: &Tree, out: &mut Writer) -> Result<(), AllocError>
 fn write_items(items: &[Tree], out: &mut Writer) -> Result<(), AllocError>
     ensures tokens { OnOk result (out.new.tokens ≡ out.old.tokens ++ items_tokens (items_outline (items_of items.now))) }
     ensures before { out.new.before ≡ out.old.before }
-    ensures proper { OnOk result (AreProperItems (items_of items.now)) }
+    ensures canonical { OnOk result (AreCanonicalItems (items_of items.now)) }
 {
     for item in items {
         write_tree(item, out)?;
@@ -55,7 +55,7 @@ fn write_items(items: &[Tree], out: &mut Writer) -> Result<(), AllocError>
 pub fn write_entries(entries: &[(Text, Tree)], out: &mut Writer) -> Result<(), AllocError>
     ensures tokens { OnOk result (out.new.tokens ≡ out.old.tokens ++ members_tokens (members_outline (members_of entries.now))) }
     ensures before { out.new.before ≡ out.old.before }
-    ensures proper { OnOk result (AreProperMembers (members_of entries.now)) }
+    ensures canonical { OnOk result (AreCanonicalMembers (members_of entries.now)) }
 {
     for (name, value) in entries {
         out.key(name.as_str())?;

@@ -34,8 +34,8 @@ returns-clause-text c =
     let is = whole_bytes o versioned after tail _ _ head middle _ _ _ c.requires.written first second c.in_ok-bytes.ensures.bytes in
     let keyed = subst ArePrintableOrBad c.in_ok-key.ensures.ok (printable_again _ c.into_inner-bytes.ensures.reads_back) in
     let known = so_printable o versioned mid _ _ c.new-middle.ensures.tokens c.in_ok-write_version.ensures.tokens c.into_inner-bytes-2.ensures.reads_back between.printable in
-    let proper = c.in_ok-head.ensures.proper c.in_ok-write_version.ensures.versioned (between.proper c.in_ok-bytes.ensures.proper) in
-    text_of o c.in_ok-head.ensures.rules proper _ is
+    let canonical = c.in_ok-head.ensures.canonical c.in_ok-write_version.ensures.versioned (between.canonical c.in_ok-bytes.ensures.canonical) in
+    text_of o c.in_ok-head.ensures.rules canonical _ is
     (ap tokens is ∙ parts_read o versioned after tail _ _ head middle c.requires.written keyed known c.in_ok-bytes.ensures.printable)
 
 pub returns-clause-utf8 : goal.returns-clause-utf8
@@ -66,12 +66,12 @@ returns-clause-cut c =
     let second = two_bytes o versioned mid _ _ _ versioned_is between.bytes in
     let keyed = subst ArePrintableOrBad c.in_ok-key.ensures.ok (printable_again _ c.into_inner-bytes.ensures.reads_back) in
     let known = so_printable o versioned mid _ _ c.new-middle.ensures.tokens c.in_ok-write_version.ensures.tokens c.into_inner-bytes-2.ensures.reads_back between.printable in
-    let proper = c.in_ok-head.ensures.proper c.in_ok-write_version.ensures.versioned (between.proper c.in_ok-bytes.ensures.proper) in
+    let canonical = c.in_ok-head.ensures.canonical c.in_ok-write_version.ensures.versioned (between.canonical c.in_ok-bytes.ensures.canonical) in
     let length_version : length c.into_inner-bytes.result.items ≡ vec_len c.into_inner-bytes.result = omega (arith, c.into_inner-bytes.result.ok) in
     let length_status : length c.in_ok-between.between.bytes.items ≡ vec_len c.in_ok-between.between.bytes = omega (arith, c.in_ok-between.between.bytes.ok) in
     if_some _ (λ cut. IsCutAt o cut.version cut.status) _ (λ cut h.
     cut_at o versioned after tail _ _ head middle _ _ cut.version cut.status c.requires.written first second (h.0 ∙ c.len-version.ensures ∙ sym length_version) (h.1 ∙ c.len-status.ensures ∙ sym length_status) keyed known
-    c.in_ok-bytes.ensures.printable c.in_ok-head.ensures.rules proper h.3) c.cut_before-cut.ensures
+    c.in_ok-bytes.ensures.printable c.in_ok-head.ensures.rules canonical h.3) c.cut_before-cut.ensures
 
 if_size : (P Q : ℕ → Type 0) (o found : Option ℕ) → o ≡ found → ((n : ℕ) → P n → Q n) → IfSome found P → IfSome o Q
 if_size P Q o None is f h = subst (λ x. IfSome x Q) (sym is) tt
@@ -93,13 +93,13 @@ returns-clause-spec c =
     let second = two_bytes o versioned mid _ _ _ versioned_is between.bytes in
     let keyed = subst ArePrintableOrBad c.in_ok-key.ensures.ok (printable_again _ c.into_inner-bytes.ensures.reads_back) in
     let known = so_printable o versioned mid _ _ c.new-middle.ensures.tokens c.in_ok-write_version.ensures.tokens c.into_inner-bytes-2.ensures.reads_back between.printable in
-    let proper = c.in_ok-head.ensures.proper c.in_ok-write_version.ensures.versioned (between.proper c.in_ok-bytes.ensures.proper) in
+    let canonical = c.in_ok-head.ensures.canonical c.in_ok-write_version.ensures.versioned (between.canonical c.in_ok-bytes.ensures.canonical) in
     let length_version : length c.into_inner-bytes.result.items ≡ vec_len c.into_inner-bytes.result = omega (arith, c.into_inner-bytes.result.ok) in
     let length_begin : length c.into_inner-bytes-2.result.items ≡ vec_len c.into_inner-bytes-2.result = omega (arith, c.into_inner-bytes-2.result.ok) in
     let length_status : length c.in_ok-between.between.bytes.items ≡ vec_len c.in_ok-between.between.bytes = omega (arith, c.in_ok-between.between.bytes.ok) in
     if_some _ (λ cut. IfSome cut.spec (IsSpecAt o cut.version cut.status)) _ (λ cut h.
     if_size _ (IsSpecAt o cut.version cut.status) cut.spec c.spec_between-spec.result h.2 (λ size k.
     let at = cut_at o versioned after tail _ _ head middle _ _ cut.version cut.status c.requires.written first second (h.0 ∙ c.len-version.ensures ∙ sym length_version) (h.1 ∙ c.len-status.ensures ∙ sym length_status) keyed known
-    c.in_ok-bytes.ensures.printable c.in_ok-head.ensures.rules proper h.3 in
+    c.in_ok-bytes.ensures.printable c.in_ok-head.ensures.rules canonical h.3 in
     spec_at o versioned after tail _ head between.count cut.version cut.status size c.len-begin.result c.into_inner-bytes-2.result.items c.in_ok-between.between.bytes.items at refl between.left between.above k.1 h.3 between.bytes between.printable
     (c.len-begin.ensures ∙ sym length_begin) (h.1 ∙ c.len-status.ensures ∙ sym length_status) (k.0 ∙ ap (λ n. n - c.len-begin.result) (sym h.1))) c.spec_between-spec.ensures) c.cut_before-cut.ensures

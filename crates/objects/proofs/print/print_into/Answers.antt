@@ -20,14 +20,14 @@ returns-clause-reads_back c = λ short shallow.
     let rules = c.in_ok-write_object.ensures.rules in
     let written = c.in_ok-write_object.ensures.tokens ∙ ap (λ ts. ts ++ json_tokens (outline (printed c.args.object.now))) c.new-writer.ensures.tokens in
     let bytes = bytes_printed _ _ _ c.into_inner.ensures.items (c.write_object.ensures.before ∙ c.new-writer.ensures.before ∙ c.requires) in
-    reads_again c.args.object.now rules.body rules.key rules.meta c.in_ok-write_object.ensures.proper _ (subst IsUtf8 (sym bytes) c.into_inner.ensures.utf8)
+    reads_again c.args.object.now rules.body rules.key rules.meta c.in_ok-write_object.ensures.canonical _ (subst IsUtf8 (sym bytes) c.into_inner.ensures.utf8)
     (ap tokens bytes ∙ c.into_inner.ensures.reads_back ∙ written) short shallow
 
 pub returns-clause-text : goal.returns-clause-text
 returns-clause-text c =
     let written = c.in_ok-write_object.ensures.tokens ∙ ap (λ ts. ts ++ json_tokens (outline (printed c.args.object.now))) c.new-writer.ensures.tokens in
     let bytes = bytes_printed _ _ _ c.into_inner.ensures.items (c.write_object.ensures.before ∙ c.new-writer.ensures.before ∙ c.requires) in
-    text_of c.args.object.now c.in_ok-write_object.ensures.rules c.in_ok-write_object.ensures.proper _ (bytes ∙ ap print written ∙ print-outline (printed c.args.object.now))
+    text_of c.args.object.now c.in_ok-write_object.ensures.rules c.in_ok-write_object.ensures.canonical _ (bytes ∙ ap print written ∙ print-outline (printed c.args.object.now))
     (ap tokens bytes ∙ c.into_inner.ensures.reads_back ∙ written)
 
 pub returns-clause-utf8 : goal.returns-clause-utf8

@@ -1,8 +1,8 @@
-use Rattle.trees.proofs.Printing.{number_proper}
+use Rattle.trees.proofs.Printing.{number_canonical}
 use Rattle.trees.proofs.whole.Whole.write.Goals as goal
 
-pub returns-in-Count-clause-proper : goal.returns-in-Count-clause-proper
-returns-in-Count-clause-proper c = number_proper c.self.inside.number c.args.self.now c.self.view_is c.self.invariant
+pub returns-in-Count-clause-canonical : goal.returns-in-Count-clause-canonical
+returns-in-Count-clause-canonical c = number_canonical c.self.inside.number c.args.self.now c.self.view_is c.self.invariant
 
-pub returns-in-Below-clause-proper : goal.returns-in-Below-clause-proper
-returns-in-Below-clause-proper c = number_proper c.self.inside.number c.args.self.now c.self.view_is c.self.invariant
+pub returns-in-Below-clause-canonical : goal.returns-in-Below-clause-canonical
+returns-in-Below-clause-canonical c = number_canonical c.self.inside.number c.args.self.now c.self.view_is c.self.invariant
