@@ -28,9 +28,9 @@ request_words (request.Compact to) = codes "compact to " ++ decimal to
 abbrev pub object_words : (name : List ℕ) → Object → List ℕ
 object_words name o = name ++ codes ", version " ++ decimal o.meta.revision
 
--- `Listed, 3 objects, version 7`
+-- `Listed 3, version 7`
 abbrev pub count_words : (count revision : ℕ) → List ℕ
-count_words count revision = codes "Listed, " ++ (decimal count ++ (codes " objects, version " ++ decimal revision))
+count_words count revision = codes "Listed " ++ (decimal count ++ (codes ", version " ++ decimal revision))
 
 abbrev pub reply_words : Reply → List ℕ
 reply_words (Created o) = object_words (codes "Created") o

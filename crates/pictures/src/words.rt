@@ -83,5 +83,5 @@ fn put_listing(objects: &Listing, revision: u64, out: &mut String) -> Result<(),
 fn put_count(count: usize, revision: u64, out: &mut String) -> Result<(), AllocError>
     ensures { OnOk result (string_bytes out.new ≡ string_bytes out.old ++ count_words count revision) }
 {
-    write!(out, "Listed, {count} objects, version {revision}")
+    write!(out, "Listed {count}, version {revision}")
 }
