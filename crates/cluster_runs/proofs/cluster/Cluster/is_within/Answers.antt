@@ -1,4 +1,4 @@
-use Rattle.std.proofs.Common.{◌∙◌, ◌&&◌, ap, false, not, sym, true}
+use Rattle.std.proofs.Common.{◌∙◌, ◌&&◌, ap, not, sym}
 use Rattle.std.specs.Prelude.{slice_index_or}
 use Rattle.std.proofs.lemmas.Bool.{false≢true}
 use Rattle.interleavings.specs.Trace.{after}
