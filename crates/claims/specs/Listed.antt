@@ -1,31 +1,21 @@
 -- The claims that were listed, by their names.
-use Rattle.std.specs.Prelude.{◌≡◌, ℕ, ◌<◌, ◌^◌, Bool, true, false, ◌&&◌, List, bytes_eq, decimal, find, Option, option_map}
+use Rattle.std.specs.Prelude.{◌≡◌, ℕ, ◌<◌, ◌^◌, ◌&&◌, List, bytes_eq, decimal, find, Option, option_map}
 use Rattle.std.specs.Borrow.{Bor}
 use Rattle.std.specs.BTreeMap.{BTreeMap, get_by}
 use Rattle.std.specs.Cmp.Lexicographic.{slice_cmp}
 use Rattle.std.specs.List.{filter_map}
 use Rattle.std.specs.Ordering.{nat_cmp}
-use Rattle.objects.specs.declared.kind.Kind.{Kind}
-use Rattle.objects.specs.declared.kind.Kind.TheVariants as kinds
+use Rattle.objects.specs.declared.kind.Kind.TheVariants.{PersistentVolumeClaim}
 use Rattle.objects.specs.declared.object.Object.{Object}
 use Rattle.objects.specs.PodNames.{claim_name}
 use Rattle.set_views.specs.Set.{SetParts}
+use Rattle.set_views.specs.Words.{in_namespace}
 use Rattle.claims.specs.declared.listed.ListedClaims.{ListedClaims}
 use Rattle.claims.specs.Pods.{claims_in, under}
 
-abbrev pub is_claim : Kind → Bool
-is_claim kinds.StatefulSet = false
-is_claim kinds.Pod = false
-is_claim kinds.PersistentVolumeClaim = true
-is_claim kinds.ControllerRevision = false
-
--- a claim of the set's namespace
-abbrev pub is_near : SetParts → Object → Bool
-is_near set o = is_claim o.key.kind && bytes_eq o.key.namespace set.object.key.namespace
-
 -- the claim of that name; of several the first counts
 abbrev pub listed_claim : SetParts → List Object → List ℕ → Option Object
-listed_claim set objects name = find (λ o. is_near set o && bytes_eq o.key.name name) objects
+listed_claim set objects name = find (λ o. in_namespace set PersistentVolumeClaim o && bytes_eq o.key.name name) objects
 
 -- what a map has under a name
 abbrev pub found_in : BTreeMap (Bor (List ℕ)) (Bor Object) → List ℕ → Option Object

@@ -1,8 +1,10 @@
 // The claims that were listed, by their names.
 ghost use Rattle.std.specs.Prelude.{◌≡◌, ◌&&◌, ℕ, ◌<◌, ◌^◌, [], List, Some, bytes_eq, option_map, if◌then◌else◌, IfOk, OnOk};
 ghost use Rattle.std.specs.Option.{option_map_or};
+ghost use Rattle.objects.specs.declared.kind.Kind.TheVariants.{PersistentVolumeClaim};
 ghost use Rattle.set_views.specs.Set.{set_parts};
-ghost use Rattle.claims.specs.Listed.{IsFor, claim_named, claims_of, found_in, is_near, listed_claim};
+ghost use Rattle.set_views.specs.Words.{in_namespace};
+ghost use Rattle.claims.specs.Listed.{IsFor, claim_named, claims_of, found_in, listed_claim};
 ghost use Rattle.claims.specs.Pods.{claims_in};
 
 use crate::pods::{Groups, Numbered, by_pod};
@@ -19,14 +21,6 @@ pub struct ListedClaims<'a> {
     by_pod: Groups<'a>,
 }
 
-/// Whether the object is a claim of the set's namespace.
-fn is_near(set: &Set, object: &Object) -> bool
-    ensures { result ≡ is_near (set_parts set.now) object.now }
-{
-    matches!(object.key.kind, Kind::PersistentVolumeClaim)
-        && object.key.namespace.as_str() == set.object.key.namespace.as_str()
-}
-
 fn name_of(object: &Object) -> &str
     ensures { result.now ≡ object.now.key.name }
 {
@@ -40,9 +34,9 @@ fn put_claim<'a>(
     object: &'a Object,
 ) -> Result<(), AllocError>
     ensures { OnOk result ((name : List ℕ) → found_in claims.new name
-        ≡ (if is_near (set_parts set.now) object.now && bytes_eq object.now.key.name name then Some object.now else found_in claims.old name)) }
+        ≡ (if in_namespace (set_parts set.now) PersistentVolumeClaim object.now && bytes_eq object.now.key.name name then Some object.now else found_in claims.old name)) }
 {
-    if is_near(set, object) {
+    if set.has_in_namespace(Kind::PersistentVolumeClaim, object) {
         claims.insert(name_of(object), object)?;
     }
     Ok(())

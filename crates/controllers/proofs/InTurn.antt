@@ -28,21 +28,20 @@ use Rattle.set_views.specs.Pod.{PodParts}
 use Rattle.set_views.specs.Set.{SetParts}
 use Rattle.set_views.specs.SetReading.{set_of}
 use Rattle.set_views.specs.Steps.{◌>>=◌, guarded, required}
-use Rattle.set_views.specs.Words.{in_range}
+use Rattle.set_views.specs.Words.{in_namespace, in_range, is_kind}
 use Rattle.revisions.specs.Built.{new_revision}
 use Rattle.revisions.specs.Choice.{Choice, in_place, to_renumber, to_create, choice_from, choice_of, data_with, greatest, has_data}
 use Rattle.revisions.specs.History.{expired}
 use Rattle.revisions.specs.Name.{first_free, most_tries, revision_name}
 use Rattle.revisions.specs.Plan as revision_plans
 use Rattle.revisions.specs.Plan.{created, renumbered, settled, plan_of}
-use Rattle.revisions.specs.Revision.{is_listed, is_owned, is_revision, listed, owned_among, revision_cmp}
+use Rattle.revisions.specs.Revision.{is_owned, listed, owned_among, revision_cmp}
 use Rattle.pod_steps.specs.declared.step.Revision.{Revision}
 use Rattle.pod_steps.specs.declared.step.Step.{Step}
 use Rattle.pod_steps.specs.declared.step.Step.TheVariants as steps
 use Rattle.pod_steps.specs.Listed.{is_named}
 use Rattle.pod_steps.specs.Replicas.{Pods}
 use Rattle.pod_steps.specs.Step.{is_of_pod}
-use Rattle.pod_steps.specs.Views.{is_pod}
 use Rattle.pod_steps.specs.Whole as pod_steps
 use Rattle.pod_steps.proofs.AtOnce.{alone, nowhere}
 use Rattle.pod_steps.proofs.Causes as causes
@@ -87,7 +86,7 @@ module _ {X : Type 0} (P : X → Type 0) where
 -- ---- beside the pods a plan creates nothing that is a pod
 
 abbrev IsOther : Object → Type 0
-IsOther o = is_pod o.key.kind ≡ false
+IsOther o = is_kind kinds.Pod o.key.kind ≡ false
 
 abbrev IsApart : Action → Type 0
 IsApart (CreateClaim o) = IsOther o
@@ -235,7 +234,7 @@ module _ (set : SetParts) (held : List ℕ → Bool) (digits : ℕ) (owned : Lis
         | false ↦ tt
       ]
 
-other_kind : (kind : Kind) → is_revision kind ≡ true → is_pod kind ≡ false
+other_kind : (kind : Kind) → is_kind kinds.ControllerRevision kind ≡ true → is_kind kinds.Pod kind ≡ false
 other_kind kinds.StatefulSet h = refl
 other_kind kinds.Pod h = absurd (true≢false (sym h))
 other_kind kinds.PersistentVolumeClaim h = refl
@@ -245,8 +244,8 @@ owned_are_other : (set : SetParts) (revisions : List Object) → AllByRecursion 
 unfolding owned_of
 owned_are_other set revisions =
     all_in_order revision_cmp total IsOther (owned_among set revisions) (all_among IsOther (owned_among set revisions) (λ x h.
-    let near = filtered (is_listed set) x revisions (first_among (listed set revisions) x (filtered (is_owned set) x (first_of_each (listed set revisions)) h).0) in
-    other_kind x.key.kind (and_parts (is_revision x.key.kind) _ near.1).0))
+    let near = filtered (in_namespace set kinds.ControllerRevision) x revisions (first_among (listed set revisions) x (filtered (is_owned set) x (first_of_each (listed set revisions)) h).0) in
+    other_kind x.key.kind (and_parts (is_kind kinds.ControllerRevision x.key.kind) _ near.1).0))
 
 -- ---- plans
 
@@ -397,15 +396,15 @@ module _ (d : Draft) where
         | false ↦ λ there. there
       ] h
 
-  other_request : (o : Object) → is_pod d.object.key.kind ≡ true → IsOther o → Create d ≡ Create (new o) → ⊥
-  other_request o kind other is = true≢false (sym kind ∙ ap (λ (x : Object). is_pod x.key.kind) (same o is) ∙ other)
+  other_request : (o : Object) → is_kind kinds.Pod d.object.key.kind ≡ true → IsOther o → Create d ≡ Create (new o) → ⊥
+  other_request o kind other is = true≢false (sym kind ∙ ap (λ (x : Object). is_kind kinds.Pod x.key.kind) (same o is) ∙ other)
 
-  no_write : (b : Bool) (o : Object) → is_pod d.object.key.kind ≡ true → IsOther o → Create d ≡ cond b (Create (new o)) (Update (as_read o)) → ⊥
+  no_write : (b : Bool) (o : Object) → is_kind kinds.Pod d.object.key.kind ≡ true → IsOther o → Create d ≡ cond b (Create (new o)) (Update (as_read o)) → ⊥
   no_write true o kind other is = other_request o kind other is
   no_write false o kind other is = cc
 
   -- what asks for a pod is an action that creates it
-  asks : (Q : Object → Type 0) (actions : List Action) (namespace moment : List ℕ) (a : Action) → ((pod : Object) → Contains actions (CreatePod pod) → Q pod) → is_pod d.object.key.kind ≡ true
+  asks : (Q : Object → Type 0) (actions : List Action) (namespace moment : List ℕ) (a : Action) → ((pod : Object) → Contains actions (CreatePod pod) → Q pod) → is_kind kinds.Pod d.object.key.kind ≡ true
       → IsApart a → Contains actions a → Among (Create d) (request_of namespace moment a) → Q d.object
   asks Q actions namespace moment (CreateClaim o) each kind other at h = absurd (other_request o kind other (only (Create (new o)) h))
   asks Q actions namespace moment (CreatePod o) each kind other at h = subst Q (sym (same o (only (Create (new o)) h))) (each o at)
@@ -429,7 +428,7 @@ few_removals : (key : Option Key) (uid : ℕ) (version at : Option (List ℕ)) �
 few_removals None uid version at = omega arith
 few_removals (Some k) uid version at =
     elim (nat_lt uid (2 ^ 48)) as (λ b. length (filter is_on_pod (cond b (Delete k (Some (uid_text uid)) version at ∷ []) [])) ≤ 1) [
-      | true ↦ least_of (is_pod k.kind) (Delete k (Some (uid_text uid)) version at)
+      | true ↦ least_of (is_kind kinds.Pod k.kind) (Delete k (Some (uid_text uid)) version at)
       | false ↦ omega arith
     ]
 
@@ -446,12 +445,12 @@ no_removals namespace name uid version at =
     ]
 
 few_writes : (b : Bool) (o : Object) → IsOther o → length (filter is_on_pod (cond b (Create (new o)) (Update (as_read o)) ∷ [])) ≤ 0
-few_writes true o other = none_of (is_pod o.key.kind) (Create (new o)) other
+few_writes true o other = none_of (is_kind kinds.Pod o.key.kind) (Create (new o)) other
 few_writes false o other = omega arith
 
 few_of : (namespace moment : List ℕ) (a : Action) → IsApart a → length (filter is_on_pod (request_of namespace moment a)) ≤ length (filter acts_on_pod (a ∷ []))
-few_of namespace moment (CreateClaim o) other = none_of (is_pod o.key.kind) (Create (new o)) other
-few_of namespace moment (CreatePod o) other = least_of (is_pod o.key.kind) (Create (new o))
+few_of namespace moment (CreateClaim o) other = none_of (is_kind kinds.Pod o.key.kind) (Create (new o)) other
+few_of namespace moment (CreatePod o) other = least_of (is_kind kinds.Pod o.key.kind) (Create (new o))
 few_of namespace moment (DeletePod name uid) other = few_removals (key_of kinds.Pod namespace name) uid None (Some moment)
 few_of namespace moment (UpdateClaim o) other = omega arith
 few_of namespace moment (WriteRevision o) other = few_writes (o.meta.uid == 0) o other
@@ -488,7 +487,7 @@ single r (x ∷ []) few (inr at) = absurd at
 single r (x ∷ y ∷ rs) few at = absurd (omega (arith, few))
 
 made_in_turn : (set : SetParts) (digits : ℕ) (moment : List ℕ) (revisions pods claims : List Object) (requests : List Request) (d : Draft) (p : Result (List Action) PlanError) → set.policy ≡ OrderedReady
-    → planned set digits revisions pods claims ≡ p → (p >>= λ actions. Ok (requests_of set.object.key.namespace moment actions)) ≡ Ok requests → Among (Create d) requests → is_pod d.object.key.kind ≡ true
+    → planned set digits revisions pods claims ≡ p → (p >>= λ actions. Ok (requests_of set.object.key.namespace moment actions)) ≡ Ok requests → Among (Create d) requests → is_kind kinds.Pod d.object.key.kind ≡ true
     → IsInTurn set pods requests d
 unfolding planned is_made
 made_in_turn set digits moment revisions pods claims requests d (Err e) policy plan is at kind = let clash : false ≡ true = ap is_made is in absurd (true≢false (sym clash))
@@ -520,4 +519,4 @@ pub created_in_turn : (o : Object) (set : SetParts) (digits : ℕ) (moment : Lis
 unfolding requested requested_for
 created_in_turn o set digits moment revisions pods claims requests d read policy is at kind =
     made_in_turn set digits moment revisions pods claims requests d (planned set digits revisions pods claims) policy refl
-    (sym (ap (λ (s : Result SetParts PlanError). s >>= λ t. requested_for t digits moment revisions pods claims) read) ∙ is) at (ap is_pod kind)
+    (sym (ap (λ (s : Result SetParts PlanError). s >>= λ t. requested_for t digits moment revisions pods claims) read) ∙ is) at (ap (is_kind kinds.Pod) kind)

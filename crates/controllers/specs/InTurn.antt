@@ -12,9 +12,8 @@ use Rattle.requests.specs.declared.reply.Reply.{Reply}
 use Rattle.set_views.specs.declared.policies.Policy.TheVariants.{OrderedReady}
 use Rattle.set_views.specs.Set.{SetParts}
 use Rattle.set_views.specs.SetReading.{set_of}
-use Rattle.set_views.specs.Words.{in_range}
+use Rattle.set_views.specs.Words.{in_range, is_kind}
 use Rattle.pod_steps.specs.Listed.{is_named}
-use Rattle.pod_steps.specs.Views.{is_pod}
 use Rattle.sets.specs.Actions.{name_at}
 use Rattle.sets.specs.Laws.{HasHealthyTarget}
 use Rattle.sets.specs.Planned.{views_of}
@@ -25,12 +24,12 @@ use Rattle.plan_requests.specs.Reconciler.{reconciler_with}
 
 -- the request creates or deletes a pod
 abbrev pub is_on_pod : Request → Bool
-is_on_pod (Create d) = is_pod d.object.key.kind
+is_on_pod (Create d) = is_kind Pod d.object.key.kind
 is_on_pod (Get k) = false
 is_on_pod (request.List kind namespace exact) = false
 is_on_pod (Update d) = false
 is_on_pod (UpdateStatus d) = false
-is_on_pod (Delete k uid version at) = is_pod k.kind
+is_on_pod (Delete k uid version at) = is_kind Pod k.kind
 is_on_pod (Compact to) = false
 
 -- The create is of an ordinal in range, under a name that no listed pod has, where each lower ordinal in range has a healthy

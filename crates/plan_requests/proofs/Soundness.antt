@@ -20,13 +20,13 @@ use Rattle.set_views.specs.Pod.{PodParts}
 use Rattle.set_views.specs.Set.{SetParts}
 use Rattle.set_views.specs.SetReading.{set_of}
 use Rattle.set_views.specs.Steps.{◌>>=◌}
-use Rattle.set_views.specs.Words.{ordinal_in}
+use Rattle.set_views.specs.Words.{in_namespace, is_kind, ordinal_in}
 use Rattle.revisions.specs.Choice as choice
 use Rattle.revisions.specs.Plan as revision_plans
 use Rattle.revisions.specs.Plan.{created, renumbered, settled, plan_of}
-use Rattle.revisions.specs.Revision.{is_owned, listed, is_listed, is_revision, owned_among, revision_cmp}
+use Rattle.revisions.specs.Revision.{is_owned, listed, owned_among, revision_cmp}
 use Rattle.pod_steps.specs.Listed.{is_named}
-use Rattle.pod_steps.specs.Views.{is_near, is_pod, listed_pods}
+use Rattle.pod_steps.specs.Views.{listed_pods}
 use Rattle.pod_steps.proofs.AtOnce.{alone}
 use Rattle.claims.specs.Listed.{listed_claim}
 use Rattle.collector.specs.Collectable.{Among, collected}
@@ -83,7 +83,7 @@ named os kind namespace name uid version at r o h among key uid_is =
 
 -- ---- listed pods
 
-pod_kind : (kind : Kind) → is_pod kind ≡ true → kind ≡ kinds.Pod
+pod_kind : (kind : Kind) → is_kind kinds.Pod kind ≡ true → kind ≡ kinds.Pod
 pod_kind kinds.StatefulSet h = absurd (true≢false (sym h))
 pod_kind kinds.Pod h = refl
 pod_kind kinds.PersistentVolumeClaim h = absurd (true≢false (sym h))
@@ -99,8 +99,8 @@ unfolding views_of
 pod_listed set pods i name uid pod name_is found uid_is =
     let f = found_in_map (is_named set i) (listed_pods set pods) pod found in
     let o : Object = f.0 in
-    let near = filtered (is_near set) o pods (first_among (filter (is_near set) pods) o f.1) in
-    let parts = and_parts (is_pod o.key.kind) _ near.1 in
+    let near = filtered (in_namespace set kinds.Pod) o pods (first_among (filter (in_namespace set kinds.Pod) pods) o f.1) in
+    let parts = and_parts (is_kind kinds.Pod o.key.kind) _ near.1 in
     let space : o.key.namespace ≡ set.object.key.namespace = (bytes_eq-Decides o.key.namespace set.object.key.namespace).0 parts.1 in
     let same : o.key.name ≡ name = named_is set i o f.3 ∙ sym name_is in
     (o, near.0, (λ j. key_parts (pod_kind o.key.kind parts.0 j) (space j) (same j)), ap (λ (v : PodParts). v.uid) f.2 ∙ uid_is)
@@ -143,12 +143,12 @@ among_all P [] x all at = absurd at
 among_all P (y ∷ ys) x all (inl is) = subst P (sym is) all.0
 among_all P (y ∷ ys) x all (inr at) = among_all P ys x all.1 at
 
-owned_listed : (set : SetParts) (revisions : List Object) (o : Object) → Contains (owned_of set revisions) o → Among o revisions × (is_listed set o ≡ true)
+owned_listed : (set : SetParts) (revisions : List Object) (o : Object) → Contains (owned_of set revisions) o → Among o revisions × (in_namespace set kinds.ControllerRevision o ≡ true)
 unfolding owned_of
 owned_listed set revisions o at =
-    among_all (λ x. Among x revisions × (is_listed set x ≡ true)) (owned_of set revisions) o
+    among_all (λ x. Among x revisions × (in_namespace set kinds.ControllerRevision x ≡ true)) (owned_of set revisions) o
     (all_in_order revision_cmp total _ (owned_among set revisions) (all_among _ (owned_among set revisions) (λ x h.
-    filtered (is_listed set) x revisions (first_among (listed set revisions) x (filtered (is_owned set) x (first_of_each (listed set revisions)) h).0))))
+    filtered (in_namespace set kinds.ControllerRevision) x revisions (first_among (listed set revisions) x (filtered (is_owned set) x (first_of_each (listed set revisions)) h).0))))
     (among_contained (owned_of set revisions) o at)
 
 owned_in : List Object → Result revision_plans.Planned PlanError → List Object
@@ -196,7 +196,7 @@ uid_in (DeleteRevision name uid version) = uid
 uid_in (WriteStatus o) = 0
 uid_in (Wait cause name) = 0
 
-revision_kind : (kind : Kind) → is_revision kind ≡ true → kind ≡ kinds.ControllerRevision
+revision_kind : (kind : Kind) → is_kind kinds.ControllerRevision kind ≡ true → kind ≡ kinds.ControllerRevision
 revision_kind kinds.StatefulSet h = absurd (true≢false (sym h))
 revision_kind kinds.Pod h = absurd (true≢false (sym h))
 revision_kind kinds.PersistentVolumeClaim h = absurd (true≢false (sym h))
@@ -214,7 +214,7 @@ revision_planned set claims views revisions (Ok (settled owned current update)) 
     let d = deletes_controlled set claims views owned current update actions name uid version e at in
     let o : Object = d.0 in
     let there = owned_listed set revisions o (subst (λ (l : List Object). Contains l o) own d.1) in
-    let parts = and_parts (is_revision o.key.kind) _ there.1 in
+    let parts = and_parts (is_kind kinds.ControllerRevision o.key.kind) _ there.1 in
     let space : o.key.namespace ≡ set.object.key.namespace = (bytes_eq-Decides o.key.namespace set.object.key.namespace).0 parts.1 in
     let same : o.key.name ≡ name = ap name_in d.2 in
     (o, there.0, (λ j. key_parts (revision_kind o.key.kind parts.0 j) (space j) (same j)), ap uid_in d.2)

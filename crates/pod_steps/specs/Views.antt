@@ -1,6 +1,5 @@
 -- The pods of a set's namespace, and what is read of them.
-use Rattle.std.specs.Prelude.{◌≡◌, ℕ, Bool, true, false, ◌&&◌, bytes_eq, List, [], ◌∷◌, Option, filter, find, IfSome, IfNone, ⊤}
-use Rattle.objects.specs.declared.kind.Kind.{Kind}
+use Rattle.std.specs.Prelude.{◌≡◌, ℕ, ◌&&◌, bytes_eq, List, [], ◌∷◌, Option, filter, find, IfSome, IfNone, ⊤}
 use Rattle.objects.specs.declared.kind.Kind.TheVariants as kinds
 use Rattle.objects.specs.declared.object.Object.{Object}
 use Rattle.objects.specs.PodNames.{IsPodName}
@@ -8,24 +7,15 @@ use Rattle.set_views.specs.declared.pod.PodView.{PodView}
 use Rattle.set_views.specs.Firsts.{first_of_each}
 use Rattle.set_views.specs.Pod.{place_of, pod_parts, pod_with}
 use Rattle.set_views.specs.Set.{SetParts}
-
-abbrev pub is_pod : Kind → Bool
-is_pod kinds.StatefulSet = false
-is_pod kinds.Pod = true
-is_pod kinds.PersistentVolumeClaim = false
-is_pod kinds.ControllerRevision = false
-
--- a pod of the set's namespace
-abbrev pub is_near : SetParts → Object → Bool
-is_near set o = is_pod o.key.kind && bytes_eq o.key.namespace set.object.key.namespace
+use Rattle.set_views.specs.Words.{in_namespace}
 
 -- the pods of the set's namespace among these objects; of several with one name the first counts
 abbrev pub listed_pods : SetParts → List Object → List Object
-listed_pods set os = first_of_each (filter (is_near set) os)
+listed_pods set os = first_of_each (filter (in_namespace set kinds.Pod) os)
 
 -- the pod of that name among these objects
 abbrev pub listed_pod : SetParts → List Object → List ℕ → Option Object
-listed_pod set os name = find (λ o. is_near set o && bytes_eq o.key.name name) os
+listed_pod set os name = find (λ o. in_namespace set kinds.Pod o && bytes_eq o.key.name name) os
 
 -- what is read of a pod; its place is the set and the ordinal that its name is made of, if there are any
 pub record IsViewOf (o : Object) (view : PodView) : Type 0 where

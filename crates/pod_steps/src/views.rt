@@ -1,20 +1,12 @@
 // The pods of a set's namespace.
 ghost use Rattle.std.specs.Prelude.{◌≡◌, IfOk};
 ghost use Rattle.set_views.specs.Set.{set_parts};
-ghost use Rattle.pod_steps.specs.Views.{AreViews, is_near, listed_pods};
+ghost use Rattle.pod_steps.specs.Views.{AreViews, listed_pods};
 
 use objects::{Kind, Object};
 use set_views::{PodView, Set, read_pod};
 use std::alloc::{AllocError, Global};
 use std::collections::BTreeSet;
-
-/// Whether the object is a pod of the set's namespace.
-fn is_near(set: &Set, object: &Object) -> bool
-    ensures { result ≡ is_near (set_parts set.now) object.now }
-{
-    matches!(object.key.kind, Kind::Pod)
-        && object.key.namespace.as_str() == set.object.key.namespace.as_str()
-}
 
 fn name_of(object: &Object) -> &str
     ensures { result.now ≡ object.now.key.name }
@@ -34,7 +26,7 @@ pub fn views_of<'a>(
     let mut names = BTreeSet::new(alloc);
     let mut views = Vec::new(alloc);
     for object in objects {
-        if is_near(set, object) && names.insert(name_of(object))? {
+        if set.has_in_namespace(Kind::Pod, object) && names.insert(name_of(object))? {
             views.push(read_pod(object))?;
         }
     }

@@ -3,13 +3,15 @@ use Rattle.std.proofs.Common.{◌≡◌, List, [], ◌∷◌, ◌++◌, Bool, tr
 use Rattle.std.specs.Prelude.{◌&&◌, if◌then◌else◌}
 use Rattle.std.proofs.lemmas.List.Elements.{filter-append}
 use Rattle.std.proofs.lemmas.List.{map-append}
+use Rattle.objects.specs.declared.kind.Kind.TheVariants.{ControllerRevision}
 use Rattle.objects.specs.declared.object.Object.{Object}
 use Rattle.set_views.specs.Firsts.{first_of_each, is_held}
 use Rattle.set_views.specs.Set.{SetParts}
+use Rattle.set_views.specs.Words.{in_namespace}
 use Rattle.set_views.proofs.Firsts.{firsts_more, last_if}
 use Rattle.revisions.specs.declared.view.RevisionView.{RevisionView}
 use Rattle.revisions.specs.Plan.{objects_of}
-use Rattle.revisions.specs.Revision.{is_listed, is_owned, listed, owned_among}
+use Rattle.revisions.specs.Revision.{is_owned, listed, owned_among}
 
 -- the view of an object was pushed
 pub view_taken : (listed held owned : Bool) (xs after : List RevisionView) (v : RevisionView) (o : Object) → listed ≡ true → held ≡ false → owned ≡ true → after ≡ xs ++ v ∷ [] → v.object.now ≡ o
@@ -41,15 +43,15 @@ owned_end false held xs set o = append-nil xs
 
 -- the owned revisions with one more object
 pub owned_more : (set : SetParts) (os : List Object) (o : Object)
-    → owned_among set (os ++ o ∷ []) ≡ (if is_listed set o && not (is_held (listed set os) o.key.name) && is_owned set o then owned_among set os ++ o ∷ [] else owned_among set os)
+    → owned_among set (os ++ o ∷ []) ≡ (if in_namespace set ControllerRevision o && not (is_held (listed set os) o.key.name) && is_owned set o then owned_among set os ++ o ∷ [] else owned_among set os)
 owned_more set os o =
     let held = is_held (listed set os) o.key.name in
-    ap (filter (is_owned set)) (firsts_more (is_listed set) os o)
-    ∙ (filter-append (is_owned set) (first_of_each (listed set os)) (last_if (is_listed set o && not held) o)
-    ∙ owned_end (is_listed set o) held (owned_among set os) set o)
+    ap (filter (is_owned set)) (firsts_more (in_namespace set ControllerRevision) os o)
+    ∙ (filter-append (is_owned set) (first_of_each (listed set os)) (last_if (in_namespace set ControllerRevision o && not held) o)
+    ∙ owned_end (in_namespace set ControllerRevision o) held (owned_among set os) set o)
 
-pub owned_step : (set : SetParts) (os : List Object) (o : Object) (held : Bool) (before after : List Object) → after ≡ (if is_listed set o && not held && is_owned set o then before ++ o ∷ [] else before)
+pub owned_step : (set : SetParts) (os : List Object) (o : Object) (held : Bool) (before after : List Object) → after ≡ (if in_namespace set ControllerRevision o && not held && is_owned set o then before ++ o ∷ [] else before)
     → held ≡ is_held (listed set os) o.key.name → before ≡ owned_among set os → after ≡ owned_among set (os ++ o ∷ [])
 owned_step set os o held before after after_is held_is before_is =
-    after_is ∙ (ap (λ h. if is_listed set o && not h && is_owned set o then before ++ o ∷ [] else before) held_is
-    ∙ (ap (λ b. if is_listed set o && not (is_held (listed set os) o.key.name) && is_owned set o then b ++ o ∷ [] else b) before_is ∙ sym (owned_more set os o)))
+    after_is ∙ (ap (λ h. if in_namespace set ControllerRevision o && not h && is_owned set o then before ++ o ∷ [] else before) held_is
+    ∙ (ap (λ b. if in_namespace set ControllerRevision o && not (is_held (listed set os) o.key.name) && is_owned set o then b ++ o ∷ [] else b) before_is ∙ sym (owned_more set os o)))

@@ -7,14 +7,14 @@ use Rattle.std.specs.Ordering.{nat_cmp, on, then_cmp}
 use Rattle.std.specs.declared.cmp.Ordering.{Ordering}
 use Rattle.serde_json.specs.Data.{Data}
 use Rattle.serde_json.specs.Find.{as_number, as_u64}
-use Rattle.objects.specs.declared.kind.Kind.{Kind}
-use Rattle.objects.specs.declared.kind.Kind.TheVariants.{StatefulSet, Pod, PersistentVolumeClaim, ControllerRevision}
+use Rattle.objects.specs.declared.kind.Kind.TheVariants.{ControllerRevision}
 use Rattle.objects.specs.declared.object.Object.{Object}
 use Rattle.objects.specs.Metadata.{owners_of}
 use Rattle.objects.specs.Status.{member_of}
 use Rattle.set_views.specs.Firsts.{first_of_each}
 use Rattle.set_views.specs.Owners.{is_controlled}
 use Rattle.set_views.specs.Set.{SetParts}
+use Rattle.set_views.specs.Words.{in_namespace}
 
 -- `revision`; what is no whole number from 0 up counts as 0
 abbrev pub number_of : Object → ℕ
@@ -23,23 +23,13 @@ number_of o = unwrap_or (option_and_then as_u64 (option_and_then as_number (memb
 abbrev pub data_in : Object → Option Data
 data_in o = member_of (codes "data") o.body
 
-abbrev pub is_revision : Kind → Bool
-is_revision StatefulSet = false
-is_revision Pod = false
-is_revision PersistentVolumeClaim = false
-is_revision ControllerRevision = true
-
--- a ControllerRevision of the set's namespace
-abbrev pub is_listed : SetParts → Object → Bool
-is_listed set o = is_revision o.key.kind && bytes_eq o.key.namespace set.object.key.namespace
-
 -- the set controls the revision
 abbrev pub is_owned : SetParts → Object → Bool
 is_owned set o = is_controlled set.object.meta.uid (owners_of o.body)
 
 -- the revisions of the set's namespace among these objects
 abbrev pub listed : SetParts → List Object → List Object
-listed set os = filter (is_listed set) os
+listed set os = filter (in_namespace set ControllerRevision) os
 
 -- of the first of each name, those that the set controls
 abbrev pub owned_among : SetParts → List Object → List Object

@@ -1,11 +1,13 @@
 // The revisions of a set, among the objects that were listed.
 ghost use Rattle.std.specs.Prelude.{◌≡◌, ℕ, List, [], ◌∷◌, ◌++◌, ◌&&◌, ◌||◌, not, bytes_eq, true, if◌then◌else◌, IfOk, OnOk};
 ghost use Rattle.std.specs.List.Sorted.{IsPermutation, IsSorted};
+ghost use Rattle.objects.specs.declared.kind.Kind.TheVariants.{ControllerRevision};
 ghost use Rattle.set_views.specs.Firsts.{is_held};
 ghost use Rattle.set_views.specs.Set.{set_parts};
+ghost use Rattle.set_views.specs.Words.{in_namespace};
 ghost use Rattle.revisions.specs.Listing.{has_name, HoldsNames};
 ghost use Rattle.revisions.specs.Plan.{objects_of};
-ghost use Rattle.revisions.specs.Revision.{is_listed, is_owned, is_revision, owned_among, revision_cmp, AreOwned, listed};
+ghost use Rattle.revisions.specs.Revision.{is_owned, owned_among, revision_cmp, AreOwned, listed};
 
 use crate::view::{RevisionView, read_revision};
 use objects::{Kind, Object};
@@ -20,23 +22,16 @@ pub(crate) struct Listed<'a> {
     pub owned: Vec<RevisionView<'a>>,
 }
 
-fn is_listed(set: &Set, object: &Object) -> bool
-    ensures { result ≡ is_listed (set_parts set.now) object.now }
-{
-    matches!(object.key.kind, Kind::ControllerRevision)
-        && object.key.namespace.as_str() == set.object.key.namespace.as_str()
-}
-
 impl<'a> Listed<'a> {
     /// Takes one more object of the list.
     fn take(&mut self, set: &Set, object: &'a Object) -> Result<(), AllocError>
         ensures names { OnOk result ((q : List ℕ) → has_name q self.new.names.keys
-            ≡ (has_name q self.old.names.keys || (is_listed (set_parts set.now) object.now && bytes_eq q object.now.key.name))) }
-        ensures owned { OnOk result (objects_of self.new.owned.items ≡ (if is_listed (set_parts set.now) object.now
+            ≡ (has_name q self.old.names.keys || (in_namespace (set_parts set.now) ControllerRevision object.now && bytes_eq q object.now.key.name))) }
+        ensures owned { OnOk result (objects_of self.new.owned.items ≡ (if in_namespace (set_parts set.now) ControllerRevision object.now
             && not (has_name object.now.key.name self.old.names.keys) && is_owned (set_parts set.now) object.now
             then objects_of self.old.owned.items ++ object.now ∷ [] else objects_of self.old.owned.items)) }
     {
-        if is_listed(set, object) {
+        if set.has_in_namespace(Kind::ControllerRevision, object) {
             let revision = read_revision(object);
             let is_first = self.names.insert(revision.name)?;
             if is_first && set.controls(object) {

@@ -1,11 +1,21 @@
 -- The words of a plan (Kubernetes, "StatefulSets": "Pod Identity", "Deployment and Scaling Guarantees").
-use Rattle.std.specs.Prelude.{ℕ, ◌+◌, Bool, true, false, not, ◌&&◌, nat_le, nat_lt, bytes_eq, Option, Some, None, option_and_then, if◌then◌else◌}
+use Rattle.std.specs.Prelude.{ℕ, ◌+◌, ◌==◌, Bool, true, false, not, ◌&&◌, nat_le, nat_lt, bytes_eq, Option, Some, None, option_and_then, if◌then◌else◌}
 use Rattle.std.specs.Option.{option_map_or}
+use Rattle.objects.specs.declared.kind.Kind.{Kind}
+use Rattle.objects.specs.declared.object.Object.{Object}
+use Rattle.objects.specs.Key.{kind_index}
 use Rattle.set_views.specs.declared.readiness.Readiness.{Readiness}
 use Rattle.set_views.specs.declared.readiness.Readiness.TheVariants.{Failed, Ready, NotReady}
 use Rattle.set_views.specs.Owners.{is_controlled}
 use Rattle.set_views.specs.Pod.{PodParts}
 use Rattle.set_views.specs.Set.{SetParts}
+
+abbrev pub is_kind : Kind → Kind → Bool
+is_kind kind k = kind_index k == kind_index kind
+
+-- an object of that kind in the set's namespace
+abbrev pub in_namespace : SetParts → Kind → Object → Bool
+in_namespace set kind o = is_kind kind o.key.kind && bytes_eq o.key.namespace set.object.key.namespace
 
 -- the ordinals from `start` on, as many as there are replicas
 abbrev pub in_range : SetParts → ℕ → Bool

@@ -4,15 +4,23 @@ ghost use Rattle.objects.specs.Metadata.{owners_of};
 ghost use Rattle.set_views.specs.Owners.{is_controlled};
 ghost use Rattle.set_views.specs.Pod.{pod_parts};
 ghost use Rattle.set_views.specs.Set.{set_parts};
-ghost use Rattle.set_views.specs.Words.{in_range, is_condemned, is_healthy, is_owned, is_target, ordinal_in};
+ghost use Rattle.set_views.specs.Words.{in_namespace, in_range, is_condemned, is_healthy, is_owned, is_target, ordinal_in};
 
 use crate::owners::is_controlled;
 use crate::pod::PodView;
 use crate::readiness::Readiness;
 use crate::set::Set;
-use objects::Object;
+use objects::{Kind, Object};
 
 impl Set {
+    /// Whether the object is of that kind, in the set's namespace.
+    pub fn has_in_namespace(&self, kind: Kind, object: &Object) -> bool
+        ensures { result ≡ in_namespace (set_parts self.now) kind object.now }
+    {
+        object.key.kind == kind
+            && object.key.namespace.as_str() == self.object.key.namespace.as_str()
+    }
+
     /// Whether a pod of that ordinal is to be there.
     pub fn has_in_range(&self, ordinal: u32) -> bool
         ensures { result ≡ in_range (set_parts self.now) ordinal }

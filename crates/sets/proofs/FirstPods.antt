@@ -5,16 +5,17 @@ use Rattle.std.specs.Option.{is_some, option_map_or}
 use Rattle.std.specs.Prelude.{◌==◌, ◌&&◌, ◌||◌, bytes_eq, option_and_then, if◌then◌else◌}
 use Rattle.std.proofs.lemmas.Bool.{eqb-true}
 use Rattle.std.proofs.lemmas.Slice.Eq.{bytes_eq-Decides}
+use Rattle.objects.specs.declared.kind.Kind.TheVariants as kinds
 use Rattle.objects.specs.declared.object.Object.{Object}
 use Rattle.objects.specs.PodNames.{IsPodName, pod_name}
 use Rattle.set_views.specs.declared.pod.PodView.{PodView}
 use Rattle.set_views.specs.Firsts.{first_of_each}
 use Rattle.set_views.specs.Pod.{PodParts}
 use Rattle.set_views.specs.Set.{SetParts}
-use Rattle.set_views.specs.Words.{is_owned}
+use Rattle.set_views.specs.Words.{in_namespace, is_owned}
 use Rattle.revisions.specs.History.{has_pod}
 use Rattle.pod_steps.specs.Listed.{is_named}
-use Rattle.pod_steps.specs.Views.{AreViews, IsViewOf, is_near, listed_pod, listed_pods}
+use Rattle.pod_steps.specs.Views.{AreViews, IsViewOf, listed_pod, listed_pods}
 use Rattle.collector.specs.Collectable.{Among}
 use Rattle.sets.specs.Actions.{name_at}
 use Rattle.sets.specs.Place.{place_in}
@@ -165,8 +166,8 @@ module _ (set : SetParts) where
   pub stays_listed : (pods others : List Object) → ((name : List ℕ) → listed_pod set pods name ≡ listed_pod set others name) → (o : Object) → Among o (listed_pods set pods) → Among o (listed_pods set others)
   stays_listed pods others same o at =
       let named : Object → Bool = λ p. bytes_eq p.key.name o.key.name in
-      found_is_first (filter (is_near set) others) o.key.name o
-      (found_in_filter (is_near set) named others ∙ (sym (same o.key.name) ∙ (sym (found_in_filter (is_near set) named pods) ∙ first_found (filter (is_near set) pods) o at)))
+      found_is_first (filter (in_namespace set kinds.Pod) others) o.key.name o
+      (found_in_filter (in_namespace set kinds.Pod) named others ∙ (sym (same o.key.name) ∙ (sym (found_in_filter (in_namespace set kinds.Pod) named pods) ∙ first_found (filter (in_namespace set kinds.Pod) pods) o at)))
 
   module _ (pods others : List Object) (same : (name : List ℕ) → listed_pod set pods name ≡ listed_pod set others name) where
     to : (o : Object) → Among o (listed_pods set pods) → Among o (listed_pods set others)
@@ -178,7 +179,7 @@ module _ (set : SetParts) where
     pub same_firsts : (i : ℕ) → find (is_named set i) (views_of set pods) ≡ find (is_named set i) (views_of set others)
     unfolding views_of
     same_firsts i = same_found (is_named set i) (listed_pods set pods) (listed_pods set others) to back
-        (λ a b at_a at_b p q. one_of_a_name (filter (is_near set) pods) a b at_a at_b (named_is set i a p ∙ sym (named_is set i b q)))
+        (λ a b at_a at_b p q. one_of_a_name (filter (in_namespace set kinds.Pod) pods) a b at_a at_b (named_is set i a p ∙ sym (named_is set i b q)))
 
     pub same_held : (name : List ℕ) → has_pod set (views_of set pods) name ≡ has_pod set (views_of set others) name
     unfolding views_of

@@ -7,8 +7,9 @@ use Rattle.std.specs.Ordering.{nat_cmp}
 use Rattle.std.proofs.lemmas.List.{append-nil}
 use Rattle.std.specs.Iterator.Adapters.{rev_source}
 use Rattle.std.specs.Slice.Iter.{iter_rest}
+use Rattle.objects.specs.declared.kind.Kind.TheVariants.{PersistentVolumeClaim}
 use Rattle.set_views.specs.Set.{set_parts}
-use Rattle.claims.specs.Listed.{is_near}
+use Rattle.set_views.specs.Words.{in_namespace}
 use Rattle.claims.proofs.listed.by_name.Goals as goal
 
 pub loop-object-init : goal.loop-object-init
@@ -23,5 +24,5 @@ loop-object-preserved c = (
   c.in-Some.object.now ∷ c.loop-object.invariant.0,
   sym (append_assoc (iter_rest (rev_source c.next.new.self)) (c.in-Some.object.now ∷ []) c.loop-object.invariant.0) ∙ (ap (λ l. l ++ c.loop-object.invariant.0) (sym c.in-Some.ensures.steps) ∙ c.loop-object.invariant.1),
   λ name. c.in_ok-put_claim.ensures name
-      ∙ ap (λ found. cond (is_near (set_parts c.args.set.now) c.in-Some.object.now && bytes_eq c.in-Some.object.now.key.name name) (Some c.in-Some.object.now) found) (c.loop-object.invariant.2 name),
+      ∙ ap (λ found. cond (in_namespace (set_parts c.args.set.now) PersistentVolumeClaim c.in-Some.object.now && bytes_eq c.in-Some.object.now.key.name name) (Some c.in-Some.object.now) found) (c.loop-object.invariant.2 name),
 )
