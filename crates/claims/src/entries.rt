@@ -1,7 +1,6 @@
 // The entries of a claim's `metadata.ownerReferences`, as they are and as they are to be.
 ghost use Rattle.std.specs.Prelude.{◌≡◌, Some, map, filter, option_map, option_and_then, IfOk};
 ghost use Rattle.std.specs.List.{list_all, list_any};
-ghost use Rattle.serde_json.specs.Data.{string};
 ghost use Rattle.serde_json.specs.Find.{as_str, get};
 ghost use Rattle.objects.specs.Tree.{data_of};
 ghost use Rattle.set_views.specs.Set.{set_parts};
@@ -90,12 +89,6 @@ pub(crate) fn are_wanted(set: &Set, pod: &str, owner: &Option<Owner>, entries: &
     all_stay(set, pod, owner, entries) && is_there(set, owner, entries)
 }
 
-fn text(alloc: Global, text: &str) -> Result<Tree, AllocError>
-    ensures { IfOk result (λ tree. data_of tree ≡ string text.now) }
-{
-    Ok(Tree::Text(Text::copy_of(alloc, text)?))
-}
-
 fn reference(
     alloc: Global,
     version: &str,
@@ -105,11 +98,11 @@ fn reference(
 ) -> Result<Tree, AllocError>
     ensures { IfOk result (λ tree. data_of tree ≡ reference version.now kind.now name.now uid.now) }
 {
-    let entry = Members::of(alloc, Vec::new(alloc))?
-        .with("apiVersion", Some(text(alloc, version)?))?
-        .with("kind", Some(text(alloc, kind)?))?
-        .with("name", Some(text(alloc, name)?))?
-        .with("uid", Some(text(alloc, uid)?))?;
+    let entry = Members::none(alloc)?
+        .with_text(alloc, "apiVersion", version)?
+        .with_text(alloc, "kind", kind)?
+        .with_text(alloc, "name", name)?
+        .with_text(alloc, "uid", uid)?;
     Ok(Tree::Map(entry))
 }
 

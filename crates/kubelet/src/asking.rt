@@ -15,11 +15,9 @@ use std::alloc::{AllocError, Global};
 fn ready_condition(alloc: Global) -> Result<Tree, AllocError>
     ensures { IfOk result (λ condition. data_of condition ≡ ready_condition) }
 {
-    let word = Text::copy_of(alloc, "True")?;
-    let kind = Text::copy_of(alloc, "Ready")?;
-    let none = Members::of(alloc, Vec::new(alloc))?;
-    let with_status = none.with("status", Some(Tree::Text(word)))?;
-    let whole = with_status.with("type", Some(Tree::Text(kind)))?;
+    let none = Members::none(alloc)?;
+    let with_status = none.with_text(alloc, "status", "True")?;
+    let whole = with_status.with_text(alloc, "type", "Ready")?;
     Ok(Tree::Map(whole))
 }
 
@@ -37,10 +35,9 @@ fn ready_status(alloc: Global) -> Result<Tree, AllocError>
     ensures { IfOk result (λ status. data_of status ≡ ready_status) }
 {
     let conditions = ready_conditions(alloc)?;
-    let phase = Text::copy_of(alloc, "Running")?;
-    let none = Members::of(alloc, Vec::new(alloc))?;
+    let none = Members::none(alloc)?;
     let with_conditions = none.with("conditions", Some(conditions))?;
-    let whole = with_conditions.with("phase", Some(Tree::Text(phase)))?;
+    let whole = with_conditions.with_text(alloc, "phase", "Running")?;
     Ok(Tree::Map(whole))
 }
 

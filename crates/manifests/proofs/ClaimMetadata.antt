@@ -11,7 +11,7 @@ use Rattle.serde_json.specs.Data.{Data, object, Items, no_items, item, Members, 
 use Rattle.serde_json.specs.Find.{as_str}
 use Rattle.objects.specs.MetadataShape.{are_owners, are_texts, labels_fit, metadata_fits, owners_fit}
 use Rattle.objects.specs.Object.{has_held, object_at}
-use Rattle.objects.specs.Text.{put_some}
+use Rattle.objects.specs.Building.{put_some}
 use Rattle.set_views.specs.Set.{SetParts}
 use Rattle.manifests.specs.BuiltClaim.{claim_metadata, labels_given, match_labels, owners_given, selector_of}
 use Rattle.manifests.specs.Template.{labels_in, part, texts_in, with_all}

@@ -11,7 +11,7 @@ use Rattle.serde_json.specs.Data.{Data, string, object, Members, no_members, mem
 use Rattle.serde_json.specs.Find.{as_str}
 use Rattle.objects.specs.MetadataShape.{are_texts, metadata_fits}
 use Rattle.objects.specs.Object.{has_held, object_at}
-use Rattle.objects.specs.Text.{put_some}
+use Rattle.objects.specs.Building.{put_some}
 use Rattle.set_views.specs.Set.{SetParts}
 use Rattle.revisions.specs.Built.{owned_metadata}
 use Rattle.manifests.specs.BuiltPod.{pod_labels, pod_metadata}

@@ -11,7 +11,7 @@ use Rattle.serde_json.specs.Data.{Data, string, Members, put, no_items}
 use Rattle.serde_json.specs.Find.{as_array, as_str, get, get_member}
 use Rattle.serde_json.proofs.Views.{get_member-put_other}
 use Rattle.objects.specs.Object.{is_text}
-use Rattle.objects.specs.Text.{put_some}
+use Rattle.objects.specs.Building.{put_some}
 use Rattle.set_views.specs.Claims.{Claim, names_of}
 use Rattle.set_views.specs.Readiness.{says}
 use Rattle.set_views.proofs.NameSets.{by_bytes, has_name-insert_key}

@@ -11,7 +11,7 @@ use Rattle.objects.specs.New.{new_object}
 use Rattle.objects.specs.Object.{object_at}
 use Rattle.objects.specs.PodNames.{claim_name}
 use Rattle.objects.specs.Status.{member_of}
-use Rattle.objects.specs.Text.{put_some}
+use Rattle.objects.specs.Building.{put_some}
 use Rattle.set_views.specs.Claims.{Claim}
 use Rattle.set_views.specs.Set.{SetParts}
 use Rattle.manifests.specs.Template.{labels_in, part, part_in, texts_in, with_all}

@@ -8,7 +8,7 @@ use Rattle.objects.specs.Key.{key_parts}
 use Rattle.objects.specs.Names.{most_label}
 use Rattle.objects.specs.New.{new_object}
 use Rattle.objects.specs.PodNames.{pod_name}
-use Rattle.objects.specs.Text.{put_some}
+use Rattle.objects.specs.Building.{put_some}
 use Rattle.set_views.specs.declared.fault.PlanError.{PlanError}
 use Rattle.set_views.specs.declared.fault.PlanError.TheVariants.{NameTooLong}
 use Rattle.set_views.specs.Set.{SetParts}

@@ -4,6 +4,7 @@ use Rattle.std.specs.Option.{option_map_or}
 use Rattle.serde_json.specs.Data.{Data, number, unsigned, string, object, Members, no_members, put}
 use Rattle.serde_json.specs.Find.{as_object}
 use Rattle.objects.specs.declared.object.Object.{Object}
+use Rattle.objects.specs.Building.{put_number}
 use Rattle.objects.specs.Same.{same_data}
 use Rattle.objects.specs.Status.{member_of, with_member}
 use Rattle.set_views.specs.Set.{SetParts}
@@ -27,9 +28,6 @@ status_parts s = record {
   current_revision = s.current_revision.now;
   update_revision = s.update_revision.now;
 }
-
-abbrev pub put_number : List ℕ → ℕ → Members → Members
-put_number k n ms = put k (number (unsigned n)) ms
 
 -- what was counted and named, put over the members of the old status
 abbrev pub new_status : SetParts → StatusParts → Members → Members

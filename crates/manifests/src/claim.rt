@@ -10,7 +10,7 @@ ghost use Rattle.objects.specs.Tree.{data_of};
 ghost use Rattle.set_views.specs.Set.{set_parts};
 ghost use Rattle.manifests.specs.BuiltClaim.{built_claim, claim_members, claim_metadata, labels_given, match_labels, owners_given, selector_of};
 
-use crate::members::{none, part, part_in, with_all, with_some};
+use crate::members::{part, part_in, with_all};
 use crate::template::{labels_in, texts_in};
 use objects::{Items, Key, Kind, Members, Object, ReadError, Tree, claim_name};
 use set_views::Set;
@@ -49,7 +49,7 @@ fn match_labels(alloc: Global, set: &Set) -> Result<Members, AllocError>
 {
     match selector_of(set) {
         Some(selector) => texts_in(alloc, selector, "matchLabels"),
-        None => none(alloc),
+        None => Members::none(alloc),
     }
 }
 
@@ -84,21 +84,21 @@ fn claim_metadata(
 ) -> Result<Members, AllocError>
     ensures { IfOk result (λ ms. ms ≡ claim_metadata (set_parts set.now) owners metadata.now) }
 {
-    let owned = with_some(none(alloc)?, "ownerReferences", owners_given(owners))?;
+    let owned = Members::none(alloc)?.with_some("ownerReferences", owners_given(owners))?;
     let selected = match_labels(alloc, set)?;
     let own = labels_in(alloc, metadata)?;
     let labels = with_all(alloc, &own, &selected)?;
     drop(selected);
     drop(own);
-    let labelled = with_some(owned, "labels", labels_given(labels))?;
-    with_some(labelled, "annotations", part_in(metadata, "annotations")?)
+    let labelled = owned.with_some("labels", labels_given(labels))?;
+    labelled.with_some("annotations", part_in(metadata, "annotations")?)
 }
 
 /// The members of a claim beside its metadata.
 fn claim_members(alloc: Global, template: &Members) -> Result<Members, AllocError>
     ensures { IfOk result (λ ms. ms ≡ claim_members template.now) }
 {
-    with_some(none(alloc)?, "spec", part_in(template, "spec")?)
+    Members::none(alloc)?.with_some("spec", part_in(template, "spec")?)
 }
 
 fn claim_key(alloc: Global, set: &Set, name: &str) -> Result<Key, AllocError>

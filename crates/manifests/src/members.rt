@@ -1,22 +1,13 @@
-// Members of a map, as they are found and put.
+// Members of a map, as they are found and put over others.
 ghost use Rattle.std.specs.Prelude.{◌≡◌, ◌<◌, ◌+◌, length, option_map, IfNone, IfOk, IfSome};
-ghost use Rattle.serde_json.specs.Data.{member, no_members, put, string};
+ghost use Rattle.serde_json.specs.Data.{member, no_members};
 ghost use Rattle.objects.specs.Object.{object_at};
-ghost use Rattle.objects.specs.Text.{put_some};
 ghost use Rattle.objects.specs.Tree.{AreAscending, data_of, members_of};
 ghost use Rattle.manifests.specs.Template.{part, part_in, with_all};
-ghost use Rattle.manifests.specs.BuiltStatus.{put_number};
 
-use objects::{Members, Text, Tree, Whole};
+use objects::{Members, Text, Tree};
 use std::alloc::{AllocError, Global};
 use std::cmp::Ordering;
-
-/// No members.
-pub(crate) fn none(alloc: Global) -> Result<Members, AllocError>
-    ensures { IfOk result (λ members. members ≡ no_members) }
-{
-    Members::of(alloc, Vec::new(alloc))
-}
 
 /// The value of a member, if it is a map.
 pub(crate) fn map_at<'a>(members: &'a Members, key: &str) -> Option<&'a Members>
@@ -31,7 +22,7 @@ pub(crate) fn part(alloc: Global, members: &Members, key: &str) -> Result<Member
 {
     match map_at(members, key) {
         Some(found) => found.clone(),
-        None => none(alloc),
+        None => Members::none(alloc),
     }
 }
 
@@ -127,38 +118,4 @@ pub(crate) fn with_all(
 {
     let all = merged(alloc, members.entries(), more.entries())?;
     Members::of(alloc, all)
-}
-
-/// The members with that value at the key, if there is one.
-pub(crate) fn with_some(
-    members: Members,
-    key: &str,
-    value: Option<Tree>,
-) -> Result<Members, AllocError>
-    ensures { IfOk result (λ ms. ms ≡ put_some key.now (option_map data_of value) members) }
-{
-    match value {
-        Some(value) => members.with(key, Some(value)),
-        None => Ok(members),
-    }
-}
-
-/// The members with that number at the key.
-pub(crate) fn with_number(members: Members, key: &str, number: u64) -> Result<Members, AllocError>
-    ensures { IfOk result (λ ms. ms ≡ put_number key.now number members) }
-{
-    members.with(key, Some(Tree::Whole(Whole::from(number))))
-}
-
-/// The members with that text at the key.
-pub(crate) fn with_text(
-    alloc: Global,
-    members: Members,
-    key: &str,
-    text: &str,
-) -> Result<Members, AllocError>
-    ensures { IfOk result (λ ms. ms ≡ put key.now (string text.now) members) }
-{
-    let text = Text::copy_of(alloc, text)?;
-    members.with(key, Some(Tree::Text(text)))
 }

@@ -4,14 +4,13 @@ ghost use Rattle.serde_json.specs.Data.{put, string};
 ghost use Rattle.objects.specs.declared.kind.Kind.TheVariants.{Pod};
 ghost use Rattle.objects.specs.Key.{is_key, key_parts};
 ghost use Rattle.objects.specs.PodNames.{pod_name};
-ghost use Rattle.objects.specs.Text.{put_some};
+ghost use Rattle.objects.specs.Building.{put_some};
 ghost use Rattle.objects.specs.Tree.{data_of};
 ghost use Rattle.set_views.specs.Set.{set_parts};
 ghost use Rattle.set_views.specs.Steps.{Gives};
 ghost use Rattle.manifests.specs.BuiltPod.{built_pod, named_pod, pod_labels, pod_members, pod_metadata, pod_spec};
 ghost use Rattle.manifests.specs.Template.{part, template_of};
 
-use crate::members::{none, with_some, with_text};
 use crate::pod_template::PodTemplate;
 use crate::volumes::with_others;
 use objects::{Key, Kind, MAX_LABEL, Members, Object, ReadError, Tree, pod_name};
@@ -28,11 +27,11 @@ fn pod_labels(
 ) -> Result<Members, AllocError>
     ensures { IfOk result (λ all. all ≡ pod_labels name.now revision.now ordinal labels) }
 {
-    let named = with_text(alloc, labels, "statefulset.kubernetes.io/pod-name", name)?;
-    let versioned = with_text(alloc, named, "controller-revision-hash", revision)?;
+    let named = labels.with_text(alloc, "statefulset.kubernetes.io/pod-name", name)?;
+    let versioned = named.with_text(alloc, "controller-revision-hash", revision)?;
     let mut buffer = itoa::Buffer::new();
     let index = buffer.format(ordinal);
-    let all = with_text(alloc, versioned, "apps.kubernetes.io/pod-index", index)?;
+    let all = versioned.with_text(alloc, "apps.kubernetes.io/pod-index", index)?;
     Ok(all)
 }
 
@@ -69,8 +68,8 @@ fn placed(alloc: Global, set: &Set, name: &str, spec: Members) -> Result<Members
     ensures { IfOk result (λ ms. ms ≡ put_some (codes "subdomain") (option_map string (set_parts set.now).service)
         (put (codes "hostname") (string name.now) spec)) }
 {
-    let named = with_text(alloc, spec, "hostname", name)?;
-    with_some(named, "subdomain", subdomain_of(set)?)
+    let named = spec.with_text(alloc, "hostname", name)?;
+    named.with_some("subdomain", subdomain_of(set)?)
 }
 
 /// The spec of a pod, over that of the template.
@@ -99,7 +98,7 @@ fn pod_members(
     ensures { IfOk result (λ ms. ms ≡ pod_members (set_parts template.now.set.now) name.now ordinal (template_of template.now.revision.now)) }
 {
     let spec = pod_spec(alloc, template, name, ordinal)?;
-    let members = none(alloc)?.with("spec", Some(Tree::Map(spec)))?;
+    let members = Members::none(alloc)?.with("spec", Some(Tree::Map(spec)))?;
     Ok(members)
 }
 

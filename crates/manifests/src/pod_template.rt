@@ -1,13 +1,13 @@
 // What a set's pods have in common.
 ghost use Rattle.std.specs.Prelude.{◌≡◌, codes, IfOk};
 ghost use Rattle.serde_json.specs.View.{items_of};
-ghost use Rattle.objects.specs.Text.{put_some};
+ghost use Rattle.objects.specs.Building.{put_some};
 ghost use Rattle.set_views.specs.Set.{set_parts};
 ghost use Rattle.revisions.specs.Built.{owned_metadata};
 ghost use Rattle.manifests.specs.Template.{labels_in, part, part_in, template_of};
 ghost use Rattle.manifests.specs.Volumes.{other_volumes};
 
-use crate::members::{part, part_in, with_some};
+use crate::members::{part, part_in};
 use crate::template::{labels_in, template_of};
 use crate::volumes::other_volumes;
 use objects::{Items, Members, Memory, Object};
@@ -72,5 +72,5 @@ fn annotated(alloc: Global, set: &Set, metadata: &Members) -> Result<Members, Me
 {
     let annotations = part_in(metadata, "annotations")?;
     let owned = owned_metadata(alloc, set)?;
-    Ok(with_some(owned, "annotations", annotations)?)
+    Ok(owned.with_some("annotations", annotations)?)
 }

@@ -5,7 +5,6 @@ ghost use Rattle.objects.specs.Tree.{data_of};
 ghost use Rattle.set_views.specs.Set.{set_parts};
 ghost use Rattle.manifests.specs.BuiltStatus.{built_status, differs, new_status, old_status, set_with, status_in, status_parts};
 
-use crate::members::{none, with_number, with_text};
 use objects::{Members, Object, Tree};
 use set_views::Set;
 use std::alloc::{AllocError, Global};
@@ -37,7 +36,7 @@ fn old_status(alloc: Global, set: &Set) -> Result<Members, AllocError>
 {
     match status_members(set) {
         Some(old) => old.clone(),
-        None => none(alloc),
+        None => Members::none(alloc),
     }
 }
 
@@ -56,14 +55,14 @@ fn new_status(
 ) -> Result<Members, AllocError>
     ensures { IfOk result (λ new. new ≡ new_status (set_parts set.now) (status_parts status.entry) old) }
 {
-    let counted = with_number(old, "updatedReplicas", status.updated_replicas as u64)?;
-    let counted = with_text(alloc, counted, "updateRevision", status.update_revision)?;
-    let counted = with_number(counted, "replicas", status.replicas as u64)?;
-    let counted = with_number(counted, "readyReplicas", status.ready_replicas as u64)?;
-    let counted = with_number(counted, "observedGeneration", generation_of(set))?;
-    let counted = with_text(alloc, counted, "currentRevision", status.current_revision)?;
-    let counted = with_number(counted, "currentReplicas", status.current_replicas as u64)?;
-    let counted = with_number(counted, "collisionCount", set.collisions as u64)?;
+    let counted = old.with_number("updatedReplicas", status.updated_replicas as u64)?;
+    let counted = counted.with_text(alloc, "updateRevision", status.update_revision)?;
+    let counted = counted.with_number("replicas", status.replicas as u64)?;
+    let counted = counted.with_number("readyReplicas", status.ready_replicas as u64)?;
+    let counted = counted.with_number("observedGeneration", generation_of(set))?;
+    let counted = counted.with_text(alloc, "currentRevision", status.current_revision)?;
+    let counted = counted.with_number("currentReplicas", status.current_replicas as u64)?;
+    let counted = counted.with_number("collisionCount", set.collisions as u64)?;
     Ok(counted)
 }
 

@@ -2,7 +2,7 @@
 ghost use Rattle.std.specs.Prelude.{◌≡◌, IfOk};
 ghost use Rattle.manifests.specs.Template.{labels_in, template_of, texts_in};
 
-use crate::members::{none, part};
+use crate::members::part;
 use objects::{Members, are_texts};
 use revisions::RevisionView;
 use std::alloc::{AllocError, Global};
@@ -13,7 +13,7 @@ pub(crate) fn template_of(alloc: Global, revision: &RevisionView<'_>) -> Result<
 {
     match revision.template() {
         Some(template) => template.clone(),
-        None => none(alloc),
+        None => Members::none(alloc),
     }
 }
 
@@ -25,7 +25,7 @@ pub(crate) fn texts_in(alloc: Global, members: &Members, key: &str) -> Result<Me
     if are_texts(texts.entries()) {
         Ok(texts)
     } else {
-        none(alloc)
+        Members::none(alloc)
     }
 }
 

@@ -13,7 +13,6 @@ ghost use Rattle.manifests.specs.Arrays.{list_of};
 ghost use Rattle.manifests.specs.Volumes.{claim_volume, is_replaced, other_volumes, volume_of, volumes_in, volumes_with, with_others};
 
 use crate::claim::claim_name_of;
-use crate::members::{none, with_text};
 use objects::{Items, Members, Tree};
 use set_views::Set;
 use std::alloc::{AllocError, Global};
@@ -23,9 +22,9 @@ use std::collections::BTreeSet;
 fn claim_volume(alloc: Global, name: &str, claim: &str) -> Result<Tree, AllocError>
     ensures { IfOk result (λ volume. data_of volume ≡ claim_volume name.now claim.now) }
 {
-    let source = with_text(alloc, none(alloc)?, "claimName", claim)?;
-    let stored = none(alloc)?.with("persistentVolumeClaim", Some(Tree::Map(source)))?;
-    let volume = with_text(alloc, stored, "name", name)?;
+    let source = Members::none(alloc)?.with_text(alloc, "claimName", claim)?;
+    let stored = Members::none(alloc)?.with("persistentVolumeClaim", Some(Tree::Map(source)))?;
+    let volume = stored.with_text(alloc, "name", name)?;
     Ok(Tree::Map(volume))
 }
 

@@ -15,7 +15,8 @@ use Rattle.objects.specs.Meta.{IsMeta}
 use Rattle.objects.specs.Object.{is_held, without_held, has_held}
 use Rattle.trees.specs.Tree.{ComesBefore, AreAscending}
 use Rattle.trees.specs.Canonical.{IsCanonical, AreCanonicalMembers}
-use Rattle.objects.specs.Text.{put_some, unless_zero, whole_metadata}
+use Rattle.trees.specs.Building.{put_some}
+use Rattle.objects.specs.Text.{unless_zero, whole_metadata}
 use Rattle.objects.specs.Uid.{uid_text}
 use Rattle.trees.proofs.EntryPlaces.{ascending_put}
 use Rattle.trees.proofs.PutOrder.{apart, before_next, equal_texts, canonical_put}

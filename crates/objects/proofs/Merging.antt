@@ -14,7 +14,7 @@ use Rattle.serde_json.specs.Written.{outline, members_outline}
 use Rattle.trees.specs.declared.tree.Tree.{Tree}
 use Rattle.trees.specs.Tree.{data_of, members_of, ComesBefore}
 use Rattle.objects.specs.Object.{is_held, has_held}
-use Rattle.objects.specs.Text.{put_some}
+use Rattle.trees.specs.Building.{put_some}
 use Rattle.trees.specs.Places.{IsAbove}
 use Rattle.trees.specs.Canonical.{IsCanonical, AreCanonicalMembers}
 use Rattle.objects.specs.Merged.{puts, IsBelowAll, IsFront, entry_tokens, some_tokens, StopsAt, WritesFront, WritesStep}

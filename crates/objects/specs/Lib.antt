@@ -27,6 +27,7 @@ pub use Rattle.trees.specs.Whole
 pub use Rattle.trees.specs.Tree
 pub use Rattle.trees.specs.declared.tree.Tree as DeclaredTree
 pub use Rattle.trees.specs.Members
+pub use Rattle.trees.specs.Building
 pub use Rattle.trees.specs.Places
 pub use Rattle.trees.specs.Same
 pub use Rattle.trees.specs.IfWhole

@@ -12,7 +12,8 @@ use Rattle.objects.specs.declared.print.Held.{Held}
 use Rattle.objects.specs.declared.print.Held.TheVariants.{Text, Whole}
 use Rattle.trees.specs.Tree.{data_of, members_of}
 use Rattle.objects.specs.declared.object.Object.{Object}
-use Rattle.objects.specs.Text.{put_some, unless_zero}
+use Rattle.trees.specs.Building.{put_some}
+use Rattle.objects.specs.Text.{unless_zero}
 use Rattle.objects.specs.Uid.{uid_text}
 use Rattle.trees.specs.Places.{IsAbove}
 use Rattle.trees.specs.Canonical.{AreCanonicalMembers}

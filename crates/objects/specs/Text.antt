@@ -3,14 +3,10 @@ use Rattle.std.specs.Prelude.{ℕ, ◌==◌, List, codes, decimal, Option, Some,
 use Rattle.serde_json.specs.Data.{Data, number, unsigned, string, object, Members, no_members, put}
 use Rattle.serde_json.specs.Find.{as_object}
 use Rattle.serde_json.specs.Written.{compact_text}
+use Rattle.trees.specs.Building.{put_some}
 use Rattle.objects.specs.declared.object.Object.{Object}
 use Rattle.objects.specs.Object.{object_at}
 use Rattle.objects.specs.Uid.{uid_text}
-
--- what is missing is left out
-abbrev pub put_some : List ℕ → Option Data → Members → Members
-put_some k None ms = ms
-put_some k (Some d) ms = put k d ms
 
 abbrev pub unless_zero : ℕ → Data → Option Data
 unless_zero n d = if n == 0 then None else Some d

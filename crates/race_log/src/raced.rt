@@ -6,7 +6,7 @@ ghost use Rattle.objects.specs.declared.kind.Kind.TheVariants.{StatefulSet};
 ghost use Rattle.objects.specs.Key.{key_parts};
 ghost use Rattle.race_log.specs.Raced.{creates_set, namespace_raced, set_raced, spec_raced};
 
-use objects::{Draft, Key, Kind, Members, Memory, Object, Text, Tree, Whole};
+use objects::{Draft, Key, Kind, Members, Memory, Object, Text, Tree};
 use requests::Request;
 use std::alloc::{AllocError, Global};
 
@@ -29,17 +29,11 @@ fn key(alloc: Global) -> Result<Key, AllocError>
     })
 }
 
-fn none(alloc: Global) -> Result<Members, AllocError>
-    ensures { IfOk result (λ members. members ≡ no_members) }
-{
-    Members::of(alloc, Vec::new(alloc))
-}
-
 fn spec(alloc: Global, replicas: u64) -> Result<Tree, AllocError>
     ensures { IfOk result (λ spec. data_of spec ≡ spec_raced replicas) }
 {
-    let template = none(alloc)?;
-    let counted = none(alloc)?.with("replicas", Some(Tree::Whole(Whole::from(replicas))))?;
+    let template = Members::none(alloc)?;
+    let counted = Members::none(alloc)?.with_number("replicas", replicas)?;
     let whole = counted.with("template", Some(Tree::Map(template)))?;
     Ok(Tree::Map(whole))
 }
@@ -49,7 +43,7 @@ fn members(alloc: Global, replicas: u64) -> Result<Members, AllocError>
     ensures { IfOk result (λ members. members ≡ put (codes "spec") (spec_raced replicas) no_members) }
 {
     let spec = spec(alloc, replicas)?;
-    none(alloc)?.with("spec", Some(spec))
+    Members::none(alloc)?.with("spec", Some(spec))
 }
 
 /// The create of the set: `web` in `default`, with an empty template and no claims, whose pods come in order.
@@ -59,7 +53,7 @@ pub fn set_creation(alloc: Global, replicas: u64) -> Result<Request, Memory>
 {
     let key = key(alloc)?;
     let members = members(alloc, replicas)?;
-    let object = Object::of(alloc, key, none(alloc)?, members)?;
+    let object = Object::of(alloc, key, Members::none(alloc)?, members)?;
     Ok(Request::Create(Draft {
         object,
         uid: None,

@@ -1,6 +1,6 @@
 // The ControllerRevisions that a plan writes.
 ghost use Rattle.std.specs.Prelude.{◌≡◌, codes, true, string_bytes, IfOk};
-ghost use Rattle.serde_json.specs.Data.{Data, string};
+ghost use Rattle.serde_json.specs.Data.{Data};
 ghost use Rattle.objects.specs.Key.{is_key, key_parts};
 ghost use Rattle.objects.specs.Tree.{data_of};
 ghost use Rattle.objects.specs.declared.kind.Kind.TheVariants.{ControllerRevision};
@@ -8,22 +8,16 @@ ghost use Rattle.set_views.specs.Set.{set_parts};
 ghost use Rattle.revisions.specs.Built.{new_revision, owned_metadata, owner_reference, with_number};
 ghost use Rattle.revisions.specs.Choice.{data_with};
 
-use objects::{Items, Key, Kind, Members, Memory, Object, ReadError, Text, Tree, Whole, uid_text};
+use objects::{Items, Key, Kind, Members, Memory, Object, ReadError, Tree, Whole, uid_text};
 use set_views::Set;
 use std::alloc::{AllocError, Global};
-
-fn text(alloc: Global, text: &str) -> Result<Tree, AllocError>
-    ensures { IfOk result (λ tree. data_of tree ≡ string text.now) }
-{
-    Ok(Tree::Text(Text::copy_of(alloc, text)?))
-}
 
 /// The `data` of a revision of this template.
 pub(crate) fn data_with(alloc: Global, template: &Members) -> Result<Tree, AllocError>
     ensures { IfOk result (λ tree. data_of tree ≡ data_with template.now) }
 {
     let template = Tree::Map(template.clone()?);
-    let none = Members::of(alloc, Vec::new(alloc))?;
+    let none = Members::none(alloc)?;
     let spec = none.clone()?.with("template", Some(template))?;
     Ok(Tree::Map(none.with("spec", Some(Tree::Map(spec)))?))
 }
@@ -33,13 +27,13 @@ fn owner_reference(alloc: Global, set: &Set) -> Result<Tree, Memory>
     ensures { IfOk result (λ tree. data_of tree ≡ owner_reference (set_parts set.now)) }
 {
     let uid = uid_text(alloc, set.object.meta.uid)?;
-    let owner = Members::of(alloc, Vec::new(alloc))?
-        .with("apiVersion", Some(text(alloc, "apps/v1")?))?
+    let owner = Members::none(alloc)?
+        .with_text(alloc, "apiVersion", "apps/v1")?
         .with("blockOwnerDeletion", Some(Tree::Truth(true)))?
         .with("controller", Some(Tree::Truth(true)))?
-        .with("kind", Some(text(alloc, "StatefulSet")?))?
-        .with("name", Some(text(alloc, set.object.key.name.as_str())?))?
-        .with("uid", Some(Tree::Text(Text::from(uid))))?;
+        .with_text(alloc, "kind", "StatefulSet")?
+        .with_text(alloc, "name", set.object.key.name.as_str())?
+        .with_text(alloc, "uid", uid.as_str())?;
     Ok(Tree::Map(owner))
 }
 
@@ -51,7 +45,7 @@ pub fn owned_metadata(alloc: Global, set: &Set) -> Result<Members, Memory>
     let mut owners = Vec::new(alloc);
     owners.push(owner_reference(alloc, set)?)?;
     let owners = Tree::List(Items::of(alloc, owners)?);
-    Ok(Members::of(alloc, Vec::new(alloc))?.with("ownerReferences", Some(owners))?)
+    Ok(Members::none(alloc)?.with("ownerReferences", Some(owners))?)
 }
 
 /// A revision of the set's template, with that name and number.
@@ -68,9 +62,9 @@ pub(crate) fn new_revision(
 {
     let key = revision_key(alloc, set.object.key.namespace.as_str(), name)?;
     let metadata = owned_metadata(alloc, set)?;
-    let members = Members::of(alloc, Vec::new(alloc))?
+    let members = Members::none(alloc)?
         .with("data", Some(template))?
-        .with("revision", Some(Tree::Whole(Whole::from(number))))?;
+        .with_number("revision", number)?;
     Ok(Object::of(alloc, key, metadata, members)?)
 }
 

@@ -2,6 +2,7 @@
 pub mod Whole
 pub mod Tree
 pub mod Members
+pub mod Building
 pub mod Places
 pub mod Same
 pub mod Steps

@@ -2,6 +2,7 @@
 //! JSON. A copy of a tree shares its lists and maps.
 #![tactic(auto)]
 
+mod building;
 mod fault;
 mod found;
 mod number;

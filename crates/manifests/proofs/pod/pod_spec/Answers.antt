@@ -1,7 +1,7 @@
 use Rattle.std.proofs.Common.{◌≡◌, filter, map, not, sym, ap, ◌∙◌, codes}
 use Rattle.std.specs.Prelude.{option_map}
 use Rattle.serde_json.specs.Data.{Members, put, string}
-use Rattle.objects.specs.Text.{put_some}
+use Rattle.objects.specs.Building.{put_some}
 use Rattle.set_views.specs.Set.{set_parts}
 use Rattle.manifests.specs.Arrays.{list_of}
 use Rattle.manifests.specs.Template.{part, template_of}

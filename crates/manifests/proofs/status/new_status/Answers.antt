@@ -1,6 +1,6 @@
 use Rattle.std.proofs.Common.{ap, ◌∙◌, codes}
 use Rattle.serde_json.specs.Data.{put, string}
-use Rattle.manifests.specs.BuiltStatus.{put_number}
+use Rattle.objects.specs.Building.{put_number}
 use Rattle.manifests.proofs.status.new_status.Goals as goal
 
 pub returns : goal.returns

@@ -1,5 +1,5 @@
 use Rattle.std.proofs.Common.{ap, ◌∙◌, codes}
-use Rattle.objects.specs.Text.{put_some}
+use Rattle.objects.specs.Building.{put_some}
 use Rattle.set_views.specs.Set.{set_parts}
 use Rattle.revisions.specs.Built.{owned_metadata}
 use Rattle.manifests.specs.Template.{labels_in, part, part_in}
