@@ -19,11 +19,11 @@ pub(crate) const BAD_WORDS: u8 = 2;
 pub(crate) const REFUSED: u8 = 3;
 
 /// What a run allocates from, and whether it was refused an allocation. The second tells an exit status of 1 for want of
-/// memory from one that nothing called for.
+/// memory from one that nothing called for. It is for the clauses of `command`, and for who runs it.
 #[derive(Drop)]
 pub struct Heap {
     pub(crate) alloc: Global,
-    pub(crate) refused: bool,
+    pub refused: bool,
 }
 
 impl Heap {
@@ -35,13 +35,6 @@ impl Heap {
             alloc,
             refused: false,
         }
-    }
-
-    /// Whether it was refused an allocation.
-    pub fn was_refused(&self) -> bool
-        ensures { result ≡ self.now.refused }
-    {
-        self.refused
     }
 }
 

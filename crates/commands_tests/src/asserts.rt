@@ -66,7 +66,7 @@ fn outcome_over<H: Threads + Wait + Sync, R: Read + Drop>(
         status,
         written,
         faults,
-        is_refused: heap.was_refused(),
+        is_refused: heap.refused,
     }
 }
 

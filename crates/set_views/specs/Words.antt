@@ -1,6 +1,5 @@
 -- The words of a plan (Kubernetes, "StatefulSets": "Pod Identity", "Deployment and Scaling Guarantees").
 use Rattle.std.specs.Prelude.{ℕ, ◌+◌, ◌==◌, Bool, true, false, not, ◌&&◌, nat_le, nat_lt, bytes_eq, Option, Some, None, option_and_then, if◌then◌else◌}
-use Rattle.std.specs.Option.{option_map_or}
 use Rattle.objects.specs.declared.kind.Kind.{Kind}
 use Rattle.objects.specs.declared.object.Object.{Object}
 use Rattle.objects.specs.Key.{kind_index}
@@ -28,14 +27,6 @@ ordinal_in set pod = option_and_then (λ s. if bytes_eq s.0 set.object.key.name 
 -- the set controls the pod
 abbrev pub is_owned : SetParts → PodParts → Bool
 is_owned set pod = is_controlled set.object.meta.uid pod.owners
-
--- an owned pod with the name of an ordinal in range
-abbrev pub is_target : SetParts → PodParts → Bool
-is_target set pod = is_owned set pod && option_map_or (in_range set) (ordinal_in set pod) false
-
--- an owned pod with the name of another ordinal
-abbrev pub is_condemned : SetParts → PodParts → Bool
-is_condemned set pod = is_owned set pod && option_map_or (λ i. not (in_range set i)) (ordinal_in set pod) false
 
 abbrev pub is_ready : Readiness → Bool
 is_ready Ready = true

@@ -4,11 +4,10 @@ ghost use Rattle.objects.specs.Metadata.{owners_of};
 ghost use Rattle.set_views.specs.Owners.{is_controlled};
 ghost use Rattle.set_views.specs.Pod.{pod_parts};
 ghost use Rattle.set_views.specs.Set.{set_parts};
-ghost use Rattle.set_views.specs.Words.{in_namespace, in_range, is_condemned, is_healthy, is_owned, is_target, ordinal_in};
+ghost use Rattle.set_views.specs.Words.{in_namespace, in_range, is_owned, ordinal_in};
 
 use crate::owners::is_controlled;
 use crate::pod::PodView;
-use crate::readiness::Readiness;
 use crate::set::Set;
 use objects::{Kind, Object};
 
@@ -53,32 +52,5 @@ impl PodView<'_> {
         ensures { result ≡ is_owned (set_parts set.now) (pod_parts self.now) }
     {
         is_controlled(self.owners, set.object.meta.uid)
-    }
-
-    /// Whether the set controls the pod, and has its ordinal in range.
-    pub fn is_target_of(&self, set: &Set) -> bool
-        ensures { result ≡ is_target (set_parts set.now) (pod_parts self.now) }
-    {
-        match self.ordinal_in(set) {
-            Some(ordinal) => set.has_in_range(ordinal) && self.is_owned_by(set),
-            None => false,
-        }
-    }
-
-    /// Whether the set controls the pod, and its name is one of the set's with an ordinal out of range.
-    pub fn is_condemned_by(&self, set: &Set) -> bool
-        ensures { result ≡ is_condemned (set_parts set.now) (pod_parts self.now) }
-    {
-        match self.ordinal_in(set) {
-            Some(ordinal) => !set.has_in_range(ordinal) && self.is_owned_by(set),
-            None => false,
-        }
-    }
-
-    /// Whether the pod is running and ready, and not on its way out.
-    pub fn is_healthy(&self) -> bool
-        ensures { result ≡ is_healthy (pod_parts self.now) }
-    {
-        matches!(self.readiness, Readiness::Ready) && !self.terminating
     }
 }

@@ -108,11 +108,19 @@ fn pod(alloc: Global, role: &Role) -> Result<Object, ReadError> {
 }
 
 fn is_target(pod: &Object, set: &Set) -> bool {
-    read_pod(pod).is_target_of(set)
+    let pod = read_pod(pod);
+    match pod.ordinal_in(set) {
+        Some(ordinal) => set.has_in_range(ordinal) && pod.is_owned_by(set),
+        None => false,
+    }
 }
 
 fn is_condemned(pod: &Object, set: &Set) -> bool {
-    read_pod(pod).is_condemned_by(set)
+    let pod = read_pod(pod);
+    match pod.ordinal_in(set) {
+        Some(ordinal) => !set.has_in_range(ordinal) && pod.is_owned_by(set),
+        None => false,
+    }
 }
 
 /// Whether the set has the pod of the role in that role.
