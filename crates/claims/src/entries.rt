@@ -7,7 +7,7 @@ ghost use Rattle.set_views.specs.Set.{set_parts};
 ghost use Rattle.claims.specs.Owners.{are_wanted, is_of, is_of_pod, is_of_set, is_there, reference, reference_to, stays, wanted, with_owner};
 
 use crate::owner::Owner;
-use objects::{Members, Memory, Text, Tree, is_uid_text, uid_text};
+use objects::{Members, Memory, Tree, is_uid_text, uid_text};
 use set_views::{Set, says};
 use std::alloc::{AllocError, Global};
 

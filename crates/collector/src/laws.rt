@@ -1,5 +1,5 @@
 //! What a collector never does: laws of the definition, each with an empty body.
-ghost use Rattle.std.specs.Prelude.{◌≡◌, ◌<◌, ℕ, Bool, true, false, List};
+ghost use Rattle.std.specs.Prelude.{◌≡◌, ◌<◌, ℕ, true, false, List};
 ghost use Rattle.serde_json.specs.Data.{no_items};
 ghost use Rattle.objects.specs.declared.object.Object.{Object};
 ghost use Rattle.objects.specs.Metadata.{owners_of};

@@ -1,7 +1,7 @@
 -- The StatefulSet with its new status (Kubernetes API reference, apps/v1: StatefulSetStatus).
 use Rattle.std.specs.Prelude.{ℕ, Bool, true, not, List, codes, Option, Some, None, option_and_then, unwrap_or, if◌then◌else◌}
 use Rattle.std.specs.Option.{option_map_or}
-use Rattle.serde_json.specs.Data.{Data, number, unsigned, string, object, Members, no_members, put}
+use Rattle.serde_json.specs.Data.{Data, string, object, Members, no_members, put}
 use Rattle.serde_json.specs.Find.{as_object}
 use Rattle.objects.specs.declared.object.Object.{Object}
 use Rattle.objects.specs.Building.{put_number}

@@ -1,5 +1,5 @@
 // The volumes of a pod, in which it has its set's claims.
-ghost use Rattle.std.specs.Prelude.{◌≡◌, ◌++◌, ℕ, List, bytes_eq, codes, map, filter, not, option_and_then, option_map, IfOk, OnOk};
+ghost use Rattle.std.specs.Prelude.{◌≡◌, ℕ, List, bytes_eq, codes, map, filter, not, option_and_then, option_map, IfOk};
 ghost use Rattle.std.specs.List.{list_any};
 ghost use Rattle.serde_json.specs.Data.{Members as DataMembers};
 ghost use Rattle.serde_json.specs.Find.{as_str, get};

@@ -1,5 +1,5 @@
 // The steps on one ordinal.
-ghost use Rattle.std.specs.Prelude.{◌≡◌, ◌+◌, ◌≤◌, ◌-◌, [], ◌∷◌, OnOk};
+ghost use Rattle.std.specs.Prelude.{◌≤◌, ◌-◌, [], ◌∷◌, OnOk};
 ghost use Rattle.std.specs.List.{flat_map, range_with_len};
 ghost use Rattle.set_views.specs.Set.{set_parts};
 ghost use Rattle.pod_steps.specs.Step.{Adds};

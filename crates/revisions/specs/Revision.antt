@@ -1,5 +1,5 @@
 -- ControllerRevisions as a plan sees them (Kubernetes API reference, apps/v1, ControllerRevision: `data`, `revision`).
-use Rattle.std.specs.Prelude.{ℕ, Bool, true, false, ◌&&◌, List, codes, bytes_eq, Option, option_and_then, unwrap_or}
+use Rattle.std.specs.Prelude.{ℕ, Bool, List, codes, Option, option_and_then, unwrap_or}
 use Rattle.std.specs.Cmp.Lexicographic.{slice_cmp}
 use Rattle.std.specs.List.{filter}
 use Rattle.std.specs.List.Sorted.{IsPermutation, IsSorted}

@@ -1,6 +1,5 @@
 // The ControllerRevisions that a plan writes.
-ghost use Rattle.std.specs.Prelude.{◌≡◌, codes, true, string_bytes, IfOk};
-ghost use Rattle.serde_json.specs.Data.{Data};
+ghost use Rattle.std.specs.Prelude.{◌≡◌, true, IfOk};
 ghost use Rattle.objects.specs.Key.{is_key, key_parts};
 ghost use Rattle.objects.specs.Tree.{data_of};
 ghost use Rattle.objects.specs.declared.kind.Kind.TheVariants.{ControllerRevision};

@@ -4,7 +4,7 @@ ghost use Rattle.std.specs.Option.{option_map_or};
 ghost use Rattle.set_views.specs.Pod.{pod_parts};
 ghost use Rattle.set_views.specs.Set.{set_parts};
 ghost use Rattle.set_views.specs.Words.{is_owned};
-ghost use Rattle.revisions.specs.History.{expired, has_pod, is_live};
+ghost use Rattle.revisions.specs.History.{expired, is_live};
 ghost use Rattle.revisions.specs.Listing.{has_name};
 ghost use Rattle.revisions.specs.Plan.{objects_of};
 

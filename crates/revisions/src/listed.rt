@@ -1,8 +1,7 @@
 // The revisions of a set, among the objects that were listed.
-ghost use Rattle.std.specs.Prelude.{◌≡◌, ℕ, List, [], ◌∷◌, ◌++◌, ◌&&◌, ◌||◌, not, bytes_eq, true, if◌then◌else◌, IfOk, OnOk};
+ghost use Rattle.std.specs.Prelude.{◌≡◌, ℕ, List, [], ◌∷◌, ◌++◌, ◌&&◌, ◌||◌, not, bytes_eq, if◌then◌else◌, IfOk, OnOk};
 ghost use Rattle.std.specs.List.Sorted.{IsPermutation, IsSorted};
 ghost use Rattle.objects.specs.declared.kind.Kind.TheVariants.{ControllerRevision};
-ghost use Rattle.set_views.specs.Firsts.{is_held};
 ghost use Rattle.set_views.specs.Set.{set_parts};
 ghost use Rattle.set_views.specs.Words.{in_namespace};
 ghost use Rattle.revisions.specs.Listing.{has_name, HoldsNames};

@@ -1,4 +1,4 @@
-ghost use Rattle.std.specs.Prelude.{◌≡◌, ℕ, List, IfSome, IfNone, codes, option_map};
+ghost use Rattle.std.specs.Prelude.{◌≡◌, ℕ, List, IfSome, IfNone};
 ghost use Rattle.objects.specs.PodNames.{IsPodName};
 ghost use Rattle.set_views.specs.Pod.{place_of, pod_parts, pod_with};
 
