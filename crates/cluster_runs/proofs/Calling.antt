@@ -12,8 +12,8 @@ use Rattle.interleavings.proofs.Basics.{Compared, Least, above, atmost, compare,
 use Rattle.history.proofs.Stepping.{lt_false, lt_true}
 use Rattle.rounds.specs.Transcript.{Life}
 use Rattle.rounds.specs.World.{put}
-use Rattle.clusters.specs.Cluster.{Cluster, first_life, is_used, life_after, lowest_unused, start, with_crash}
-use Rattle.clusters.proofs.Kept.{among, put_other, put_same}
+use Rattle.cluster_runs.specs.Cluster.{Cluster, first_life, is_used, life_after, lowest_unused, start, with_crash}
+use Rattle.cluster_runs.proofs.Kept.{among, put_other, put_same}
 use Rattle.cluster_runs.specs.Callers.{AreCallers, HoldsCallers, owner}
 use Rattle.cluster_runs.specs.Ran.{owner_in}
 use Rattle.cluster_runs.specs.declared.callers.Callers.{Callers}

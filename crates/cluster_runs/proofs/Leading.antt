@@ -10,9 +10,9 @@ use Rattle.interleavings.specs.World.{Size, opening}
 use Rattle.history.specs.NextStep.{next_step}
 use Rattle.rounds.specs.Phase.{Phase}
 use Rattle.rounds.specs.Reconciler.{Reconciler}
-use Rattle.clusters.specs.declared.event.ClusterEvent.{ClusterEvent}
-use Rattle.clusters.specs.declared.event.ClusterEvent.TheVariants.{Step}
-use Rattle.clusters.specs.Cluster.{Cluster, happens, run}
+use Rattle.cluster_runs.specs.declared.event.ClusterEvent.{ClusterEvent}
+use Rattle.cluster_runs.specs.declared.event.ClusterEvent.TheVariants.{Step}
+use Rattle.cluster_runs.specs.Cluster.{Cluster, happens, run}
 use Rattle.cluster_runs.specs.Leading.{Claim, Comes, Halts, HasCome, IsShownAs, Leads, StandsStill}
 use Rattle.cluster_runs.specs.Shown.{Exceeds, Happens, Shows, Stay, Tells}
 use Rattle.cluster_runs.specs.Turns.{Course, carried, carried_in, ends_with, event_and, followed_by, most_steps, nothing, reply_to, run_of, step_and}

@@ -1,3 +1,12 @@
+pub mod Follow
+pub mod Heard
+pub mod Items
+pub mod Kept
+pub mod Own
+pub mod Steps
+pub mod Traces
+pub mod Transcripts
+pub mod Unused
 pub mod Standing
 pub mod Naming
 pub mod Lowest

@@ -7,7 +7,7 @@ use Rattle.std.proofs.lemmas.Map.Keys.{IsDistinct-from_apart}
 use Rattle.std.proofs.lemmas.Map.Made.{length-le_from_is_member}
 use Rattle.std.specs.List.{find, list_any, range_with_len}
 use Rattle.interleavings.proofs.Basics.{Compared, compare, other, same}
-use Rattle.clusters.specs.Cluster.{Cluster, greatest, is_used, lowest_unused}
+use Rattle.cluster_runs.specs.Cluster.{Cluster, greatest, is_used, lowest_unused}
 
 -- the first of these numbers that passes a test
 found_in : (p : ℕ → Bool) (n len a : ℕ) → p n ≡ true → a ≤ n → n < a + len → ((m : ℕ) → a ≤ m → m < n → p m ≡ false) → find p (range_with_len a len) ≡ Some n

@@ -9,8 +9,8 @@ use Rattle.interleavings.specs.Trace.{after}
 use Rattle.interleavings.specs.World.{Idle, Size, opening}
 use Rattle.rounds.specs.Phase.{Phase}
 use Rattle.rounds.specs.Reconciler.{Reconciler}
-use Rattle.clusters.specs.declared.event.ClusterEvent.TheVariants.{Outside}
-use Rattle.clusters.specs.Cluster.{Cluster, is_idle}
+use Rattle.cluster_runs.specs.declared.event.ClusterEvent.TheVariants.{Outside}
+use Rattle.cluster_runs.specs.Cluster.{Cluster, is_idle}
 use Rattle.cluster_runs.specs.Leading.{Halts, Leads, Peeks}
 use Rattle.cluster_runs.specs.Shown.{Shows}
 use Rattle.cluster_runs.specs.Turns.{Course, asked, asked_as, carried, ends_with, event_and, followed_by, is_idle_at, is_within, most_requests, nothing, round, round_in, rounds_of, settled_as, settled_once}

@@ -6,7 +6,7 @@ use Rattle.interleavings.specs.World.{Size}
 use Rattle.rounds.specs.Phase.{Phase}
 use Rattle.rounds.specs.Reconciler.{Reconciler}
 use Rattle.rounds.specs.World.{StandAt}
-use Rattle.clusters.specs.Cluster.{Cluster, run, start}
+use Rattle.cluster_runs.specs.Cluster.{Cluster, run, start}
 use Rattle.cluster_runs.specs.Leading.{Halts, Leads}
 use Rattle.cluster_runs.specs.Ran.{cluster_after}
 use Rattle.cluster_runs.specs.Shown.{Shows}

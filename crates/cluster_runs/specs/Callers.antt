@@ -4,7 +4,7 @@ use Rattle.std.specs.BTreeMap.{btree_map_len, get}
 use Rattle.std.specs.List.{list_any}
 use Rattle.std.specs.Ordering.{nat_cmp}
 use Rattle.rounds.specs.Transcript.{Life}
-use Rattle.clusters.specs.Cluster.{Cluster}
+use Rattle.cluster_runs.specs.Cluster.{Cluster}
 use Rattle.cluster_runs.specs.declared.callers.Callers.{Callers}
 pub use Rattle.cluster_runs.specs.Ran.{owner}
 

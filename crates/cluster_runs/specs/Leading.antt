@@ -4,8 +4,8 @@ use Rattle.interleavings.specs.World.{Size}
 use Rattle.rounds.specs.Phase.{Phase}
 use Rattle.rounds.specs.Reconciler.{Reconciler}
 use Rattle.rounds.specs.World.{StandAt}
-use Rattle.clusters.specs.declared.event.ClusterEvent.{ClusterEvent}
-use Rattle.clusters.specs.Cluster.{Cluster, run}
+use Rattle.cluster_runs.specs.declared.event.ClusterEvent.{ClusterEvent}
+use Rattle.cluster_runs.specs.Cluster.{Cluster, run}
 use Rattle.cluster_runs.specs.Shown.{Shows}
 use Rattle.cluster_runs.specs.Turns.{Course, ends_with, is_within}
 use Rattle.cluster_runs.specs.declared.carrying.Advance.{Advance}

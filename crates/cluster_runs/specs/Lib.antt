@@ -1,5 +1,8 @@
 -- ---- what public clauses cite
+pub mod Cluster
+pub mod Examples
 pub mod Faults
+pub mod Ordered
 pub mod Ran
 pub mod Turns
 -- ---- what only proofs use

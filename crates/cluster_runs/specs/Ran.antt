@@ -6,8 +6,8 @@ use Rattle.interleavings.specs.World.{Size}
 use Rattle.history.specs.After.{IsRunOf}
 use Rattle.rounds.specs.Reconciler.{Reconciler}
 use Rattle.rounds.specs.Transcript.{Life}
-use Rattle.clusters.specs.declared.event.ClusterEvent.{ClusterEvent}
-use Rattle.clusters.specs.Cluster.{Cluster, run, start}
+use Rattle.cluster_runs.specs.declared.event.ClusterEvent.{ClusterEvent}
+use Rattle.cluster_runs.specs.Cluster.{Cluster, run, start}
 use Rattle.cluster_runs.specs.declared.run.ClusterRun.{ClusterRun}
 
 -- the cluster after these events

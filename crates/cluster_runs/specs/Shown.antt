@@ -11,8 +11,8 @@ use Rattle.history.specs.Named.{named}
 use Rattle.history.specs.declared.replaying.Replay.{Replay}
 use Rattle.rounds.specs.Phase.{Phase, takes}
 use Rattle.rounds.specs.Reconciler.{Reconciler}
-use Rattle.clusters.specs.declared.event.ClusterEvent.{ClusterEvent}
-use Rattle.clusters.specs.Cluster.{Cluster, happens, is_used, told}
+use Rattle.cluster_runs.specs.declared.event.ClusterEvent.{ClusterEvent}
+use Rattle.cluster_runs.specs.Cluster.{Cluster, happens, is_used, told}
 use Rattle.cluster_runs.specs.declared.cluster.Cluster.{Cluster as Program}
 use Rattle.cluster_runs.specs.Callers.{AreCallers}
 

@@ -14,9 +14,9 @@ use Rattle.history.specs.NextStep.{next_step}
 use Rattle.kubelet.specs.Kubelet.{kubelet_asks_all}
 use Rattle.rounds.specs.Phase.{asks}
 use Rattle.rounds.specs.Reconciler.{Reconciler}
-use Rattle.clusters.specs.declared.event.ClusterEvent.{ClusterEvent}
-use Rattle.clusters.specs.declared.event.ClusterEvent.TheVariants.{Next, Outside, Step}
-use Rattle.clusters.specs.Cluster.{Cluster, happens, is_idle, is_used, lowest_unused, run, start, told}
+use Rattle.cluster_runs.specs.declared.event.ClusterEvent.{ClusterEvent}
+use Rattle.cluster_runs.specs.declared.event.ClusterEvent.TheVariants.{Next, Outside, Step}
+use Rattle.cluster_runs.specs.Cluster.{Cluster, happens, is_idle, is_used, lowest_unused, run, start, told}
 use Rattle.cluster_runs.specs.declared.turn.Turn.{Turn}
 use Rattle.cluster_runs.specs.declared.turn.Turn.TheVariants as turn
 

@@ -1,7 +1,7 @@
 ghost use Rattle.std.specs.Prelude.{◌≡◌, ◌==◌, ◌+◌, ◌<◌, ◌≤◌, ◌≢◌, ℕ, true, false, length, None, Some, is_some, IfSome, IfOk, IfErr, OnOk, IsErrOf, if◌then◌else◌};
 ghost use Rattle.std.specs.BTreeMap.{btree_map_len, get};
 ghost use Rattle.std.specs.Ordering.{nat_cmp};
-ghost use Rattle.clusters.specs.Cluster.{Cluster, controller_at, is_used, lowest_unused, start, with_crash, with_used};
+ghost use Rattle.cluster_runs.specs.Cluster.{Cluster, controller_at, is_used, lowest_unused, start, with_crash, with_used};
 ghost use Rattle.cluster_runs.specs.Callers.{AreCallers};
 ghost use Rattle.cluster_runs.specs.Faults.{IsShort};
 

@@ -5,15 +5,15 @@ ghost use Rattle.interleavings.specs.World.{Size};
 ghost use Rattle.history.specs.After.{IsAfter, IsReplyTo};
 ghost use Rattle.history.specs.Named.{callers};
 ghost use Rattle.history.specs.Replayed.{named_by};
-ghost use Rattle.clusters.specs.declared.event.ClusterEvent.TheVariants.{Next, Outside, Step, Crash};
-ghost use Rattle.clusters.specs.Cluster.{controller_at, hand_if, is_nobody, is_used, with_outside};
+ghost use Rattle.cluster_runs.specs.declared.event.ClusterEvent.TheVariants.{Next, Outside, Step, Crash};
+ghost use Rattle.cluster_runs.specs.Cluster.{controller_at, hand_if, is_nobody, is_used, with_outside};
 ghost use Rattle.cluster_runs.specs.Faults.{IsShort};
 ghost use Rattle.cluster_runs.specs.Shown.{Becomes, Exceeds, Follows, Hands, Happens, Hears, Overfills, Stay, Tells};
 ghost use Rattle.cluster_runs.specs.declared.fault.ClusterFault.TheVariants.{Memory as OutOfMemory};
 
 use crate::cluster::Cluster;
+use crate::event::ClusterEvent;
 use crate::fault::ClusterFault;
-use clusters::ClusterEvent;
 use interleavings::Event;
 use requests::{Reply, Request};
 use rounds::ControlLoop;

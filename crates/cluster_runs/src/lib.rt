@@ -1,17 +1,24 @@
-//! Runs of a cluster: controllers that race over the interleaved store, event by event.
+//! Clusters: controllers that race over the interleaved store, what holds of every legal order of what they and anybody else
+//! ask, and runs, event by event.
 #![tactic(auto)]
 
 mod callers;
 mod carrying;
 mod cluster;
+mod event;
+mod examples;
 mod fault;
 mod happening;
+mod laws;
 mod run;
 mod settling;
 mod turn;
 mod turns;
 
+pub use event::ClusterEvent;
+pub use examples::short_clusters;
 pub use fault::ClusterFault;
+pub use laws::clusters_keep_promises;
 pub use run::{ClusterRun, run_cluster};
 pub use turn::Turn;
 pub use turns::run_turns;

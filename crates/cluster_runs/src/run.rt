@@ -5,13 +5,14 @@ ghost use Rattle.rounds.specs.Phase.{reading_set};
 ghost use Rattle.rounds.specs.Reconciler.{Reconciler};
 ghost use Rattle.rounds.specs.Sound.{IsSound};
 ghost use Rattle.rounds.specs.World.{AreMadeOf, StandAt};
-ghost use Rattle.clusters.specs.Ordered.{OrderKeepsPromises};
+ghost use Rattle.cluster_runs.specs.Ordered.{OrderKeepsPromises};
 ghost use Rattle.cluster_runs.specs.Ran.{IsClusterRun, cluster_after};
 
 use crate::callers::Callers;
 use crate::cluster::Cluster;
+use crate::event::ClusterEvent;
 use crate::fault::ClusterFault;
-use clusters::{ClusterEvent, clusters_keep_promises};
+use crate::laws::clusters_keep_promises;
 use history::Replay;
 use interleavings::{Event, Run};
 use rounds::ControlLoop;

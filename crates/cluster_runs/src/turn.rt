@@ -1,4 +1,4 @@
-use clusters::ClusterEvent;
+use crate::event::ClusterEvent;
 
 /// What a line of a script stands for: the events that come next.
 #[derive(Drop)]

@@ -2,8 +2,8 @@
 use Rattle.std.specs.Prelude.{List, ℕ, nat_le, ◌&&◌, codes, bytes_eq, Option, Some, None, option_map, if◌then◌else◌}
 use Rattle.serde_json.specs.Data.{Data, Members}
 use Rattle.serde_json.specs.Find.{get_member}
-use Rattle.clusters.specs.declared.event.ClusterEvent.{ClusterEvent}
-use Rattle.clusters.specs.declared.event.ClusterEvent.TheVariants.{Next, Outside, Step, Crash}
+use Rattle.cluster_runs.specs.declared.event.ClusterEvent.{ClusterEvent}
+use Rattle.cluster_runs.specs.declared.event.ClusterEvent.TheVariants.{Next, Outside, Step, Crash}
 use Rattle.cluster_runs.specs.declared.turn.Turn.{Turn}
 use Rattle.cluster_runs.specs.declared.turn.Turn.TheVariants as turn
 use Rattle.replay_lines.specs.Events.{◌>>=◌, count_in, count_of, line_members, request_in, step_in, text_in}

@@ -3,7 +3,7 @@ ghost use Rattle.std.specs.Prelude.{◌≡◌, codes};
 ghost use Rattle.cluster_scripts.specs.Events.{bare_event_in, crash_in, event_by, next_in, outside_in, run_in, settle_in, store_step_in, turn_by, turn_in, turn_of};
 ghost use Rattle.replay_lines.specs.Events.{Reads};
 
-use clusters::ClusterEvent;
+use cluster_runs::ClusterEvent;
 use controllers::Turn;
 use objects::{Members, TreeReader};
 use replay_lines::{ScriptError, count_in, count_of, read_members, request_in, step_in, text_in};

@@ -1,6 +1,6 @@
 //! Texts that are scripts of clusters, and texts that are none.
+use cluster_runs::ClusterEvent;
 use cluster_scripts::{ClusterScript, read_cluster_script};
-use clusters::ClusterEvent;
 use controllers::{SetSpec, Turn};
 use history::Event;
 use replay_lines::ScriptError;

@@ -3,8 +3,8 @@ use Rattle.std.specs.Prelude.{◌≡◌, ◌⊎◌, ◌≤◌, ◌<◌, ℕ, Lis
 use Rattle.std.specs.Option.{IfSome}
 use Rattle.plain.specs.Streams.{Puts}
 use Rattle.plain_store.specs.Reached.{most_revisions}
-use Rattle.clusters.specs.Cluster.{Cluster}
-use Rattle.clusters.specs.declared.event.ClusterEvent.{ClusterEvent}
+use Rattle.cluster_runs.specs.Cluster.{Cluster}
+use Rattle.cluster_runs.specs.declared.event.ClusterEvent.{ClusterEvent}
 use Rattle.cluster_runs.specs.Ran.{IsClusterRun, cluster_after, owner_in}
 use Rattle.cluster_runs.specs.Turns.{events_of_turns}
 use Rattle.cluster_runs.specs.declared.fault.ClusterFault.{ClusterFault}

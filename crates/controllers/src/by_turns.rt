@@ -2,7 +2,7 @@
 ghost use Rattle.std.specs.Prelude.{◌≡◌, ◌≤◌, ◌<◌, length, IfOk, IsErrOf, OnOk, bytes_eq};
 ghost use Rattle.std.specs.List.{list_any};
 ghost use Rattle.plain_store.specs.Reached.{most_revisions};
-ghost use Rattle.clusters.specs.Ordered.{OrderKeepsPromises, entries_in};
+ghost use Rattle.cluster_runs.specs.Ordered.{OrderKeepsPromises, entries_in};
 ghost use Rattle.cluster_runs.specs.Ran.{IsClusterRun, cluster_after};
 ghost use Rattle.cluster_runs.specs.Turns.{events_of_turns};
 ghost use Rattle.controllers.specs.Cluster.{namespaces_of, reconciler_named, size_of, with_namespace};

@@ -3,7 +3,7 @@ ghost use Rattle.std.specs.Prelude.{◌≡◌, ◌≤◌, ◌<◌, ◌⊎◌, le
 ghost use Rattle.std.specs.List.{AllByRecursion};
 ghost use Rattle.plain_store.specs.Reached.{most_revisions};
 ghost use Rattle.rounds.specs.Phase.{reading_set};
-ghost use Rattle.clusters.specs.Ordered.{OrderKeepsPromises, entries_in};
+ghost use Rattle.cluster_runs.specs.Ordered.{OrderKeepsPromises, entries_in};
 ghost use Rattle.cluster_runs.specs.Ran.{IsClusterRun, cluster_after};
 ghost use Rattle.controllers.specs.Cluster.{reconciler_for, reconciler_named, size_of};
 ghost use Rattle.controllers.specs.Controller.{phase_of, reconciler_of};
@@ -12,8 +12,7 @@ ghost use Rattle.controllers.specs.InTurn.{PodsComeInTurn};
 use crate::cluster_spec::ClusterSpec;
 use crate::controller::Controller;
 use crate::set_spec::SetSpec;
-use cluster_runs::{ClusterFault, ClusterRun};
-use clusters::ClusterEvent;
+use cluster_runs::{ClusterEvent, ClusterFault, ClusterRun};
 use objects::Memory;
 use std::alloc::Global;
 

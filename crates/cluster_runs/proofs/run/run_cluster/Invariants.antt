@@ -1,7 +1,7 @@
 use Rattle.std.proofs.Common.{◌≡◌, ℕ, length, take}
 use Rattle.rounds.specs.Reconciler.{Reconciler}
 use Rattle.rounds.specs.World.{AreMadeOf}
-use Rattle.clusters.specs.Cluster.{run, start}
+use Rattle.cluster_runs.specs.Cluster.{run, start}
 use Rattle.cluster_runs.specs.Shown.{Follows, Shows}
 use Rattle.cluster_runs.proofs.run.run_cluster.Given as goal
 

@@ -6,7 +6,7 @@ use Rattle.interleavings.specs.World.{Size}
 use Rattle.plain_store.specs.Reached.{most_revisions}
 use Rattle.history.specs.After.{IsAfter}
 use Rattle.history.specs.declared.replay_error.ReplayError.TheVariants.{BadCapacity, BadShards}
-use Rattle.clusters.specs.Cluster.{start}
+use Rattle.cluster_runs.specs.Cluster.{start}
 use Rattle.rounds.proofs.Showing.{fresh_stand}
 use Rattle.cluster_runs.specs.Ran.{cluster_after}
 use Rattle.cluster_runs.specs.Shown.{HasTaken}

@@ -2,7 +2,7 @@ use Rattle.std.proofs.Common.{◌≡◌, ◌<◌, length, map, subst, sym, ap, �
 use Rattle.std.specs.Prelude.{IsErrOf, Result}
 use Rattle.std.proofs.lemmas.Result.{IfOk-weaker}
 use Rattle.plain_store.specs.Reached.{most_revisions}
-use Rattle.clusters.specs.Ordered.{OrderKeepsPromises, entries_in}
+use Rattle.cluster_runs.specs.Ordered.{OrderKeepsPromises, entries_in}
 use Rattle.cluster_runs.specs.Ran.{IsClusterRun, cluster_after}
 use Rattle.cluster_runs.specs.Turns.{events_of_turns}
 use Rattle.cluster_runs.specs.declared.fault.ClusterFault.TheVariants.{BadCapacity, BadShards, TooManyCallers}

@@ -1,5 +1,5 @@
 use Rattle.std.proofs.Common.{◌≡◌, arith, subst}
-use Rattle.clusters.specs.Cluster.{start}
+use Rattle.cluster_runs.specs.Cluster.{start}
 use Rattle.cluster_runs.specs.Callers.{AreCallers}
 use Rattle.cluster_runs.proofs.Calling.{started}
 use Rattle.cluster_runs.proofs.callers.Callers.of.Goals as goal

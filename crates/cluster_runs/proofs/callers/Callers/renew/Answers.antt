@@ -1,6 +1,6 @@
 use Rattle.std.proofs.Common.{◌∙◌, ap, arith, refl, set}
 use Rattle.std.specs.Vec.{with_item}
-use Rattle.clusters.specs.Cluster.{is_used}
+use Rattle.cluster_runs.specs.Cluster.{is_used}
 use Rattle.cluster_runs.specs.declared.callers.Callers.{Callers}
 use Rattle.cluster_runs.proofs.Calling.{all_used, renewed, unused_lowest, used_below}
 use Rattle.cluster_runs.proofs.Lowest.{lowest_is}

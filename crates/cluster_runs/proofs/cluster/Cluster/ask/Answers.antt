@@ -2,7 +2,7 @@ use Rattle.std.proofs.Common.{◌≡◌, ◌∙◌, ap, rules, subst, sym}
 use Rattle.std.specs.Prelude.{Err, IfErr}
 use Rattle.std.proofs.lemmas.Bool.{false≢true}
 use Rattle.std.proofs.lemmas.Result.{IfErr-weaker, IfOk-weaker}
-use Rattle.clusters.specs.declared.event.ClusterEvent.TheVariants.{Outside}
+use Rattle.cluster_runs.specs.declared.event.ClusterEvent.TheVariants.{Outside}
 use Rattle.cluster_runs.specs.Leading.{Halts, IsShownAs}
 use Rattle.cluster_runs.specs.Turns.{asked_as, carried, ends_with, event_and, nothing}
 use Rattle.cluster_runs.proofs.Leading.{comes_as, ends_as, event_halts, event_leads, halts_as, halts_on, leads_on}

@@ -1,7 +1,7 @@
 use Rattle.std.proofs.Common.{◌≡◌, ◌<◌, ℕ, ap, rules, subst, sym}
 use Rattle.std.specs.Prelude.{Err, IfErr}
 use Rattle.std.proofs.lemmas.Result.{IfErr-weaker, IfOk-weaker}
-use Rattle.clusters.specs.declared.event.ClusterEvent.TheVariants.{Next}
+use Rattle.cluster_runs.specs.declared.event.ClusterEvent.TheVariants.{Next}
 use Rattle.cluster_runs.specs.Leading.{Halts, IsShownAs}
 use Rattle.cluster_runs.specs.Turns.{Course, asked, carried, ends_with}
 use Rattle.cluster_runs.proofs.Leading.{comes_as, event_halts, event_leads, halts_as, halts_on, leads_on}

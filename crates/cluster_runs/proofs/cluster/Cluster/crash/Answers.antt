@@ -2,7 +2,7 @@ use Rattle.std.proofs.Common.{◌<◌, ◌++◌, ◌∷◌, [], ap, cond, length
 use Rattle.std.specs.Prelude.{slice_index_or}
 use Rattle.interleavings.specs.declared.event.Event.TheVariants as event
 use Rattle.history.specs.Named.{callers}
-use Rattle.clusters.specs.Cluster.{Cluster, with_crash}
+use Rattle.cluster_runs.specs.Cluster.{Cluster, with_crash}
 use Rattle.cluster_runs.specs.declared.cluster.Cluster.{Cluster as Program}
 use Rattle.rounds.proofs.Showing.{get_at}
 use Rattle.cluster_runs.proofs.Showing.{crash_few, crashed_shows, present_at}

@@ -2,7 +2,7 @@ use Rattle.std.proofs.Common.{◌<◌, ◌&&◌, ◌∙◌, ap, length, subst, s
 use Rattle.std.specs.Prelude.{is_some}
 use Rattle.interleavings.specs.declared.event.Event.TheVariants.{Crash}
 use Rattle.history.proofs.Pieces.{on_ok_by}
-use Rattle.clusters.specs.Cluster.{controller_at, is_nobody, is_used}
+use Rattle.cluster_runs.specs.Cluster.{controller_at, is_nobody, is_used}
 use Rattle.cluster_runs.proofs.Showing.{gone_absent, gone_more, hand_used}
 use Rattle.cluster_runs.proofs.cluster.Cluster.crash_outside.Goals as goal
 

@@ -5,7 +5,7 @@ use Rattle.interleavings.specs.Trace.{after}
 use Rattle.interleavings.specs.World.{opening}
 use Rattle.rounds.specs.Phase.{asks}
 use Rattle.rounds.proofs.Showing.{get_at}
-use Rattle.clusters.specs.Cluster.{is_idle}
+use Rattle.cluster_runs.specs.Cluster.{is_idle}
 use Rattle.cluster_runs.specs.Turns.{begins}
 use Rattle.cluster_runs.proofs.Showing.{asked_is, at_err, not_idle, peeked_shows, present_at, stay_at}
 use Rattle.cluster_runs.proofs.cluster.Cluster.is_within.Goals as goal

@@ -1,6 +1,6 @@
 use Rattle.std.proofs.Common.{◌≡◌, ap, rules, subst, sym}
 use Rattle.std.specs.Prelude.{Err, IfErr}
-use Rattle.clusters.specs.declared.event.ClusterEvent.TheVariants.{Step}
+use Rattle.cluster_runs.specs.declared.event.ClusterEvent.TheVariants.{Step}
 use Rattle.cluster_runs.specs.Leading.{Halts, Leads}
 use Rattle.cluster_runs.specs.Turns.{Course, ends_with, reply_of, step_by}
 use Rattle.cluster_runs.proofs.Leading.{event_halts, event_leads, reply_halts, reply_leads}

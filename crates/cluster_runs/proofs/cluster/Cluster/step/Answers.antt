@@ -1,8 +1,8 @@
 use Rattle.std.proofs.Common.{length, refl, subst, sym, true}
 use Rattle.history.proofs.Pieces.{on_ok_by}
 use Rattle.interleavings.specs.declared.event.Event.TheVariants as event
-use Rattle.clusters.specs.declared.event.ClusterEvent.TheVariants.{Step}
-use Rattle.clusters.specs.Cluster.{is_used}
+use Rattle.cluster_runs.specs.declared.event.ClusterEvent.TheVariants.{Step}
+use Rattle.cluster_runs.specs.Cluster.{is_used}
 use Rattle.cluster_runs.specs.Shown.{Happens}
 use Rattle.cluster_runs.proofs.Showing.{cluster_few, cluster_more, gone_shows, went_shows}
 use Rattle.cluster_runs.proofs.cluster.Cluster.step.Goals as goal

@@ -1,7 +1,7 @@
 use Rattle.std.proofs.Common.{◌∙◌, None, ap, length, rules, sym}
 use Rattle.std.specs.Prelude.{if◌then◌else◌}
 use Rattle.interleavings.specs.declared.event.Event.TheVariants.{Reply}
-use Rattle.clusters.specs.Cluster.{told}
+use Rattle.cluster_runs.specs.Cluster.{told}
 use Rattle.cluster_runs.proofs.Showing.{cluster_few, replied_shows, told_is}
 use Rattle.cluster_runs.proofs.cluster.Cluster.tell.Goals as goal
 

@@ -13,10 +13,10 @@ use Rattle.rounds.specs.Phase.{Phase, reading_set}
 use Rattle.rounds.specs.Promises.{IsTranscript}
 use Rattle.rounds.specs.Reconciler.{Reconciler}
 use Rattle.rounds.specs.Transcript.{Life, is_by}
-use Rattle.clusters.specs.Ordered.{entries_of}
-use Rattle.clusters.proofs.Follow.{follows_all}
-use Rattle.clusters.proofs.Kept.{IsKept}
-use Rattle.clusters.proofs.Own.{AreOrdered, AreUpward, IsOwn, Placed, entries_run, exchanges_in, own, own_called, own_has, own_life, own_upward}
+use Rattle.cluster_runs.specs.Ordered.{entries_of}
+use Rattle.cluster_runs.proofs.Follow.{follows_all}
+use Rattle.cluster_runs.proofs.Kept.{IsKept}
+use Rattle.cluster_runs.proofs.Own.{AreOrdered, AreUpward, IsOwn, Placed, entries_run, exchanges_in, own, own_called, own_has, own_life, own_upward}
 
 -- whoever has the life is this caller
 lives_by : (life : Life) (found : Option Life) → is_by life found ≡ true → found ≡ Some life

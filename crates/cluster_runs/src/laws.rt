@@ -1,7 +1,7 @@
 ghost use Rattle.std.specs.Prelude.{◌≤◌, ◌<◌, ℕ, List};
-ghost use Rattle.clusters.specs.declared.event.ClusterEvent.{ClusterEvent};
-ghost use Rattle.clusters.specs.Cluster.{run, start};
-ghost use Rattle.clusters.specs.Ordered.{OrderKeepsPromises};
+ghost use Rattle.cluster_runs.specs.declared.event.ClusterEvent.{ClusterEvent};
+ghost use Rattle.cluster_runs.specs.Cluster.{run, start};
+ghost use Rattle.cluster_runs.specs.Ordered.{OrderKeepsPromises};
 ghost use Rattle.interleavings.specs.Linearization.{IsLegal};
 ghost use Rattle.interleavings.specs.Trace.{trace};
 ghost use Rattle.interleavings.specs.World.{Size};

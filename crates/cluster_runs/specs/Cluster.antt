@@ -15,8 +15,8 @@ use Rattle.rounds.specs.Phase.{Phase, asks, reading_set, takes}
 use Rattle.rounds.specs.Reconciler.{Reconciler}
 use Rattle.rounds.specs.Transcript.{Life}
 use Rattle.rounds.specs.World.{put}
-use Rattle.clusters.specs.declared.event.ClusterEvent.{ClusterEvent}
-use Rattle.clusters.specs.declared.event.ClusterEvent.TheVariants.{Next, Outside, Step, Crash}
+use Rattle.cluster_runs.specs.declared.event.ClusterEvent.{ClusterEvent}
+use Rattle.cluster_runs.specs.declared.event.ClusterEvent.TheVariants.{Next, Outside, Step, Crash}
 
 pub record Cluster : Type 0 where
   -- the events that were handed on to the store

@@ -15,10 +15,10 @@ use Rattle.interleavings.specs.World.{changed, shard}
 use Rattle.interleavings.proofs.Values.{find_or, get_part}
 use Rattle.rounds.specs.Examples.{one_replica, web}
 use Rattle.rounds.specs.Phase.{asks, takes}
-use Rattle.clusters.specs.declared.event.ClusterEvent.TheVariants.{Next, Step}
-use Rattle.clusters.specs.Cluster.{hand, hears, lowest_unused, run, told}
-use Rattle.clusters.specs.Examples.{cluster_after, get, size}
-use Rattle.clusters.proofs.examples.short_clusters.Goals as goal
+use Rattle.cluster_runs.specs.declared.event.ClusterEvent.TheVariants.{Next, Step}
+use Rattle.cluster_runs.specs.Cluster.{hand, hears, lowest_unused, run, told}
+use Rattle.cluster_runs.specs.Examples.{cluster_after, get, size}
+use Rattle.cluster_runs.proofs.examples.short_clusters.Goals as goal
 
 no_set : told size (event.Call 0 get ∷ event.Read 0 ∷ event.Part 0 ∷ []) (event.Reply 0) ≡ Some (Refused NotFound)
 unfolding route step with_part changed shard told find_or

@@ -10,9 +10,9 @@ use Rattle.interleavings.proofs.Histories.{caller_of}
 use Rattle.rounds.specs.Life.{Follows}
 use Rattle.rounds.specs.Phase.{Phase, takes}
 use Rattle.rounds.specs.Reconciler.{Reconciler}
-use Rattle.clusters.proofs.Heard.{HasAsked, asked_at, heard_before, heard_later, heard_once}
-use Rattle.clusters.proofs.Items.{same_item}
-use Rattle.clusters.proofs.Own.{AreUpward, Placed, exchanges_in}
+use Rattle.cluster_runs.proofs.Heard.{HasAsked, asked_at, heard_before, heard_later, heard_once}
+use Rattle.cluster_runs.proofs.Items.{same_item}
+use Rattle.cluster_runs.proofs.Own.{AreUpward, Placed, exchanges_in}
 
 module _ (c : Reconciler) (n : ℕ) (phase : Phase) (items : List Item) (asked : HasAsked c n phase items) (history : IsHistory items) where
   abbrev AreCalls : List Placed → Type 0

@@ -16,7 +16,7 @@ use Rattle.rounds.specs.Phase.{Phase, reading_set, takes}
 use Rattle.rounds.specs.Reconciler.{Reconciler}
 use Rattle.rounds.specs.Transcript.{Life}
 use Rattle.rounds.specs.World.{put}
-use Rattle.clusters.proofs.Heard.{HasAsked, asked_call, asked_nothing, asked_reply, heard, heard_call, heard_nothing, heard_reply, next_asked}
+use Rattle.cluster_runs.proofs.Heard.{HasAsked, asked_call, asked_nothing, asked_reply, heard, heard_call, heard_nothing, heard_reply, next_asked}
 
 pub put_same : {X : Type 0} (f : ℕ → X) (n : ℕ) (x : X) → put f n x n ≡ x
 put_same f n x = ap (λ b. cond b x (f n)) (eq_self n)

@@ -10,8 +10,8 @@ use Rattle.interleavings.specs.declared.trace.Item.TheVariants as item
 use Rattle.interleavings.specs.Linearization.{AreCalled, AreOnce, AreRising, Before, Has}
 use Rattle.interleavings.proofs.Basics.{Compared, same, other, compare, Least, atmost, above, least}
 use Rattle.rounds.specs.Transcript.{Exchange, Life, exchanges_of, is_by, of_life, requests_of}
-use Rattle.clusters.specs.Ordered.{called_at, entries_of, then_entries}
-use Rattle.clusters.proofs.Items.{before_has, called_has, called_there, same_item}
+use Rattle.cluster_runs.specs.Ordered.{called_at, entries_of, then_entries}
+use Rattle.cluster_runs.proofs.Items.{before_has, called_has, called_there, same_item}
 
 -- the place, the request and the reply
 abbrev pub Placed : Type 0

@@ -1,8 +1,8 @@
 use Rattle.interleavings.specs.Trace.{trace}
-use Rattle.clusters.specs.Cluster.{run, start}
-use Rattle.clusters.proofs.Steps.{run_kept, start_kept}
-use Rattle.clusters.proofs.Transcripts.{transcript}
-use Rattle.clusters.proofs.laws.clusters_keep_promises.Goals as goal
+use Rattle.cluster_runs.specs.Cluster.{run, start}
+use Rattle.cluster_runs.proofs.Steps.{run_kept, start_kept}
+use Rattle.cluster_runs.proofs.Transcripts.{transcript}
+use Rattle.cluster_runs.proofs.laws.clusters_keep_promises.Goals as goal
 
 pub returns : goal.returns
 returns c = λ size count reconcilers events order some least most sound legal.

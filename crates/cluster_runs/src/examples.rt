@@ -4,7 +4,7 @@ ghost use Rattle.objects.specs.declared.kind.Kind.TheVariants.{PersistentVolumeC
 ghost use Rattle.interleavings.specs.declared.event.Event.TheVariants.{Call, Crash, Part, Read, Reply};
 ghost use Rattle.rounds.specs.Examples.{one_replica};
 ghost use Rattle.rounds.specs.Phase.{list_of};
-ghost use Rattle.clusters.specs.Examples.{asked_by, beside_another, crash_in_a_read, get, handed_on, life, nothing_but_a_call, reply_is_heard};
+ghost use Rattle.cluster_runs.specs.Examples.{asked_by, beside_another, crash_in_a_read, get, handed_on, life, nothing_but_a_call, reply_is_heard};
 
 /// What some short runs hand on to the store, and whose lives ask the requests of an order of their calls.
 pub fn short_clusters()

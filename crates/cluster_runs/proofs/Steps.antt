@@ -21,13 +21,13 @@ use Rattle.rounds.specs.Phase.{asks, takes}
 use Rattle.rounds.specs.Reconciler.{Reconciler}
 use Rattle.rounds.specs.Transcript.{Life}
 use Rattle.rounds.specs.World.{put}
-use Rattle.clusters.specs.declared.event.ClusterEvent.{ClusterEvent}
-use Rattle.clusters.specs.declared.event.ClusterEvent.TheVariants.{Next, Outside, Step, Crash}
-use Rattle.clusters.specs.Cluster.{Cluster, controller_at, controller_by, first_life, hand, hand_if, happens, hears, is_idle, is_nobody, is_used, lowest_unused, reply_in, run, start, told, with_crash, with_next, with_outside, with_step}
-use Rattle.clusters.proofs.Heard.{next_asked}
-use Rattle.clusters.proofs.Kept.{IsKept, among, call_kept, crash_kept, reply_kept, used_kept}
-use Rattle.clusters.proofs.Traces.{after_more, call_trace, check_trace, compact_trace, crash_trace, part_trace, publish_trace, raise_trace, read_at_trace, read_trace, reply_trace, reserve_trace}
-use Rattle.clusters.proofs.Unused.{lowest_is_unused}
+use Rattle.cluster_runs.specs.declared.event.ClusterEvent.{ClusterEvent}
+use Rattle.cluster_runs.specs.declared.event.ClusterEvent.TheVariants.{Next, Outside, Step, Crash}
+use Rattle.cluster_runs.specs.Cluster.{Cluster, controller_at, controller_by, first_life, hand, hand_if, happens, hears, is_idle, is_nobody, is_used, lowest_unused, reply_in, run, start, told, with_crash, with_next, with_outside, with_step}
+use Rattle.cluster_runs.proofs.Heard.{next_asked}
+use Rattle.cluster_runs.proofs.Kept.{IsKept, among, call_kept, crash_kept, reply_kept, used_kept}
+use Rattle.cluster_runs.proofs.Traces.{after_more, call_trace, check_trace, compact_trace, crash_trace, part_trace, publish_trace, raise_trace, read_at_trace, read_trace, reply_trace, reserve_trace}
+use Rattle.cluster_runs.proofs.Unused.{lowest_is_unused}
 
 module _ (z : Size) (reconcilers : ℕ → Reconciler) (count : ℕ) where
   abbrev pub Keeps : Cluster → Type 0

@@ -4,7 +4,7 @@ use Rattle.std.specs.Prelude.{not, ◌||◌, unwrap_or}
 use Rattle.std.specs.List.{find, list_any, range_with_len}
 use Rattle.std.proofs.lemmas.List.Folds.{list_any_at}
 use Rattle.std.proofs.lemmas.List.FromFn.{get_or-range_with_len, length-range_with_len}
-use Rattle.clusters.specs.Cluster.{Cluster, greatest, is_used, lowest_unused}
+use Rattle.cluster_runs.specs.Cluster.{Cluster, greatest, is_used, lowest_unused}
 
 -- what is found passes the test
 found_passes : (test : ℕ → Bool) (ns : List ℕ) (d : ℕ) → list_any test ns ≡ true → test (unwrap_or (find test ns) d) ≡ true

@@ -9,7 +9,7 @@ use Rattle.interleavings.specs.World.{Size}
 use Rattle.rounds.specs.Promises.{KeepsPromises}
 use Rattle.rounds.specs.Reconciler.{Reconciler}
 use Rattle.rounds.specs.Transcript.{Entry, Life}
-use Rattle.clusters.specs.Cluster.{Cluster}
+use Rattle.cluster_runs.specs.Cluster.{Cluster}
 
 -- the caller and the request that were called at the place
 abbrev pub called_at : List Item → ℕ → Option (ℕ × Request)

@@ -9,10 +9,10 @@ use Rattle.interleavings.specs.Trace.{trace}
 use Rattle.interleavings.specs.World.{Size}
 use Rattle.rounds.specs.Examples.{one_replica, web}
 use Rattle.rounds.specs.Transcript.{Entry, Life}
-use Rattle.clusters.specs.declared.event.ClusterEvent.{ClusterEvent}
-use Rattle.clusters.specs.declared.event.ClusterEvent.TheVariants.{Next, Outside, Step, Crash}
-use Rattle.clusters.specs.Cluster.{Cluster, run, start}
-use Rattle.clusters.specs.Ordered.{entries_of}
+use Rattle.cluster_runs.specs.declared.event.ClusterEvent.{ClusterEvent}
+use Rattle.cluster_runs.specs.declared.event.ClusterEvent.TheVariants.{Next, Outside, Step, Crash}
+use Rattle.cluster_runs.specs.Cluster.{Cluster, run, start}
+use Rattle.cluster_runs.specs.Ordered.{entries_of}
 
 abbrev pub size : Size
 size = record { capacity = 4; shards = 1 }

@@ -5,7 +5,7 @@ use Rattle.interleavings.specs.declared.trace.Item.{Item}
 use Rattle.interleavings.specs.declared.trace.Item.TheVariants as item
 use Rattle.interleavings.specs.Linearization.{AreRising, Before, Has, place_of}
 use Rattle.interleavings.proofs.Basics.{Compared, same, other, compare, eq_self}
-use Rattle.clusters.specs.Ordered.{called_at}
+use Rattle.cluster_runs.specs.Ordered.{called_at}
 
 -- a place has one item
 pub same_item : (items : List Item) (i j : Item) → AreRising items → Has i items → Has j items → place_of i ≡ place_of j → i ≡ j

@@ -1,9 +1,0 @@
-pub mod Follow
-pub mod Heard
-pub mod Items
-pub mod Kept
-pub mod Own
-pub mod Steps
-pub mod Traces
-pub mod Transcripts
-pub mod Unused

@@ -1,4 +1,0 @@
--- ---- what public clauses cite
-pub mod Cluster
-pub mod Examples
-pub mod Ordered
