@@ -6,11 +6,9 @@ ghost use Rattle.cluster_runs.specs.Callers.{AreCallers};
 ghost use Rattle.cluster_runs.specs.Faults.{IsShort};
 
 use crate::fault::ClusterFault;
+use history::MAX_CALLERS;
 use std::alloc::Global;
 use std::collections::BTreeMap;
-
-/// The most callers that may be used, as the store may have no more.
-const MAX_CALLERS: usize = 4096;
 
 /// The callers that were used.
 #[derive(Drop)]

@@ -26,6 +26,7 @@ pub use interleavings::{
     compactions_spare_reads, runs_are_linearizable, short_orders, short_runs,
 };
 pub use laws::next_steps_are_enabled;
+pub use names::MAX_CALLERS;
 pub use order_check::check_order;
 pub use replay_error::ReplayError;
 pub use replaying::Replay;
