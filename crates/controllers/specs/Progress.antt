@@ -27,44 +27,21 @@ phase_at (Deleting next later) = phases.deleting next (reverse later.items)
 -- it waits for a list, but not for that of the claims for its plan
 abbrev pub is_listing : Progress → Bool
 is_listing ReadingSet = false
-is_listing (ListingRevisions set) = true
-is_listing (ListingPods set revisions) = true
 is_listing (ListingClaims set revisions pods) = false
 is_listing (Acting next later) = false
-is_listing ListingOldClaims = true
-is_listing (ListingOwnerSets claims) = true
-is_listing (ListingOwnerPods claims sets at) = true
-is_listing (ListingOwnerRevisions claims sets pods at) = true
-is_listing (ListingOwnerClaims claims sets pods revisions at) = true
 is_listing (Deleting next later) = false
+is_listing progress = true
 
 -- it waits for the reply to an action or to a delete
 abbrev pub is_carrying : Progress → Bool
-is_carrying ReadingSet = false
-is_carrying (ListingRevisions set) = false
-is_carrying (ListingPods set revisions) = false
-is_carrying (ListingClaims set revisions pods) = false
 is_carrying (Acting next later) = true
-is_carrying ListingOldClaims = false
-is_carrying (ListingOwnerSets claims) = false
-is_carrying (ListingOwnerPods claims sets at) = false
-is_carrying (ListingOwnerRevisions claims sets pods at) = false
-is_carrying (ListingOwnerClaims claims sets pods revisions at) = false
 is_carrying (Deleting next later) = true
+is_carrying progress = false
 
 -- it waits for the list of the claims for its plan
 abbrev pub is_planning : Progress → Bool
-is_planning ReadingSet = false
-is_planning (ListingRevisions set) = false
-is_planning (ListingPods set revisions) = false
 is_planning (ListingClaims set revisions pods) = true
-is_planning (Acting next later) = false
-is_planning ListingOldClaims = false
-is_planning (ListingOwnerSets claims) = false
-is_planning (ListingOwnerPods claims sets at) = false
-is_planning (ListingOwnerRevisions claims sets pods at) = false
-is_planning (ListingOwnerClaims claims sets pods revisions at) = false
-is_planning (Deleting next later) = false
+is_planning progress = false
 
 -- what it plans, given the claims that it waits for
 abbrev pub planned_at : ℕ → List ℕ → Progress → List Object → Result (List Request) PlanError

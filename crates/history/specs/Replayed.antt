@@ -9,7 +9,7 @@ use Rattle.requests.specs.declared.reply.Reason.{Reason}
 use Rattle.requests.specs.declared.request.Request.{Request}
 use Rattle.requests.specs.declared.version.Version.{Version}
 use Rattle.plain_store.specs.Reached.{most_revisions}
-use Rattle.plain_store.specs.Route.{Route, compacts, gets, lists, lists_at, route, writes}
+use Rattle.plain_store.specs.Route.{Route, compacts, gets, lists, lists_at, route}
 use Rattle.plain_store.specs.Store.{Objects, step}
 use Rattle.requests.specs.Change.{kept}
 use Rattle.objects.specs.declared.kind.Kind.{Kind}
@@ -72,175 +72,77 @@ abbrev pub phase_at : Callers → ℕ → CodePhase
 phase_at callers c = or_idle (named_phase callers c)
 
 abbrev pub is_dropped : CodePhase → Bool
-is_dropped code.Idle = false
-is_dropped (code.Called p r) = false
-is_dropped (code.Holding t) = false
-is_dropped (code.Drawn d) = false
-is_dropped (code.Waiting s p r) = false
-is_dropped (code.Reading n p r left) = false
-is_dropped code.Gone = false
-is_dropped (code.Left d) = false
 is_dropped code.Dropped = true
+is_dropped phase = false
 
 abbrev pub drops : Callers → ℕ → Bool
 drops callers c = is_dropped (phase_at callers c)
 
 abbrev pub is_idle : CodePhase → Bool
 is_idle code.Idle = true
-is_idle (code.Called p r) = false
-is_idle (code.Holding t) = false
-is_idle (code.Drawn d) = false
-is_idle (code.Waiting s p r) = false
-is_idle (code.Reading n p r left) = false
-is_idle code.Gone = false
-is_idle (code.Left d) = false
-is_idle code.Dropped = false
+is_idle phase = false
 
 -- whether the caller's request is still to be decided
 abbrev pub is_undecided : CodePhase → Bool
-is_undecided code.Idle = false
 is_undecided (code.Called p r) = true
 is_undecided (code.Holding t) = true
-is_undecided (code.Drawn d) = false
-is_undecided (code.Waiting s p r) = false
-is_undecided (code.Reading n p r left) = false
-is_undecided code.Gone = false
-is_undecided (code.Left d) = false
-is_undecided code.Dropped = false
+is_undecided phase = false
 
 abbrev pub is_replying : CodePhase → Bool
-is_replying code.Idle = false
-is_replying (code.Called p r) = false
-is_replying (code.Holding t) = false
-is_replying (code.Drawn d) = false
 is_replying (code.Waiting s p r) = true
 is_replying (code.Reading n p r left) = true
-is_replying code.Gone = false
-is_replying (code.Left d) = false
-is_replying code.Dropped = false
+is_replying phase = false
 
 abbrev pub called_in : CodePhase → Option (ℕ × Request)
-called_in code.Idle = None
 called_in (code.Called p r) = Some (p, r)
-called_in (code.Holding t) = None
-called_in (code.Drawn d) = None
-called_in (code.Waiting s p r) = None
-called_in (code.Reading n p r left) = None
-called_in code.Gone = None
-called_in (code.Left d) = None
-called_in code.Dropped = None
+called_in phase = None
 
 abbrev pub holding_in : CodePhase → Option CodeWriting
-holding_in code.Idle = None
-holding_in (code.Called p r) = None
 holding_in (code.Holding t) = Some t
-holding_in (code.Drawn d) = None
-holding_in (code.Waiting s p r) = None
-holding_in (code.Reading n p r left) = None
-holding_in code.Gone = None
-holding_in (code.Left d) = None
-holding_in code.Dropped = None
+holding_in phase = None
 
 abbrev pub waiting_in : CodePhase → Option (ℕ × Reply)
-waiting_in code.Idle = None
-waiting_in (code.Called p r) = None
-waiting_in (code.Holding t) = None
-waiting_in (code.Drawn d) = None
 waiting_in (code.Waiting s p r) = Some (s, r)
-waiting_in (code.Reading n p r left) = None
-waiting_in code.Gone = None
-waiting_in (code.Left d) = None
-waiting_in code.Dropped = None
+waiting_in phase = None
 
 abbrev pub reading_in : CodePhase → Option (ℕ × Request × ℕ)
-reading_in code.Idle = None
-reading_in (code.Called p r) = None
-reading_in (code.Holding t) = None
-reading_in (code.Drawn d) = None
-reading_in (code.Waiting s p r) = None
 reading_in (code.Reading n p r left) = Some (n, r, left)
-reading_in code.Gone = None
-reading_in (code.Left d) = None
-reading_in code.Dropped = None
+reading_in phase = None
 
 abbrev pub drawn_in : CodePhase → Option CodeDraw
-drawn_in code.Idle = None
-drawn_in (code.Called p r) = None
-drawn_in (code.Holding t) = None
 drawn_in (code.Drawn d) = Some d
-drawn_in (code.Waiting s p r) = None
-drawn_in (code.Reading n p r left) = None
-drawn_in code.Gone = None
 drawn_in (code.Left d) = Some d
-drawn_in code.Dropped = None
+drawn_in phase = None
 
 abbrev pub is_called : CodePhase → Bool
-is_called code.Idle = false
 is_called (code.Called p r) = true
-is_called (code.Holding t) = false
-is_called (code.Drawn d) = false
-is_called (code.Waiting s p r) = false
-is_called (code.Reading n p r left) = false
-is_called code.Gone = false
-is_called (code.Left d) = false
-is_called code.Dropped = false
+is_called phase = false
 
 -- ---- the next phase of a caller that draws an index, whose draw is published, that begins to read, for which a shard has
 -- answered, and that crashes; any other phase stays
 abbrev pub with_draw : ℕ → CodePhase → CodePhase
-with_draw i code.Idle = code.Idle
-with_draw i (code.Called p r) = code.Called p r
 with_draw i (code.Holding t) = code.Drawn (record { index = i; writing = t })
-with_draw i (code.Drawn d) = code.Drawn d
-with_draw i (code.Waiting s p r) = code.Waiting s p r
-with_draw i (code.Reading n p r left) = code.Reading n p r left
-with_draw i code.Gone = code.Gone
-with_draw i (code.Left d) = code.Left d
-with_draw i code.Dropped = code.Dropped
+with_draw i phase = phase
 
 abbrev pub published_phase : CodePhase → CodePhase
-published_phase code.Idle = code.Idle
-published_phase (code.Called p r) = code.Called p r
-published_phase (code.Holding t) = code.Holding t
 published_phase (code.Drawn d) = code.Waiting (d.index + 1) d.writing.place (told d.writing.change (d.index + 1))
-published_phase (code.Waiting s p r) = code.Waiting s p r
-published_phase (code.Reading n p r left) = code.Reading n p r left
-published_phase code.Gone = code.Gone
 published_phase (code.Left d) = code.Gone
-published_phase code.Dropped = code.Dropped
+published_phase phase = phase
 
 abbrev pub begun_phase : ℕ → ℕ → CodePhase → CodePhase
-begun_phase number left code.Idle = code.Idle
 begun_phase number left (code.Called p r) = code.Reading number p r left
-begun_phase number left (code.Holding t) = code.Holding t
-begun_phase number left (code.Drawn d) = code.Drawn d
-begun_phase number left (code.Waiting s p r) = code.Waiting s p r
-begun_phase number left (code.Reading n p r m) = code.Reading n p r m
-begun_phase number left code.Gone = code.Gone
-begun_phase number left (code.Left d) = code.Left d
-begun_phase number left code.Dropped = code.Dropped
+begun_phase number left phase = phase
 
 abbrev pub parted : CodePhase → CodePhase
-parted code.Idle = code.Idle
-parted (code.Called p r) = code.Called p r
-parted (code.Holding t) = code.Holding t
-parted (code.Drawn d) = code.Drawn d
-parted (code.Waiting s p r) = code.Waiting s p r
 parted (code.Reading n p r left) = code.Reading n p r (left - 1)
-parted code.Gone = code.Gone
-parted (code.Left d) = code.Left d
-parted code.Dropped = code.Dropped
+parted phase = phase
 
 abbrev pub gone_phase : CodePhase → CodePhase
-gone_phase code.Idle = code.Gone
-gone_phase (code.Called p r) = code.Gone
-gone_phase (code.Holding t) = code.Gone
 gone_phase (code.Drawn d) = code.Left d
 gone_phase (code.Waiting s p r) = code.Dropped
-gone_phase (code.Reading n p r left) = code.Gone
-gone_phase code.Gone = code.Gone
 gone_phase (code.Left d) = code.Left d
 gone_phase code.Dropped = code.Dropped
+gone_phase phase = code.Gone
 
 -- whether a phase reads at a number
 abbrev pub reads_at : ℕ → CodePhase → Bool
@@ -265,23 +167,15 @@ Same old new = ((d : ℕ) → named_phase new d ≡ named_phase old d) × (IsTra
 abbrev pub parts_in : ℕ → Route → Option ℕ
 parts_in shards (gets k) = Some 1
 parts_in shards (lists kind namespace) = Some shards
-parts_in shards (writes k) = None
-parts_in shards (lists_at kind namespace number) = None
-parts_in shards (compacts to) = None
+parts_in shards other = None
 
 abbrev pub exact_in : Route → Option ℕ
-exact_in (gets k) = None
-exact_in (lists kind namespace) = None
-exact_in (writes k) = None
 exact_in (lists_at kind namespace number) = Some number
-exact_in (compacts to) = None
+exact_in other = None
 
 abbrev pub floor_in : Route → Option ℕ
-floor_in (gets k) = None
-floor_in (lists kind namespace) = None
-floor_in (writes k) = None
-floor_in (lists_at kind namespace number) = None
 floor_in (compacts to) = Some to
+floor_in other = None
 
 -- ---- what is parked
 abbrev pub lot_at : Parking → ℕ → List Waiter
@@ -445,17 +339,8 @@ named_by (event.Crash c) = Some c
 
 -- only a Reply is answered, by what it adds to the trace
 abbrev pub IsAnswer : Event → Machine → Machine → Option Reply → Type 0
-IsAnswer (event.Call c r) old new told = told ≡ None
-IsAnswer (event.Check c) old new told = told ≡ None
-IsAnswer (event.Reserve c) old new told = told ≡ None
-IsAnswer (event.Publish c) old new told = told ≡ None
-IsAnswer event.Raise old new told = told ≡ None
-IsAnswer (event.Read c) old new told = told ≡ None
-IsAnswer (event.ReadAt c) old new told = told ≡ None
-IsAnswer (event.Compact c) old new told = told ≡ None
-IsAnswer (event.Part c) old new told = told ≡ None
 IsAnswer (event.Reply c) old new told = new.items.items ≡ old.items.items ++ told_at old.now_at c told
-IsAnswer (event.Crash c) old new told = told ≡ None
+IsAnswer other old new told = told ≡ None
 
 -- whatever was shown is shown still, and the shards are compacted as far as nothing is read
 unfoldable pub Thins : Machine → Machine → Type 0
