@@ -11,7 +11,7 @@ use Rattle.rounds.specs.Phase as phases
 use Rattle.rounds.specs.Phase.{Phase, acts, from_list, from_set, takes}
 use Rattle.rounds.specs.Reconciler.{Reconciler}
 use Rattle.controllers.specs.declared.progress.Progress.{Progress}
-use Rattle.controllers.specs.declared.progress.Progress.TheVariants.{ReadingSet, ListingRevisions, ListingPods, ListingClaims, Acting, ListingOldClaims, ListingOwnerSets, ListingOwnerPods, ListingOwnerRevisions, ListingOwnerClaims, Deleting}
+use Rattle.controllers.specs.declared.progress.Progress.TheVariants.{ReadingSet, ListingClaims, Acting, Deleting}
 use Rattle.controllers.specs.Controller.{Refusals, refusal_after, refusals_with}
 use Rattle.controllers.specs.Progress.{is_carrying, is_list, is_listing, is_planning, phase_at, planned_at}
 use Rattle.plan_requests.specs.Planned.{or_none, requested, why_not}
@@ -25,16 +25,10 @@ from_none next reply h = refl
 pub list_ends : (p : Progress) (c : Reconciler) (reply : Reply) → is_listing p ≡ true → is_list reply ≡ false → takes c (phase_at p) reply ≡ phases.reading_set
 unfolding phase_at takes
 list_ends ReadingSet c reply h none = absurd (true≢false (sym h))
-list_ends (ListingRevisions set) c reply h none = from_none _ reply none
-list_ends (ListingPods set revisions) c reply h none = from_none _ reply none
 list_ends (ListingClaims set revisions pods) c reply h none = absurd (true≢false (sym h))
 list_ends (Acting next later) c reply h none = absurd (true≢false (sym h))
-list_ends ListingOldClaims c reply h none = from_none _ reply none
-list_ends (ListingOwnerSets claims) c reply h none = from_none _ reply none
-list_ends (ListingOwnerPods claims sets at) c reply h none = from_none _ reply none
-list_ends (ListingOwnerRevisions claims sets pods at) c reply h none = from_none _ reply none
-list_ends (ListingOwnerClaims claims sets pods revisions at) c reply h none = from_none _ reply none
 list_ends (Deleting next later) c reply h none = absurd (true≢false (sym h))
+list_ends _ c reply h none = from_none _ reply none
 
 pub claims_end : (p : Progress) (c : Reconciler) (reply : Reply) → is_planning p ≡ true → is_list reply ≡ false → takes c (phase_at p) reply ≡ phases.reading_set
 unfolding phase_at takes
@@ -78,16 +72,10 @@ refusal_carried p refusals reply refusal h = refl
 -- what is neither read nor listed
 pub carries : (p : Progress) → is_listing p ≡ false → (p ≡ ReadingSet → ⊥) → ((set : Object) (revisions pods : List Object) → p ≡ ListingClaims set revisions pods → ⊥) → is_carrying p ≡ true
 carries ReadingSet h no_set no_claims = absurd (no_set refl)
-carries (ListingRevisions set) h no_set no_claims = absurd (true≢false h)
-carries (ListingPods set revisions) h no_set no_claims = absurd (true≢false h)
 carries (ListingClaims set revisions pods) h no_set no_claims = absurd (no_claims set revisions pods refl)
 carries (Acting next later) h no_set no_claims = refl
-carries ListingOldClaims h no_set no_claims = absurd (true≢false h)
-carries (ListingOwnerSets claims) h no_set no_claims = absurd (true≢false h)
-carries (ListingOwnerPods claims sets at) h no_set no_claims = absurd (true≢false h)
-carries (ListingOwnerRevisions claims sets pods at) h no_set no_claims = absurd (true≢false h)
-carries (ListingOwnerClaims claims sets pods revisions at) h no_set no_claims = absurd (true≢false h)
 carries (Deleting next later) h no_set no_claims = refl
+carries _ h no_set no_claims = absurd (true≢false h)
 
 -- a refusal that is not want of memory is that of the plan
 pub refused_with : {A : Type 0} (e : PlanError) (planned : Result A PlanError) → (e ≡ errors.Memory → ⊥) → Fails e planned → planned ≡ Err e

@@ -34,15 +34,8 @@ compacted_next n i old xs before after lt at is done = record {
 
 -- what is up to the number of each code phase that reads, is up to that of its phase
 unread_shown : (low : ℕ) (p : CodePhase) (ph : Phase) → IsShown p ph → ((n : ℕ) → reads_at n p ≡ true → low ≤ n) → IsUnread low ph
-unread_shown low code.Idle ph h f = subst (IsUnread low) (sym h) tt
-unread_shown low (code.Called p r) ph h f = subst (IsUnread low) (sym h) tt
-unread_shown low (code.Holding t) ph h f = subst (IsUnread low) (sym h) tt
-unread_shown low (code.Drawn d) ph h f = subst (IsUnread low) (sym h) tt
-unread_shown low (code.Waiting s p r) ph h f = subst (IsUnread low) (sym h) tt
 unread_shown low (code.Reading n p r left) ph h f = subst (IsUnread low) (sym h.1.1.0) (f n (eq_self n))
-unread_shown low code.Gone ph h f = subst (IsUnread low) (sym h) tt
-unread_shown low (code.Left d) ph h f = subst (IsUnread low) (sym h) tt
-unread_shown low code.Dropped ph h f = subst (IsUnread low) (sym h) tt
+unread_shown low _ ph h f = subst (IsUnread low) (sym h) tt
 
 number_is : {m n : ℕ} → Compared m n → nat_eq m n ≡ true → m ≡ n
 number_is (same e b) is = e
@@ -50,14 +43,7 @@ number_is (other ne b) is = absurd (true≢false (sym is ∙ b))
 
 shown_unread : (low n : ℕ) (p : CodePhase) (ph : Phase) → IsShown p ph → reads_at n p ≡ true → IsUnread low ph → low ≤ n
 shown_unread low n (code.Reading m p r left) ph h e unread = let le : low ≤ m = subst (IsUnread low) h.1.1.0 unread in let equal = number_is (compare m n) e in omega arith
-shown_unread low n code.Idle ph h e unread = absurd cc
-shown_unread low n (code.Called p r) ph h e unread = absurd cc
-shown_unread low n (code.Holding t) ph h e unread = absurd cc
-shown_unread low n (code.Drawn d) ph h e unread = absurd cc
-shown_unread low n (code.Waiting s p r) ph h e unread = absurd cc
-shown_unread low n code.Gone ph h e unread = absurd cc
-shown_unread low n (code.Left d) ph h e unread = absurd cc
-shown_unread low n code.Dropped ph h e unread = absurd cc
+shown_unread low n _ ph h e unread = absurd cc
 
 spared_unread : (w : World) (k : ℕ) → IsSpared w k → (c : ℕ) → IsUnread k (w.phase c)
 spared_unread w k spared c = by (w.phase c) refl

@@ -36,49 +36,21 @@ use Rattle.history.proofs.Stepping.{nothing, steps}
 -- ---- in its phases
 waits_at : (p : CodePhase) (ph : Phase) (saw : ℕ) (reply : Reply) → waiting_in p ≡ Some (saw, reply) → IsShown p ph → (place : ℕ) × (ph ≡ Waiting saw place reply)
 waits_at (code.Waiting s place r) ph saw reply e h = (place, h ∙ ap (λ (x : ℕ × Reply). Waiting x.0 place x.1) (same_Some _ _ e))
-waits_at code.Idle ph saw reply e h = absurd cc
-waits_at (code.Called p r) ph saw reply e h = absurd cc
-waits_at (code.Holding t) ph saw reply e h = absurd cc
-waits_at (code.Drawn d) ph saw reply e h = absurd cc
-waits_at (code.Reading n p r left) ph saw reply e h = absurd cc
-waits_at code.Gone ph saw reply e h = absurd cc
-waits_at (code.Left d) ph saw reply e h = absurd cc
-waits_at code.Dropped ph saw reply e h = absurd cc
+waits_at _ ph saw reply e h = absurd cc
 
 pub waiting_replies : (p : CodePhase) (x : ℕ × Reply) → waiting_in p ≡ Some x → is_replying p ≡ true
 waiting_replies (code.Waiting s place r) x e = refl
-waiting_replies code.Idle x e = absurd cc
-waiting_replies (code.Called p r) x e = absurd cc
-waiting_replies (code.Holding t) x e = absurd cc
-waiting_replies (code.Drawn d) x e = absurd cc
-waiting_replies (code.Reading n p r left) x e = absurd cc
-waiting_replies code.Gone x e = absurd cc
-waiting_replies (code.Left d) x e = absurd cc
-waiting_replies code.Dropped x e = absurd cc
+waiting_replies _ x e = absurd cc
 
 pub reading_replies : (p : CodePhase) (x : ℕ × Request × ℕ) → reading_in p ≡ Some x → is_replying p ≡ true
 reading_replies (code.Reading n p r left) x e = refl
-reading_replies (code.Waiting s place r) x e = absurd cc
-reading_replies code.Idle x e = absurd cc
-reading_replies (code.Called p r) x e = absurd cc
-reading_replies (code.Holding t) x e = absurd cc
-reading_replies (code.Drawn d) x e = absurd cc
-reading_replies code.Gone x e = absurd cc
-reading_replies (code.Left d) x e = absurd cc
-reading_replies code.Dropped x e = absurd cc
+reading_replies _ x e = absurd cc
 
 reads_at : (p : CodePhase) (ph : Phase) (n : ℕ) (r : Request) (left : ℕ) → reading_in p ≡ Some (n, r, left) → IsShown p ph → (place : ℕ) × ((parts : List ℕ) × ((found : Objects) × ((ph ≡ Reading n place r parts found) × (length parts ≡ left))))
 reads_at (code.Reading n place r left) ph m q l e h =
     let x = same_Some _ _ e in
     (place, (h.0, (h.1.0, (h.1.1.0 ∙ ap (λ (y : ℕ × Request × ℕ). Reading y.0 place y.1 h.0 h.1.0) x, h.1.1.1 ∙ ap (λ (y : ℕ × Request × ℕ). y.2) x))))
-reads_at (code.Waiting s place r) ph m q l e h = absurd cc
-reads_at code.Idle ph m q l e h = absurd cc
-reads_at (code.Called p r) ph m q l e h = absurd cc
-reads_at (code.Holding t) ph m q l e h = absurd cc
-reads_at (code.Drawn d) ph m q l e h = absurd cc
-reads_at code.Gone ph m q l e h = absurd cc
-reads_at (code.Left d) ph m q l e h = absurd cc
-reads_at code.Dropped ph m q l e h = absurd cc
+reads_at _ ph m q l e h = absurd cc
 
 module _ (m : Machine) (c : ℕ) where
   -- a reply waits for the frontier
@@ -129,15 +101,9 @@ module _ (m : Machine) (c : ℕ) where
       by z w place (s ∷ parts) got count = refl
 
   neither : (z : Size) (w : World) (p : CodePhase) (ph : Phase) → waiting_in p ≡ None → reading_in p ≡ None → IsShown p ph → replied z w c ph ≡ w
-  neither z w code.Idle ph e f h = ap (replied z w c) h
-  neither z w (code.Called p r) ph e f h = ap (replied z w c) h
-  neither z w (code.Holding t) ph e f h = ap (replied z w c) h
-  neither z w (code.Drawn d) ph e f h = ap (replied z w c) h
   neither z w (code.Waiting s p r) ph e f h = absurd cc
   neither z w (code.Reading n p r left) ph e f h = absurd cc
-  neither z w code.Gone ph e f h = ap (replied z w c) h
-  neither z w (code.Left d) ph e f h = ap (replied z w c) h
-  neither z w code.Dropped ph e f h = ap (replied z w c) h
+  neither z w _ ph e f h = ap (replied z w c) h
 
   pub due_none : waiting_in (phase_at m.callers c) ≡ None → reading_in (phase_at m.callers c) ≡ None → IsDue c None m
   due_none e f = λ z w a sh facts. neither z w (phase_at m.callers c) (w.phase c) e f (sh.phases c)

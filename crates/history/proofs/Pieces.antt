@@ -51,26 +51,12 @@ stays_by m m' items order places lots is = (
 )
 
 pub undecided_live : (p : CodePhase) → is_undecided p ≡ true → is_dropped p ≡ false
-undecided_live code.Idle e = refl
-undecided_live (code.Called p q) e = refl
-undecided_live (code.Holding t) e = refl
-undecided_live (code.Drawn d) e = refl
-undecided_live (code.Waiting s p q) e = refl
-undecided_live (code.Reading n p q left) e = refl
-undecided_live code.Gone e = refl
-undecided_live (code.Left d) e = refl
 undecided_live code.Dropped e = absurd cc
+undecided_live _ e = refl
 
 pub called_is_undecided : (p : CodePhase) → is_called p ≡ true → is_undecided p ≡ true
-called_is_undecided code.Idle e = absurd cc
 called_is_undecided (code.Called p q) e = refl
-called_is_undecided (code.Holding t) e = absurd cc
-called_is_undecided (code.Drawn d) e = absurd cc
-called_is_undecided (code.Waiting s p q) e = absurd cc
-called_is_undecided (code.Reading n p q left) e = absurd cc
-called_is_undecided code.Gone e = absurd cc
-called_is_undecided (code.Left d) e = absurd cc
-called_is_undecided code.Dropped e = absurd cc
+called_is_undecided _ e = absurd cc
 
 -- ---- what is read is kept
 pub kept_now : (m : Machine) → Stands m → m.compacted ≤ m.frontier
@@ -204,37 +190,16 @@ begins_by m m' c place number left stated kept order entering is = λ z w a r pa
     })
   where
     same_drops : (p : CodePhase) → is_dropped (begun_phase number left p) ≡ is_dropped p
-    same_drops code.Idle = refl
     same_drops (code.Called p q) = refl
-    same_drops (code.Holding t) = refl
-    same_drops (code.Drawn d) = refl
-    same_drops (code.Waiting s p q) = refl
-    same_drops (code.Reading n p q l) = refl
-    same_drops code.Gone = refl
-    same_drops (code.Left d) = refl
-    same_drops code.Dropped = refl
+    same_drops _ = refl
 
     reads : (p : CodePhase) → is_called p ≡ true → (ph : Phase) → IsShown p ph → (r : Request) (at : ℕ) (parts : List ℕ) → ph ≡ Called at r → length parts ≡ left → IsShown (begun_phase number left p) (Reading number at r parts map.empty)
     reads (code.Called n q) e ph h r at parts is count = let x : at ≡ n = cc in let y : r ≡ q = cc in (parts, (map.empty, (ap (λ i. Reading number i r parts map.empty) x ∙ ap (λ i. Reading number n i parts map.empty) y, count)))
-    reads code.Idle e ph h r at parts is count = absurd cc
-    reads (code.Holding t) e ph h r at parts is count = absurd cc
-    reads (code.Drawn d) e ph h r at parts is count = absurd cc
-    reads (code.Waiting s p q) e ph h r at parts is count = absurd cc
-    reads (code.Reading n p q l) e ph h r at parts is count = absurd cc
-    reads code.Gone e ph h r at parts is count = absurd cc
-    reads (code.Left d) e ph h r at parts is count = absurd cc
-    reads code.Dropped e ph h r at parts is count = absurd cc
+    reads _ e ph h r at parts is count = absurd cc
 
 pub replying_live : (p : CodePhase) → is_replying p ≡ true → is_dropped p ≡ false
-replying_live code.Idle e = refl
-replying_live (code.Called p q) e = refl
-replying_live (code.Holding t) e = refl
-replying_live (code.Drawn d) e = refl
-replying_live (code.Waiting s p q) e = refl
-replying_live (code.Reading n p q left) e = refl
-replying_live code.Gone e = refl
-replying_live (code.Left d) e = refl
 replying_live code.Dropped e = absurd cc
+replying_live _ e = refl
 
 pub tells_by : (m m' : Machine) (c : ℕ) (reply : Reply) → is_replying (phase_at m.callers c) ≡ true → m'.items.items ≡ m.items.items ++ item.Reply m.now_at c reply ∷ [] → Enters m.callers m'.callers c code.Idle
     → m' ≡ record m { items = m'.items; callers = m'.callers } → Tells c reply m m'

@@ -31,13 +31,7 @@ pub data IsDrawing (p : CodePhase) (ph : Phase) (d : CodeDraw) : Type 0 where
 pub drawing : (p : CodePhase) (ph : Phase) (d : CodeDraw) → drawn_in p ≡ Some d → IsShown p ph → IsDrawing p ph d
 drawing (code.Drawn x) ph d e h = let i : x ≡ d = same_Some _ _ e in draws (ap code.Drawn i) (h ∙ ap (λ y. Drawn (draw_of y)) i)
 drawing (code.Left x) ph d e h = let i : x ≡ d = same_Some _ _ e in left (ap code.Left i) (h ∙ ap (λ y. Gone (Some (draw_of y))) i)
-drawing code.Idle ph d e h = absurd cc
-drawing (code.Called p r) ph d e h = absurd cc
-drawing (code.Holding t) ph d e h = absurd cc
-drawing (code.Waiting s p q) ph d e h = absurd cc
-drawing (code.Reading n p q l) ph d e h = absurd cc
-drawing code.Gone ph d e h = absurd cc
-drawing code.Dropped ph d e h = absurd cc
+drawing _ ph d e h = absurd cc
 
 pub draw_is : (p : CodePhase) (ph : Phase) (d : CodeDraw) → IsDrawing p ph d → draw_in ph ≡ Some (draw_of d)
 draw_is p ph d (draws a b) = ap draw_in b
@@ -75,15 +69,10 @@ drawn_above m c d s st e is lt =
 -- nothing is published of a caller without a draw
 module _ (z : Size) (w : World) (c : ℕ) where
   not_drawn : (p : CodePhase) (ph : Phase) → drawn_in p ≡ None → IsShown p ph → published z w c ph ≡ w
-  not_drawn code.Idle ph e h = ap (published z w c) h
-  not_drawn (code.Called p q) ph e h = ap (published z w c) h
-  not_drawn (code.Holding t) ph e h = ap (published z w c) h
   not_drawn (code.Drawn d) ph e h = absurd cc
-  not_drawn (code.Waiting s p q) ph e h = ap (published z w c) h
   not_drawn (code.Reading n p q l) ph e h = ap (published z w c) h.1.1.0
-  not_drawn code.Gone ph e h = ap (published z w c) h
   not_drawn (code.Left d) ph e h = absurd cc
-  not_drawn code.Dropped ph e h = ap (published z w c) h
+  not_drawn _ ph e h = ap (published z w c) h
 
 pub publish_nothing : (m : Machine) (c : ℕ) → drawn_in (phase_at m.callers c) ≡ None → Does (Publish c) m m
 unfolding Does

@@ -63,25 +63,12 @@ answer_told z es m m' (event.Crash c) told run next answer = answer
 
 idle_shown : (p : CodePhase) (ph : Phase) → IsShown p ph → is_idle p ≡ true → ph ≡ Idle
 idle_shown code.Idle ph h e = h
-idle_shown (code.Called p r) ph h e = absurd cc
-idle_shown (code.Holding t) ph h e = absurd cc
-idle_shown (code.Drawn d) ph h e = absurd cc
-idle_shown (code.Waiting s p r) ph h e = absurd cc
-idle_shown (code.Reading n p r left) ph h e = absurd cc
-idle_shown code.Gone ph h e = absurd cc
-idle_shown (code.Left d) ph h e = absurd cc
-idle_shown code.Dropped ph h e = absurd cc
+idle_shown _ ph h e = absurd cc
 
 shown_idle : (p : CodePhase) (ph : Phase) → IsShown p ph → ph ≡ Idle → is_idle p ≡ true
 shown_idle code.Idle ph h e = refl
-shown_idle (code.Called p r) ph h e = absurd cc
-shown_idle (code.Holding t) ph h e = absurd cc
-shown_idle (code.Drawn d) ph h e = absurd cc
-shown_idle (code.Waiting s p r) ph h e = absurd cc
 shown_idle (code.Reading n p r left) ph h e = let x = h.1.1.0 in absurd cc
-shown_idle code.Gone ph h e = absurd cc
-shown_idle (code.Left d) ph h e = absurd cc
-shown_idle code.Dropped ph h e = absurd cc
+shown_idle _ ph h e = absurd cc
 
 pub idle_tells : (b : Bool) (p : CodePhase) (ph : Phase) → b ≡ is_idle p → IsShown p ph → IsTrue b ↔ (ph ≡ Idle)
 idle_tells true p ph is h = (λ t. idle_shown p ph h (sym is), λ e. refl)

@@ -15,15 +15,8 @@ use Rattle.history.specs.Standing.{asked, one_shard, standing_in, standing_of}
 use Rattle.interleavings.proofs.Quiets.{shard_below}
 
 pub standing_shown : (n : ℕ) (p : CodePhase) (ph : Phase) → IsShown p ph → standing_in n p ≡ standing_of n ph
-standing_shown n code.Idle ph h = ap (standing_of n) (sym h)
-standing_shown n (code.Called p r) ph h = ap (standing_of n) (sym h)
-standing_shown n (code.Holding t) ph h = ap (standing_of n) (sym h)
-standing_shown n (code.Drawn d) ph h = ap (standing_of n) (sym h)
-standing_shown n (code.Waiting s p r) ph h = ap (standing_of n) (sym h)
 standing_shown n (code.Reading k p r left) ph h = ap (standing.Reading k (one_shard n (route r))) (sym h.1.1.1) ∙ ap (standing_of n) (sym h.1.1.0)
-standing_shown n code.Gone ph h = ap (standing_of n) (sym h)
-standing_shown n (code.Left d) ph h = ap (standing_of n) (sym h)
-standing_shown n code.Dropped ph h = ap (standing_of n) (sym h)
+standing_shown n _ ph h = ap (standing_of n) (sym h)
 
 -- so many shards are there, and who holds them is looked up there alone
 module _ (held seen : ℕ → Bool) (f : ℕ) (r : Bool) (c : ℕ) where

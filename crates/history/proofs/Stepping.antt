@@ -24,71 +24,30 @@ use Rattle.history.proofs.Showing.{goes}
 -- ---- where a caller is, by what its code phase has
 pub idle_is : (p : CodePhase) (ph : Phase) → is_idle p ≡ true → IsShown p ph → ph ≡ Idle
 idle_is code.Idle ph e h = h
-idle_is (code.Called p r) ph e h = absurd cc
-idle_is (code.Holding t) ph e h = absurd cc
-idle_is (code.Drawn d) ph e h = absurd cc
-idle_is (code.Waiting s p r) ph e h = absurd cc
-idle_is (code.Reading n p r left) ph e h = absurd cc
-idle_is code.Gone ph e h = absurd cc
-idle_is (code.Left d) ph e h = absurd cc
-idle_is code.Dropped ph e h = absurd cc
+idle_is _ ph e h = absurd cc
 
 pub called_is : (p : CodePhase) (ph : Phase) (place : ℕ) (r : Request) → called_in p ≡ Some (place, r) → IsShown p ph → ph ≡ Called place r
 called_is (code.Called p q) ph place r e h = h ∙ ap (λ (x : ℕ × Request). Called x.0 x.1) (same_Some _ _ e)
-called_is code.Idle ph place r e h = absurd cc
-called_is (code.Holding t) ph place r e h = absurd cc
-called_is (code.Drawn d) ph place r e h = absurd cc
-called_is (code.Waiting s p q) ph place r e h = absurd cc
-called_is (code.Reading n p q left) ph place r e h = absurd cc
-called_is code.Gone ph place r e h = absurd cc
-called_is (code.Left d) ph place r e h = absurd cc
-called_is code.Dropped ph place r e h = absurd cc
+called_is _ ph place r e h = absurd cc
 
 pub holding_is : (p : CodePhase) (ph : Phase) (t : CodeWriting) → holding_in p ≡ Some t → IsShown p ph → ph ≡ Holding (writing_of t)
 holding_is (code.Holding u) ph t e h = let x : u ≡ t = cc in h ∙ ap (λ y. Holding (writing_of y)) x
-holding_is code.Idle ph t e h = absurd cc
-holding_is (code.Called p r) ph t e h = absurd cc
-holding_is (code.Drawn d) ph t e h = absurd cc
-holding_is (code.Waiting s p q) ph t e h = absurd cc
-holding_is (code.Reading n p q left) ph t e h = absurd cc
-holding_is code.Gone ph t e h = absurd cc
-holding_is (code.Left d) ph t e h = absurd cc
-holding_is code.Dropped ph t e h = absurd cc
+holding_is _ ph t e h = absurd cc
 
 pub called_undecided : (p : CodePhase) (x : ℕ × Request) → called_in p ≡ Some x → is_undecided p ≡ true
 called_undecided (code.Called p q) x e = refl
-called_undecided code.Idle x e = absurd cc
-called_undecided (code.Holding t) x e = absurd cc
-called_undecided (code.Drawn d) x e = absurd cc
-called_undecided (code.Waiting s p q) x e = absurd cc
-called_undecided (code.Reading n p q left) x e = absurd cc
-called_undecided code.Gone x e = absurd cc
-called_undecided (code.Left d) x e = absurd cc
-called_undecided code.Dropped x e = absurd cc
+called_undecided _ x e = absurd cc
 
 pub called_is_called : (p : CodePhase) (x : ℕ × Request) → called_in p ≡ Some x → is_called p ≡ true
 called_is_called (code.Called p q) x e = refl
-called_is_called code.Idle x e = absurd cc
-called_is_called (code.Holding t) x e = absurd cc
-called_is_called (code.Drawn d) x e = absurd cc
-called_is_called (code.Waiting s p q) x e = absurd cc
-called_is_called (code.Reading n p q left) x e = absurd cc
-called_is_called code.Gone x e = absurd cc
-called_is_called (code.Left d) x e = absurd cc
-called_is_called code.Dropped x e = absurd cc
+called_is_called _ x e = absurd cc
 
 -- ---- events that are not enabled
 module _ (z : Size) (w : World) (c : ℕ) where
   pub not_idle : (r : Request) (p : CodePhase) (ph : Phase) → is_idle p ≡ false → IsShown p ph → called w c r ph ≡ w
   not_idle r code.Idle ph e h = absurd cc
-  not_idle r (code.Called p q) ph e h = ap (called w c r) h
-  not_idle r (code.Holding t) ph e h = ap (called w c r) h
-  not_idle r (code.Drawn d) ph e h = ap (called w c r) h
-  not_idle r (code.Waiting s p q) ph e h = ap (called w c r) h
   not_idle r (code.Reading n p q left) ph e h = ap (called w c r) h.1.1.0
-  not_idle r code.Gone ph e h = ap (called w c r) h
-  not_idle r (code.Left d) ph e h = ap (called w c r) h
-  not_idle r code.Dropped ph e h = ap (called w c r) h
+  not_idle r _ ph e h = ap (called w c r) h
 
   -- of a function that is `w` at all phases but Called
   pub not_called : (f : Phase → World) → f Idle ≡ w → ((t : Writing) → f (Holding t) ≡ w) → ((d : Rattle.interleavings.specs.World.Draw) → f (Drawn d) ≡ w) → ((s p : ℕ) (r : Reply) → f (Waiting s p r) ≡ w)
@@ -117,15 +76,9 @@ module _ (z : Size) (w : World) (c : ℕ) where
   compact_not_called = not_called (compacted w c) refl (λ t. refl) (λ d. refl) (λ s p r. refl) (λ n p r parts found. refl) (λ l. refl)
 
   pub reserve_not_holding : (p : CodePhase) (ph : Phase) → holding_in p ≡ None → IsShown p ph → reserved z w c ph ≡ w
-  reserve_not_holding code.Idle ph e h = ap (reserved z w c) h
-  reserve_not_holding (code.Called p q) ph e h = ap (reserved z w c) h
   reserve_not_holding (code.Holding t) ph e h = absurd cc
-  reserve_not_holding (code.Drawn d) ph e h = ap (reserved z w c) h
-  reserve_not_holding (code.Waiting s p q) ph e h = ap (reserved z w c) h
   reserve_not_holding (code.Reading n p q left) ph e h = ap (reserved z w c) h.1.1.0
-  reserve_not_holding code.Gone ph e h = ap (reserved z w c) h
-  reserve_not_holding (code.Left d) ph e h = ap (reserved z w c) h
-  reserve_not_holding code.Dropped ph e h = ap (reserved z w c) h
+  reserve_not_holding _ ph e h = ap (reserved z w c) h
 
   -- a check of a request that is no write
   pub check_no_write : (place : ℕ) (r : Request) → is_write r ≡ false → checked z w c (Called place r) ≡ w
@@ -162,14 +115,7 @@ route_of_write (Compact to) k e n = absurd cc
 
 pub holding_code : (p : CodePhase) (t : CodeWriting) → holding_in p ≡ Some t → p ≡ code.Holding t
 holding_code (code.Holding u) t e = ap code.Holding (same_Some _ _ e)
-holding_code code.Idle t e = absurd cc
-holding_code (code.Called p q) t e = absurd cc
-holding_code (code.Drawn d) t e = absurd cc
-holding_code (code.Waiting s p q) t e = absurd cc
-holding_code (code.Reading n p q left) t e = absurd cc
-holding_code code.Gone t e = absurd cc
-holding_code (code.Left d) t e = absurd cc
-holding_code code.Dropped t e = absurd cc
+holding_code _ t e = absurd cc
 
 pub lt_true : (i j : ℕ) → i < j → nat_lt i j ≡ true
 lt_true i j lt = by (nat_lt i j) refl
