@@ -33,6 +33,14 @@ HasTaken events replay = (z : Size) × IsAfter z events replay
 abbrev pub Follows : Program → Type 0
 Follows program = HasTaken program.events.items program.replay
 
+-- each controller has its caller
+abbrev pub HaveCallers : {X : Type 0} → List X → Program → Type 0
+HaveCallers xs program = length xs ≡ length program.callers.present.items
+
+-- there are as many of them
+abbrev pub KeepsCallers : (old new : Program) → Type 0
+KeepsCallers old new = length new.callers.present.items ≡ length old.callers.present.items
+
 -- the store has taken one event more
 pub record Hands (e : Event) (old new : Program) : Type 0 where
   pub callers : new.callers ≡ old.callers

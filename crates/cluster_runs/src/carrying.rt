@@ -2,7 +2,7 @@
 ghost use Rattle.std.specs.Prelude.{◌≡◌, ℕ, suc, length, IfOk, IfErr, OnOk};
 ghost use Rattle.cluster_runs.specs.Faults.{IsShort};
 ghost use Rattle.cluster_runs.specs.Leading.{Halts, Leads, after_step};
-ghost use Rattle.cluster_runs.specs.Shown.{Follows};
+ghost use Rattle.cluster_runs.specs.Shown.{Follows, HaveCallers, KeepsCallers};
 ghost use Rattle.cluster_runs.specs.Turns.{Course, carried, carried_in, ends_with, nothing, reply_of, run_of, step_by};
 
 use crate::cluster::Cluster;
@@ -40,10 +40,10 @@ impl Cluster {
         controllers: &mut [C],
         number: usize,
     ) -> Result<Option<Reply>, ClusterFault>
-        requires present { length controllers.old ≡ length self.old.callers.present.items }
+        requires present { HaveCallers controllers.old self.old }
         requires follows { Follows self.old }
         ensures many { length controllers.new ≡ length controllers.old }
-        ensures present { length self.new.callers.present.items ≡ length self.old.callers.present.items }
+        ensures present { KeepsCallers self.old self.new }
         ensures follows { OnOk result (Follows self.new) }
         ensures leads { IfOk result (λ told. Leads C.reconciler C.phase C.is_waiting
             (run_of number) (ends_with told) self.old self.new controllers.old controllers.new) }
@@ -63,10 +63,10 @@ impl Cluster {
         controllers: &mut [C],
         caller: u64,
     ) -> Result<Option<Reply>, ClusterFault>
-        requires present { length controllers.old ≡ length self.old.callers.present.items }
+        requires present { HaveCallers controllers.old self.old }
         requires follows { Follows self.old }
         ensures many { length controllers.new ≡ length controllers.old }
-        ensures present { length self.new.callers.present.items ≡ length self.old.callers.present.items }
+        ensures present { KeepsCallers self.old self.new }
         ensures follows { OnOk result (Follows self.new) }
         ensures leads { IfOk result (λ told. Leads C.reconciler C.phase C.is_waiting
             (carried caller) (ends_with told) self.old self.new controllers.old controllers.new) }
@@ -89,10 +89,10 @@ impl Cluster {
         controllers: &mut [C],
         caller: u64,
     ) -> Result<Advance, ClusterFault>
-        requires present { length controllers.old ≡ length self.old.callers.present.items }
+        requires present { HaveCallers controllers.old self.old }
         requires follows { Follows self.old }
         ensures many { length controllers.new ≡ length controllers.old }
-        ensures present { length self.new.callers.present.items ≡ length self.old.callers.present.items }
+        ensures present { KeepsCallers self.old self.new }
         ensures follows { OnOk result (Follows self.new) }
         ensures leads { IfOk result (λ went. (steps : ℕ) → Leads C.reconciler C.phase C.is_waiting (carried_in (suc steps) caller)
             (after_step went (carried_in steps caller)) self.old self.new controllers.old controllers.new) }
@@ -115,10 +115,10 @@ impl Cluster {
         controllers: &mut [C],
         event: &Event,
     ) -> Result<Advance, ClusterFault>
-        requires present { length controllers.old ≡ length self.old.callers.present.items }
+        requires present { HaveCallers controllers.old self.old }
         requires follows { Follows self.old }
         ensures many { length controllers.new ≡ length controllers.old }
-        ensures present { length self.new.callers.present.items ≡ length self.old.callers.present.items }
+        ensures present { KeepsCallers self.old self.new }
         ensures follows { OnOk result (Follows self.new) }
         ensures leads { IfOk result (λ went. (next : Course) → Leads C.reconciler C.phase C.is_waiting (step_by event.now (reply_of event.now) next)
             (after_step went next) self.old self.new controllers.old controllers.new) }

@@ -8,7 +8,7 @@ ghost use Rattle.history.specs.Replayed.{named_by};
 ghost use Rattle.cluster_runs.specs.declared.event.ClusterEvent.TheVariants.{Next, Outside, Step, Crash};
 ghost use Rattle.cluster_runs.specs.Cluster.{controller_at, hand_if, is_nobody, is_used, with_outside};
 ghost use Rattle.cluster_runs.specs.Faults.{IsShort};
-ghost use Rattle.cluster_runs.specs.Shown.{Becomes, Exceeds, Follows, Hands, Happens, Hears, Overfills, Stay, Tells};
+ghost use Rattle.cluster_runs.specs.Shown.{Becomes, Exceeds, Follows, Hands, Happens, HaveCallers, Hears, KeepsCallers, Overfills, Stay, Tells};
 ghost use Rattle.cluster_runs.specs.declared.fault.ClusterFault.TheVariants.{Memory as OutOfMemory};
 
 use crate::cluster::Cluster;
@@ -25,10 +25,10 @@ impl Cluster {
         controllers: &mut [C],
         event: &ClusterEvent,
     ) -> Result<(), ClusterFault>
-        requires present { length controllers.old ≡ length self.old.callers.present.items }
+        requires present { HaveCallers controllers.old self.old }
         requires follows { Follows self.old }
         ensures many { length controllers.new ≡ length controllers.old }
-        ensures present { length self.new.callers.present.items ≡ length self.old.callers.present.items }
+        ensures present { KeepsCallers self.old self.new }
         ensures follows { OnOk result (Follows self.new) }
         ensures shows { OnOk result (Happens C.reconciler C.phase C.is_waiting event.now self.old self.new controllers.old controllers.new) }
         ensures stays { OnErr result (Stay C.reconciler C.phase controllers.old controllers.new) }
@@ -59,11 +59,11 @@ impl Cluster {
         controllers: &mut [C],
         number: usize,
     ) -> Result<(), ClusterFault>
-        requires present { length controllers.old ≡ length self.old.callers.present.items }
+        requires present { HaveCallers controllers.old self.old }
         requires there { number < length controllers.old }
         requires follows { Follows self.old }
         ensures many { length controllers.new ≡ length controllers.old }
-        ensures present { length self.new.callers.present.items ≡ length self.old.callers.present.items }
+        ensures present { KeepsCallers self.old self.new }
         ensures follows { OnOk result (Follows self.new) }
         ensures shows { OnOk result (Happens C.reconciler C.phase C.is_waiting (Next number) self.old self.new controllers.old controllers.new) }
         ensures stays { OnErr result (Stay C.reconciler C.phase controllers.old controllers.new) }
@@ -85,10 +85,10 @@ impl Cluster {
         caller: u64,
         request: &Request,
     ) -> Result<(), ClusterFault>
-        requires present { length controllers.old ≡ length self.old.callers.present.items }
+        requires present { HaveCallers controllers.old self.old }
         requires follows { Follows self.old }
         ensures many { length controllers.new ≡ length controllers.old }
-        ensures present { length self.new.callers.present.items ≡ length self.old.callers.present.items }
+        ensures present { KeepsCallers self.old self.new }
         ensures follows { OnOk result (Follows self.new) }
         ensures shows { OnOk result (Happens C.reconciler C.phase C.is_waiting (Outside caller request.now) self.old self.new controllers.old controllers.new) }
         ensures stays { OnErr result (Stay C.reconciler C.phase controllers.old controllers.new) }
@@ -125,11 +125,11 @@ impl Cluster {
         controllers: &mut [C],
         number: usize,
     ) -> Result<(), ClusterFault>
-        requires present { length controllers.old ≡ length self.old.callers.present.items }
+        requires present { HaveCallers controllers.old self.old }
         requires there { number < length controllers.old }
         requires follows { Follows self.old }
         ensures many { length controllers.new ≡ length controllers.old }
-        ensures present { length self.new.callers.present.items ≡ length self.old.callers.present.items }
+        ensures present { KeepsCallers self.old self.new }
         ensures follows { OnOk result (Follows self.new) }
         ensures shows { OnOk result (Happens C.reconciler C.phase C.is_waiting (Crash number) self.old self.new controllers.old controllers.new) }
         ensures stays { OnErr result (Stay C.reconciler C.phase controllers.old controllers.new) }
@@ -149,10 +149,10 @@ impl Cluster {
         controllers: &mut [C],
         event: &Event,
     ) -> Result<(), ClusterFault>
-        requires present { length controllers.old ≡ length self.old.callers.present.items }
+        requires present { HaveCallers controllers.old self.old }
         requires follows { Follows self.old }
         ensures many { length controllers.new ≡ length controllers.old }
-        ensures present { length self.new.callers.present.items ≡ length self.old.callers.present.items }
+        ensures present { KeepsCallers self.old self.new }
         ensures follows { OnOk result (Follows self.new) }
         ensures shows { OnOk result (Happens C.reconciler C.phase C.is_waiting (Step event.now) self.old self.new controllers.old controllers.new) }
         ensures stays { OnErr result (Stay C.reconciler C.phase controllers.old controllers.new) }
@@ -180,10 +180,10 @@ impl Cluster {
         controllers: &mut [C],
         caller: u64,
     ) -> Result<(), ClusterFault>
-        requires present { length controllers.old ≡ length self.old.callers.present.items }
+        requires present { HaveCallers controllers.old self.old }
         requires follows { Follows self.old }
         ensures many { length controllers.new ≡ length controllers.old }
-        ensures present { length self.new.callers.present.items ≡ length self.old.callers.present.items }
+        ensures present { KeepsCallers self.old self.new }
         ensures follows { OnOk result (Follows self.new) }
         ensures shows { OnOk result (Happens C.reconciler C.phase C.is_waiting (Step (event.Reply caller)) self.old self.new controllers.old controllers.new) }
         ensures stays { OnErr result (Stay C.reconciler C.phase controllers.old controllers.new) }
@@ -206,10 +206,10 @@ impl Cluster {
         controllers: &mut [C],
         caller: u64,
     ) -> Result<Option<Reply>, ClusterFault>
-        requires present { length controllers.old ≡ length self.old.callers.present.items }
+        requires present { HaveCallers controllers.old self.old }
         requires follows { Follows self.old }
         ensures many { length controllers.new ≡ length controllers.old }
-        ensures present { length self.new.callers.present.items ≡ length self.old.callers.present.items }
+        ensures present { KeepsCallers self.old self.new }
         ensures follows { OnOk result (Follows self.new) }
         ensures shows { OnOk result (Happens C.reconciler C.phase C.is_waiting (Step (event.Reply caller)) self.old self.new controllers.old controllers.new) }
         ensures told { IfOk result (λ told. Tells C.reconciler C.phase C.is_waiting caller told self.old controllers.old) }

@@ -5,7 +5,7 @@ ghost use Rattle.objects.specs.declared.kind.Kind.TheVariants.{Pod};
 ghost use Rattle.requests.specs.declared.request.Request.TheVariants as request;
 ghost use Rattle.cluster_runs.specs.Faults.{IsShort};
 ghost use Rattle.cluster_runs.specs.Leading.{Halts, Leads, Peeks};
-ghost use Rattle.cluster_runs.specs.Shown.{Follows, Stay};
+ghost use Rattle.cluster_runs.specs.Shown.{Follows, HaveCallers, KeepsCallers, Stay};
 ghost use Rattle.cluster_runs.specs.declared.fault.ClusterFault.TheVariants.{Memory as OutOfMemory};
 ghost use Rattle.cluster_runs.specs.Turns.{asked, asked_all, asked_as, begins, ends_with, kubelet_turn, nothing, round, round_in, rounds_of, settled, settled_as, settled_once, tended, tended_all, tends};
 
@@ -62,10 +62,10 @@ impl Cluster {
         namespaces: &[Text],
         rounds: u64,
     ) -> Result<(), ClusterFault>
-        requires present { length controllers.old ≡ length self.old.callers.present.items }
+        requires present { HaveCallers controllers.old self.old }
         requires follows { Follows self.old }
         ensures many { length controllers.new ≡ length controllers.old }
-        ensures present { length self.new.callers.present.items ≡ length self.old.callers.present.items }
+        ensures present { KeepsCallers self.old self.new }
         ensures follows { OnOk result (Follows self.new) }
         ensures leads { OnOk result (Leads C.reconciler C.phase C.is_waiting
             (settled rounds namespaces.now) nothing self.old self.new controllers.old controllers.new) }
@@ -88,10 +88,10 @@ impl Cluster {
         kubelet: u64,
         namespaces: &[Text],
     ) -> Result<(), ClusterFault>
-        requires present { length controllers.old ≡ length self.old.callers.present.items }
+        requires present { HaveCallers controllers.old self.old }
         requires follows { Follows self.old }
         ensures many { length controllers.new ≡ length controllers.old }
-        ensures present { length self.new.callers.present.items ≡ length self.old.callers.present.items }
+        ensures present { KeepsCallers self.old self.new }
         ensures follows { OnOk result (Follows self.new) }
         ensures leads { OnOk result (Leads C.reconciler C.phase C.is_waiting
             (settled_once kubelet namespaces.now) nothing self.old self.new controllers.old controllers.new) }
@@ -105,10 +105,10 @@ impl Cluster {
 
     /// Each controller makes a round, in the order of the numbers.
     fn make_rounds<C: ControlLoop>(&mut self, controllers: &mut [C]) -> Result<(), ClusterFault>
-        requires present { length controllers.old ≡ length self.old.callers.present.items }
+        requires present { HaveCallers controllers.old self.old }
         requires follows { Follows self.old }
         ensures many { length controllers.new ≡ length controllers.old }
-        ensures present { length self.new.callers.present.items ≡ length self.old.callers.present.items }
+        ensures present { KeepsCallers self.old self.new }
         ensures follows { OnOk result (Follows self.new) }
         ensures leads { OnOk result (Leads C.reconciler C.phase C.is_waiting
             (rounds_of (range_with_len 0 (length controllers.old))) nothing self.old self.new controllers.old controllers.new) }
@@ -128,11 +128,11 @@ impl Cluster {
         controllers: &mut [C],
         number: usize,
     ) -> Result<(), ClusterFault>
-        requires present { length controllers.old ≡ length self.old.callers.present.items }
+        requires present { HaveCallers controllers.old self.old }
         requires follows { Follows self.old }
         requires there { number < length controllers.old }
         ensures many { length controllers.new ≡ length controllers.old }
-        ensures present { length self.new.callers.present.items ≡ length self.old.callers.present.items }
+        ensures present { KeepsCallers self.old self.new }
         ensures follows { OnOk result (Follows self.new) }
         ensures leads { OnOk result (Leads C.reconciler C.phase C.is_waiting (round number) nothing self.old self.new controllers.old controllers.new) }
         ensures halts { IfErr result (λ fault. Halts C.reconciler C.phase C.is_waiting fault (round number) self.old controllers.old controllers.new) }
@@ -154,11 +154,11 @@ impl Cluster {
         controllers: &mut [C],
         number: usize,
     ) -> Result<Option<Reply>, ClusterFault>
-        requires present { length controllers.old ≡ length self.old.callers.present.items }
+        requires present { HaveCallers controllers.old self.old }
         requires follows { Follows self.old }
         requires there { number < length controllers.old }
         ensures many { length controllers.new ≡ length controllers.old }
-        ensures present { length self.new.callers.present.items ≡ length self.old.callers.present.items }
+        ensures present { KeepsCallers self.old self.new }
         ensures follows { OnOk result (Follows self.new) }
         ensures leads { IfOk result (λ told. Leads C.reconciler C.phase C.is_waiting
             (asked number) (ends_with told) self.old self.new controllers.old controllers.new) }
@@ -176,7 +176,7 @@ impl Cluster {
         controllers: &mut [C],
         number: usize,
     ) -> Result<bool, ClusterFault>
-        requires present { length controllers.old ≡ length self.now.callers.present.items }
+        requires present { HaveCallers controllers.old self.now }
         requires there { number < length controllers.old }
         ensures many { length controllers.new ≡ length controllers.old }
         ensures peeks { IfOk result (λ within. Peeks C.reconciler C.phase C.is_waiting number within self.now controllers.old controllers.new) }
@@ -201,10 +201,10 @@ impl Cluster {
         caller: u64,
         namespaces: &[Text],
     ) -> Result<(), ClusterFault>
-        requires present { length controllers.old ≡ length self.old.callers.present.items }
+        requires present { HaveCallers controllers.old self.old }
         requires follows { Follows self.old }
         ensures many { length controllers.new ≡ length controllers.old }
-        ensures present { length self.new.callers.present.items ≡ length self.old.callers.present.items }
+        ensures present { KeepsCallers self.old self.new }
         ensures follows { OnOk result (Follows self.new) }
         ensures leads { OnOk result (Leads C.reconciler C.phase C.is_waiting
             (kubelet_turn caller namespaces.now) nothing self.old self.new controllers.old controllers.new) }
@@ -227,10 +227,10 @@ impl Cluster {
         caller: u64,
         namespace: &Text,
     ) -> Result<(), ClusterFault>
-        requires present { length controllers.old ≡ length self.old.callers.present.items }
+        requires present { HaveCallers controllers.old self.old }
         requires follows { Follows self.old }
         ensures many { length controllers.new ≡ length controllers.old }
-        ensures present { length self.new.callers.present.items ≡ length self.old.callers.present.items }
+        ensures present { KeepsCallers self.old self.new }
         ensures follows { OnOk result (Follows self.new) }
         ensures leads { OnOk result (Leads C.reconciler C.phase C.is_waiting
             (tended caller namespace.now) nothing self.old self.new controllers.old controllers.new) }
@@ -259,10 +259,10 @@ impl Cluster {
         caller: u64,
         requests: &[Request],
     ) -> Result<(), ClusterFault>
-        requires present { length controllers.old ≡ length self.old.callers.present.items }
+        requires present { HaveCallers controllers.old self.old }
         requires follows { Follows self.old }
         ensures many { length controllers.new ≡ length controllers.old }
-        ensures present { length self.new.callers.present.items ≡ length self.old.callers.present.items }
+        ensures present { KeepsCallers self.old self.new }
         ensures follows { OnOk result (Follows self.new) }
         ensures leads { OnOk result (Leads C.reconciler C.phase C.is_waiting
             (asked_all caller requests.now) nothing self.old self.new controllers.old controllers.new) }
@@ -284,10 +284,10 @@ impl Cluster {
         caller: u64,
         request: &Request,
     ) -> Result<Option<Reply>, ClusterFault>
-        requires present { length controllers.old ≡ length self.old.callers.present.items }
+        requires present { HaveCallers controllers.old self.old }
         requires follows { Follows self.old }
         ensures many { length controllers.new ≡ length controllers.old }
-        ensures present { length self.new.callers.present.items ≡ length self.old.callers.present.items }
+        ensures present { KeepsCallers self.old self.new }
         ensures follows { OnOk result (Follows self.new) }
         ensures leads { IfOk result (λ told. Leads C.reconciler C.phase C.is_waiting
             (asked_as caller request.now) (ends_with told) self.old self.new controllers.old controllers.new) }

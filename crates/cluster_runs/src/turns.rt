@@ -9,7 +9,7 @@ ghost use Rattle.cluster_runs.specs.Ordered.{OrderKeepsPromises};
 ghost use Rattle.cluster_runs.specs.Faults.{IsShort};
 ghost use Rattle.cluster_runs.specs.Leading.{Halts, Leads};
 ghost use Rattle.cluster_runs.specs.Ran.{IsClusterRun, cluster_after};
-ghost use Rattle.cluster_runs.specs.Shown.{Follows};
+ghost use Rattle.cluster_runs.specs.Shown.{Follows, HaveCallers, KeepsCallers};
 ghost use Rattle.cluster_runs.specs.Turns.{course_of, course_of_all, ends_with, events_of_turns, nothing};
 
 use crate::callers::Callers;
@@ -96,10 +96,10 @@ impl Cluster {
         namespaces: &[Text],
         turns: &[Turn],
     ) -> Result<(), ClusterFault>
-        requires present { length controllers.old ≡ length self.old.callers.present.items }
+        requires present { HaveCallers controllers.old self.old }
         requires follows { Follows self.old }
         ensures many { length controllers.new ≡ length controllers.old }
-        ensures present { length self.new.callers.present.items ≡ length self.old.callers.present.items }
+        ensures present { KeepsCallers self.old self.new }
         ensures follows { OnOk result (Follows self.new) }
         ensures leads { OnOk result (Leads C.reconciler C.phase C.is_waiting
             (course_of_all namespaces.now turns.now) nothing self.old self.new controllers.old controllers.new) }
@@ -121,10 +121,10 @@ impl Cluster {
         namespaces: &[Text],
         turn: &Turn,
     ) -> Result<Option<Reply>, ClusterFault>
-        requires present { length controllers.old ≡ length self.old.callers.present.items }
+        requires present { HaveCallers controllers.old self.old }
         requires follows { Follows self.old }
         ensures many { length controllers.new ≡ length controllers.old }
-        ensures present { length self.new.callers.present.items ≡ length self.old.callers.present.items }
+        ensures present { KeepsCallers self.old self.new }
         ensures follows { OnOk result (Follows self.new) }
         ensures leads { IfOk result (λ told. Leads C.reconciler C.phase C.is_waiting
             (course_of namespaces.now turn.now) (ends_with told) self.old self.new controllers.old controllers.new) }
