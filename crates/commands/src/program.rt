@@ -36,17 +36,17 @@ pub fn command<T: Threads + Wait + Sync, S: AsStr, R: Source, W: Sink, F: Sink>(
     writer: &mut W,
     faults: &mut F,
 ) -> u8
-    // The exit status.
+    // The exit status is one of four.
     ensures status { result ≤ REFUSED }
+
+    // Bad words, help and the version: what asks for no work.
     ensures success { let kinds = faults_of (map S.text words.now) in
         result ≡ SUCCESS → (kinds ≡ []) ⊎ (list_any is_request kinds ≡ true) }
     ensures refused { result ≡ BAD_WORDS → list_any is_mistake (faults_of (map S.text words.now)) ≡ true }
-    ensures refused_input { let texts = map S.text words.now in
-        result ≡ REFUSED → (faults_of texts ≡ [])
-        × ((asks_to (codes "replay") texts ≡ true) ⊎ ((asks_to (codes "cluster") texts ≡ true)
-        ⊎ ((asks_to (codes "plan") texts ≡ true) ⊎ (asks_to (codes "race") texts ≡ true)))) }
+    ensures mistakes { let kinds = faults_of (map S.text words.now) in
+        kinds ≢ [] → list_any is_request kinds ≡ false → (result ≡ BAD_WORDS) ⊎ (heap.new.refused ≡ true) }
 
-    // What was served.
+    // Serve: the replies to all lines, or at a failure to some.
     ensures served { let texts = map S.text words.now in
         result ≡ SUCCESS → (faults_of texts ≡ []) → asks_to (codes "plan") texts ≡ false → asks_to (codes "race") texts ≡ false
         → asks_to (codes "replay") texts ≡ false → asks_to (codes "cluster") texts ≡ false
@@ -56,17 +56,15 @@ pub fn command<T: Threads + Wait + Sync, S: AsStr, R: Source, W: Sink, F: Sink>(
         → asks_to (codes "replay") texts ≡ false → asks_to (codes "cluster") texts ≡ false
         → ServesSome texts (R.remaining reader.old) (R.remaining reader.new) (W.written writer.old) (W.written writer.new) }
 
-    // What was replayed.
+    // Replay and cluster: what the events of the script came to.
     ensures replayed { let texts = map S.text words.now in
         result ≡ SUCCESS → (faults_of texts ≡ []) → asks_to (codes "replay") texts ≡ true
         → Replays texts (R.remaining reader.old) (R.remaining reader.new) (W.written writer.old) (W.written writer.new) }
-
-    // What a cluster asked and was answered.
     ensures clustered { let texts = map S.text words.now in
         result ≡ SUCCESS → (faults_of texts ≡ []) → asks_to (codes "cluster") texts ≡ true
         → Clusters texts (R.remaining reader.old) (R.remaining reader.new) (W.written writer.old) (W.written writer.new) }
 
-    // What was planned.
+    // Plan: the actions, or at a failure a part of them.
     ensures planned { let texts = map S.text words.now in
         result ≡ SUCCESS → (faults_of texts ≡ []) → asks_to (codes "plan") texts ≡ true
         → Plans texts (R.remaining reader.old) (R.remaining reader.new) (W.written writer.old) (W.written writer.new) }
@@ -74,7 +72,7 @@ pub fn command<T: Threads + Wait + Sync, S: AsStr, R: Source, W: Sink, F: Sink>(
         result ≡ FAILURE → (faults_of texts ≡ []) → asks_to (codes "plan") texts ≡ true → (writer.new ≡ writer.old)
         ⊎ PlansPart texts (R.remaining reader.old) (R.remaining reader.new) (W.written writer.old) (W.written writer.new) }
 
-    // What was raced: the line of the report and nothing else; it is not legal exactly at the status of a refusal.
+    // Race: the line of the report and nothing else; it is not legal exactly at the status of a refusal.
     ensures raced { let texts = map S.text words.now in
         result ≡ SUCCESS → (faults_of texts ≡ []) → asks_to (codes "race") texts ≡ true
         → Races true texts (W.written writer.old) (W.written writer.new) }
@@ -83,26 +81,30 @@ pub fn command<T: Threads + Wait + Sync, S: AsStr, R: Source, W: Sink, F: Sink>(
     ensures apart { let texts = map S.text words.now in
         faults_of texts ≡ [] → asks_to (codes "race") texts ≡ true → (reader.new ≡ reader.old) × (faults.new ≡ faults.old) }
 
-    // Input that is refused.
+    // Replay, cluster and plan: input that is refused, and by which name.
+    ensures refused_input { let texts = map S.text words.now in
+        result ≡ REFUSED → (faults_of texts ≡ [])
+        × ((asks_to (codes "replay") texts ≡ true) ⊎ ((asks_to (codes "cluster") texts ≡ true)
+        ⊎ ((asks_to (codes "plan") texts ≡ true) ⊎ (asks_to (codes "race") texts ≡ true)))) }
     ensures named { let texts = map S.text words.now in
         result ≡ REFUSED → asks_to (codes "race") texts ≡ false → Refuses texts (R.remaining reader.old) (R.remaining reader.new)
         (λ name. Tells name (F.written faults.old) (F.written faults.new) (F.failures faults.old) (F.failures faults.new)) }
-    ensures writes_no_part { result ≡ REFUSED → asks_to (codes "race") (map S.text words.now) ≡ false → writer.new ≡ writer.old }
 
-    // Bad words, devices that fail, and want of memory.
-    ensures mistakes { let kinds = faults_of (map S.text words.now) in
-        kinds ≢ [] → list_any is_request kinds ≡ false → (result ≡ BAD_WORDS) ⊎ (heap.new.refused ≡ true) }
+    // What stays as it was: the input, the output, and the errors.
+    ensures reads_nothing { faults_of (map S.text words.now) ≢ [] → reader.new ≡ reader.old }
+    ensures writes_nothing { result ≡ BAD_WORDS → writer.new ≡ writer.old }
+    ensures silent { let kinds = faults_of (map S.text words.now) in
+        kinds ≢ [] → list_any is_request kinds ≡ false → writer.new ≡ writer.old }
+    ensures writes_no_part { result ≡ REFUSED → asks_to (codes "race") (map S.text words.now) ≡ false → writer.new ≡ writer.old }
+    ensures quiet { result < BAD_WORDS → faults.new ≡ faults.old }
+
+    // Faults: devices that fail, and want of memory.
     ensures cause { let texts = map S.text words.now in
         result ≡ FAILURE → (R.failures reader.old < R.failures reader.new) ⊎ ((W.failures writer.old < W.failures writer.new)
         ⊎ ((heap.new.refused ≡ true) ⊎ AsksOutOfRange texts)) }
     ensures memory { result ≢ FAILURE → heap.new.refused ≡ heap.old.refused }
     ensures spared { (R.failures reader.old < R.failures reader.new) ⊎ (W.failures writer.old < W.failures writer.new)
         → heap.new.refused ≡ heap.old.refused }
-    ensures quiet { result < BAD_WORDS → faults.new ≡ faults.old }
-    ensures reads_nothing { faults_of (map S.text words.now) ≢ [] → reader.new ≡ reader.old }
-    ensures writes_nothing { result ≡ BAD_WORDS → writer.new ≡ writer.old }
-    ensures silent { let kinds = faults_of (map S.text words.now) in
-        kinds ≢ [] → list_any is_request kinds ≡ false → writer.new ≡ writer.old }
 {
     match read_words(heap.alloc, words) {
         Ok(Asked::Serve(capacity)) => served(heap, reader, writer, capacity),
