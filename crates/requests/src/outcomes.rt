@@ -1,29 +1,17 @@
 // The objects that accepted requests make, before they get their number.
-ghost use Rattle.std.specs.Prelude.{◌≡◌, option_map, IfOk};
-ghost use Rattle.objects.specs.Tree.{data_of};
-ghost use Rattle.requests.specs.Verdict.{body_with_status, born, marked, updated, with_status_of};
+ghost use Rattle.std.specs.Prelude.{◌≡◌, IfOk};
+ghost use Rattle.requests.specs.Verdict.{born, marked, updated, with_status_of};
 
 use crate::preconditions::has_status;
-use objects::{Draft, Meta, Object, Text, Tree};
+use objects::{Draft, Meta, Object, Text};
 use std::alloc::AllocError;
 
 /// The object that a create makes: its status comes later, by a request of its own.
 pub(crate) fn born(object: Object) -> Result<Object, AllocError>
     ensures { IfOk result (λ made. made ≡ born object) }
 {
-    with_own_status(object, None)
-}
-
-/// The object with that status or with none, if its kind has one.
-fn with_own_status(object: Object, status: Option<Tree>) -> Result<Object, AllocError>
-    ensures { IfOk result (λ changed. changed ≡ record {
-      key = object.key;
-      meta = object.meta;
-      body = body_with_status object.key.kind (option_map data_of status) object.body;
-    }) }
-{
     if has_status(object.key.kind) {
-        object.with_status(status)
+        object.with_status(None)
     } else {
         Ok(object)
     }
