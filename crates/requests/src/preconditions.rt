@@ -1,5 +1,5 @@
 // What the verdicts turn on: the preconditions of a request, and whether it would change anything.
-ghost use Rattle.std.specs.Prelude.{◌≡◌, List, ℕ, Option, codes, is_some, option_map, decimal};
+ghost use Rattle.std.specs.Prelude.{◌≡◌, List, ℕ, Option, is_some, option_map, decimal};
 ghost use Rattle.std.specs.Option.{option_copied};
 ghost use Rattle.requests.specs.Verdict.{changes_data, conflicts, conflicts_with, differs, graceful, has_status, same_member, stated};
 ghost use Rattle.objects.specs.Same.{same_data};
@@ -74,13 +74,6 @@ pub(crate) fn same_member(left: &Object, right: &Object, name: &str) -> bool
     ensures { result ≡ same_member name.now left.now.body right.now.body }
 {
     same_found(left.member(name), right.member(name))
-}
-
-/// Whether the draft's object has the same status as the one that now has its key.
-pub(crate) fn is_same_status(draft: &Draft, current: &Object) -> bool
-    ensures { result ≡ same_member (codes "status") current.now.body draft.now.object.body }
-{
-    same_member(current, &draft.object, "status")
 }
 
 /// Whether both objects have the same body.

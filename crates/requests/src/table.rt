@@ -9,7 +9,7 @@ use crate::change::Change;
 use crate::change_kind::ChangeKind;
 use crate::outcomes::{born, marked, updated, with_status_of};
 use crate::preconditions::{
-    changes_data, conflicts, graceful, has_status, is_marked, is_same_body, is_same_status, stated,
+    changes_data, conflicts, graceful, has_status, is_marked, is_same_body, same_member, stated,
 };
 use crate::reply::Reason;
 use crate::request::Request;
@@ -120,7 +120,7 @@ fn on_status(draft: &Draft, current: Option<&Object>) -> Result<Judgment, AllocE
     if conflicts(draft.version.as_ref(), draft.uid.as_ref(), current) {
         return Ok(Judgment::Refuse(Reason::Conflict));
     }
-    if is_same_status(draft, current) {
+    if same_member(current, &draft.object, "status") {
         return Ok(Judgment::Same(current.clone()?));
     }
     Ok(Judgment::Write(ChangeKind::Update, with_status_of(draft, current)?))
