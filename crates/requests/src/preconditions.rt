@@ -2,7 +2,6 @@
 ghost use Rattle.std.specs.Prelude.{◌≡◌, List, ℕ, Option, is_some, option_map, decimal};
 ghost use Rattle.std.specs.Option.{option_copied};
 ghost use Rattle.requests.specs.Verdict.{changes_data, conflicts, conflicts_with, differs, graceful, has_status, same_member, stated};
-ghost use Rattle.objects.specs.Same.{same_data};
 ghost use Rattle.objects.specs.Uid.{uid_text};
 
 use objects::{Draft, Kind, Object, Text, is_uid_text, is_version_text, same_found};
@@ -74,13 +73,6 @@ pub(crate) fn same_member(left: &Object, right: &Object, name: &str) -> bool
     ensures { result ≡ same_member name.now left.now.body right.now.body }
 {
     same_found(left.member(name), right.member(name))
-}
-
-/// Whether both objects have the same body.
-pub(crate) fn is_same_body(current: &Object, object: &Object) -> bool
-    ensures { result ≡ same_data current.now.body object.now.body }
-{
-    current.body.is_same(&object.body)
 }
 
 /// The time of a graceful deletion, which only a pod has.

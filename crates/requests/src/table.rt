@@ -9,7 +9,7 @@ use crate::change::Change;
 use crate::change_kind::ChangeKind;
 use crate::outcomes::{born, marked, updated, with_status_of};
 use crate::preconditions::{
-    changes_data, conflicts, graceful, has_status, is_marked, is_same_body, same_member, stated,
+    changes_data, conflicts, graceful, has_status, is_marked, same_member, stated,
 };
 use crate::reply::Reason;
 use crate::request::Request;
@@ -101,7 +101,7 @@ fn on_update(draft: Draft, current: Option<&Object>) -> Result<Judgment, AllocEr
 fn unless_same(object: Object, current: &Object) -> Result<Judgment, AllocError>
     ensures { IfOk result (λ decided. verdict_of decided ≡ unless_same current.now object) }
 {
-    if is_same_body(current, &object) {
+    if current.body.is_same(&object.body) {
         drop(object);
         return Ok(Judgment::Same(current.clone()?));
     }
