@@ -24,7 +24,7 @@ use Rattle.std.proofs.lemmas.List.{get_or_at, map-append, take_more}
 use Rattle.std.proofs.lemmas.Slice.Eq.{bytes_eq-Decides}
 use Rattle.std.proofs.lemmas.Str.Parse.{not_in_digits, numerals_by_value, tells_all_ascii_digits}
 use Rattle.std.proofs.lemmas.Str.Pattern.{NoCharPasses-char}
-use Rattle.objects.proofs.PodNamesDiffer.{IsCut, LacksDash, cut_at_last_dash}
+use Rattle.objects.proofs.PodNamesDiffer.{IsSplit, LacksDash, cut_at_last_dash}
 use Rattle.objects.specs.PodNames.{claim_name, pod_name}
 use Rattle.claims.specs.Listed.{found_in}
 use Rattle.claims.specs.Pods.{claims_in, with_digits}
@@ -107,7 +107,7 @@ both false true false to from = refl
 both false false c to from = refl
 
 -- a name that is cut is a pod's where both parts are
-pub cut_as : (name front digits stem : List ℕ) (i : ℕ) → i < 2 ^ 32 → IsCut name front digits
+pub cut_as : (name front digits stem : List ℕ) (i : ℕ) → i < 2 ^ 32 → IsSplit name front digits
     → bytes_eq (pod_name stem i) name ≡ (bytes_eq front stem && bytes_eq digits (decimal i))
 cut_as name front digits stem i small cut =
     both (bytes_eq (pod_name stem i) name) (bytes_eq front stem) (bytes_eq digits (decimal i))

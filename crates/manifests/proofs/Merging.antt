@@ -6,7 +6,7 @@ use Rattle.std.specs.Cmp.Lexicographic.{slice_cmp, nat_list_cmp_total}
 use Rattle.serde_json.specs.Data.{Data, Members, no_members, member, put}
 use Rattle.objects.specs.DeclaredTree.{Tree}
 use Rattle.objects.specs.Tree.{AreAscending, ComesBefore, data_of, members_of}
-use Rattle.trees.proofs.EntryPlaces.{ascending_put}
+use Rattle.trees.proofs.EntryPositions.{ascending_put}
 use Rattle.trees.proofs.Joining.{join_members, join_members-push}
 use Rattle.trees.proofs.PutOrder.{above_from_below, before_next, equal_texts}
 use Rattle.manifests.specs.Template.{with_all}

@@ -95,18 +95,18 @@ body_of_metadata kind ms metadata said unheld labels owners =
     record {
       members = put (codes "metadata") (object metadata) ms;
       metadata = metadata;
-      whole = refl;
-      kind_said = get_member-put_other (codes "kind") (codes "metadata") (object metadata) ms (λ e. absurd cc) ∙ said.kind_said;
-      version_said = ap (is_missing_or (api_version kind)) (get_member-put_other (codes "apiVersion") (codes "metadata") (object metadata) ms (λ e. absurd cc)) ∙ said.version_said;
-      metadata_said = get_member-put (codes "metadata") (object metadata) ms;
+      made_of = refl;
+      kind_member = get_member-put_other (codes "kind") (codes "metadata") (object metadata) ms (λ e. absurd cc) ∙ said.kind_member;
+      version_member = ap (is_missing_or (api_version kind)) (get_member-put_other (codes "apiVersion") (codes "metadata") (object metadata) ms (λ e. absurd cc)) ∙ said.version_member;
+      metadata_member = get_member-put (codes "metadata") (object metadata) ms;
       none_held = unheld;
-      labels_said = labels;
-      owners_said = owners;
+      labels_member = labels;
+      owners_member = owners;
     }
 
 -- the same by the members that were read
-pub body_said : (kind : Kind) (ms metadata : Members) → SaysKind kind ms → metadata_fits metadata ≡ true → IsBody kind (object (put (codes "metadata") (object (without_held metadata)) ms))
-body_said kind ms metadata said fits =
+pub body_fits : (kind : Kind) (ms metadata : Members) → SaysKind kind ms → metadata_fits metadata ≡ true → IsBody kind (object (put (codes "metadata") (object (without_held metadata)) ms))
+body_fits kind ms metadata said fits =
     let parts = fits_parts metadata fits in
     body_of_metadata kind ms (without_held metadata) said (has_held-without_held metadata)
     (ap labels_fit (unheld_found (codes "labels") metadata refl) ∙ parts.0) (ap owners_fit (unheld_found (codes "ownerReferences") metadata refl) ∙ parts.1)
@@ -116,8 +116,8 @@ pub says_kind : (ms : Members) (named kind keyed : Kind) → kind_in ms ≡ Ok n
 says_kind ms named kind keyed read tested same =
     let version = version_says ms named kind tested in
     subst (λ k. SaysKind k ms) (sym same) (record {
-      kind_said = subst (λ k. get_member (codes "kind") ms ≡ Some (string (kind_name k))) version.1 (kind_in-says ms named read);
-      version_said = version.0;
+      kind_member = subst (λ k. get_member (codes "kind") ms ≡ Some (string (kind_name k))) version.1 (kind_in-says ms named read);
+      version_member = version.0;
     })
 
 pub is_object : (d : Data) (ms : Members) → Some ms ≡ as_object d → d ≡ object ms
@@ -131,16 +131,16 @@ is_object (array ds) ms h = absurd cc
 -- a member that is set or taken away leaves what a body has to say, unless it says that
 body_with : (k : List ℕ) (kind : Kind) (value : Option Data) (body : Data) → codes "kind" ≢ k → codes "apiVersion" ≢ k → codes "metadata" ≢ k → IsBody kind body → IsBody kind (with_member k value body)
 body_with k kind value body not_kind not_version not_metadata h =
-    subst (λ b. IsBody kind (with_member k value b)) (sym h.whole) (record {
+    subst (λ b. IsBody kind (with_member k value b)) (sym h.made_of) (record {
       members = set_member k value h.members;
       metadata = h.metadata;
-      whole = refl;
-      kind_said = get_member-set_member (codes "kind") k value h.members not_kind ∙ h.kind_said;
-      version_said = ap (is_missing_or (api_version kind)) (get_member-set_member (codes "apiVersion") k value h.members not_version) ∙ h.version_said;
-      metadata_said = get_member-set_member (codes "metadata") k value h.members not_metadata ∙ h.metadata_said;
+      made_of = refl;
+      kind_member = get_member-set_member (codes "kind") k value h.members not_kind ∙ h.kind_member;
+      version_member = ap (is_missing_or (api_version kind)) (get_member-set_member (codes "apiVersion") k value h.members not_version) ∙ h.version_member;
+      metadata_member = get_member-set_member (codes "metadata") k value h.members not_metadata ∙ h.metadata_member;
       none_held = h.none_held;
-      labels_said = h.labels_said;
-      owners_said = h.owners_said;
+      labels_member = h.labels_member;
+      owners_member = h.owners_member;
     })
 
 pub body_with_status : (kind : Kind) (value : Option Data) (body : Data) → IsBody kind body → IsBody kind (with_member (codes "status") value body)
@@ -162,15 +162,15 @@ body_with_member k kind value body other h =
     body_with k kind value body (differs k (codes "kind") parts.1) (differs k (codes "apiVersion") parts.0) (differs k (codes "metadata") parts.2) h
 
 -- what a new body says
-pub new_body_said : (kind : Kind) (metadata ms : Members) → has_held metadata ≡ false → metadata_fits metadata ≡ true → IsBody kind (new_body kind metadata ms)
-new_body_said kind metadata ms unheld fits =
+pub new_body_fits : (kind : Kind) (metadata ms : Members) → has_held metadata ≡ false → metadata_fits metadata ≡ true → IsBody kind (new_body kind metadata ms)
+new_body_fits kind metadata ms unheld fits =
     let parts = fits_parts metadata fits in
     let versioned = put (codes "apiVersion") (string (api_version kind)) ms in
     let version : get_member (codes "apiVersion") (put (codes "kind") (string (kind_name kind)) versioned) ≡ Some (string (api_version kind)) =
     get_member-put_other (codes "apiVersion") (codes "kind") (string (kind_name kind)) versioned (λ e. absurd cc) ∙ get_member-put (codes "apiVersion") (string (api_version kind)) ms in
     let said : SaysKind kind (put (codes "kind") (string (kind_name kind)) versioned) = record {
-      kind_said = get_member-put (codes "kind") (string (kind_name kind)) versioned;
-      version_said = ap (is_missing_or (api_version kind)) version ∙ (bytes_eq-Decides (api_version kind) (api_version kind)).1 refl;
+      kind_member = get_member-put (codes "kind") (string (kind_name kind)) versioned;
+      version_member = ap (is_missing_or (api_version kind)) version ∙ (bytes_eq-Decides (api_version kind) (api_version kind)).1 refl;
     } in
     body_of_metadata kind (put (codes "kind") (string (kind_name kind)) versioned) metadata said unheld parts.0 parts.1
 

@@ -50,22 +50,22 @@ member_of-with_other q k value (object ms) other = get_member-set_member q k val
 
 -- ---- whole numbers
 
-whole_at : (o : Ordering) (x : Option Data) (e : Data) → IfSome x (λ d. has_float d ≡ false) → has_float e ≡ false → IfSome (match_ordering o x (Some e) x) (λ d. has_float d ≡ false)
-whole_at Less x e later here = later
-whole_at Equal x e later here = here
-whole_at Greater x e later here = later
+integral_at : (o : Ordering) (x : Option Data) (e : Data) → IfSome x (λ d. has_float d ≡ false) → has_float e ≡ false → IfSome (match_ordering o x (Some e) x) (λ d. has_float d ≡ false)
+integral_at Less x e later here = later
+integral_at Equal x e later here = here
+integral_at Greater x e later here = later
 
-found_whole : (k : List ℕ) (ms : Members) → members_have_float ms ≡ false → IfSome (get_member k ms) (λ d. has_float d ≡ false)
-found_whole k no_members whole = tt
-found_whole k (member l e ms) whole =
+found_integral : (k : List ℕ) (ms : Members) → members_have_float ms ≡ false → IfSome (get_member k ms) (λ d. has_float d ≡ false)
+found_integral k no_members whole = tt
+found_integral k (member l e ms) whole =
     let parts = or_parts (has_float e) (members_have_float ms) whole in
-    whole_at (slice_cmp nat_cmp k l) (get_member k ms) e (found_whole k ms parts.1) parts.0
+    integral_at (slice_cmp nat_cmp k l) (get_member k ms) e (found_integral k ms parts.1) parts.0
 
 -- a member of a body of whole numbers has whole numbers
-pub member_of-whole : (k : List ℕ) (body : Data) → has_float body ≡ false → IfSome (member_of k body) (λ d. has_float d ≡ false)
-member_of-whole k null whole = tt
-member_of-whole k (boolean b) whole = tt
-member_of-whole k (number n) whole = tt
-member_of-whole k (string s) whole = tt
-member_of-whole k (array ds) whole = tt
-member_of-whole k (object ms) whole = found_whole k ms whole
+pub member_of-integral : (k : List ℕ) (body : Data) → has_float body ≡ false → IfSome (member_of k body) (λ d. has_float d ≡ false)
+member_of-integral k null whole = tt
+member_of-integral k (boolean b) whole = tt
+member_of-integral k (number n) whole = tt
+member_of-integral k (string s) whole = tt
+member_of-integral k (array ds) whole = tt
+member_of-integral k (object ms) whole = found_integral k ms whole

@@ -20,12 +20,12 @@ use Rattle.objects.specs.MetadataShape.{labels_fit, owners_fit, metadata_fits}
 use Rattle.objects.specs.Object.{IsBody, is_missing_or, without_held}
 use Rattle.trees.specs.Tree.{AreAscending}
 use Rattle.trees.specs.Canonical.{IsCanonical}
-use Rattle.objects.specs.Reading.{kind_in, namespace_in, key_of, stated_in, draft_in, draft_of, draft_parts, Stated, stated, meta_of, optional_text, unless_empty, generation_of}
-use Rattle.objects.specs.Text.{unless_zero, whole_metadata, printed}
+use Rattle.objects.specs.Reading.{kind_in, namespace_in, key_of, draft_meta_in, draft_in, draft_of, draft_parts, DraftMeta, draft_meta, meta_of, optional_text, unless_empty, generation_of}
+use Rattle.objects.specs.Text.{unless_zero, full_metadata, printed}
 use Rattle.objects.specs.Uid.{uid_text, uid_number, version_number}
 use Rattle.objects.specs.Again.{text_unless_zero, draft_again_of}
 use Rattle.trees.proofs.PutOrder.{apart, put_back}
-use Rattle.objects.proofs.HeldMembers.{whole_without, whole_name, whole_namespace, whole_uid, whole_version, whole_generation, whole_deletion, whole_unheld}
+use Rattle.objects.proofs.HeldMembers.{full_without, full_name, full_namespace, full_uid, full_version, full_generation, full_deletion, full_unheld}
 use Rattle.objects.proofs.UidRound.{version_number-decimal, uid_number-uid_text, length-decimal, length-uid}
 use Rattle.objects.proofs.PrintedObjects.{printed_members, printed_is, body_canonical}
 
@@ -86,44 +86,44 @@ version_by : (n : ℕ) (none : Bool) → (n == 0) ≡ none → n < 2 ^ 64 → un
 version_by n true is small = sym (is_zero n is)
 version_by n false is small = version_number-decimal n (not_zero n is) small
 
-pub stated_again : (ms : Members) (uid version : Option (List ℕ)) (generation : ℕ) (deletion : Option (List ℕ))
+pub draft_meta_read : (ms : Members) (uid version : Option (List ℕ)) (generation : ℕ) (deletion : Option (List ℕ))
     → optional_text BadMeta (get_member (codes "uid") ms) ≡ Ok uid → optional_text BadMeta (get_member (codes "resourceVersion") ms) ≡ Ok version
     → optional_text BadMeta (get_member (codes "deletionTimestamp") ms) ≡ Ok deletion → generation_of (get_member (codes "generation") ms) ≡ Ok generation
-    → unless_empty uid ≡ uid → unless_empty version ≡ version → stated_in ms ≡ Ok (stated uid version generation deletion)
-unfolding stated_in
-stated_again ms uid version generation deletion u v d g some_uid some_version = rw (u, v, d, g, some_uid, some_version) refl
+    → unless_empty uid ≡ uid → unless_empty version ≡ version → draft_meta_in ms ≡ Ok (draft_meta uid version generation deletion)
+unfolding draft_meta_in
+draft_meta_read ms uid version generation deletion u v d g some_uid some_version = rw (u, v, d, g, some_uid, some_version) refl
 
-pub draft_steps : (ms metadata : Members) (kind : Kind) (key : KeyParts) (s : Stated) → kind_in ms ≡ Ok kind → is_missing_or (api_version kind) (get_member (codes "apiVersion") ms) ≡ true
-    → get_member (codes "metadata") ms ≡ Some (object metadata) → key_of kind metadata ≡ Ok key → metadata_fits metadata ≡ true → stated_in metadata ≡ Ok s → draft_in ms ≡ Ok (draft_parts key s metadata ms)
+pub draft_steps : (ms metadata : Members) (kind : Kind) (key : KeyParts) (s : DraftMeta) → kind_in ms ≡ Ok kind → is_missing_or (api_version kind) (get_member (codes "apiVersion") ms) ≡ true
+    → get_member (codes "metadata") ms ≡ Some (object metadata) → key_of kind metadata ≡ Ok key → metadata_fits metadata ≡ true → draft_meta_in metadata ≡ Ok s → draft_in ms ≡ Ok (draft_parts key s metadata ms)
 unfolding draft_in
 draft_steps ms metadata kind key s read tested found keyed fits said = rw (read, tested, found, keyed, fits, said) refl
 
 -- the labels and the owners fit as before
-pub fits_again : (o : Object) (b : IsBody o.key.kind o.body) → metadata_fits (whole_metadata o b.metadata) ≡ true
+pub fits_again : (o : Object) (b : IsBody o.key.kind o.body) → metadata_fits (full_metadata o b.metadata) ≡ true
 unfolding metadata_fits
 fits_again o b =
-    let labels = ap labels_fit (whole_unheld (codes "labels") o b.metadata refl b.none_held) ∙ b.labels_said in
-    let owners = ap owners_fit (whole_unheld (codes "ownerReferences") o b.metadata refl b.none_held) ∙ b.owners_said in
+    let labels = ap labels_fit (full_unheld (codes "labels") o b.metadata refl b.none_held) ∙ b.labels_member in
+    let owners = ap owners_fit (full_unheld (codes "ownerReferences") o b.metadata refl b.none_held) ∙ b.owners_member in
     rw (labels, owners) refl
 
-abbrev pub said_of : Object → Stated
-said_of o = stated (text_unless_zero o.meta.uid (uid_text o.meta.uid)) (text_unless_zero o.meta.revision (decimal o.meta.revision)) o.meta.generation o.meta.deletion
+abbrev pub draft_meta_of : Object → DraftMeta
+draft_meta_of o = draft_meta (text_unless_zero o.meta.uid (uid_text o.meta.uid)) (text_unless_zero o.meta.revision (decimal o.meta.revision)) o.meta.generation o.meta.deletion
 
 -- what the metadata says of an object is what the store knows of it
-pub said_again : (o : Object) (b : IsBody o.key.kind o.body) → IsMeta o.meta → stated_in (whole_metadata o b.metadata) ≡ Ok (said_of o)
-said_again o b meta =
-    stated_again (whole_metadata o b.metadata) _ _ _ _
-    (ap (optional_text BadMeta) (whole_uid o b.metadata b.none_held) ∙ optional_unless BadMeta o.meta.uid (uid_text o.meta.uid))
-    (ap (optional_text BadMeta) (whole_version o b.metadata b.none_held) ∙ optional_unless BadMeta o.meta.revision (decimal o.meta.revision))
-    (ap (optional_text BadMeta) (whole_deletion o b.metadata b.none_held) ∙ optional_string BadMeta o.meta.deletion)
-    (ap generation_of (whole_generation o b.metadata b.none_held) ∙ generation_by o.meta.generation (o.meta.generation == 0) refl meta.generation)
+pub draft_meta_again : (o : Object) (b : IsBody o.key.kind o.body) → IsMeta o.meta → draft_meta_in (full_metadata o b.metadata) ≡ Ok (draft_meta_of o)
+draft_meta_again o b meta =
+    draft_meta_read (full_metadata o b.metadata) _ _ _ _
+    (ap (optional_text BadMeta) (full_uid o b.metadata b.none_held) ∙ optional_unless BadMeta o.meta.uid (uid_text o.meta.uid))
+    (ap (optional_text BadMeta) (full_version o b.metadata b.none_held) ∙ optional_unless BadMeta o.meta.revision (decimal o.meta.revision))
+    (ap (optional_text BadMeta) (full_deletion o b.metadata b.none_held) ∙ optional_string BadMeta o.meta.deletion)
+    (ap generation_of (full_generation o b.metadata b.none_held) ∙ generation_by o.meta.generation (o.meta.generation == 0) refl meta.generation)
     (some_by (o.meta.uid == 0) (uid_text o.meta.uid) (λ h. length-uid o.meta.uid (not_zero o.meta.uid h)))
     (some_by (o.meta.revision == 0) (decimal o.meta.revision) (λ h. length-decimal o.meta.revision (not_zero o.meta.revision h) meta.revision))
 
 abbrev meta_parts : ℕ → ℕ → ℕ → Option (List ℕ) → MetaParts
 meta_parts uid revision generation deletion = record { uid = uid; revision = revision; generation = generation; deletion = deletion }
 
-pub meta_again : (o : Object) → IsMeta o.meta → meta_of (said_of o) ≡ o.meta
+pub meta_again : (o : Object) → IsMeta o.meta → meta_of (draft_meta_of o) ≡ o.meta
 meta_again o meta = λ i. meta_parts
     (uid_by o.meta.uid (o.meta.uid == 0) refl meta.uid i)
     (version_by o.meta.revision (o.meta.revision == 0) refl meta.revision i)
@@ -138,24 +138,24 @@ draft_from o meta body = record {
 
 -- the body gets back the metadata that it had
 pub body_again : (o : Object) (b : IsBody o.key.kind o.body) → AreAscending b.members
-    → object (put (codes "metadata") (object (without_held (whole_metadata o b.metadata))) (printed_members o b.metadata b.members)) ≡ o.body
+    → object (put (codes "metadata") (object (without_held (full_metadata o b.metadata))) (printed_members o b.metadata b.members)) ≡ o.body
 body_again o b ascending =
-    ap (λ mm. object (put (codes "metadata") (object mm) (printed_members o b.metadata b.members))) (whole_without o b.metadata b.none_held)
-    ∙ ap object (put_back (codes "metadata") (object b.metadata) (object (whole_metadata o b.metadata)) b.members ascending b.metadata_said)
-    ∙ sym b.whole
+    ap (λ mm. object (put (codes "metadata") (object mm) (printed_members o b.metadata b.members))) (full_without o b.metadata b.none_held)
+    ∙ ap object (put_back (codes "metadata") (object b.metadata) (object (full_metadata o b.metadata)) b.members ascending b.metadata_member)
+    ∙ sym b.made_of
 
 pub members_again : (o : Object) (b : IsBody o.key.kind o.body) → is_key o.key ≡ true → IsMeta o.meta → AreAscending b.members
     → draft_in (printed_members o b.metadata b.members) ≡ Ok (draft_again_of o)
 members_again o b right meta ascending =
     let full = printed_members o b.metadata b.members in
-    let w = whole_metadata o b.metadata in
-    draft_steps full w o.key.kind o.key (said_of o)
-    (kind_again full o.key.kind (get_member-put_other (codes "kind") (codes "metadata") (object w) b.members (apart _ _ refl) ∙ b.kind_said))
-    (ap (is_missing_or (api_version o.key.kind)) (get_member-put_other (codes "apiVersion") (codes "metadata") (object w) b.members (apart _ _ refl)) ∙ b.version_said)
+    let w = full_metadata o b.metadata in
+    draft_steps full w o.key.kind o.key (draft_meta_of o)
+    (kind_again full o.key.kind (get_member-put_other (codes "kind") (codes "metadata") (object w) b.members (apart _ _ refl) ∙ b.kind_member))
+    (ap (is_missing_or (api_version o.key.kind)) (get_member-put_other (codes "apiVersion") (codes "metadata") (object w) b.members (apart _ _ refl)) ∙ b.version_member)
     (get_member-put (codes "metadata") (object w) b.members)
-    (key_again w o.key (whole_namespace o b.metadata) (whole_name o b.metadata) right)
+    (key_again w o.key (full_namespace o b.metadata) (full_name o b.metadata) right)
     (fits_again o b)
-    (said_again o b meta)
+    (draft_meta_again o b meta)
     ∙ (λ i. Ok (draft_from o (meta_again o meta i) (body_again o b ascending i)))
 
 -- an object that is printed reads back as itself, with the texts of its UID and its resource version

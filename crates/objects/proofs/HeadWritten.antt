@@ -11,10 +11,10 @@ use Rattle.trees.specs.declared.tree.Tree.{Tree}
 use Rattle.trees.specs.Tree.{data_of, members_of}
 use Rattle.trees.proofs.PutOrder.{equal_texts}
 use Rattle.objects.specs.declared.object.Object.{Object}
-use Rattle.objects.specs.Cuts.{WritesHead}
+use Rattle.objects.specs.Seams.{WritesHead}
 use Rattle.objects.specs.Merged.{WritesFront, WritesToVersion, entry_tokens}
 use Rattle.objects.specs.Rewrites.{at_version}
-use Rattle.objects.specs.Text.{whole_metadata}
+use Rattle.objects.specs.Text.{full_metadata}
 use Rattle.objects.proofs.HeldSteps.{metadata_at}
 use Rattle.objects.proofs.Merging.{front_of}
 
@@ -42,7 +42,7 @@ head_written o es rest after ems versioned entry metadata old t1 t2 t3 t4 new be
       holds = holds;
       body = body ∙ ap (λ xs. object (members_of xs)) split;
       tokens = λ n next some.
-          grouped old t1 t2 t3 t4 (entry_tokens first) (members_tokens (members_outline (whole_metadata (at_version o n) metadata)) ++ next) begin_object (key (codes "metadata")) begin_object begun front.tokens keyed opened
-          ∙ ap (λ m. t4 ++ (members_tokens (members_outline (whole_metadata (at_version o n) m)) ++ next)) (sym same)
+          grouped old t1 t2 t3 t4 (entry_tokens first) (members_tokens (members_outline (full_metadata (at_version o n) metadata)) ++ next) begin_object (key (codes "metadata")) begin_object begun front.tokens keyed opened
+          ∙ ap (λ m. t4 ++ (members_tokens (members_outline (full_metadata (at_version o n) m)) ++ next)) (sym same)
           ∙ metadata_at o ems versioned t4 new next n written some;
     }

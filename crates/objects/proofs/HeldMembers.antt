@@ -16,9 +16,9 @@ use Rattle.objects.specs.Object.{is_held, without_held, has_held}
 use Rattle.trees.specs.Tree.{ComesBefore, AreAscending}
 use Rattle.trees.specs.Canonical.{IsCanonical, AreCanonicalMembers}
 use Rattle.trees.specs.Building.{put_some}
-use Rattle.objects.specs.Text.{unless_zero, whole_metadata}
+use Rattle.objects.specs.Text.{unless_zero, full_metadata}
 use Rattle.objects.specs.Uid.{uid_text}
-use Rattle.trees.proofs.EntryPlaces.{ascending_put}
+use Rattle.trees.proofs.EntryPositions.{ascending_put}
 use Rattle.trees.proofs.PutOrder.{apart, before_next, equal_texts, canonical_put}
 
 without_put_at : (o : Ordering) (k l : List ℕ) (d e : Data) (ms : Members) → slice_cmp nat_cmp k l ≡ o → is_held k ≡ true → without_held (put k d ms) ≡ without_held ms
@@ -234,37 +234,37 @@ abbrev pub uid_put : Object → Option Data
 uid_put o = unless_zero o.meta.uid (string (uid_text o.meta.uid))
 
 -- the held members leave what was there before
-pub whole_without : (o : Object) (mm : Members) → has_held mm ≡ false → without_held (whole_metadata o mm) ≡ mm
-whole_without o mm none = without_all (deletion_put o) (generation_put o) (string o.key.name) (string o.key.namespace) (version_put o) (uid_put o) mm none
+pub full_without : (o : Object) (mm : Members) → has_held mm ≡ false → without_held (full_metadata o mm) ≡ mm
+full_without o mm none = without_all (deletion_put o) (generation_put o) (string o.key.name) (string o.key.namespace) (version_put o) (uid_put o) mm none
 
 -- a member that is not held is as it was
-pub whole_unheld : (q : List ℕ) (o : Object) (mm : Members) → is_held q ≡ false → has_held mm ≡ false → get_member q (whole_metadata o mm) ≡ get_member q mm
-whole_unheld q o mm other none = sym (unheld_found q (whole_metadata o mm) other) ∙ ap (get_member q) (whole_without o mm none)
+pub full_unheld : (q : List ℕ) (o : Object) (mm : Members) → is_held q ≡ false → has_held mm ≡ false → get_member q (full_metadata o mm) ≡ get_member q mm
+full_unheld q o mm other none = sym (unheld_found q (full_metadata o mm) other) ∙ ap (get_member q) (full_without o mm none)
 
-pub whole_ascending : (o : Object) (mm : Members) → AreAscending mm → AreAscending (whole_metadata o mm)
-whole_ascending o mm h = ascending_all (deletion_put o) (generation_put o) (string o.key.name) (string o.key.namespace) (version_put o) (uid_put o) mm h
+pub full_ascending : (o : Object) (mm : Members) → AreAscending mm → AreAscending (full_metadata o mm)
+full_ascending o mm h = ascending_all (deletion_put o) (generation_put o) (string o.key.name) (string o.key.namespace) (version_put o) (uid_put o) mm h
 
-pub whole_canonical : (o : Object) (mm : Members) → IsMeta o.meta → AreCanonicalMembers mm → AreCanonicalMembers (whole_metadata o mm)
-whole_canonical o mm meta h =
+pub full_canonical : (o : Object) (mm : Members) → IsMeta o.meta → AreCanonicalMembers mm → AreCanonicalMembers (full_metadata o mm)
+full_canonical o mm meta h =
     let small : o.meta.generation < 2 ^ 64 = omega (arith, meta.generation) in
     canonical_all (deletion_put o) (generation_put o) (string o.key.name) (string o.key.namespace) (version_put o) (uid_put o) mm
     (canonical_text o.meta.deletion) (canonical_unless_at (o.meta.generation == 0) (number (unsigned o.meta.generation)) (number_of-decimal o.meta.generation small)) tt tt
     (canonical_unless_at (o.meta.revision == 0) (string (decimal o.meta.revision)) tt) (canonical_unless_at (o.meta.uid == 0) (string (uid_text o.meta.uid)) tt) h
 
-pub whole_name : (o : Object) (mm : Members) → get_member (codes "name") (whole_metadata o mm) ≡ Some (string o.key.name)
-whole_name o mm = all_name (deletion_put o) (generation_put o) (string o.key.name) (string o.key.namespace) (version_put o) (uid_put o) mm
+pub full_name : (o : Object) (mm : Members) → get_member (codes "name") (full_metadata o mm) ≡ Some (string o.key.name)
+full_name o mm = all_name (deletion_put o) (generation_put o) (string o.key.name) (string o.key.namespace) (version_put o) (uid_put o) mm
 
-pub whole_namespace : (o : Object) (mm : Members) → get_member (codes "namespace") (whole_metadata o mm) ≡ Some (string o.key.namespace)
-whole_namespace o mm = all_namespace (deletion_put o) (generation_put o) (string o.key.name) (string o.key.namespace) (version_put o) (uid_put o) mm
+pub full_namespace : (o : Object) (mm : Members) → get_member (codes "namespace") (full_metadata o mm) ≡ Some (string o.key.namespace)
+full_namespace o mm = all_namespace (deletion_put o) (generation_put o) (string o.key.name) (string o.key.namespace) (version_put o) (uid_put o) mm
 
-pub whole_version : (o : Object) (mm : Members) → has_held mm ≡ false → get_member (codes "resourceVersion") (whole_metadata o mm) ≡ unless_zero o.meta.revision (string (decimal o.meta.revision))
-whole_version o mm none = all_version (deletion_put o) (generation_put o) (string o.key.name) (string o.key.namespace) (version_put o) (uid_put o) mm none
+pub full_version : (o : Object) (mm : Members) → has_held mm ≡ false → get_member (codes "resourceVersion") (full_metadata o mm) ≡ unless_zero o.meta.revision (string (decimal o.meta.revision))
+full_version o mm none = all_version (deletion_put o) (generation_put o) (string o.key.name) (string o.key.namespace) (version_put o) (uid_put o) mm none
 
-pub whole_uid : (o : Object) (mm : Members) → has_held mm ≡ false → get_member (codes "uid") (whole_metadata o mm) ≡ unless_zero o.meta.uid (string (uid_text o.meta.uid))
-whole_uid o mm none = all_uid (deletion_put o) (generation_put o) (string o.key.name) (string o.key.namespace) (version_put o) (uid_put o) mm none
+pub full_uid : (o : Object) (mm : Members) → has_held mm ≡ false → get_member (codes "uid") (full_metadata o mm) ≡ unless_zero o.meta.uid (string (uid_text o.meta.uid))
+full_uid o mm none = all_uid (deletion_put o) (generation_put o) (string o.key.name) (string o.key.namespace) (version_put o) (uid_put o) mm none
 
-pub whole_generation : (o : Object) (mm : Members) → has_held mm ≡ false → get_member (codes "generation") (whole_metadata o mm) ≡ unless_zero o.meta.generation (number (unsigned o.meta.generation))
-whole_generation o mm none = all_generation (deletion_put o) (generation_put o) (string o.key.name) (string o.key.namespace) (version_put o) (uid_put o) mm none
+pub full_generation : (o : Object) (mm : Members) → has_held mm ≡ false → get_member (codes "generation") (full_metadata o mm) ≡ unless_zero o.meta.generation (number (unsigned o.meta.generation))
+full_generation o mm none = all_generation (deletion_put o) (generation_put o) (string o.key.name) (string o.key.namespace) (version_put o) (uid_put o) mm none
 
-pub whole_deletion : (o : Object) (mm : Members) → has_held mm ≡ false → get_member (codes "deletionTimestamp") (whole_metadata o mm) ≡ option_map string o.meta.deletion
-whole_deletion o mm none = all_deletion (deletion_put o) (generation_put o) (string o.key.name) (string o.key.namespace) (version_put o) (uid_put o) mm none
+pub full_deletion : (o : Object) (mm : Members) → has_held mm ≡ false → get_member (codes "deletionTimestamp") (full_metadata o mm) ≡ option_map string o.meta.deletion
+full_deletion o mm none = all_deletion (deletion_put o) (generation_put o) (string o.key.name) (string o.key.namespace) (version_put o) (uid_put o) mm none

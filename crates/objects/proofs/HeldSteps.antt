@@ -10,7 +10,7 @@ use Rattle.trees.specs.declared.tree.Tree.{Tree}
 use Rattle.trees.specs.Tree.{members_of}
 use Rattle.objects.specs.declared.object.Object.{Object}
 use Rattle.objects.specs.Rewrites.{at_version}
-use Rattle.objects.specs.Text.{unless_zero, whole_metadata}
+use Rattle.objects.specs.Text.{unless_zero, full_metadata}
 use Rattle.objects.specs.Uid.{uid_text}
 use Rattle.objects.specs.Merged.{WritesStep, WritesToVersion, after_version, held_with, rest_tokens, some_tokens}
 
@@ -38,10 +38,10 @@ pub steps_of_held : (o : Object) (es : List (List ℕ × Tree)) (deletion genera
     → old ++ rest_tokens (held_so deletion generation name namespace version uid) es ≡ new → old ++ rest_tokens (held_with o version uid) es ≡ new
 steps_of_held o es deletion generation name namespace version uid old new a b c d h = rw (← a, ← b, ← c, ← d) h
 
--- the metadata was written whole
+-- the metadata was written in full
 pub metadata_written : (o : Object) (es versioned : List (List ℕ × Tree)) (version : Option Data) (old t1 t2 new : List Token) → WritesToVersion o es versioned old t1
     → version ≡ unless_zero o.meta.revision (string (decimal o.meta.revision)) → t2 ≡ t1 ++ some_tokens (codes "resourceVersion") version → new ≡ t2 ++ after_version o versioned
-    → new ≡ old ++ members_tokens (members_outline (whole_metadata o (members_of es)))
+    → new ≡ old ++ members_tokens (members_outline (full_metadata o (members_of es)))
 metadata_written o es versioned version old t1 t2 new written is second last =
     let here = unless_zero o.meta.revision (string (decimal o.meta.revision)) in
     last ∙ ap (λ t. t ++ after_version o versioned) second ∙ append_assoc t1 (some_tokens (codes "resourceVersion") version) (after_version o versioned)
@@ -53,11 +53,11 @@ not_zero n some = ne_eqb n 0 some
 
 -- the metadata at each version, whatever comes next
 pub metadata_at : (o : Object) (es versioned : List (List ℕ × Tree)) (old new next : List Token) (n : ℕ) → WritesToVersion o es versioned old new → n ≢ 0
-    → old ++ (members_tokens (members_outline (whole_metadata (at_version o n) (members_of es))) ++ next) ≡ (new ++ key (codes "resourceVersion") ∷ []) ++ string_token (decimal n) ∷ (after_version o versioned ++ next)
+    → old ++ (members_tokens (members_outline (full_metadata (at_version o n) (members_of es))) ++ next) ≡ (new ++ key (codes "resourceVersion") ∷ []) ++ string_token (decimal n) ∷ (after_version o versioned ++ next)
 metadata_at o es versioned old new next n written some =
     let version = Some (string (decimal n)) in
     let uid = unless_zero o.meta.uid (string (uid_text o.meta.uid)) in
-    let whole : members_tokens (members_outline (whole_metadata (at_version o n) (members_of es))) ≡ rest_tokens (held_with o version uid) es = rw (not_zero n some) refl in
+    let whole : members_tokens (members_outline (full_metadata (at_version o n) (members_of es))) ≡ rest_tokens (held_with o version uid) es = rw (not_zero n some) refl in
     ap (λ ts. old ++ (ts ++ next)) whole ∙ sym (append_assoc old (rest_tokens (held_with o version uid) es) next)
     ∙ ap (λ ts. ts ++ next) (written version uid)
     ∙ append_assoc new (some_tokens (codes "resourceVersion") version ++ after_version o versioned) next

@@ -12,11 +12,11 @@ pub mod Merging
 pub mod HeldSteps
 pub mod HeadWritten
 pub mod PlainDigits
-pub mod CutTexts
+pub mod SeamTexts
 pub mod SpecTexts
 pub mod SplicedTexts
 pub mod ReplacedTexts
-pub mod WholeObjects
+pub mod ObjectTokens
 pub mod PrintedObjects
 pub mod DraftAgain
 pub mod ReadsAgain

@@ -15,11 +15,11 @@ use Rattle.trees.specs.declared.tree.Tree.{Tree}
 use Rattle.trees.specs.Tree.{data_of, members_of, ComesBefore}
 use Rattle.objects.specs.Object.{is_held, has_held}
 use Rattle.trees.specs.Building.{put_some}
-use Rattle.trees.specs.Places.{IsAbove}
+use Rattle.trees.specs.Positions.{IsAbove}
 use Rattle.trees.specs.Canonical.{IsCanonical, AreCanonicalMembers}
 use Rattle.objects.specs.Merged.{puts, IsBelowAll, IsFront, entry_tokens, some_tokens, StopsAt, WritesFront, WritesStep}
 use Rattle.trees.proofs.Joining.{join_members}
-use Rattle.trees.proofs.EntryPlaces.{before_put}
+use Rattle.trees.proofs.EntryPositions.{before_put}
 
 pub front_of : (k : List ℕ) (n : ℕ) (es : List (List ℕ × Tree)) → IsAbove k n es → IsFront k (take n es)
 front_of k zero es h = tt

@@ -47,7 +47,7 @@ unheld_set k (Some d) ms free h = unheld_put k d ms free h
 
 -- the metadata is there
 pub metadata_there : (kind : Kind) (body : Data) (h : IsBody kind body) → metadata_of body ≡ Some h.metadata
-metadata_there kind body h = ap metadata_of h.whole ∙ ap (option_and_then as_object) h.metadata_said
+metadata_there kind body h = ap metadata_of h.made_of ∙ ap (option_and_then as_object) h.metadata_member
 
 pub body_with_owners : (kind : Kind) (owners : Option Items) (body : Data) → owners_fit (option_map array owners) ≡ true → IsBody kind body → IsBody kind (with_owners owners body)
 body_with_owners kind owners body fit h =
@@ -55,10 +55,10 @@ body_with_owners kind owners body fit h =
     let owned = set_member (codes "ownerReferences") value h.metadata in
     let same : with_owners owners body ≡ object (put (codes "metadata") (object owned) h.members) =
     ap (λ found. with_member (codes "metadata") (Some (object (set_member (codes "ownerReferences") value (unwrap_or found no_members)))) body) (metadata_there kind body h)
-    ∙ ap (with_member (codes "metadata") (Some (object owned))) h.whole in
-    subst (IsBody kind) (sym same) (body_of_metadata kind h.members owned (record { kind_said = h.kind_said; version_said = h.version_said })
+    ∙ ap (with_member (codes "metadata") (Some (object owned))) h.made_of in
+    subst (IsBody kind) (sym same) (body_of_metadata kind h.members owned (record { kind_member = h.kind_member; version_member = h.version_member })
     (unheld_set (codes "ownerReferences") value h.metadata refl h.none_held)
-    (ap labels_fit (get_member-set_member (codes "labels") (codes "ownerReferences") value h.metadata (λ e. absurd cc)) ∙ h.labels_said)
+    (ap labels_fit (get_member-set_member (codes "labels") (codes "ownerReferences") value h.metadata (λ e. absurd cc)) ∙ h.labels_member)
     (ap owners_fit (set_found (codes "ownerReferences") value h.metadata) ∙ fit))
 
 -- the metadata once the owners are set or taken away

@@ -1,4 +1,4 @@
--- A pod's name is cut at its last `-`, since no decimal has one.
+-- A pod's name is split at its last `-`, since no decimal has one.
 use Rattle.std.proofs.Common.{◌≡◌, ◌≢◌, ℕ, ◌^◌, ◌<◌, List, [], ◌∷◌, ◌++◌, length, get_or, drop, true, Some, None, Result, decimal, refl, sym, ap, ◌∙◌, subst, arith, lit<, append_assoc, length-append}
 use Rattle.std.specs.Prelude.{codes}
 use Rattle.std.specs.Result.{result_ok}
@@ -25,7 +25,7 @@ has_dash : (bs front back : List ℕ) → LacksDash bs → bs ≡ front ++ 45 �
 has_dash bs front back lacks is =
     lacks (length front) (rw is (omega (arith, length-append front (45 ∷ back)))) (ap (λ l. get_or l (length front) 0) is ∙ get_or_at front 45 back 0 (length front) refl)
 
--- a text is cut at its last `-` in one way
+-- a text is split at its last `-` in one way
 pub cut_at_last_dash : (a b x y : List ℕ) → LacksDash x → LacksDash y → a ++ 45 ∷ x ≡ b ++ 45 ∷ y → (a ≡ b) × (x ≡ y)
 cut_at_last_dash [] [] x y at_x at_y is = (refl, ap (drop 1) is)
 cut_at_last_dash [] (d ∷ b) x y at_x at_y is = absurd (has_dash x b y at_x (ap (drop 1) is))
@@ -59,27 +59,27 @@ claim_names-differ s t u i j at_i at_j is =
 pub not_split : (name : List ℕ) → RFindsChar 45 name None → (set : List ℕ) (ordinal : ℕ) → IsPodName name set ordinal → ⊥
 not_split name none set ordinal is = has_dash name set (decimal ordinal) (λ i. NoCharPasses-char 45 name i none (lit< tt)) (is.joined ∙ at_dash set (decimal ordinal))
 
--- what the cut at the last `-` gives
-pub record IsCut (name set digits : List ℕ) : Type 0 where
+-- what the split at the last `-` gives
+pub record IsSplit (name set digits : List ℕ) : Type 0 where
   pub joined : name ≡ set ++ 45 ∷ digits
   pub last : LacksDash digits
 
-pub is_cut : (name set digits : List ℕ) → SplitsAroundMatch (RFindsChar 45) name set digits → IsCut name set digits
-is_cut name set digits h = record {
+pub is_split : (name set digits : List ℕ) → SplitsAroundMatch (RFindsChar 45) name set digits → IsSplit name set digits
+is_split name set digits h = record {
   joined = sym (take-append-drop h.0 name) ∙ (λ k. sym h.3 k ++ (drop_at_char 45 name h.0 h.1 h.2.1 (lit< tt) ∙ ap (λ l. 45 ∷ l) (sym h.4)) k);
   last = λ i. NoCharPasses-char 45 digits i (subst (λ l. RFindsChar 45 l None) (sym h.4) h.2.0) (lit< tt);
 }
 
 -- the parts of a pod's name are its set and the decimal of its ordinal
-pub parts_of_pod_name : (name set digits s : List ℕ) (n : ℕ) → IsCut name set digits → IsPodName name s n → (set ≡ s) × (digits ≡ decimal n)
-parts_of_pod_name name set digits s n cut is =
-    cut_at_last_dash set s digits (decimal n) cut.last (lacks_dash-decimal n (omega (arith, is.fits))) (sym cut.joined ∙ is.joined ∙ at_dash s (decimal n))
+pub parts_of_pod_name : (name set digits s : List ℕ) (n : ℕ) → IsSplit name set digits → IsPodName name s n → (set ≡ s) × (digits ≡ decimal n)
+parts_of_pod_name name set digits s n split is =
+    cut_at_last_dash set s digits (decimal n) split.last (lacks_dash-decimal n (omega (arith, is.fits))) (sym split.joined ∙ is.joined ∙ at_dash s (decimal n))
 
 -- those digits are read as the ordinal
-pub result_ok-parsed : {E : Type 0} (name set digits s : List ℕ) (n : ℕ) (r : Result ℕ E) → IsCut name set digits → IsPodName name s n → ParsesUnsigned 32 10 digits r → result_ok r ≡ Some n
-result_ok-parsed name set digits s n r cut is parses =
-    ap result_ok (parse-decimal 32 n digits r (omega (arith, is.fits)) (omega (arith, is.fits)) (parts_of_pod_name name set digits s n cut is).1 parses)
+pub result_ok-parsed : {E : Type 0} (name set digits s : List ℕ) (n : ℕ) (r : Result ℕ E) → IsSplit name set digits → IsPodName name s n → ParsesUnsigned 32 10 digits r → result_ok r ≡ Some n
+result_ok-parsed name set digits s n r split is parses =
+    ap result_ok (parse-decimal 32 n digits r (omega (arith, is.fits)) (omega (arith, is.fits)) (parts_of_pod_name name set digits s n split is).1 parses)
 
--- a cut before a decimal gives a pod's name
-pub pod_name-cut : (name set digits : List ℕ) (n : ℕ) → IsCut name set digits → digits ≡ decimal n → name ≡ pod_name set n
-pod_name-cut name set digits n cut is = cut.joined ∙ ap (λ l. set ++ 45 ∷ l) is ∙ sym (at_dash set (decimal n))
+-- a split before a decimal gives a pod's name
+pub pod_name-split : (name set digits : List ℕ) (n : ℕ) → IsSplit name set digits → digits ≡ decimal n → name ≡ pod_name set n
+pod_name-split name set digits n split is = split.joined ∙ ap (λ l. set ++ 45 ∷ l) is ∙ sym (at_dash set (decimal n))

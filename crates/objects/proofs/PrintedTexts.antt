@@ -10,7 +10,7 @@ use Rattle.trees.specs.Canonical.{IsCanonical}
 use Rattle.objects.specs.PrintedText.{IsTextOf, object_of_text}
 use Rattle.objects.specs.Text.{text, printed}
 use Rattle.trees.proofs.CanonicalText.{read_back_within}
-use Rattle.trees.proofs.WholeTokens.{no_float}
+use Rattle.trees.proofs.IntegralTokens.{no_float}
 use Rattle.objects.proofs.PrintedObjects.{printed_canonical}
 use Rattle.objects.proofs.DraftAgain.{draft_again}
 use Rattle.trees.proofs.TextDepth.{text_depth}
@@ -22,7 +22,7 @@ text_of o rules canonical t is same =
     record {
       text = is;
       value = read_back_within (length t) (printed o) t whole same (subst (λ u. depth (printed o) ≤ length u) (sym is) deep);
-      whole = no_float (printed o) t same;
+      integral = no_float (printed o) t same;
       draft = draft_again o rules.body rules.key rules.meta canonical;
     }
 

@@ -13,17 +13,17 @@ use Rattle.trees.specs.Tree.{AreAscending}
 use Rattle.trees.proofs.CanonicalText.{read_back_within}
 use Rattle.trees.proofs.Sameness.{same-itself, same-equal}
 use Rattle.trees.proofs.TextDepth.{text_depth}
-use Rattle.trees.proofs.WholeTokens.{no_float_printable}
+use Rattle.trees.proofs.IntegralTokens.{no_float_printable}
 use Rattle.objects.specs.declared.object.Object.{Object}
 use Rattle.objects.specs.declared.printed.IndexedText.{IndexedText}
-use Rattle.objects.specs.Cuts.{IsOpen, IsCanonicalStatus, IsIndexedText, IsSpecAt, IsSpliced, spec_text, spec_tokens, version_text}
+use Rattle.objects.specs.Seams.{IsOpen, IsCanonicalStatus, IsIndexedText, IsSpecAt, IsSpliced, spec_text, spec_tokens, version_text}
 use Rattle.objects.specs.Key.{KeyParts as Key}
 use Rattle.objects.specs.Rewrites.{at_version, generation_after, meta_after, replaced, with_status}
 use Rattle.objects.specs.Status.{member_of, same_found}
 use Rattle.objects.specs.Text.{text}
 use Rattle.objects.proofs.BodyMembers.{member_of-with_other}
-use Rattle.objects.proofs.CutTexts.{printable_text}
-use Rattle.objects.proofs.SplicedTexts.{apart_by, found_equal, parts_at, canonical_member, indexed_parts, spliced_indexed, status_of_cut, status_canonical}
+use Rattle.objects.proofs.SeamTexts.{printable_text}
+use Rattle.objects.proofs.SplicedTexts.{apart_by, found_equal, parts_at, canonical_member, indexed_parts, spliced_indexed, status_of_seams, status_canonical}
 
 -- ---- the bytes of the spec
 
@@ -80,11 +80,11 @@ read_again : (d : Data) (t : List ℕ) → IsCanonical d → ArePrintableOrBad (
 read_again d t canonical printable is =
     subst (λ u. read_within (length u) u ≡ Some d) (sym is) (read_back_within (length (compact_text d)) d (compact_text d) canonical (printable_text d printable.1) (text_depth d))
 
-spec_told : (a b : Option Data) → IsCanonicalStatus a → IsCanonicalStatus b → ArePrintableOrBad (spec_tokens a) → ArePrintableOrBad (spec_tokens b) → spec_text a ≡ spec_text b → a ≡ b
-spec_told None None p q g h same = refl
-spec_told None (Some e) p q g h same = absurd cc
-spec_told (Some d) None p q g h same = absurd cc
-spec_told (Some d) (Some e) p q g h same =
+spec_by_text : (a b : Option Data) → IsCanonicalStatus a → IsCanonicalStatus b → ArePrintableOrBad (spec_tokens a) → ArePrintableOrBad (spec_tokens b) → spec_text a ≡ spec_text b → a ≡ b
+spec_by_text None None p q g h same = refl
+spec_by_text None (Some e) p q g h same = absurd cc
+spec_by_text (Some d) None p q g h same = absurd cc
+spec_by_text (Some d) (Some e) p q g h same =
     let texts : compact_text d ≡ compact_text e = ap (drop 8) same in
     sym (read_again d (compact_text d) p g refl) ∙ read_again e (compact_text d) q h texts
 
@@ -94,14 +94,14 @@ same_spec (Some d) h = same-itself d (no_float_printable d h.1)
 
 pub spec_canonical : (o : Object) (version status size : ℕ) → IsSpecAt o version status size → IsCanonicalStatus (member_of (codes "spec") o.body)
 spec_canonical o version status size spec =
-    let cut = spec.at.cut in
-    let now = set_member (codes "status") cut.status cut.others in
-    let canonical : AreAscending now × AreCanonicalMembers now = subst IsCanonical cut.body cut.canonical in
-    canonical_member (codes "spec") now (member_of (codes "spec") o.body) canonical.1 (sym (ap (member_of (codes "spec")) cut.body))
+    let seams = spec.at.seams in
+    let now = set_member (codes "status") seams.status seams.others in
+    let canonical : AreAscending now × AreCanonicalMembers now = subst IsCanonical seams.body seams.canonical in
+    canonical_member (codes "spec") now (member_of (codes "spec") o.body) canonical.1 (sym (ap (member_of (codes "spec")) seams.body))
 
 same_texts_by : (same : Bool) (a b : Option Data) → IsCanonicalStatus a → IsCanonicalStatus b → ArePrintableOrBad (spec_tokens a) → ArePrintableOrBad (spec_tokens b) → bytes_eq (spec_text a) (spec_text b) ≡ same → same ≡ same_found a b
 same_texts_by true a b p q g h is =
-    let equal : a ≡ b = spec_told a b p q g h ((bytes_eq-Decides (spec_text a) (spec_text b)).0 is) in
+    let equal : a ≡ b = spec_by_text a b p q g h ((bytes_eq-Decides (spec_text a) (spec_text b)).0 is) in
     sym (subst (λ x. same_found a x ≡ true) equal (same_spec a g))
 same_texts_by false a b p q g h is =
     sym (apart_by (same_found a b) (λ same. let both : true ≡ false = sym ((bytes_eq-Decides (spec_text a) (spec_text b)).1 (ap spec_text (found_equal a b same))) ∙ is in absurd cc))
@@ -118,15 +118,15 @@ same_texts o p s t left right =
 pub replaced_indexed : (o u p : Object) (found : Option Object) (s t new : IndexedText) (made : Option IndexedText) (end : List ℕ) (indexed : IsIndexedText o s) → IfSome found (λ (q : Object). q ≡ record { key = u.key; meta = meta_after o u; body = u.body }) → found ≡ Some p
     → IsIndexedText p t → (some : s.version ≢ 0) → end ≡ (indexed_parts o s indexed some).rest → IfSome made (IsSpliced t end s.revision) → made ≡ Some new → IsIndexedText (replaced o u) new
 replaced_indexed o u p found s t new made end indexed told found_is printed some ends spliced made_is =
-    let at = indexed.cut some in
-    let cut = at.cut in
+    let at = indexed.seams some in
+    let seams = at.seams in
     let own : Object = record { key = u.key; meta = meta_after o u; body = u.body } in
     let own_indexed : IsIndexedText own t = subst (λ q. IsIndexedText q t) (subst (λ f. IfSome f (λ q. q ≡ own)) found_is told) printed in
-    let small : s.revision < 2 ^ 64 = subst (λ n. n < 2 ^ 64) (sym indexed.revision) cut.rules.meta.revision in
+    let small : s.revision < 2 ^ 64 = subst (λ n. n < 2 ^ 64) (sym indexed.revision) seams.rules.meta.revision in
     let h : IsSpliced t end s.revision new = subst (λ f. IfSome f (IsSpliced t end s.revision)) made_is spliced in
     subst (λ n. IsIndexedText (at_version (with_status (member_of (codes "status") o.body) own) n) new) indexed.revision
-    (subst (λ v. IsIndexedText (at_version (with_status v own) s.revision) new) (sym (status_of_cut o at.front at.middle cut))
-    (spliced_indexed own t cut.status end s.revision new own_indexed small cut.printable (status_canonical o at.front at.middle cut) ends h))
+    (subst (λ v. IsIndexedText (at_version (with_status v own) s.revision) new) (sym (status_of_seams o at.front at.middle seams))
+    (spliced_indexed own t seams.status end s.revision new own_indexed small seams.printable (status_canonical o at.front at.middle seams) ends h))
 
 as_it_was : (o : Object) (k : Key) (g : ℕ) (b : Data) → o.key ≡ k → g ≡ o.meta.generation → o.body ≡ b
     → record { key = k; meta = record { uid = o.meta.uid; revision = o.meta.revision; generation = g; deletion = o.meta.deletion }; body = b } ≡ o

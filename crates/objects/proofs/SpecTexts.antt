@@ -16,13 +16,13 @@ use Rattle.serde_json.specs.Find.{get_member}
 use Rattle.serde_json.specs.Written.{outline}
 use Rattle.serde_json.proofs.Texts.{print-outline}
 use Rattle.trees.specs.declared.tree.Tree.{Tree}
-use Rattle.trees.specs.Places.{IsAbove}
+use Rattle.trees.specs.Positions.{IsAbove}
 use Rattle.trees.specs.Tree.{data_of, members_of}
 use Rattle.objects.specs.declared.object.Object.{Object}
-use Rattle.objects.specs.Cuts.{IsCutAt, IsSpecAlone, IsSpecAt, IsStatusAlone, WritesBetween, WritesHead, WritesMiddle, comma_before, spec_text, spec_tokens}
+use Rattle.objects.specs.Seams.{HasSeamsAt, IsSpecAlone, IsSpecAt, IsStatusAlone, WritesBetween, WritesHead, WritesMiddle, comma_before, spec_text, spec_tokens}
 use Rattle.objects.specs.Merged.{IsFront, StopsAt, WritesFront, after_version, entry_tokens}
 use Rattle.objects.specs.Status.{member_of}
-use Rattle.objects.proofs.CutTexts.{between, ends_after_version, get_front, members_of-append, printable-append, printable_again, utf8_comma}
+use Rattle.objects.proofs.SeamTexts.{between, ends_after_version, get_front, members_of-append, printable-append, printable_again, utf8_comma}
 use Rattle.objects.proofs.Merging.{front_above}
 
 -- ---- the comma before the entries below the status
@@ -159,7 +159,7 @@ spec_found o first mid tail entry above named alone last body =
 pub count_is : (count : ℕ) (after tail : List (List ℕ × Tree)) → tail ≡ drop count after → count ≤ length after → length after - length tail ≡ count
 count_is count after tail left within = omega (arith, ap length left ∙ length-drop count after, within)
 
-pub spec_at : (o : Object) (versioned after tail : List (List ℕ × Tree)) (h : List Token) (head : WritesHead o versioned after [] h) (count version status size begin : ℕ) (first second : List ℕ) (at : IsCutAt o version status)
+pub spec_at : (o : Object) (versioned after tail : List (List ℕ × Tree)) (h : List Token) (head : WritesHead o versioned after [] h) (count version status size begin : ℕ) (first second : List ℕ) (at : HasSeamsAt o version status)
     → at.middle ≡ print_from true (between o versioned (take count after)) → tail ≡ drop count after → IsAbove (codes "status") count after → IsSpecAlone (take (length after - length tail) after) → IsStatusAlone tail
     → second ≡ first ++ print_from true (entry_tokens (take count after)) → ArePrintableOrBad (entry_tokens (take count after)) → begin ≡ length first → status ≡ length second → size ≡ status - begin → IsSpecAt o version status size
 spec_at o versioned after tail h head count version status size begin first second at middle_is left above spec_alone last wrote printable begin_is status_is size_is =

@@ -15,18 +15,18 @@ use Rattle.trees.specs.Tree.{AreAscending}
 use Rattle.trees.proofs.PutOrder.{canonical_found, canonical_put}
 use Rattle.trees.proofs.Sameness.{same-itself, same-equal}
 use Rattle.trees.proofs.SetMembers.{ascending_set, get_member-set_member}
-use Rattle.trees.proofs.WholeTokens.{no_float_printable}
+use Rattle.trees.proofs.IntegralTokens.{no_float_printable}
 use Rattle.objects.specs.declared.object.Object.{Object}
 use Rattle.objects.specs.Object.{IsBody, KeepsRules}
 use Rattle.objects.specs.declared.printed.IndexedText.{IndexedText}
-use Rattle.objects.specs.Cuts.{AreParts, IsCut, IsCutAt, IsOpen, IsCanonicalStatus, IsIndexedText, IsSpecAt, IsSpliced, rewritten, spec_text, spec_tokens, status_text, status_tokens, version_text}
+use Rattle.objects.specs.Seams.{AreParts, HasSeams, HasSeamsAt, IsOpen, IsCanonicalStatus, IsIndexedText, IsSpecAt, IsSpliced, rewritten, spec_text, spec_tokens, status_text, status_tokens, version_text}
 use Rattle.objects.specs.PrintedText.{IsTextOf}
 use Rattle.objects.specs.Rewrites.{at_version, with_status}
 use Rattle.objects.specs.Status.{member_of, same_found, with_member}
 use Rattle.objects.specs.Text.{text}
 use Rattle.objects.proofs.Bodies.{body_with_status}
 use Rattle.objects.proofs.BodyMembers.{set_found}
-use Rattle.objects.proofs.CutTexts.{printable_again, set_again, status_bytes}
+use Rattle.objects.proofs.SeamTexts.{printable_again, set_again, status_bytes}
 use Rattle.objects.proofs.PrintedTexts.{reads_as, text_of}
 
 pub apart_by : (b : Bool) → (b ≡ true → ⊥) → b ≡ false
@@ -91,11 +91,11 @@ status_printable d start keyed valued ended a b c e again =
 -- ---- the object that such a text is of
 
 -- the body with that status
-body_is : (o : Object) (front middle : List ℕ) (cut : IsCut o front middle) (value : Option Data) → with_member (codes "status") value o.body ≡ object (set_member (codes "status") value cut.others)
-body_is o front middle cut value = ap (with_member (codes "status") value) cut.body ∙ ap object (set_again value cut.status cut.others cut.below)
+body_is : (o : Object) (front middle : List ℕ) (seams : HasSeams o front middle) (value : Option Data) → with_member (codes "status") value o.body ≡ object (set_member (codes "status") value seams.others)
+body_is o front middle seams value = ap (with_member (codes "status") value) seams.body ∙ ap object (set_again value seams.status seams.others seams.below)
 
-rewritten_is : (o : Object) (front middle : List ℕ) (cut : IsCut o front middle) (n : ℕ) (value : Option Data) → at_version (with_status value o) n ≡ rewritten o cut.others n value
-rewritten_is o front middle cut n value = ap (λ b. at_version (record { key = o.key; meta = o.meta; body = b }) n) (body_is o front middle cut value)
+rewritten_is : (o : Object) (front middle : List ℕ) (seams : HasSeams o front middle) (n : ℕ) (value : Option Data) → at_version (with_status value o) n ≡ rewritten o seams.others n value
+rewritten_is o front middle seams n value = ap (λ b. at_version (record { key = o.key; meta = o.meta; body = b }) n) (body_is o front middle seams value)
 
 canonical_without_by : (b : Bool) (l : List ℕ) (d : Data) (ms rest : Members) → IsCanonical d → AreCanonicalMembers rest → AreCanonicalMembers (cond b rest (member l d rest))
 canonical_without_by true l d ms rest one all = all
@@ -109,73 +109,73 @@ canonical_set : (value : Option Data) (ms : Members) → IsCanonicalStatus value
 canonical_set None ms one all = canonical_without (codes "status") ms all
 canonical_set (Some d) ms one all = canonical_put (codes "status") d ms one all
 
-canonical_body : (o : Object) (front middle : List ℕ) (cut : IsCut o front middle) (value : Option Data) → IsCanonicalStatus value → IsCanonical (object (set_member (codes "status") value cut.others))
-canonical_body o front middle cut value one =
-    let now = set_member (codes "status") cut.status cut.others in
-    let again = set_again value cut.status cut.others cut.below in
-    let canonical : AreAscending now × AreCanonicalMembers now = subst IsCanonical cut.body cut.canonical in
+canonical_body : (o : Object) (front middle : List ℕ) (seams : HasSeams o front middle) (value : Option Data) → IsCanonicalStatus value → IsCanonical (object (set_member (codes "status") value seams.others))
+canonical_body o front middle seams value one =
+    let now = set_member (codes "status") seams.status seams.others in
+    let again = set_again value seams.status seams.others seams.below in
+    let canonical : AreAscending now × AreCanonicalMembers now = subst IsCanonical seams.body seams.canonical in
     (subst AreAscending again (ascending_set (codes "status") value now canonical.0), subst AreCanonicalMembers again (canonical_set value now one canonical.1))
 
-keeps_rules : (o : Object) (front middle : List ℕ) (cut : IsCut o front middle) (n : ℕ) (value : Option Data) → n < 2 ^ 64 → KeepsRules (rewritten o cut.others n value)
-keeps_rules o front middle cut n value small = record {
-  key = cut.rules.key;
-  meta = record { uid = cut.rules.meta.uid; revision = small; generation = cut.rules.meta.generation };
-  body = subst (IsBody o.key.kind) (body_is o front middle cut value) (body_with_status o.key.kind value o.body cut.rules.body);
+keeps_rules : (o : Object) (front middle : List ℕ) (seams : HasSeams o front middle) (n : ℕ) (value : Option Data) → n < 2 ^ 64 → KeepsRules (rewritten o seams.others n value)
+keeps_rules o front middle seams n value small = record {
+  key = seams.rules.key;
+  meta = record { uid = seams.rules.meta.uid; revision = small; generation = seams.rules.meta.generation };
+  body = subst (IsBody o.key.kind) (body_is o front middle seams value) (body_with_status o.key.kind value o.body seams.rules.body);
 }
 
 -- the text is that of the object with that status at that version
-pub spliced_text : (o : Object) (version status : ℕ) (at : IsCutAt o version status) (n : ℕ) (value : Option Data) (t : List ℕ) → n ≢ 0 → n < 2 ^ 64 → ArePrintableOrBad (status_tokens value) → IsCanonicalStatus value
+pub spliced_text : (o : Object) (version status : ℕ) (at : HasSeamsAt o version status) (n : ℕ) (value : Option Data) (t : List ℕ) → n ≢ 0 → n < 2 ^ 64 → ArePrintableOrBad (status_tokens value) → IsCanonicalStatus value
     → t ≡ at.front ++ (version_text n ++ (at.middle ++ status_text value)) → IsTextOf (at_version (with_status value o) n) t
 spliced_text o version status at n value t some small printable one is =
-    let cut = at.cut in
-    let text_is = is ∙ sym (cut.texts n value some small) in
-    subst (λ p. IsTextOf p t) (sym (rewritten_is o at.front at.middle cut n value))
-    (text_of (rewritten o cut.others n value) (keeps_rules o at.front at.middle cut n value small) (canonical_body o at.front at.middle cut value one) t text_is (ap tokens text_is ∙ cut.tokens n value some small printable))
+    let seams = at.seams in
+    let text_is = is ∙ sym (seams.texts n value some small) in
+    subst (λ p. IsTextOf p t) (sym (rewritten_is o at.front at.middle seams n value))
+    (text_of (rewritten o seams.others n value) (keeps_rules o at.front at.middle seams n value small) (canonical_body o at.front at.middle seams value one) t text_is (ap tokens text_is ∙ seams.tokens n value some small printable))
 
--- and can be cut again
-abbrev rewritten_cut : (o : Object) (version status : ℕ) (at : IsCutAt o version status) (n : ℕ) (value : Option Data) (here there : ℕ) → n ≢ 0 → n < 2 ^ 64 → ArePrintableOrBad (status_tokens value) → IsCanonicalStatus value
-    → here ≡ length at.front → there ≡ length (at.front ++ (version_text n ++ at.middle)) → IsCutAt (rewritten o at.cut.others n value) here there
-rewritten_cut o version status at n value here there some small printable one here_is there_is =
-    let cut = at.cut in
+-- and has seams again
+abbrev rewritten_seams : (o : Object) (version status : ℕ) (at : HasSeamsAt o version status) (n : ℕ) (value : Option Data) (here there : ℕ) → n ≢ 0 → n < 2 ^ 64 → ArePrintableOrBad (status_tokens value) → IsCanonicalStatus value
+    → here ≡ length at.front → there ≡ length (at.front ++ (version_text n ++ at.middle)) → HasSeamsAt (rewritten o at.seams.others n value) here there
+rewritten_seams o version status at n value here there some small printable one here_is there_is =
+    let seams = at.seams in
     record {
       front = at.front;
       middle = at.middle;
-      cut = record {
-        others = cut.others;
+      seams = record {
+        others = seams.others;
         status = value;
-        below = cut.below;
+        below = seams.below;
         body = refl;
-        texts = cut.texts;
-        tokens = cut.tokens;
+        texts = seams.texts;
+        tokens = seams.tokens;
         printable = printable;
-        rules = keeps_rules o at.front at.middle cut n value small;
-        canonical = canonical_body o at.front at.middle cut value one;
+        rules = keeps_rules o at.front at.middle seams n value small;
+        canonical = canonical_body o at.front at.middle seams value one;
         written = some;
       };
       version_at = here_is;
       status_at = there_is;
     }
 
-pub spliced_cut : (o : Object) (version status : ℕ) (at : IsCutAt o version status) (n : ℕ) (value : Option Data) (here there : ℕ) → n ≢ 0 → n < 2 ^ 64 → ArePrintableOrBad (status_tokens value) → IsCanonicalStatus value
-    → here ≡ length at.front → there ≡ length (at.front ++ (version_text n ++ at.middle)) → IsCutAt (at_version (with_status value o) n) here there
-spliced_cut o version status at n value here there some small printable one here_is there_is =
-    subst (λ p. IsCutAt p here there) (sym (rewritten_is o at.front at.middle at.cut n value)) (rewritten_cut o version status at n value here there some small printable one here_is there_is)
+pub spliced_seams : (o : Object) (version status : ℕ) (at : HasSeamsAt o version status) (n : ℕ) (value : Option Data) (here there : ℕ) → n ≢ 0 → n < 2 ^ 64 → ArePrintableOrBad (status_tokens value) → IsCanonicalStatus value
+    → here ≡ length at.front → there ≡ length (at.front ++ (version_text n ++ at.middle)) → HasSeamsAt (at_version (with_status value o) n) here there
+spliced_seams o version status at n value here there some small printable one here_is there_is =
+    subst (λ p. HasSeamsAt p here there) (sym (rewritten_is o at.front at.middle at.seams n value)) (rewritten_seams o version status at n value here there some small printable one here_is there_is)
 
 -- the spec stays with each status
-spec_stays : (o : Object) (front middle : List ℕ) (cut : IsCut o front middle) (n : ℕ) (value : Option Data) → member_of (codes "spec") o.body ≡ member_of (codes "spec") (rewritten o cut.others n value).body
-spec_stays o front middle cut n value =
-    ap (member_of (codes "spec")) cut.body ∙ get_member-set_member (codes "spec") (codes "status") cut.status cut.others (λ same. absurd cc)
-    ∙ sym (get_member-set_member (codes "spec") (codes "status") value cut.others (λ same. absurd cc))
+spec_stays : (o : Object) (front middle : List ℕ) (seams : HasSeams o front middle) (n : ℕ) (value : Option Data) → member_of (codes "spec") o.body ≡ member_of (codes "spec") (rewritten o seams.others n value).body
+spec_stays o front middle seams n value =
+    ap (member_of (codes "spec")) seams.body ∙ get_member-set_member (codes "spec") (codes "status") seams.status seams.others (λ same. absurd cc)
+    ∙ sym (get_member-set_member (codes "spec") (codes "status") value seams.others (λ same. absurd cc))
 
 -- and where it stands
 pub spliced_spec : (o : Object) (version status size : ℕ) (spec : IsSpecAt o version status size) (n : ℕ) (value : Option Data) (here there : ℕ) → n ≢ 0 → n < 2 ^ 64 → ArePrintableOrBad (status_tokens value)
     → IsCanonicalStatus value → here ≡ length spec.at.front → there ≡ length (spec.at.front ++ (version_text n ++ spec.at.middle)) → IsSpecAt (at_version (with_status value o) n) here there size
 spliced_spec o version status size spec n value here there some small printable one here_is there_is =
     let at = spec.at in
-    let cut = at.cut in
-    let stays = spec_stays o at.front at.middle cut n value in
-    subst (λ p. IsSpecAt p here there size) (sym (rewritten_is o at.front at.middle cut n value)) (record {
-      at = rewritten_cut o version status at n value here there some small printable one here_is there_is;
+    let seams = at.seams in
+    let stays = spec_stays o at.front at.middle seams n value in
+    subst (λ p. IsSpecAt p here there size) (sym (rewritten_is o at.front at.middle seams n value)) (record {
+      at = rewritten_seams o version status at n value here there some small printable one here_is there_is;
       before = spec.before;
       middle = spec.middle ∙ ap (λ s. spec.before ++ spec_text s) stays;
       size = spec.size ∙ ap (λ s. length (spec_text s)) stays;
@@ -183,32 +183,32 @@ spliced_spec o version status size spec n value here there some small printable 
     })
 
 -- the status that the object has
-pub status_of_cut : (o : Object) (front middle : List ℕ) (cut : IsCut o front middle) → member_of (codes "status") o.body ≡ cut.status
-status_of_cut o front middle cut = ap (member_of (codes "status")) cut.body ∙ set_found (codes "status") cut.status cut.others
+pub status_of_seams : (o : Object) (front middle : List ℕ) (seams : HasSeams o front middle) → member_of (codes "status") o.body ≡ seams.status
+status_of_seams o front middle seams = ap (member_of (codes "status")) seams.body ∙ set_found (codes "status") seams.status seams.others
 
 pub canonical_member : (k : List ℕ) (ms : Members) (value : Option Data) → AreCanonicalMembers ms → get_member k ms ≡ value → IsCanonicalStatus value
 canonical_member k ms None all found = tt
 canonical_member k ms (Some d) all found = canonical_found k d ms all found
 
-pub status_canonical : (o : Object) (front middle : List ℕ) (cut : IsCut o front middle) → IsCanonicalStatus cut.status
-status_canonical o front middle cut =
-    let now = set_member (codes "status") cut.status cut.others in
-    let canonical : AreAscending now × AreCanonicalMembers now = subst IsCanonical cut.body cut.canonical in
-    canonical_member (codes "status") now cut.status canonical.1 (set_found (codes "status") cut.status cut.others)
+pub status_canonical : (o : Object) (front middle : List ℕ) (seams : HasSeams o front middle) → IsCanonicalStatus seams.status
+status_canonical o front middle seams =
+    let now = set_member (codes "status") seams.status seams.others in
+    let canonical : AreAscending now × AreCanonicalMembers now = subst IsCanonical seams.body seams.canonical in
+    canonical_member (codes "status") now seams.status canonical.1 (set_found (codes "status") seams.status seams.others)
 
 -- with that one it stays as it is
-pub status_kept : (o : Object) (front middle : List ℕ) (cut : IsCut o front middle) (n : ℕ) → at_version (with_status cut.status o) n ≡ at_version o n
-status_kept o front middle cut n = ap (λ b. at_version (record { key = o.key; meta = o.meta; body = b }) n) (body_is o front middle cut cut.status ∙ sym cut.body)
+pub status_kept : (o : Object) (front middle : List ℕ) (seams : HasSeams o front middle) (n : ℕ) → at_version (with_status seams.status o) n ≡ at_version o n
+status_kept o front middle seams n = ap (λ b. at_version (record { key = o.key; meta = o.meta; body = b }) n) (body_is o front middle seams seams.status ∙ sym seams.body)
 
--- the parts of a text that can be cut
-abbrev pub parts_of : (o : Object) (version status : ℕ) (at : IsCutAt o version status) (t : List ℕ) → t ≡ text o → AreParts t o.meta.revision version status
+-- the parts of a text that has seams
+abbrev pub parts_of : (o : Object) (version status : ℕ) (at : HasSeamsAt o version status) (t : List ℕ) → t ≡ text o → AreParts t o.meta.revision version status
 parts_of o version status at t is =
-    let cut = at.cut in
+    let seams = at.seams in
     record {
       front = at.front;
       middle = at.middle;
-      rest = status_text cut.status;
-      text = is ∙ ap text (ap (λ b. at_version (record { key = o.key; meta = o.meta; body = b }) o.meta.revision) cut.body) ∙ cut.texts o.meta.revision cut.status cut.written cut.rules.meta.revision;
+      rest = status_text seams.status;
+      text = is ∙ ap text (ap (λ b. at_version (record { key = o.key; meta = o.meta; body = b }) o.meta.revision) seams.body) ∙ seams.texts o.meta.revision seams.status seams.written seams.rules.meta.revision;
       version_at = at.version_at;
       status_at = at.status_at;
     }
@@ -243,20 +243,20 @@ found_equal None (Some e) h = absurd cc
 found_equal (Some d) None h = absurd cc
 found_equal (Some d) (Some e) h = ap Some (same-equal d e h)
 
-pub ends_alike : (o : Object) (version status : ℕ) (at : IsCutAt o version status) (value : Option Data) (t : List ℕ) → IsTextOf o t → ArePrintableOrBad (status_tokens value) → IsCanonicalStatus value
-    → status_text at.cut.status ≡ status_text value → same_found (member_of (codes "status") o.body) value ≡ true
+pub ends_alike : (o : Object) (version status : ℕ) (at : HasSeamsAt o version status) (value : Option Data) (t : List ℕ) → IsTextOf o t → ArePrintableOrBad (status_tokens value) → IsCanonicalStatus value
+    → status_text at.seams.status ≡ status_text value → same_found (member_of (codes "status") o.body) value ≡ true
 ends_alike o version status at value t whole printable one same =
-    let cut = at.cut in
+    let seams = at.seams in
     let parts = parts_of o version status at t whole.text in
-    let other = spliced_text o version status at o.meta.revision value t cut.written cut.rules.meta.revision printable one
+    let other = spliced_text o version status at o.meta.revision value t seams.written seams.rules.meta.revision printable one
     (parts.text ∙ ap (λ e. at.front ++ (version_text o.meta.revision ++ (at.middle ++ e))) same) in
     let equal : at_version (with_status value o) o.meta.revision ≡ o = sym (reads_as _ t other) ∙ reads_as o t whole in
     let found : member_of (codes "status") o.body ≡ value =
-    ap (λ (p : Object). member_of (codes "status") p.body) (sym equal) ∙ ap (member_of (codes "status")) (body_is o at.front at.middle cut value) ∙ set_found (codes "status") value cut.others in
+    ap (λ (p : Object). member_of (codes "status") p.body) (sym equal) ∙ ap (member_of (codes "status")) (body_is o at.front at.middle seams value) ∙ set_found (codes "status") value seams.others in
     ap (λ v. same_found v value) found ∙ same_by value printable
 
-pub ends_apart : (o : Object) (version status : ℕ) (at : IsCutAt o version status) (value : Option Data) → (status_text at.cut.status ≡ status_text value → ⊥) → same_found (member_of (codes "status") o.body) value ≡ false
-ends_apart o version status at value differ = apart_by _ (λ h. differ (ap status_text (sym (status_of_cut o at.front at.middle at.cut) ∙ found_equal (member_of (codes "status") o.body) value h)))
+pub ends_apart : (o : Object) (version status : ℕ) (at : HasSeamsAt o version status) (value : Option Data) → (status_text at.seams.status ≡ status_text value → ⊥) → same_found (member_of (codes "status") o.body) value ≡ false
+ends_apart o version status at value differ = apart_by _ (λ h. differ (ap status_text (sym (status_of_seams o at.front at.middle at.seams) ∙ found_equal (member_of (codes "status") o.body) value h)))
 
 -- ---- indexed texts
 
@@ -266,29 +266,29 @@ if_found P Q (Ok None) f h = h
 if_found P Q (Ok (Some s)) f h = f s h
 if_found P Q (Err e) f h = h
 
--- the parts of an indexed text's text that is cut so
-abbrev pub parts_at : (o : Object) (s : IndexedText) (indexed : IsIndexedText o s) → IsCutAt o s.version s.status → AreParts (string_bytes s.text) s.revision s.version s.status
+-- the parts of an indexed text's text that has these seams
+abbrev pub parts_at : (o : Object) (s : IndexedText) (indexed : IsIndexedText o s) → HasSeamsAt o s.version s.status → AreParts (string_bytes s.text) s.revision s.version s.status
 parts_at o s indexed at =
     let parts = parts_of o s.version s.status at (string_bytes s.text) indexed.text.text in
     record {
       front = at.front;
       middle = at.middle;
-      rest = status_text at.cut.status;
-      text = parts.text ∙ ap (λ r. at.front ++ (version_text r ++ (at.middle ++ status_text at.cut.status))) (sym indexed.revision);
+      rest = status_text at.seams.status;
+      text = parts.text ∙ ap (λ r. at.front ++ (version_text r ++ (at.middle ++ status_text at.seams.status))) (sym indexed.revision);
       version_at = at.version_at;
       status_at = at.status_at ∙ ap (λ r. length (at.front ++ (version_text r ++ at.middle))) (sym indexed.revision);
     }
 
--- the parts of an indexed text that can be cut
+-- the parts of an indexed text that has seams
 abbrev pub indexed_parts : (o : Object) (s : IndexedText) (indexed : IsIndexedText o s) → s.version ≢ 0 → AreParts (string_bytes s.text) s.revision s.version s.status
-indexed_parts o s indexed some = parts_at o s indexed (indexed.cut some)
+indexed_parts o s indexed some = parts_at o s indexed (indexed.seams some)
 
 -- a spliced indexed text knows the spec and the generation where the old one does
 spliced_known : (o : Object) (s : IndexedText) (value : Option Data) (end : List ℕ) (n : ℕ) (new : IndexedText) → IsIndexedText o s → n < 2 ^ 64 → ArePrintableOrBad (status_tokens value) → IsCanonicalStatus value
     → IsSpliced s end n new → new.version ≢ 0 → new.generation ≢ 0 → IsOpen (at_version (with_status value o) n) new
 spliced_known o s value end n new indexed small printable one h some told =
-    let old = indexed.known h.cut (λ none. told (h.generation ∙ none)) in
-    let there = h.places (parts_at o s indexed old.spec.at) some in
+    let old = indexed.known h.seams (λ none. told (h.generation ∙ none)) in
+    let there = h.offsets (parts_at o s indexed old.spec.at) some in
     record {
       spec = subst (IsSpecAt (at_version (with_status value o) n) new.version new.status) (sym h.spec) (spliced_spec o s.version s.status s.spec old.spec n value new.version new.status h.written small printable one there.0 there.1);
       generation = h.generation ∙ old.generation;
@@ -299,39 +299,39 @@ spliced_known o s value end n new indexed small printable one h some told =
 pub spliced_indexed : (o : Object) (s : IndexedText) (value : Option Data) (end : List ℕ) (n : ℕ) (new : IndexedText) → IsIndexedText o s → n < 2 ^ 64 → ArePrintableOrBad (status_tokens value) → IsCanonicalStatus value
     → end ≡ status_text value → IsSpliced s end n new → IsIndexedText (at_version (with_status value o) n) new
 spliced_indexed o s value end n new indexed small printable one ends h =
-    let at = indexed.cut h.cut in
-    let parts = indexed_parts o s indexed h.cut in
+    let at = indexed.seams h.seams in
+    let parts = indexed_parts o s indexed h.seams in
     record {
       text = spliced_text o s.version s.status at n value (string_bytes new.text) h.written small printable one (h.text parts ∙ ap (λ e. at.front ++ (version_text n ++ (at.middle ++ e))) ends);
       uid = h.uid ∙ indexed.uid;
       revision = h.revision;
-      cut = λ some. let there = h.places parts some in spliced_cut o s.version s.status at n value new.version new.status h.written small printable one there.0 there.1;
+      seams = λ some. let there = h.offsets parts some in spliced_seams o s.version s.status at n value new.version new.status h.written small printable one there.0 there.1;
       known = spliced_known o s value end n new indexed small printable one h;
     }
 
 -- with the status that it has, it is that of the object at that version
 pub spliced_again : (o : Object) (s : IndexedText) (end : List ℕ) (n : ℕ) (new : IndexedText) (indexed : IsIndexedText o s) → n < 2 ^ 64 → ((some : s.version ≢ 0) → end ≡ (indexed_parts o s indexed some).rest) → IsSpliced s end n new → IsIndexedText (at_version o n) new
 spliced_again o s end n new indexed small ends h =
-    let at = indexed.cut h.cut in
-    subst (λ p. IsIndexedText p new) (status_kept o at.front at.middle at.cut n)
-    (spliced_indexed o s at.cut.status end n new indexed small at.cut.printable (status_canonical o at.front at.middle at.cut) (ends h.cut) h)
+    let at = indexed.seams h.seams in
+    subst (λ p. IsIndexedText p new) (status_kept o at.front at.middle at.seams n)
+    (spliced_indexed o s at.seams.status end n new indexed small at.seams.printable (status_canonical o at.front at.middle at.seams) (ends h.seams) h)
 
 -- the text ends as one with that status exactly where the object has it
 ends_by : (b : Bool) (o : Object) (s : IndexedText) (indexed : IsIndexedText o s) (some : s.version ≢ 0) (value : Option Data) → ArePrintableOrBad (status_tokens value) → IsCanonicalStatus value
-    → bytes_eq (status_text (indexed.cut some).cut.status) (status_text value) ≡ b → b ≡ same_found (member_of (codes "status") o.body) value
+    → bytes_eq (status_text (indexed.seams some).seams.status) (status_text value) ≡ b → b ≡ same_found (member_of (codes "status") o.body) value
 ends_by true o s indexed some value printable one is =
-    sym (ends_alike o s.version s.status (indexed.cut some) value (string_bytes s.text) indexed.text printable one ((bytes_eq-Decides (status_text (indexed.cut some).cut.status) (status_text value)).0 is))
+    sym (ends_alike o s.version s.status (indexed.seams some) value (string_bytes s.text) indexed.text printable one ((bytes_eq-Decides (status_text (indexed.seams some).seams.status) (status_text value)).0 is))
 ends_by false o s indexed some value printable one is =
-    sym (ends_apart o s.version s.status (indexed.cut some) value (λ same. let both : true ≡ false = sym ((bytes_eq-Decides (status_text (indexed.cut some).cut.status) (status_text value)).1 same) ∙ is in absurd cc))
+    sym (ends_apart o s.version s.status (indexed.seams some) value (λ same. let both : true ≡ false = sym ((bytes_eq-Decides (status_text (indexed.seams some).seams.status) (status_text value)).1 same) ∙ is in absurd cc))
 
 pub ends_same : (o : Object) (s : IndexedText) (indexed : IsIndexedText o s) (some : s.version ≢ 0) (value : Option Data) (end : List ℕ) → ArePrintableOrBad (status_tokens value) → IsCanonicalStatus value → end ≡ status_text value
     → bytes_eq (indexed_parts o s indexed some).rest end ≡ same_found (member_of (codes "status") o.body) value
 ends_same o s indexed some value end printable one ends =
-    ap (bytes_eq (status_text (indexed.cut some).cut.status)) ends ∙ ends_by _ o s indexed some value printable one refl
+    ap (bytes_eq (status_text (indexed.seams some).seams.status)) ends ∙ ends_by _ o s indexed some value printable one refl
 
 pub end_is : (value : Option Data) (out items end : List ℕ) → end ≡ items → items ≡ out ++ status_text value → out ≡ [] → end ≡ status_text value
 end_is value out items end same is empty = same ∙ is ∙ ap (λ o. o ++ status_text value) empty
 
-pub if_told : (P Q : Bool → Type 0) (o : Option Bool) → ((b : Bool) → P b → Q b) → IfSome o P → IfSome o Q
-if_told P Q None f h = h
-if_told P Q (Some b) f h = f b h
+pub if_some_map : (P Q : Bool → Type 0) (o : Option Bool) → ((b : Bool) → P b → Q b) → IfSome o P → IfSome o Q
+if_some_map P Q None f h = h
+if_some_map P Q (Some b) f h = f b h

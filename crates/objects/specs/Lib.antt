@@ -18,17 +18,17 @@ pub mod PodNames
 pub mod ShardOf
 pub mod Uid
 pub mod PrintedText
-pub mod Cuts
-pub mod Marks
+pub mod Seams
+pub mod Header
 -- ---- what only proofs use
 pub mod Merged
 -- ---- of the crate below
-pub use Rattle.trees.specs.Whole
+pub use Rattle.trees.specs.Integer
 pub use Rattle.trees.specs.Tree
 pub use Rattle.trees.specs.declared.tree.Tree as DeclaredTree
 pub use Rattle.trees.specs.Members
 pub use Rattle.trees.specs.Building
-pub use Rattle.trees.specs.Places
+pub use Rattle.trees.specs.Positions
 pub use Rattle.trees.specs.Same
-pub use Rattle.trees.specs.IfWhole
+pub use Rattle.trees.specs.Integral
 pub use Rattle.trees.specs.Canonical

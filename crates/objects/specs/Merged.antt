@@ -9,18 +9,18 @@ use Rattle.serde_json.specs.Data.{Data, string, number, unsigned, Members}
 use Rattle.serde_json.specs.Written.{outline, members_outline}
 use Rattle.trees.specs.declared.tree.Tree.{Tree}
 use Rattle.objects.specs.declared.print.Held.{Held}
-use Rattle.objects.specs.declared.print.Held.TheVariants.{Text, Whole}
+use Rattle.objects.specs.declared.print.Held.TheVariants.{Text, Integer}
 use Rattle.trees.specs.Tree.{data_of, members_of}
 use Rattle.objects.specs.declared.object.Object.{Object}
 use Rattle.trees.specs.Building.{put_some}
 use Rattle.objects.specs.Text.{unless_zero}
 use Rattle.objects.specs.Uid.{uid_text}
-use Rattle.trees.specs.Places.{IsAbove}
+use Rattle.trees.specs.Positions.{IsAbove}
 use Rattle.trees.specs.Canonical.{AreCanonicalMembers}
 
 abbrev pub held_data : Held → Data
 held_data (Text s) = string s.now
-held_data (Whole n) = number (unsigned n)
+held_data (Integer n) = number (unsigned n)
 
 -- what is there is put, the last first
 abbrev pub puts : List (List ℕ × Option Data) → Members → Members

@@ -52,18 +52,18 @@ is_missing_or s found = option_map_or (is_text s) found true
 pub record IsBody (kind : Kind) (body : Data) : Type 0 where
   pub members : Members
   pub metadata : Members
-  pub whole : body ≡ object members
-  pub kind_said : get_member (codes "kind") members ≡ Some (string (kind_name kind))
-  pub version_said : is_missing_or (api_version kind) (get_member (codes "apiVersion") members) ≡ true
-  pub metadata_said : get_member (codes "metadata") members ≡ Some (object metadata)
+  pub made_of : body ≡ object members
+  pub kind_member : get_member (codes "kind") members ≡ Some (string (kind_name kind))
+  pub version_member : is_missing_or (api_version kind) (get_member (codes "apiVersion") members) ≡ true
+  pub metadata_member : get_member (codes "metadata") members ≡ Some (object metadata)
   pub none_held : has_held metadata ≡ false
-  pub labels_said : labels_fit (get_member (codes "labels") metadata) ≡ true
-  pub owners_said : owners_fit (get_member (codes "ownerReferences") metadata) ≡ true
+  pub labels_member : labels_fit (get_member (codes "labels") metadata) ≡ true
+  pub owners_member : owners_fit (get_member (codes "ownerReferences") metadata) ≡ true
 
 -- these members say the kind, and no other API version
 pub record SaysKind (kind : Kind) (members : Members) : Type 0 where
-  pub kind_said : get_member (codes "kind") members ≡ Some (string (kind_name kind))
-  pub version_said : is_missing_or (api_version kind) (get_member (codes "apiVersion") members) ≡ true
+  pub kind_member : get_member (codes "kind") members ≡ Some (string (kind_name kind))
+  pub version_member : is_missing_or (api_version kind) (get_member (codes "apiVersion") members) ≡ true
 
 -- what the types of an object's parts keep: the rules of names, the ranges of numbers, and what the body says
 pub record KeepsRules (o : ObjectParts) : Type 0 where

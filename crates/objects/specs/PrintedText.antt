@@ -15,7 +15,7 @@ use Rattle.objects.specs.Again.{draft_again_of}
 pub record IsTextOf (o : Object) (t : List ℕ) : Type 0 where
   pub text : t ≡ text o
   pub value : read_within (length t) t ≡ Some (printed o)
-  pub whole : has_float (printed o) ≡ false
+  pub integral : has_float (printed o) ≡ false
   pub draft : draft_of (printed o) ≡ Ok (draft_again_of o)
 
 -- what a text that is no object stands for; no printed object has such a text

@@ -78,25 +78,25 @@ generation_of (Some (array ds)) = Err BadMeta
 generation_of (Some (object ms)) = Err BadMeta
 
 -- the members of `metadata` that the store sets, as they stood
-pub record Stated : Type 0 where
+pub record DraftMeta : Type 0 where
   pub uid : Option (List ℕ)
   pub version : Option (List ℕ)
   pub generation : ℕ
   pub deletion : Option (List ℕ)
 
-abbrev pub stated : Option (List ℕ) → Option (List ℕ) → ℕ → Option (List ℕ) → Stated
-stated uid version generation deletion = record { uid = uid; version = version; generation = generation; deletion = deletion }
+abbrev pub draft_meta : Option (List ℕ) → Option (List ℕ) → ℕ → Option (List ℕ) → DraftMeta
+draft_meta uid version generation deletion = record { uid = uid; version = version; generation = generation; deletion = deletion }
 
-unfoldable pub stated_in : Members → Result Stated ReadError
-stated_in ms = do
+unfoldable pub draft_meta_in : Members → Result DraftMeta ReadError
+draft_meta_in ms = do
   uid ← optional_text BadMeta (get_member (codes "uid") ms)
   version ← optional_text BadMeta (get_member (codes "resourceVersion") ms)
   deletion ← optional_text BadMeta (get_member (codes "deletionTimestamp") ms)
   generation ← generation_of (get_member (codes "generation") ms)
-  Ok (stated (unless_empty uid) (unless_empty version) generation deletion)
+  Ok (draft_meta (unless_empty uid) (unless_empty version) generation deletion)
 
 -- the numbers of a UID and a version are theirs where they are of the store's form, else 0
-abbrev pub meta_of : Stated → MetaParts
+abbrev pub meta_of : DraftMeta → MetaParts
 meta_of s = record {
   uid = unwrap_or (option_and_then uid_number s.uid) 0;
   revision = unwrap_or (option_map version_number s.version) 0;
@@ -105,7 +105,7 @@ meta_of s = record {
 }
 
 -- an object of these parts; the held members leave the body
-abbrev pub draft_parts : KeyParts → Stated → Members → Members → Draft
+abbrev pub draft_parts : KeyParts → DraftMeta → Members → Members → Draft
 draft_parts key s metadata ms = record {
   object = record { key = key; meta = meta_of s; body = object (put (codes "metadata") (object (without_held metadata)) ms) };
   uid = s.uid;
@@ -120,7 +120,7 @@ draft_in ms = do
   metadata ← required BadName (option_and_then as_object (get_member (codes "metadata") ms))
   key ← key_of kind metadata
   fitting ← guarded BadMeta (metadata_fits metadata) metadata
-  s ← stated_in fitting
+  s ← draft_meta_in fitting
   Ok (draft_parts key s metadata ms)
 
 unfoldable pub draft_of : Data → Result Draft ReadError

@@ -12,8 +12,8 @@ abbrev pub unless_zero : ℕ → Data → Option Data
 unless_zero n d = if n == 0 then None else Some d
 
 -- the metadata with the members that key and meta hold
-abbrev pub whole_metadata : Object → Members → Members
-whole_metadata o ms =
+abbrev pub full_metadata : Object → Members → Members
+full_metadata o ms =
     put_some (codes "deletionTimestamp") (option_map string o.meta.deletion)
     (put_some (codes "generation") (unless_zero o.meta.generation (number (unsigned o.meta.generation)))
     (put (codes "name") (string o.key.name)
@@ -26,7 +26,7 @@ unfoldable pub printed : Object → Data
 printed o =
     let members = unwrap_or (as_object o.body) no_members in
     let metadata = unwrap_or (object_at (codes "metadata") members) no_members in
-    object (put (codes "metadata") (object (whole_metadata o metadata)) members)
+    object (put (codes "metadata") (object (full_metadata o metadata)) members)
 
 abbrev pub text : Object → List ℕ
 text o = compact_text (printed o)

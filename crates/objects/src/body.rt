@@ -8,7 +8,7 @@ ghost use Rattle.objects.specs.Object.{is_held, without_held};
 
 use crate::fault::ReadError;
 use std::alloc::{AllocError, Global};
-use trees::{Members, Text, Tree, place_of};
+use trees::{Members, Text, Tree, position_of};
 
 fn is_held(name: &str) -> bool
     ensures { result ≡ is_held name.now }
@@ -49,7 +49,7 @@ pub(crate) fn body_of(alloc: Global, members: Members) -> Result<Tree, ReadError
         → Gives data_of result (Ok (object (put (codes "metadata") (object (without_held metadata)) members))) }
 {
     let mut entries = members.into_entries()?;
-    let Ok(at) = place_of(&entries, "metadata") else {
+    let Ok(at) = position_of(&entries, "metadata") else {
         return Err(ReadError::BadName);
     };
     let (name, value) = entries.remove(at);

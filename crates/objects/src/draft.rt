@@ -7,7 +7,7 @@ ghost use Rattle.objects.specs.Steps.{Gives, guarded};
 ghost use Rattle.objects.specs.Kind.{api_version};
 ghost use Rattle.objects.specs.MetadataShape.{metadata_fits};
 ghost use Rattle.objects.specs.Object.{is_missing_or, without_held, SaysKind};
-ghost use Rattle.objects.specs.Reading.{kind_in, namespace_in, key_of, key_in, optional_text, unless_empty, generation_of, stated, stated_in, draft_parts, draft_in};
+ghost use Rattle.objects.specs.Reading.{kind_in, namespace_in, key_of, key_in, optional_text, unless_empty, generation_of, draft_meta, draft_meta_in, draft_parts, draft_in};
 ghost use Rattle.objects.specs.declared.fault.ReadError.TheVariants.{UnknownKind};
 
 use crate::body::body_of;
@@ -101,7 +101,7 @@ fn generation_of(found: Option<&Tree>) -> Result<u64, ReadError>
 {
     match found {
         None | Some(Tree::Null) => Ok(0),
-        Some(Tree::Whole(number)) => match number.as_u64() {
+        Some(Tree::Integer(number)) => match number.as_u64() {
             Some(generation) if generation < 1 << 63 => Ok(generation),
             _ => Err(ReadError::BadMeta),
         },
@@ -111,7 +111,7 @@ fn generation_of(found: Option<&Tree>) -> Result<u64, ReadError>
 
 // The members of `metadata` that the store sets, as they stood.
 #[derive(Drop)]
-struct Stated {
+struct DraftMeta {
     uid: Option<Text>,
     version: Option<Text>,
     generation: u64,
@@ -119,9 +119,9 @@ struct Stated {
     ghost small: { generation < 2 ^ 63 },
 }
 
-#[tactic(auto, using(crate::proofs::Chains::fails_then), unfolding(crate::specs::Reading::stated_in))]
-fn stated_in(alloc: Global, metadata: &Members) -> Result<Stated, ReadError>
-    ensures { Gives (λ s. stated s.uid s.version s.generation s.deletion) result (stated_in metadata.now) }
+#[tactic(auto, using(crate::proofs::Chains::fails_then), unfolding(crate::specs::Reading::draft_meta_in))]
+fn draft_meta_in(alloc: Global, metadata: &Members) -> Result<DraftMeta, ReadError>
+    ensures { Gives (λ s. draft_meta s.uid s.version s.generation s.deletion) result (draft_meta_in metadata.now) }
 {
     let uid = text_or(ReadError::BadMeta, metadata.get("uid"))?;
     let version = text_or(ReadError::BadMeta, metadata.get("resourceVersion"))?;
@@ -137,13 +137,13 @@ fn copied(
     version: Option<&str>,
     generation: u64,
     deletion: Option<&str>,
-) -> Result<Stated, ReadError>
+) -> Result<DraftMeta, ReadError>
     requires { generation < 2 ^ 63 }
-    ensures { Gives (λ s. stated s.uid s.version s.generation s.deletion) result
-        (Ok (stated (unless_empty (option_map (λ s. s.now) uid.entry)) (unless_empty (option_map (λ s. s.now) version.entry))
+    ensures { Gives (λ s. draft_meta s.uid s.version s.generation s.deletion) result
+        (Ok (draft_meta (unless_empty (option_map (λ s. s.now) uid.entry)) (unless_empty (option_map (λ s. s.now) version.entry))
         generation (option_map (λ s. s.now) deletion.entry))) }
 {
-    Ok(Stated {
+    Ok(DraftMeta {
         uid: copy_unless_empty(alloc, uid)?,
         version: copy_unless_empty(alloc, version)?,
         generation,
@@ -177,30 +177,30 @@ pub(crate) fn draft_in(alloc: Global, members: Members) -> Result<Draft, ReadErr
     if !metadata_fits(metadata) {
         return Err(ReadError::BadMeta);
     }
-    let stated = stated_in(alloc, metadata)?;
-    finished(alloc, key, stated, members)
+    let draft_meta = draft_meta_in(alloc, metadata)?;
+    finished(alloc, key, draft_meta, members)
 }
 
 // The draft of these parts; the held members leave the body.
 fn finished(
     alloc: Global,
     key: Key,
-    stated_parts: Stated,
+    draft_meta_parts: DraftMeta,
     members: Members,
 ) -> Result<Draft, ReadError>
     requires said { SaysKind key.kind members }
-    requires whole { (metadata : DataMembers) × (get_member (codes "metadata") members ≡ Some (object metadata)) × (metadata_fits metadata ≡ true) }
+    requires metadata { (metadata : DataMembers) × (get_member (codes "metadata") members ≡ Some (object metadata)) × (metadata_fits metadata ≡ true) }
     ensures { (metadata : DataMembers) → get_member (codes "metadata") members ≡ Some (object metadata)
         → Gives (λ draft. draft) result
-        (Ok (draft_parts key (stated stated_parts.uid stated_parts.version stated_parts.generation stated_parts.deletion) metadata members)) }
+        (Ok (draft_parts key (draft_meta draft_meta_parts.uid draft_meta_parts.version draft_meta_parts.generation draft_meta_parts.deletion) metadata members)) }
 {
     let body = body_of(alloc, members)?;
-    let Stated {
+    let DraftMeta {
         uid,
         version,
         generation,
         deletion,
-    } = stated_parts;
+    } = draft_meta_parts;
     let meta = Meta {
         uid: uid
             .as_ref()

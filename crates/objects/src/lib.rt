@@ -3,12 +3,11 @@
 #![tactic(auto)]
 
 mod body;
-mod cut;
 mod draft;
 mod fault;
+mod header;
 mod key;
 mod kind;
-mod marks;
 mod meta;
 mod metadata;
 mod names;
@@ -19,6 +18,7 @@ mod printed;
 mod read;
 mod replace;
 mod rewrite;
+mod seams;
 mod shape;
 mod shard;
 mod splice;
@@ -26,9 +26,9 @@ mod status;
 mod uid;
 
 pub use fault::ReadError;
+pub use header::Header;
 pub use key::Key;
 pub use kind::Kind;
-pub use marks::Marks;
 pub use meta::Meta;
 pub use metadata::only_the_owners_change;
 pub use names::{MAX_LABEL, is_dns_label};
@@ -45,7 +45,7 @@ pub use shape::{are_owners, are_texts};
 pub use shard::shard_of;
 pub use status::only_the_set_member_changes;
 pub use trees::{
-    Items, Members, Memory, Text, Tree, TreeError, TreeReader, Whole, place_of, read_tree,
+    Integer, Items, Members, Memory, Text, Tree, TreeError, TreeReader, position_of, read_tree,
     same_is_reflexive, same_values_are_equal, tree_text, write_entries, write_tree,
 };
 pub use uid::{

@@ -23,7 +23,7 @@ pub fn claim_name(alloc: Global, template: &str, set: &str, ordinal: u32) -> Res
     Ok(format!(in alloc; "{template}-{set}-{ordinal}")?)
 }
 
-/// The set and the ordinal of a pod's name, cut at its last `-`: `web-1-0` gives `web-1` and 0. `None` unless the set
+/// The set and the ordinal of a pod's name, split at its last `-`: `web-1-0` gives `web-1` and 0. `None` unless the set
 /// has a byte and the ordinal is a decimal without sign or leading zeros, of at most 2147483647.
 pub fn split_pod_name(name: &str) -> Option<(&str, u32)>
     ensures some { IfSome result (λ split. IsPodName name.now split.0.now split.1) }

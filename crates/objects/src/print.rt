@@ -11,7 +11,7 @@ ghost use Rattle.objects.specs.Key.{is_key};
 ghost use Rattle.objects.specs.Meta.{IsMeta};
 ghost use Rattle.trees.specs.Canonical.{IsCanonical, AreCanonicalMembers};
 ghost use Rattle.objects.specs.PrintedText.{IsTextOf};
-ghost use Rattle.objects.specs.Text.{text, printed, whole_metadata, unless_zero};
+ghost use Rattle.objects.specs.Text.{text, printed, full_metadata, unless_zero};
 ghost use Rattle.objects.specs.Uid.{uid_text, uid_prefix, twelve_digits};
 ghost use Rattle.objects.specs.Reading.{reading, most_bytes};
 ghost use Rattle.objects.specs.Again.{draft_again_of};
@@ -30,7 +30,7 @@ use trees::{Memory, Text, Tree, write_entries, write_tree};
 #[derive(Clone, Copy, Drop)]
 enum Held<'a> {
     Text(&'a str),
-    Whole(u64),
+    Integer(u64),
 }
 
 // Writes the entries whose keys are below the key, and answers the others.
@@ -64,7 +64,7 @@ fn write_held(key: &str, value: Option<Held<'_>>, out: &mut Writer) -> Result<()
             out.key(key)?;
             out.string(text)
         }
-        Some(Held::Whole(number)) => {
+        Some(Held::Integer(number)) => {
             out.key(key)?;
             out.u64(number)
         }
@@ -107,7 +107,7 @@ fn held_number<'a>(number: u64) -> Option<Held<'a>>
     if number == 0 {
         None
     } else {
-        Some(Held::Whole(number))
+        Some(Held::Integer(number))
     }
 }
 
@@ -213,7 +213,7 @@ fn write_metadata(
     out: &mut Writer,
 ) -> Result<(), AllocError>
     requires { has_held (members_of entries.now) ≡ false }
-    ensures tokens { OnOk result (out.new.tokens ≡ out.old.tokens ++ members_tokens (members_outline (whole_metadata object.now (members_of entries.now)))) }
+    ensures tokens { OnOk result (out.new.tokens ≡ out.old.tokens ++ members_tokens (members_outline (full_metadata object.now (members_of entries.now)))) }
     ensures before { out.new.before ≡ out.old.before }
     ensures canonical { OnOk result (AreCanonicalMembers (members_of entries.now)) }
     ensures rules { OnOk result ((is_key object.now.key ≡ true) × IsMeta object.now.meta) }
@@ -226,7 +226,7 @@ fn write_metadata(
     write_after_version(object, versioned, out)
 }
 
-// Writes the members of the body, the metadata whole; with the closing brace.
+// Writes the members of the body, the metadata in full; with the closing brace.
 fn write_members(
     object: &Object,
     entries: &[(Text, Tree)],
@@ -236,7 +236,7 @@ fn write_members(
     requires said { (metadata : DataMembers) × (get_member (codes "metadata") (members_of entries.now) ≡ Some (map metadata)) × (has_held metadata ≡ false) }
     ensures tokens { (metadata : DataMembers) → get_member (codes "metadata") (members_of entries.now) ≡ Some (map metadata)
         → OnOk result (out.new.tokens ≡ out.old.tokens ++ members_tokens
-        (members_outline (put (codes "metadata") (map (whole_metadata object.now metadata)) (members_of entries.now)))) }
+        (members_outline (put (codes "metadata") (map (full_metadata object.now metadata)) (members_of entries.now)))) }
     ensures before { out.new.before ≡ out.old.before }
     ensures canonical { OnOk result (AreCanonicalMembers (members_of entries.now)) }
     ensures rules { OnOk result ((is_key object.now.key ≡ true) × IsMeta object.now.meta) }

@@ -2,14 +2,14 @@ ghost use Rattle.std.specs.Prelude.{◌≡◌, ◌≢◌, [], None, Some, IfOk, 
 ghost use Rattle.std.specs.Option.{IsSomeAnd};
 ghost use Rattle.std.specs.Str.{IsUtf8};
 ghost use Rattle.objects.specs.declared.object.Object.{Object as SpecObject};
-ghost use Rattle.objects.specs.Cuts.{IsCutAt, IsIndexedText, IsSpecAt};
+ghost use Rattle.objects.specs.Seams.{HasSeamsAt, IsIndexedText, IsSpecAt};
 ghost use Rattle.objects.specs.PrintedText.{IsTextOf, object_of_text};
 ghost use Rattle.objects.specs.Text.{text};
 
-use crate::cut::{Cut, CutText, print_cut};
 use crate::fault::ReadError;
 use crate::object::Object;
 use crate::read::read_draft;
+use crate::seams::{SeamedText, Seams, print_seamed};
 use simdutf8::basic::from_utf8;
 use std::alloc::{AllocError, Global};
 use std::marker::Model;
@@ -29,7 +29,7 @@ pub(crate) struct IndexedText {
     pub(crate) text: String,
     pub(crate) uid: u64,
     pub(crate) revision: u64,
-    /// Where the text can be cut, in bytes: before the resource version and before the status. The first is 0 where it can't.
+    /// The seams of the text, in bytes: before the resource version and before the status. The first is 0 where there are none.
     pub(crate) version: u32,
     pub(crate) status: u32,
     /// How many bytes of the spec end at the status, and the object's generation: 0 where other members stand there too,
@@ -40,7 +40,7 @@ pub(crate) struct IndexedText {
 
 impl Model for Printed {
     ghost use Rattle.std.specs.Prelude.{string_bytes};
-    ghost use Rattle.objects.specs.Cuts.{IsIndexedText};
+    ghost use Rattle.objects.specs.Seams.{IsIndexedText};
     ghost use Rattle.objects.specs.Object.{ObjectParts, object_coded};
     ghost use Rattle.objects.specs.PrintedText.{object_of_text};
 
@@ -161,8 +161,8 @@ impl Printer {
     pub fn print(&mut self, object: &Object) -> Result<Printed, Memory>
         ensures { IfOk result (λ printed. printed ≡ object.now) }
     {
-        let CutText { bytes, cut } = print_cut(object, self.lent())?;
-        let printed = printed_as(self.alloc, object, &bytes, cut);
+        let SeamedText { bytes, seams } = print_seamed(object, self.lent())?;
+        let printed = printed_as(self.alloc, object, &bytes, seams);
         self.keep(bytes);
         printed
     }
@@ -195,19 +195,19 @@ fn printed_as(
     alloc: Global,
     object: &Object,
     bytes: &[u8],
-    cut: Option<Cut>,
+    seams: Option<Seams>,
 ) -> Result<Printed, Memory>
     requires text { IsTextOf object.now bytes.now }
     requires utf8 { IsUtf8 bytes.now }
-    requires cut { IfSome cut (λ cut. IsCutAt object.now cut.version cut.status) }
-    requires spec { IfSome cut (λ cut. IfSome cut.spec (IsSpecAt object.now cut.version cut.status)) }
+    requires seams { IfSome seams (λ seams. HasSeamsAt object.now seams.version seams.status) }
+    requires spec { IfSome seams (λ seams. IfSome seams.spec (IsSpecAt object.now seams.version seams.status)) }
     ensures { IfOk result (λ printed. printed ≡ object.now) }
 {
     match from_utf8(bytes) {
         Ok(text) => {
             let (uid, revision) = numbers_of(object);
-            let (version, status) = short_places(cut);
-            let (spec, generation) = short_spec(object, cut);
+            let (version, status) = short_offsets(seams);
+            let (spec, generation) = short_spec(object, seams);
             let text = String::from_str(alloc, text)?;
             Printed::of_indexed(
                 alloc,
@@ -233,17 +233,17 @@ fn numbers_of(object: &Object) -> (u64, u64)
     (object.meta.uid, object.meta.revision)
 }
 
-// The places in fewer bits, or 0 and 0 where there are none or they do not fit.
-pub(crate) fn short_places(cut: Option<Cut>) -> (u32, u32)
-    ensures { result.0 ≢ 0 → IsSomeAnd cut (λ cut. (result.0 ≡ cut.version) × (result.1 ≡ cut.status)) }
+// The seams in fewer bits, or 0 and 0 where there are none or they do not fit.
+pub(crate) fn short_offsets(seams: Option<Seams>) -> (u32, u32)
+    ensures { result.0 ≢ 0 → IsSomeAnd seams (λ seams. (result.0 ≡ seams.version) × (result.1 ≡ seams.status)) }
 {
-    let Some(cut) = cut else {
+    let Some(seams) = seams else {
         return (0, 0);
     };
-    let Ok(version) = u32::try_from(cut.version) else {
+    let Ok(version) = u32::try_from(seams.version) else {
         return (0, 0);
     };
-    let Ok(status) = u32::try_from(cut.status) else {
+    let Ok(status) = u32::try_from(seams.status) else {
         return (0, 0);
     };
     (version, status)
@@ -251,17 +251,17 @@ pub(crate) fn short_places(cut: Option<Cut>) -> (u32, u32)
 
 // How many bytes the spec takes, and the generation, or 0 and 0 where they are not known, do not fit, or the object has a
 // time of deletion.
-fn short_spec(object: &Object, cut: Option<Cut>) -> (u32, u32)
-    ensures { result.1 ≢ 0 → IsSomeAnd cut (λ cut. cut.spec ≡ Some result.0) × (result.1 ≡ object.now.meta.generation) × (object.now.meta.deletion ≡ None) }
+fn short_spec(object: &Object, seams: Option<Seams>) -> (u32, u32)
+    ensures { result.1 ≢ 0 → IsSomeAnd seams (λ seams. seams.spec ≡ Some result.0) × (result.1 ≡ object.now.meta.generation) × (object.now.meta.deletion ≡ None) }
 {
     let meta = &object.meta;
     if meta.deletion.is_some() {
         return (0, 0);
     }
-    let Some(cut) = cut else {
+    let Some(seams) = seams else {
         return (0, 0);
     };
-    let Some(size) = cut.spec else {
+    let Some(size) = seams.spec else {
         return (0, 0);
     };
     let Ok(spec) = u32::try_from(size) else {

@@ -3,7 +3,7 @@
 ghost use Rattle.std.specs.Prelude.{◌≡◌, ◌<◌, ◌^◌, None, codes, option_map, false, IfOk, IfSome};
 ghost use Rattle.trees.specs.Tree.{data_of};
 ghost use Rattle.objects.specs.declared.object.Object.{Object as SpecObject};
-ghost use Rattle.objects.specs.Cuts.{IsOpen, IsIndexedText, spec_text};
+ghost use Rattle.objects.specs.Seams.{IsOpen, IsIndexedText, spec_text};
 ghost use Rattle.objects.specs.Rewrites.{generation_after, meta_after, replaced};
 ghost use Rattle.objects.specs.Status.{member_of, same_found};
 ghost use Rattle.trees.specs.Same.{same_data};
@@ -103,7 +103,7 @@ impl Printed {
         ensures differs { IfOk result (λ found. IfSome found (λ new. self.now.key ≡ new.key → same_data self.now.body new.body ≡ false)) }
     {
         let indexed = self.indexed();
-        // 0 says that the text can't be cut, or that it is not known where its spec stands and what its generation is.
+        // 0 says that the text has no seams, or that it is not known where its spec stands and what its generation is.
         if indexed.version == 0 || indexed.generation == 0 {
             return Ok(None);
         }

@@ -60,7 +60,7 @@ impl Printed {
         printer.print(&object)
     }
 
-    /// The same, if the text can be cut.
+    /// The same, if the text has seams.
     fn spliced_status(
         &self,
         printer: &mut Printer,
@@ -79,7 +79,7 @@ impl Printed {
         }
     }
 
-    /// The same with the status that the object has, if the text can be cut.
+    /// The same with the status that the object has, if the text has seams.
     fn spliced_version(
         &self,
         printer: &mut Printer,
@@ -107,7 +107,7 @@ impl Printed {
         Ok(same_found(object.member("status"), status))
     }
 
-    /// The same, if the text can be cut.
+    /// The same, if the text has seams.
     fn ends_in(&self, status: Option<&Tree>) -> Result<Option<bool>, Memory>
         ensures { IfOk result (λ found. IfSome found (λ same. same
             ≡ same_found (member_of (codes "status") self.now.body) (option_map (λ t. data_of t.now) status.entry))) }

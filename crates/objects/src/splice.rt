@@ -2,16 +2,16 @@
 ghost use Rattle.std.specs.Prelude.{◌≡◌, ◌≢◌, ◌++◌, [], None, Some, IfOk, IfSome, OnOk, bytes_eq, length, option_map, string_bytes};
 ghost use Rattle.json.specs.Print.{ArePrintableOrBad};
 ghost use Rattle.trees.specs.Tree.{data_of};
-ghost use Rattle.objects.specs.Cuts.{AreParts, IsCanonicalStatus, IsSpliced, status_text, status_tokens, version_text};
+ghost use Rattle.objects.specs.Seams.{AreParts, IsCanonicalStatus, IsSpliced, status_text, status_tokens, version_text};
 
-use crate::cut::Cut;
-use crate::printed::{IndexedText, Printer, short_places};
+use crate::printed::{IndexedText, Printer, short_offsets};
+use crate::seams::Seams;
 use json::Writer;
 use simdutf8::basic::from_utf8;
 use std::alloc::{AllocError, Global};
 use trees::{Memory, Tree, write_tree};
 
-/// The text with another resource version and another end, from its status on, if it can be cut.
+/// The text with another resource version and another end, from its status on, if it has seams.
 pub(crate) fn spliced(
     indexed: &IndexedText,
     printer: &mut Printer,
@@ -21,23 +21,23 @@ pub(crate) fn spliced(
     requires { indexed.now.version ≢ 0 → AreParts (string_bytes indexed.now.text) indexed.now.revision indexed.now.version indexed.now.status }
     ensures { IfOk result (λ found. IfSome found (λ new. IsSpliced indexed.now end.now revision new)) }
 {
-    // 0 says that the text can't be cut, or that there is no resource version.
+    // 0 says that the text has no seams, or that there is no resource version.
     if indexed.version == 0 || revision == 0 {
         return Ok(None);
     }
-    let cut = Cut {
+    let seams = Seams {
         version: indexed.version as usize,
         status: indexed.status as usize,
         spec: None,
     };
     let text = indexed.text.as_str().as_bytes();
-    let (bytes, status) = splice(text, cut, indexed.revision, revision, end, printer.lent())?;
-    let places = short_places(Some(Cut {
-        version: cut.version,
+    let (bytes, status) = splice(text, seams, indexed.revision, revision, end, printer.lent())?;
+    let offsets = short_offsets(Some(Seams {
+        version: seams.version,
         status,
         spec: None,
     }));
-    let new = indexed_of(indexed, &bytes, revision, places);
+    let new = indexed_of(indexed, &bytes, revision, offsets);
     printer.keep(bytes);
     new
 }
@@ -47,15 +47,15 @@ fn indexed_of(
     old: &IndexedText,
     bytes: &[u8],
     revision: u64,
-    places: (u32, u32),
+    offsets: (u32, u32),
 ) -> Result<Option<IndexedText>, Memory>
     ensures { IfOk result (λ found. IfSome found (λ indexed. (string_bytes indexed.text ≡ bytes.now) × (indexed.uid ≡ old.now.uid) × (indexed.revision ≡ revision)
-        × (indexed.version ≡ places.0) × (indexed.status ≡ places.1) × (indexed.spec ≡ old.now.spec) × (indexed.generation ≡ old.now.generation))) }
+        × (indexed.version ≡ offsets.0) × (indexed.status ≡ offsets.1) × (indexed.spec ≡ old.now.spec) × (indexed.generation ≡ old.now.generation))) }
 {
     let Ok(text) = from_utf8(bytes) else {
         return Ok(None);
     };
-    let (version, status) = places;
+    let (version, status) = offsets;
     Ok(Some(IndexedText {
         text: String::from_str(*old.text.allocator(), text)?,
         uid: old.uid,
@@ -67,7 +67,7 @@ fn indexed_of(
     }))
 }
 
-/// The text from its status on, if it can be cut.
+/// The text from its status on, if it has seams.
 pub(crate) fn status_end(indexed: &IndexedText) -> &[u8]
     requires { indexed.now.version ≢ 0 → AreParts (string_bytes indexed.now.text) indexed.now.revision indexed.now.version indexed.now.status }
     ensures { indexed.now.version ≢ 0
@@ -79,7 +79,7 @@ pub(crate) fn status_end(indexed: &IndexedText) -> &[u8]
     &indexed.text.as_str().as_bytes()[indexed.status as usize..]
 }
 
-/// Whether the text ends so from its status on, if it can be cut.
+/// Whether the text ends so from its status on, if it has seams.
 pub(crate) fn ends_so(indexed: &IndexedText, end: &[u8]) -> Option<bool>
     requires { indexed.now.version ≢ 0 → AreParts (string_bytes indexed.now.text) indexed.now.revision indexed.now.version indexed.now.status }
     ensures { IfSome result (λ same. (indexed.now.version ≢ 0)
@@ -94,27 +94,27 @@ pub(crate) fn ends_so(indexed: &IndexedText, end: &[u8]) -> Option<bool>
 // Writes the text with another resource version and another end, from its status on, and answers where that is.
 fn splice(
     text: &[u8],
-    cut: Cut,
+    seams: Seams,
     old: u64,
     new: u64,
     end: &[u8],
     mut out: Vec<u8>,
 ) -> Result<(Vec<u8>, usize), AllocError>
-    requires parts { AreParts text.now old cut.version cut.status }
+    requires parts { AreParts text.now old seams.version seams.status }
     requires empty { out.items ≡ [] }
-    ensures bytes { (parts : AreParts text.now old cut.version cut.status)
+    ensures bytes { (parts : AreParts text.now old seams.version seams.status)
         → IfOk result (λ p. p.0.items ≡ parts.front ++ (version_text new ++ (parts.middle ++ end.now))) }
-    ensures status { (parts : AreParts text.now old cut.version cut.status)
+    ensures status { (parts : AreParts text.now old seams.version seams.status)
         → IfOk result (λ p. p.1 ≡ length (parts.front ++ (version_text new ++ parts.middle))) }
 {
     let mut buffer = itoa::Buffer::new();
     // 2 for the quotes around the old resource version.
-    let behind = cut.version + 2 + buffer.format(old).len();
-    out.extend_from_slice(&text[..cut.version])?;
+    let behind = seams.version + 2 + buffer.format(old).len();
+    out.extend_from_slice(&text[..seams.version])?;
     out.push(b'"')?;
     out.extend_from_slice(buffer.format(new).as_bytes())?;
     out.push(b'"')?;
-    out.extend_from_slice(&text[behind..cut.status])?;
+    out.extend_from_slice(&text[behind..seams.status])?;
     let status = out.len();
     out.extend_from_slice(end)?;
     Ok((out, status))

@@ -1,7 +1,7 @@
 //! Members that are set, where they stand, and texts of trees.
 use crate::asserts::{assert_so, is_printed, read, read_members, read_some};
 use json::Writer;
-use objects::{ReadError, Text, Tree, place_of, read_tree, tree_text, write_entries};
+use objects::{ReadError, Text, Tree, position_of, read_tree, tree_text, write_entries};
 use std::alloc::{AllocError, Global};
 
 /// Whether that is printed of the object with that `revision`.
@@ -71,7 +71,7 @@ static PLACES: [(&str, Result<usize, usize>); 6] = [
 
 fn has_place(alloc: Global, key: &str, expected: Result<usize, usize>) -> Result<bool, ReadError> {
     let members = read_members(alloc, r#"{"c":3,"a":1,"b":2}"#)?;
-    let is_so = place_of(members.entries(), key) == expected;
+    let is_so = position_of(members.entries(), key) == expected;
     drop(members);
     Ok(is_so)
 }

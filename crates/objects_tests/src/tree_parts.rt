@@ -1,6 +1,6 @@
 //! Trees and their parts: found, taken, made, copied and compared.
 use crate::asserts::{assert_so, read_members};
-use objects::{Items, Members, ReadError, Text, Tree, Whole, read_tree};
+use objects::{Items, Members, ReadError, Text, Tree, Integer, read_tree};
 use std::alloc::{AllocError, Global};
 use std::cmp::Ordering;
 
@@ -19,7 +19,7 @@ fn has_all(members: &Members) -> bool {
 
 fn has_items(items: &Items) -> bool {
     match items.as_slice() {
-        [text, Tree::Whole(below), Tree::Whole(most)] => {
+        [text, Tree::Integer(below), Tree::Integer(most)] => {
             text.as_text() == Some("x")
                 && below.as_u64().is_none()
                 && most.as_u64() == Some(u64::MAX)
@@ -157,7 +157,7 @@ fn texts_ascend_by_their_bytes(rt: HostRuntime) {
     }
 }
 
-fn is_number(number: Whole, expected: Option<u64>) -> Result<bool, ReadError> {
+fn is_number(number: Integer, expected: Option<u64>) -> Result<bool, ReadError> {
     let copy = number.clone()?;
     Ok(number.as_u64() == expected && copy.as_u64() == expected)
 }
@@ -190,9 +190,9 @@ fn copies_items(alloc: Global) -> Result<bool, ReadError> {
 fn parts_are_made_and_copied(rt: HostRuntime) {
     assert_so(&rt, copies_text(rt.alloc()), "text");
     assert_so(&rt, copies_items(rt.alloc()), "list");
-    assert_so(&rt, is_number(Whole::from(5u64), Some(5)), "5");
-    assert_so(&rt, is_number(Whole::from(5i64), Some(5)), "+5");
-    assert_so(&rt, is_number(Whole::from(-5i64), None), "-5");
+    assert_so(&rt, is_number(Integer::from(5u64), Some(5)), "5");
+    assert_so(&rt, is_number(Integer::from(5i64), Some(5)), "+5");
+    assert_so(&rt, is_number(Integer::from(-5i64), None), "-5");
 }
 
 /// Two JSON texts, and whether they are the same value.

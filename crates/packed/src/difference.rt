@@ -9,7 +9,7 @@ use std::alloc::AllocError;
 /// How many bytes a piece skips, copies and adds at most.
 const MOST: usize = 255;
 
-/// Writes the text that a delta tells.
+/// Writes the text that a delta encodes.
 pub fn write_expanded(base: &[u8], delta: &[u8], out: &mut Vec<u8>) -> Result<(), AllocError>
     ensures { OnOk result (out.new.items ≡ out.old.items ++ expanded base.now delta.now) }
 {
@@ -27,8 +27,8 @@ pub fn write_expanded(base: &[u8], delta: &[u8], out: &mut Vec<u8>) -> Result<()
     Ok(())
 }
 
-/// Whether a delta tells that text.
-fn tells(base: &[u8], delta: &[u8], text: &[u8]) -> bool
+/// Whether a delta encodes that text.
+fn encodes(base: &[u8], delta: &[u8], text: &[u8]) -> bool
     ensures { IsTrue result → expanded base.now delta.now ≡ text.now }
 {
     if delta.is_empty() {
@@ -51,7 +51,7 @@ fn tells(base: &[u8], delta: &[u8], text: &[u8]) -> bool
     left.is_empty()
 }
 
-/// Writes a delta that tells the text, if one of at most that many bytes is found. Answers whether it is.
+/// Writes a delta that encodes the text, if one of at most that many bytes is found. Answers whether it is.
 pub fn write_delta(
     base: &[u8],
     text: &[u8],
@@ -59,11 +59,11 @@ pub fn write_delta(
     out: &mut Vec<u8>,
 ) -> Result<bool, AllocError>
     requires { out.old.items ≡ [] }
-    ensures told { IfOk result (λ told. told ≡ true → expanded base.now out.new.items ≡ text.now) }
-    ensures short { IfOk result (λ told. told ≡ true → length out.new.items ≤ most) }
+    ensures encoded { IfOk result (λ encoded. encoded ≡ true → expanded base.now out.new.items ≡ text.now) }
+    ensures short { IfOk result (λ encoded. encoded ≡ true → length out.new.items ≤ most) }
 {
     write_pieces(base, text, most, out)?;
-    Ok(out.len() <= most && tells(base, out.as_slice(), text))
+    Ok(out.len() <= most && encodes(base, out.as_slice(), text))
 }
 
 // Writes the pieces of a text, or the first ones that come to more than so many bytes.

@@ -4,7 +4,7 @@ ghost use Rattle.objects.specs.Text.{text};
 
 use crate::delta::Delta;
 use crate::difference::write_expanded;
-use objects::{Marks, Memory, Object, Printed, Printer, TreeReader};
+use objects::{Header, Memory, Object, Printed, Printer, TreeReader};
 use std::alloc::AllocError;
 use std::marker::Model;
 use std::sync::Arc;
@@ -15,7 +15,7 @@ use std::sync::Arc;
 pub struct Packed {
     pub(crate) base: Arc<String>,
     pub(crate) delta: Delta,
-    pub(crate) marks: Marks,
+    pub(crate) header: Header,
 }
 
 impl Model for Packed {
@@ -31,25 +31,29 @@ impl Model for Packed {
 
     ghost view = { λ p. object_of_text (expanded (string_bytes p.base.value) p.delta) };
 
-    ghost invariant = { λ p. IsKept (string_bytes p.base.value) p.delta p.marks };
+    ghost invariant = { λ p. IsKept (string_bytes p.base.value) p.delta p.header };
 }
 
 impl Packed {
-    /// The object, whose text is what the delta tells.
+    /// The object, whose text is what the delta encodes.
     pub(crate) fn of(base: Arc<String>, delta: Delta, object: &Printed) -> Packed
-        requires told { expanded (string_bytes base.value) delta ≡ text object.now }
+        requires encoded { expanded (string_bytes base.value) delta ≡ text object.now }
         requires base { length (string_bytes base.value) ≤ 4 * length (text object.now) }
         requires delta { length delta ≤ length (text object.now) / 4 + 16 }
         ensures { result ≡ object.now }
     {
-        let (_, marks) = object.parts();
-        Packed { base, delta, marks }
+        let (_, header) = object.parts();
+        Packed {
+            base,
+            delta,
+            header,
+        }
     }
 
-    /// What is kept of the text: the base, and the delta that tells the text from it. The base is at most four times as long
+    /// What is kept of the text: the base, and the delta that encodes the text over it. The base is at most four times as long
     /// as the text, and the delta takes at most a quarter of its bytes and 16 more.
     pub fn parts(&self) -> (&str, &[u8])
-        ensures told { expanded result.0.now result.1.now ≡ text self.now }
+        ensures encoded { expanded result.0.now result.1.now ≡ text self.now }
         ensures base { length result.0.now ≤ 4 * length (text self.now) }
         ensures delta { length result.1.now ≤ length (text self.now) / 4 + 16 }
     {
@@ -77,7 +81,7 @@ impl Packed {
         let mut bytes = printer.lent();
         self.write_text(&mut bytes)?;
         let alloc = *self.base.allocator();
-        let printed = Printed::of_marks(alloc, &bytes, self.marks, reader, printer);
+        let printed = Printed::of_header(alloc, &bytes, self.header, reader, printer);
         printer.keep(bytes);
         printed
     }

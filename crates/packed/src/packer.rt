@@ -62,7 +62,7 @@ impl Packer {
         if base.len() <= LONGEST {
             self.bases.insert(slot_of(key), Arc::try_clone(&base)?)?;
         }
-        // An empty delta tells the base itself.
+        // An empty delta encodes the base itself.
         Ok(Packed::of(base, Delta::copy_of(self.alloc, &[])?, object))
     }
 }

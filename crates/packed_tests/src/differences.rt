@@ -3,7 +3,7 @@ use packed::{write_delta, write_expanded};
 use std::alloc::{AllocError, Global};
 use std::process::Abort;
 
-/// A base, a delta, and the text that it tells.
+/// A base, a delta, and the text that it encodes.
 static TOLD: [(&[u8], &[u8], &[u8]); 8] = [
     (b"abcdef", &[], b"abcdef"),
     // One byte of the base is skipped, three are copied, two are added; then the next byte of the base.
@@ -20,15 +20,15 @@ static TOLD: [(&[u8], &[u8], &[u8]); 8] = [
     (b"", &[0, 4, 4], b""),
 ];
 
-fn told(alloc: Global, base: &[u8], delta: &[u8], text: &[u8]) -> Result<bool, AllocError> {
+fn encoded(alloc: Global, base: &[u8], delta: &[u8], text: &[u8]) -> Result<bool, AllocError> {
     let mut out = Vec::from_slice(alloc, b"before ")?;
     write_expanded(base, delta, &mut out)?;
     Ok(out.as_slice().strip_prefix(b"before ") == Some(text))
 }
 
-fn assert_told(rt: &impl Abort, alloc: Global, base: &[u8], delta: &[u8], text: &[u8]) {
-    match told(alloc, base, delta, text) {
-        Ok(told) => assert!(rt; told, "{base:?} and {delta:?}"),
+fn assert_encoded(rt: &impl Abort, alloc: Global, base: &[u8], delta: &[u8], text: &[u8]) {
+    match encoded(alloc, base, delta, text) {
+        Ok(encoded) => assert!(rt; encoded, "{base:?} and {delta:?}"),
         Err(_) => assert!(rt; false, "no memory"),
     }
 }
@@ -36,11 +36,11 @@ fn assert_told(rt: &impl Abort, alloc: Global, base: &[u8], delta: &[u8], text: 
 #[test]
 fn a_delta_tells_what_is_copied_and_added(rt: HostRuntime) {
     for (base, delta, text) in TOLD.iter() {
-        assert_told(&rt, rt.alloc(), base, delta, text);
+        assert_encoded(&rt, rt.alloc(), base, delta, text);
     }
 }
 
-/// How many bytes the delta from the base to the text has, where there is one of at most that many that tells the text.
+/// How many bytes the delta from the base to the text has, where there is one of at most that many that encodes the text.
 fn delta_length(
     alloc: Global,
     base: &[u8],
@@ -119,7 +119,7 @@ fn long_text(alloc: Global, count: usize) -> Result<Vec<u8>, AllocError> {
 }
 
 #[test]
-fn long_texts_are_told(rt: HostRuntime) -> Result<(), AllocError> {
+fn long_texts_are_encoded(rt: HostRuntime) -> Result<(), AllocError> {
     let text = long_text(rt.alloc(), 70_000)?;
     let same = delta_length(rt.alloc(), text.as_slice(), text.as_slice(), 70_000)?;
     // 275 pieces copy 255 bytes each, or the rest.

@@ -9,7 +9,7 @@ static TEXTS: [&str; 9] = [
     r#"{"kind":"Pod","metadata":{"generation":1,"labels":{"app":"db","n":"7"},"name":"db-0","namespace":"default","resourceVersion":"1","uid":"00000000-0000-4000-8000-000000000001"},"spec":{"x":1}}"#,
     r#"{"kind":"Pod","metadata":{"generation":1,"labels":{"app":"db","n":"12"},"name":"db-1","namespace":"default","resourceVersion":"2","uid":"00000000-0000-4000-8000-000000000002"},"spec":{"x":1}}"#,
     r#"{"kind":"Pod","metadata":{"generation":1,"labels":{"app":"db","n":"7"},"name":"db-0","namespace":"default","resourceVersion":"3","uid":"00000000-0000-4000-8000-000000000001"},"spec":{"x":1},"status":{"phase":"Running"}}"#,
-    // A generation past 16 bits, and a UID past 32: the marks can't hold them.
+    // A generation past 16 bits, and a UID past 32: the header can't hold them.
     r#"{"kind":"Pod","metadata":{"generation":70000,"name":"db-2","namespace":"default","resourceVersion":"4","uid":"00000000-0000-4000-8000-0000000000ff"}}"#,
     r#"{"kind":"Pod","metadata":{"generation":1,"name":"db-3","namespace":"default","resourceVersion":"5","uid":"00000000-0000-4000-8000-0000ffffffff"}}"#,
     r#"{"kind":"Pod","metadata":{"generation":1,"name":"db-4","namespace":"default","resourceVersion":"6","uid":"00000000-0000-4000-8000-ffffffffffff"}}"#,

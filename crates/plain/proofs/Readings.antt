@@ -251,7 +251,7 @@ map_read t ms is = value_request (data_of t) ∙ ap (λ x. data_request (data_of
 pub no_map : (t : Tree) → ((ms : Members) → t ≡ tree.Map ms → ⊥) → request_in (data_of t) ≡ Err errors.NoVerb
 no_map tree.Null other = value_request _
 no_map (tree.Truth b) other = value_request _
-no_map (tree.Whole z) other = value_request _
+no_map (tree.Integer z) other = value_request _
 no_map (tree.Text s) other = value_request _
 no_map (tree.List ds) other = value_request _
 no_map (tree.Map ms) other = absurd (other ms refl)

@@ -5,7 +5,7 @@ use Rattle.serde_json.specs.Written.{has_float}
 use Rattle.objects.specs.declared.key.Key.{Key}
 use Rattle.objects.specs.declared.object.Object.{Object}
 use Rattle.objects.specs.Status.{member_of, with_member}
-use Rattle.objects.proofs.BodyMembers.{member_of-whole, member_of-with_other}
+use Rattle.objects.proofs.BodyMembers.{member_of-integral, member_of-with_other}
 use Rattle.objects.proofs.Sameness.{same-itself}
 use Rattle.requests.specs.declared.request.Request.{Request}
 use Rattle.requests.specs.declared.request.Request.TheVariants as request
@@ -29,7 +29,7 @@ found-itself None whole = refl
 found-itself (Some d) whole = same-itself d whole
 
 spec-itself : (body : Data) → has_float body ≡ false → same_member (codes "spec") body body ≡ true
-spec-itself body whole = found-itself (spec body) (member_of-whole (codes "spec") body whole)
+spec-itself body whole = found-itself (spec body) (member_of-integral (codes "spec") body whole)
 
 -- where `spec` is the same, the generation stays
 generation_stays : (g : ℕ) (before after : Data) → has_float before ≡ false → spec after ≡ spec before → g ≡ generation_after g (same_member (codes "spec") before after)

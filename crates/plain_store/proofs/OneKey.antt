@@ -18,7 +18,7 @@ use Rattle.requests.specs.declared.reply.Reason.TheVariants.{Conflict, StoreFull
 use Rattle.requests.specs.declared.verdict.Verdict.{Verdict}
 use Rattle.requests.specs.declared.verdict.Verdict.TheVariants.{Refuse, Same, Write}
 use Rattle.requests.specs.Change.{Change, accepted, kept, stamp}
-use Rattle.requests.specs.Verdict.{deleted, differs, graceful, on_delete, stated, verdict}
+use Rattle.requests.specs.Verdict.{deleted, differs, graceful, on_delete, nonempty, verdict}
 use Rattle.plain_store.specs.Store.{Store, step, carried_out, denied, put_at, routed, with_change}
 use Rattle.requests.specs.Keys.{key_named}
 use Rattle.plain_store.specs.Route.{Route, compacts, gets, lists, lists_at, route, writes}
@@ -64,7 +64,7 @@ step_elsewhere s r q other = by (route r) refl
 
 -- a delete that names another UID than the object's
 pub spared : (s : Store) (k : Key) (given version at : Option (List ℕ)) (uid : List ℕ) (current : Object)
-    → map.get s.objects k ≡ Some current → stated given ≡ Some uid → bytes_eq uid (uid_text current.meta.uid) ≡ false → step s (Delete k given version at) ≡ (s, Refused Conflict)
+    → map.get s.objects k ≡ Some current → nonempty given ≡ Some uid → bytes_eq uid (uid_text current.meta.uid) ≡ false → step s (Delete k given version at) ≡ (s, Refused Conflict)
 unfolding step route
 spared s k given version at uid current there is other =
     let old = differs version (decimal current.meta.revision) in

@@ -12,7 +12,7 @@ use Rattle.requests.specs.declared.reply.Reply.TheVariants.{Refused}
 use Rattle.requests.specs.declared.reply.Reason.TheVariants.{Conflict, Invalid}
 use Rattle.requests.specs.declared.verdict.Verdict.{Verdict}
 use Rattle.requests.specs.declared.verdict.Verdict.TheVariants.{Refuse}
-use Rattle.requests.specs.Verdict.{conflicts, deleted, differs, graceful, has_status, on_delete, on_status_of, on_update, stated, status_unless_same}
+use Rattle.requests.specs.Verdict.{conflicts, deleted, differs, graceful, has_status, on_delete, on_status_of, on_update, nonempty, status_unless_same}
 use Rattle.plain_store.specs.Route.{route}
 use Rattle.plain_store.specs.Store.{Store, step, carried_out}
 use Rattle.plain_store.specs.AtKey.{Has}
@@ -22,7 +22,7 @@ no true other = absurd (other refl)
 no false other = refl
 
 -- another version than the object's is a conflict
-stale : (given uid : Option (List ℕ)) (version : List ℕ) (o : Object) → stated given ≡ Some version → version ≢ decimal o.meta.revision → conflicts given uid o ≡ true
+stale : (given uid : Option (List ℕ)) (version : List ℕ) (o : Object) → nonempty given ≡ Some version → version ≢ decimal o.meta.revision → conflicts given uid o ≡ true
 stale given uid version o is other =
     let unequal = no (bytes_eq version (decimal o.meta.revision)) (λ tie. other ((bytes_eq-Decides version (decimal o.meta.revision)).0 tie)) in
     ap (λ g. option_map_or (λ t. not (bytes_eq t (decimal o.meta.revision))) g false || differs uid (uid_text o.meta.uid)) is ∙ ap (λ b. not b || differs uid (uid_text o.meta.uid)) unequal
@@ -30,7 +30,7 @@ stale given uid version o is other =
 refused_by : (b : Bool) (v : Verdict) → b ≡ true → cond b (Refuse Conflict) v ≡ Refuse Conflict
 refused_by b v is = ap (λ x. cond x (Refuse Conflict) v) is
 
-pub stale_update : (s : Store) (d : Draft) (version : List ℕ) (o : Object) → Has s d.object.key o → stated d.version ≡ Some version → version ≢ decimal o.meta.revision
+pub stale_update : (s : Store) (d : Draft) (version : List ℕ) (o : Object) → Has s d.object.key o → nonempty d.version ≡ Some version → version ≢ decimal o.meta.revision
     → step s (Update d) ≡ (s, Refused Conflict)
 unfolding step route
 stale_update s d version o there is other =
@@ -41,14 +41,14 @@ by_kind : (s : Store) (k : Key) (b : Bool) (v : Verdict) → v ≡ Refuse Confli
 by_kind s k true v is = ap (carried_out s k) is
 by_kind s k false v is = refl
 
-pub stale_status : (s : Store) (d : Draft) (version : List ℕ) (o : Object) → Has s d.object.key o → stated d.version ≡ Some version → version ≢ decimal o.meta.revision
+pub stale_status : (s : Store) (d : Draft) (version : List ℕ) (o : Object) → Has s d.object.key o → nonempty d.version ≡ Some version → version ≢ decimal o.meta.revision
     → step s (UpdateStatus d) ≡ (s, Refused (cond (has_status d.object.key.kind) Conflict Invalid))
 unfolding step route
 stale_status s d version o there is other =
     by_kind s d.object.key (has_status d.object.key.kind) (on_status_of d (map.get s.objects d.object.key))
     (ap (on_status_of d) there ∙ refused_by (conflicts d.version d.uid o) (status_unless_same o d) (stale d.version d.uid version o is other))
 
-pub stale_delete : (s : Store) (k : Key) (uid given at : Option (List ℕ)) (version : List ℕ) (o : Object) → Has s k o → stated given ≡ Some version → version ≢ decimal o.meta.revision
+pub stale_delete : (s : Store) (k : Key) (uid given at : Option (List ℕ)) (version : List ℕ) (o : Object) → Has s k o → nonempty given ≡ Some version → version ≢ decimal o.meta.revision
     → step s (Delete k uid given at) ≡ (s, Refused Conflict)
 unfolding step route
 stale_delete s k uid given at version o there is other =

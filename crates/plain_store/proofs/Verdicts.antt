@@ -24,7 +24,7 @@ use Rattle.requests.specs.declared.reply.Reason.TheVariants.{AlreadyExists, Conf
 use Rattle.requests.specs.declared.verdict.Verdict.{Verdict}
 use Rattle.requests.specs.declared.verdict.Verdict.TheVariants.{Refuse, Same, Write}
 use Rattle.requests.specs.Change.{Change, creates, updates, marks, removes, at_version, stamp, accepted, kept}
-use Rattle.requests.specs.Verdict.{born, changes_data, conflicts, deleted, graceful, has_status, marked, on_create, on_delete, on_status, on_status_of, on_update, same_member, stated, status_unless_same, unless_same, updated, verdict, with_status_of}
+use Rattle.requests.specs.Verdict.{born, changes_data, conflicts, deleted, graceful, has_status, marked, on_create, on_delete, on_status, on_status_of, on_update, same_member, nonempty, status_unless_same, unless_same, updated, verdict, with_status_of}
 use Rattle.requests.specs.Keys.{key_named}
 use Rattle.std.specs.Prelude.{codes}
 use Rattle.plain_store.specs.Store.{Store, step, carried_out, compacted_to, denied, put_at, routed, with_change}
@@ -70,9 +70,9 @@ either P false v w p q = q
 
 create_writes : (C : OfMade) (U : OfChanged) (n : ℕ) (d : Draft) (current : Option Object) → Allows C U n (Create d) → Writes C U n d.object.key current (on_create d current)
 create_writes C U n d None made =
-    either (Writes C U n d.object.key None) (is_some (stated d.version)) (Refuse Invalid) (Write (creates (born d.object))) tt (refl, made)
+    either (Writes C U n d.object.key None) (is_some (nonempty d.version)) (Refuse Invalid) (Write (creates (born d.object))) tt (refl, made)
 create_writes C U n d (Some o) made =
-    either (Writes C U n d.object.key (Some o)) (is_some (stated d.version)) (Refuse Invalid) (Refuse AlreadyExists) tt tt
+    either (Writes C U n d.object.key (Some o)) (is_some (nonempty d.version)) (Refuse Invalid) (Refuse AlreadyExists) tt tt
 
 update_writes : (C : OfMade) (U : OfChanged) (n : ℕ) (d : Draft) (current : Option Object) → Allows C U n (Update d) → Writes C U n d.object.key current (on_update d current)
 update_writes C U n d None changed = tt

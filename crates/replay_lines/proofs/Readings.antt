@@ -50,7 +50,7 @@ request_refused y e reading is h = subst (λ x. Fails x (unless_refused reading)
 pub no_map : (t : Tree) → ((ms : Members) → t ≡ tree.Map ms → ⊥) → as_object (data_of t) ≡ None
 no_map tree.Null other = refl
 no_map (tree.Truth b) other = refl
-no_map (tree.Whole z) other = refl
+no_map (tree.Integer z) other = refl
 no_map (tree.Text s) other = refl
 no_map (tree.List ds) other = refl
 no_map (tree.Map ms) other = absurd (other ms refl)

@@ -49,7 +49,7 @@ pub fn count_of(value: &Tree) -> Option<u64>
     ensures { result ≡ count_of (data_of value.now) }
 {
     match value {
-        Tree::Whole(number) => number.as_u64(),
+        Tree::Integer(number) => number.as_u64(),
         _ => None,
     }
 }

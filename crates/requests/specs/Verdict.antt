@@ -21,14 +21,14 @@ use Rattle.requests.specs.declared.verdict.Verdict.TheVariants.{Refuse, Same, Wr
 use Rattle.requests.specs.Change.{creates, updates, marks, removes}
 
 -- an empty text counts as none
-abbrev pub stated : Option (List ℕ) → Option (List ℕ)
-stated None = None
-stated (Some []) = None
-stated (Some (c ∷ cs)) = Some (c ∷ cs)
+abbrev pub nonempty : Option (List ℕ) → Option (List ℕ)
+nonempty None = None
+nonempty (Some []) = None
+nonempty (Some (c ∷ cs)) = Some (c ∷ cs)
 
 -- a text was given, and it is another one
 abbrev pub differs : Option (List ℕ) → List ℕ → Bool
-differs given current = option_map_or (λ t. not (bytes_eq t current)) (stated given) false
+differs precondition current = option_map_or (λ t. not (bytes_eq t current)) (nonempty precondition) false
 
 -- the resource version or the UID that was given is not the text of its number
 abbrev pub conflicts_with : Option (List ℕ) → Option (List ℕ) → (revision number : ℕ) → Bool
@@ -59,7 +59,7 @@ same_member k a b = same_found (member_of k a) (member_of k b)
 -- A create may not name a resource version, and its name has to be free.
 abbrev pub on_create : Draft → Option Object → Verdict
 on_create d current =
-    if is_some (stated d.version) then Refuse Invalid
+    if is_some (nonempty d.version) then Refuse Invalid
     else if is_some current then Refuse AlreadyExists
     else Write (creates (born d.object))
 
@@ -112,7 +112,7 @@ marked at o = record {
 -- Only a pod is deleted gracefully; for the other kinds a time is passed over.
 abbrev pub graceful : Kind → Option (List ℕ) → Option (List ℕ)
 graceful StatefulSet at = None
-graceful Pod at = stated at
+graceful Pod at = nonempty at
 graceful PersistentVolumeClaim at = None
 graceful ControllerRevision at = None
 

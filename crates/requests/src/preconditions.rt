@@ -1,16 +1,16 @@
 // What the verdicts turn on: the preconditions of a request, and whether it would change anything.
 ghost use Rattle.std.specs.Prelude.{◌≡◌, List, ℕ, Option, is_some, option_map, decimal};
 ghost use Rattle.std.specs.Option.{option_copied};
-ghost use Rattle.requests.specs.Verdict.{changes_data, conflicts, conflicts_with, differs, graceful, has_status, same_member, stated};
+ghost use Rattle.requests.specs.Verdict.{changes_data, conflicts, conflicts_with, differs, graceful, has_status, same_member, nonempty};
 ghost use Rattle.objects.specs.Uid.{uid_text};
 
 use objects::{Draft, Kind, Object, Text, is_uid_text, is_version_text, same_found};
 
-/// The text that was given. An empty one counts as none, as it does in a request line.
-pub(crate) fn stated(given: Option<&Text>) -> Option<&str>
-    ensures { option_map (λ s. s.now) result ≡ stated (option_copied given.entry) }
+/// The text, if there is one. An empty one counts as none, as it does in a request line.
+pub(crate) fn nonempty(text: Option<&Text>) -> Option<&str>
+    ensures { option_map (λ s. s.now) result ≡ nonempty (option_copied text.entry) }
 {
-    let text = given?.as_str();
+    let text = text?.as_str();
     if text.is_empty() { None } else { Some(text) }
 }
 
@@ -33,19 +33,19 @@ pub(crate) fn conflicts_with(
     differs_in_version(version, revision) || differs_in_uid(uid, number)
 }
 
-fn differs_in_version(given: Option<&Text>, revision: u64) -> bool
-    ensures { result ≡ differs (option_copied given.entry) (decimal revision) }
+fn differs_in_version(precondition: Option<&Text>, revision: u64) -> bool
+    ensures { result ≡ differs (option_copied precondition.entry) (decimal revision) }
 {
-    match stated(given) {
+    match nonempty(precondition) {
         Some(version) => !is_version_text(version, revision),
         None => false,
     }
 }
 
-fn differs_in_uid(given: Option<&Text>, number: u64) -> bool
-    ensures { result ≡ differs (option_copied given.entry) (uid_text number) }
+fn differs_in_uid(precondition: Option<&Text>, number: u64) -> bool
+    ensures { result ≡ differs (option_copied precondition.entry) (uid_text number) }
 {
-    match stated(given) {
+    match nonempty(precondition) {
         Some(uid) => !is_uid_text(uid, number),
         None => false,
     }
@@ -91,7 +91,7 @@ pub fn is_graceful(kind: Kind, at: Option<&Text>) -> bool
     ensures { result ≡ is_some (graceful kind (option_copied at.entry)) }
 {
     match kind {
-        Kind::Pod => stated(at).is_some(),
+        Kind::Pod => nonempty(at).is_some(),
         Kind::StatefulSet | Kind::PersistentVolumeClaim | Kind::ControllerRevision => false,
     }
 }

@@ -9,7 +9,7 @@ use crate::change::Change;
 use crate::change_kind::ChangeKind;
 use crate::outcomes::{born, marked, updated, with_status_of};
 use crate::preconditions::{
-    changes_data, conflicts, graceful, has_status, is_marked, same_member, stated,
+    changes_data, conflicts, graceful, has_status, is_marked, nonempty, same_member,
 };
 use crate::reply::Reason;
 use crate::request::Request;
@@ -68,7 +68,7 @@ pub fn judge(current: Option<&Object>, request: Request) -> Result<Judgment, All
 fn on_create(draft: Draft, current: Option<&Object>) -> Result<Judgment, AllocError>
     ensures { IfOk result (λ decided. verdict_of decided ≡ on_create draft (option_copied current.entry)) }
 {
-    if stated(draft.version.as_ref()).is_some() {
+    if nonempty(draft.version.as_ref()).is_some() {
         drop(draft);
         return Ok(Judgment::Refuse(Reason::Invalid));
     }

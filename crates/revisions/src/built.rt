@@ -7,7 +7,7 @@ ghost use Rattle.set_views.specs.Set.{set_parts};
 ghost use Rattle.revisions.specs.Built.{new_revision, owned_metadata, owner_reference, with_number};
 ghost use Rattle.revisions.specs.Choice.{data_with};
 
-use objects::{Items, Key, Kind, Members, Memory, Object, ReadError, Tree, Whole, uid_text};
+use objects::{Items, Key, Kind, Members, Memory, Object, ReadError, Tree, Integer, uid_text};
 use set_views::Set;
 use std::alloc::{AllocError, Global};
 
@@ -84,5 +84,5 @@ pub(crate) fn with_number(revision: &Object, number: u64) -> Result<Object, Allo
     ensures { IfOk result (λ object. object ≡ with_number revision.now number) }
 {
     let numbered = revision.clone()?;
-    numbered.with_member("revision", Some(Tree::Whole(Whole::from(number))))
+    numbered.with_member("revision", Some(Tree::Integer(Integer::from(number))))
 }

@@ -50,7 +50,7 @@ fn number_of(revision: &Object) -> u64
     ensures { result ≡ number_of revision.now }
 {
     match revision.member("revision") {
-        Some(Tree::Whole(number)) => number.as_u64().unwrap_or(0),
+        Some(Tree::Integer(number)) => number.as_u64().unwrap_or(0),
         // A revision that states no number is put among the oldest.
         _ => 0,
     }

@@ -39,7 +39,7 @@ pub(crate) fn count_of(value: &Tree) -> Option<u32>
     ensures value { result ≡ count_of (data_of value.now) }
     ensures small { IfSome result (λ count. count < 2 ^ 31) }
 {
-    let Tree::Whole(number) = value else {
+    let Tree::Integer(number) = value else {
         return None;
     };
     match number.as_u64() {

@@ -6,7 +6,7 @@ use Rattle.std.proofs.Crossing.{crosses}
 use Rattle.trees.proofs.tree.Items.TheLaws.TheKnot.{both_send-Items, both_send-Members, both_send-Tree}
 use Rattle.trees.specs.contracts.tree.Items.TheKnot.{hole-Items, hole-Members}
 use Rattle.trees.specs.contracts.text.Text as Text
-use Rattle.trees.specs.contracts.whole.Whole as Whole
+use Rattle.trees.specs.contracts.integer.Integer as Integer
 use Rattle.trees.specs.contracts.tree.Tree as Tree
 use Rattle.objects.specs.contracts.object.Object as Object
 use Rattle.objects.specs.contracts.object.Draft as Draft
@@ -37,11 +37,11 @@ Text-send = search (sendable, crosses) depth 40
 Text-sync : IsSync Text.the_row
 Text-sync = search (sendable, crosses) depth 40
 
-whole-send : IsSend (as_row Whole.the_field)
-whole-send = search (sendable, crosses) depth 40
+integer-send : IsSend (as_row Integer.the_field)
+integer-send = search (sendable, crosses) depth 40
 
-whole-sync : IsSync (as_row Whole.the_field)
-whole-sync = search (sendable, crosses) depth 40
+integer-sync : IsSync (as_row Integer.the_field)
+integer-sync = search (sendable, crosses) depth 40
 
 text-send : IsSend (as_row Text.the_field)
 text-send = search (sendable, crosses) depth 40
@@ -51,15 +51,15 @@ text-sync = search (sendable, crosses) depth 40
 
 items-send : IsSend hole-Items
 items-send = both_send-Items (λ h s y. search (sendable, crosses) depth 40) (λ h s y. search (Text-send, Text-sync, sendable, crosses) depth 40)
-    (search sendable) whole-send text-send
+    (search sendable) integer-send text-send
     (λ h s y. search (sendable, crosses) depth 40) (λ h s y. search (Text-send, Text-sync, sendable, crosses) depth 40)
-    (search sendable) whole-sync text-sync
+    (search sendable) integer-sync text-sync
 
 members-send : IsSend hole-Members
 members-send = both_send-Members (λ h s y. search (sendable, crosses) depth 40) (λ h s y. search (Text-send, Text-sync, sendable, crosses) depth 40)
-    (search sendable) whole-send text-send
+    (search sendable) integer-send text-send
     (λ h s y. search (sendable, crosses) depth 40) (λ h s y. search (Text-send, Text-sync, sendable, crosses) depth 40)
-    (search sendable) whole-sync text-sync
+    (search sendable) integer-sync text-sync
 
 tree-send : IsSend (Tree.the_field).row
 tree-send = both_send-Tree (search sendable) (search (sendable, crosses) depth 40) Text-send items-send members-send

@@ -2,13 +2,13 @@ pub mod Lookups
 pub mod Joining
 pub mod FoundMembers
 pub mod Parsing
-pub mod EntryPlaces
+pub mod EntryPositions
 pub mod SetMembers
 pub mod Chains
 pub mod Printing
 pub mod PutOrder
 pub mod CanonicalText
-pub mod WholeTokens
+pub mod IntegralTokens
 pub mod Sameness
 pub mod TextDepth
 pub mod ReadBack

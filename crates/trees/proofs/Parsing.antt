@@ -19,8 +19,8 @@ use Rattle.trees.specs.declared.fault.TreeError.TheVariants.{NotJson}
 use Rattle.trees.specs.declared.tree.Tree.{Tree}
 use Rattle.trees.specs.Steps.{Fails, required}
 use Rattle.trees.specs.Tree.{data_of, items_of, members_of}
-use Rattle.trees.specs.IfWhole.{number_if_whole, if_whole, items_if_whole, members_if_whole}
-use Rattle.trees.proofs.WholeTokens.{either_no}
+use Rattle.trees.specs.Integral.{number_if_integer, if_integral, items_if_integral, members_if_integral}
+use Rattle.trees.proofs.IntegralTokens.{either_no}
 use Rattle.trees.proofs.Joining.{join_items, join_items-none, join_items-one, items_of-push}
 
 -- ---- what was read, and what was refused
@@ -76,28 +76,28 @@ converted_object (Some p) = map_twice object p.1 (of_members p.0 no_members)
 -- ---- values of one token
 
 module _ (depth : ℕ) (ts rest : List Token) where
-  pub read_null : ts ≡ Token.null ∷ rest → required NotJson (parse_map if_whole (converted of_json (value depth ts))) ≡ Ok (Some null, rest)
-  read_null is = ap (λ o. required NotJson (parse_map if_whole (converted of_json o))) (ap (value depth) is ∙ value_is depth (Token.null ∷ rest))
+  pub read_null : ts ≡ Token.null ∷ rest → required NotJson (parse_map if_integral (converted of_json (value depth ts))) ≡ Ok (Some null, rest)
+  read_null is = ap (λ o. required NotJson (parse_map if_integral (converted of_json o))) (ap (value depth) is ∙ value_is depth (Token.null ∷ rest))
 
-  pub read_truth : (b : Bool) → ts ≡ Token.boolean b ∷ rest → required NotJson (parse_map if_whole (converted of_json (value depth ts))) ≡ Ok (Some (boolean b), rest)
-  read_truth b is = ap (λ o. required NotJson (parse_map if_whole (converted of_json o))) (ap (value depth) is ∙ value_is depth (Token.boolean b ∷ rest))
+  pub read_truth : (b : Bool) → ts ≡ Token.boolean b ∷ rest → required NotJson (parse_map if_integral (converted of_json (value depth ts))) ≡ Ok (Some (boolean b), rest)
+  read_truth b is = ap (λ o. required NotJson (parse_map if_integral (converted of_json o))) (ap (value depth) is ∙ value_is depth (Token.boolean b ∷ rest))
 
-  pub read_text : (s : List ℕ) → ts ≡ Token.string s ∷ rest → required NotJson (parse_map if_whole (converted of_json (value depth ts))) ≡ Ok (Some (string s), rest)
-  read_text s is = ap (λ o. required NotJson (parse_map if_whole (converted of_json o))) (ap (value depth) is ∙ value_is depth (Token.string s ∷ rest))
+  pub read_text : (s : List ℕ) → ts ≡ Token.string s ∷ rest → required NotJson (parse_map if_integral (converted of_json (value depth ts))) ≡ Ok (Some (string s), rest)
+  read_text s is = ap (λ o. required NotJson (parse_map if_integral (converted of_json o))) (ap (value depth) is ∙ value_is depth (Token.string s ∷ rest))
 
-  pub no_value : value depth ts ≡ None → required NotJson (parse_map if_whole (converted of_json (value depth ts))) ≡ Err NotJson
-  no_value none = ap (λ o. required NotJson (parse_map if_whole (converted of_json o))) none
+  pub no_value : value depth ts ≡ None → required NotJson (parse_map if_integral (converted of_json (value depth ts))) ≡ Err NotJson
+  no_value none = ap (λ o. required NotJson (parse_map if_integral (converted of_json o))) none
 
 number_by : (b : Bool) (n : Num) → cond b None (Some (number n)) ≡ option_map number (cond b None (Some n))
 number_by true n = refl
 number_by false n = refl
 
-number_under : (o : Option Num) (rest : List Token) (x : Option Num) → required NotJson (option_map number_if_whole o) ≡ Ok x
-    → required NotJson (parse_map if_whole (option_map (λ d. (d, rest)) (option_map number o))) ≡ Ok (option_map number x, rest)
+number_under : (o : Option Num) (rest : List Token) (x : Option Num) → required NotJson (option_map number_if_integer o) ≡ Ok x
+    → required NotJson (parse_map if_integral (option_map (λ d. (d, rest)) (option_map number o))) ≡ Ok (option_map number x, rest)
 number_under None rest x read = absurd cc
-number_under (Some n) rest x read = let same : number_if_whole n ≡ x = cc in ap (λ y. Ok (y, rest)) (number_by (is_float n) n ∙ ap (option_map number) same)
+number_under (Some n) rest x read = let same : number_if_integer n ≡ x = cc in ap (λ y. Ok (y, rest)) (number_by (is_float n) n ∙ ap (option_map number) same)
 
-no_number_under : (o : Option Num) (rest : List Token) → option_map number_if_whole o ≡ None → parse_map if_whole (option_map (λ d. (d, rest)) (option_map number o)) ≡ None
+no_number_under : (o : Option Num) (rest : List Token) → option_map number_if_integer o ≡ None → parse_map if_integral (option_map (λ d. (d, rest)) (option_map number o)) ≡ None
 no_number_under None rest none = refl
 no_number_under (Some n) rest none = absurd cc
 
@@ -105,11 +105,11 @@ module _ (depth : ℕ) (ts rest : List Token) (s : List ℕ) (is : ts ≡ Token.
   at_number : converted of_json (value depth ts) ≡ option_map (λ d. (d, rest)) (option_map number (number_of s))
   at_number = ap (converted of_json) (ap (value depth) is ∙ value_is depth (Token.number s ∷ rest))
 
-  pub read_number : (x : Option Num) → required NotJson (option_map number_if_whole (number_of s)) ≡ Ok x → required NotJson (parse_map if_whole (converted of_json (value depth ts))) ≡ Ok (option_map number x, rest)
-  read_number x read = ap (λ o. required NotJson (parse_map if_whole o)) at_number ∙ number_under (number_of s) rest x read
+  pub read_number : (x : Option Num) → required NotJson (option_map number_if_integer (number_of s)) ≡ Ok x → required NotJson (parse_map if_integral (converted of_json (value depth ts))) ≡ Ok (option_map number x, rest)
+  read_number x read = ap (λ o. required NotJson (parse_map if_integral o)) at_number ∙ number_under (number_of s) rest x read
 
-  pub number_refused : (e : TreeError) → Fails e (required NotJson (option_map number_if_whole (number_of s))) → Fails e (required NotJson (parse_map if_whole (converted of_json (value depth ts))))
-  number_refused e h = refused_too e (option_map number_if_whole (number_of s)) _ (λ none. ap (parse_map if_whole) at_number ∙ no_number_under (number_of s) rest none) h
+  pub number_refused : (e : TreeError) → Fails e (required NotJson (option_map number_if_integer (number_of s))) → Fails e (required NotJson (parse_map if_integral (converted of_json (value depth ts))))
+  number_refused e h = refused_too e (option_map number_if_integer (number_of s)) _ (λ none. ap (parse_map if_integral) at_number ∙ no_number_under (number_of s) rest none) h
 
 -- ---- items
 
@@ -156,9 +156,9 @@ floats_one : (ds : Items) (d : Data) → items_have_float (join_items ds (item d
 floats_one no_items d = or_false (has_float d)
 floats_one (item c ds) d = ap (λ b. has_float c || b) (floats_one ds d) ∙ or_again (has_float c) (items_have_float ds) (has_float d)
 
--- the items of the trees, if all that were read are whole
+-- the items of the trees, if all that were read are integral
 abbrev pub items_so_far : Bool → List Tree → Option Items
-items_so_far are_whole ts = cond are_whole (Some (items_of ts)) None
+items_so_far are_integral ts = cond are_integral (Some (items_of ts)) None
 
 push_by : (b c w : Bool) (ds : Items) (d : Data) (ts : List Tree) (t : Tree) → cond b None (Some ds) ≡ items_so_far w ts → cond c None (Some d) ≡ Some (data_of t)
     → cond (b || c) None (Some (join_items ds (item d no_items))) ≡ items_so_far w (ts ++ t ∷ [])
@@ -178,8 +178,8 @@ drop_by false false d es k = absurd cc
 
 -- the items so far, and then those that are left, are all
 abbrev pub AreItemsSoFar : Parse json.Json → Option (Items × List Token) → Bool → List Tree → List Token → Type 0
-AreItemsSoFar p all are_whole ts left =
-    (done : Items) × (n : ℕ) × (length left ≤ n) × (all ≡ parse_map (join_items done) (converted of_items (items p n left))) × (items_if_whole done ≡ items_so_far are_whole ts)
+AreItemsSoFar p all are_integral ts left =
+    (done : Items) × (n : ℕ) × (length left ≤ n) × (all ≡ parse_map (join_items done) (converted of_items (items p n left))) × (items_if_integral done ≡ items_so_far are_integral ts)
 
 module _ (p : Parse json.Json) where
   pub items_begin : (left : List Token) (ts : List Tree) → ts ≡ [] → AreItemsSoFar p (converted of_items (items p (length left) left)) true ts left
@@ -191,10 +191,10 @@ module _ (p : Parse json.Json) where
     item_turn r d going read less =
         is.3 ∙ ap (parse_map (join_items is.0)) (item_read p is.1 left r d (omega (arith, is.2)) going read) ∙ join_more is.0 d (converted of_items (items p (is.1 - 1) r))
 
-    pub items_push : (r : List Token) (new : List Tree) (t : Tree) → after_end_array left ≡ None → required NotJson (parse_map if_whole (converted of_json (p left))) ≡ Ok (Some (data_of t), r)
+    pub items_push : (r : List Token) (new : List Tree) (t : Tree) → after_end_array left ≡ None → required NotJson (parse_map if_integral (converted of_json (p left))) ≡ Ok (Some (data_of t), r)
         → length r < length left → new ≡ ts ++ t ∷ [] → AreItemsSoFar p all w new r
     items_push r new t going read less pushed =
-        let d = was_read if_whole (converted of_json (p left)) (Some (data_of t)) r read in (
+        let d = was_read if_integral (converted of_json (p left)) (Some (data_of t)) r read in (
           join_items is.0 (item d.0 no_items),
           is.1 - 1,
           omega (arith, is.2),
@@ -202,9 +202,9 @@ module _ (p : Parse json.Json) where
           ap (λ b. cond b None (Some (join_items is.0 (item d.0 no_items)))) (floats_one is.0 d.0) ∙ push_by (items_have_float is.0) (has_float d.0) w is.0 d.0 ts t is.4 d.2 ∙ ap (items_so_far w) (sym pushed),
         )
 
-    pub items_drop : (r : List Token) → after_end_array left ≡ None → required NotJson (parse_map if_whole (converted of_json (p left))) ≡ Ok (None, r) → length r < length left → AreItemsSoFar p all false ts r
+    pub items_drop : (r : List Token) → after_end_array left ≡ None → required NotJson (parse_map if_integral (converted of_json (p left))) ≡ Ok (None, r) → length r < length left → AreItemsSoFar p all false ts r
     items_drop r going read less =
-        let d = was_read if_whole (converted of_json (p left)) None r read in (
+        let d = was_read if_integral (converted of_json (p left)) None r read in (
           join_items is.0 (item d.0 no_items),
           is.1 - 1,
           omega (arith, is.2),
@@ -212,14 +212,14 @@ module _ (p : Parse json.Json) where
           ap (λ b. cond b None (Some (join_items is.0 (item d.0 no_items)))) (floats_one is.0 d.0) ∙ drop_by (items_have_float is.0) (has_float d.0) d.0 _ d.2,
         )
 
-    pub items_refused : (e : TreeError) → after_end_array left ≡ None → Fails e (required NotJson (parse_map if_whole (converted of_json (p left)))) → Fails e (required NotJson (parse_map items_if_whole all))
+    pub items_refused : (e : TreeError) → after_end_array left ≡ None → Fails e (required NotJson (parse_map if_integral (converted of_json (p left)))) → Fails e (required NotJson (parse_map items_if_integral all))
     items_refused e going h =
-        refused_too e (parse_map if_whole (converted of_json (p left))) (parse_map items_if_whole all)
-        (λ none. ap (parse_map items_if_whole) (is.3 ∙ ap (parse_map (join_items is.0)) (item_refused p is.1 left going (nothing_mapped if_whole (converted of_json (p left)) none)))) h
+        refused_too e (parse_map if_integral (converted of_json (p left))) (parse_map items_if_integral all)
+        (λ none. ap (parse_map items_if_integral) (is.3 ∙ ap (parse_map (join_items is.0)) (item_refused p is.1 left going (nothing_mapped if_integral (converted of_json (p left)) none)))) h
 
-    pub items_finish : (r : List Token) → after_end_array left ≡ Some r → required NotJson (parse_map items_if_whole all) ≡ Ok (items_so_far w ts, r)
+    pub items_finish : (r : List Token) → after_end_array left ≡ Some r → required NotJson (parse_map items_if_integral all) ≡ Ok (items_so_far w ts, r)
     items_finish r closed =
-        now_read items_if_whole all is.0 (items_so_far w ts) r
+        now_read items_if_integral all is.0 (items_so_far w ts) r
         (is.3 ∙ ap (λ o. parse_map (join_items is.0) (converted of_items o)) (items_end p is.1 left r is.2 closed) ∙ ap (λ ds. Some (ds, r)) (join_items-none is.0)) is.4
 
 -- ---- members
@@ -262,53 +262,53 @@ module _ (p : Parse json.Json) where
               ∙ ap (λ (old : Members). converted (λ ms. of_members ms old) (members p (is.0 - 1) r)) (sym put),
         )
 
-    pub members_no_key_left : read_key left ≡ None → parse_map members_if_whole all ≡ None
-    members_no_key_left none = ap (parse_map members_if_whole) (is.2 ∙ ap (converted (λ ms. of_members ms found)) (members_no_key p is.0 left none))
+    pub members_no_key_left : read_key left ≡ None → parse_map members_if_integral all ≡ None
+    members_no_key_left none = ap (parse_map members_if_integral) (is.2 ∙ ap (converted (λ ms. of_members ms found)) (members_no_key p is.0 left none))
 
-    pub members_refused : (e : TreeError) (k : List ℕ) (s : List Token) → read_key left ≡ Some (Some k, s) → Fails e (required NotJson (parse_map if_whole (converted of_json (p s))))
-        → Fails e (required NotJson (parse_map members_if_whole all))
+    pub members_refused : (e : TreeError) (k : List ℕ) (s : List Token) → read_key left ≡ Some (Some k, s) → Fails e (required NotJson (parse_map if_integral (converted of_json (p s))))
+        → Fails e (required NotJson (parse_map members_if_integral all))
     members_refused e k s key h =
-        refused_too e (parse_map if_whole (converted of_json (p s))) (parse_map members_if_whole all)
-        (λ none. ap (parse_map members_if_whole) (is.2 ∙ member_refused p found is.0 k left s key (nothing_mapped if_whole (converted of_json (p s)) none))) h
+        refused_too e (parse_map if_integral (converted of_json (p s))) (parse_map members_if_integral all)
+        (λ none. ap (parse_map members_if_integral) (is.2 ∙ member_refused p found is.0 k left s key (nothing_mapped if_integral (converted of_json (p s)) none))) h
 
-    pub members_finish : (r : List Token) (x : Option Members) → read_key left ≡ Some (None, r) → members_if_whole found ≡ x → required NotJson (parse_map members_if_whole all) ≡ Ok (x, r)
+    pub members_finish : (r : List Token) (x : Option Members) → read_key left ≡ Some (None, r) → members_if_integral found ≡ x → required NotJson (parse_map members_if_integral all) ≡ Ok (x, r)
     members_finish r x closed whole =
-        now_read members_if_whole all found x r (is.2 ∙ ap (converted (λ ms. of_members ms found)) (members_end p is.0 left r is.1 closed)) whole
+        now_read members_if_integral all found x r (is.2 ∙ ap (converted (λ ms. of_members ms found)) (members_end p is.0 left r is.1 closed)) whole
 
-whole_is_by : (b : Bool) (d e : Data) → cond b None (Some d) ≡ Some e → (b ≡ false) × (d ≡ e)
-whole_is_by true d e is = absurd cc
-whole_is_by false d e is = (refl, cc)
+integral_is_by : (b : Bool) (d e : Data) → cond b None (Some d) ≡ Some e → (b ≡ false) × (d ≡ e)
+integral_is_by true d e is = absurd cc
+integral_is_by false d e is = (refl, cc)
 
-whole_put_at : (o : Ordering) (k l : List ℕ) (d e : Data) (ms : Members) → has_float d ≡ false → members_have_float (member l e ms) ≡ false → members_have_float (put k d ms) ≡ false → has_float e ≡ false
+integral_put_at : (o : Ordering) (k l : List ℕ) (d e : Data) (ms : Members) → has_float d ≡ false → members_have_float (member l e ms) ≡ false → members_have_float (put k d ms) ≡ false → has_float e ≡ false
     → members_have_float (match_ordering o (member k d (member l e ms)) (member l d ms) (member l e (put k d ms))) ≡ false
-whole_put_at Less k l d e ms one all later first = either_no (has_float d) (members_have_float (member l e ms)) one all
-whole_put_at Equal k l d e ms one all later first = either_no (has_float d) (members_have_float ms) one (ap (λ b. b || members_have_float ms) (sym first) ∙ all)
-whole_put_at Greater k l d e ms one all later first = either_no (has_float e) (members_have_float (put k d ms)) first later
+integral_put_at Less k l d e ms one all later first = either_no (has_float d) (members_have_float (member l e ms)) one all
+integral_put_at Equal k l d e ms one all later first = either_no (has_float d) (members_have_float ms) one (ap (λ b. b || members_have_float ms) (sym first) ∙ all)
+integral_put_at Greater k l d e ms one all later first = either_no (has_float e) (members_have_float (put k d ms)) first later
 
--- a whole value that is put leaves the members whole
-whole_put : (k : List ℕ) (d : Data) (ms : Members) → has_float d ≡ false → members_have_float ms ≡ false → members_have_float (put k d ms) ≡ false
-whole_put k d no_members one all = either_no (has_float d) false one refl
-whole_put k d (member l e ms) one all =
+-- an integral value that is put leaves the members integral
+integral_put : (k : List ℕ) (d : Data) (ms : Members) → has_float d ≡ false → members_have_float ms ≡ false → members_have_float (put k d ms) ≡ false
+integral_put k d no_members one all = either_no (has_float d) false one refl
+integral_put k d (member l e ms) one all =
     let both = or_parts (has_float e) (members_have_float ms) all in
-    whole_put_at (slice_cmp nat_cmp k l) k l d e ms one all (whole_put k d ms one both.1) both.0
+    integral_put_at (slice_cmp nat_cmp k l) k l d e ms one all (integral_put k d ms one both.1) both.0
 
 -- one more entry was read, and put to its place
 pub entries_turn : (p : Parse json.Json) (all : Option (Members × List Token)) (es new : List (List ℕ × Tree)) (left s r : List Token) (k : List ℕ) (t : Tree) → AreMembersSoFar p all (members_of es) left → read_key left ≡ Some (Some k, s)
-    → required NotJson (parse_map if_whole (converted of_json (p s))) ≡ Ok (Some (data_of t), r) → length r < length s → members_of new ≡ put k (data_of t) (members_of es) → members_have_float (members_of es) ≡ false
+    → required NotJson (parse_map if_integral (converted of_json (p s))) ≡ Ok (Some (data_of t), r) → length r < length s → members_of new ≡ put k (data_of t) (members_of es) → members_have_float (members_of es) ≡ false
     → AreMembersSoFar p all (members_of new) r × (members_have_float (members_of new) ≡ false)
 entries_turn p all es new left s r k t is key read less put_there whole =
-    let d = was_read if_whole (converted of_json (p s)) (Some (data_of t)) r read in
-    let one = whole_is_by (has_float d.0) d.0 (data_of t) d.2 in
+    let d = was_read if_integral (converted of_json (p s)) (Some (data_of t)) r read in
+    let one = integral_is_by (has_float d.0) d.0 (data_of t) d.2 in
     let same : members_of new ≡ put k d.0 (members_of es) = put_there ∙ ap (λ x. put k x (members_of es)) (sym one.1) in
-    (members_turn p all (members_of es) left is k s r d.0 (members_of new) key d.1 less same, ap members_have_float same ∙ whole_put k d.0 (members_of es) one.0 whole)
+    (members_turn p all (members_of es) left is k s r d.0 (members_of new) key d.1 less same, ap members_have_float same ∙ integral_put k d.0 (members_of es) one.0 whole)
 
 -- ---- lists and maps within a depth
 
-read_under : {A : Type 0} (whole : A → Option A) (g : A → Data) → ((a : A) → if_whole (g a) ≡ option_map g (whole a)) → (o : Option (A × List Token)) (x : Option A) (r : List Token)
-    → required NotJson (parse_map whole o) ≡ Ok (x, r) → required NotJson (parse_map if_whole (parse_map g o)) ≡ Ok (option_map g x, r)
+read_under : {A : Type 0} (whole : A → Option A) (g : A → Data) → ((a : A) → if_integral (g a) ≡ option_map g (whole a)) → (o : Option (A × List Token)) (x : Option A) (r : List Token)
+    → required NotJson (parse_map whole o) ≡ Ok (x, r) → required NotJson (parse_map if_integral (parse_map g o)) ≡ Ok (option_map g x, r)
 read_under whole g both o x r read =
     let a = was_read whole o x r read in
-    now_read if_whole (parse_map g o) (g a.0) (option_map g x) r (ap (parse_map g) a.1) (both a.0 ∙ ap (option_map g) a.2)
+    now_read if_integral (parse_map g o) (g a.0) (option_map g x) r (ap (parse_map g) a.1) (both a.0 ∙ ap (option_map g) a.2)
 
 array_by : (b : Bool) (ds : Items) → cond b None (Some (array ds)) ≡ option_map array (cond b None (Some ds))
 array_by true ds = refl
@@ -322,13 +322,13 @@ nothing_under : {A B : Type 0} (f : A → Option A) (g : A → B) (h : B → Opt
 nothing_under f g h None e = refl
 nothing_under f g h (Some p) e = absurd cc
 
-pub no_list : (depth : ℕ) (ts : List Token) → depth ≡ 0 → required NotJson (parse_map if_whole (converted of_json (value depth (Token.begin_array ∷ ts)))) ≡ Err NotJson
+pub no_list : (depth : ℕ) (ts : List Token) → depth ≡ 0 → required NotJson (parse_map if_integral (converted of_json (value depth (Token.begin_array ∷ ts)))) ≡ Err NotJson
 unfolding value
-no_list depth ts none = ap (λ d. required NotJson (parse_map if_whole (converted of_json (value d (Token.begin_array ∷ ts))))) none
+no_list depth ts none = ap (λ d. required NotJson (parse_map if_integral (converted of_json (value d (Token.begin_array ∷ ts))))) none
 
-pub no_map : (depth : ℕ) (ts : List Token) → depth ≡ 0 → required NotJson (parse_map if_whole (converted of_json (value depth (Token.begin_object ∷ ts)))) ≡ Err NotJson
+pub no_map : (depth : ℕ) (ts : List Token) → depth ≡ 0 → required NotJson (parse_map if_integral (converted of_json (value depth (Token.begin_object ∷ ts)))) ≡ Err NotJson
 unfolding value
-no_map depth ts none = ap (λ d. required NotJson (parse_map if_whole (converted of_json (value d (Token.begin_object ∷ ts))))) none
+no_map depth ts none = ap (λ d. required NotJson (parse_map if_integral (converted of_json (value d (Token.begin_object ∷ ts))))) none
 
 module _ (depth : ℕ) (ts : List Token) (some : 0 < depth) where
   list_opens : converted of_json (value depth (Token.begin_array ∷ ts)) ≡ parse_map array (converted of_items (items (value (depth - 1)) (length ts) ts))
@@ -337,18 +337,18 @@ module _ (depth : ℕ) (ts : List Token) (some : 0 < depth) where
   map_opens : converted of_json (value depth (Token.begin_object ∷ ts)) ≡ parse_map object (converted (λ ms. of_members ms no_members) (members (value (depth - 1)) (length ts) ts))
   map_opens = ap (converted of_json) (value-begin_object depth ts some) ∙ converted_object (members (value (depth - 1)) (length ts) ts)
 
-  pub list_read : (x : Option Items) (r : List Token) → required NotJson (parse_map items_if_whole (converted of_items (items (value (depth - 1)) (length ts) ts))) ≡ Ok (x, r)
-      → required NotJson (parse_map if_whole (converted of_json (value depth (Token.begin_array ∷ ts)))) ≡ Ok (option_map array x, r)
-  list_read x r read = ap (λ o. required NotJson (parse_map if_whole o)) list_opens ∙ read_under items_if_whole array (λ ds. array_by (items_have_float ds) ds) _ x r read
+  pub list_read : (x : Option Items) (r : List Token) → required NotJson (parse_map items_if_integral (converted of_items (items (value (depth - 1)) (length ts) ts))) ≡ Ok (x, r)
+      → required NotJson (parse_map if_integral (converted of_json (value depth (Token.begin_array ∷ ts)))) ≡ Ok (option_map array x, r)
+  list_read x r read = ap (λ o. required NotJson (parse_map if_integral o)) list_opens ∙ read_under items_if_integral array (λ ds. array_by (items_have_float ds) ds) _ x r read
 
-  pub map_read : (x : Option Members) (r : List Token) → required NotJson (parse_map members_if_whole (converted (λ ms. of_members ms no_members) (members (value (depth - 1)) (length ts) ts))) ≡ Ok (x, r)
-      → required NotJson (parse_map if_whole (converted of_json (value depth (Token.begin_object ∷ ts)))) ≡ Ok (option_map object x, r)
-  map_read x r read = ap (λ o. required NotJson (parse_map if_whole o)) map_opens ∙ read_under members_if_whole object (λ ms. object_by (members_have_float ms) ms) _ x r read
+  pub map_read : (x : Option Members) (r : List Token) → required NotJson (parse_map members_if_integral (converted (λ ms. of_members ms no_members) (members (value (depth - 1)) (length ts) ts))) ≡ Ok (x, r)
+      → required NotJson (parse_map if_integral (converted of_json (value depth (Token.begin_object ∷ ts)))) ≡ Ok (option_map object x, r)
+  map_read x r read = ap (λ o. required NotJson (parse_map if_integral o)) map_opens ∙ read_under members_if_integral object (λ ms. object_by (members_have_float ms) ms) _ x r read
 
-  pub list_refused : (e : TreeError) → Fails e (required NotJson (parse_map items_if_whole (converted of_items (items (value (depth - 1)) (length ts) ts))))
-      → Fails e (required NotJson (parse_map if_whole (converted of_json (value depth (Token.begin_array ∷ ts)))))
-  list_refused e h = refused_too e _ _ (λ none. ap (parse_map if_whole) list_opens ∙ nothing_under items_if_whole array if_whole _ none) h
+  pub list_refused : (e : TreeError) → Fails e (required NotJson (parse_map items_if_integral (converted of_items (items (value (depth - 1)) (length ts) ts))))
+      → Fails e (required NotJson (parse_map if_integral (converted of_json (value depth (Token.begin_array ∷ ts)))))
+  list_refused e h = refused_too e _ _ (λ none. ap (parse_map if_integral) list_opens ∙ nothing_under items_if_integral array if_integral _ none) h
 
-  pub map_refused : (e : TreeError) → Fails e (required NotJson (parse_map members_if_whole (converted (λ ms. of_members ms no_members) (members (value (depth - 1)) (length ts) ts))))
-      → Fails e (required NotJson (parse_map if_whole (converted of_json (value depth (Token.begin_object ∷ ts)))))
-  map_refused e h = refused_too e _ _ (λ none. ap (parse_map if_whole) map_opens ∙ nothing_under members_if_whole object if_whole _ none) h
+  pub map_refused : (e : TreeError) → Fails e (required NotJson (parse_map members_if_integral (converted (λ ms. of_members ms no_members) (members (value (depth - 1)) (length ts) ts))))
+      → Fails e (required NotJson (parse_map if_integral (converted of_json (value depth (Token.begin_object ∷ ts)))))
+  map_refused e h = refused_too e _ _ (λ none. ap (parse_map if_integral) map_opens ∙ nothing_under members_if_integral object if_integral _ none) h

@@ -6,19 +6,19 @@ use Rattle.serde_json.specs.Find.{of_integer}
 use Rattle.serde_json.specs.Read.{number_of}
 use Rattle.serde_json.specs.Written.{number_text}
 use Rattle.serde_json.proofs.Numbers.{number_of-decimal, number_of-negative}
-use Rattle.trees.specs.declared.whole.Number.{Number}
-use Rattle.trees.specs.declared.whole.Number.TheVariants.{Count, Below}
-use Rattle.trees.specs.Whole.{IsWhole, number_of as held_number}
+use Rattle.trees.specs.declared.integer.Number.{Number}
+use Rattle.trees.specs.declared.integer.Number.TheVariants.{Count, Below}
+use Rattle.trees.specs.Integer.{IsInteger, number_of as held_number}
 use Rattle.trees.specs.declared.tree.Tree.{Tree}
 use Rattle.trees.specs.Tree.{data_of, items_of, members_of}
 
-canonical_number : (w : Number) → IsWhole w → number_of (number_text (of_integer (held_number w))) ≡ Some (of_integer (held_number w))
+canonical_number : (w : Number) → IsInteger w → number_of (number_text (of_integer (held_number w))) ≡ Some (of_integer (held_number w))
 canonical_number (Count n) fits = number_of-decimal n fits
 canonical_number (Below (pos n)) fits = absurd fits
 canonical_number (Below (negsuc n)) fits = number_of-negative n fits
 
 -- the number's digits are read as the number again
-pub number_canonical : (w : Number) (z : ℤ) → held_number w ≡ z → IsWhole w → number_of (number_text (of_integer z)) ≡ Some (of_integer z)
+pub number_canonical : (w : Number) (z : ℤ) → held_number w ≡ z → IsInteger w → number_of (number_text (of_integer z)) ≡ Some (of_integer z)
 number_canonical w z is fits = subst (λ x. number_of (number_text (of_integer x)) ≡ Some (of_integer x)) is (canonical_number w fits)
 
 pub item_depth : (ts : List Tree) (i : ℕ) (t : Tree) → i < length ts → t ≡ get_or ts i t → depth (data_of t) ≤ items_depth (items_of ts)

@@ -11,15 +11,15 @@ use Rattle.serde_json.specs.Written.{outline, has_float}
 use Rattle.trees.specs.declared.fault.TreeError.TheVariants.{NotJson, TooLong}
 use Rattle.trees.specs.Canonical.{IsCanonical}
 use Rattle.trees.specs.Steps.{◌>>=◌, required}
-use Rattle.trees.specs.Reading.{most_bytes, json_value, whole_value, tree_reading}
+use Rattle.trees.specs.Reading.{most_bytes, json_value, integral_value, tree_reading}
 use Rattle.trees.proofs.CanonicalText.{read_back}
-use Rattle.trees.proofs.WholeTokens.{no_float}
+use Rattle.trees.proofs.IntegralTokens.{no_float}
 
 long_by : (b : Bool) (most n : ℕ) → nat_lt most n ≡ b → n ≤ most → b ≡ false
 long_by true most n is short = absurd (let long : most < n = ltb-true most n is in omega arith)
 long_by false most n is short = refl
 
-data_by : (t : List ℕ) (d : Data) (long : Bool) → long ≡ false → is_utf8 t ≡ true → read t ≡ Some d → has_float d ≡ false → cond long (Err TooLong) (required NotJson (json_value t) >>= whole_value) ≡ Ok d
+data_by : (t : List ℕ) (d : Data) (long : Bool) → long ≡ false → is_utf8 t ≡ true → read t ≡ Some d → has_float d ≡ false → cond long (Err TooLong) (required NotJson (json_value t) >>= integral_value) ≡ Ok d
 data_by t d long short text is whole = rw (short, text, is, whole) refl
 
 -- a text with the tokens of a canonical value reads as that value

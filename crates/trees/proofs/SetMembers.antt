@@ -1,4 +1,4 @@
--- Members that are set and taken away: by the place of the key, and what stays as it was.
+-- Members that are set and taken away: by the position of the key, and what stays as it was.
 use Rattle.std.proofs.Common.{◌≡◌, ℕ, zero, suc, ◌≤◌, length, arith, List, [], ◌∷◌, Bool, true, false, cond, Option, Some, None, refl, sym, ap, ◌∙◌, subst, get_or}
 use Rattle.std.specs.Prelude.{bytes_eq, insert, remove, slice_set}
 use Rattle.std.specs.Ordering.{nat_cmp, match_ordering, is_eq}
@@ -11,11 +11,11 @@ use Rattle.serde_json.specs.Find.{get_member}
 use Rattle.serde_json.proofs.Views.{get_member-put_other}
 use Rattle.trees.specs.declared.tree.Tree.{Tree}
 use Rattle.trees.specs.Tree.{data_of, members_of, ComesBefore, AreAscending}
-use Rattle.trees.specs.Places.{IsAt, IsGap}
+use Rattle.trees.specs.Positions.{IsAt, IsGap}
 use Rattle.trees.specs.Members.{without_member, set_member}
 use Rattle.trees.proofs.Lookups.{found_later}
 use Rattle.trees.proofs.PutOrder.{before_next, equal_texts}
-use Rattle.trees.proofs.EntryPlaces.{ascending_put}
+use Rattle.trees.proofs.EntryPositions.{ascending_put}
 
 equal_is : (k l : List ℕ) → slice_cmp nat_cmp k l ≡ Equal → bytes_eq k l ≡ true
 equal_is k l h = sym (is_eq-slice_cmp k l) ∙ ap is_eq h
@@ -32,7 +32,7 @@ without_before k no_members before ascending = refl
 without_before k (member l d ms) before ascending =
     rw (below_is k l before) (ap (member l d) (without_before k ms (before_next k l ms before ascending.0) ascending.1))
 
--- the entries without the one at the place are the members without the key
+-- the entries without the one at the position are the members without the key
 removed : (k : List ℕ) (n : ℕ) (es : List (List ℕ × Tree)) → IsAt k n es → AreAscending (members_of es) → members_of (remove es n) ≡ without_member k (members_of es)
 removed k zero [] h ascending = absurd h
 removed k (suc n) [] h ascending = absurd h

@@ -1,13 +1,13 @@
 -- ---- what public clauses cite
-pub mod Whole
+pub mod Integer
 pub mod Tree
 pub mod Members
 pub mod Building
-pub mod Places
+pub mod Positions
 pub mod Same
 pub mod Steps
 pub mod Reading
-pub mod IfWhole
+pub mod Integral
 pub mod Canonical
 pub mod Codes
 -- ---- what only proofs use

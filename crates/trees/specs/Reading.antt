@@ -23,9 +23,9 @@ abbrev pub json_value : List ℕ → Option Data
 json_value bytes = if is_utf8 bytes then read bytes else None
 
 -- a number that fits neither 64 bits unsigned nor signed is a float in `serde_json`'s reading
-abbrev pub whole_value : Data → Result Data TreeError
-whole_value d = guarded NotWhole (not (has_float d)) d
+abbrev pub integral_value : Data → Result Data TreeError
+integral_value d = guarded NotWhole (not (has_float d)) d
 
 -- the value of a text that is short enough, and whose numbers are whole
 unfoldable pub tree_reading : List ℕ → Result Data TreeError
-tree_reading bytes = if nat_lt most_bytes (length bytes) then Err TooLong else required NotJson (json_value bytes) >>= whole_value
+tree_reading bytes = if nat_lt most_bytes (length bytes) then Err TooLong else required NotJson (json_value bytes) >>= integral_value

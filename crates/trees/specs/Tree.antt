@@ -11,7 +11,7 @@ use Rattle.trees.specs.declared.tree.Tree.TheVariants as tree
 abbrev pub data_of : Tree → Data
 data_of tree.Null = null
 data_of (tree.Truth b) = boolean b
-data_of (tree.Whole z) = number (of_integer z)
+data_of (tree.Integer z) = number (of_integer z)
 data_of (tree.Text s) = string s
 data_of (tree.List ds) = array ds
 data_of (tree.Map ms) = object ms

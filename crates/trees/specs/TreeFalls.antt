@@ -12,7 +12,7 @@ use Rattle.trees.specs.Tree.{data_of, items_of, members_of}
 deep_le-depth : (t : Tree) → deep-Tree t ≤ depth (data_of t)
 deep_le-depth tree.Null = omega arith
 deep_le-depth (tree.Truth b) = omega arith
-deep_le-depth (tree.Whole z) = omega arith
+deep_le-depth (tree.Integer z) = omega arith
 deep_le-depth (tree.Text s) = omega arith
 deep_le-depth (tree.List ds) = omega arith
 deep_le-depth (tree.Map ms) = omega arith

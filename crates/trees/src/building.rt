@@ -4,9 +4,9 @@ ghost use Rattle.serde_json.specs.Data.{no_members, put, string};
 ghost use Rattle.trees.specs.Tree.{data_of};
 ghost use Rattle.trees.specs.Building.{put_number, put_some};
 
+use crate::integer::Integer;
 use crate::text::Text;
 use crate::tree::{Members, Tree};
-use crate::whole::Whole;
 use std::alloc::{AllocError, Global};
 
 impl Members {
@@ -39,6 +39,6 @@ impl Members {
     pub fn with_number(self, key: &str, number: u64) -> Result<Members, AllocError>
         ensures { IfOk result (λ members. members ≡ put_number key.now number self) }
     {
-        self.with(key, Some(Tree::Whole(Whole::from(number))))
+        self.with(key, Some(Tree::Integer(Integer::from(number))))
     }
 }

@@ -2,7 +2,7 @@
 ghost use Rattle.std.specs.Prelude.{◌≡◌, false, IfOk, IfSome, option_map};
 ghost use Rattle.serde_json.specs.Written.{members_have_float};
 ghost use Rattle.trees.specs.Tree.{members_of, AreAscending};
-ghost use Rattle.trees.specs.IfWhole.{found_in, found_of, all_whole};
+ghost use Rattle.trees.specs.Integral.{found_in, found_of, all_integral};
 
 use crate::text::Text;
 use crate::tree::Tree;
@@ -16,7 +16,7 @@ pub(crate) fn by_key(
     entries: Vec<(Text, Tree)>,
 ) -> Result<BTreeMap<Text, Option<Tree>>, Memory>
     requires ascending { AreAscending (members_of entries.items) }
-    requires whole { members_have_float (members_of entries.items) ≡ false }
+    requires integral { members_have_float (members_of entries.items) ≡ false }
     ensures { IfOk result (λ found. found_of found.entries ≡ found_in (members_of entries.items)) }
 {
     let mut found = BTreeMap::new(alloc);
@@ -27,12 +27,12 @@ pub(crate) fn by_key(
     Ok(found)
 }
 
-/// The entries of these members, or `None` where a value is not whole.
-pub(crate) fn whole_entries(
+/// The entries of these members, or `None` where a value is not integral.
+pub(crate) fn integral_entries(
     alloc: Global,
     found: BTreeMap<Text, Option<Tree>>,
 ) -> Result<Option<Vec<(Text, Tree)>>, AllocError>
-    ensures entries { IfOk result (λ v. option_map (λ es. members_of es.items) v ≡ all_whole (found_of found.entries)) }
+    ensures entries { IfOk result (λ v. option_map (λ es. members_of es.items) v ≡ all_integral (found_of found.entries)) }
     ensures ascending { IfOk result (λ v. IfSome v (λ es. AreAscending (members_of es.items))) }
 {
     let mut entries = Vec::with_capacity(alloc, found.len())?;

@@ -3,18 +3,18 @@ ghost use Rattle.std.specs.Prelude.{◌≡◌, ◌==◌, ◌<◌, option_map, le
 ghost use Rattle.serde_json.specs.Find.{of_integer};
 ghost use Rattle.serde_json.specs.Read.{number_of, number_from, float_of};
 ghost use Rattle.trees.specs.Steps.{Gives, required};
-ghost use Rattle.trees.specs.IfWhole.{number_if_whole};
+ghost use Rattle.trees.specs.Integral.{number_if_integer};
 ghost use Rattle.trees.specs.declared.fault.TreeError.TheVariants.{NotJson};
 
 use crate::fault::TreeError;
-use crate::whole::Whole;
+use crate::integer::Integer;
 use fast_float::Numeral;
 
-/// The number of a token, or `None` where it is not whole. It refuses with NotJson what is beyond the range of a double.
+/// The number of a token, or `None` where it is no integer. It refuses with NotJson what is beyond the range of a double.
 #[inline]
-pub(crate) fn number_in(text: &str) -> Result<Option<Whole>, TreeError>
+pub(crate) fn number_in(text: &str) -> Result<Option<Integer>, TreeError>
     ensures { Gives (option_map of_integer) result
-        (required NotJson (option_map number_if_whole (number_of text.now))) }
+        (required NotJson (option_map number_if_integer (number_of text.now))) }
 {
     let bytes = text.as_bytes();
     if has_minus(bytes) {
@@ -31,31 +31,31 @@ fn has_minus(bytes: &[u8]) -> bool
     !bytes.is_empty() && bytes[0] == b'-'
 }
 
-fn count_in(numeral: &Numeral<'_>) -> Result<Option<Whole>, TreeError>
+fn count_in(numeral: &Numeral<'_>) -> Result<Option<Integer>, TreeError>
     ensures { Gives (option_map of_integer) result
-        (required NotJson (option_map number_if_whole (number_from false numeral.now))) }
+        (required NotJson (option_map number_if_integer (number_from false numeral.now))) }
 {
     match numeral.to_u64() {
-        Some(count) => Ok(Some(Whole::from(count))),
-        None => not_whole(false, numeral),
+        Some(count) => Ok(Some(Integer::from(count))),
+        None => not_integral(false, numeral),
     }
 }
 
-fn number_below(numeral: &Numeral<'_>) -> Result<Option<Whole>, TreeError>
+fn number_below(numeral: &Numeral<'_>) -> Result<Option<Integer>, TreeError>
     ensures { Gives (option_map of_integer) result
-        (required NotJson (option_map number_if_whole (number_from true numeral.now))) }
+        (required NotJson (option_map number_if_integer (number_from true numeral.now))) }
 {
     if let Some(number) = numeral.to_i64(true) {
         if number < 0 {
-            return Ok(Some(Whole::from(number)));
+            return Ok(Some(Integer::from(number)));
         }
     }
-    not_whole(true, numeral)
+    not_integral(true, numeral)
 }
 
-fn not_whole(negative: bool, numeral: &Numeral<'_>) -> Result<Option<Whole>, TreeError>
+fn not_integral(negative: bool, numeral: &Numeral<'_>) -> Result<Option<Integer>, TreeError>
     ensures { Gives (option_map of_integer) result
-        (required NotJson (option_map number_if_whole (float_of negative numeral.now))) }
+        (required NotJson (option_map number_if_integer (float_of negative numeral.now))) }
 {
     if numeral.to_float::<f64>(negative).is_finite() {
         Ok(None)

@@ -7,14 +7,14 @@ ghost use Rattle.serde_json.specs.Data.{Members as DataMembers, no_members};
 ghost use Rattle.serde_json.specs.Read.{of_json, of_items, of_members, converted};
 ghost use Rattle.trees.specs.Tree.{data_of, items_of, members_of, AreAscending};
 ghost use Rattle.trees.specs.Steps.{Gives, required};
-ghost use Rattle.trees.specs.IfWhole.{if_whole, items_if_whole, members_if_whole, found_in, found_of};
+ghost use Rattle.trees.specs.Integral.{if_integral, items_if_integral, members_if_integral, found_in, found_of};
 ghost use Rattle.trees.specs.Reading.{read_within};
 ghost use Rattle.trees.specs.declared.fault.TreeError.TheVariants.{NotJson};
 
 use crate::fault::TreeError;
-use crate::found::{by_key, whole_entries};
+use crate::found::{by_key, integral_entries};
 use crate::number::number_in;
-use crate::places::{goes_last, put_entry};
+use crate::positions::{goes_last, put_entry};
 use crate::spares::Spares;
 use crate::text::Text;
 use crate::tree::{Items, Members, Tree};
@@ -34,7 +34,7 @@ pub(crate) fn tree_in(
     scratch: &mut Scratch,
     spares: &mut Spares,
 ) -> Result<Option<Tree>, TreeError>
-    ensures { Gives (option_map data_of) result (required NotJson (option_map if_whole (read_within depth text.now))) }
+    ensures { Gives (option_map data_of) result (required NotJson (option_map if_integral (read_within depth text.now))) }
 {
     let mut reader = Reader::new(text, scratch)?;
     let tree = value_in(alloc, &mut reader, depth, spares)?;
@@ -52,13 +52,13 @@ fn value_in(
     spares: &mut Spares,
 ) -> Result<Option<Tree>, TreeError>
     ensures value { Gives (λ t. (option_map data_of t, reader.new)) result
-        (required NotJson (parse_map if_whole (converted of_json (value depth reader.old)))) }
+        (required NotJson (parse_map if_integral (converted of_json (value depth reader.old)))) }
     ensures shorter { OnOk result (length reader.new < length reader.old) }
 {
     match reader.next().ok_or(TreeError::NotJson)? {
         Token::Null => Ok(Some(Tree::Null)),
         Token::Bool(truth) => Ok(Some(Tree::Truth(truth))),
-        Token::Number(text) => Ok(number_in(text)?.map(Tree::Whole)),
+        Token::Number(text) => Ok(number_in(text)?.map(Tree::Integer)),
         Token::String(text) => Ok(Some(Tree::Text(Text::copy_of(alloc, text)?))),
         Token::BeginArray => list_in(alloc, reader, depth, spares),
         Token::BeginObject => map_in(alloc, reader, depth, spares),
@@ -74,7 +74,7 @@ fn list_in(
     spares: &mut Spares,
 ) -> Result<Option<Tree>, TreeError>
     ensures value { Gives (λ t. (option_map data_of t, reader.new)) result
-        (required NotJson (parse_map if_whole (converted of_json (value depth (begin_array ∷ reader.old))))) }
+        (required NotJson (parse_map if_integral (converted of_json (value depth (begin_array ∷ reader.old))))) }
     ensures shorter { OnOk result (length reader.new < length reader.old) }
 {
     if depth == 0 {
@@ -94,7 +94,7 @@ fn map_in(
     spares: &mut Spares,
 ) -> Result<Option<Tree>, TreeError>
     ensures value { Gives (λ t. (option_map data_of t, reader.new)) result
-        (required NotJson (parse_map if_whole (converted of_json (value depth (begin_object ∷ reader.old))))) }
+        (required NotJson (parse_map if_integral (converted of_json (value depth (begin_object ∷ reader.old))))) }
     ensures shorter { OnOk result (length reader.new < length reader.old) }
 {
     if depth == 0 {
@@ -115,19 +115,19 @@ fn items_in(
     spares: &mut Spares,
 ) -> Result<Option<Vec<Tree>>, TreeError>
     ensures items { Gives (λ v. (option_map (λ ts. items_of ts.items) v, reader.new)) result
-        (required NotJson (parse_map items_if_whole
+        (required NotJson (parse_map items_if_integral
         (converted of_items (items (value depth) (length reader.old) reader.old)))) }
     ensures shorter { OnOk result (length reader.new < length reader.old) }
 {
     let mut items = spares.items.take(alloc);
-    let mut are_whole = true;
+    let mut are_integral = true;
     'items: while !reader.take_end_array() {
         match value_in(alloc, reader, depth, spares)? {
             Some(item) => items.push(item)?,
-            None => are_whole = false,
+            None => are_integral = false,
         }
     }
-    Ok(if are_whole {
+    Ok(if are_integral {
         Some(spares.items.tight(alloc, items)?)
     } else {
         None
@@ -143,7 +143,7 @@ fn members_in(
     spares: &mut Spares,
 ) -> Result<Option<Vec<(Text, Tree)>>, TreeError>
     ensures members { Gives (λ v. (option_map (λ es. members_of es.items) v, reader.new)) result
-        (required NotJson (parse_map members_if_whole
+        (required NotJson (parse_map members_if_integral
         (converted (λ ms. of_members ms no_members) (members (value depth) (length reader.old) reader.old)))) }
     ensures ascending { IfOk result (λ v. IfSome v (λ es. AreAscending (members_of es.items))) }
     ensures shorter { OnOk result (length reader.new < length reader.old) }
@@ -154,7 +154,7 @@ fn members_in(
         match value_in(alloc, reader, depth, spares)? {
             Some(value) if goes_last(&entries, name) => entries.push((key, value))?,
             Some(value) if entries.len() < FEW => put_entry(&mut entries, key, value)?,
-            // Too many to be moved for each, or not whole: then another value of the key may yet take its place.
+            // Too many to be moved for each, or not integral: then another value of the key may yet take its place.
             value => {
                 let mut found = by_key(alloc, entries)?;
                 // A value that the key had before is let go, since the last one counts.
@@ -178,7 +178,7 @@ fn members_after(
     ensures members { (before : DataMembers) → found_in before ≡ found_of found.entries
         → (most : ℕ) → length reader.old ≤ most
         → Gives (λ v. (option_map (λ es. members_of es.items) v, reader.new)) result
-        (required NotJson (parse_map members_if_whole
+        (required NotJson (parse_map members_if_integral
         (converted (λ ms. of_members ms before) (members (value depth) most reader.old)))) }
     ensures ascending { IfOk result (λ v. IfSome v (λ es. AreAscending (members_of es.items))) }
     ensures shorter { OnOk result (length reader.new < length reader.old) }
@@ -189,5 +189,5 @@ fn members_after(
         // A value that the key had before is let go, since the last one counts.
         drop(found.insert(key, value)?);
     }
-    Ok(whole_entries(alloc, found)?)
+    Ok(integral_entries(alloc, found)?)
 }

@@ -3,7 +3,7 @@ ghost use Rattle.std.specs.Option.{IsSomeAnd};
 ghost use Rattle.serde_json.specs.Written.{has_float};
 ghost use Rattle.trees.specs.Steps.{Gives, required};
 ghost use Rattle.trees.specs.Tree.{data_of};
-ghost use Rattle.trees.specs.IfWhole.{if_whole};
+ghost use Rattle.trees.specs.Integral.{if_integral};
 ghost use Rattle.trees.specs.Reading.{tree_reading, json_value, read_within};
 ghost use Rattle.trees.specs.declared.fault.TreeError.TheVariants.{NotJson};
 
@@ -58,7 +58,7 @@ impl TreeReader {
 
     fn read_text(&mut self, bytes: &[u8]) -> Result<Option<Tree>, TreeError>
         ensures { Gives (option_map data_of) result
-            (required NotJson (option_map if_whole (json_value bytes.now))) }
+            (required NotJson (option_map if_integral (json_value bytes.now))) }
     {
         match from_utf8(bytes) {
             Ok(text) => tree_in(

@@ -22,8 +22,8 @@ pub(crate) fn same_trees(left: &Tree, right: &Tree) -> bool
             Tree::Truth(other) => *truth == *other,
             _ => false,
         },
-        Tree::Whole(number) => match right {
-            Tree::Whole(other) => number.is_same(other),
+        Tree::Integer(number) => match right {
+            Tree::Integer(other) => number.is_same(other),
             _ => false,
         },
         Tree::Text(text) => match right {

@@ -4,10 +4,10 @@ ghost use Rattle.trees.specs.Tree.{data_of, items_of, members_of, AreAscending};
 ghost use Rattle.trees.specs.Same.{same_data};
 ghost use Rattle.trees.specs.Members.{set_member};
 
-use crate::places::{copied, place_of, put_entry, remove_entry};
+use crate::integer::Integer;
+use crate::positions::{copied, position_of, put_entry, remove_entry};
 use crate::same::same_trees;
 use crate::text::Text;
-use crate::whole::Whole;
 use std::alloc::{AllocError, Global};
 use std::marker::Model;
 use std::sync::Arc;
@@ -18,7 +18,7 @@ use std::sync::Arc;
 pub enum Tree {
     Null,
     Truth(bool),
-    Whole(Whole),
+    Integer(Integer),
     Text(Text),
     List(Items),
     Map(Members),
@@ -85,7 +85,7 @@ impl Clone for Tree {
         match self {
             Tree::Null => Ok(Tree::Null),
             Tree::Truth(truth) => Ok(Tree::Truth(*truth)),
-            Tree::Whole(number) => Ok(Tree::Whole(number.clone()?)),
+            Tree::Integer(number) => Ok(Tree::Integer(number.clone()?)),
             Tree::Text(text) => Ok(Tree::Text(text.clone()?)),
             Tree::List(items) => Ok(Tree::List(items.clone()?)),
             Tree::Map(members) => Ok(Tree::Map(members.clone()?)),
@@ -206,7 +206,7 @@ impl Members {
         ensures { IfOk result (λ t. option_map data_of t ≡ get_member key.now self) }
     {
         let mut entries = self.into_entries()?;
-        match place_of(&entries, key) {
+        match position_of(&entries, key) {
             Ok(at) => {
                 let (_, value) = entries.swap_remove(at);
                 Ok(Some(value))

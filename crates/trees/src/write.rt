@@ -24,7 +24,7 @@ pub fn write_tree(tree: &Tree, out: &mut Writer) -> Result<(), AllocError>
     match tree {
         Tree::Null => out.token(Token::Null),
         Tree::Truth(truth) => out.token(Token::Bool(*truth)),
-        Tree::Whole(number) => number.write(out),
+        Tree::Integer(number) => number.write(out),
         Tree::Text(text) => out.string(text.as_str()),
         Tree::List(items) => {
             out.begin_array()?;

@@ -13,7 +13,7 @@ ghost use Rattle.requests.specs.declared.reply.Reason.TheVariants.{Conflict, Inv
 ghost use Rattle.plain_store.specs.AtKey.{Has, Leaves, Makes};
 ghost use Rattle.plain_store.specs.StatusWrites.{DifferInStatus, HasMembers};
 ghost use Rattle.plain_store.specs.Store.{Store, step};
-ghost use Rattle.requests.specs.Verdict.{generation_after, has_status, same_member, stated};
+ghost use Rattle.requests.specs.Verdict.{generation_after, has_status, same_member, nonempty};
 
 /// `status` is written by its own request, and by no other: an object that is made has none, each other request leaves
 /// it as it is, and the status request leaves all else but the resource version. A ControllerRevision has no status.
@@ -44,12 +44,12 @@ pub fn generation_rises_with_spec()
 /// ControllerRevision, which has no status, a status request is Invalid whatever it names.)
 pub fn updates_with_a_stale_version_change_nothing()
     ensures update { (s : Store) (draft : Draft) (version : List ℕ) (current : Object)
-        → Has s draft.object.key current → stated draft.version ≡ Some version → version ≢ decimal current.meta.revision
+        → Has s draft.object.key current → nonempty draft.version ≡ Some version → version ≢ decimal current.meta.revision
         → step s (Update draft) ≡ (s, Refused Conflict) }
     ensures status { (s : Store) (draft : Draft) (version : List ℕ) (current : Object)
-        → Has s draft.object.key current → stated draft.version ≡ Some version → version ≢ decimal current.meta.revision
+        → Has s draft.object.key current → nonempty draft.version ≡ Some version → version ≢ decimal current.meta.revision
         → step s (UpdateStatus draft) ≡ (s, Refused (if has_status draft.object.key.kind then Conflict else Invalid)) }
     ensures delete { (s : Store) (key : Key) (uid given at : Option (List ℕ)) (version : List ℕ) (current : Object)
-        → Has s key current → stated given ≡ Some version → version ≢ decimal current.meta.revision
+        → Has s key current → nonempty given ≡ Some version → version ≢ decimal current.meta.revision
         → step s (Delete key uid given at) ≡ (s, Refused Conflict) }
 {}

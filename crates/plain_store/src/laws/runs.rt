@@ -9,7 +9,7 @@ ghost use Rattle.requests.specs.declared.request.Request.TheVariants.{Compact, D
 ghost use Rattle.requests.specs.declared.reply.Reply.TheVariants.{Refused};
 ghost use Rattle.requests.specs.declared.reply.Reason.TheVariants.{Conflict};
 ghost use Rattle.requests.specs.Keys.{key_named};
-ghost use Rattle.requests.specs.Verdict.{stated};
+ghost use Rattle.requests.specs.Verdict.{nonempty};
 ghost use Rattle.plain_store.specs.Reached.{IsReached, most_revisions};
 ghost use Rattle.plain_store.specs.Route.{is_read};
 ghost use Rattle.plain_store.specs.Taken.{Takes, taken};
@@ -55,7 +55,7 @@ pub fn requests_touch_one_key()
 /// A delete that names a UID takes away, and marks, no object of another UID: it is a Conflict, and changes nothing.
 pub fn deletes_spare_other_uids()
     ensures { (s : Store) (key : Key) (given version at : Option (List ℕ)) (uid : List ℕ) (current : Object)
-        → map.get s.objects key ≡ Some current → stated given ≡ Some uid → bytes_eq uid (uid_text current.meta.uid) ≡ false
+        → map.get s.objects key ≡ Some current → nonempty given ≡ Some uid → bytes_eq uid (uid_text current.meta.uid) ≡ false
         → step s (Delete key given version at) ≡ (s, Refused Conflict) }
 {}
 

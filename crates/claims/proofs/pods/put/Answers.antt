@@ -3,7 +3,7 @@ use Rattle.std.specs.Prelude.{bytes_eq}
 use Rattle.std.proofs.lemmas.List.Elements.{filter_map-append}
 use Rattle.claims.specs.Pods.{under, with_digits}
 use Rattle.claims.proofs.PodClaims.{cut_as, picked, uncut}
-use Rattle.objects.proofs.PodNamesDiffer.{is_cut}
+use Rattle.objects.proofs.PodNamesDiffer.{is_split}
 use Rattle.claims.proofs.pods.put.Goals as goal
 
 pub returns-in_ok-add : goal.returns-in_ok-add
@@ -11,7 +11,7 @@ returns-in_ok-add c = λ stem ordinal small.
     let front = c.in-Some.stem.now in
     let digits = decimal ordinal in
     let before = with_digits digits (under c.args.stems.now stem) in
-    let cut = is_cut c.args.name.now front c.in-Some.digits.now c.in-Some.ensures.cases in
+    let cut = is_split c.args.name.now front c.in-Some.digits.now c.in-Some.ensures.cases in
     ap (with_digits digits) (c.in_ok-add.ensures stem) ∙ filter_map-append _ (under c.args.stems.now stem) _
     ∙ ap (λ l. before ++ l) (picked digits (c.in-Some.digits, c.args.claim) (bytes_eq front stem) ∙ ap (λ b. cond b (c.args.claim.now ∷ []) []) (sym (cut_as c.args.name.now front c.in-Some.digits.now stem ordinal small cut)))
 

@@ -4,8 +4,8 @@ use Rattle.serde_json.specs.Find.{get_member}
 use Rattle.trees.specs.declared.tree.Tree.{Tree}
 use Rattle.trees.specs.Tree.{data_of, members_of, AreAscending}
 use Rattle.objects.specs.Object.{without_held}
-use Rattle.trees.specs.Places.{IsAt, IsGap}
-use Rattle.trees.proofs.EntryPlaces.{at_inside, at_found, gap_none, placed_again, ascending_put}
+use Rattle.trees.specs.Positions.{IsAt, IsGap}
+use Rattle.trees.proofs.EntryPositions.{at_inside, at_found, gap_none, placed_again, ascending_put}
 use Rattle.objects.proofs.body.body_of.Goals as goal
 
 not_both : (k : List ℕ) (ms all : Members) (d : Data) → get_member k ms ≡ None → ms ≡ all → get_member k all ≡ Some d → ⊥

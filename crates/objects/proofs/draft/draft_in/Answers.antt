@@ -6,5 +6,5 @@ use Rattle.objects.proofs.draft.draft_in.Goals as goal
 pub finished-requires : goal.finished-requires
 finished-requires c = record {
   said = says_kind c.args.members c.in_ok-named.named c.in_ok-kind.kind c.in_ok-key.key.kind c.in_ok-named.ensures c.in_ok-kind.ensures c.in_ok-key.ensures.kind;
-  whole = (c.in-Some-as_map.metadata.now, sym c.in-Some.ensures ∙ ap Some (is_object (data_of c.in-Some.found.now) c.in-Some-as_map.metadata.now c.in-Some-as_map.ensures), sym c.metadata_fits.ensures ∙ c.if-not-metadata_fits.false);
+  metadata = (c.in-Some-as_map.metadata.now, sym c.in-Some.ensures ∙ ap Some (is_object (data_of c.in-Some.found.now) c.in-Some-as_map.metadata.now c.in-Some-as_map.ensures), sym c.metadata_fits.ensures ∙ c.if-not-metadata_fits.false);
 }

@@ -4,7 +4,7 @@ use Rattle.objects.specs.Merged.{rest_tokens}
 use Rattle.objects.specs.Meta.{MetaParts}
 use Rattle.objects.specs.Text.{unless_zero}
 use Rattle.objects.specs.Uid.{uid_text}
-use Rattle.objects.proofs.WholeObjects.{on_ok}
+use Rattle.objects.proofs.ObjectTokens.{on_ok}
 use Rattle.objects.proofs.print.write_after_version.Goals as goal
 
 pub returns-clause-tokens : goal.returns-clause-tokens

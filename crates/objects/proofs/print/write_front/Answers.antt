@@ -1,5 +1,5 @@
 use Rattle.std.proofs.Common.{sym, ◌∙◌}
-use Rattle.trees.proofs.EntryPlaces.{above_more}
+use Rattle.trees.proofs.EntryPositions.{above_more}
 use Rattle.objects.proofs.Merging.{tokens_more, canonical_more}
 use Rattle.objects.proofs.print.write_front.Goals as goal
 

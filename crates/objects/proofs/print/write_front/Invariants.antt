@@ -1,6 +1,6 @@
 use Rattle.std.proofs.Common.{◌≡◌, ◌++◌, take, drop}
 use Rattle.trees.specs.Tree.{members_of}
-use Rattle.trees.specs.Places.{IsAbove}
+use Rattle.trees.specs.Positions.{IsAbove}
 use Rattle.objects.specs.Merged.{entry_tokens}
 use Rattle.trees.specs.Canonical.{AreCanonicalMembers}
 use Rattle.objects.proofs.print.write_front.Given as goal

@@ -3,7 +3,7 @@ use Rattle.serde_json.specs.Data.{string}
 use Rattle.objects.specs.Meta.{MetaParts}
 use Rattle.objects.specs.Text.{unless_zero}
 use Rattle.objects.proofs.HeldSteps.{metadata_written}
-use Rattle.objects.proofs.WholeObjects.{on_ok}
+use Rattle.objects.proofs.ObjectTokens.{on_ok}
 use Rattle.objects.proofs.print.write_metadata.Goals as goal
 
 pub returns-clause-tokens : goal.returns-clause-tokens

@@ -4,7 +4,7 @@ use Rattle.objects.proofs.replace.kept_meta.Goals as goal
 pub invariant_of-result : goal.invariant_of-result
 invariant_of-result c =
     let indexed = c.requires.known.1 in
-    let rules = c.requires.known.2.spec.at.cut.rules.meta in
+    let rules = c.requires.known.2.spec.at.seams.rules.meta in
     record {
       uid = subst (λ n. n < 2 ^ 48) (sym indexed.uid) rules.uid;
       revision = subst (λ n. n < 2 ^ 64) (sym indexed.revision) rules.revision;

@@ -9,7 +9,7 @@ loop-name-init c =
     record {
       can = tt;
       finite = tt;
-      found = by_key_none _ _ _ same c.new-found.ensures.empty c.requires.ascending c.requires.whole;
+      found = by_key_none _ _ _ same c.new-found.ensures.empty c.requires.ascending c.requires.integral;
     }
 
 pub loop-name-preserved : goal.loop-name-preserved

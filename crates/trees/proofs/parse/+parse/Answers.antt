@@ -7,16 +7,16 @@ use Rattle.serde_json.specs.Find.{of_integer}
 use Rattle.serde_json.specs.Data.{number, string, put}
 use Rattle.serde_json.specs.Read.{of_json, converted}
 use Rattle.trees.specs.Tree.{data_of, items_of, members_of, AreAscending}
-use Rattle.trees.specs.Places.{goes_last}
+use Rattle.trees.specs.Positions.{goes_last}
 use Rattle.trees.specs.Steps.{required}
-use Rattle.trees.specs.IfWhole.{if_whole, members_if_whole, all_whole}
+use Rattle.trees.specs.Integral.{if_integral, members_if_integral, all_integral}
 use Rattle.trees.specs.declared.fault.TreeError.TheVariants.{NotJson}
 use Rattle.trees.proofs.Chains.{gives_refusal, gives_same}
-use Rattle.trees.proofs.EntryPlaces.{ascending_put, pushed_last}
-use Rattle.trees.proofs.FoundMembers.{first_is_whole, found_more, all_whole-found_in}
+use Rattle.trees.proofs.EntryPositions.{ascending_put, pushed_last}
+use Rattle.trees.proofs.FoundMembers.{first_is_integral, found_more, all_integral-found_in}
 use Rattle.trees.proofs.Parsing.{entries_turn, read_null, read_truth, read_text, read_number, number_refused, no_value, was_read, refused_json, items_begin, items_push, items_drop, items_refused, items_finish, items_so_far, members_begin, members_turn, members_no_key_left, members_refused, members_finish, no_list, no_map, list_read, map_read, list_refused, map_refused}
 use Rattle.trees.proofs.parse.+parse.Goals as goal
-use Rattle.trees.proofs.parse.+parse.Goals.{items_in-then-are_whole+in_ok-tight, items_in-else-are_whole, members_in-in_default-2-via-in-Some-2-2+else-len-lt-FEW, members_in-in_default-2-via-in-None-1}
+use Rattle.trees.proofs.parse.+parse.Goals.{items_in-then-are_integral+in_ok-tight, items_in-else-are_integral, members_in-in_default-2-via-in-Some-2-2+else-len-lt-FEW, members_in-in_default-2-via-in-None-1}
 
 pub items_in-items-init : goal.items_in-items-init
 items_in-items-init t c = record {
@@ -29,7 +29,7 @@ items_in-returns-in_err-item-clause-items t c =
     let l = c.items in
     let going : (after_end_array l.reader ≡ None) × (c.take_end_array.new.self ≡ l.reader) = grind arith in
     let e = c.in_err-item.field-0.0 in
-    let h = items_refused (value c.args.depth) _ l.are_whole l.items.items l.reader l.invariant.so_far e going.0 (rw (← going.1) c.in_err-item.ensures.value) in
+    let h = items_refused (value c.args.depth) _ l.are_integral l.items.items l.reader l.invariant.so_far e going.0 (rw (← going.1) c.in_err-item.ensures.value) in
     gives_refusal _ c.from_residual.result e _ c.from_residual.ensures.1 h
 
 pub items_in-items-preserved-in_ok-push-in-Some : goal.items_in-items-preserved-in_ok-push-in-Some
@@ -39,7 +39,7 @@ items_in-items-preserved-in_ok-push-in-Some t c =
     let some : option_map data_of c.in_ok-item.field-0 ≡ Some (data_of c.in-Some.item) = ap (option_map data_of) c.in-Some.is in
     let less : length c.value_in.new.reader < length l.reader = rw (← going.1) c.in_ok-item.ensures.shorter in
     record {
-      so_far = items_push (value c.args.depth) _ l.are_whole l.items.items l.reader l.invariant.so_far c.value_in.new.reader c.push.new.self.items c.in-Some.item going.0
+      so_far = items_push (value c.args.depth) _ l.are_integral l.items.items l.reader l.invariant.so_far c.value_in.new.reader c.push.new.self.items c.in-Some.item going.0
           (rw (← going.1) (c.in_ok-item.ensures.value ∙ ap (λ x. Ok (x, c.value_in.new.reader)) some)) less c.in_ok-push-in-Some.ensures.items;
       shorter = omega (arith, l.invariant.shorter);
     }
@@ -51,7 +51,7 @@ items_in-items-preserved t c =
     let none : option_map data_of c.in_ok-item.field-0 ≡ None = ap (option_map data_of) c.in-None.is in
     let less : length c.value_in.new.reader < length l.reader = rw (← going.1) c.in_ok-item.ensures.shorter in
     record {
-      so_far = items_drop (value c.args.depth) _ l.are_whole l.items.items l.reader l.invariant.so_far c.value_in.new.reader going.0
+      so_far = items_drop (value c.args.depth) _ l.are_integral l.items.items l.reader l.invariant.so_far c.value_in.new.reader going.0
           (rw (← going.1) (c.in_ok-item.ensures.value ∙ ap (λ x. Ok (x, c.value_in.new.reader)) none)) less;
       shorter = omega (arith, l.invariant.shorter);
     }
@@ -61,10 +61,10 @@ items_in-returns-clause-items t c =
     let l = c.items in
     let r = c.take_end_array.new.self in
     let closed : after_end_array l.reader ≡ Some r = grind arith in
-    let done = items_finish (value c.args.depth) _ l.are_whole l.items.items l.reader l.invariant.so_far r closed in
-    elim c.if-are_whole.branch [
-      | items_in-then-are_whole+in_ok-tight w ↦ done ∙ ap (λ b. Ok (items_so_far b l.items.items, r)) w.if-are_whole.true ∙ ap (λ ts. Ok (Some (items_of ts), r)) (sym w.in_ok-tight.ensures) ∙ ap (λ x. Ok (option_map (λ ts. items_of ts.items) x, r)) (sym w.result-is)
-      | items_in-else-are_whole w ↦ done ∙ ap (λ b. Ok (items_so_far b l.items.items, r)) w.if-are_whole.false ∙ ap (λ x. Ok (option_map (λ ts. items_of ts.items) x, r)) (sym w.result-is)
+    let done = items_finish (value c.args.depth) _ l.are_integral l.items.items l.reader l.invariant.so_far r closed in
+    elim c.if-are_integral.branch [
+      | items_in-then-are_integral+in_ok-tight w ↦ done ∙ ap (λ b. Ok (items_so_far b l.items.items, r)) w.if-are_integral.true ∙ ap (λ ts. Ok (Some (items_of ts), r)) (sym w.in_ok-tight.ensures) ∙ ap (λ x. Ok (option_map (λ ts. items_of ts.items) x, r)) (sym w.result-is)
+      | items_in-else-are_integral w ↦ done ∙ ap (λ b. Ok (items_so_far b l.items.items, r)) w.if-are_integral.false ∙ ap (λ x. Ok (option_map (λ ts. items_of ts.items) x, r)) (sym w.result-is)
     ]
 
 pub list_in-returns-then-depth-eq0-clause-value : goal.list_in-returns-then-depth-eq0-clause-value
@@ -129,7 +129,7 @@ members_after-members-preserved t c =
     let named : read_key l.reader ≡ Some (Some k, s) = grind arith in
     let less = read_key-shorter l.reader (Some k) s named in
     let copied : c.in_ok-key.key ≡ k = search rules in
-    let d = was_read if_whole (converted of_json (value c.args.depth s)) (option_map data_of c.in_ok-value.value) r c.in_ok-value.ensures.value in
+    let d = was_read if_integral (converted of_json (value c.args.depth s)) (option_map data_of c.in_ok-value.value) r c.in_ok-value.ensures.value in
     record {
       so_far = λ before same most enough.
           let now = l.invariant.so_far before same most enough in (
@@ -145,7 +145,7 @@ members_after-returns-clause-members t c before same most enough =
     let now = c.members.invariant.so_far before same most enough in
     let closed : read_key c.members.reader ≡ Some (None, c.next_key.new.self) = grind arith in
     members_finish (value c.args.depth) _ now.0 c.members.reader now.1 c.next_key.new.self _ closed
-    (sym (all_whole-found_in now.0) ∙ ap all_whole now.2 ∙ sym c.in_ok-whole_entries.ensures.entries)
+    (sym (all_integral-found_in now.0) ∙ ap all_integral now.2 ∙ sym c.in_ok-integral_entries.ensures.entries)
 
 pub members_in-returns-in_err-name-clause-members : goal.members_in-returns-in_err-name-clause-members
 members_in-returns-in_err-name-clause-members t c =
@@ -172,11 +172,11 @@ members_in-members-preserved-then-goes_last t c =
     let some : option_map data_of c.in_ok-value.value ≡ Some (data_of v) = ap (option_map data_of) c.in-Some-2.is in
     let last : goes_last k l.entries.items ≡ true = rw (← c.deref.ensures.value) (sym c.goes_last.ensures ∙ c.if-goes_last.true) in
     let put_there = pushed_last k c.in_ok-key.key v l.entries.items c.push.new.self.items last l.invariant.ascending c.in_ok-key.ensures c.in_ok-push-in-Some-2.ensures.items in
-    let turn = entries_turn (value c.args.depth) _ l.entries.items c.push.new.self.items l.reader s r k v l.invariant.so_far named (c.in_ok-value.ensures.value ∙ ap (λ x. Ok (x, r)) some) c.in_ok-value.ensures.shorter put_there l.invariant.whole in
+    let turn = entries_turn (value c.args.depth) _ l.entries.items c.push.new.self.items l.reader s r k v l.invariant.so_far named (c.in_ok-value.ensures.value ∙ ap (λ x. Ok (x, r)) some) c.in_ok-value.ensures.shorter put_there l.invariant.integral in
     record {
       so_far = turn.0;
       ascending = subst AreAscending (sym put_there) (ascending_put k (data_of v) (members_of l.entries.items) l.invariant.ascending);
-      whole = turn.1;
+      integral = turn.1;
       shorter = omega (arith, less, c.in_ok-value.ensures.shorter, l.invariant.shorter);
     }
 
@@ -191,11 +191,11 @@ members_in-members-preserved t c =
     let v = c.in-Some-2.value in
     let some : option_map data_of c.in_ok-value.value ≡ Some (data_of v) = ap (option_map data_of) c.in-Some-2.is in
     let put_there = c.in_ok-put_entry-in-Some-2-2.ensures.ok ∙ ap (λ n. put n (data_of v) (members_of l.entries.items)) c.in_ok-key.ensures in
-    let turn = entries_turn (value c.args.depth) _ l.entries.items c.put_entry.new.entries.items l.reader s r k v l.invariant.so_far named (c.in_ok-value.ensures.value ∙ ap (λ x. Ok (x, r)) some) c.in_ok-value.ensures.shorter put_there l.invariant.whole in
+    let turn = entries_turn (value c.args.depth) _ l.entries.items c.put_entry.new.entries.items l.reader s r k v l.invariant.so_far named (c.in_ok-value.ensures.value ∙ ap (λ x. Ok (x, r)) some) c.in_ok-value.ensures.shorter put_there l.invariant.integral in
     record {
       so_far = turn.0;
       ascending = subst AreAscending (sym put_there) (ascending_put k (data_of v) (members_of l.entries.items) l.invariant.ascending);
-      whole = turn.1;
+      integral = turn.1;
       shorter = omega (arith, less, c.in_ok-value.ensures.shorter, l.invariant.shorter);
     }
 
@@ -210,19 +210,19 @@ members_in-returns-in_default-2-clause-members t c =
     let copied = c.in_ok-key.ensures in
     let v = c.in_default-2-1.value in
     let kept : v ≡ c.in_ok-value.value = elim c.in_default-2-1.branch [ members_in-in_default-2-via-in-Some-2-2+else-len-lt-FEW w ↦ w.value-is ∙ sym w.in-Some-2.is | members_in-in_default-2-via-in-None-1 w ↦ w.value-is ] in
-    let d = was_read if_whole (converted of_json (p s)) (option_map data_of c.in_ok-value.value) r c.in_ok-value.ensures.value in
+    let d = was_read if_integral (converted of_json (p s)) (option_map data_of c.in_ok-value.value) r c.in_ok-value.ensures.value in
     let before = put k d.0 (members_of l.entries.items) in
     let turn = members_turn p _ (members_of l.entries.items) l.reader l.invariant.so_far k s r d.0 before named d.1 c.in_ok-value.ensures.shorter refl in
     let same = found_more c.in_ok-found-in_default-2.found.entries c.insert.new.self.entries _ v k d.0 (members_of l.entries.items)
     c.in_ok-insert-in_default-2.ensures.entries copied (d.2 ∙ ap (option_map data_of) (sym kept)) (sym c.in_ok-found-in_default-2.ensures) in
-    gives_same _ c.members_after.result _ _ (ap (λ o. required NotJson (parse_map members_if_whole o)) turn.2) (c.members_after.ensures.members before same turn.0 turn.1)
+    gives_same _ c.members_after.result _ _ (ap (λ o. required NotJson (parse_map members_if_integral o)) turn.2) (c.members_after.ensures.members before same turn.0 turn.1)
 
 pub members_in-returns-clause-members : goal.members_in-returns-clause-members
 members_in-returns-clause-members t c =
     let l = c.members in
     let closed : read_key l.reader ≡ Some (None, c.next_key.new.self) = grind arith in
     members_finish (value c.args.depth) _ (members_of l.entries.items) l.reader l.invariant.so_far c.next_key.new.self _ closed
-    (first_is_whole (members_have_float (members_of l.entries.items)) (members_of l.entries.items) l.invariant.whole ∙ ap (λ es. Some (members_of es)) (sym c.in_ok-tight.ensures))
+    (first_is_integral (members_have_float (members_of l.entries.items)) (members_of l.entries.items) l.invariant.integral ∙ ap (λ es. Some (members_of es)) (sym c.in_ok-tight.ensures))
 
 pub value_in-returns-in_err-ok_or-clause-value : goal.value_in-returns-in_err-ok_or-clause-value
 value_in-returns-in_err-ok_or-clause-value t c =

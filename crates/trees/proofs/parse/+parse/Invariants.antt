@@ -4,7 +4,7 @@ use Rattle.serde_json.specs.Data.{Members, no_members}
 use Rattle.serde_json.specs.Read.{of_items, of_members, converted}
 use Rattle.serde_json.specs.Written.{members_have_float}
 use Rattle.trees.specs.Tree.{members_of, AreAscending}
-use Rattle.trees.specs.IfWhole.{found_in, found_of}
+use Rattle.trees.specs.Integral.{found_in, found_of}
 use Rattle.trees.proofs.Parsing.{AreItemsSoFar, AreMembersSoFar}
 use Rattle.trees.proofs.parse.+parse.Given as goal
 
@@ -28,7 +28,7 @@ decreases-members_after l = 4 * l.depth + 2
 
 abbrev pub invariant-items_in-items : goal.invariant-items_in-items
 invariant-items_in-items l = record {
-  so_far : AreItemsSoFar (value l.depth) (converted of_items (items (value l.depth) (length l.initial.reader) l.initial.reader)) l.are_whole l.items.items l.reader;
+  so_far : AreItemsSoFar (value l.depth) (converted of_items (items (value l.depth) (length l.initial.reader) l.initial.reader)) l.are_integral l.items.items l.reader;
   shorter : length l.reader ≤ length l.initial.reader;
 }
 
@@ -39,7 +39,7 @@ abbrev pub invariant-members_in-members : goal.invariant-members_in-members
 invariant-members_in-members l = record {
   so_far : AreMembersSoFar (value l.depth) (converted (λ ms. of_members ms no_members) (members (value l.depth) (length l.initial.reader) l.initial.reader)) (members_of l.entries.items) l.reader;
   ascending : AreAscending (members_of l.entries.items);
-  whole : members_have_float (members_of l.entries.items) ≡ false;
+  integral : members_have_float (members_of l.entries.items) ≡ false;
   shorter : length l.reader ≤ length l.initial.reader;
 }
 

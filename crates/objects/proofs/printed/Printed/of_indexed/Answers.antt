@@ -1,7 +1,7 @@
 use Rattle.std.proofs.Common.{◌≡◌, string_bytes, sym, subst}
 use Rattle.objects.specs.declared.object.Object.{Object}
 use Rattle.objects.specs.declared.printed.IndexedText.{IndexedText}
-use Rattle.objects.specs.Cuts.{IsIndexedText}
+use Rattle.objects.specs.Seams.{IsIndexedText}
 use Rattle.objects.specs.PrintedText.{object_of_text}
 use Rattle.objects.proofs.PrintedTexts.{reads_as}
 use Rattle.objects.proofs.printed.Printed.of_indexed.Goals as goal

@@ -1,5 +1,5 @@
 use Rattle.std.proofs.Common.{IfSome, subst}
-use Rattle.objects.specs.Cuts.{IsSpliced}
+use Rattle.objects.specs.Seams.{IsSpliced}
 use Rattle.objects.proofs.SplicedTexts.{end_is, indexed_parts, spliced_indexed}
 use Rattle.objects.proofs.printed.Printed.spliced_status.Goals as goal
 

@@ -1,5 +1,5 @@
 use Rattle.std.proofs.Common.{IfSome, subst}
-use Rattle.objects.specs.Cuts.{IsSpliced}
+use Rattle.objects.specs.Seams.{IsSpliced}
 use Rattle.objects.proofs.SplicedTexts.{indexed_parts, spliced_again}
 use Rattle.objects.proofs.printed.Printed.spliced_version.Goals as goal
 

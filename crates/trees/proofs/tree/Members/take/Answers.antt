@@ -1,7 +1,7 @@
 use Rattle.std.proofs.Common.{sym, ap, ◌∙◌, subst, arith}
 use Rattle.serde_json.specs.Find.{get_member}
-use Rattle.trees.specs.Places.{IsAt, IsGap}
-use Rattle.trees.proofs.EntryPlaces.{at_inside, at_found, gap_none}
+use Rattle.trees.specs.Positions.{IsAt, IsGap}
+use Rattle.trees.proofs.EntryPositions.{at_inside, at_found, gap_none}
 use Rattle.trees.proofs.tree.Members.take.Goals as goal
 
 pub swap_remove-value-requires : goal.swap_remove-value-requires
