@@ -11,8 +11,8 @@ use Rattle.objects.specs.declared.object.Object.{Object}
 use Rattle.set_views.specs.Set.{SetParts}
 use Rattle.claims.specs.declared.change.ClaimChange.TheVariants.{Update}
 use Rattle.claims.specs.declared.owner.Owner.{Owner}
-use Rattle.claims.specs.Changes.{entries_of, update, updated}
-use Rattle.claims.specs.Owners.{are_wanted, wanted}
+use Rattle.claims.specs.Changes.{entries_of, update, with_owner_entries}
+use Rattle.claims.specs.Owners.{are_wanted, wanted_entries}
 
 -- one more change, or none
 pub change_more : {A B : Type 0} (h : A → Option B) (xs : List A) (i : ℕ) (x : A) (y : Option B) (done after : List B) → i < length xs → x ≡ get_or xs i x → done ≡ filter_map h (take i xs)
@@ -66,9 +66,9 @@ passes_at p xs i x all inside is = ap p is ∙ All-get_or (λ y. p y ≡ true) x
 module _ (set : SetParts) (pod : List ℕ) (owner : Option Owner) (claim : Object) (entries : List Data) where
   pub no_update : entries ≡ entries_of claim → are_wanted set pod owner entries ≡ true → None ≡ update set pod owner claim
   no_update is h =
-      sym (ap (λ b. cond b None (Some (Update (updated claim (wanted set pod owner (entries_of claim)))))) (ap (are_wanted set pod owner) (sym is) ∙ h))
+      sym (ap (λ b. cond b None (Some (Update (with_owner_entries claim (wanted_entries set pod owner (entries_of claim)))))) (ap (are_wanted set pod owner) (sym is) ∙ h))
 
-  pub some_update : entries ≡ entries_of claim → are_wanted set pod owner entries ≡ false → Some (Update (updated claim (wanted set pod owner entries))) ≡ update set pod owner claim
+  pub some_update : entries ≡ entries_of claim → are_wanted set pod owner entries ≡ false → Some (Update (with_owner_entries claim (wanted_entries set pod owner entries))) ≡ update set pod owner claim
   some_update is h =
-      ap (λ ds. Some (Update (updated claim (wanted set pod owner ds)))) is
-      ∙ sym (ap (λ b. cond b None (Some (Update (updated claim (wanted set pod owner (entries_of claim)))))) (ap (are_wanted set pod owner) (sym is) ∙ h))
+      ap (λ ds. Some (Update (with_owner_entries claim (wanted_entries set pod owner ds)))) is
+      ∙ sym (ap (λ b. cond b None (Some (Update (with_owner_entries claim (wanted_entries set pod owner (entries_of claim)))))) (ap (are_wanted set pod owner) (sym is) ∙ h))

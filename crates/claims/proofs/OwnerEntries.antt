@@ -14,8 +14,8 @@ use Rattle.set_views.specs.Set.{SetParts}
 use Rattle.manifests.proofs.ItemLists.{items_of_trees}
 use Rattle.claims.specs.declared.owner.Owner.{Owner}
 use Rattle.claims.specs.declared.owner.Owner.TheVariants as owners
-use Rattle.claims.specs.Changes.{given}
-use Rattle.claims.specs.Owners.{is_of, reference_to, stays, wanted, with_owner}
+use Rattle.claims.specs.Changes.{items_if_any}
+use Rattle.claims.specs.Owners.{is_of, reference_to, stays, wanted_entries, with_owner}
 
 pub any_trees : (p : Data → Bool) (ts : List Tree) → list_any p (map data_of ts) ≡ list_any (λ t. p (data_of t)) ts
 any_trees p [] = refl
@@ -53,18 +53,18 @@ owned_fit set pod None ds h = h
 owned_fit set pod (Some owner) ds h = owned_at (list_any (is_of set owner) ds) set pod owner ds h
 
 -- the entries that a claim is to have are owners, where those that it has are
-pub wanted_fit : (set : SetParts) (pod : List ℕ) (owner : Option Owner) (ds : List Data) → list_all is_owner ds ≡ true → list_all is_owner (wanted set pod owner ds) ≡ true
+pub wanted_fit : (set : SetParts) (pod : List ℕ) (owner : Option Owner) (ds : List Data) → list_all is_owner ds ≡ true → list_all is_owner (wanted_entries set pod owner ds) ≡ true
 wanted_fit set pod owner ds h = owned_fit set pod owner (filter (stays set pod owner) ds) (all_kept is_owner (stays set pod owner) ds h)
 
-pub given_fit : (ds : List Data) → list_all is_owner ds ≡ true → owners_fit (option_map array (given ds)) ≡ true
-given_fit [] h = refl
-given_fit (d ∷ ds) h = fit_list (d ∷ ds) ∙ h
+pub items_if_any_fit : (ds : List Data) → list_all is_owner ds ≡ true → owners_fit (option_map array (items_if_any ds)) ≡ true
+items_if_any_fit [] h = refl
+items_if_any_fit (d ∷ ds) h = fit_list (d ∷ ds) ∙ h
 
-pub none_given : (ts : List Tree) → (length ts == 0) ≡ true → None ≡ given (map data_of ts)
+pub none_given : (ts : List Tree) → (length ts == 0) ≡ true → None ≡ items_if_any (map data_of ts)
 none_given [] none = refl
 none_given (t ∷ ts) none = let e : length (t ∷ ts) ≡ 0 = eqb-true (length (t ∷ ts)) 0 none in absurd (omega arith)
 
-pub some_given : (ts : List Tree) → (length ts == 0) ≡ false → Some (items_of ts) ≡ given (map data_of ts)
+pub some_given : (ts : List Tree) → (length ts == 0) ≡ false → Some (items_of ts) ≡ items_if_any (map data_of ts)
 some_given [] some = absurd cc
 some_given (t ∷ ts) some = ap Some (items_of_trees (t ∷ ts))
 

@@ -15,8 +15,8 @@ use Rattle.set_views.specs.Set.{SetParts}
 use Rattle.claims.specs.declared.change.ClaimChange.TheVariants.{Update}
 use Rattle.claims.specs.declared.owner.Owner.{Owner}
 use Rattle.claims.specs.declared.owner.Owner.TheVariants as owners
-use Rattle.claims.specs.Changes.{entries_of, update, updated}
-use Rattle.claims.specs.Owners.{are_wanted, is_of, is_of_pod, is_of_set, is_stranger, known_uid, owner_in_range, owner_of_condemned, reference_to, stays, unless_retained, wanted}
+use Rattle.claims.specs.Changes.{entries_of, update, with_owner_entries}
+use Rattle.claims.specs.Owners.{are_wanted, is_of, is_of_pod, is_of_set, is_stranger, known_uid, owner_in_range, owner_of_condemned, reference_to, stays, unless_retained, wanted_entries}
 
 or_second : (b c : Bool) → c ≡ true → (b || c) ≡ true
 or_second true c h = refl
@@ -65,7 +65,7 @@ strangers_at false set pod owner ds =
     filter-append p ds (reference_to set pod owner ∷ [])
     ∙ (ap (λ b. filter p ds ++ cond b (reference_to set pod owner ∷ []) []) (no_stranger set pod owner) ∙ append-nil (filter p ds))
 
-pub strangers_stay : (set : SetParts) (pod : List ℕ) (owner : Option Owner) (entries : List Data) → filter (is_stranger set pod owner) (wanted set pod owner entries) ≡ filter (is_stranger set pod owner) entries
+pub strangers_stay : (set : SetParts) (pod : List ℕ) (owner : Option Owner) (entries : List Data) → filter (is_stranger set pod owner) (wanted_entries set pod owner entries) ≡ filter (is_stranger set pod owner) entries
 strangers_stay set pod None entries = filter_within (is_stranger set pod None) (stays set pod None) (stranger_stays set pod None) entries
 strangers_stay set pod (Some owner) entries =
     let kept = filter (stays set pod (Some owner)) entries in
@@ -85,18 +85,18 @@ neither true b h = absurd cc
 neither false true h = absurd cc
 neither false false h = refl
 
-unowned : (set : SetParts) (pod : List ℕ) (owner : Option Owner) (entries : List Data) → owner ≡ None → list_any (λ d. is_of_set set d || is_of_pod pod d) (wanted set pod owner entries) ≡ false
+unowned : (set : SetParts) (pod : List ℕ) (owner : Option Owner) (entries : List Data) → owner ≡ None → list_any (λ d. is_of_set set d || is_of_pod pod d) (wanted_entries set pod owner entries) ≡ false
 unowned set pod None entries h =
     none_left (λ d. is_of_set set d || is_of_pod pod d) (stays set pod None) (λ d t. neither (is_of_set set d) (is_of_pod pod d) t) entries
 unowned set pod (Some owner) entries h = absurd cc
 
 module _ (set : SetParts) (pod : List ℕ) where
-  pub retained_in_range : (entries : List Data) → set.when_deleted ≡ Retain → list_any (λ d. is_of_set set d || is_of_pod pod d) (wanted set pod (owner_in_range set) entries) ≡ false
+  pub retained_in_range : (entries : List Data) → set.when_deleted ≡ Retain → list_any (λ d. is_of_set set d || is_of_pod pod d) (wanted_entries set pod (owner_in_range set) entries) ≡ false
   retained_in_range entries deleted =
       unowned set pod (owner_in_range set) entries (ap (λ r. unless_retained r None (Some owners.Set)) deleted)
 
   pub retained_condemned : (uid : ℕ) (entries : List Data) → set.when_deleted ≡ Retain → set.when_scaled ≡ Retain
-      → list_any (λ d. is_of_set set d || is_of_pod pod d) (wanted set pod (owner_of_condemned set uid) entries) ≡ false
+      → list_any (λ d. is_of_set set d || is_of_pod pod d) (wanted_entries set pod (owner_of_condemned set uid) entries) ≡ false
   retained_condemned uid entries deleted scaled =
       unowned set pod (owner_of_condemned set uid) entries
       (ap (λ r. unless_retained r (owner_in_range set) (Some (owners.Pod (known_uid uid)))) scaled ∙ ap (λ r. unless_retained r None (Some owners.Set)) deleted)
@@ -106,8 +106,8 @@ changed_is true u changed h = absurd cc
 changed_is false u changed h = cc
 
 module _ (set : SetParts) (pod : List ℕ) (owner : Option Owner) (claim changed : Object) where
-  pub update_is : update set pod owner claim ≡ Some (Update changed) → updated claim (wanted set pod owner (entries_of claim)) ≡ changed
-  update_is h = changed_is (are_wanted set pod owner (entries_of claim)) (updated claim (wanted set pod owner (entries_of claim))) changed h
+  pub update_is : update set pod owner claim ≡ Some (Update changed) → with_owner_entries claim (wanted_entries set pod owner (entries_of claim)) ≡ changed
+  update_is h = changed_is (are_wanted set pod owner (entries_of claim)) (with_owner_entries claim (wanted_entries set pod owner (entries_of claim))) changed h
 
 passed_at : (b : Bool) (p : Data → Bool) (d : Data) (ds : List Data) → p d ≡ b → list_all p ds ≡ true → list_all p (cond b (d ∷ ds) ds) ≡ true
 passed_at true p d ds here rest = rw (here, rest) refl
@@ -136,19 +136,19 @@ owned_at false set pod owner ds there all =
     let entry = reference_to set pod owner in
     rw (list_all-append (stays set pod (Some owner)) ds (entry ∷ []), all, new_entry_stays set pod owner, list_any-append (is_of set owner) ds (entry ∷ []), there, new_entry_is_of set pod owner) refl
 
-wanted_again : (set : SetParts) (pod : List ℕ) (owner : Option Owner) (entries : List Data) → are_wanted set pod owner (wanted set pod owner entries) ≡ true
+wanted_again : (set : SetParts) (pod : List ℕ) (owner : Option Owner) (entries : List Data) → are_wanted set pod owner (wanted_entries set pod owner entries) ≡ true
 wanted_again set pod None entries = rw (all_pass (stays set pod None) entries) refl
 wanted_again set pod (Some owner) entries =
     let kept = filter (stays set pod (Some owner)) entries in
     owned_at (list_any (is_of set owner) kept) set pod owner kept refl (all_pass (stays set pod (Some owner)) entries)
 
 module _ (set : SetParts) (pod : List ℕ) where
-  pub as_wanted : (owner : Option Owner) (entries : List Data) → are_wanted set pod owner entries ≡ true → wanted set pod owner entries ≡ entries
+  pub as_wanted : (owner : Option Owner) (entries : List Data) → are_wanted set pod owner entries ≡ true → wanted_entries set pod owner entries ≡ entries
   as_wanted None entries h = all_kept (stays set pod None) entries (and_parts (list_all (stays set pod None) entries) true h).0
   as_wanted (Some owner) entries h =
       let parts = and_parts (list_all (stays set pod (Some owner)) entries) (list_any (is_of set owner) entries) h in
       ap (λ l. cond (list_any (is_of set owner) l) l (l ++ reference_to set pod owner ∷ [])) (all_kept (stays set pod (Some owner)) entries parts.0)
       ∙ ap (λ b. cond b entries (entries ++ reference_to set pod owner ∷ [])) parts.1
 
-  pub not_as_wanted : (owner : Option Owner) (entries : List Data) → are_wanted set pod owner entries ≡ false → wanted set pod owner entries ≡ entries → ⊥
+  pub not_as_wanted : (owner : Option Owner) (entries : List Data) → are_wanted set pod owner entries ≡ false → wanted_entries set pod owner entries ≡ entries → ⊥
   not_as_wanted owner entries h same = absurd (cc (sym (ap (are_wanted set pod owner) same) ∙ wanted_again set pod owner entries))

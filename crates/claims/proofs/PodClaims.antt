@@ -86,7 +86,7 @@ pub one_more : (name : List ℕ) (seen : List (Bor (List ℕ) × Bor Object)) (k
 one_more name seen key claim =
     filter_map-append _ seen ((key, claim) ∷ []) ∙ ap (λ l. named name seen ++ l) (one_if _ claim.now ∙ ap (λ b. cond b (claim.now ∷ []) []) (is_eq-slice_cmp name key.now))
 
--- ---- names that are cut at their last `-`
+-- ---- names that are split at their last `-`
 
 at_dash : (stem digits : List ℕ) → stem ++ codes "-" ++ digits ≡ stem ++ 45 ∷ digits
 at_dash stem digits = append_assoc stem (codes "-") digits
@@ -106,10 +106,10 @@ both false true true to from = absurd (let clash : false ≡ true = from refl re
 both false true false to from = refl
 both false false c to from = refl
 
--- a name that is cut is a pod's where both parts are
-pub cut_as : (name front digits stem : List ℕ) (i : ℕ) → i < 2 ^ 32 → IsSplit name front digits
+-- a name that is split is a pod's where both parts are
+pub split_as : (name front digits stem : List ℕ) (i : ℕ) → i < 2 ^ 32 → IsSplit name front digits
     → bytes_eq (pod_name stem i) name ≡ (bytes_eq front stem && bytes_eq digits (decimal i))
-cut_as name front digits stem i small cut =
+split_as name front digits stem i small cut =
     both (bytes_eq (pod_name stem i) name) (bytes_eq front stem) (bytes_eq digits (decimal i))
     (λ t.
     let is = (bytes_eq-Decides (pod_name stem i) name).0 t in
@@ -122,8 +122,8 @@ cut_as name front digits stem i small cut =
     (at_dash stem (decimal i) ∙ ap (λ f. f ++ 45 ∷ decimal i) (sym front_is) ∙ ap (λ d. front ++ 45 ∷ d) (sym digits_is) ∙ sym cut.joined))
 
 -- a name with no `-` is no pod's
-pub uncut : (name stem : List ℕ) (i : ℕ) → RFindsChar 45 name None → bytes_eq (pod_name stem i) name ≡ false
-uncut name stem i none = false_from_ne_true (bytes_eq (pod_name stem i) name) (λ t.
+pub unsplit : (name stem : List ℕ) (i : ℕ) → RFindsChar 45 name None → bytes_eq (pod_name stem i) name ≡ false
+unsplit name stem i none = false_from_ne_true (bytes_eq (pod_name stem i) name) (λ t.
     let is = sym (at_dash stem (decimal i)) ∙ (bytes_eq-Decides (pod_name stem i) name).0 t in
     NoCharPasses-char 45 name (length stem) none (lit< tt) (rw (← is) (omega (arith, length-append stem (45 ∷ decimal i))))
     (rw (← is) (get_or_at stem 45 (decimal i) 0 (length stem) refl)))

@@ -65,8 +65,8 @@ with_owner set pod None entries = entries
 with_owner set pod (Some owner) entries = if list_any (is_of set owner) entries then entries else entries ++ reference_to set pod owner ∷ []
 
 -- the entries of a claim that is to have this owner
-abbrev pub wanted : SetParts → List ℕ → Option Owner → List Data → List Data
-wanted set pod owner entries = with_owner set pod owner (filter (stays set pod owner) entries)
+abbrev pub wanted_entries : SetParts → List ℕ → Option Owner → List Data → List Data
+wanted_entries set pod owner entries = with_owner set pod owner (filter (stays set pod owner) entries)
 
 abbrev pub is_there : SetParts → Option Owner → List Data → Bool
 is_there set None entries = true

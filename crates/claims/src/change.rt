@@ -9,9 +9,9 @@ ghost use Rattle.objects.specs.Tree.{data_of, items_of};
 ghost use Rattle.set_views.specs.Set.{set_parts};
 ghost use Rattle.set_views.specs.Steps.{Gives};
 ghost use Rattle.claims.specs.Listed.{IsFor, claim_named};
-ghost use Rattle.claims.specs.Changes.{all_made, all_updated, create, first_made, given, kept_claims, made, released_claims, update, updated};
+ghost use Rattle.claims.specs.Changes.{all_creates_and_updates, all_updates, create, make_first_claims, items_if_any, keep_claims, create_or_update, release_claims, update, with_owner_entries};
 
-use crate::entries::{are_wanted, wanted};
+use crate::entries::{are_wanted, wanted_entries};
 use crate::listed::ListedClaims;
 use crate::owner::{Owner, owner_in_range, owner_of_condemned};
 use crate::pods::Numbered;
@@ -29,8 +29,8 @@ pub enum ClaimChange {
 }
 
 /// Owner references as a claim has them, left out if there are none.
-fn given(alloc: Global, entries: Vec<Tree>) -> Result<Option<Items>, AllocError>
-    ensures { IfOk result (λ items. items ≡ given (map data_of entries.items)) }
+fn items_if_any(alloc: Global, entries: Vec<Tree>) -> Result<Option<Items>, AllocError>
+    ensures { IfOk result (λ items. items ≡ items_if_any (map data_of entries.items)) }
 {
     if entries.is_empty() {
         drop(entries);
@@ -41,11 +41,15 @@ fn given(alloc: Global, entries: Vec<Tree>) -> Result<Option<Items>, AllocError>
 }
 
 /// The claim with these owner references.
-fn updated(alloc: Global, claim: &Object, entries: Vec<Tree>) -> Result<Object, AllocError>
+fn with_owner_entries(
+    alloc: Global,
+    claim: &Object,
+    entries: Vec<Tree>,
+) -> Result<Object, AllocError>
     requires { are_owners (items_of entries.items) ≡ true }
-    ensures { IfOk result (λ object. object ≡ updated claim.now (map data_of entries.items)) }
+    ensures { IfOk result (λ object. object ≡ with_owner_entries claim.now (map data_of entries.items)) }
 {
-    let items = given(alloc, entries)?;
+    let items = items_if_any(alloc, entries)?;
     let copy = claim.clone()?;
     let object = copy.with_owners(items)?;
     Ok(object)
@@ -65,8 +69,8 @@ fn update(
     if are_wanted(set, pod, owner, entries) {
         return Ok(None);
     }
-    let others = wanted(alloc, set, pod, owner, entries)?;
-    let object = updated(alloc, claim, others)?;
+    let others = wanted_entries(alloc, set, pod, owner, entries)?;
+    let object = with_owner_entries(alloc, claim, others)?;
     Ok(Some(ClaimChange::Update(object)))
 }
 
@@ -85,7 +89,7 @@ fn create(
 {
     let (name, members) = template;
     let owner = owner_in_range(set);
-    let entries = wanted(alloc, set, pod, &owner, &[])?;
+    let entries = wanted_entries(alloc, set, pod, &owner, &[])?;
     drop(owner);
     let items = Items::of(alloc, entries)?;
     let claim = claim_of(alloc, set, name.as_str(), members, ordinal, items)?;
@@ -93,7 +97,7 @@ fn create(
 }
 
 /// What the claim of a template comes to for the pod of that ordinal and name, if it is created.
-fn made(
+fn create_or_update(
     alloc: Global,
     set: &Set,
     ordinal: u32,
@@ -104,7 +108,7 @@ fn made(
     requires named { pod.now ≡ pod_name set.now.object.key.name ordinal }
     requires short { length pod.now ≤ 63 }
     requires label { is_dns_label template.now.0 ≡ true }
-    ensures { IfOk result (λ change. change ≡ made (set_parts set.now) ordinal template.now (option_map (λ o. o.now) found.entry)) }
+    ensures { IfOk result (λ change. change ≡ create_or_update (set_parts set.now) ordinal template.now (option_map (λ o. o.now) found.entry)) }
 {
     match found {
         None => {
@@ -152,7 +156,7 @@ fn push_some(changes: &mut Vec<ClaimChange>, change: Option<ClaimChange>) -> Res
 }
 
 #[tactic(auto, using(crate::proofs::ChangeLists::few))]
-fn all_made(
+fn all_creates_and_updates(
     alloc: Global,
     set: &Set,
     listed: &ListedClaims<'_>,
@@ -162,7 +166,7 @@ fn all_made(
 ) -> Result<Vec<ClaimChange>, Memory>
     requires named { pod.now ≡ pod_name set.now.object.key.name ordinal }
     requires short { length pod.now ≤ 63 }
-    ensures { IfOk result (λ changes. changes.items ≡ take most (all_made (set_parts set.now) (claim_named listed.now) ordinal set.now.claims.items)) }
+    ensures { IfOk result (λ changes. changes.items ≡ take most (all_creates_and_updates (set_parts set.now) (claim_named listed.now) ordinal set.now.claims.items)) }
 {
     let mut changes = Vec::new(alloc);
     for template in &set.claims {
@@ -170,14 +174,14 @@ fn all_made(
             return Ok(changes);
         }
         let found = listed_at(alloc, set, listed, ordinal, template.0.as_str())?;
-        let change = made(alloc, set, ordinal, pod, template, found)?;
+        let change = create_or_update(alloc, set, ordinal, pod, template, found)?;
         push_some(&mut changes, change)?;
     }
     Ok(changes)
 }
 
 /// The updates of these claims of that pod, which are to have this owner.
-fn all_updated(
+fn all_updates(
     alloc: Global,
     set: &Set,
     claims: &[Numbered<'_>],
@@ -203,13 +207,13 @@ fn updates(
     owner: &Option<Owner>,
 ) -> Result<Vec<ClaimChange>, Memory>
     requires { IsFor (set_parts set.now) listed.now }
-    ensures { IfOk result (λ changes. changes.items ≡ all_updated (set_parts set.now) (claim_named listed.now) ordinal owner.now set.now.claims.items) }
+    ensures { IfOk result (λ changes. changes.items ≡ all_updates (set_parts set.now) (claim_named listed.now) ordinal owner.now set.now.claims.items) }
 {
     let Some(claims) = listed.of_pod(ordinal) else {
         return Ok(Vec::new(alloc));
     };
     let pod = pod_of(alloc, set, ordinal)?;
-    let changes = all_updated(alloc, set, claims, pod.as_str(), owner)?;
+    let changes = all_updates(alloc, set, claims, pod.as_str(), owner)?;
     Ok(changes)
 }
 
@@ -220,34 +224,34 @@ fn updates(
 /// many are made.
 ///
 /// It is NameTooLong where the pod's own name has more than 63 bytes, as `pod_of` is.
-pub fn made_claims(
+pub fn make_claims(
     alloc: Global,
     set: &Set,
     listed: &ListedClaims<'_>,
     ordinal: u32,
     most: usize,
 ) -> Result<Vec<ClaimChange>, PlanError>
-    ensures { Gives (λ changes. changes.items) result (first_made (set_parts set.now) (claim_named listed.now) ordinal most) }
+    ensures { Gives (λ changes. changes.items) result (make_first_claims (set_parts set.now) (claim_named listed.now) ordinal most) }
 {
     let pod = pod_of(alloc, set, ordinal)?;
     if MAX_LABEL < pod.as_str().len() {
         drop(pod);
         return Err(PlanError::NameTooLong);
     }
-    let changes = all_made(alloc, set, listed, ordinal, pod.as_str(), most)?;
+    let changes = all_creates_and_updates(alloc, set, listed, ordinal, pod.as_str(), most)?;
     Ok(changes)
 }
 
 /// The updates of the claims of a healthy pod, which are to have the same owners as those of a pod that is created. The list
 /// is for this set. No template is looked up of which the pod has no claim.
-pub fn kept_claims(
+pub fn keep_claims(
     alloc: Global,
     set: &Set,
     listed: &ListedClaims<'_>,
     ordinal: u32,
 ) -> Result<Vec<ClaimChange>, Memory>
     requires { IsFor (set_parts set.now) listed.now }
-    ensures { IfOk result (λ changes. changes.items ≡ kept_claims (set_parts set.now) (claim_named listed.now) ordinal) }
+    ensures { IfOk result (λ changes. changes.items ≡ keep_claims (set_parts set.now) (claim_named listed.now) ordinal) }
 {
     let owner = owner_in_range(set);
     let changes = updates(alloc, set, listed, ordinal, &owner)?;
@@ -257,7 +261,7 @@ pub fn kept_claims(
 /// The updates of the claims of a condemned pod with that UID, 0 where none was read, which is then deleted. Under
 /// `whenScaled` Delete the pod is an owner and the set is none, so that the claims go with the pod. Under Retain they are to
 /// have the owners of a pod in range. The list is for this set.
-pub fn released_claims(
+pub fn release_claims(
     alloc: Global,
     set: &Set,
     listed: &ListedClaims<'_>,
@@ -265,7 +269,7 @@ pub fn released_claims(
     uid: u64,
 ) -> Result<Vec<ClaimChange>, Memory>
     requires { IsFor (set_parts set.now) listed.now }
-    ensures { IfOk result (λ changes. changes.items ≡ released_claims (set_parts set.now) (claim_named listed.now) ordinal uid) }
+    ensures { IfOk result (λ changes. changes.items ≡ release_claims (set_parts set.now) (claim_named listed.now) ordinal uid) }
 {
     let owner = owner_of_condemned(alloc, set, uid)?;
     let changes = updates(alloc, set, listed, ordinal, &owner)?;

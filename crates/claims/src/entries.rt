@@ -4,7 +4,7 @@ ghost use Rattle.std.specs.List.{list_all, list_any};
 ghost use Rattle.serde_json.specs.Find.{as_str, get};
 ghost use Rattle.objects.specs.Tree.{data_of};
 ghost use Rattle.set_views.specs.Set.{set_parts};
-ghost use Rattle.claims.specs.Owners.{are_wanted, is_of, is_of_pod, is_of_set, is_there, reference, reference_to, stays, wanted, with_owner};
+ghost use Rattle.claims.specs.Owners.{are_wanted, is_of, is_of_pod, is_of_set, is_there, reference, reference_to, stays, wanted_entries, with_owner};
 
 use crate::owner::Owner;
 use objects::{Members, Memory, Tree, is_uid_text, uid_text};
@@ -59,7 +59,7 @@ fn stays(set: &Set, pod: &str, owner: &Option<Owner>, entry: &Tree) -> bool
 }
 
 /// Whether an entry has the UID of that owner.
-fn have(set: &Set, owner: &Owner, entries: &[Tree]) -> bool
+fn has_entry_of(set: &Set, owner: &Owner, entries: &[Tree]) -> bool
     ensures { result ≡ list_any (λ t. is_of (set_parts set.now) owner.now (data_of t)) entries.now }
 {
     entries.iter().any(|entry| is_of(set, owner, entry))
@@ -77,7 +77,7 @@ fn is_there(set: &Set, owner: &Option<Owner>, entries: &[Tree]) -> bool
 {
     match owner {
         None => true,
-        Some(owner) => have(set, owner, entries),
+        Some(owner) => has_entry_of(set, owner, entries),
     }
 }
 
@@ -126,7 +126,7 @@ fn reference_to(alloc: Global, set: &Set, pod: &str, owner: &Owner) -> Result<Tr
 }
 
 /// The entries that stay, in their order.
-fn staying(
+fn staying_entries(
     alloc: Global,
     set: &Set,
     pod: &str,
@@ -154,7 +154,7 @@ fn with_owner(
 ) -> Result<Vec<Tree>, Memory>
     ensures { IfOk result (λ owned. map data_of owned.items ≡ with_owner (set_parts set.now) pod.now (Some owner.now) (map data_of entries.items)) }
 {
-    if have(set, owner, &entries) {
+    if has_entry_of(set, owner, &entries) {
         return Ok(entries);
     }
     let mut owned = entries;
@@ -163,16 +163,16 @@ fn with_owner(
 }
 
 /// The entries of a claim that is to have this owner.
-pub(crate) fn wanted(
+pub(crate) fn wanted_entries(
     alloc: Global,
     set: &Set,
     pod: &str,
     owner: &Option<Owner>,
     entries: &[Tree],
 ) -> Result<Vec<Tree>, Memory>
-    ensures { IfOk result (λ owned. map data_of owned.items ≡ wanted (set_parts set.now) pod.now owner.now (map data_of entries.now)) }
+    ensures { IfOk result (λ owned. map data_of owned.items ≡ wanted_entries (set_parts set.now) pod.now owner.now (map data_of entries.now)) }
 {
-    let kept = staying(alloc, set, pod, owner, entries)?;
+    let kept = staying_entries(alloc, set, pod, owner, entries)?;
     match owner {
         None => Ok(kept),
         Some(owner) => {

@@ -9,7 +9,7 @@ mod listed;
 mod owner;
 mod pods;
 
-pub use change::{ClaimChange, kept_claims, made_claims, released_claims};
+pub use change::{ClaimChange, keep_claims, make_claims, release_claims};
 pub use laws::{
     claims_as_wanted_are_left, only_owners_of_the_set_and_its_pod_change,
     retained_claims_have_no_such_owner,

@@ -1,6 +1,6 @@
 // The listed claims of each pod of a set.
 //
-// A claim is called TEMPLATE-SET-ORDINAL. No decimal has a `-`, so a name that is cut at its last `-` has the digits of an
+// A claim is called TEMPLATE-SET-ORDINAL. No decimal has a `-`, so a name that is split at its last `-` has the digits of an
 // ordinal after it, and before it what it shares with all claims of its template.
 ghost use Rattle.std.specs.Prelude.{◌≡◌, ◌++◌, ◌∷◌, [], ℕ, ◌<◌, ◌^◌, List, bytes_eq, codes, decimal, string_bytes, if◌then◌else◌, IfOk, OnOk};
 ghost use Rattle.std.specs.List.{cons_option};

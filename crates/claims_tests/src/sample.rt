@@ -1,5 +1,5 @@
 //! Sets, listed claims and changes, as texts.
-use claims::{ClaimChange, ListedClaims, kept_claims, made_claims, released_claims};
+use claims::{ClaimChange, ListedClaims, keep_claims, make_claims, release_claims};
 use objects::{Object, print_object, read_object};
 use set_views::{PlanError, Set, read_set};
 use std::alloc::Global;
@@ -44,9 +44,9 @@ fn changes_in(
 ) -> Result<Vec<ClaimChange>, PlanError> {
     let claims = ListedClaims::of(alloc, set, listed)?;
     match step {
-        Step::Make(ordinal) => made_claims(alloc, set, &claims, ordinal, 1_024),
-        Step::Keep(ordinal) => Ok(kept_claims(alloc, set, &claims, ordinal)?),
-        Step::Release(ordinal, uid) => Ok(released_claims(alloc, set, &claims, ordinal, uid)?),
+        Step::Make(ordinal) => make_claims(alloc, set, &claims, ordinal, 1_024),
+        Step::Keep(ordinal) => Ok(keep_claims(alloc, set, &claims, ordinal)?),
+        Step::Release(ordinal, uid) => Ok(release_claims(alloc, set, &claims, ordinal, uid)?),
     }
 }
 

@@ -3,21 +3,21 @@ use Rattle.std.proofs.Common.{◌≡◌, inl, inr, ℕ, ◌+◌, ◌<◌, Bool, 
 use Rattle.std.proofs.lemmas.List.{at_drop_more}
 use Rattle.objects.specs.declared.object.Object.{Object}
 use Rattle.requests.specs.declared.request.Request.{Request}
-use Rattle.collector.specs.Collectable.{is_collectable, is_listed, deletion, collected, Among}
+use Rattle.collector.specs.Collectable.{is_collectable, is_listed, deletion, collection, Among}
 
-pub collected-first : (claim : Object) (rest : List Object) (owners : List (List Object)) (at : ℕ) (b : Bool) → b ≡ is_collectable at (is_listed owners) claim
-    → collected (claim ∷ rest) owners at ≡ cond b (deletion claim ∷ collected rest owners at) (collected rest owners at)
-collected-first claim rest owners at true e =
+pub collection-first : (claim : Object) (rest : List Object) (owners : List (List Object)) (at : ℕ) (b : Bool) → b ≡ is_collectable at (is_listed owners) claim
+    → collection (claim ∷ rest) owners at ≡ cond b (deletion claim ∷ collection rest owners at) (collection rest owners at)
+collection-first claim rest owners at true e =
     ap (λ b. map deletion (cond b (claim ∷ filter (is_collectable at (is_listed owners)) rest) (filter (is_collectable at (is_listed owners)) rest))) (sym e)
-collected-first claim rest owners at false e =
+collection-first claim rest owners at false e =
     ap (λ b. map deletion (cond b (claim ∷ filter (is_collectable at (is_listed owners)) rest) (filter (is_collectable at (is_listed owners)) rest))) (sym e)
 
-pub collected-next : (claims : List Object) (i : ℕ) (claim : Object) (owners : List (List Object)) (at : ℕ) (b : Bool) → i < length claims → claim ≡ get_or claims i claim
+pub collection-next : (claims : List Object) (i : ℕ) (claim : Object) (owners : List (List Object)) (at : ℕ) (b : Bool) → i < length claims → claim ≡ get_or claims i claim
     → b ≡ is_collectable at (is_listed owners) claim
-    → collected (drop i claims) owners at ≡ cond b (deletion claim ∷ collected (drop (i + 1) claims) owners at) (collected (drop (i + 1) claims) owners at)
-collected-next claims i claim owners at b lt is e =
-    at_drop_more (λ cs. collected cs owners at) claims i claim lt
-    ∙ (ap (λ c. collected (c ∷ drop (i + 1) claims) owners at) (sym is) ∙ collected-first claim (drop (i + 1) claims) owners at b e)
+    → collection (drop i claims) owners at ≡ cond b (deletion claim ∷ collection (drop (i + 1) claims) owners at) (collection (drop (i + 1) claims) owners at)
+collection-next claims i claim owners at b lt is e =
+    at_drop_more (λ cs. collection cs owners at) claims i claim lt
+    ∙ (ap (λ c. collection (c ∷ drop (i + 1) claims) owners at) (sym is) ∙ collection-first claim (drop (i + 1) claims) owners at b e)
 
 pub put-next : (put whole rest later : List Request) (request : Request) → put ++ rest ≡ whole → rest ≡ request ∷ later → (put ++ request ∷ []) ++ later ≡ whole
 put-next put whole rest later request e r = append_assoc put (request ∷ []) later ∙ (ap (λ t. put ++ t) (sym r) ∙ e)
@@ -28,17 +28,17 @@ later : (claim : Object) (rest : List Object) (owners : List (List Object)) (at 
 later claim rest owners at request (found, (among, is)) = (found, (inr among, is))
 
 first : (claim : Object) (rest : List Object) (owners : List (List Object)) (at : ℕ) (request : Request) (b : Bool) → is_collectable at (is_listed owners) claim ≡ b
-    → (Among request (collected rest owners at) → (found : Object) × (Among found rest × ((is_collectable at (is_listed owners) found ≡ true) × (request ≡ deletion found))))
-    → Among request (cond b (deletion claim ∷ collected rest owners at) (collected rest owners at))
+    → (Among request (collection rest owners at) → (found : Object) × (Among found rest × ((is_collectable at (is_listed owners) found ≡ true) × (request ≡ deletion found))))
+    → Among request (cond b (deletion claim ∷ collection rest owners at) (collection rest owners at))
     → (found : Object) × (Among found (claim ∷ rest) × ((is_collectable at (is_listed owners) found ≡ true) × (request ≡ deletion found)))
 first claim rest owners at request true e go (inl is) = (claim, (inl refl, (e, is)))
 first claim rest owners at request true e go (inr h) = later claim rest owners at request (go h)
 first claim rest owners at request false e go h = later claim rest owners at request (go h)
 
 -- the claim of a request that is collected
-pub claim_of : (claims : List Object) (owners : List (List Object)) (at : ℕ) (request : Request) → Among request (collected claims owners at)
+pub claim_of : (claims : List Object) (owners : List (List Object)) (at : ℕ) (request : Request) → Among request (collection claims owners at)
     → (claim : Object) × (Among claim claims × ((is_collectable at (is_listed owners) claim ≡ true) × (request ≡ deletion claim)))
 claim_of [] owners at request h = elim h [ ]
 claim_of (claim ∷ rest) owners at request h =
     let b = is_collectable at (is_listed owners) claim in
-    first claim rest owners at request b refl (claim_of rest owners at request) (subst (Among request) (collected-first claim rest owners at b refl) h)
+    first claim rest owners at request b refl (claim_of rest owners at request) (subst (Among request) (collection-first claim rest owners at b refl) h)

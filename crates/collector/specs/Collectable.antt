@@ -38,16 +38,16 @@ abbrev pub is_listed : List (List Object) → ℕ → Bool
 is_listed lists n = list_any (λ (objects : List Object). list_any (λ (o : Object). o.meta.uid == n) objects) lists
 
 -- the text of a number that is not 0
-abbrev pub given : (ℕ → List ℕ) → ℕ → Option (List ℕ)
-given text n = if n == 0 then None else Some (text n)
+abbrev pub text_unless_zero : (ℕ → List ℕ) → ℕ → Option (List ℕ)
+text_unless_zero text n = if n == 0 then None else Some (text n)
 
 -- the delete of an object just as it was read: by its UID and its resource version, at once
 abbrev pub deletion : Object → Request
-deletion claim = Delete claim.key (given uid_text claim.meta.uid) (given decimal claim.meta.revision) None
+deletion claim = Delete claim.key (text_unless_zero uid_text claim.meta.uid) (text_unless_zero decimal claim.meta.revision) None
 
 -- the deletes of the collectable claims, in the order of the claims
-abbrev pub collected : List Object → List (List Object) → ℕ → List Request
-collected claims owners listed_at = map deletion (filter (is_collectable listed_at (is_listed owners)) claims)
+abbrev pub collection : List Object → List (List Object) → ℕ → List Request
+collection claims owners listed_at = map deletion (filter (is_collectable listed_at (is_listed owners)) claims)
 
 -- one of these owner references names the UID of that number
 abbrev pub HasOwner : ℕ → Items → Type 0

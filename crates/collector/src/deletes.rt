@@ -1,7 +1,7 @@
 ghost use Rattle.std.specs.Prelude.{◌≡◌, ◌<◌, ◌^◌, IfOk, map, decimal};
 ghost use Rattle.std.specs.BTreeSet.{contains};
 ghost use Rattle.std.specs.Ordering.{nat_cmp};
-ghost use Rattle.collector.specs.Collectable.{are_gone, collected, deletion, given, is_collectable, is_gone, owner_number};
+ghost use Rattle.collector.specs.Collectable.{are_gone, collection, deletion, text_unless_zero, is_collectable, is_gone, owner_number};
 ghost use Rattle.objects.specs.Tree.{data_of, items_of};
 ghost use Rattle.objects.specs.Uid.{uid_text};
 
@@ -24,7 +24,7 @@ pub fn collect(
     owners: &[&[Object]],
     listed_at: u64,
 ) -> Result<Vec<Request>, Memory>
-    ensures { IfOk result (λ requests. requests.items ≡ collected claims.now (map (λ list. list.now) owners.now) listed_at) }
+    ensures { IfOk result (λ requests. requests.items ≡ collection claims.now (map (λ list. list.now) owners.now) listed_at) }
 {
     let listed = uids_in(alloc, owners)?;
     let mut deletes = Vec::new(alloc);
@@ -73,8 +73,8 @@ fn deletion(alloc: Global, claim: &Object) -> Result<Request, Memory>
     ensures { IfOk result (λ request. request ≡ deletion claim.now) }
 {
     let key = claim.key.clone()?;
-    let uid = uid_given(alloc, claim.meta.uid)?;
-    let version = version_given(alloc, claim.meta.revision)?;
+    let uid = uid_unless_zero(alloc, claim.meta.uid)?;
+    let version = version_unless_zero(alloc, claim.meta.revision)?;
     Ok(Request::Delete {
         key,
         uid,
@@ -84,9 +84,9 @@ fn deletion(alloc: Global, claim: &Object) -> Result<Request, Memory>
 }
 
 /// The text of a UID, unless it is 0.
-fn uid_given(alloc: Global, number: u64) -> Result<Option<Text>, Memory>
+fn uid_unless_zero(alloc: Global, number: u64) -> Result<Option<Text>, Memory>
     requires { number < 2 ^ 48 }
-    ensures { IfOk result (λ text. text ≡ given uid_text number) }
+    ensures { IfOk result (λ text. text ≡ text_unless_zero uid_text number) }
 {
     // 0 stands for no UID, and below for no version.
     if number == 0 {
@@ -96,11 +96,11 @@ fn uid_given(alloc: Global, number: u64) -> Result<Option<Text>, Memory>
 }
 
 /// The text of a resource version, unless it is 0.
-fn version_given(alloc: Global, revision: u64) -> Result<Option<Text>, AllocError>
-    ensures { IfOk result (λ text. text ≡ given decimal revision) }
+fn version_unless_zero(alloc: Global, number: u64) -> Result<Option<Text>, AllocError>
+    ensures { IfOk result (λ text. text ≡ text_unless_zero decimal number) }
 {
-    if revision == 0 {
+    if number == 0 {
         return Ok(None);
     }
-    Ok(Some(Text::from(format!(in alloc; "{revision}")?)))
+    Ok(Some(Text::from(format!(in alloc; "{number}")?)))
 }

@@ -31,7 +31,7 @@ use Rattle.set_views.specs.Steps.{◌>>=◌, guarded, required}
 use Rattle.set_views.specs.Words.{in_namespace, in_range, is_kind}
 use Rattle.revisions.specs.Built.{new_revision}
 use Rattle.revisions.specs.Choice.{Choice, in_place, to_renumber, to_create, choice_from, choice_of, data_with, greatest, has_data}
-use Rattle.revisions.specs.History.{expired}
+use Rattle.revisions.specs.History.{expired_revisions}
 use Rattle.revisions.specs.Name.{first_free, most_tries, revision_name}
 use Rattle.revisions.specs.Plan as revision_plans
 use Rattle.revisions.specs.Plan.{created, renumbered, settled, plan_of}
@@ -42,7 +42,7 @@ use Rattle.pod_steps.specs.declared.step.Step.TheVariants as steps
 use Rattle.pod_steps.specs.Listed.{is_named}
 use Rattle.pod_steps.specs.Replicas.{Pods}
 use Rattle.pod_steps.specs.Step.{is_of_pod}
-use Rattle.pod_steps.specs.Whole as pod_steps
+use Rattle.pod_steps.specs.FullSteps as pod_steps
 use Rattle.pod_steps.proofs.AtOnce.{alone, nowhere}
 use Rattle.pod_steps.proofs.Causes as causes
 use Rattle.pod_steps.proofs.Causes.{created_is_absent}
@@ -52,17 +52,17 @@ use Rattle.manifests.specs.BuiltClaim.{built_claim}
 use Rattle.manifests.specs.BuiltStatus.{built_status}
 use Rattle.claims.specs.declared.change.ClaimChange.{ClaimChange}
 use Rattle.claims.specs.declared.change.ClaimChange.TheVariants as changes
-use Rattle.claims.specs.Changes.{all_made, entries_of, kept_claims, made, made_claims, released_claims, update, updated}
+use Rattle.claims.specs.Changes.{all_creates_and_updates, entries_of, keep_claims, create_or_update, make_claims, release_claims, update, with_owner_entries}
 use Rattle.claims.specs.Listed.{listed_claim}
-use Rattle.claims.specs.Owners.{owner_in_range, owner_of_condemned, wanted}
+use Rattle.claims.specs.Owners.{owner_in_range, owner_of_condemned, wanted_entries}
 use Rattle.collector.specs.Collectable.{Among}
 use Rattle.sets.specs.declared.action.Action.{Action}
 use Rattle.sets.specs.declared.action.Action.TheVariants.{CreateClaim, CreatePod, DeletePod, UpdateClaim, WriteRevision, DeleteRevision, WriteStatus, Wait}
 use Rattle.sets.specs.Actions.{Claims, actions_of, changes_in, claim_action, claim_actions, name_at, new_pod, revision_of}
 use Rattle.sets.specs.Laws.{HasHealthyTarget, is_on_pod as acts_on_pod}
-use Rattle.sets.specs.Plan.{fitting, plan_by, plan_of_pods, refusal}
-use Rattle.sets.specs.Planned.{owned_of, planned, views_of}
-use Rattle.sets.specs.Whole.{current_name, deletion, deletions, status_of, status_write, whole}
+use Rattle.sets.specs.Plan.{fitting_pods, plan_by, plan_of_pods, refusal}
+use Rattle.sets.specs.PlanOfLists.{owned_of, plan_of_lists, views_of}
+use Rattle.sets.specs.FullPlan.{current_name, deletion, deletions, status_of, status_write, full_plan}
 use Rattle.sets.proofs.Ordered.{all_among, all_in_order}
 use Rattle.sets.proofs.Origins.{created_alone, healthy_target, in_take, is_from_step, one_pod, origin, planned_over, renumbered_alone}
 use Rattle.sets.proofs.Owned.{filtered, first_among, total}
@@ -114,10 +114,10 @@ apart_update : (b : Bool) (o : Object) → IsChangeApart (cond b None (Some (cha
 apart_update true o = tt
 apart_update false o = tt
 
-apart_made : (set : SetParts) (i : ℕ) (c : Claim) (here : Option Object) → IsChangeApart (made set i c here)
+apart_made : (set : SetParts) (i : ℕ) (c : Claim) (here : Option Object) → IsChangeApart (create_or_update set i c here)
 unfolding built_claim
 apart_made set i c None = refl
-apart_made set i c (Some o) = apart_update _ (updated o (wanted set (name_at set i) (owner_in_range set) (entries_of o)))
+apart_made set i c (Some o) = apart_update _ (with_owner_entries o (wanted_entries set (name_at set i) (owner_in_range set) (entries_of o)))
 
 apart_there : (h : Object → Option ClaimChange) → ((o : Object) → IsChangeApart (h o)) → (here : Option Object) → IsChangeApart (option_and_then h here)
 apart_there h each None = tt
@@ -131,14 +131,14 @@ module _ (set : SetParts) (claims : Claims) (current newest : Object) where
   apart_step : (s : Step) → AllByRecursion IsApart (actions_of set claims current newest s)
   unfolding actions_of
   apart_step (steps.MakeClaims i) =
-      apart_guarded _ (all_made set claims i set.claims)
-      (apart_changes (λ c. made set i c (claims (claim_name c.0 set.object.key.name i))) (λ c. apart_made set i c (claims (claim_name c.0 set.object.key.name i))) set.claims)
+      apart_guarded _ (all_creates_and_updates set claims i set.claims)
+      (apart_changes (λ c. create_or_update set i c (claims (claim_name c.0 set.object.key.name i))) (λ c. apart_made set i c (claims (claim_name c.0 set.object.key.name i))) set.claims)
   apart_step (steps.KeepClaims i) =
       apart_changes _ (λ c.
-      apart_there (update set (name_at set i) (owner_in_range set)) (λ o. apart_update _ (updated o (wanted set (name_at set i) (owner_in_range set) (entries_of o)))) (claims (claim_name c.0 set.object.key.name i))) set.claims
+      apart_there (update set (name_at set i) (owner_in_range set)) (λ o. apart_update _ (with_owner_entries o (wanted_entries set (name_at set i) (owner_in_range set) (entries_of o)))) (claims (claim_name c.0 set.object.key.name i))) set.claims
   apart_step (steps.ReleaseClaims i uid) =
       apart_changes _ (λ c.
-      apart_there (update set (name_at set i) (owner_of_condemned set uid)) (λ o. apart_update _ (updated o (wanted set (name_at set i) (owner_of_condemned set uid) (entries_of o)))) (claims (claim_name c.0 set.object.key.name i))) set.claims
+      apart_there (update set (name_at set i) (owner_of_condemned set uid)) (λ o. apart_update _ (with_owner_entries o (wanted_entries set (name_at set i) (owner_of_condemned set uid) (entries_of o)))) (claims (claim_name c.0 set.object.key.name i))) set.claims
   apart_step (steps.CreatePod i revision) = (tt, tt)
   apart_step (steps.DeletePod i uid) = (tt, tt)
   apart_step (steps.Wait i cause) = (tt, tt)
@@ -159,21 +159,21 @@ apart_status : (written : Option Object) → AllByRecursion IsApart (option_map_
 apart_status None = tt
 apart_status (Some o) = (tt, tt)
 
-apart_whole : (set : SetParts) (claims : Claims) (views : List PodParts) (owned : List Object) (current newest : Object) (pods : Pods) → AllByRecursion IsApart (whole set claims views owned current newest pods)
-unfolding whole
+apart_whole : (set : SetParts) (claims : Claims) (views : List PodParts) (owned : List Object) (current newest : Object) (pods : Pods) → AllByRecursion IsApart (full_plan set claims views owned current newest pods)
+unfolding full_plan
 apart_whole set claims views owned current newest pods =
     let name : List ℕ = current_name set pods current newest in
-    let made : List Action = flat_map (actions_of set claims current newest) (pod_steps.planned set pods) in
-    let gone : List Action = deletions set views owned name newest.key.name (pod_steps.planned set pods) in
+    let made : List Action = flat_map (actions_of set claims current newest) (pod_steps.full_steps set pods) in
+    let gone : List Action = deletions set views owned name newest.key.name (pod_steps.full_steps set pods) in
     let written : List Action = status_write set (status_of set pods name newest.key.name) in
     all_joined IsApart (made ++ gone) written
-    (all_joined IsApart made gone (apart_steps set claims current newest (pod_steps.planned set pods)) (apart_deletions (list_any is_of_pod (pod_steps.planned set pods)) (expired set views name newest.key.name owned)))
+    (all_joined IsApart made gone (apart_steps set claims current newest (pod_steps.full_steps set pods)) (apart_deletions (list_any is_of_pod (pod_steps.full_steps set pods)) (expired_revisions set views name newest.key.name owned)))
     (apart_status (built_status set (status_of set pods name newest.key.name)))
 
 apart_in_place : (set : SetParts) (claims : Claims) (views : List PodParts) (owned : List Object) (current newest : Object) (actions : List Action) (a : Action) → plan_of_pods set claims views owned current newest ≡ Ok actions → Contains actions a → IsApart a
 apart_in_place set claims views owned current newest actions a e at =
     let p = planned_over set claims views owned current newest actions e in
-    let all : List Action = whole set claims views owned current newest p.0 in
+    let all : List Action = full_plan set claims views owned current newest p.0 in
     among_all IsApart all a (apart_whole set claims views owned current newest p.0)
     (among_contained all a (in_take 1024 all a (subst (λ (l : List Action). Contains l a) p.1.1 at)))
 
@@ -183,7 +183,7 @@ abbrev IsOtherResult : Result Object PlanError → Type 0
 IsOtherResult (Ok o) = IsOther o
 IsOtherResult (Err e) = ⊤
 
-abbrev IsRevisionPlan : Result revision_plans.Planned PlanError → Type 0
+abbrev IsRevisionPlan : Result revision_plans.PlanParts PlanError → Type 0
 IsRevisionPlan (Ok (created o)) = IsOther o
 IsRevisionPlan (Ok (renumbered o)) = IsOther o
 IsRevisionPlan (Ok (settled owned current newest)) = ⊤
@@ -260,7 +260,7 @@ never_made (Err d) e x is = let clash : false ≡ true = ap is_made is in true�
 
 refused : (set : SetParts) (views : List PodParts) (e : PlanError) (actions : List Action) → refusal set views e ≡ Ok actions → ⊥
 unfolding is_made
-refused set views errors.NoRevisionName actions is = never_made (fitting set [] [] views) errors.NoRevisionName actions is
+refused set views errors.NoRevisionName actions is = never_made (fitting_pods set [] [] views) errors.NoRevisionName actions is
 refused set views e actions is = let clash : false ≡ true = ap is_made is in true≢false (sym clash)
 
 writes_alone : (actions : List Action) (x : Object) (a : Action) → actions ≡ WriteRevision x ∷ [] → Contains actions a → WriteRevision x ≡ a
@@ -307,9 +307,9 @@ pod_in x (Wait cause name) = x
 created_from : (set : SetParts) (claims : Claims) (current newest : Object) (s : Step) (pod : Object) → Contains (actions_of set claims current newest s) (CreatePod pod)
     → (i : ℕ) × (revision : Revision) × (s ≡ steps.CreatePod i revision) × (new_pod set (revision_of current newest revision) i ≡ pod)
 unfolding actions_of creates_pod pod_in
-created_from set claims current newest (steps.MakeClaims i) pod h = absurd (not_of_claims (changes_in (made_claims set claims i)) (CreatePod pod) refl h)
-created_from set claims current newest (steps.KeepClaims i) pod h = absurd (not_of_claims (kept_claims set claims i) (CreatePod pod) refl h)
-created_from set claims current newest (steps.ReleaseClaims i uid) pod h = absurd (not_of_claims (released_claims set claims i uid) (CreatePod pod) refl h)
+created_from set claims current newest (steps.MakeClaims i) pod h = absurd (not_of_claims (changes_in (make_claims set claims i)) (CreatePod pod) refl h)
+created_from set claims current newest (steps.KeepClaims i) pod h = absurd (not_of_claims (keep_claims set claims i) (CreatePod pod) refl h)
+created_from set claims current newest (steps.ReleaseClaims i uid) pod h = absurd (not_of_claims (release_claims set claims i uid) (CreatePod pod) refl h)
 created_from set claims current newest (steps.CreatePod i revision) pod h =
     (i, revision, refl, ap (pod_in pod) (alone (CreatePod (new_pod set (revision_of current newest revision) i)) (CreatePod pod) h))
 created_from set claims current newest (steps.DeletePod i uid) pod h = absurd (other_than (DeletePod (name_at set i) uid) (CreatePod pod) refl refl h)
@@ -333,7 +333,7 @@ created_next set claims views owned current newest actions pod policy e h =
     let p = planned_over set claims views owned current newest actions e in
     let s = origin set claims views owned current newest actions p.0 (CreatePod pod) refl p.1 h in
     let c = created_from set claims current newest s.0 pod s.2 in
-    let there = subst (λ (x : Step). Contains (pod_steps.planned set p.0) x) c.2 s.1 in
+    let there = subst (λ (x : Step). Contains (pod_steps.full_steps set p.0) x) c.2 s.1 in
     record {
       ordinal = c.0;
       name_is = ap (λ (o : Object). o.key.name) (sym c.3);
@@ -344,14 +344,14 @@ created_next set claims views owned current newest actions pod policy e h =
     }
 
 module _ (set : SetParts) (claims : Claims) (views : List PodParts) (actions : List Action) where
-  apart : (p : Result revision_plans.Planned PlanError) (a : Action) → IsRevisionPlan p → plan_by set claims views p ≡ Ok actions → Contains actions a → IsApart a
+  apart : (p : Result revision_plans.PlanParts PlanError) (a : Action) → IsRevisionPlan p → plan_by set claims views p ≡ Ok actions → Contains actions a → IsApart a
   unfolding plan_by
   apart (Ok (created x)) a other e at = subst IsApart (writes_alone actions x a (created_alone set claims views actions x e) at) other
   apart (Ok (renumbered x)) a other e at = subst IsApart (writes_alone actions x a (renumbered_alone set claims views actions x e) at) other
   apart (Ok (settled owned current newest)) a other e at = apart_in_place set claims views owned current newest actions a e at
   apart (Err x) a other e at = absurd (refused set views x actions e)
 
-  in_turn : (p : Result revision_plans.Planned PlanError) (pod : Object) → set.policy ≡ OrderedReady → plan_by set claims views p ≡ Ok actions → Contains actions (CreatePod pod)
+  in_turn : (p : Result revision_plans.PlanParts PlanError) (pod : Object) → set.policy ≡ OrderedReady → plan_by set claims views p ≡ Ok actions → Contains actions (CreatePod pod)
       → IsNext set views pod × IsFew actions
   unfolding plan_by
   in_turn (Ok (created x)) pod policy e at = let clash : WriteRevision x ≡ CreatePod pod = writes_alone actions x (CreatePod pod) (created_alone set claims views actions x e) at in absurd (cc)
@@ -487,15 +487,15 @@ single r (x ∷ []) few (inr at) = absurd at
 single r (x ∷ y ∷ rs) few at = absurd (omega (arith, few))
 
 made_in_turn : (set : SetParts) (digits : ℕ) (moment : List ℕ) (revisions pods claims : List Object) (requests : List Request) (d : Draft) (p : Result (List Action) PlanError) → set.policy ≡ OrderedReady
-    → planned set digits revisions pods claims ≡ p → (p >>= λ actions. Ok (requests_of set.object.key.namespace moment actions)) ≡ Ok requests → Among (Create d) requests → is_kind kinds.Pod d.object.key.kind ≡ true
+    → plan_of_lists set digits revisions pods claims ≡ p → (p >>= λ actions. Ok (requests_of set.object.key.namespace moment actions)) ≡ Ok requests → Among (Create d) requests → is_kind kinds.Pod d.object.key.kind ≡ true
     → IsInTurn set pods requests d
-unfolding planned is_made
+unfolding plan_of_lists is_made
 made_in_turn set digits moment revisions pods claims requests d (Err e) policy plan is at kind = let clash : false ≡ true = ap is_made is in absurd (true≢false (sym clash))
 made_in_turn set digits moment revisions pods claims requests d (Ok actions) policy plan is at kind =
     let namespace = set.object.key.namespace in
     let held : List ℕ → Bool = is_held (listed set revisions) in
     let views = views_of set pods in
-    let p : Result revision_plans.Planned PlanError = plan_of set held digits (owned_of set revisions) in
+    let p : Result revision_plans.PlanParts PlanError = plan_of set held digits (owned_of set revisions) in
     let made : requests_of namespace moment actions ≡ requests = ap or_none is in
     let all : AllByRecursion IsApart actions = all_among IsApart actions (λ a among. apart set (listed_claim set claims) views actions p a
     (revision_is_other set held digits (owned_of set revisions) (owned_are_other set revisions)) plan (contains_among a actions among)) in
@@ -518,5 +518,5 @@ pub created_in_turn : (o : Object) (set : SetParts) (digits : ℕ) (moment : Lis
     → requested o digits moment revisions pods claims ≡ Ok requests → Among (Create d) requests → d.object.key.kind ≡ kinds.Pod → IsInTurn set pods requests d
 unfolding requested requested_for
 created_in_turn o set digits moment revisions pods claims requests d read policy is at kind =
-    made_in_turn set digits moment revisions pods claims requests d (planned set digits revisions pods claims) policy refl
+    made_in_turn set digits moment revisions pods claims requests d (plan_of_lists set digits revisions pods claims) policy refl
     (sym (ap (λ (s : Result SetParts PlanError). s >>= λ t. requested_for t digits moment revisions pods claims) read) ∙ is) at (ap (is_kind kinds.Pod) kind)

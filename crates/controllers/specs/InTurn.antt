@@ -16,7 +16,7 @@ use Rattle.set_views.specs.Words.{in_range, is_kind}
 use Rattle.pod_steps.specs.Listed.{is_named}
 use Rattle.sets.specs.Actions.{name_at}
 use Rattle.sets.specs.Laws.{HasHealthyTarget}
-use Rattle.sets.specs.Planned.{views_of}
+use Rattle.sets.specs.PlanOfLists.{views_of}
 use Rattle.rounds.specs.Planned.{IsPlanned}
 use Rattle.rounds.specs.Reconciler.{Reconciler}
 use Rattle.rounds.specs.Transcript.{Entry, Exchange, Life, of_life}

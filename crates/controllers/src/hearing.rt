@@ -1,7 +1,7 @@
 // Where a reply takes a controller.
 // Values are let go by `drop`, which is proved once for a type and not at each way out.
 ghost use Rattle.std.specs.Prelude.{◌≡◌, ◌∷◌, [], ◌||◌, ℕ, List, true, false, reverse, IfOk, IfSome, IfNone, if◌then◌else◌};
-ghost use Rattle.collector.specs.Collectable.{collected};
+ghost use Rattle.collector.specs.Collectable.{collection};
 ghost use Rattle.rounds.specs.Accepted.{is_accepted};
 ghost use Rattle.rounds.specs.Phase as phases;
 ghost use Rattle.rounds.specs.Phase.{acts, deletes, from_set, is_refusal, reading_set, takes};
@@ -143,7 +143,7 @@ pub(crate) fn collecting(
     listed_at: u64,
 ) -> Result<Progress, Memory>
     ensures { IfOk result (λ p. phase_at p ≡ deletes
-        (collected claims.now (owners.now.sets.now ∷ owners.now.pods.now ∷ owners.now.revisions.now ∷ owners.now.claims.now ∷ []) listed_at)) }
+        (collection claims.now (owners.now.sets.now ∷ owners.now.pods.now ∷ owners.now.revisions.now ∷ owners.now.claims.now ∷ []) listed_at)) }
 {
     let lists = [owners.sets, owners.pods, owners.revisions, owners.claims];
     Ok(deleting(collect(alloc, claims, &lists, listed_at)?))

@@ -13,7 +13,7 @@ use Rattle.objects.specs.MetadataShape.{are_owners, are_texts, labels_fit, metad
 use Rattle.objects.specs.Object.{has_held, object_at}
 use Rattle.objects.specs.Building.{put_some}
 use Rattle.set_views.specs.Set.{SetParts}
-use Rattle.manifests.specs.BuiltClaim.{claim_metadata, labels_given, match_labels, owners_given, selector_of}
+use Rattle.manifests.specs.BuiltClaim.{claim_metadata, labels_if_any, match_labels, owners_if_any, selector_of}
 use Rattle.manifests.specs.Template.{labels_in, part, texts_in, with_all}
 use Rattle.manifests.proofs.PodMetadata.{texts_if}
 
@@ -41,13 +41,13 @@ matched : (found : Option Members) → are_texts (option_map_or (texts_in (codes
 matched None = refl
 matched (Some selector) = texts_found (codes "matchLabels") selector
 
-labels_given_fit : (ms : Members) → are_texts ms ≡ true → labels_fit (labels_given ms) ≡ true
-labels_given_fit no_members h = refl
-labels_given_fit (member k d ms) h = h
+labels_if_any_fit : (ms : Members) → are_texts ms ≡ true → labels_fit (labels_if_any ms) ≡ true
+labels_if_any_fit no_members h = refl
+labels_if_any_fit (member k d ms) h = h
 
-owners_given_fit : (ds : Items) → are_owners ds ≡ true → owners_fit (owners_given ds) ≡ true
-owners_given_fit no_items h = refl
-owners_given_fit (item d ds) h = h
+owners_if_any_fit : (ds : Items) → are_owners ds ≡ true → owners_fit (owners_if_any ds) ≡ true
+owners_if_any_fit no_items h = refl
+owners_if_any_fit (item d ds) h = h
 
 -- annotations, labels and owners, each if it is there
 abbrev metadata_with : Option Members → Option Data → Option Data → Members
@@ -77,10 +77,10 @@ fits_with (Some a) (Some l) (Some o) hl ho = and_from _ _ hl ho
 
 module _ (set : SetParts) (owners : Items) (metadata : Members) where
   pub claim_metadata_unheld : has_held (claim_metadata set owners metadata) ≡ false
-  claim_metadata_unheld = unheld_with (object_at (codes "annotations") metadata) (labels_given (with_all (match_labels set) (labels_in metadata))) (owners_given owners)
+  claim_metadata_unheld = unheld_with (object_at (codes "annotations") metadata) (labels_if_any (with_all (match_labels set) (labels_in metadata))) (owners_if_any owners)
 
   pub claim_metadata_fits : are_owners owners ≡ true → metadata_fits (claim_metadata set owners metadata) ≡ true
   claim_metadata_fits h =
-      fits_with (object_at (codes "annotations") metadata) (labels_given (with_all (match_labels set) (labels_in metadata))) (owners_given owners)
-      (labels_given_fit (with_all (match_labels set) (labels_in metadata)) (texts_over (match_labels set) (labels_in metadata) (matched (selector_of set)) (texts_found (codes "labels") metadata)))
-      (owners_given_fit owners h)
+      fits_with (object_at (codes "annotations") metadata) (labels_if_any (with_all (match_labels set) (labels_in metadata))) (owners_if_any owners)
+      (labels_if_any_fit (with_all (match_labels set) (labels_in metadata)) (texts_over (match_labels set) (labels_in metadata) (matched (selector_of set)) (texts_found (codes "labels") metadata)))
+      (owners_if_any_fit owners h)

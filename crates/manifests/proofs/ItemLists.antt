@@ -8,7 +8,7 @@ use Rattle.objects.specs.Tree.{data_of, items_of, members_of}
 use Rattle.objects.specs.DeclaredTree.{Tree}
 use Rattle.set_views.specs.Set.{SetParts}
 use Rattle.manifests.specs.Arrays.{list_of}
-use Rattle.manifests.specs.BuiltClaim.{labels_given, owners_given}
+use Rattle.manifests.specs.BuiltClaim.{labels_if_any, owners_if_any}
 use Rattle.manifests.specs.Volumes.{volumes_with, with_others}
 
 pub listed_trees : (ts : List Tree) → list_of (items_of ts) ≡ map data_of ts
@@ -23,13 +23,13 @@ pub listed_items : (ds : List Data) → list_of (view.items_of ds) ≡ ds
 listed_items [] = refl
 listed_items (d ∷ ds) = ap (λ l. d ∷ l) (listed_items ds)
 
-pub owners_stand : (ts : List Tree) (ds : Items) → items_of ts ≡ ds → (length ts == 0) ≡ false → Some (array ds) ≡ owners_given ds
+pub owners_stand : (ts : List Tree) (ds : Items) → items_of ts ≡ ds → (length ts == 0) ≡ false → Some (array ds) ≡ owners_if_any ds
 owners_stand [] ds is some = absurd cc
-owners_stand (t ∷ ts) ds is some = sym (ap (λ d. Some (array d)) is) ∙ ap owners_given is
+owners_stand (t ∷ ts) ds is some = sym (ap (λ d. Some (array d)) is) ∙ ap owners_if_any is
 
-pub labels_stand : (es : List (List ℕ × Tree)) (ms : Members) → members_of es ≡ ms → (length es == 0) ≡ false → Some (object ms) ≡ labels_given ms
+pub labels_stand : (es : List (List ℕ × Tree)) (ms : Members) → members_of es ≡ ms → (length es == 0) ≡ false → Some (object ms) ≡ labels_if_any ms
 labels_stand [] ms is some = absurd cc
-labels_stand (e ∷ es) ms is some = sym (ap (λ m. Some (object m)) is) ∙ ap labels_given is
+labels_stand (e ∷ es) ms is some = sym (ap (λ m. Some (object m)) is) ∙ ap labels_if_any is
 
 -- one more item, as what it came from
 pub mapped_more : {A B C : Type 0} (f : A → C) (g : B → C) (done after : List A) (x : A) (ys : List B) (i : ℕ) (y : B) → i < length ys → y ≡ get_or ys i y

@@ -27,9 +27,9 @@ turned : (s t : List ℕ) → bytes_eq s t ≡ bytes_eq t s
 turned s t =
     both (bytes_eq s t) (bytes_eq t s) (λ h. (bytes_eq-Decides t s).1 (sym ((bytes_eq-Decides s t).0 h))) (λ h. (bytes_eq-Decides s t).1 (sym ((bytes_eq-Decides t s).0 h)))
 
-said : (word : List ℕ) (found : Option Data) → option_map_or (is_text word) found false ≡ option_map_or (bytes_eq word) (option_and_then as_str found) false
-said word None = refl
-said word (Some d) = refl
+is_text-as_str : (word : List ℕ) (found : Option Data) → option_map_or (is_text word) found false ≡ option_map_or (bytes_eq word) (option_and_then as_str found) false
+is_text-as_str word None = refl
+is_text-as_str word (Some d) = refl
 
 -- the name of a volume is that of a template, where the volume says that name
 pub named_among : (d : Data) (name : List ℕ) (claims : List Claim) → option_and_then as_str (get (codes "name") d) ≡ Some name
@@ -37,14 +37,14 @@ pub named_among : (d : Data) (name : List ℕ) (claims : List Claim) → option_
 named_among d name [] is = refl
 named_among d name (c ∷ claims) is =
     ap (λ b. b || list_any (bytes_eq name) (names_of claims))
-    (turned name c.0 ∙ sym (said c.0 (get (codes "name") d) ∙ ap (λ found. option_map_or (bytes_eq c.0) found false) is))
+    (turned name c.0 ∙ sym (is_text-as_str c.0 (get (codes "name") d) ∙ ap (λ found. option_map_or (bytes_eq c.0) found false) is))
     ∙ ap (λ b. says (codes "name") c.0 d || b) (named_among d name claims is)
 
 pub unnamed : (d : Data) (claims : List Claim) → option_and_then as_str (get (codes "name") d) ≡ None → false ≡ list_any (λ c. says (codes "name") c.0 d) claims
 unnamed d [] is = refl
 unnamed d (c ∷ claims) is =
     unnamed d claims is
-    ∙ ap (λ b. b || list_any (λ x. says (codes "name") x.0 d) claims) (sym (said c.0 (get (codes "name") d) ∙ ap (λ found. option_map_or (bytes_eq c.0) found false) is))
+    ∙ ap (λ b. b || list_any (λ x. says (codes "name") x.0 d) claims) (sym (is_text-as_str c.0 (get (codes "name") d) ∙ ap (λ found. option_map_or (bytes_eq c.0) found false) is))
 
 any_last : (p any : Bool) → (p || any) ≡ (any || (p || false))
 any_last true true = refl
@@ -61,7 +61,7 @@ name_more q claims i c k before after inside is name after_is so_far =
     ∙ sym (ap (λ l. list_any (bytes_eq q) (names_of l)) (take_more claims i c inside ∙ ap (λ v. take i claims ++ v ∷ []) (sym is))
     ∙ (ap (list_any (bytes_eq q)) (map-append (λ (x : Claim). x.0) (take i claims) (c ∷ [])) ∙ list_any-append (bytes_eq q) (names_of (take i claims)) (c.0 ∷ [])))
 
--- the volumes of a spec are those that it has without a pod's place in the network
+-- the volumes of a spec are those that it has without a pod's network identity
 pub volumes_apart : (name : List ℕ) (service : Option (List ℕ)) (spec : Members)
     → volumes_in (put_some (codes "subdomain") (option_map string service) (put (codes "hostname") (string name) spec)) ≡ volumes_in spec
 volumes_apart name None spec =

@@ -25,20 +25,20 @@ abbrev pub match_labels : SetParts → Members
 match_labels set = option_map_or (texts_in (codes "matchLabels")) (selector_of set) no_members
 
 -- no labels, and no owners, are left out
-abbrev pub labels_given : Members → Option Data
-labels_given no_members = None
-labels_given (member k d ms) = Some (object (member k d ms))
+abbrev pub labels_if_any : Members → Option Data
+labels_if_any no_members = None
+labels_if_any (member k d ms) = Some (object (member k d ms))
 
-abbrev pub owners_given : Items → Option Data
-owners_given no_items = None
-owners_given (item d ds) = Some (array (item d ds))
+abbrev pub owners_if_any : Items → Option Data
+owners_if_any no_items = None
+owners_if_any (item d ds) = Some (array (item d ds))
 
 -- the template's annotations, its labels with those of the selector put over them, and these owners
 abbrev pub claim_metadata : SetParts → Items → Members → Members
 claim_metadata set owners metadata =
     put_some (codes "annotations") (part_in (codes "annotations") metadata)
-    (put_some (codes "labels") (labels_given (with_all (match_labels set) (labels_in metadata)))
-    (put_some (codes "ownerReferences") (owners_given owners) no_members))
+    (put_some (codes "labels") (labels_if_any (with_all (match_labels set) (labels_in metadata)))
+    (put_some (codes "ownerReferences") (owners_if_any owners) no_members))
 
 -- the template's spec
 abbrev pub claim_members : Members → Members

@@ -30,7 +30,7 @@ pod_metadata set name revision ordinal metadata =
     put (codes "labels") (object (pod_labels name revision ordinal (labels_in metadata)))
     (put_some (codes "annotations") (part_in (codes "annotations") metadata) (owned_metadata set))
 
--- the template's spec, with the pod's place in the network and its claims over it
+-- the template's spec, with the pod's network identity and its claims over it
 abbrev pub pod_spec : SetParts → List ℕ → ℕ → Members → Members
 pod_spec set name ordinal spec =
     with_volumes set ordinal (put_some (codes "subdomain") (option_map string set.service) (put (codes "hostname") (string name) spec))

@@ -8,7 +8,7 @@ ghost use Rattle.objects.specs.Names.{is_dns_label};
 ghost use Rattle.objects.specs.PodNames.{claim_name, pod_name};
 ghost use Rattle.objects.specs.Tree.{data_of};
 ghost use Rattle.set_views.specs.Set.{set_parts};
-ghost use Rattle.manifests.specs.BuiltClaim.{built_claim, claim_members, claim_metadata, labels_given, match_labels, owners_given, selector_of};
+ghost use Rattle.manifests.specs.BuiltClaim.{built_claim, claim_members, claim_metadata, labels_if_any, match_labels, owners_if_any, selector_of};
 
 use crate::members::{part, part_in, with_all};
 use crate::template::{labels_in, texts_in};
@@ -54,8 +54,8 @@ fn match_labels(alloc: Global, set: &Set) -> Result<Members, AllocError>
 }
 
 /// Labels, left out if there are none.
-fn labels_given(labels: Members) -> Option<Tree>
-    ensures { option_map data_of result ≡ labels_given labels }
+fn labels_if_any(labels: Members) -> Option<Tree>
+    ensures { option_map data_of result ≡ labels_if_any labels }
 {
     if labels.entries().is_empty() {
         drop(labels);
@@ -65,8 +65,8 @@ fn labels_given(labels: Members) -> Option<Tree>
 }
 
 /// Owners, left out if there are none.
-fn owners_given(owners: Items) -> Option<Tree>
-    ensures { option_map data_of result ≡ owners_given owners }
+fn owners_if_any(owners: Items) -> Option<Tree>
+    ensures { option_map data_of result ≡ owners_if_any owners }
 {
     if owners.as_slice().is_empty() {
         drop(owners);
@@ -84,13 +84,13 @@ fn claim_metadata(
 ) -> Result<Members, AllocError>
     ensures { IfOk result (λ ms. ms ≡ claim_metadata (set_parts set.now) owners metadata.now) }
 {
-    let owned = Members::none(alloc)?.with_some("ownerReferences", owners_given(owners))?;
+    let owned = Members::none(alloc)?.with_some("ownerReferences", owners_if_any(owners))?;
     let selected = match_labels(alloc, set)?;
     let own = labels_in(alloc, metadata)?;
     let labels = with_all(alloc, &own, &selected)?;
     drop(selected);
     drop(own);
-    let labelled = owned.with_some("labels", labels_given(labels))?;
+    let labelled = owned.with_some("labels", labels_if_any(labels))?;
     labelled.with_some("annotations", part_in(metadata, "annotations")?)
 }
 

@@ -88,7 +88,7 @@ fn first_of<'a>(under: &'a [(Text, Tree)], over: &'a [(Text, Tree)]) -> Option<F
 }
 
 /// The entries with those `over` put over them. Each is looked at once.
-fn merged(
+fn merge(
     alloc: Global,
     under: &[(Text, Tree)],
     over: &[(Text, Tree)],
@@ -116,6 +116,6 @@ pub(crate) fn with_all(
 ) -> Result<Members, AllocError>
     ensures { IfOk result (λ ms. ms ≡ with_all more.now members.now) }
 {
-    let all = merged(alloc, members.entries(), more.entries())?;
+    let all = merge(alloc, members.entries(), more.entries())?;
     Members::of(alloc, all)
 }

@@ -63,8 +63,13 @@ fn subdomain_of(set: &Set) -> Result<Option<Tree>, AllocError>
     }
 }
 
-/// The spec with a pod's place in the network.
-fn placed(alloc: Global, set: &Set, name: &str, spec: Members) -> Result<Members, AllocError>
+/// The spec with a pod's network identity: its hostname and its subdomain.
+fn with_network_id(
+    alloc: Global,
+    set: &Set,
+    name: &str,
+    spec: Members,
+) -> Result<Members, AllocError>
     ensures { IfOk result (λ ms. ms ≡ put_some (codes "subdomain") (option_map string (set_parts set.now).service)
         (put (codes "hostname") (string name.now) spec)) }
 {
@@ -83,7 +88,7 @@ fn pod_spec(
         (part (codes "spec") (template_of template.now.revision.now))) }
 {
     let own = template.spec.clone()?;
-    let spec = placed(alloc, template.set, name, own)?;
+    let spec = with_network_id(alloc, template.set, name, own)?;
     let whole = with_others(alloc, template.set, ordinal, &template.others, spec)?;
     Ok(whole)
 }

@@ -52,7 +52,7 @@ impl<'a> PodTemplate<'a> {
         // Let go by name, here and below, which is proved once for the type and not at each way out.
         drop(members);
         let labels = labels_in(alloc, &given)?;
-        let metadata = annotated(alloc, set, &given)?;
+        let metadata = with_annotations(alloc, set, &given)?;
         drop(given);
         let others = other_volumes(alloc, set, &spec)?;
         Ok(PodTemplate {
@@ -67,7 +67,7 @@ impl<'a> PodTemplate<'a> {
 }
 
 /// The set as the owner, and the annotations of this metadata.
-fn annotated(alloc: Global, set: &Set, metadata: &Members) -> Result<Members, Memory>
+fn with_annotations(alloc: Global, set: &Set, metadata: &Members) -> Result<Members, Memory>
     ensures { IfOk result (λ ms. ms ≡ put_some (codes "annotations") (part_in (codes "annotations") metadata.now) (owned_metadata (set_parts set.now))) }
 {
     let annotations = part_in(metadata, "annotations")?;

@@ -77,7 +77,7 @@ fn is_replaced(set: &Set, names: &BTreeSet<&str>, volume: &Tree) -> bool
 }
 
 /// Those of these volumes that have no name of a claim template.
-fn unreplaced(
+fn volumes_not_replaced(
     alloc: Global,
     set: &Set,
     names: &BTreeSet<&str>,
@@ -116,7 +116,7 @@ pub(crate) fn other_volumes(alloc: Global, set: &Set, spec: &Members) -> Result<
     ensures { IfOk result (λ others. others ≡ view_items (other_volumes (set_parts set.now) spec.now)) }
 {
     let names = names_of(alloc, set)?;
-    let others = unreplaced(alloc, set, &names, volumes_in(spec))?;
+    let others = volumes_not_replaced(alloc, set, &names, volumes_in(spec))?;
     // Let go by name, which is proved once for the type and not at each way out.
     drop(names);
     let items = Items::of(alloc, others)?;

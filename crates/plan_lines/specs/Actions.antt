@@ -10,12 +10,12 @@ use Rattle.sets.specs.declared.action.Action.{Action}
 use Rattle.sets.specs.declared.action.Action.TheVariants.{CreateClaim, CreatePod, DeletePod, UpdateClaim, WriteRevision, DeleteRevision, WriteStatus, Wait}
 
 -- the text of a UID; of 0, and of a number that no UID has, the empty text
-abbrev pub uid_shown : ℕ → List ℕ
-uid_shown n = if nat_lt n (2 ^ 48) then uid_text n else []
+abbrev pub uid_or_empty : ℕ → List ℕ
+uid_or_empty n = if nat_lt n (2 ^ 48) then uid_text n else []
 
 -- the text of a resource version; of 0 the empty text
-abbrev pub version_shown : ℕ → List ℕ
-version_shown n = if n == 0 then [] else decimal n
+abbrev pub version_or_empty : ℕ → List ℕ
+version_or_empty n = if n == 0 then [] else decimal n
 
 abbrev pub cause_name : Cause → List ℕ
 cause_name Terminating = codes "Terminating"
@@ -28,16 +28,16 @@ with_object word o = object (member (codes "do") (string word) (member (codes "o
 -- `{"do":"DeletePod","name":N,"uid":U}`
 abbrev pub pod_deletion : List ℕ → ℕ → Data
 pod_deletion name uid =
-    object (member (codes "do") (string (codes "DeletePod")) (member (codes "name") (string name) (member (codes "uid") (string (uid_shown uid)) no_members)))
+    object (member (codes "do") (string (codes "DeletePod")) (member (codes "name") (string name) (member (codes "uid") (string (uid_or_empty uid)) no_members)))
 
 -- `{"do":"DeleteRevision","name":N,"resourceVersion":V,"uid":U}`
 abbrev pub revision_deletion : List ℕ → (version uid : ℕ) → Data
 revision_deletion name version uid =
-    object (member (codes "do") (string (codes "DeleteRevision")) (member (codes "name") (string name) (member (codes "resourceVersion") (string (version_shown version)) (member (codes "uid") (string (uid_shown uid)) no_members))))
+    object (member (codes "do") (string (codes "DeleteRevision")) (member (codes "name") (string name) (member (codes "resourceVersion") (string (version_or_empty version)) (member (codes "uid") (string (uid_or_empty uid)) no_members))))
 
 -- `{"cause":C,"do":"Wait","name":N}`
-abbrev pub waiting : Cause → List ℕ → Data
-waiting cause name =
+abbrev pub wait_data : Cause → List ℕ → Data
+wait_data cause name =
     object (member (codes "cause") (string (cause_name cause)) (member (codes "do") (string (codes "Wait")) (member (codes "name") (string name) no_members)))
 
 abbrev pub action_data : Action → Data
@@ -48,4 +48,4 @@ action_data (UpdateClaim claim) = with_object (codes "UpdateClaim") claim
 action_data (WriteRevision revision) = with_object (codes "WriteRevision") revision
 action_data (DeleteRevision name uid version) = revision_deletion name version uid
 action_data (WriteStatus set) = with_object (codes "WriteStatus") set
-action_data (Wait cause name) = waiting cause name
+action_data (Wait cause name) = wait_data cause name

@@ -3,7 +3,7 @@ ghost use Rattle.std.specs.Prelude.{◌≡◌, ◌++◌, ◌∷◌, [], codes, s
 ghost use Rattle.json.specs.Token.{key, string};
 ghost use Rattle.json.specs.Tree.{json_tokens};
 ghost use Rattle.serde_json.specs.Written.{compact_text, outline};
-ghost use Rattle.plan_lines.specs.Actions.{action_data, cause_name, pod_deletion, revision_deletion, uid_shown, version_shown, waiting, with_object};
+ghost use Rattle.plan_lines.specs.Actions.{action_data, cause_name, pod_deletion, revision_deletion, uid_or_empty, version_or_empty, wait_data, with_object};
 
 use json::Writer;
 use objects::{Memory, Object, uid_text};
@@ -29,21 +29,21 @@ fn write_action(alloc: Global, action: &Action, out: &mut Writer) -> Result<(), 
     ensures before { out.new.before ≡ out.old.before }
 {
     match action {
-        Action::CreateClaim(claim) => write_written("CreateClaim", claim, out),
-        Action::CreatePod(pod) => write_written("CreatePod", pod, out),
+        Action::CreateClaim(claim) => write_object_action("CreateClaim", claim, out),
+        Action::CreatePod(pod) => write_object_action("CreatePod", pod, out),
         Action::DeletePod { name, uid } => write_pod_deletion(alloc, name.as_str(), *uid, out),
-        Action::UpdateClaim(claim) => write_written("UpdateClaim", claim, out),
-        Action::WriteRevision(revision) => write_written("WriteRevision", revision, out),
+        Action::UpdateClaim(claim) => write_object_action("UpdateClaim", claim, out),
+        Action::WriteRevision(revision) => write_object_action("WriteRevision", revision, out),
         Action::DeleteRevision { name, uid, version } => {
             write_revision_deletion(alloc, name.as_str(), *uid, *version, out)
         }
-        Action::WriteStatus(set) => write_written("WriteStatus", set, out),
+        Action::WriteStatus(set) => write_object_action("WriteStatus", set, out),
         Action::Wait(cause, name) => write_wait(*cause, name.as_str(), out),
     }
 }
 
 // An action that writes an object.
-fn write_written(word: &str, object: &Object, out: &mut Writer) -> Result<(), AllocError>
+fn write_object_action(word: &str, object: &Object, out: &mut Writer) -> Result<(), AllocError>
     ensures tokens { OnOk result (out.new.tokens ≡ out.old.tokens ++ json_tokens (outline (with_object word.now object.now))) }
     ensures before { out.new.before ≡ out.old.before }
 {
@@ -88,7 +88,7 @@ fn write_revision_deletion(
 }
 
 fn write_wait(cause: Cause, name: &str, out: &mut Writer) -> Result<(), AllocError>
-    ensures tokens { OnOk result (out.new.tokens ≡ out.old.tokens ++ json_tokens (outline (waiting cause name.now))) }
+    ensures tokens { OnOk result (out.new.tokens ≡ out.old.tokens ++ json_tokens (outline (wait_data cause name.now))) }
     ensures before { out.new.before ≡ out.old.before }
 {
     out.begin_object()?;
@@ -109,15 +109,15 @@ fn write_cause(cause: Cause, out: &mut Writer) -> Result<(), AllocError>
 }
 
 fn write_uid(alloc: Global, number: u64, out: &mut Writer) -> Result<(), AllocError>
-    ensures tokens { OnOk result (out.new.tokens ≡ out.old.tokens ++ key (codes "uid") ∷ string (uid_shown number) ∷ []) }
+    ensures tokens { OnOk result (out.new.tokens ≡ out.old.tokens ++ key (codes "uid") ∷ string (uid_or_empty number) ∷ []) }
     ensures before { out.new.before ≡ out.old.before }
 {
-    let text = uid_shown(alloc, number)?;
+    let text = uid_or_empty(alloc, number)?;
     write_text_member("uid", text.as_str(), out)
 }
 
-fn uid_shown(alloc: Global, number: u64) -> Result<String, AllocError>
-    ensures { IfOk result (λ text. string_bytes text ≡ uid_shown number) }
+fn uid_or_empty(alloc: Global, number: u64) -> Result<String, AllocError>
+    ensures { IfOk result (λ text. string_bytes text ≡ uid_or_empty number) }
 {
     if number >= 1 << 48 {
         return Ok(String::new(alloc));
@@ -129,15 +129,19 @@ fn uid_shown(alloc: Global, number: u64) -> Result<String, AllocError>
 }
 
 fn write_version(number: u64, out: &mut Writer) -> Result<(), AllocError>
-    ensures tokens { OnOk result (out.new.tokens ≡ out.old.tokens ++ key (codes "resourceVersion") ∷ string (version_shown number) ∷ []) }
+    ensures tokens { OnOk result (out.new.tokens ≡ out.old.tokens ++ key (codes "resourceVersion") ∷ string (version_or_empty number) ∷ []) }
     ensures before { out.new.before ≡ out.old.before }
 {
     let mut buffer = itoa::Buffer::new();
-    write_text_member("resourceVersion", version_shown(&mut buffer, number), out)
+    write_text_member(
+        "resourceVersion",
+        version_or_empty(&mut buffer, number),
+        out,
+    )
 }
 
-fn version_shown<'a>(buffer: &'a mut itoa::Buffer, number: u64) -> &'a str
-    ensures { result.now ≡ version_shown number }
+fn version_or_empty<'a>(buffer: &'a mut itoa::Buffer, number: u64) -> &'a str
+    ensures { result.now ≡ version_or_empty number }
 {
     // 0 says that none was listed.
     if number == 0 {

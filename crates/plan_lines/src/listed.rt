@@ -58,8 +58,8 @@ pub fn read_objects(alloc: Global, text: &[u8]) -> Result<Listed, ReadError>
     let mut reader = TreeReader::new(alloc);
     let mut listed = Listed::new(alloc);
     let mut rest = text;
-    'lines: while let Some(cut) = split_line(rest) {
-        let (line, after) = cut;
+    'lines: while let Some(split) = split_line(rest) {
+        let (line, after) = split;
         let draft = read_line(alloc, &mut reader, line)?;
         listed.add(draft.object)?;
         rest = after;

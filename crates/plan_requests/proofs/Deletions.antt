@@ -10,22 +10,22 @@ use Rattle.set_views.specs.declared.fault.PlanError.{PlanError}
 use Rattle.set_views.specs.Pod.{PodParts}
 use Rattle.set_views.specs.Set.{SetParts}
 use Rattle.set_views.specs.Steps.{◌>>=◌, guarded}
-use Rattle.revisions.specs.History.{all_but_last, expired, history, is_live}
+use Rattle.revisions.specs.History.{all_but_last, expired_revisions, history, is_live}
 use Rattle.pod_steps.specs.declared.step.Step.{Step}
 use Rattle.pod_steps.specs.declared.step.Step.TheVariants as steps
 use Rattle.pod_steps.specs.Replicas.{Pods}
 use Rattle.pod_steps.specs.Step.{is_of_pod}
-use Rattle.pod_steps.specs.Whole.{planned}
+use Rattle.pod_steps.specs.FullSteps.{full_steps}
 use Rattle.pod_steps.proofs.AtOnce.{alone, nowhere, single, was_there}
 use Rattle.manifests.specs.BuiltStatus.{built_status}
 use Rattle.claims.specs.declared.change.ClaimChange.{ClaimChange}
 use Rattle.claims.specs.declared.change.ClaimChange.TheVariants.{Create, Update as Change}
-use Rattle.claims.specs.Changes.{kept_claims, made_claims, released_claims}
+use Rattle.claims.specs.Changes.{keep_claims, make_claims, release_claims}
 use Rattle.sets.specs.declared.action.Action.{Action}
 use Rattle.sets.specs.declared.action.Action.TheVariants.{CreateClaim, CreatePod, DeletePod, UpdateClaim, WriteRevision, DeleteRevision, WriteStatus, Wait}
 use Rattle.sets.specs.Actions.{Claims, actions_of, changes_in, claim_action, claim_actions, name_at, new_pod, revision_of}
-use Rattle.sets.specs.Plan.{fitting, plan_of_pods}
-use Rattle.sets.specs.Whole.{current_name, deletion, deletions, status_of, status_write, whole}
+use Rattle.sets.specs.Plan.{fitting_pods, plan_of_pods}
+use Rattle.sets.specs.FullPlan.{current_name, deletion, deletions, status_of, status_write, full_plan}
 
 -- the action deletes a revision
 is_deletion : Action → Bool
@@ -56,9 +56,9 @@ not_of_claims (change ∷ changes) a one h =
 
 not_of_step : (set : SetParts) (claims : Claims) (current update : Object) (s : Step) (a : Action) → is_deletion a ≡ true → Contains (actions_of set claims current update s) a → ⊥
 unfolding actions_of is_deletion
-not_of_step set claims current update (steps.MakeClaims i) a one h = not_of_claims (changes_in (made_claims set claims i)) a one h
-not_of_step set claims current update (steps.KeepClaims i) a one h = not_of_claims (kept_claims set claims i) a one h
-not_of_step set claims current update (steps.ReleaseClaims i uid) a one h = not_of_claims (released_claims set claims i uid) a one h
+not_of_step set claims current update (steps.MakeClaims i) a one h = not_of_claims (changes_in (make_claims set claims i)) a one h
+not_of_step set claims current update (steps.KeepClaims i) a one h = not_of_claims (keep_claims set claims i) a one h
+not_of_step set claims current update (steps.ReleaseClaims i uid) a one h = not_of_claims (release_claims set claims i uid) a one h
 not_of_step set claims current update (steps.CreatePod i revision) a one h = other (CreatePod (new_pod set (revision_of current update revision) i)) a refl one h
 not_of_step set claims current update (steps.DeletePod i uid) a one h = other (DeletePod (name_at set i) uid) a refl one h
 not_of_step set claims current update (steps.Wait i cause) a one h = other (Wait cause (name_at set i)) a refl one h
@@ -88,23 +88,23 @@ of_objects (o ∷ os) a h =
     ]
 
 gone : (set : SetParts) (listed : List PodParts) (owned : List Object) (current update : List ℕ) (b : Bool) (a : Action)
-    → Contains (if b then [] else map deletion (expired set listed current update owned)) a → (o : Object) × Contains owned o × (deletion o ≡ a)
+    → Contains (if b then [] else map deletion (expired_revisions set listed current update owned)) a → (o : Object) × Contains owned o × (deletion o ≡ a)
 gone set listed owned current update true a h = absurd (nowhere a h)
 gone set listed owned current update false a h =
-    let r = of_objects (expired set listed current update owned) a h in
+    let r = of_objects (expired_revisions set listed current update owned) a h in
     (r.0, (was_there (λ (o : Object). not (is_live set listed current update o.key.name)) owned r.0 (in_take _ (history set listed current update owned) r.0 r.1)).0, r.2)
 
 of_whole : (set : SetParts) (claims : Claims) (listed : List PodParts) (owned : List Object) (current update : Object) (pods : Pods) (a : Action) → is_deletion a ≡ true
-    → Contains (whole set claims listed owned current update pods) a → (o : Object) × Contains owned o × (deletion o ≡ a)
-unfolding whole
+    → Contains (full_plan set claims listed owned current update pods) a → (o : Object) × Contains owned o × (deletion o ≡ a)
+unfolding full_plan
 of_whole set claims listed owned current update pods a one h =
     let name : List ℕ = current_name set pods current update in
-    let steps : List Action = flat_map (actions_of set claims current update) (planned set pods) in
-    let going : List Action = deletions set listed owned name update.key.name (planned set pods) in
+    let steps : List Action = flat_map (actions_of set claims current update) (full_steps set pods) in
+    let going : List Action = deletions set listed owned name update.key.name (full_steps set pods) in
     elim (Contains-append_cases (steps ++ going) (status_write set (status_of set pods name update.key.name)) a h) [
       | inl k ↦ elim (Contains-append_cases steps going a k) [
-        | inl m ↦ absurd (not_of_steps set claims current update (planned set pods) a one m)
-        | inr m ↦ gone set listed owned name update.key.name (list_any is_of_pod (planned set pods)) a m
+        | inl m ↦ absurd (not_of_steps set claims current update (full_steps set pods) a one m)
+        | inr m ↦ gone set listed owned name update.key.name (list_any is_of_pod (full_steps set pods)) a m
       ]
       | inr k ↦ absurd (not_of_status (built_status set (status_of set pods name update.key.name)) a one k)
     ]
@@ -127,6 +127,6 @@ pub deletes_controlled : (set : SetParts) (claims : Claims) (listed : List PodPa
     → (o : Object) × Contains owned o × (deletion o ≡ DeleteRevision name uid version)
 unfolding plan_of_pods is_deletion
 deletes_controlled set claims listed owned current update actions name uid version e h =
-    let p = over (fitting set update.key.name current.key.name listed) (λ pods. take 1024 (whole set claims listed owned current update pods)) actions e in
+    let p = over (fitting_pods set update.key.name current.key.name listed) (λ pods. take 1024 (full_plan set claims listed owned current update pods)) actions e in
     of_whole set claims listed owned current update p.0 (DeleteRevision name uid version) refl
-    (in_take 1024 (whole set claims listed owned current update p.0) (DeleteRevision name uid version) (subst (λ (l : List Action). Contains l (DeleteRevision name uid version)) p.1 h))
+    (in_take 1024 (full_plan set claims listed owned current update p.0) (DeleteRevision name uid version) (subst (λ (l : List Action). Contains l (DeleteRevision name uid version)) p.1 h))

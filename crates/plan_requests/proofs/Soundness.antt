@@ -29,17 +29,17 @@ use Rattle.pod_steps.specs.Listed.{is_named}
 use Rattle.pod_steps.specs.Views.{listed_pods}
 use Rattle.pod_steps.proofs.AtOnce.{alone}
 use Rattle.claims.specs.Listed.{listed_claim}
-use Rattle.collector.specs.Collectable.{Among, collected}
+use Rattle.collector.specs.Collectable.{Among, collection}
 use Rattle.collector.proofs.Collected.{claim_of}
 use Rattle.sets.specs.declared.action.Action.{Action}
 use Rattle.sets.specs.declared.action.Action.TheVariants.{CreateClaim, CreatePod, DeletePod, UpdateClaim, WriteRevision, DeleteRevision, WriteStatus, Wait}
 use Rattle.sets.specs.Actions.{Claims, name_at}
-use Rattle.sets.specs.Plan.{plan_by, plan_of_pods, refusal, unless_refused, fitting}
+use Rattle.sets.specs.Plan.{plan_by, plan_of_pods, refusal, unless_refused, fitting_pods}
 use Rattle.sets.proofs.Origins.{created_alone, deletes_owned, renumbered_alone}
 use Rattle.rounds.specs.Sound.{HasNamed, IsAction, IsCollection, IsSound}
 use Rattle.rounds.proofs.Lists.{among_contained, among_either, among_left, among_right, contains_among}
 use Rattle.sets.specs.Order.{in_order}
-use Rattle.sets.specs.Planned.{owned_of, planned, views_of}
+use Rattle.sets.specs.PlanOfLists.{owned_of, plan_of_lists, views_of}
 use Rattle.plan_requests.specs.Planned.{deletions, deletion_of, key_of, or_none, new, as_read, request_of, requested, requested_for, requests_of}
 use Rattle.plan_requests.specs.Reconciler.{reconciler_with}
 use Rattle.plan_requests.proofs.Deletions.{deletes_controlled}
@@ -118,13 +118,13 @@ never_made (Err d) e x is = let clash : false ≡ true = ap is_made is in true�
 
 refused : (set : SetParts) (views : List PodParts) (e : PlanError) (actions : List Action) → refusal set views e ≡ Ok actions → ⊥
 unfolding is_made
-refused set views errors.NoRevisionName actions is = never_made (fitting set [] [] views) errors.NoRevisionName actions is
+refused set views errors.NoRevisionName actions is = never_made (fitting_pods set [] [] views) errors.NoRevisionName actions is
 refused set views e actions is = let clash : false ≡ true = ap is_made is in true≢false (sym clash)
 
 writes_alone : (actions : List Action) (x : Object) (a : Action) → actions ≡ WriteRevision x ∷ [] → Contains actions a → WriteRevision x ≡ a
 writes_alone actions x a is at = alone (WriteRevision x) a (subst (λ (l : List Action). Contains l a) is at)
 
-pod_planned : (set : SetParts) (claims : Claims) (pods : List Object) (p : Result revision_plans.Planned PlanError) (actions : List Action) (name : List ℕ) (uid : ℕ) → plan_by set claims (views_of set pods) p ≡ Ok actions
+pod_planned : (set : SetParts) (claims : Claims) (pods : List Object) (p : Result revision_plans.PlanParts PlanError) (actions : List Action) (name : List ℕ) (uid : ℕ) → plan_by set claims (views_of set pods) p ≡ Ok actions
     → Contains actions (DeletePod name uid) → IsListed pods kinds.Pod set.object.key.namespace name uid
 unfolding plan_by
 pod_planned set claims pods (Ok (created x)) actions name uid e at =
@@ -151,7 +151,7 @@ owned_listed set revisions o at =
     filtered (in_namespace set kinds.ControllerRevision) x revisions (first_among (listed set revisions) x (filtered (is_owned set) x (first_of_each (listed set revisions)) h).0))))
     (among_contained (owned_of set revisions) o at)
 
-owned_in : List Object → Result revision_plans.Planned PlanError → List Object
+owned_in : List Object → Result revision_plans.PlanParts PlanError → List Object
 owned_in d (Ok (created o)) = d
 owned_in d (Ok (renumbered o)) = d
 owned_in d (Ok (settled owned current update)) = owned
@@ -202,7 +202,7 @@ revision_kind kinds.Pod h = absurd (true≢false (sym h))
 revision_kind kinds.PersistentVolumeClaim h = absurd (true≢false (sym h))
 revision_kind kinds.ControllerRevision h = refl
 
-revision_planned : (set : SetParts) (claims : Claims) (views : List PodParts) (revisions : List Object) (p : Result revision_plans.Planned PlanError) (actions : List Action) (name : List ℕ) (uid version : ℕ)
+revision_planned : (set : SetParts) (claims : Claims) (views : List PodParts) (revisions : List Object) (p : Result revision_plans.PlanParts PlanError) (actions : List Action) (name : List ℕ) (uid version : ℕ)
     → owned_in (owned_of set revisions) p ≡ owned_of set revisions → plan_by set claims views p ≡ Ok actions → Contains actions (DeleteRevision name uid version)
     → IsListed revisions kinds.ControllerRevision set.object.key.namespace name uid
 unfolding plan_by owned_in name_in uid_in
@@ -230,9 +230,9 @@ only : (os : List Object) (x r : Request) → IsAction os x → Among r (x ∷ [
 only os x r at (inl is) = subst (IsAction os) (sym is) at
 only os x r at (inr none) = absurd none
 
-action_is : (set : SetParts) (digits : ℕ) (moment : List ℕ) (revisions pods claims : List Object) (actions : List Action) (a : Action) (r : Request) → planned set digits revisions pods claims ≡ Ok actions
+action_is : (set : SetParts) (digits : ℕ) (moment : List ℕ) (revisions pods claims : List Object) (actions : List Action) (a : Action) (r : Request) → plan_of_lists set digits revisions pods claims ≡ Ok actions
     → Contains actions a → Among r (request_of set.object.key.namespace moment a) → IsAction (revisions ++ pods) r
-unfolding planned
+unfolding plan_of_lists
 action_is set digits moment revisions pods claims actions (CreateClaim o) r e at h = only (revisions ++ pods) _ r tt h
 action_is set digits moment revisions pods claims actions (CreatePod o) r e at h = only (revisions ++ pods) _ r tt h
 action_is set digits moment revisions pods claims actions (DeletePod name uid) r e at h =
@@ -252,7 +252,7 @@ plan_is_sound : (set : Object) (digits : ℕ) (moment : List ℕ) (revisions pod
 unfolding requested requested_for
 plan_is_sound o digits moment revisions pods claims r at = read (set_of o) at
   where
-    made : (set : SetParts) (p : Result (List Action) PlanError) → planned set digits revisions pods claims ≡ p → Among r (or_none (p >>= λ actions. Ok (requests_of set.object.key.namespace moment actions))) → IsAction (revisions ++ pods) r
+    made : (set : SetParts) (p : Result (List Action) PlanError) → plan_of_lists set digits revisions pods claims ≡ p → Among r (or_none (p >>= λ actions. Ok (requests_of set.object.key.namespace moment actions))) → IsAction (revisions ++ pods) r
     made set (Err e) is h = absurd h
     made set (Ok actions) is h =
         let x = in_requests set.object.key.namespace moment actions r h in
@@ -260,7 +260,7 @@ plan_is_sound o digits moment revisions pods claims r at = read (set_of o) at
 
     read : (s : Result SetParts PlanError) → Among r (or_none (s >>= λ set. requested_for set digits moment revisions pods claims)) → IsAction (revisions ++ pods) r
     read (Err e) h = absurd h
-    read (Ok set) h = made set (planned set digits revisions pods claims) refl h
+    read (Ok set) h = made set (plan_of_lists set digits revisions pods claims) refl h
 
 pub is_sound : (set : Key) (digits : ℕ) (moment : List ℕ) → IsSound (reconciler_with set digits moment)
 is_sound set digits moment = record {

@@ -14,10 +14,10 @@ use Rattle.set_views.specs.declared.fault.PlanError.{PlanError}
 use Rattle.set_views.specs.Set.{SetParts}
 use Rattle.set_views.specs.SetReading.{set_of}
 use Rattle.set_views.specs.Steps.{◌>>=◌}
-use Rattle.collector.specs.Collectable.{given}
+use Rattle.collector.specs.Collectable.{text_unless_zero}
 use Rattle.sets.specs.declared.action.Action.{Action}
 use Rattle.sets.specs.declared.action.Action.TheVariants.{CreateClaim, CreatePod, DeletePod, UpdateClaim, WriteRevision, DeleteRevision, WriteStatus, Wait}
-use Rattle.sets.specs.Planned.{planned}
+use Rattle.sets.specs.PlanOfLists.{plan_of_lists}
 
 -- the object as it is to be created
 abbrev pub new : Object → Draft
@@ -25,7 +25,7 @@ new o = record { object = o; uid = None; version = None }
 
 -- the object, to be written if it still has its UID and its version
 abbrev pub as_read : Object → Draft
-as_read o = record { object = o; uid = given uid_text o.meta.uid; version = given decimal o.meta.revision }
+as_read o = record { object = o; uid = text_unless_zero uid_text o.meta.uid; version = text_unless_zero decimal o.meta.revision }
 
 -- the key of these parts, if they name an object
 abbrev pub key_of : Kind → List ℕ → List ℕ → Option Key
@@ -60,7 +60,7 @@ requests_of namespace moment actions = flat_map (request_of namespace moment) ac
 -- the requests of the plan of a set that was read
 unfoldable pub requested_for : SetParts → ℕ → List ℕ → List Object → List Object → List Object → Result (List Request) PlanError
 requested_for set digits moment revisions pods claims =
-    planned set digits revisions pods claims >>= λ actions. Ok (requests_of set.object.key.namespace moment actions)
+    plan_of_lists set digits revisions pods claims >>= λ actions. Ok (requests_of set.object.key.namespace moment actions)
 
 -- the requests of the plan of a set, or the refusal
 unfoldable pub requested : Object → ℕ → List ℕ → List Object → List Object → List Object → Result (List Request) PlanError

@@ -1,7 +1,7 @@
 -- The reconciler that a controller is.
 use Rattle.std.specs.Prelude.{ℕ, List}
 use Rattle.objects.specs.declared.key.Key.{Key}
-use Rattle.collector.specs.Collectable.{collected}
+use Rattle.collector.specs.Collectable.{collection}
 use Rattle.rounds.specs.Reconciler.{Reconciler}
 use Rattle.plan_requests.specs.Planned.{or_none, requested}
 
@@ -11,5 +11,5 @@ abbrev pub reconciler_with : Key → ℕ → List ℕ → Reconciler
 reconciler_with set digits moment = record {
   set = set;
   plan = λ o revisions pods claims. or_none (requested o digits moment revisions pods claims);
-  collect = collected;
+  collect = collection;
 }

@@ -5,7 +5,7 @@ ghost use Rattle.objects.specs.Uid.{uid_text};
 ghost use Rattle.objects.specs.declared.fault.ReadError.TheVariants.{Memory as OutOfMemory};
 ghost use Rattle.objects.specs.declared.kind.Kind.TheVariants.{Pod, ControllerRevision};
 ghost use Rattle.requests.specs.declared.request.Request.TheVariants.{Create, Delete, Update, UpdateStatus};
-ghost use Rattle.collector.specs.Collectable.{given};
+ghost use Rattle.collector.specs.Collectable.{text_unless_zero};
 ghost use Rattle.plan_requests.specs.Planned.{as_read, deletion_of, deletions, key_of, new, request_of, requests_of, version_text};
 
 use objects::{Draft, Key, Kind, Memory, Object, ReadError, Text, uid_text};
@@ -42,7 +42,7 @@ fn as_read(alloc: Global, object: Object) -> Result<Draft, Memory>
 
 /// The texts of an object's UID and version, each unless it is 0.
 fn read_texts(alloc: Global, object: &Object) -> Result<(Option<Text>, Option<Text>), Memory>
-    ensures { IfOk result (λ texts. (texts.0 ≡ given uid_text object.now.meta.uid) × (texts.1 ≡ given decimal object.now.meta.revision)) }
+    ensures { IfOk result (λ texts. (texts.0 ≡ text_unless_zero uid_text object.now.meta.uid) × (texts.1 ≡ text_unless_zero decimal object.now.meta.revision)) }
 {
     let uid = given_uid(alloc, object.meta.uid)?;
     let version = given_version(alloc, object.meta.revision)?;
@@ -51,7 +51,7 @@ fn read_texts(alloc: Global, object: &Object) -> Result<(Option<Text>, Option<Te
 
 fn given_uid(alloc: Global, number: u64) -> Result<Option<Text>, Memory>
     requires { number < 2 ^ 48 }
-    ensures { IfOk result (λ text. text ≡ given uid_text number) }
+    ensures { IfOk result (λ text. text ≡ text_unless_zero uid_text number) }
 {
     // 0 stands for no UID, and below for no version.
     if number == 0 {
@@ -61,7 +61,7 @@ fn given_uid(alloc: Global, number: u64) -> Result<Option<Text>, Memory>
 }
 
 fn given_version(alloc: Global, number: u64) -> Result<Option<Text>, AllocError>
-    ensures { IfOk result (λ text. text ≡ given decimal number) }
+    ensures { IfOk result (λ text. text ≡ text_unless_zero decimal number) }
 {
     if number == 0 {
         return Ok(None);

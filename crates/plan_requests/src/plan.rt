@@ -2,7 +2,7 @@
 ghost use Rattle.std.specs.Prelude.{◌≡◌, ◌≤◌};
 ghost use Rattle.set_views.specs.Set.{set_parts};
 ghost use Rattle.set_views.specs.Steps.{Gives};
-ghost use Rattle.sets.specs.Planned.{planned};
+ghost use Rattle.sets.specs.PlanOfLists.{plan_of_lists};
 ghost use Rattle.plan_requests.specs.Planned.{requested, requested_for};
 
 use crate::actions::requests_of;
@@ -22,7 +22,7 @@ fn planned(
 ) -> Result<Plan, PlanError>
     requires some { 1 ≤ digits }
     requires most { digits ≤ 64 }
-    ensures { Gives (λ plan. plan.actions.items) result (planned (set_parts set.now) digits revisions.now pods.now claims.now) }
+    ensures { Gives (λ plan. plan.actions.items) result (plan_of_lists (set_parts set.now) digits revisions.now pods.now claims.now) }
 {
     plan(alloc, set, pods, claims, revisions, digits)
 }

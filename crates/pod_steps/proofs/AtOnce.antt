@@ -21,7 +21,7 @@ use Rattle.pod_steps.specs.Replicas.{AreInOrder, Pods, is_due, is_failed, ordina
 use Rattle.pod_steps.specs.Scaling.{CallsForScaling, IsAbsent, IsDismissed, ScalesAtOnce}
 use Rattle.pod_steps.specs.Step.{is_of_pod, pod_steps}
 use Rattle.pod_steps.specs.Update.{Updates}
-use Rattle.pod_steps.specs.Whole.{all_brought, at_once, brought, kept, let_go, removed, replaced, revision_at, rolled, scaled_at_once, updated, updated_by, wait_for}
+use Rattle.pod_steps.specs.FullSteps.{all_target_steps, at_once, target_steps, keep_steps, condemned_steps, removal_steps, replacement_steps, revision_at, rolling_update_steps, scaling_steps_at_once, update_steps, update_steps_by, wait_for}
 use Rattle.pod_steps.proofs.Entries.{at_head, at_same, at_tail, not_true}
 use Rattle.pod_steps.proofs.InOrder.{bounds, inside, updates}
 
@@ -150,71 +150,71 @@ second_is x y a e = Contains-append_right (x ∷ []) (y ∷ []) a (single y a e)
 abbrev IsCalledFor : SetParts → Pods → Step → Type 0
 IsCalledFor set pods a = ((i : ℕ) × IsAbsent set pods i × (CreatePod i (revision_at set.strategy i) ≡ a)) ⊎ ((i : ℕ) × ((pod : Replica) × IsDismissed set pods i pod × (DeletePod i pod.uid ≡ a)))
 
-brought_pod : (i uid : ℕ) (a : Step) (terminating failed ready : Bool) → is_of_pod a ≡ true → Contains (if terminating then [] else if failed then DeletePod i uid ∷ [] else if ready then kept i else []) a → (terminating ≡ false) × (failed ≡ true) × (DeletePod i uid ≡ a)
-brought_pod i uid a true failed ready t h = absurd (nowhere a h)
-brought_pod i uid a false true ready t h = (refl, refl, alone (DeletePod i uid) a h)
-brought_pod i uid a false false true t h = absurd (no_claims (KeepClaims i) a refl t h)
-brought_pod i uid a false false false t h = absurd (nowhere a h)
+target_pod : (i uid : ℕ) (a : Step) (terminating failed ready : Bool) → is_of_pod a ≡ true → Contains (if terminating then [] else if failed then DeletePod i uid ∷ [] else if ready then keep_steps i else []) a → (terminating ≡ false) × (failed ≡ true) × (DeletePod i uid ≡ a)
+target_pod i uid a true failed ready t h = absurd (nowhere a h)
+target_pod i uid a false true ready t h = (refl, refl, alone (DeletePod i uid) a h)
+target_pod i uid a false false true t h = absurd (no_claims (KeepClaims i) a refl t h)
+target_pod i uid a false false false t h = absurd (nowhere a h)
 
-from_brought : (set : SetParts) (pods : Pods) (i : ℕ) (a : Step) (here : Option Replica) → pod_at pods i ≡ here → in_range set i ≡ true → is_of_pod a ≡ true → Contains (brought set i here) a → IsCalledFor set pods a
-from_brought set pods i a None e r t h = inl (i, (r, e), second (MakeClaims i) (CreatePod i (revision_at set.strategy i)) a refl t h)
-from_brought set pods i a (Some pod) e r t h =
-    let k = brought_pod i pod.uid a pod.terminating (is_failed pod.readiness) (is_ready pod.readiness) t h in
+from_target_steps : (set : SetParts) (pods : Pods) (i : ℕ) (a : Step) (here : Option Replica) → pod_at pods i ≡ here → in_range set i ≡ true → is_of_pod a ≡ true → Contains (target_steps set i here) a → IsCalledFor set pods a
+from_target_steps set pods i a None e r t h = inl (i, (r, e), second (MakeClaims i) (CreatePod i (revision_at set.strategy i)) a refl t h)
+from_target_steps set pods i a (Some pod) e r t h =
+    let k = target_pod i pod.uid a pod.terminating (is_failed pod.readiness) (is_ready pod.readiness) t h in
     inr (i, (pod, record { here = e; staying = k.0; failed = λ _. k.1 }, k.2))
 
-from_let_go : (set : SetParts) (pods : Pods) (i : ℕ) (pod : Replica) (a : Step) → pod_at pods i ≡ Some pod → is_of_pod a ≡ true → Contains (let_go set (i, pod)) a → IsCalledFor set pods a
-from_let_go set pods i pod a e t h =
-    elim (in_range set i) as (λ b. in_range set i ≡ b → Contains (if b || pod.terminating then [] else removed i pod) a → IsCalledFor set pods a) [
+from_condemned_steps : (set : SetParts) (pods : Pods) (i : ℕ) (pod : Replica) (a : Step) → pod_at pods i ≡ Some pod → is_of_pod a ≡ true → Contains (condemned_steps set (i, pod)) a → IsCalledFor set pods a
+from_condemned_steps set pods i pod a e t h =
+    elim (in_range set i) as (λ b. in_range set i ≡ b → Contains (if b || pod.terminating then [] else removal_steps i pod) a → IsCalledFor set pods a) [
       | true ↦ λ r k. absurd (nowhere a k)
       | false ↦ λ r k.
-          elim (pod.terminating) as (λ b. pod.terminating ≡ b → Contains (if b then [] else removed i pod) a → IsCalledFor set pods a) [
+          elim (pod.terminating) as (λ b. pod.terminating ≡ b → Contains (if b then [] else removal_steps i pod) a → IsCalledFor set pods a) [
             | true ↦ λ s m. absurd (nowhere a m)
             | false ↦ λ s m. inr (i, (pod, record { here = e; staying = s; failed = λ q. absurd (cc) }, second (ReleaseClaims i pod.uid) (DeletePod i pod.uid) a refl t m))
           ] refl k
     ] refl h
 
-pub from_scaled : (set : SetParts) (pods : Pods) (a : Step) → AreInOrder pods → is_of_pod a ≡ true → Contains (scaled_at_once set pods) a → IsCalledFor set pods a
-unfolding scaled_at_once
+pub from_scaled : (set : SetParts) (pods : Pods) (a : Step) → AreInOrder pods → is_of_pod a ≡ true → Contains (scaling_steps_at_once set pods) a → IsCalledFor set pods a
+unfolding scaling_steps_at_once
 from_scaled set pods a sorted t h =
-    elim (Contains-append_cases (all_brought set pods) (flat_map (let_go set) (reverse pods)) a h) [
-      | inl k ↦ let r = in_walk (λ i. brought set i (pod_at pods i)) set.start set.replicas a k in from_brought set pods r.0 a (pod_at pods r.0) refl (inside set r.0 r.1 r.2) t r.3
-      | inr k ↦ let r = in_pods (let_go set) pods a sorted k in from_let_go set pods r.0 r.1.0 a r.1.1 t r.1.2
+    elim (Contains-append_cases (all_target_steps set pods) (flat_map (condemned_steps set) (reverse pods)) a h) [
+      | inl k ↦ let r = in_walk (λ i. target_steps set i (pod_at pods i)) set.start set.replicas a k in from_target_steps set pods r.0 a (pod_at pods r.0) refl (inside set r.0 r.1 r.2) t r.3
+      | inr k ↦ let r = in_pods (condemned_steps set) pods a sorted k in from_condemned_steps set pods r.0 r.1.0 a r.1.1 t r.1.2
     ]
 
-in_brought : (set : SetParts) (pods : Pods) (i : ℕ) (a : Step) → in_range set i ≡ true → Contains (brought set i (pod_at pods i)) a → Contains (scaled_at_once set pods) a
-unfolding scaled_at_once
-in_brought set pods i a r h =
+in_target_steps : (set : SetParts) (pods : Pods) (i : ℕ) (a : Step) → in_range set i ≡ true → Contains (target_steps set i (pod_at pods i)) a → Contains (scaling_steps_at_once set pods) a
+unfolding scaling_steps_at_once
+in_target_steps set pods i a r h =
     let at_i = bounds set i r in
-    Contains-append_left (all_brought set pods) (flat_map (let_go set) (reverse pods)) a (to_walk (λ j. brought set j (pod_at pods j)) set.start set.replicas i a at_i.0 at_i.1 h)
+    Contains-append_left (all_target_steps set pods) (flat_map (condemned_steps set) (reverse pods)) a (to_walk (λ j. target_steps set j (pod_at pods j)) set.start set.replicas i a at_i.0 at_i.1 h)
 
-in_let_go : (set : SetParts) (pods : Pods) (i : ℕ) (pod : Replica) (a : Step) → pod_at pods i ≡ Some pod → Contains (let_go set (i, pod)) a → Contains (scaled_at_once set pods) a
-unfolding scaled_at_once
-in_let_go set pods i pod a e h = Contains-append_right (all_brought set pods) (flat_map (let_go set) (reverse pods)) a (to_pods (let_go set) pods i pod a e h)
+in_condemned_steps : (set : SetParts) (pods : Pods) (i : ℕ) (pod : Replica) (a : Step) → pod_at pods i ≡ Some pod → Contains (condemned_steps set (i, pod)) a → Contains (scaling_steps_at_once set pods) a
+unfolding scaling_steps_at_once
+in_condemned_steps set pods i pod a e h = Contains-append_right (all_target_steps set pods) (flat_map (condemned_steps set) (reverse pods)) a (to_pods (condemned_steps set) pods i pod a e h)
 
-absent_made : (set : SetParts) (pods : Pods) (i : ℕ) → IsAbsent set pods i → Contains (scaled_at_once set pods) (CreatePod i (revision_at set.strategy i))
+absent_made : (set : SetParts) (pods : Pods) (i : ℕ) → IsAbsent set pods i → Contains (scaling_steps_at_once set pods) (CreatePod i (revision_at set.strategy i))
 absent_made set pods i absent =
     let new : Step = CreatePod i (revision_at set.strategy i) in
-    let P : Option Replica → Type 0 = λ o. Contains (brought set i o) new in
-    in_brought set pods i new absent.0 (subst P (sym absent.1) (second_is (MakeClaims i) new new refl))
+    let P : Option Replica → Type 0 = λ o. Contains (target_steps set i o) new in
+    in_target_steps set pods i new absent.0 (subst P (sym absent.1) (second_is (MakeClaims i) new new refl))
 
-dismissed_goes : (set : SetParts) (pods : Pods) (i : ℕ) (pod : Replica) → IsDismissed set pods i pod → Contains (scaled_at_once set pods) (DeletePod i pod.uid)
+dismissed_goes : (set : SetParts) (pods : Pods) (i : ℕ) (pod : Replica) → IsDismissed set pods i pod → Contains (scaling_steps_at_once set pods) (DeletePod i pod.uid)
 dismissed_goes set pods i pod gone =
-    elim (in_range set i) as (λ b. in_range set i ≡ b → Contains (scaled_at_once set pods) (DeletePod i pod.uid)) [
+    elim (in_range set i) as (λ b. in_range set i ≡ b → Contains (scaling_steps_at_once set pods) (DeletePod i pod.uid)) [
       | true ↦ λ r.
-          let P : Option Replica → Type 0 = λ o. Contains (brought set i o) (DeletePod i pod.uid) in
-          let Q : Bool → Bool → Type 0 = λ t f. Contains (if t then [] else if f then DeletePod i pod.uid ∷ [] else if is_ready pod.readiness then kept i else []) (DeletePod i pod.uid) in
+          let P : Option Replica → Type 0 = λ o. Contains (target_steps set i o) (DeletePod i pod.uid) in
+          let Q : Bool → Bool → Type 0 = λ t f. Contains (if t then [] else if f then DeletePod i pod.uid ∷ [] else if is_ready pod.readiness then keep_steps i else []) (DeletePod i pod.uid) in
           let one : Q false true = single (DeletePod i pod.uid) (DeletePod i pod.uid) refl in
           let two : Q false (is_failed pod.readiness) = subst (λ (f : Bool). Q false f) (sym (gone.failed r)) one in
-          in_brought set pods i (DeletePod i pod.uid) r (subst P (sym gone.here) (subst (λ (t : Bool). Q t (is_failed pod.readiness)) (sym gone.staying) two))
+          in_target_steps set pods i (DeletePod i pod.uid) r (subst P (sym gone.here) (subst (λ (t : Bool). Q t (is_failed pod.readiness)) (sym gone.staying) two))
       | false ↦ λ r.
-          let Q : Bool → Bool → Type 0 = λ b t. Contains (if b || t then [] else removed i pod) (DeletePod i pod.uid) in
+          let Q : Bool → Bool → Type 0 = λ b t. Contains (if b || t then [] else removal_steps i pod) (DeletePod i pod.uid) in
           let one : Q false false = second_is (ReleaseClaims i pod.uid) (DeletePod i pod.uid) (DeletePod i pod.uid) refl in
           let two : Q false pod.terminating = subst (λ (t : Bool). Q false t) (sym gone.staying) one in
-          in_let_go set pods i pod (DeletePod i pod.uid) gone.here (subst (λ (b : Bool). Q b pod.terminating) (sym r) two)
+          in_condemned_steps set pods i pod (DeletePod i pod.uid) gone.here (subst (λ (b : Bool). Q b pod.terminating) (sym r) two)
     ] refl
 
 -- ---- the update creates no pod
-no_create : (i k : ℕ) (revision : Revision) (here : Option Replica) → Contains (replaced i here) (CreatePod k revision) → ⊥
+no_create : (i k : ℕ) (revision : Revision) (here : Option Replica) → Contains (replacement_steps i here) (CreatePod k revision) → ⊥
 no_create i k revision None h = nowhere (CreatePod k revision) h
 no_create i k revision (Some pod) h =
     elim (not pod.updated && not pod.terminating) as (λ b. Contains (if b then DeletePod i pod.uid ∷ [] else wait_for i pod ∷ []) (CreatePod k revision) → ⊥) [
@@ -222,45 +222,45 @@ no_create i k revision (Some pod) h =
       | false ↦ λ m. let e : wait_for i pod ≡ CreatePod k revision = alone (wait_for i pod) (CreatePod k revision) m in absurd (cc)
     ] h
 
-pub update_creates_none : (set : SetParts) (pods : Pods) (k : ℕ) (revision : Revision) → Contains (updated set pods) (CreatePod k revision) → ⊥
-unfolding updated
+pub update_creates_none : (set : SetParts) (pods : Pods) (k : ℕ) (revision : Revision) → Contains (update_steps set pods) (CreatePod k revision) → ⊥
+unfolding update_steps
 update_creates_none set pods k revision h =
-    elim (set.strategy) as (λ s. Contains (updated_by s set pods) (CreatePod k revision) → ⊥) [
+    elim (set.strategy) as (λ s. Contains (update_steps_by s set pods) (CreatePod k revision) → ⊥) [
       | RollingUpdate partition ↦ λ m.
-          elim (find (is_due partition pods) (reverse (ordinals set))) as (λ o. Contains (rolled pods o) (CreatePod k revision) → ⊥) [
+          elim (find (is_due partition pods) (reverse (ordinals set))) as (λ o. Contains (rolling_update_steps pods o) (CreatePod k revision) → ⊥) [
             | None ↦ λ n. nowhere (CreatePod k revision) n
             | Some i ↦ λ n. no_create i k revision (pod_at pods i) n
           ] m
       | OnDelete ↦ λ m. nowhere (CreatePod k revision) m
     ] h
 
--- ---- the whole
+-- ---- both parts, and the update
 abbrev pub rest : SetParts → Pods → Bool → List Step
-rest set pods touched = if touched then [] else updated set pods
+rest set pods touched = if touched then [] else update_steps set pods
 
-called_is_touched : (set : SetParts) (pods : Pods) → CallsForScaling set pods → list_any is_of_pod (scaled_at_once set pods) ≡ true
-called_is_touched set pods (inl (i, absent)) = any_of is_of_pod (scaled_at_once set pods) (CreatePod i (revision_at set.strategy i)) (absent_made set pods i absent) refl
-called_is_touched set pods (inr (i, (pod, gone))) = any_of is_of_pod (scaled_at_once set pods) (DeletePod i pod.uid) (dismissed_goes set pods i pod gone) refl
+called_is_touched : (set : SetParts) (pods : Pods) → CallsForScaling set pods → list_any is_of_pod (scaling_steps_at_once set pods) ≡ true
+called_is_touched set pods (inl (i, absent)) = any_of is_of_pod (scaling_steps_at_once set pods) (CreatePod i (revision_at set.strategy i)) (absent_made set pods i absent) refl
+called_is_touched set pods (inr (i, (pod, gone))) = any_of is_of_pod (scaling_steps_at_once set pods) (DeletePod i pod.uid) (dismissed_goes set pods i pod gone) refl
 
-uncalled_is_untouched : (set : SetParts) (pods : Pods) → AreInOrder pods → ¬ CallsForScaling set pods → list_any is_of_pod (scaled_at_once set pods) ≡ false
+uncalled_is_untouched : (set : SetParts) (pods : Pods) → AreInOrder pods → ¬ CallsForScaling set pods → list_any is_of_pod (scaling_steps_at_once set pods) ≡ false
 uncalled_is_untouched set pods sorted none =
-    not_true (list_any is_of_pod (scaled_at_once set pods)) (λ t.
-    let r = some_of is_of_pod (scaled_at_once set pods) t in
+    not_true (list_any is_of_pod (scaling_steps_at_once set pods)) (λ t.
+    let r = some_of is_of_pod (scaling_steps_at_once set pods) t in
     elim (from_scaled set pods r.0 sorted r.2 r.1) [
       | inl h ↦ none (inl (h.0, h.1))
       | inr h ↦ none (inr (h.0, (h.1.0, h.1.1)))
     ])
 
 -- where scaling calls for nothing, the plan is the update
-pub uncalled_updates : (set : SetParts) (pods : Pods) → AreInOrder pods → ¬ CallsForScaling set pods → pod_steps (at_once set pods) ≡ pod_steps (updated set pods)
+pub uncalled_updates : (set : SetParts) (pods : Pods) → AreInOrder pods → ¬ CallsForScaling set pods → pod_steps (at_once set pods) ≡ pod_steps (update_steps set pods)
 uncalled_updates set pods sorted none =
     let t = uncalled_is_untouched set pods sorted none in
-    ap (λ b. pod_steps (scaled_at_once set pods ++ rest set pods b)) t
-    ∙ (filter-append is_of_pod (scaled_at_once set pods) (updated set pods) ∙ ap (λ l. l ++ pod_steps (updated set pods)) (none_of is_of_pod (scaled_at_once set pods) t))
+    ap (λ b. pod_steps (scaling_steps_at_once set pods ++ rest set pods b)) t
+    ∙ (filter-append is_of_pod (scaling_steps_at_once set pods) (update_steps set pods) ∙ ap (λ l. l ++ pod_steps (update_steps set pods)) (none_of is_of_pod (scaling_steps_at_once set pods) t))
 
 pub creates_exactly : (set : SetParts) (pods : Pods) (i : ℕ) (revision : Revision) → AreInOrder pods → Contains (at_once set pods) (CreatePod i revision) → IsAbsent set pods i × (revision_at set.strategy i ≡ revision)
 creates_exactly set pods i revision sorted h =
-    elim (Contains-append_cases (scaled_at_once set pods) (rest set pods (list_any is_of_pod (scaled_at_once set pods))) (CreatePod i revision) h) [
+    elim (Contains-append_cases (scaling_steps_at_once set pods) (rest set pods (list_any is_of_pod (scaling_steps_at_once set pods))) (CreatePod i revision) h) [
       | inl k ↦ elim (from_scaled set pods (CreatePod i revision) sorted refl k) [
         | inl m ↦
             let e : CreatePod m.0 (revision_at set.strategy m.0) ≡ CreatePod i revision = m.2 in
@@ -270,17 +270,17 @@ creates_exactly set pods i revision sorted h =
             (subst P same m.1, ap (revision_at set.strategy) (sym same) ∙ by)
         | inr m ↦ let e : DeletePod m.0 m.1.0.uid ≡ CreatePod i revision = m.1.2 in absurd (cc)
       ]
-      | inr k ↦ elim (list_any is_of_pod (scaled_at_once set pods)) as (λ b. Contains (rest set pods b) (CreatePod i revision) → IsAbsent set pods i × (revision_at set.strategy i ≡ revision)) [
+      | inr k ↦ elim (list_any is_of_pod (scaling_steps_at_once set pods)) as (λ b. Contains (rest set pods b) (CreatePod i revision) → IsAbsent set pods i × (revision_at set.strategy i ≡ revision)) [
         | true ↦ λ m. absurd (nowhere (CreatePod i revision) m)
         | false ↦ λ m. absurd (update_creates_none set pods i revision m)
       ] k
     ]
 
 -- where scaling calls for anything, the plan is what it calls for
-only_scaled : (set : SetParts) (pods : Pods) → CallsForScaling set pods → (a : Step) → Contains (at_once set pods) a → Contains (scaled_at_once set pods) a
+only_scaled : (set : SetParts) (pods : Pods) → CallsForScaling set pods → (a : Step) → Contains (at_once set pods) a → Contains (scaling_steps_at_once set pods) a
 only_scaled set pods calls a h =
-    let P : Bool → Type 0 = λ b. Contains (scaled_at_once set pods ++ rest set pods b) a in
-    elim (Contains-append_cases (scaled_at_once set pods) [] a (subst P (called_is_touched set pods calls) h)) [ inl k ↦ k | inr k ↦ absurd (nowhere a k) ]
+    let P : Bool → Type 0 = λ b. Contains (scaling_steps_at_once set pods ++ rest set pods b) a in
+    elim (Contains-append_cases (scaling_steps_at_once set pods) [] a (subst P (called_is_touched set pods calls) h)) [ inl k ↦ k | inr k ↦ absurd (nowhere a k) ]
 
 deletes_exactly : (set : SetParts) (pods : Pods) (i uid : ℕ) → AreInOrder pods → CallsForScaling set pods → Contains (at_once set pods) (DeletePod i uid) → (pod : Replica) × IsDismissed set pods i pod × (pod.uid ≡ uid)
 deletes_exactly set pods i uid sorted calls h =
@@ -301,9 +301,9 @@ waits_for_none set pods i cause sorted calls h =
       | inr m ↦ let e : DeletePod m.0 m.1.0.uid ≡ Wait i cause = m.1.2 in absurd (cc)
     ]
 
-scaled_stays : (set : SetParts) (pods : Pods) (a : Step) → is_of_pod a ≡ true → Contains (scaled_at_once set pods) a → Contains (pod_steps (at_once set pods)) a
+scaled_stays : (set : SetParts) (pods : Pods) (a : Step) → is_of_pod a ≡ true → Contains (scaling_steps_at_once set pods) a → Contains (pod_steps (at_once set pods)) a
 scaled_stays set pods a t h =
-    stays_there is_of_pod (at_once set pods) a (Contains-append_left (scaled_at_once set pods) (rest set pods (list_any is_of_pod (scaled_at_once set pods))) a h) t
+    stays_there is_of_pod (at_once set pods) a (Contains-append_left (scaling_steps_at_once set pods) (rest set pods (list_any is_of_pod (scaling_steps_at_once set pods))) a h) t
 
 pub scales_at_once : (set : SetParts) (pods : Pods) → AreInOrder pods → ScalesAtOnce set pods (pod_steps (at_once set pods))
 scales_at_once set pods sorted = record {

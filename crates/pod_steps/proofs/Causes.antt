@@ -20,13 +20,13 @@ use Rattle.pod_steps.specs.declared.replica.Replica.{Replica}
 use Rattle.pod_steps.specs.declared.step.Revision.{Revision}
 use Rattle.pod_steps.specs.declared.step.Step.{Step}
 use Rattle.pod_steps.specs.declared.step.Step.TheVariants.{MakeClaims, ReleaseClaims, CreatePod, DeletePod}
-use Rattle.pod_steps.specs.Replicas.{AreInOrder, Pods, has_healthy_pod, is_condemned, is_due, is_failed, is_healthy, is_settled, lacks_healthy, ordinals, pod_at}
+use Rattle.pod_steps.specs.Replicas.{AreInOrder, Pods, has_healthy_pod, is_out_of_range, is_due, is_failed, is_healthy_replica, is_settled, lacks_healthy, ordinals, pod_at}
 use Rattle.pod_steps.specs.Step.{is_of_pod, pod_steps}
-use Rattle.pod_steps.specs.Whole.{at_once, goes_unless, in_order, in_order_at, is_other_unhealthy, kept, mended, planned, planned_by, replaced, retired, retired_or_updated, revision_at, rolled, scaled_at_once, updated, updated_by, wait_for}
+use Rattle.pod_steps.specs.FullSteps.{at_once, removal_steps_unless, in_order, in_order_at, is_other_unhealthy, keep_steps, gap_steps, full_steps, full_steps_by, replacement_steps, scale_down_steps, scale_down_or_update_steps, revision_at, rolling_update_steps, scaling_steps_at_once, update_steps, update_steps_by, wait_for}
 use Rattle.pod_steps.proofs.AtOnce.{alone, creates_exactly, from_scaled, nowhere, rest, second, stays_there, update_creates_none, was_there}
 use Rattle.pod_steps.proofs.Entries.{at_head, at_tail, from_back}
 use Rattle.pod_steps.proofs.Found.{found_below, last_range}
-use Rattle.pod_steps.proofs.InOrder.{after_kept, bounds, inside, not_false}
+use Rattle.pod_steps.proofs.InOrder.{after_keep_steps, bounds, inside, not_false}
 
 -- ---- what a search has found
 pub found_in : (p : ℕ → Bool) (a n i : ℕ) → find p (range_with_len a n) ≡ Some i → (a ≤ i) × (i < a + n)
@@ -97,37 +97,37 @@ entry_is_there q (x ∷ es) e sorted found =
     ] refl parts
 
 -- ---- what a plan in order has
-past_kept : (ns : List ℕ) (ys : List Step) (a : Step) → is_of_pod a ≡ true → Contains (flat_map kept ns ++ ys) a → Contains ys a
-past_kept ns ys a t h =
+past_keep_steps : (ns : List ℕ) (ys : List Step) (a : Step) → is_of_pod a ≡ true → Contains (flat_map keep_steps ns ++ ys) a → Contains ys a
+past_keep_steps ns ys a t h =
     let P : List Step → Type 0 = λ l. Contains l a in
-    (was_there is_of_pod ys a (subst P (after_kept ns ys) (stays_there is_of_pod (flat_map kept ns ++ ys) a h t))).0
+    (was_there is_of_pod ys a (subst P (after_keep_steps ns ys) (stays_there is_of_pod (flat_map keep_steps ns ++ ys) a h t))).0
 
 abbrev gap_of : SetParts → Pods → Option ℕ
 gap_of set pods = find (lacks_healthy pods) (ordinals set)
 
 abbrev highest_of : SetParts → Pods → Option (ℕ × Replica)
-highest_of set pods = find (is_condemned set) (reverse pods)
+highest_of set pods = find (is_out_of_range set) (reverse pods)
 
--- the step mends a gap, or there is none and it retires a condemned pod or updates
+-- the step is at a gap, or there is none and it scales down or updates
 abbrev IsInOrder : SetParts → Pods → Step → Type 0
 IsInOrder set pods a =
-    ((g : ℕ) × (gap_of set pods ≡ Some g) × Contains (mended set g (pod_at pods g)) a)
-    ⊎ ((gap_of set pods ≡ None) × (((e : ℕ × Replica) × (highest_of set pods ≡ Some e) × Contains (retired set pods e) a) ⊎ Contains (updated set pods) a))
+    ((g : ℕ) × (gap_of set pods ≡ Some g) × Contains (gap_steps set g (pod_at pods g)) a)
+    ⊎ ((gap_of set pods ≡ None) × (((e : ℕ × Replica) × (highest_of set pods ≡ Some e) × Contains (scale_down_steps set pods e) a) ⊎ Contains (update_steps set pods) a))
 
 from_in_order : (set : SetParts) (pods : Pods) (a : Step) → is_of_pod a ≡ true → Contains (in_order set pods) a → IsInOrder set pods a
 from_in_order set pods a t h =
     elim (gap_of set pods) as (λ g. gap_of set pods ≡ g → Contains (in_order_at set pods g) a → IsInOrder set pods a) [
-      | Some g ↦ λ e k. inl (g, e, past_kept (range_with_len set.start (g - set.start)) (mended set g (pod_at pods g)) a t k)
+      | Some g ↦ λ e k. inl (g, e, past_keep_steps (range_with_len set.start (g - set.start)) (gap_steps set g (pod_at pods g)) a t k)
       | None ↦ λ e k.
-          let later = past_kept (ordinals set) (retired_or_updated set pods (highest_of set pods)) a t k in
-          elim (highest_of set pods) as (λ o. highest_of set pods ≡ o → Contains (retired_or_updated set pods o) a → IsInOrder set pods a) [
+          let later = past_keep_steps (ordinals set) (scale_down_or_update_steps set pods (highest_of set pods)) a t k in
+          elim (highest_of set pods) as (λ o. highest_of set pods ≡ o → Contains (scale_down_or_update_steps set pods o) a → IsInOrder set pods a) [
             | Some x ↦ λ f m. inr (e, inl (x, f, m))
             | None ↦ λ f m. inr (e, inr m)
           ] refl later
     ] refl h
 
 -- ---- creates
-created_at : (set : SetParts) (g i : ℕ) (revision : Revision) (here : Option Replica) → Contains (mended set g here) (CreatePod i revision) → (g ≡ i) × (here ≡ None)
+created_at : (set : SetParts) (g i : ℕ) (revision : Revision) (here : Option Replica) → Contains (gap_steps set g here) (CreatePod i revision) → (g ≡ i) × (here ≡ None)
 created_at set g i revision None h =
     let e : CreatePod g (revision_at set.strategy g) ≡ CreatePod i revision = second (MakeClaims g) (CreatePod g (revision_at set.strategy g)) (CreatePod i revision) refl refl h in
     (cc, refl)
@@ -140,11 +140,11 @@ created_at set g i revision (Some pod) h =
       ] m
     ] h
 
-retired_creates_none : (set : SetParts) (pods : Pods) (e : ℕ × Replica) (i : ℕ) (revision : Revision) → Contains (retired set pods e) (CreatePod i revision) → ⊥
-retired_creates_none set pods e i revision h =
-    elim (e.1.terminating) as (λ t. Contains (if t then wait_for e.0 e.1 ∷ [] else goes_unless e (find (is_other_unhealthy set e.0) pods)) (CreatePod i revision) → ⊥) [
+scale_down_creates_none : (set : SetParts) (pods : Pods) (e : ℕ × Replica) (i : ℕ) (revision : Revision) → Contains (scale_down_steps set pods e) (CreatePod i revision) → ⊥
+scale_down_creates_none set pods e i revision h =
+    elim (e.1.terminating) as (λ t. Contains (if t then wait_for e.0 e.1 ∷ [] else removal_steps_unless e (find (is_other_unhealthy set e.0) pods)) (CreatePod i revision) → ⊥) [
       | true ↦ λ m. let f : wait_for e.0 e.1 ≡ CreatePod i revision = alone (wait_for e.0 e.1) (CreatePod i revision) m in absurd (cc)
-      | false ↦ λ m. elim (find (is_other_unhealthy set e.0) pods) as (λ o. Contains (goes_unless e o) (CreatePod i revision) → ⊥) [
+      | false ↦ λ m. elim (find (is_other_unhealthy set e.0) pods) as (λ o. Contains (removal_steps_unless e o) (CreatePod i revision) → ⊥) [
         | None ↦ λ n. let f : DeletePod e.0 e.1.uid ≡ CreatePod i revision = second (ReleaseClaims e.0 e.1.uid) (DeletePod e.0 e.1.uid) (CreatePod i revision) refl refl n in absurd (cc)
         | Some other ↦ λ n. let f : wait_for other.0 other.1 ≡ CreatePod i revision = alone (wait_for other.0 other.1) (CreatePod i revision) n in absurd (cc)
       ] m
@@ -158,7 +158,7 @@ created_gap set pods i revision h =
           let at = created_at set m.0 i revision (pod_at pods m.0) m.2 in
           (m.1 ∙ ap Some at.0, ap (pod_at pods) (sym at.0) ∙ at.1)
       | inr m ↦ elim (m.1) [
-        | inl n ↦ absurd (retired_creates_none set pods n.0 i revision n.2)
+        | inl n ↦ absurd (scale_down_creates_none set pods n.0 i revision n.2)
         | inr n ↦ absurd (update_creates_none set pods i revision n)
       ]
     ]
@@ -167,15 +167,15 @@ healthy_unless : (b : Bool) → not b ≡ false → b ≡ true
 healthy_unless true h = refl
 healthy_unless false h = sym h
 
-pub created_in_turn : (set : SetParts) (pods : Pods) (i j : ℕ) (revision : Revision) → set.policy ≡ OrderedReady → Contains (planned set pods) (CreatePod i revision) → in_range set j ≡ true → j < i → has_healthy_pod pods j ≡ true
+pub created_in_turn : (set : SetParts) (pods : Pods) (i j : ℕ) (revision : Revision) → set.policy ≡ OrderedReady → Contains (full_steps set pods) (CreatePod i revision) → in_range set j ≡ true → j < i → has_healthy_pod pods j ≡ true
 created_in_turn set pods i j revision policy h within below =
-    let P : Policy → Type 0 = λ p. Contains (planned_by p set pods) (CreatePod i revision) in
+    let P : Policy → Type 0 = λ p. Contains (full_steps_by p set pods) (CreatePod i revision) in
     let gap = (created_gap set pods i revision (subst P policy h)).0 in
     healthy_unless (has_healthy_pod pods j) (found_below (lacks_healthy pods) set.start set.replicas i j gap (bounds set j within).0 below)
 
-pub created_is_absent : (set : SetParts) (pods : Pods) (i : ℕ) (revision : Revision) → AreInOrder pods → Contains (planned set pods) (CreatePod i revision) → (in_range set i ≡ true) × (pod_at pods i ≡ None)
+pub created_is_absent : (set : SetParts) (pods : Pods) (i : ℕ) (revision : Revision) → AreInOrder pods → Contains (full_steps set pods) (CreatePod i revision) → (in_range set i ≡ true) × (pod_at pods i ≡ None)
 created_is_absent set pods i revision sorted h =
-    elim (set.policy) as (λ p. Contains (planned_by p set pods) (CreatePod i revision) → (in_range set i ≡ true) × (pod_at pods i ≡ None)) [
+    elim (set.policy) as (λ p. Contains (full_steps_by p set pods) (CreatePod i revision) → (in_range set i ≡ true) × (pod_at pods i ≡ None)) [
       | OrderedReady ↦ λ k.
           let gap = created_gap set pods i revision k in
           let at = found_in (lacks_healthy pods) set.start set.replicas i gap.0 in
@@ -187,46 +187,46 @@ created_is_absent set pods i revision sorted h =
 abbrev IsAtMostOne : List Step → Type 0
 IsAtMostOne xs = length (pod_steps xs) ≤ 1
 
-one_mended : (set : SetParts) (i : ℕ) (here : Option Replica) → IsAtMostOne (mended set i here)
-one_mended set i None = omega arith
-one_mended set i (Some pod) =
+one_gap : (set : SetParts) (i : ℕ) (here : Option Replica) → IsAtMostOne (gap_steps set i here)
+one_gap set i None = omega arith
+one_gap set i (Some pod) =
     elim (pod.terminating) as (λ t. IsAtMostOne (if t then wait_for i pod ∷ [] else if is_failed pod.readiness then DeletePod i pod.uid ∷ [] else wait_for i pod ∷ [])) [
       | true ↦ omega arith
       | false ↦ elim (is_failed pod.readiness) as (λ f. IsAtMostOne (if f then DeletePod i pod.uid ∷ [] else wait_for i pod ∷ [])) [ true ↦ omega arith | false ↦ omega arith ]
     ]
 
-one_replaced : (i : ℕ) (here : Option Replica) → IsAtMostOne (replaced i here)
-one_replaced i None = omega arith
-one_replaced i (Some pod) =
+one_replacement : (i : ℕ) (here : Option Replica) → IsAtMostOne (replacement_steps i here)
+one_replacement i None = omega arith
+one_replacement i (Some pod) =
     elim (not pod.updated && not pod.terminating) as (λ b. IsAtMostOne (if b then DeletePod i pod.uid ∷ [] else wait_for i pod ∷ [])) [ true ↦ omega arith | false ↦ omega arith ]
 
-pub one_updated : (set : SetParts) (pods : Pods) → IsAtMostOne (updated set pods)
-unfolding updated
-one_updated set pods =
-    elim (set.strategy) as (λ s. IsAtMostOne (updated_by s set pods)) [
-      | RollingUpdate partition ↦ elim (find (is_due partition pods) (reverse (ordinals set))) as (λ o. IsAtMostOne (rolled pods o)) [ None ↦ omega arith | Some i ↦ one_replaced i (pod_at pods i) ]
+pub one_update : (set : SetParts) (pods : Pods) → IsAtMostOne (update_steps set pods)
+unfolding update_steps
+one_update set pods =
+    elim (set.strategy) as (λ s. IsAtMostOne (update_steps_by s set pods)) [
+      | RollingUpdate partition ↦ elim (find (is_due partition pods) (reverse (ordinals set))) as (λ o. IsAtMostOne (rolling_update_steps pods o)) [ None ↦ omega arith | Some i ↦ one_replacement i (pod_at pods i) ]
       | OnDelete ↦ omega arith
     ]
 
-one_retired : (set : SetParts) (pods : Pods) (e : ℕ × Replica) → IsAtMostOne (retired set pods e)
-one_retired set pods e =
-    elim (e.1.terminating) as (λ t. IsAtMostOne (if t then wait_for e.0 e.1 ∷ [] else goes_unless e (find (is_other_unhealthy set e.0) pods))) [
+one_scaled_down : (set : SetParts) (pods : Pods) (e : ℕ × Replica) → IsAtMostOne (scale_down_steps set pods e)
+one_scaled_down set pods e =
+    elim (e.1.terminating) as (λ t. IsAtMostOne (if t then wait_for e.0 e.1 ∷ [] else removal_steps_unless e (find (is_other_unhealthy set e.0) pods))) [
       | true ↦ omega arith
-      | false ↦ elim (find (is_other_unhealthy set e.0) pods) as (λ o. IsAtMostOne (goes_unless e o)) [ None ↦ omega arith | Some other ↦ omega arith ]
+      | false ↦ elim (find (is_other_unhealthy set e.0) pods) as (λ o. IsAtMostOne (removal_steps_unless e o)) [ None ↦ omega arith | Some other ↦ omega arith ]
     ]
 
-one_past : (ns : List ℕ) (ys : List Step) → IsAtMostOne ys → IsAtMostOne (flat_map kept ns ++ ys)
-one_past ns ys h = let P : List Step → Type 0 = λ l. length l ≤ 1 in subst P (sym (after_kept ns ys)) h
+one_past : (ns : List ℕ) (ys : List Step) → IsAtMostOne ys → IsAtMostOne (flat_map keep_steps ns ++ ys)
+one_past ns ys h = let P : List Step → Type 0 = λ l. length l ≤ 1 in subst P (sym (after_keep_steps ns ys)) h
 
 one_in_order : (set : SetParts) (pods : Pods) → IsAtMostOne (in_order set pods)
 one_in_order set pods =
     elim (gap_of set pods) as (λ g. IsAtMostOne (in_order_at set pods g)) [
-      | Some i ↦ one_past (range_with_len set.start (i - set.start)) (mended set i (pod_at pods i)) (one_mended set i (pod_at pods i))
-      | None ↦ one_past (ordinals set) (retired_or_updated set pods (highest_of set pods)) (elim (highest_of set pods) as (λ o. IsAtMostOne (retired_or_updated set pods o)) [ None ↦ one_updated set pods | Some e ↦ one_retired set pods e ])
+      | Some i ↦ one_past (range_with_len set.start (i - set.start)) (gap_steps set i (pod_at pods i)) (one_gap set i (pod_at pods i))
+      | None ↦ one_past (ordinals set) (scale_down_or_update_steps set pods (highest_of set pods)) (elim (highest_of set pods) as (λ o. IsAtMostOne (scale_down_or_update_steps set pods o)) [ None ↦ one_update set pods | Some e ↦ one_scaled_down set pods e ])
     ]
 
-pub one_at_a_time : (set : SetParts) (pods : Pods) → set.policy ≡ OrderedReady → length (pod_steps (planned set pods)) ≤ 1
-one_at_a_time set pods policy = let P : Policy → Type 0 = λ p. IsAtMostOne (planned_by p set pods) in subst P (sym policy) (one_in_order set pods)
+pub one_at_a_time : (set : SetParts) (pods : Pods) → set.policy ≡ OrderedReady → length (pod_steps (full_steps set pods)) ≤ 1
+one_at_a_time set pods policy = let P : Policy → Type 0 = λ p. IsAtMostOne (full_steps_by p set pods) in subst P (sym policy) (one_in_order set pods)
 
 -- ---- deletes of the update
 settled_unless : (partition j : ℕ) (here : Option Replica) (pod : Replica) → (nat_le partition j && option_map_or (λ x. not (is_settled x)) here false) ≡ false → nat_le partition j ≡ true → here ≡ Some pod → is_settled pod ≡ true
@@ -240,9 +240,9 @@ both_true false b h = absurd (cc)
 le_true : (a b c : ℕ) → nat_le a b ≡ true → b < c → nat_le a c ≡ true
 le_true a b c h l = grind (arith, nat_tests)
 
-replaced_is : (i k uid : ℕ) (here : Option Replica) → Contains (replaced k here) (DeletePod i uid) → (k ≡ i) × ((pod : Replica) × (here ≡ Some pod) × (pod.uid ≡ uid))
-replaced_is i k uid None h = absurd (nowhere (DeletePod i uid) h)
-replaced_is i k uid (Some pod) h =
+replacement_is : (i k uid : ℕ) (here : Option Replica) → Contains (replacement_steps k here) (DeletePod i uid) → (k ≡ i) × ((pod : Replica) × (here ≡ Some pod) × (pod.uid ≡ uid))
+replacement_is i k uid None h = absurd (nowhere (DeletePod i uid) h)
+replacement_is i k uid (Some pod) h =
     elim (not pod.updated && not pod.terminating) as (λ b. Contains (if b then DeletePod k pod.uid ∷ [] else wait_for k pod ∷ []) (DeletePod i uid) → (k ≡ i) × ((x : Replica) × (Some pod ≡ Some x) × (x.uid ≡ uid))) [
       | true ↦ λ m.
           let e : DeletePod k pod.uid ≡ DeletePod i uid = alone (DeletePod k pod.uid) (DeletePod i uid) m in
@@ -252,44 +252,44 @@ replaced_is i k uid (Some pod) h =
       | false ↦ λ m. let e : wait_for k pod ≡ DeletePod i uid = alone (wait_for k pod) (DeletePod i uid) m in absurd (cc)
     ] h
 
-rolled_is : (partition : ℕ) (set : SetParts) (pods : Pods) (i uid : ℕ) → Contains (updated_by (RollingUpdate partition) set pods) (DeletePod i uid) → (find (is_due partition pods) (reverse (ordinals set)) ≡ Some i) × ((pod : Replica) × (pod_at pods i ≡ Some pod) × (pod.uid ≡ uid))
-rolled_is partition set pods i uid h =
-    elim (find (is_due partition pods) (reverse (ordinals set))) as (λ o. Contains (rolled pods o) (DeletePod i uid) → (o ≡ Some i) × ((pod : Replica) × (pod_at pods i ≡ Some pod) × (pod.uid ≡ uid))) [
+rolling_update_is : (partition : ℕ) (set : SetParts) (pods : Pods) (i uid : ℕ) → Contains (update_steps_by (RollingUpdate partition) set pods) (DeletePod i uid) → (find (is_due partition pods) (reverse (ordinals set)) ≡ Some i) × ((pod : Replica) × (pod_at pods i ≡ Some pod) × (pod.uid ≡ uid))
+rolling_update_is partition set pods i uid h =
+    elim (find (is_due partition pods) (reverse (ordinals set))) as (λ o. Contains (rolling_update_steps pods o) (DeletePod i uid) → (o ≡ Some i) × ((pod : Replica) × (pod_at pods i ≡ Some pod) × (pod.uid ≡ uid))) [
       | None ↦ λ m. absurd (nowhere (DeletePod i uid) m)
       | Some k ↦ λ m.
-          let r = replaced_is i k uid (pod_at pods k) m in
+          let r = replacement_is i k uid (pod_at pods k) m in
           (ap Some r.0, (r.1.0, ap (pod_at pods) (sym r.0) ∙ r.1.1, r.1.2))
     ] h
 
 -- all above the pod that is replaced are at the update revision and healthy
-pub replaced_in_turn : (set : SetParts) (pods : Pods) (partition i uid j : ℕ) (pod : Replica) → set.strategy ≡ RollingUpdate partition → Contains (updated set pods) (DeletePod i uid) → in_range set j ≡ true → i < j → pod_at pods j ≡ Some pod → is_settled pod ≡ true
-unfolding updated
+pub replaced_in_turn : (set : SetParts) (pods : Pods) (partition i uid j : ℕ) (pod : Replica) → set.strategy ≡ RollingUpdate partition → Contains (update_steps set pods) (DeletePod i uid) → in_range set j ≡ true → i < j → pod_at pods j ≡ Some pod → is_settled pod ≡ true
+unfolding update_steps
 replaced_in_turn set pods partition i uid j pod rolling h within above here =
-    let P : Strategy → Type 0 = λ s. Contains (updated_by s set pods) (DeletePod i uid) in
-    let found = (rolled_is partition set pods i uid (subst P rolling h)).0 in
+    let P : Strategy → Type 0 = λ s. Contains (update_steps_by s set pods) (DeletePod i uid) in
+    let found = (rolling_update_is partition set pods i uid (subst P rolling h)).0 in
     let at_least : nat_le partition i ≡ true = (both_true (nat_le partition i) (option_map_or (λ x. not (is_settled x)) (pod_at pods i) false) (passes_in (is_due partition pods) (reverse (ordinals set)) i found)).0 in
     settled_unless partition j (pod_at pods j) pod (found_above (is_due partition pods) set.start set.replicas i j found above (bounds set j within).1) (le_true partition i j at_least above) here
 
-pub replaced_from_partition : (set : SetParts) (pods : Pods) (partition i uid : ℕ) → set.strategy ≡ RollingUpdate partition → Contains (updated set pods) (DeletePod i uid) → nat_le partition i ≡ true
-unfolding updated
+pub replaced_from_partition : (set : SetParts) (pods : Pods) (partition i uid : ℕ) → set.strategy ≡ RollingUpdate partition → Contains (update_steps set pods) (DeletePod i uid) → nat_le partition i ≡ true
+unfolding update_steps
 replaced_from_partition set pods partition i uid rolling h =
-    let P : Strategy → Type 0 = λ s. Contains (updated_by s set pods) (DeletePod i uid) in
-    let found = (rolled_is partition set pods i uid (subst P rolling h)).0 in
+    let P : Strategy → Type 0 = λ s. Contains (update_steps_by s set pods) (DeletePod i uid) in
+    let found = (rolling_update_is partition set pods i uid (subst P rolling h)).0 in
     (both_true (nat_le partition i) (option_map_or (λ x. not (is_settled x)) (pod_at pods i) false) (passes_in (is_due partition pods) (reverse (ordinals set)) i found)).0
 
 -- ---- deletes
 -- the pod is failed and in range, or condemned, or the update deletes it and, in order, no ordinal lacks a healthy pod
 abbrev IsCause : SetParts → Pods → ℕ → ℕ → Replica → Type 0
-IsCause set pods i uid pod = ((in_range set i ≡ true) × (is_failed pod.readiness ≡ true)) ⊎ ((in_range set i ≡ false) ⊎ (Contains (updated set pods) (DeletePod i uid) × (set.policy ≡ OrderedReady → gap_of set pods ≡ None)))
+IsCause set pods i uid pod = ((in_range set i ≡ true) × (is_failed pod.readiness ≡ true)) ⊎ ((in_range set i ≡ false) ⊎ (Contains (update_steps set pods) (DeletePod i uid) × (set.policy ≡ OrderedReady → gap_of set pods ≡ None)))
 
 abbrev IsDeleted : SetParts → Pods → ℕ → ℕ → Type 0
 IsDeleted set pods i uid = (pod : Replica) × (pod_at pods i ≡ Some pod) × (pod.uid ≡ uid) × IsCause set pods i uid pod
 
-mended_deletes : (set : SetParts) (g i uid : ℕ) (here : Option Replica) → Contains (mended set g here) (DeletePod i uid) → (g ≡ i) × ((pod : Replica) × (here ≡ Some pod) × (pod.uid ≡ uid) × (is_failed pod.readiness ≡ true))
-mended_deletes set g i uid None h =
+gap_deletes : (set : SetParts) (g i uid : ℕ) (here : Option Replica) → Contains (gap_steps set g here) (DeletePod i uid) → (g ≡ i) × ((pod : Replica) × (here ≡ Some pod) × (pod.uid ≡ uid) × (is_failed pod.readiness ≡ true))
+gap_deletes set g i uid None h =
     let e : CreatePod g (revision_at set.strategy g) ≡ DeletePod i uid = second (MakeClaims g) (CreatePod g (revision_at set.strategy g)) (DeletePod i uid) refl refl h in
     absurd (cc)
-mended_deletes set g i uid (Some pod) h =
+gap_deletes set g i uid (Some pod) h =
     elim (pod.terminating) as (λ t. Contains (if t then wait_for g pod ∷ [] else if is_failed pod.readiness then DeletePod g pod.uid ∷ [] else wait_for g pod ∷ []) (DeletePod i uid) → (g ≡ i) × ((x : Replica) × (Some pod ≡ Some x) × (x.uid ≡ uid) × (is_failed x.readiness ≡ true))) [
       | true ↦ λ m. let e : wait_for g pod ≡ DeletePod i uid = alone (wait_for g pod) (DeletePod i uid) m in absurd (cc)
       | false ↦ λ m. elim (is_failed pod.readiness) as (λ f. is_failed pod.readiness ≡ f → Contains (if f then DeletePod g pod.uid ∷ [] else wait_for g pod ∷ []) (DeletePod i uid) → (g ≡ i) × ((x : Replica) × (Some pod ≡ Some x) × (x.uid ≡ uid) × (is_failed x.readiness ≡ true))) [
@@ -302,21 +302,21 @@ mended_deletes set g i uid (Some pod) h =
       ] refl m
     ] h
 
-retired_deletes : (set : SetParts) (pods : Pods) (e : ℕ × Replica) (i uid : ℕ) → Contains (retired set pods e) (DeletePod i uid) → (e.0 ≡ i) × (e.1.uid ≡ uid)
-retired_deletes set pods e i uid h =
-    elim (e.1.terminating) as (λ t. Contains (if t then wait_for e.0 e.1 ∷ [] else goes_unless e (find (is_other_unhealthy set e.0) pods)) (DeletePod i uid) → (e.0 ≡ i) × (e.1.uid ≡ uid)) [
+scale_down_deletes : (set : SetParts) (pods : Pods) (e : ℕ × Replica) (i uid : ℕ) → Contains (scale_down_steps set pods e) (DeletePod i uid) → (e.0 ≡ i) × (e.1.uid ≡ uid)
+scale_down_deletes set pods e i uid h =
+    elim (e.1.terminating) as (λ t. Contains (if t then wait_for e.0 e.1 ∷ [] else removal_steps_unless e (find (is_other_unhealthy set e.0) pods)) (DeletePod i uid) → (e.0 ≡ i) × (e.1.uid ≡ uid)) [
       | true ↦ λ m. let f : wait_for e.0 e.1 ≡ DeletePod i uid = alone (wait_for e.0 e.1) (DeletePod i uid) m in absurd (cc)
-      | false ↦ λ m. elim (find (is_other_unhealthy set e.0) pods) as (λ o. Contains (goes_unless e o) (DeletePod i uid) → (e.0 ≡ i) × (e.1.uid ≡ uid)) [
+      | false ↦ λ m. elim (find (is_other_unhealthy set e.0) pods) as (λ o. Contains (removal_steps_unless e o) (DeletePod i uid) → (e.0 ≡ i) × (e.1.uid ≡ uid)) [
         | None ↦ λ n. let f : DeletePod e.0 e.1.uid ≡ DeletePod i uid = second (ReleaseClaims e.0 e.1.uid) (DeletePod e.0 e.1.uid) (DeletePod i uid) refl refl n in (cc, cc)
         | Some other ↦ λ n. let f : wait_for other.0 other.1 ≡ DeletePod i uid = alone (wait_for other.0 other.1) (DeletePod i uid) n in absurd (cc)
       ] m
     ] h
 
-updated_is : (set : SetParts) (pods : Pods) (i uid : ℕ) → Contains (updated set pods) (DeletePod i uid) → (pod : Replica) × (pod_at pods i ≡ Some pod) × (pod.uid ≡ uid)
-unfolding updated
-updated_is set pods i uid h =
-    elim (set.strategy) as (λ s. Contains (updated_by s set pods) (DeletePod i uid) → (pod : Replica) × (pod_at pods i ≡ Some pod) × (pod.uid ≡ uid)) [
-      | RollingUpdate partition ↦ λ m. (rolled_is partition set pods i uid m).1
+update_is : (set : SetParts) (pods : Pods) (i uid : ℕ) → Contains (update_steps set pods) (DeletePod i uid) → (pod : Replica) × (pod_at pods i ≡ Some pod) × (pod.uid ≡ uid)
+unfolding update_steps
+update_is set pods i uid h =
+    elim (set.strategy) as (λ s. Contains (update_steps_by s set pods) (DeletePod i uid) → (pod : Replica) × (pod_at pods i ≡ Some pod) × (pod.uid ≡ uid)) [
+      | RollingUpdate partition ↦ λ m. (rolling_update_is partition set pods i uid m).1
       | OnDelete ↦ λ m. absurd (nowhere (DeletePod i uid) m)
     ] h
 
@@ -324,21 +324,21 @@ deleted_in_order : (set : SetParts) (pods : Pods) (i uid : ℕ) → AreInOrder p
 deleted_in_order set pods i uid sorted h =
     elim (from_in_order set pods (DeletePod i uid) refl h) [
       | inl m ↦
-          let r = mended_deletes set m.0 i uid (pod_at pods m.0) m.2 in
+          let r = gap_deletes set m.0 i uid (pod_at pods m.0) m.2 in
           let at = found_in (lacks_healthy pods) set.start set.replicas i (m.1 ∙ ap Some r.0) in
           (r.1.0, ap (pod_at pods) (sym r.0) ∙ r.1.1, r.1.2, inl (inside set i at.0 at.1, r.1.3))
       | inr m ↦ elim (m.1) [
         | inl n ↦
-            let r = retired_deletes set pods n.0 i uid n.2 in
-            let out : in_range set n.0.0 ≡ false = not_false (in_range set n.0.0) (passes_in (is_condemned set) (reverse pods) n.0 n.1) in
-            (n.0.1, ap (pod_at pods) (sym r.0) ∙ entry_is_there (is_condemned set) pods n.0 sorted n.1, r.1, inr (inl (ap (in_range set) (sym r.0) ∙ out)))
-        | inr n ↦ let r = updated_is set pods i uid n in (r.0, r.1, r.2, inr (inr (n, λ _. m.0)))
+            let r = scale_down_deletes set pods n.0 i uid n.2 in
+            let out : in_range set n.0.0 ≡ false = not_false (in_range set n.0.0) (passes_in (is_out_of_range set) (reverse pods) n.0 n.1) in
+            (n.0.1, ap (pod_at pods) (sym r.0) ∙ entry_is_there (is_out_of_range set) pods n.0 sorted n.1, r.1, inr (inl (ap (in_range set) (sym r.0) ∙ out)))
+        | inr n ↦ let r = update_is set pods i uid n in (r.0, r.1, r.2, inr (inr (n, λ _. m.0)))
       ]
     ]
 
 deleted_at_once : (set : SetParts) (pods : Pods) (i uid : ℕ) → set.policy ≡ Parallel → AreInOrder pods → Contains (at_once set pods) (DeletePod i uid) → IsDeleted set pods i uid
 deleted_at_once set pods i uid policy sorted h =
-    elim (Contains-append_cases (scaled_at_once set pods) (rest set pods (list_any is_of_pod (scaled_at_once set pods))) (DeletePod i uid) h) [
+    elim (Contains-append_cases (scaling_steps_at_once set pods) (rest set pods (list_any is_of_pod (scaling_steps_at_once set pods))) (DeletePod i uid) h) [
       | inl k ↦ elim (from_scaled set pods (DeletePod i uid) sorted refl k) [
         | inl m ↦ let e : CreatePod m.0 (revision_at set.strategy m.0) ≡ DeletePod i uid = m.2 in absurd (cc)
         | inr m ↦
@@ -354,15 +354,15 @@ deleted_at_once set pods i uid policy sorted h =
               ] refl,
             )
       ]
-      | inr k ↦ elim (list_any is_of_pod (scaled_at_once set pods)) as (λ b. Contains (rest set pods b) (DeletePod i uid) → IsDeleted set pods i uid) [
+      | inr k ↦ elim (list_any is_of_pod (scaling_steps_at_once set pods)) as (λ b. Contains (rest set pods b) (DeletePod i uid) → IsDeleted set pods i uid) [
         | true ↦ λ m. absurd (nowhere (DeletePod i uid) m)
-        | false ↦ λ m. let r = updated_is set pods i uid m in (r.0, r.1, r.2, inr (inr (m, λ p. (let e : OrderedReady ≡ Parallel = sym p ∙ policy in absurd (cc)))))
+        | false ↦ λ m. let r = update_is set pods i uid m in (r.0, r.1, r.2, inr (inr (m, λ p. (let e : OrderedReady ≡ Parallel = sym p ∙ policy in absurd (cc)))))
       ] k
     ]
 
-pub deleted : (set : SetParts) (pods : Pods) (i uid : ℕ) → AreInOrder pods → Contains (planned set pods) (DeletePod i uid) → IsDeleted set pods i uid
+pub deleted : (set : SetParts) (pods : Pods) (i uid : ℕ) → AreInOrder pods → Contains (full_steps set pods) (DeletePod i uid) → IsDeleted set pods i uid
 deleted set pods i uid sorted h =
-    elim (set.policy) as (λ p. set.policy ≡ p → Contains (planned_by p set pods) (DeletePod i uid) → IsDeleted set pods i uid) [
+    elim (set.policy) as (λ p. set.policy ≡ p → Contains (full_steps_by p set pods) (DeletePod i uid) → IsDeleted set pods i uid) [
       | OrderedReady ↦ λ e k. deleted_in_order set pods i uid sorted k
       | Parallel ↦ λ e k. deleted_at_once set pods i uid e sorted k
     ] refl h
@@ -373,24 +373,24 @@ failed_is_unhealthy NotYetReady terminating h = refl
 failed_is_unhealthy Failed terminating h = refl
 
 -- under OnDelete no healthy pod in range goes
-pub kept_on_delete : (set : SetParts) (pods : Pods) (i uid : ℕ) (pod : Replica) → AreInOrder pods → set.strategy ≡ OnDelete → Contains (planned set pods) (DeletePod i uid) → in_range set i ≡ true → pod_at pods i ≡ Some pod → is_healthy pod ≡ false
-unfolding updated
+pub kept_on_delete : (set : SetParts) (pods : Pods) (i uid : ℕ) (pod : Replica) → AreInOrder pods → set.strategy ≡ OnDelete → Contains (full_steps set pods) (DeletePod i uid) → in_range set i ≡ true → pod_at pods i ≡ Some pod → is_healthy_replica pod ≡ false
+unfolding update_steps
 kept_on_delete set pods i uid pod sorted strategy h within here =
     let r = deleted set pods i uid sorted h in
     let both : Some r.0 ≡ Some pod = sym r.1 ∙ here in
     let same : r.0 ≡ pod = cc in
     elim (r.3) [
-      | inl m ↦ ap is_healthy (sym same) ∙ failed_is_unhealthy r.0.readiness r.0.terminating m.1
+      | inl m ↦ ap is_healthy_replica (sym same) ∙ failed_is_unhealthy r.0.readiness r.0.terminating m.1
       | inr m ↦ elim (m) [
         | inl out ↦ absurd (cc)
         | inr n ↦
-            let P : Strategy → Type 0 = λ s. Contains (updated_by s set pods) (DeletePod i uid) in
+            let P : Strategy → Type 0 = λ s. Contains (update_steps_by s set pods) (DeletePod i uid) in
             absurd (nowhere (DeletePod i uid) (subst P strategy n.0))
       ]
     ]
 
 -- in order a pod in range that has not failed goes only where each ordinal has a healthy pod
-pub replaced_where_all_healthy : (set : SetParts) (pods : Pods) (i uid j : ℕ) (pod : Replica) → AreInOrder pods → set.policy ≡ OrderedReady → Contains (planned set pods) (DeletePod i uid) → in_range set i ≡ true → pod_at pods i ≡ Some pod → is_failed pod.readiness ≡ false → in_range set j ≡ true → has_healthy_pod pods j ≡ true
+pub replaced_where_all_healthy : (set : SetParts) (pods : Pods) (i uid j : ℕ) (pod : Replica) → AreInOrder pods → set.policy ≡ OrderedReady → Contains (full_steps set pods) (DeletePod i uid) → in_range set i ≡ true → pod_at pods i ≡ Some pod → is_failed pod.readiness ≡ false → in_range set j ≡ true → has_healthy_pod pods j ≡ true
 replaced_where_all_healthy set pods i uid j pod sorted policy h within here staying other =
     let r = deleted set pods i uid sorted h in
     let both : Some r.0 ≡ Some pod = sym r.1 ∙ here in

@@ -14,7 +14,7 @@ use Rattle.set_views.specs.Pod.{PodParts}
 use Rattle.set_views.specs.Set.{SetParts}
 use Rattle.set_views.specs.Words.{in_range, ordinal_in}
 use Rattle.pod_steps.specs.declared.replica.Replica.{Replica}
-use Rattle.pod_steps.specs.Listed.{by_ordinal, is_foreign, is_named, owned_of, placed, replica_of, replicas_in, unless_foreign}
+use Rattle.pod_steps.specs.Listed.{by_ordinal, is_foreign, is_named, owned_of, with_pod, replica_of, replicas_in, unless_foreign}
 use Rattle.pod_steps.specs.Replicas.{AreInOrder, Pods, pod_at}
 use Rattle.pod_steps.proofs.Entries.{at_other, at_same, at_self, at_tail, none_passed, not_true}
 
@@ -64,8 +64,8 @@ filtered_in_order p (e ∷ es) s =
       | false ↦ filtered_in_order p es s.1
     ]
 
-placed_in_order : (set : SetParts) (update current : List ℕ) (pods : Pods) (pod : PodParts) → AreInOrder pods → AreInOrder (placed set update current pods pod)
-placed_in_order set update current pods pod s =
+with_pod_in_order : (set : SetParts) (update current : List ℕ) (pods : Pods) (pod : PodParts) → AreInOrder pods → AreInOrder (with_pod set update current pods pod)
+with_pod_in_order set update current pods pod s =
     elim (ordinal_in set pod) as (λ o. AreInOrder (option_map_or (λ i. insert_entry nat_cmp pods i (replica_of set update current pod)) o pods)) [
       | None ↦ s
       | Some i ↦ inserted_in_order pods i (replica_of set update current pod) s
@@ -78,7 +78,7 @@ none_in_order = tt
 pub listed_in_order : (set : SetParts) (update current : List ℕ) (listed : List PodParts) → AreInOrder (by_ordinal set update current listed)
 unfolding by_ordinal
 listed_in_order set update current [] = none_in_order
-listed_in_order set update current (pod ∷ listed) = placed_in_order set update current (by_ordinal set update current listed) pod (listed_in_order set update current listed)
+listed_in_order set update current (pod ∷ listed) = with_pod_in_order set update current (by_ordinal set update current listed) pod (listed_in_order set update current listed)
 
 pub owned_in_order : (pods : Pods) → AreInOrder pods → AreInOrder (owned_of pods)
 owned_in_order pods s = filtered_in_order (λ e. e.1.owned) pods s

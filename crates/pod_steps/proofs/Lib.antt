@@ -1,4 +1,4 @@
-pub mod Cuts
+pub mod Truncation
 pub mod Walks
 pub mod Backward
 pub mod Found

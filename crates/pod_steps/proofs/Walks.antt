@@ -4,8 +4,8 @@ use Rattle.std.specs.List.{flat_map, range_with_len}
 use Rattle.std.proofs.lemmas.List.{append-nil}
 use Rattle.std.proofs.lemmas.List.Concat.{flat_map-append}
 use Rattle.pod_steps.specs.declared.step.Step.{Step}
-use Rattle.pod_steps.specs.Step.{Adds, cut, pod_steps}
-use Rattle.pod_steps.proofs.Cuts.{adds_none, adds_more, adds_past}
+use Rattle.pod_steps.specs.Step.{Adds, truncated, pod_steps}
+use Rattle.pod_steps.proofs.Truncation.{adds_none, adds_more, adds_past}
 
 -- a range in two parts
 pub split_range : (a k n : ℕ) → range_with_len a (k + n) ≡ range_with_len a k ++ range_with_len (a + k) n
@@ -34,7 +34,7 @@ walk_past f a k n xs ys within before full =
     subst P (sym (split_walk f a k (n - k)) ∙ ap (λ m. flat_map f (range_with_len a m)) e) (adds_past xs ys _ _ before full)
 
 -- no ordinal yet
-pub walk_none : (f : ℕ → List Step) (a k : ℕ) (xs : List Step) → k ≡ 0 → cut xs ≡ xs → Adds xs xs (flat_map f (range_with_len a k))
+pub walk_none : (f : ℕ → List Step) (a k : ℕ) (xs : List Step) → k ≡ 0 → truncated xs ≡ xs → Adds xs xs (flat_map f (range_with_len a k))
 walk_none f a k xs none short = let P : List Step → Type 0 = λ l. Adds xs xs l in subst P (ap (λ n. flat_map f (range_with_len a n)) (sym none)) (adds_none xs short)
 
 -- each ordinal

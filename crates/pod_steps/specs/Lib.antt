@@ -2,7 +2,7 @@
 pub mod Replicas
 pub mod Listed
 pub mod Step
-pub mod Whole
+pub mod FullSteps
 pub mod Least
 pub mod Update
 pub mod Scaling

@@ -32,13 +32,13 @@ abbrev pub is_named : SetParts → ℕ → PodParts → Bool
 is_named set i pod = option_map_or (λ j. i == j) (ordinal_in set pod) false
 
 -- the pods with one more at its ordinal, if its name is one of the set's
-abbrev pub placed : SetParts → List ℕ → List ℕ → Pods → PodParts → Pods
-placed set update current pods pod = option_map_or (λ i. insert_entry nat_cmp pods i (replica_of set update current pod)) (ordinal_in set pod) pods
+abbrev pub with_pod : SetParts → List ℕ → List ℕ → Pods → PodParts → Pods
+with_pod set update current pods pod = option_map_or (λ i. insert_entry nat_cmp pods i (replica_of set update current pod)) (ordinal_in set pod) pods
 
 -- the pods with names of the set; of several with one name the first counts
 unfoldable pub by_ordinal : SetParts → List ℕ → List ℕ → List PodParts → Pods
 by_ordinal set update current [] = []
-by_ordinal set update current (pod ∷ listed) = placed set update current (by_ordinal set update current listed) pod
+by_ordinal set update current (pod ∷ listed) = with_pod set update current (by_ordinal set update current listed) pod
 
 -- an ordinal in range whose pod the set does not control
 abbrev pub is_foreign : SetParts → ℕ × Replica → Bool

@@ -32,22 +32,22 @@ is_failed NotReady = false
 is_failed Failed = true
 
 -- running and ready, and not on its way out
-abbrev pub is_healthy : Replica → Bool
-is_healthy pod = is_ready pod.readiness && not pod.terminating
+abbrev pub is_healthy_replica : Replica → Bool
+is_healthy_replica pod = is_ready pod.readiness && not pod.terminating
 
 abbrev pub has_healthy_pod : Pods → ℕ → Bool
-has_healthy_pod pods i = option_map_or is_healthy (pod_at pods i) false
+has_healthy_pod pods i = option_map_or is_healthy_replica (pod_at pods i) false
 
 abbrev pub lacks_healthy : Pods → ℕ → Bool
 lacks_healthy pods i = not (has_healthy_pod pods i)
 
 -- the pod is at the update revision and healthy
 abbrev pub is_settled : Replica → Bool
-is_settled pod = pod.updated && is_healthy pod
+is_settled pod = pod.updated && is_healthy_replica pod
 
 -- a rolling update down to that partition has still to do with the ordinal
 abbrev pub is_due : ℕ → Pods → ℕ → Bool
 is_due partition pods i = nat_le partition i && option_map_or (λ pod. not (is_settled pod)) (pod_at pods i) false
 
-abbrev pub is_condemned : SetParts → ℕ × Replica → Bool
-is_condemned set e = not (in_range set e.0)
+abbrev pub is_out_of_range : SetParts → ℕ × Replica → Bool
+is_out_of_range set e = not (in_range set e.0)

@@ -1,5 +1,5 @@
 -- What scaling does to pods (Kubernetes, "StatefulSets": "Deployment and Scaling Guarantees" and "Pod Management Policies"),
--- told by the least and the largest ordinals that matter. All of it is about the steps that are not on claims.
+-- by the least and the largest ordinals that matter. All of it is about the steps that are not on claims.
 use Rattle.std.specs.Prelude.{◌≡◌, ◌≢◌, ◌↔◌, ◌⊎◌, ℕ, List, [], ◌∷◌, Option, Some, None, true, false, IsSome}
 use Rattle.std.specs.List.{Contains}
 use Rattle.set_views.specs.Set.{SetParts}
@@ -13,7 +13,7 @@ use Rattle.pod_steps.specs.declared.step.Step.TheVariants.{CreatePod, DeletePod,
 use Rattle.pod_steps.specs.Least.{IsLeast, IsGreatest}
 use Rattle.pod_steps.specs.Replicas.{Pods, has_healthy_pod, is_failed, pod_at}
 use Rattle.pod_steps.specs.Update.{Updates}
-use Rattle.pod_steps.specs.Whole.{revision_at, wait_for}
+use Rattle.pod_steps.specs.FullSteps.{revision_at, wait_for}
 
 -- an ordinal in range without a healthy pod
 abbrev pub IsGap : SetParts → Pods → ℕ → Type 0
@@ -29,14 +29,14 @@ IsHolding set pods i j = (j ≢ i) × HasCondemned set pods j × (has_healthy_po
 
 -- at an ordinal in range without a healthy pod: a missing pod is created, a failed one is deleted so that it is made
 -- again, and any other is waited for
-pub record Mends (set : SetParts) (i : ℕ) (here : Option Replica) (steps : List Step) : Type 0 where
+pub record ClosesGap (set : SetParts) (i : ℕ) (here : Option Replica) (steps : List Step) : Type 0 where
   pub absent : here ≡ None → steps ≡ CreatePod i (revision_at set.strategy i) ∷ []
   pub terminating : (pod : Replica) → here ≡ Some pod → pod.terminating ≡ true → steps ≡ Wait i Terminating ∷ []
   pub failed : (pod : Replica) → here ≡ Some pod → pod.terminating ≡ false → is_failed pod.readiness ≡ true → steps ≡ DeletePod i pod.uid ∷ []
   pub not_ready : (pod : Replica) → here ≡ Some pod → pod.terminating ≡ false → is_failed pod.readiness ≡ false → steps ≡ Wait i NotReady ∷ []
 
 -- the highest condemned pod is deleted once every other one is healthy; else what it waits for is waited for
-pub record Retires (set : SetParts) (pods : Pods) (i : ℕ) (pod : Replica) (steps : List Step) : Type 0 where
+pub record ScalesDown (set : SetParts) (pods : Pods) (i : ℕ) (pod : Replica) (steps : List Step) : Type 0 where
   pub terminating : pod.terminating ≡ true → steps ≡ Wait i Terminating ∷ []
   pub held : pod.terminating ≡ false → (j : ℕ) (other : Replica) → IsLeast (IsHolding set pods i) j → pod_at pods j ≡ Some other → steps ≡ wait_for j other ∷ []
   pub free : pod.terminating ≡ false → ((j : ℕ) → ¬ IsHolding set pods i j) → steps ≡ DeletePod i pod.uid ∷ []
@@ -45,10 +45,10 @@ pub record Retires (set : SetParts) (pods : Pods) (i : ℕ) (pod : Replica) (ste
 pub record ScalesInOrder (set : SetParts) (pods : Pods) (steps : List Step) : Type 0 where
   -- "Before a scaling operation is applied to a Pod, all of its predecessors must be Running and Ready": the least
   -- ordinal in range without a healthy pod is the only one where anything is done
-  pub gap : (i : ℕ) → IsLeast (IsGap set pods) i → Mends set i (pod_at pods i) steps
+  pub gap : (i : ℕ) → IsLeast (IsGap set pods) i → ClosesGap set i (pod_at pods i) steps
   -- "Before a Pod is terminated, all of its successors must be completely shutdown": where there is none, it is the
   -- highest condemned pod
-  pub condemned : ((i : ℕ) → ¬ IsGap set pods i) → (i : ℕ) (pod : Replica) → IsGreatest (HasCondemned set pods) i → pod_at pods i ≡ Some pod → Retires set pods i pod steps
+  pub condemned : ((i : ℕ) → ¬ IsGap set pods i) → (i : ℕ) (pod : Replica) → IsGreatest (HasCondemned set pods) i → pod_at pods i ≡ Some pod → ScalesDown set pods i pod steps
   -- where no pod is condemned either, the update alone does anything
   pub neither : ((i : ℕ) → ¬ IsGap set pods i) → ((i : ℕ) → ¬ HasCondemned set pods i) → Updates set pods steps
 

@@ -8,14 +8,14 @@ use Rattle.set_views.specs.Set.{SetParts}
 use Rattle.set_views.specs.Words.{is_ready}
 use Rattle.pod_steps.specs.declared.replica.Replica.{Replica}
 use Rattle.pod_steps.specs.declared.status.Counts.{Counts}
-use Rattle.pod_steps.specs.Replicas.{Pods, is_condemned, is_settled, ordinals, pod_at}
+use Rattle.pod_steps.specs.Replicas.{Pods, is_out_of_range, is_settled, ordinals, pod_at}
 
 -- a healthy pod at the update revision
 abbrev pub has_settled_pod : Pods → ℕ → Bool
 has_settled_pod pods i = option_map_or is_settled (pod_at pods i) false
 
 abbrev pub is_rolled_out_by : Strategy → SetParts → Pods → Bool
-is_rolled_out_by (RollingUpdate partition) set pods = list_all (has_settled_pod pods) (ordinals set) && not (list_any (is_condemned set) pods)
+is_rolled_out_by (RollingUpdate partition) set pods = list_all (has_settled_pod pods) (ordinals set) && not (list_any (is_out_of_range set) pods)
 is_rolled_out_by OnDelete set pods = false
 
 -- the update revision is then the current one

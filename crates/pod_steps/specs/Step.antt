@@ -21,10 +21,10 @@ up_to zero steps = []
 up_to (suc n) [] = []
 up_to (suc n) (step ∷ steps) = step ∷ up_to (if is_of_pod step then n else suc n) steps
 
--- a plan has at most 1,024 actions, and this beginning comes to as many, or is the whole
-unfoldable pub cut : List Step → List Step
-cut steps = up_to 1024 steps
+-- a plan has at most 1,024 actions, and this beginning comes to as many, or is the full list
+unfoldable pub truncated : List Step → List Step
+truncated steps = up_to 1024 steps
 
 -- what is held after `more` comes to `old`
 abbrev pub Adds : List Step → List Step → List Step → Type 0
-Adds old new more = new ≡ cut (old ++ more)
+Adds old new more = new ≡ truncated (old ++ more)

@@ -4,7 +4,7 @@ ghost use Rattle.std.specs.List.{flat_map};
 ghost use Rattle.set_views.specs.Set.{set_parts};
 ghost use Rattle.pod_steps.specs.Replicas.{pod_at};
 ghost use Rattle.pod_steps.specs.Step.{Adds};
-ghost use Rattle.pod_steps.specs.Whole.{all_brought, at_once, brought, let_go, scaled_at_once};
+ghost use Rattle.pod_steps.specs.FullSteps.{all_target_steps, at_once, target_steps, condemned_steps, scaling_steps_at_once};
 
 use crate::replica::Replica;
 use crate::single::{create, delete, keep, remove};
@@ -28,44 +28,48 @@ pub(crate) fn plan_at_once(
     if steps.is_full() {
         return Ok(());
     }
-    if steps.are_of_pods() {
+    if steps.has_pod_step() {
         return Ok(());
     }
     update(steps, set, pods)
 }
 
 /// Brings about each pod in range, and deletes each condemned one.
-#[tactic(auto, using(crate::proofs::Cuts::adds_more), unfolding(crate::specs::Whole::scaled_at_once))]
+#[tactic(auto, using(crate::proofs::Truncation::adds_more), unfolding(crate::specs::FullSteps::scaling_steps_at_once))]
 fn scale(steps: &mut Steps, set: &Set, pods: &BTreeMap<u32, Replica>) -> Result<(), AllocError>
-    ensures { OnOk result (Adds steps.old.list.items steps.new.list.items (scaled_at_once (set_parts set.now) pods.now.entries)) }
+    ensures { OnOk result (Adds steps.old.list.items steps.new.list.items (scaling_steps_at_once (set_parts set.now) pods.now.entries)) }
 {
-    bring_all(steps, set, pods)?;
-    let_all_go(steps, set, pods)
+    ensure_pods(steps, set, pods)?;
+    delete_all_condemned(steps, set, pods)
 }
 
 /// Brings about each pod in range. It stops where the steps are full, since the range may be far longer than the list
 /// of pods.
-fn bring_all(steps: &mut Steps, set: &Set, pods: &BTreeMap<u32, Replica>) -> Result<(), AllocError>
-    ensures { OnOk result (Adds steps.old.list.items steps.new.list.items (all_brought (set_parts set.now) pods.now.entries)) }
+fn ensure_pods(
+    steps: &mut Steps,
+    set: &Set,
+    pods: &BTreeMap<u32, Replica>,
+) -> Result<(), AllocError>
+    ensures { OnOk result (Adds steps.old.list.items steps.new.list.items (all_target_steps (set_parts set.now) pods.now.entries)) }
 {
     for ordinal in set.start..end_of(set) {
         if steps.is_full() {
             return Ok(());
         }
-        bring(steps, set, pods, ordinal)?;
+        ensure_pod(steps, set, pods, ordinal)?;
     }
     Ok(())
 }
 
 /// Brings about a pod at an ordinal in range.
-#[tactic(auto, using(crate::proofs::Cuts::adds_none))]
-fn bring(
+#[tactic(auto, using(crate::proofs::Truncation::adds_none))]
+fn ensure_pod(
     steps: &mut Steps,
     set: &Set,
     pods: &BTreeMap<u32, Replica>,
     ordinal: u32,
 ) -> Result<(), AllocError>
-    ensures { OnOk result (Adds steps.old.list.items steps.new.list.items (brought (set_parts set.now) ordinal (pod_at pods.now.entries ordinal))) }
+    ensures { OnOk result (Adds steps.old.list.items steps.new.list.items (target_steps (set_parts set.now) ordinal (pod_at pods.now.entries ordinal))) }
 {
     match pods.get(&ordinal) {
         None => create(steps, set, ordinal),
@@ -84,19 +88,28 @@ fn bring(
 }
 
 /// Deletes each condemned pod, from the highest down.
-fn let_all_go(steps: &mut Steps, set: &Set, pods: &BTreeMap<u32, Replica>) -> Result<(), AllocError>
-    ensures { OnOk result (Adds steps.old.list.items steps.new.list.items (flat_map (let_go (set_parts set.now)) (reverse pods.now.entries))) }
+fn delete_all_condemned(
+    steps: &mut Steps,
+    set: &Set,
+    pods: &BTreeMap<u32, Replica>,
+) -> Result<(), AllocError>
+    ensures { OnOk result (Adds steps.old.list.items steps.new.list.items (flat_map (condemned_steps (set_parts set.now)) (reverse pods.now.entries))) }
 {
     for (ordinal, pod) in pods.iter().rev() {
-        let_go(steps, set, *ordinal, pod)?;
+        delete_condemned(steps, set, *ordinal, pod)?;
     }
     Ok(())
 }
 
 /// Deletes a condemned pod, unless it is terminating.
-#[tactic(auto, using(crate::proofs::Cuts::adds_none))]
-fn let_go(steps: &mut Steps, set: &Set, ordinal: u32, pod: &Replica) -> Result<(), AllocError>
-    ensures { OnOk result (Adds steps.old.list.items steps.new.list.items (let_go (set_parts set.now) (ordinal, pod.now))) }
+#[tactic(auto, using(crate::proofs::Truncation::adds_none))]
+fn delete_condemned(
+    steps: &mut Steps,
+    set: &Set,
+    ordinal: u32,
+    pod: &Replica,
+) -> Result<(), AllocError>
+    ensures { OnOk result (Adds steps.old.list.items steps.new.list.items (condemned_steps (set_parts set.now) (ordinal, pod.now))) }
 {
     if set.has_in_range(ordinal) || pod.terminating {
         Ok(())

@@ -2,9 +2,9 @@
 ghost use Rattle.std.specs.Prelude.{◌≡◌, OnOk, find, reverse, option_map};
 ghost use Rattle.std.specs.Map.Iter.{deref_pair};
 ghost use Rattle.set_views.specs.Set.{set_parts};
-ghost use Rattle.pod_steps.specs.Replicas.{is_condemned, pod_at};
+ghost use Rattle.pod_steps.specs.Replicas.{is_out_of_range, pod_at};
 ghost use Rattle.pod_steps.specs.Step.{Adds};
-ghost use Rattle.pod_steps.specs.Whole.{in_order, is_other_unhealthy, mended, retired};
+ghost use Rattle.pod_steps.specs.FullSteps.{in_order, is_other_unhealthy, gap_steps, scale_down_steps};
 
 use crate::replica::Replica;
 use crate::single::{create, delete, keep_below, remove, wait};
@@ -26,12 +26,12 @@ pub(crate) fn plan_in_order(
     match first_gap(set, pods) {
         Some(ordinal) => {
             keep_below(steps, set, ordinal)?;
-            mend(steps, set, pods, ordinal)
+            close_gap(steps, set, pods, ordinal)
         }
         None => {
             keep_below(steps, set, end_of(set))?;
             match highest_condemned(set, pods) {
-                Some((ordinal, pod)) => retire(steps, set, pods, *ordinal, pod),
+                Some((ordinal, pod)) => scale_down(steps, set, pods, *ordinal, pod),
                 None => update(steps, set, pods),
             }
         }
@@ -39,13 +39,13 @@ pub(crate) fn plan_in_order(
 }
 
 /// Brings about a healthy pod at an ordinal that has none.
-fn mend(
+fn close_gap(
     steps: &mut Steps,
     set: &Set,
     pods: &BTreeMap<u32, Replica>,
     ordinal: u32,
 ) -> Result<(), AllocError>
-    ensures { OnOk result (Adds steps.old.list.items steps.new.list.items (mended (set_parts set.now) ordinal (pod_at pods.now.entries ordinal))) }
+    ensures { OnOk result (Adds steps.old.list.items steps.new.list.items (gap_steps (set_parts set.now) ordinal (pod_at pods.now.entries ordinal))) }
 {
     match pods.get(&ordinal) {
         None => create(steps, set, ordinal),
@@ -63,7 +63,7 @@ fn highest_condemned<'a>(
     set: &Set,
     pods: &'a BTreeMap<u32, Replica>,
 ) -> Option<(&'a u32, &'a Replica)>
-    ensures { option_map deref_pair result ≡ find (is_condemned (set_parts set.now)) (reverse pods.now.entries) }
+    ensures { option_map deref_pair result ≡ find (is_out_of_range (set_parts set.now)) (reverse pods.now.entries) }
 {
     pods.iter()
         .rev()
@@ -84,14 +84,14 @@ fn first_unhealthy<'a>(
 }
 
 /// Deletes the highest condemned pod, once each other one is healthy.
-fn retire(
+fn scale_down(
     steps: &mut Steps,
     set: &Set,
     pods: &BTreeMap<u32, Replica>,
     highest: u32,
     pod: &Replica,
 ) -> Result<(), AllocError>
-    ensures { OnOk result (Adds steps.old.list.items steps.new.list.items (retired (set_parts set.now) pods.now.entries (highest, pod.now))) }
+    ensures { OnOk result (Adds steps.old.list.items steps.new.list.items (scale_down_steps (set_parts set.now) pods.now.entries (highest, pod.now))) }
 {
     if pod.terminating {
         return wait(steps, highest, pod);

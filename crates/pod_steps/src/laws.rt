@@ -8,9 +8,9 @@ ghost use Rattle.pod_steps.specs.declared.replica.Replica.{Replica};
 ghost use Rattle.pod_steps.specs.declared.step.Revision.{Revision};
 ghost use Rattle.pod_steps.specs.declared.step.Step.{Step};
 ghost use Rattle.pod_steps.specs.Listed.{by_ordinal, is_named, replica_of, replicas_in};
-ghost use Rattle.pod_steps.specs.Replicas.{Pods, has_healthy_pod, is_failed, is_healthy, is_settled, pod_at};
-ghost use Rattle.pod_steps.specs.Step.{cut, is_of_pod, pod_steps};
-ghost use Rattle.pod_steps.specs.Whole.{planned, updated};
+ghost use Rattle.pod_steps.specs.Replicas.{Pods, has_healthy_pod, is_failed, is_healthy_replica, is_settled, pod_at};
+ghost use Rattle.pod_steps.specs.Step.{truncated, is_of_pod, pod_steps};
+ghost use Rattle.pod_steps.specs.FullSteps.{full_steps, update_steps};
 
 use crate::step::Step;
 use set_views::{Policy, Strategy};
@@ -34,24 +34,24 @@ pub fn plans_go_by_first_pods()
 /// Under OrderedReady a pod is created only where each lower ordinal in range has a healthy pod.
 pub fn creates_follow_healthy_pods()
     ensures { (set : SetParts) (pods : Pods) (i j : ℕ) (revision : Revision) → set.policy ≡ Policy.OrderedReady
-        → Contains (planned set pods) (Step.CreatePod i revision) → in_range set j ≡ true → j < i → has_healthy_pod pods j ≡ true }
+        → Contains (full_steps set pods) (Step.CreatePod i revision) → in_range set j ≡ true → j < i → has_healthy_pod pods j ≡ true }
 {}
 
 /// Under OrderedReady a plan creates, deletes or waits for one pod at most.
 #[tactic(auto, using(crate::proofs::Causes::one_at_a_time))]
 pub fn one_pod_at_a_time()
-    ensures { (set : SetParts) (pods : Pods) → set.policy ≡ Policy.OrderedReady → length (pod_steps (planned set pods)) ≤ 1 }
+    ensures { (set : SetParts) (pods : Pods) → set.policy ≡ Policy.OrderedReady → length (pod_steps (full_steps set pods)) ≤ 1 }
 {}
 
 /// A rolling update deletes or waits for one pod at most. It deletes none below the partition, and only where each pod
 /// in range with a larger ordinal is at the update revision and healthy.
-#[tactic(auto, using(crate::proofs::Causes::one_updated))]
+#[tactic(auto, using(crate::proofs::Causes::one_update))]
 pub fn replacements_go_downward()
-    ensures one { (set : SetParts) (pods : Pods) → length (pod_steps (updated set pods)) ≤ 1 }
+    ensures one { (set : SetParts) (pods : Pods) → length (pod_steps (update_steps set pods)) ≤ 1 }
     ensures reached { (set : SetParts) (pods : Pods) (partition i uid : ℕ) → set.strategy ≡ Strategy.RollingUpdate partition
-        → Contains (updated set pods) (Step.DeletePod i uid) → nat_le partition i ≡ true }
+        → Contains (update_steps set pods) (Step.DeletePod i uid) → nat_le partition i ≡ true }
     ensures settled { (set : SetParts) (pods : Pods) (partition i uid j : ℕ) (pod : Replica)
-        → set.strategy ≡ Strategy.RollingUpdate partition → Contains (updated set pods) (Step.DeletePod i uid)
+        → set.strategy ≡ Strategy.RollingUpdate partition → Contains (update_steps set pods) (Step.DeletePod i uid)
         → in_range set j ≡ true → i < j → pod_at pods j ≡ Some pod → is_settled pod ≡ true }
 {}
 
@@ -59,14 +59,14 @@ pub fn replacements_go_downward()
 pub fn replacements_wait_for_all_in_order()
     ensures { (set : SetParts) (update current : List ℕ) (listed : List PodParts) (pods : Pods) (i uid j : ℕ) (pod : Replica)
         → replicas_in set update current listed ≡ Ok pods
-        → set.policy ≡ Policy.OrderedReady → Contains (planned set pods) (Step.DeletePod i uid) → in_range set i ≡ true
+        → set.policy ≡ Policy.OrderedReady → Contains (full_steps set pods) (Step.DeletePod i uid) → in_range set i ≡ true
         → pod_at pods i ≡ Some pod → is_failed pod.readiness ≡ false → in_range set j ≡ true → has_healthy_pod pods j ≡ true }
 {}
 
 /// A delete is of a listed pod that the set controls, the first of its name, by its UID.
 pub fn deletes_are_of_owned_pods()
     ensures { (set : SetParts) (update current : List ℕ) (listed : List PodParts) (pods : Pods) (i uid : ℕ)
-        → replicas_in set update current listed ≡ Ok pods → Contains (planned set pods) (Step.DeletePod i uid)
+        → replicas_in set update current listed ≡ Ok pods → Contains (full_steps set pods) (Step.DeletePod i uid)
         → (pod : PodParts) × (find (is_named set i) listed ≡ Some pod) × (is_owned set pod ≡ true) × (pod.uid ≡ uid) }
 {}
 
@@ -74,21 +74,21 @@ pub fn deletes_are_of_owned_pods()
 pub fn creates_are_of_free_names()
     ensures { (set : SetParts) (update current : List ℕ) (listed : List PodParts) (pods : Pods) (i : ℕ) (revision : Revision)
         → replicas_in set update current listed ≡ Ok pods
-        → Contains (planned set pods) (Step.CreatePod i revision) → find (is_named set i) listed ≡ None }
+        → Contains (full_steps set pods) (Step.CreatePod i revision) → find (is_named set i) listed ≡ None }
 {}
 
 /// Under OnDelete no healthy pod in range is deleted.
 pub fn no_healthy_pod_goes_on_delete()
     ensures { (set : SetParts) (update current : List ℕ) (listed : List PodParts) (pods : Pods) (i uid : ℕ) (pod : Replica)
         → replicas_in set update current listed ≡ Ok pods → set.strategy ≡ Strategy.OnDelete
-        → Contains (planned set pods) (Step.DeletePod i uid) → in_range set i ≡ true → pod_at pods i ≡ Some pod → is_healthy pod ≡ false }
+        → Contains (full_steps set pods) (Step.DeletePod i uid) → in_range set i ≡ true → pod_at pods i ≡ Some pod → is_healthy_replica pod ≡ false }
 {}
 
-/// A cut plan is a beginning of the whole one. It is the whole, or has 1,024 steps that are no steps on claims; and it
-/// has none of these only where the whole has none.
-#[tactic(auto, using(crate::proofs::Cuts::cut_is_a_beginning, crate::proofs::Cuts::cut_is_whole_or_full, crate::proofs::Cuts::cut_keeps_quiet))]
-pub fn plans_are_cut_where_full()
-    ensures beginning { (steps : List Step) → (more : List Step) × (steps ≡ cut steps ++ more) }
-    ensures full { (steps : List Step) → (cut steps ≡ steps) ⊎ (length (pod_steps (cut steps)) ≡ 1024) }
-    ensures quiet { (steps : List Step) → list_any is_of_pod (cut steps) ≡ list_any is_of_pod steps }
+/// A truncated list is a beginning of the full one. It is the full list, or has 1,024 steps that are no steps on claims;
+/// and it has none of these only where the full list has none.
+#[tactic(auto, using(crate::proofs::Truncation::truncated_is_a_beginning, crate::proofs::Truncation::truncated_is_all_or_at_limit, crate::proofs::Truncation::truncated_keeps_quiet))]
+pub fn plans_are_truncated_at_the_limit()
+    ensures beginning { (steps : List Step) → (more : List Step) × (steps ≡ truncated steps ++ more) }
+    ensures limit { (steps : List Step) → (truncated steps ≡ steps) ⊎ (length (pod_steps (truncated steps)) ≡ 1024) }
+    ensures quiet { (steps : List Step) → list_any is_of_pod (truncated steps) ≡ list_any is_of_pod steps }
 {}

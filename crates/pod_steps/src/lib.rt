@@ -16,7 +16,7 @@ mod words;
 
 pub use laws::{
     creates_are_of_free_names, creates_follow_healthy_pods, deletes_are_of_owned_pods,
-    no_healthy_pod_goes_on_delete, one_pod_at_a_time, plans_are_cut_where_full,
+    no_healthy_pod_goes_on_delete, one_pod_at_a_time, plans_are_truncated_at_the_limit,
     plans_go_by_first_pods, replacements_go_downward, replacements_wait_for_all_in_order,
     the_first_pod_of_a_name_counts,
 };

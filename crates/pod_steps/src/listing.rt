@@ -4,7 +4,7 @@ ghost use Rattle.std.specs.Map.Iter.{deref_pair};
 ghost use Rattle.set_views.specs.Pod.{pod_parts};
 ghost use Rattle.set_views.specs.Set.{set_parts};
 ghost use Rattle.set_views.specs.Steps.{Gives};
-ghost use Rattle.pod_steps.specs.Listed.{by_ordinal, is_foreign, owned_of, placed, replicas_in};
+ghost use Rattle.pod_steps.specs.Listed.{by_ordinal, is_foreign, owned_of, with_pod, replicas_in};
 ghost use Rattle.objects.specs.PodNames.{pod_name};
 
 use crate::replica::{Replica, replica_of};
@@ -14,14 +14,14 @@ use std::alloc::{AllocError, Global};
 use std::collections::BTreeMap;
 
 /// Puts the pod at its ordinal, if its name is one of the set's.
-fn place(
+fn put_pod(
     pods: &mut BTreeMap<u32, Replica>,
     set: &Set,
     update: &str,
     current: &str,
     pod: &PodView<'_>,
 ) -> Result<(), AllocError>
-    ensures { OnOk result (pods.new.entries ≡ placed (set_parts set.now) update.now current.now pods.old.entries (pod_parts pod.now)) }
+    ensures { OnOk result (pods.new.entries ≡ with_pod (set_parts set.now) update.now current.now pods.old.entries (pod_parts pod.now)) }
 {
     if let Some(ordinal) = pod.ordinal_in(set) {
         pods.insert(ordinal, replica_of(set, update, current, pod))?;
@@ -42,7 +42,7 @@ fn by_ordinal(
     let mut pods = BTreeMap::new(alloc);
     // From the last to the first, as a later one replaces: of one name the first pod stays.
     for pod in listed.iter().rev() {
-        place(&mut pods, set, update, current, pod)?;
+        put_pod(&mut pods, set, update, current, pod)?;
     }
     Ok(pods)
 }

@@ -1,9 +1,9 @@
 // The steps of a plan on a set's pods.
 ghost use Rattle.std.specs.Prelude.{◌≡◌, [], IfOk, OnOk};
 ghost use Rattle.set_views.specs.Set.{set_parts};
-ghost use Rattle.pod_steps.specs.Step.{Adds, cut, pod_steps};
+ghost use Rattle.pod_steps.specs.Step.{Adds, truncated, pod_steps};
 ghost use Rattle.pod_steps.specs.Scaling.{ScalesAtOnce, ScalesInOrder};
-ghost use Rattle.pod_steps.specs.Whole.{planned};
+ghost use Rattle.pod_steps.specs.FullSteps.{full_steps};
 
 use crate::at_once::plan_at_once;
 use crate::in_order::plan_in_order;
@@ -14,7 +14,7 @@ use std::alloc::{AllocError, Global};
 use std::collections::BTreeMap;
 
 /// The steps of a plan on the pods of a set, as `replicas_of` gives them, up to the 1,024th that is no step on claims:
-/// a plan has at most 1,024 actions, and these come to as many, or are the whole. It scales as the set's
+/// a plan has at most 1,024 actions, and these come to as many, or are the full list. It scales as the set's
 /// `podManagementPolicy` has it, and updates as its `updateStrategy` has it (Kubernetes, "StatefulSets": "Deployment and
 /// Scaling Guarantees", "Update strategies"). It takes time by the pods that there are, and not by `replicas`.
 pub fn pod_steps(
@@ -22,27 +22,27 @@ pub fn pod_steps(
     set: &Set,
     pods: &BTreeMap<u32, Replica>,
 ) -> Result<Vec<Step>, AllocError>
-    ensures first { IfOk result (λ steps. steps.items ≡ cut (planned (set_parts set.now) pods.now.entries)) }
+    ensures first { IfOk result (λ steps. steps.items ≡ truncated (full_steps (set_parts set.now) pods.now.entries)) }
     ensures in_order { IfOk result (λ _. set.now.policy ≡ Policy.OrderedReady
-        → ScalesInOrder (set_parts set.now) pods.now.entries (pod_steps (planned (set_parts set.now) pods.now.entries))) }
+        → ScalesInOrder (set_parts set.now) pods.now.entries (pod_steps (full_steps (set_parts set.now) pods.now.entries))) }
     ensures at_once { IfOk result (λ _. set.now.policy ≡ Policy.Parallel
-        → ScalesAtOnce (set_parts set.now) pods.now.entries (pod_steps (planned (set_parts set.now) pods.now.entries))) }
+        → ScalesAtOnce (set_parts set.now) pods.now.entries (pod_steps (full_steps (set_parts set.now) pods.now.entries))) }
 {
     // A map's length says that its keys are in order.
     let _len = pods.len();
     let mut steps = Steps::new(alloc);
-    add_planned(&mut steps, set, pods)?;
+    add_by_policy(&mut steps, set, pods)?;
     Ok(steps.list)
 }
 
 /// Plans as the set's policy has it.
-fn add_planned(
+fn add_by_policy(
     steps: &mut Steps,
     set: &Set,
     pods: &BTreeMap<u32, Replica>,
 ) -> Result<(), AllocError>
     requires { steps.old.list.items ≡ [] }
-    ensures { OnOk result (Adds steps.old.list.items steps.new.list.items (planned (set_parts set.now) pods.now.entries)) }
+    ensures { OnOk result (Adds steps.old.list.items steps.new.list.items (full_steps (set_parts set.now) pods.now.entries)) }
 {
     match set.policy {
         Policy::OrderedReady => plan_in_order(steps, set, pods),

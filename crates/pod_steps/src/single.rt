@@ -3,7 +3,7 @@ ghost use Rattle.std.specs.Prelude.{◌≤◌, ◌-◌, [], ◌∷◌, OnOk};
 ghost use Rattle.std.specs.List.{flat_map, range_with_len};
 ghost use Rattle.set_views.specs.Set.{set_parts};
 ghost use Rattle.pod_steps.specs.Step.{Adds};
-ghost use Rattle.pod_steps.specs.Whole.{kept, made, removed, wait_for};
+ghost use Rattle.pod_steps.specs.FullSteps.{keep_steps, creation_steps, removal_steps, wait_for};
 
 use crate::replica::Replica;
 use crate::step::{Cause, Step, Steps};
@@ -14,7 +14,7 @@ use std::alloc::AllocError;
 /// Keeps the claims at the ordinals from the set's first one to below `end`.
 pub(crate) fn keep_below(steps: &mut Steps, set: &Set, end: u32) -> Result<(), AllocError>
     requires { set.now.start ≤ end }
-    ensures { OnOk result (Adds steps.old.list.items steps.new.list.items (flat_map kept (range_with_len set.now.start (end - set.now.start)))) }
+    ensures { OnOk result (Adds steps.old.list.items steps.new.list.items (flat_map keep_steps (range_with_len set.now.start (end - set.now.start)))) }
 {
     for ordinal in set.start..end {
         keep(steps, ordinal)?;
@@ -23,15 +23,15 @@ pub(crate) fn keep_below(steps: &mut Steps, set: &Set, end: u32) -> Result<(), A
 }
 
 pub(crate) fn keep(steps: &mut Steps, ordinal: u32) -> Result<(), AllocError>
-    ensures { OnOk result (Adds steps.old.list.items steps.new.list.items (kept ordinal)) }
+    ensures { OnOk result (Adds steps.old.list.items steps.new.list.items (keep_steps ordinal)) }
 {
     steps.add(Step::KeepClaims { ordinal })
 }
 
 /// Creates the pod at an ordinal, after its claims.
-#[tactic(auto, using(crate::proofs::Cuts::adds_two))]
+#[tactic(auto, using(crate::proofs::Truncation::adds_two))]
 pub(crate) fn create(steps: &mut Steps, set: &Set, ordinal: u32) -> Result<(), AllocError>
-    ensures { OnOk result (Adds steps.old.list.items steps.new.list.items (made (set_parts set.now) ordinal)) }
+    ensures { OnOk result (Adds steps.old.list.items steps.new.list.items (creation_steps (set_parts set.now) ordinal)) }
 {
     steps.add(Step::MakeClaims { ordinal })?;
     let revision = revision_at(set.strategy, ordinal);
@@ -39,9 +39,9 @@ pub(crate) fn create(steps: &mut Steps, set: &Set, ordinal: u32) -> Result<(), A
 }
 
 /// Deletes a condemned pod, after its claims.
-#[tactic(auto, using(crate::proofs::Cuts::adds_two))]
+#[tactic(auto, using(crate::proofs::Truncation::adds_two))]
 pub(crate) fn remove(steps: &mut Steps, ordinal: u32, pod: &Replica) -> Result<(), AllocError>
-    ensures { OnOk result (Adds steps.old.list.items steps.new.list.items (removed ordinal pod.now)) }
+    ensures { OnOk result (Adds steps.old.list.items steps.new.list.items (removal_steps ordinal pod.now)) }
 {
     let uid = pod.uid;
     steps.add(Step::ReleaseClaims { ordinal, uid })?;

@@ -2,7 +2,7 @@
 ghost use Rattle.std.specs.Prelude.{◌≡◌, filter, length};
 ghost use Rattle.std.specs.List.{list_all, list_any};
 ghost use Rattle.set_views.specs.Set.{set_parts};
-ghost use Rattle.pod_steps.specs.Replicas.{is_condemned, ordinals};
+ghost use Rattle.pod_steps.specs.Replicas.{is_out_of_range, ordinals};
 ghost use Rattle.pod_steps.specs.Status.{counts_of, has_settled_pod, is_current, is_ready_entry, is_rolled_out, is_updated};
 
 use crate::replica::Replica;
@@ -41,7 +41,7 @@ fn are_settled(set: &Set, pods: &BTreeMap<u32, Replica>) -> bool
 }
 
 fn has_condemned(set: &Set, pods: &BTreeMap<u32, Replica>) -> bool
-    ensures { result ≡ list_any (is_condemned (set_parts set.now)) pods.now.entries }
+    ensures { result ≡ list_any (is_out_of_range (set_parts set.now)) pods.now.entries }
 {
     pods.iter().any(|(ordinal, _)| !set.has_in_range(*ordinal))
 }

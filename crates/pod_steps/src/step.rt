@@ -1,7 +1,7 @@
 // The steps of a plan on a set's pods, and the list that holds the first of them.
 ghost use Rattle.std.specs.Prelude.{◌≡◌, ◌+◌, ◌≤◌, ◌↔◌, [], ◌∷◌, IsTrue, OnOk, length, not};
 ghost use Rattle.std.specs.List.{list_any};
-ghost use Rattle.pod_steps.specs.Step.{Adds, cut, is_of_pod, pod_steps};
+ghost use Rattle.pod_steps.specs.Step.{Adds, truncated, is_of_pod, pod_steps};
 
 use std::alloc::{AllocError, Global};
 
@@ -57,11 +57,11 @@ pub(crate) struct Steps {
     // how many of them are no steps on claims
     of_pods: usize,
     ghost counted: { of_pods ≡ length (pod_steps list.items) },
-    ghost within: { cut list.items ≡ list.items },
+    ghost within: { truncated list.items ≡ list.items },
 }
 
 impl Steps {
-    #[tactic(auto, using(crate::proofs::Cuts::cut_nil))]
+    #[tactic(auto, using(crate::proofs::Truncation::truncated_nil))]
     pub fn new(alloc: Global) -> Steps
         ensures { result.list.items ≡ [] }
     {
@@ -79,7 +79,7 @@ impl Steps {
     }
 
     /// Adds a step, unless the list is full.
-    #[tactic(auto, using(crate::proofs::Cuts::adds_one, crate::proofs::Cuts::adds_none_past, crate::proofs::Cuts::cut_with_one, crate::proofs::Cuts::count_with_one, crate::proofs::Cuts::count_with_other))]
+    #[tactic(auto, using(crate::proofs::Truncation::adds_one, crate::proofs::Truncation::adds_none_past, crate::proofs::Truncation::truncated_with_one, crate::proofs::Truncation::count_with_one, crate::proofs::Truncation::count_with_other))]
     pub fn add(&mut self, step: Step) -> Result<(), AllocError>
         ensures { OnOk result (Adds self.old.list.items self.new.list.items (step ∷ [])) }
     {
@@ -93,14 +93,14 @@ impl Steps {
     }
 
     /// Whether there is a step that is none on claims.
-    pub fn are_of_pods(&self) -> bool
+    pub fn has_pod_step(&self) -> bool
         ensures { result ≡ list_any is_of_pod self.now.list.items }
     {
-        touch_a_pod(&self.list)
+        have_pod_step(&self.list)
     }
 }
 
-fn touch_a_pod(steps: &[Step]) -> bool
+fn have_pod_step(steps: &[Step]) -> bool
     ensures { result ≡ list_any is_of_pod steps.now }
 {
     steps.iter().any(|step| step.is_of_pod())
@@ -110,5 +110,5 @@ fn touch_a_pod(steps: &[Step]) -> bool
 pub fn are_quiet(steps: &[Step]) -> bool
     ensures { result ≡ not (list_any is_of_pod steps.now) }
 {
-    !touch_a_pod(steps)
+    !have_pod_step(steps)
 }

@@ -3,7 +3,7 @@ ghost use Rattle.std.specs.Prelude.{◌≡◌, OnOk, find, reverse};
 ghost use Rattle.set_views.specs.Set.{set_parts};
 ghost use Rattle.pod_steps.specs.Replicas.{is_due, ordinals, pod_at};
 ghost use Rattle.pod_steps.specs.Step.{Adds};
-ghost use Rattle.pod_steps.specs.Whole.{replaced, updated};
+ghost use Rattle.pod_steps.specs.FullSteps.{replacement_steps, update_steps};
 
 use crate::replica::Replica;
 use crate::single::{delete, wait};
@@ -33,9 +33,9 @@ fn last_due(set: &Set, pods: &BTreeMap<u32, Replica>, partition: u32) -> Option<
 }
 
 /// Deletes the pod if it is at another revision, and else waits for it.
-#[tactic(auto, using(crate::proofs::Cuts::adds_none))]
+#[tactic(auto, using(crate::proofs::Truncation::adds_none))]
 fn replace(steps: &mut Steps, pods: &BTreeMap<u32, Replica>, ordinal: u32) -> Result<(), AllocError>
-    ensures { OnOk result (Adds steps.old.list.items steps.new.list.items (replaced ordinal (pod_at pods.now.entries ordinal))) }
+    ensures { OnOk result (Adds steps.old.list.items steps.new.list.items (replacement_steps ordinal (pod_at pods.now.entries ordinal))) }
 {
     match pods.get(&ordinal) {
         Some(pod) => {
@@ -50,13 +50,13 @@ fn replace(steps: &mut Steps, pods: &BTreeMap<u32, Replica>, ordinal: u32) -> Re
 }
 
 /// Replaces the last pod that is due.
-#[tactic(auto, using(crate::proofs::Cuts::adds_none), unfolding(crate::specs::Whole::updated))]
+#[tactic(auto, using(crate::proofs::Truncation::adds_none), unfolding(crate::specs::FullSteps::update_steps))]
 pub(crate) fn update(
     steps: &mut Steps,
     set: &Set,
     pods: &BTreeMap<u32, Replica>,
 ) -> Result<(), AllocError>
-    ensures { OnOk result (Adds steps.old.list.items steps.new.list.items (updated (set_parts set.now) pods.now.entries)) }
+    ensures { OnOk result (Adds steps.old.list.items steps.new.list.items (update_steps (set_parts set.now) pods.now.entries)) }
 {
     match set.strategy {
         Strategy::OnDelete => Ok(()),

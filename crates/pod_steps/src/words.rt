@@ -2,7 +2,7 @@
 ghost use Rattle.std.specs.Prelude.{◌≡◌, ◌+◌, not, find};
 ghost use Rattle.set_views.specs.Set.{set_parts};
 ghost use Rattle.pod_steps.specs.Replicas.{has_healthy_pod, ordinals};
-ghost use Rattle.pod_steps.specs.Whole.{revision_at};
+ghost use Rattle.pod_steps.specs.FullSteps.{revision_at};
 
 use crate::replica::Replica;
 use crate::step::Revision;

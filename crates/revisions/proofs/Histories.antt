@@ -13,7 +13,7 @@ use Rattle.set_views.specs.Pod.{PodParts, pod_parts}
 use Rattle.set_views.specs.Set.{SetParts}
 use Rattle.set_views.proofs.NameSets.{by_bytes, has_name-insert_key}
 use Rattle.revisions.specs.declared.view.RevisionView.{RevisionView}
-use Rattle.revisions.specs.History.{expired, history, is_live}
+use Rattle.revisions.specs.History.{expired_revisions, history, is_live}
 use Rattle.revisions.specs.Listing.{has_name}
 use Rattle.revisions.specs.Plan.{objects_of}
 
@@ -68,7 +68,7 @@ others_passed p rs done after i r inside is fails after_is =
 -- all but the last were taken
 pub expired_is : (set : SetParts) (pods : List PodParts) (current update : List ℕ) (names : List (Bor (List ℕ))) (owned others gone : List RevisionView) (n : ℕ)
     → ((q : List ℕ) → has_name q names ≡ is_live set pods current update q) → objects_of others ≡ filter (λ o. not (has_name o.key.name names)) (objects_of owned)
-    → gone ≡ take n others → n ≡ length others - set.history_limit → objects_of gone ≡ expired set pods current update (objects_of owned)
+    → gone ≡ take n others → n ≡ length others - set.history_limit → objects_of gone ≡ expired_revisions set pods current update (objects_of owned)
 expired_is set pods current update names owned others gone n live others_are gone_is n_is =
     let same : objects_of others ≡ history set pods current update (objects_of owned) =
     others_are ∙ ap (λ p. filter p (objects_of owned)) (λ i o. not (live o.key.name i)) in

@@ -24,5 +24,5 @@ abbrev pub all_but_last : ℕ → List Object → List Object
 all_but_last n os = take (length os - n) os
 
 -- of which all go but the last in their order, as many as the limit
-abbrev pub expired : SetParts → List PodParts → List ℕ → List ℕ → List Object → List Object
-expired set pods current update owned = all_but_last set.history_limit (history set pods current update owned)
+abbrev pub expired_revisions : SetParts → List PodParts → List ℕ → List ℕ → List Object → List Object
+expired_revisions set pods current update owned = all_but_last set.history_limit (history set pods current update owned)

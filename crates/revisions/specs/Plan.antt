@@ -18,21 +18,21 @@ use Rattle.revisions.specs.Choice.{Choice, in_place, to_renumber, to_create, cho
 use Rattle.revisions.specs.Name.{first_free, most_tries, revision_name}
 use Rattle.revisions.specs.Revision.{AreOwned, listed}
 
-pub data Planned : Type 0 where
+pub data PlanParts : Type 0 where
   -- this revision is to be made
-  created : Object → Planned
+  created : Object → PlanParts
   -- this one is to be written, with its new number
-  renumbered : Object → Planned
+  renumbered : Object → PlanParts
   -- nothing is to be written: the owned ones in order, the current one, and the update revision
-  settled : List Object → Object → Object → Planned
+  settled : List Object → Object → Object → PlanParts
 
 abbrev pub objects_of : List RevisionView → List Object
 objects_of views = map (λ r. r.object.now) views
 
-abbrev pub planned_of : RevisionPlan → Planned
-planned_of (Create o) = created o
-planned_of (Renumber o) = renumbered o
-planned_of (Settled revisions) = settled (objects_of revisions.owned.items) revisions.current.object.now revisions.update.object.now
+abbrev pub plan_parts : RevisionPlan → PlanParts
+plan_parts (Create o) = created o
+plan_parts (Renumber o) = renumbered o
+plan_parts (Settled revisions) = settled (objects_of revisions.owned.items) revisions.current.object.now revisions.update.object.now
 
 -- a new revision with that number
 unfoldable pub creation : SetParts → (List ℕ → Bool) → ℕ → ℕ → Result Object PlanError
@@ -41,7 +41,7 @@ creation set held digits n = do
   free ← required NoRevisionName (first_free held (revision_name name (compact_text (data_with set.template)) digits) set.collisions most_tries)
   Ok (new_revision set free n)
 
-abbrev pub plan_by : SetParts → (List ℕ → Bool) → ℕ → List Object → Choice → Result Planned PlanError
+abbrev pub plan_by : SetParts → (List ℕ → Bool) → ℕ → List Object → Choice → Result PlanParts PlanError
 plan_by set held digits owned (in_place update) = Ok (settled owned (unwrap_or (named_current set owned) update) update)
 plan_by set held digits owned (to_renumber o) = Ok (renumbered (with_number o (greatest owned + 1)))
 plan_by set held digits owned to_create = creation set held digits (greatest owned + 1) >>= λ o. Ok (created o)
@@ -51,7 +51,7 @@ abbrev pub are_sound : SetParts → List Object → Bool
 are_sound set owned = nat_lt (greatest owned) most_number && option_map_or (λ o. is_some (template_of o)) (named_current set owned) true
 
 -- of the owned revisions in order, where those names are held
-unfoldable pub plan_of : SetParts → (List ℕ → Bool) → ℕ → List Object → Result Planned PlanError
+unfoldable pub plan_of : SetParts → (List ℕ → Bool) → ℕ → List Object → Result PlanParts PlanError
 plan_of set held digits owned = do
   sound ← guarded BadSpec (are_sound set owned) owned
   plan_by set held digits sound (choice_of (data_with set.template) sound)
@@ -59,4 +59,4 @@ plan_of set held digits owned = do
 -- what is planned of the revisions among these objects; nothing is said where memory ran out
 abbrev pub IsPlan : SetParts → List Object → ℕ → Result RevisionPlan PlanError → Type 0
 IsPlan set os digits (Err errors.Memory) = ⊤
-IsPlan set os digits result = (owned : List Object) × AreOwned set os owned × Gives planned_of result (plan_of set (is_held (listed set os)) digits owned)
+IsPlan set os digits result = (owned : List Object) × AreOwned set os owned × Gives plan_parts result (plan_of set (is_held (listed set os)) digits owned)

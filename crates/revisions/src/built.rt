@@ -7,7 +7,7 @@ ghost use Rattle.set_views.specs.Set.{set_parts};
 ghost use Rattle.revisions.specs.Built.{new_revision, owned_metadata, owner_reference, with_number};
 ghost use Rattle.revisions.specs.Choice.{data_with};
 
-use objects::{Items, Key, Kind, Members, Memory, Object, ReadError, Tree, Integer, uid_text};
+use objects::{Integer, Items, Key, Kind, Members, Memory, Object, ReadError, Tree, uid_text};
 use set_views::Set;
 use std::alloc::{AllocError, Global};
 

@@ -73,7 +73,7 @@ pub(crate) fn greatest(owned: &[RevisionView<'_>]) -> u64
 }
 
 /// The first of these revisions that has the name.
-fn named<'a>(owned: &[RevisionView<'a>], name: &str) -> Option<RevisionView<'a>>
+fn find_named<'a>(owned: &[RevisionView<'a>], name: &str) -> Option<RevisionView<'a>>
     ensures { option_map (λ r. r.object.now) result ≡ named_among (objects_of owned.now) name.now }
 {
     for revision in owned {
@@ -89,7 +89,7 @@ pub(crate) fn named_current<'a>(set: &Set, owned: &[RevisionView<'a>]) -> Option
     ensures { option_map (λ r. r.object.now) result ≡ named_current (set_parts set.now) (objects_of owned.now) }
 {
     match &set.current {
-        Some(name) => named(owned, name.as_str()),
+        Some(name) => find_named(owned, name.as_str()),
         None => None,
     }
 }

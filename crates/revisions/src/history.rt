@@ -4,7 +4,7 @@ ghost use Rattle.std.specs.Option.{option_map_or};
 ghost use Rattle.set_views.specs.Pod.{pod_parts};
 ghost use Rattle.set_views.specs.Set.{set_parts};
 ghost use Rattle.set_views.specs.Words.{is_owned};
-ghost use Rattle.revisions.specs.History.{expired, is_live};
+ghost use Rattle.revisions.specs.History.{expired_revisions, is_live};
 ghost use Rattle.revisions.specs.Listing.{has_name};
 ghost use Rattle.revisions.specs.Plan.{objects_of};
 
@@ -25,7 +25,7 @@ pub fn expired_revisions<'a>(
     current: &str,
     pods: &[PodView<'_>],
 ) -> Result<Vec<RevisionView<'a>>, AllocError>
-    ensures { IfOk result (λ gone. objects_of gone.items ≡ expired (set_parts set.now) (map pod_parts pods.now) current.now
+    ensures { IfOk result (λ gone. objects_of gone.items ≡ expired_revisions (set_parts set.now) (map pod_parts pods.now) current.now
         revisions.now.update.object.now.key.name (objects_of revisions.now.owned.items)) }
 {
     let live = live_names(alloc, set, pods, current, revisions.update.name)?;

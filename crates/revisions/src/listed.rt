@@ -50,12 +50,12 @@ pub(crate) fn read_revisions<'a>(
     ensures names { IfOk result (λ found. HoldsNames found.names.keys (listed (set_parts set.now) objects.now)) }
     ensures owned { IfOk result (λ found. AreOwned (set_parts set.now) objects.now (objects_of found.owned.items)) }
 {
-    let mut found = gathered(alloc, set, objects)?;
+    let mut found = gather(alloc, set, objects)?;
     sort_revisions(&mut found.owned);
     Ok(found)
 }
 
-fn gathered<'a>(alloc: Global, set: &Set, objects: &'a [Object]) -> Result<Listed<'a>, AllocError>
+fn gather<'a>(alloc: Global, set: &Set, objects: &'a [Object]) -> Result<Listed<'a>, AllocError>
     ensures names { IfOk result (λ found. HoldsNames found.names.keys (listed (set_parts set.now) objects.now)) }
     ensures owned { IfOk result (λ found. objects_of found.owned.items ≡ owned_among (set_parts set.now) objects.now) }
 {

@@ -4,7 +4,7 @@ ghost use Rattle.set_views.specs.Set.{set_parts};
 ghost use Rattle.set_views.specs.Steps.{Gives};
 ghost use Rattle.revisions.specs.Choice.{data_with, named_current};
 ghost use Rattle.revisions.specs.Listing.{has_name};
-ghost use Rattle.revisions.specs.Plan.{creation, objects_of, plan_of, planned_of, IsPlan};
+ghost use Rattle.revisions.specs.Plan.{creation, objects_of, plan_of, plan_parts, IsPlan};
 
 use crate::built::{data_with, new_revision, with_number};
 use crate::choice::{Chosen, are_sound, choice_of, greatest, named_current};
@@ -69,7 +69,7 @@ fn plan_of<'a>(
 ) -> Result<RevisionPlan<'a>, PlanError>
     requires some { 1 ≤ digits }
     requires most { digits ≤ 64 }
-    ensures { Gives planned_of result (plan_of (set_parts set.now) (λ q. has_name q found.entry.names.keys) digits (objects_of found.entry.owned.items)) }
+    ensures { Gives plan_parts result (plan_of (set_parts set.now) (λ q. has_name q found.entry.names.keys) digits (objects_of found.entry.owned.items)) }
 {
     let Listed { names, owned } = found;
     if !are_sound(set, &owned) {
@@ -94,7 +94,7 @@ fn plan_of<'a>(
         }
         Chosen::Create => {
             let number = greatest(&owned) + 1;
-            Ok(RevisionPlan::Create(created(alloc, set, &names, template, number, digits)?))
+            Ok(RevisionPlan::Create(creation(alloc, set, &names, template, number, digits)?))
         }
     }
 }
@@ -115,7 +115,7 @@ fn current_or<'a>(
 
 /// A new revision of the set's template, under the first free name.
 #[tactic(auto, using(set_views::proofs::Chains::fails_then), unfolding(crate::specs::Plan::creation))]
-fn created(
+fn creation(
     alloc: Global,
     set: &Set,
     names: &BTreeSet<&str>,

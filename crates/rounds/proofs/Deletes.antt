@@ -26,7 +26,7 @@ use Rattle.plain_store.specs.Taken.{taken}
 use Rattle.plain_store.proofs.KeptUids.{drawn_in_run, filed_in_run, uid_since, version_since}
 use Rattle.plain_store.proofs.TakenObjects.{delete_takes}
 use Rattle.plain_store.proofs.WholeLists.{listed}
-use Rattle.collector.specs.Collectable.{Among, HasOwner, given, is_collectable, is_listed}
+use Rattle.collector.specs.Collectable.{Among, HasOwner, text_unless_zero, is_collectable, is_listed}
 use Rattle.collector.proofs.Gone.{is_collectable-kept, is_gone-later, is_gone-listed}
 use Rattle.rounds.specs.Phase.{list_of}
 use Rattle.rounds.specs.Planned.{IsCollected, IsPlanned}
@@ -102,13 +102,13 @@ plan_deletes c capacity before life k uid version at least most run sound plan =
 
 -- ---- a collector's delete
 
-given_some : (text : ℕ → List ℕ) (n : ℕ) → 0 < n → given text n ≡ Some (text n)
+given_some : (text : ℕ → List ℕ) (n : ℕ) → 0 < n → text_unless_zero text n ≡ Some (text n)
 given_some text n some = let other : (n == 0) ≡ false = grind (arith, nat_tests, some) in ap (λ b. cond b None (Some (text n))) other
 
 -- the claim that is there now is as it was listed
 claim_is : (capacity : ℕ) (rs : List Request) (namespace : List ℕ) (cs : List Object) (n : ℕ) (claim current : Object) (uid version : Option (List ℕ))
     → 1 ≤ capacity → capacity ≤ 1048576 → WasListed (opening capacity) (after (opening capacity) rs) PersistentVolumeClaim namespace cs n → Among claim cs
-    → Has (after (opening capacity) rs) claim.key current → version ≡ given decimal claim.meta.revision → conflicts version uid current ≡ false
+    → Has (after (opening capacity) rs) claim.key current → version ≡ text_unless_zero decimal claim.meta.revision → conflicts version uid current ≡ false
     → (current ≡ claim) × (claim.key.namespace ≡ namespace)
 claim_is capacity rs namespace cs n claim current uid version least most listed' among there given' fits =
     let was = was_there capacity (after (opening capacity) rs) PersistentVolumeClaim namespace cs n claim least most listed' among in
@@ -219,9 +219,9 @@ collector_takes c capacity before life k uid version at claim least most run sou
     let owners : List (List Object) = OwnersOf is in
     let i = is_collection c own asked sound is in
     let known = claims_known c own asked is in
-    let deleted : Delete k uid version at ≡ Delete i.claim.key (given uid_text i.claim.meta.uid) (given decimal i.claim.meta.revision) None = i.deletes in
+    let deleted : Delete k uid version at ≡ Delete i.claim.key (text_unless_zero uid_text i.claim.meta.uid) (text_unless_zero decimal i.claim.meta.revision) None = i.deletes in
     let key_is : k ≡ i.claim.key = cc in
-    let version_is : version ≡ given decimal i.claim.meta.revision = cc in
+    let version_is : version ≡ text_unless_zero decimal i.claim.meta.revision = cc in
     let t = delete_takes s k uid version at claim told in
     let was = λ (kind : Kind) (os : List Object) (from : ℕ) (l : HasList c (of_life life before) kind os from).
     was_listed (opening capacity) before life kind c.set.namespace os l.revision run l.stands in
@@ -247,7 +247,7 @@ collector_deletes c capacity before life k uid version at least most run sound i
     let own = of_life life before in
     let asked = Delete k uid version at in
     let i = is_collection c own asked sound is in
-    let deleted : Delete k uid version at ≡ Delete i.claim.key (given uid_text i.claim.meta.uid) (given decimal i.claim.meta.revision) None = i.deletes in
+    let deleted : Delete k uid version at ≡ Delete i.claim.key (text_unless_zero uid_text i.claim.meta.uid) (text_unless_zero decimal i.claim.meta.revision) None = i.deletes in
     let key_is : k ≡ i.claim.key = cc in
     let known = claims_known c own asked is in
     let listed' = was_listed (opening capacity) before life PersistentVolumeClaim c.set.namespace is.claims known.revision run known.stands in

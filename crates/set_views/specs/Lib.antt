@@ -4,7 +4,7 @@ pub mod Values
 pub mod Policies
 pub mod Claims
 pub mod Set
-pub mod Stated
+pub mod Specified
 pub mod SetReading
 pub mod Readiness
 pub mod Owners

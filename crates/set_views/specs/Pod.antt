@@ -12,7 +12,7 @@ use Rattle.set_views.specs.Readiness.{readiness_of}
 pub record PodParts : Type 0 where
   pub name : List ℕ
   -- the set and the ordinal that the name is made of
-  pub place : Option (List ℕ × ℕ)
+  pub split_name : Option (List ℕ × ℕ)
   pub uid : ℕ
   pub readiness : Readiness
   pub terminating : Bool
@@ -20,13 +20,13 @@ pub record PodParts : Type 0 where
   pub revision : Option (List ℕ)
   pub owners : Items
 
-abbrev pub place_of : PodView → Option (List ℕ × ℕ)
-place_of p = option_map (λ s. (s.0.now, s.1)) p.place
+abbrev pub split_name_of : PodView → Option (List ℕ × ℕ)
+split_name_of p = option_map (λ s. (s.0.now, s.1)) p.split_name
 
 abbrev pub pod_parts : PodView → PodParts
 pod_parts p = record {
   name = p.name.now;
-  place = place_of p;
+  split_name = split_name_of p;
   uid = p.uid;
   readiness = p.readiness;
   terminating = p.terminating;
@@ -36,9 +36,9 @@ pod_parts p = record {
 
 -- the pod, whose name is made of that set and ordinal
 abbrev pub pod_with : Option (List ℕ × ℕ) → Object → PodParts
-pod_with place o = record {
+pod_with split_name o = record {
   name = o.key.name;
-  place = place;
+  split_name = split_name;
   uid = o.meta.uid;
   readiness = readiness_of o.body;
   terminating = is_some o.meta.deletion;

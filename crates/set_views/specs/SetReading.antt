@@ -10,7 +10,7 @@ use Rattle.set_views.specs.declared.fault.PlanError.TheVariants.{BadSpec, Ordina
 use Rattle.set_views.specs.declared.reading.Counts.{Counts}
 use Rattle.set_views.specs.Claims.{Claim, claims_in}
 use Rattle.set_views.specs.Set.{SetParts}
-use Rattle.set_views.specs.Stated.{StatedParts, found, stated_in}
+use Rattle.set_views.specs.Specified.{SpecifiedParts, found, specified_in}
 use Rattle.set_views.specs.Steps.{◌>>=◌, required, guarded}
 use Rattle.set_views.specs.Values.{inside}
 
@@ -18,7 +18,7 @@ use Rattle.set_views.specs.Values.{inside}
 abbrev pub range_fits : Counts → Bool
 range_fits counts = (counts.replicas == 0) || nat_le (counts.start + counts.replicas - 1) most_ordinal
 
-abbrev pub set_with : Object → StatedParts → List Claim → SetParts
+abbrev pub set_with : Object → SpecifiedParts → List Claim → SetParts
 set_with o s claims = record {
   object = o;
   template = s.template;
@@ -38,6 +38,6 @@ set_with o s claims = record {
 -- the set, or the first refusal
 unfoldable pub set_of : Object → Result SetParts PlanError
 set_of o = do
-  s ← required BadSpec (stated_in o)
+  s ← required BadSpec (specified_in o)
   claims ← required BadSpec (claims_in (found (codes "volumeClaimTemplates") s.spec))
   guarded OrdinalTooLarge (range_fits s.counts) (set_with o s claims)

@@ -22,7 +22,7 @@ in_range set i = nat_le set.start i && nat_lt i (set.start + set.replicas)
 
 -- the ordinal of a pod with a name of the set
 abbrev pub ordinal_in : SetParts → PodParts → Option ℕ
-ordinal_in set pod = option_and_then (λ s. if bytes_eq s.0 set.object.key.name then Some s.1 else None) pod.place
+ordinal_in set pod = option_and_then (λ s. if bytes_eq s.0 set.object.key.name then Some s.1 else None) pod.split_name
 
 -- the set controls the pod
 abbrev pub is_owned : SetParts → PodParts → Bool

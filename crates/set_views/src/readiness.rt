@@ -43,7 +43,7 @@ fn are_ready(conditions: &[Tree]) -> bool
 }
 
 /// Whether there is a value, and it is this text.
-fn is_found(found: Option<&Tree>, word: &str) -> bool
+fn has_word(found: Option<&Tree>, word: &str) -> bool
     ensures { result ≡ is_word word.now (option_map (λ t. data_of t.now) found.entry) }
 {
     match found {
@@ -67,9 +67,9 @@ fn has_ready_condition(found: Option<&Tree>) -> bool
 fn readiness_with(phase: Option<&Tree>, conditions: Option<&Tree>) -> Readiness
     ensures { result ≡ readiness_with (option_map (λ t. data_of t.now) phase.entry) (option_map (λ t. data_of t.now) conditions.entry) }
 {
-    if is_found(phase, "Failed") || is_found(phase, "Succeeded") {
+    if has_word(phase, "Failed") || has_word(phase, "Succeeded") {
         Readiness::Failed
-    } else if is_found(phase, "Running") && has_ready_condition(conditions) {
+    } else if has_word(phase, "Running") && has_ready_condition(conditions) {
         Readiness::Ready
     } else {
         Readiness::NotReady

@@ -3,7 +3,7 @@ ghost use Rattle.std.specs.Prelude.{◌≡◌, ◌<◌, ◌^◌, true, option_ma
 ghost use Rattle.objects.specs.Tree.{data_of};
 ghost use Rattle.set_views.specs.Claims.{are_labelled};
 ghost use Rattle.set_views.specs.Set.{set_parts};
-ghost use Rattle.set_views.specs.Stated.{start_of, counts_in, choices_in, stated_in, stated_parts};
+ghost use Rattle.set_views.specs.Specified.{start_of, counts_in, choices_in, specified_in, specified_parts};
 ghost use Rattle.objects.specs.Reading.{unless_empty};
 ghost use Rattle.set_views.specs.SetReading.{set_of, set_with, range_fits};
 ghost use Rattle.set_views.specs.Steps.{Gives};
@@ -36,7 +36,7 @@ struct Choices {
 
 // What `spec` and `status` say, but for the claims.
 #[derive(Clone, Copy)]
-struct Stated<'a> {
+struct Specified<'a> {
     spec: &'a Members,
     template: &'a Members,
     counts: Counts,
@@ -53,7 +53,7 @@ fn start_of(found: Option<&Tree>) -> Option<u32>
     }
 }
 
-#[tactic(auto, unfolding(crate::specs::Stated::counts_in))]
+#[tactic(auto, unfolding(crate::specs::Specified::counts_in))]
 fn counts_in(spec: &Members, status: Option<&Tree>) -> Option<Counts>
     ensures value { result ≡ counts_in spec.now (option_map (λ t. data_of t.now) status.entry) }
     ensures start { IfSome result (λ counts. counts.start < 2 ^ 31) }
@@ -71,7 +71,7 @@ fn counts_in(spec: &Members, status: Option<&Tree>) -> Option<Counts>
     })
 }
 
-#[tactic(auto, unfolding(crate::specs::Stated::choices_in))]
+#[tactic(auto, unfolding(crate::specs::Specified::choices_in))]
 fn choices_in(spec: &Members) -> Option<Choices>
     ensures { result ≡ choices_in spec.now }
 {
@@ -89,19 +89,19 @@ fn choices_in(spec: &Members) -> Option<Choices>
 }
 
 /// What the set says of its pods, but for the claims. None where a part is not valid.
-#[tactic(auto, unfolding(crate::specs::Stated::stated_in))]
-fn stated_in(object: &Object) -> Option<Stated<'_>>
-    ensures value { option_map stated_parts result ≡ stated_in object.now }
+#[tactic(auto, unfolding(crate::specs::Specified::specified_in))]
+fn specified_in(object: &Object) -> Option<Specified<'_>>
+    ensures value { option_map specified_parts result ≡ specified_in object.now }
     ensures named { IfSome result (λ _. 0 < object.now.meta.uid) }
-    ensures start { IfSome result (λ stated. stated.counts.start < 2 ^ 31) }
-    ensures collisions { IfSome result (λ stated. stated.counts.collisions < 2 ^ 31) }
+    ensures start { IfSome result (λ specified. specified.counts.start < 2 ^ 31) }
+    ensures collisions { IfSome result (λ specified. specified.counts.collisions < 2 ^ 31) }
 {
     let spec = object.member("spec")?.as_map()?;
     let template = spec.get("template")?.as_map()?;
     let counts = counts_in(spec, object.member("status"))?;
     let choices = choices_in(spec)?;
     if 0 < object.meta.uid {
-        Some(Stated {
+        Some(Specified {
             spec,
             template,
             counts,
@@ -155,51 +155,54 @@ fn unless_empty(text: Option<&str>) -> Option<&str>
 pub fn read_set(alloc: Global, object: &Object) -> Result<Set, PlanError>
     ensures { Gives set_parts result (set_of object.now) }
 {
-    let Some(stated) = stated_in(object) else {
+    let Some(specified) = specified_in(object) else {
         return Err(PlanError::BadSpec);
     };
-    let claims = claims_in(alloc, present(stated.spec.get("volumeClaimTemplates")))?;
-    if !range_fits(stated.counts) {
+    let claims = claims_in(alloc, present(specified.spec.get("volumeClaimTemplates")))?;
+    if !range_fits(specified.counts) {
         // They go by `drop`, which is proved once for their type, and not for each of their parts.
         drop(claims);
         return Err(PlanError::OrdinalTooLarge);
     }
-    Ok(made(alloc, object, stated, claims)?)
+    Ok(set_with(alloc, object, specified, claims)?)
 }
 
 /// The set of these parts.
-fn made(
+fn set_with(
     alloc: Global,
     object: &Object,
-    stated: Stated<'_>,
+    specified: Specified<'_>,
     claims: Vec<(Text, Members)>,
 ) -> Result<Set, AllocError>
     requires named { 0 < object.now.meta.uid }
-    requires start { stated.counts.start < 2 ^ 31 }
-    requires collisions { stated.counts.collisions < 2 ^ 31 }
-    requires fits { range_fits stated.counts ≡ true }
+    requires start { specified.counts.start < 2 ^ 31 }
+    requires collisions { specified.counts.collisions < 2 ^ 31 }
+    requires fits { range_fits specified.counts ≡ true }
     requires labelled { are_labelled claims.items ≡ true }
-    ensures { IfOk result (λ set. set_parts set ≡ set_with object.now (stated_parts stated.entry) claims.items) }
+    ensures { IfOk result (λ set. set_parts set ≡ set_with object.now (specified_parts specified.entry) claims.items) }
 {
     let Counts {
         start,
         replicas,
         history_limit,
         collisions,
-    } = stated.counts;
+    } = specified.counts;
     let Choices {
         policy,
         strategy,
         when_deleted,
         when_scaled,
-    } = stated.choices;
-    let service = copy(alloc, unless_empty(text_in(stated.spec.get("serviceName"))))?;
+    } = specified.choices;
+    let service = copy(
+        alloc,
+        unless_empty(text_in(specified.spec.get("serviceName"))),
+    )?;
     let current = copy(
         alloc,
         text_in(inside(object.member("status"), "currentRevision")),
     )?;
     Ok(Set {
-        template: stated.template.clone()?,
+        template: specified.template.clone()?,
         object: object.clone()?,
         start,
         replicas,

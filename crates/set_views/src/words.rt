@@ -41,7 +41,7 @@ impl PodView<'_> {
     pub fn ordinal_in(&self, set: &Set) -> Option<u32>
         ensures { result ≡ ordinal_in (set_parts set.now) (pod_parts self.now) }
     {
-        match self.place {
+        match self.split_name {
             Some((name, ordinal)) if name == set.object.key.name.as_str() => Some(ordinal),
             _ => None,
         }

@@ -19,8 +19,8 @@ use Rattle.pod_steps.proofs.AtOnce.{alone, nowhere, single}
 use Rattle.manifests.specs.BuiltClaim.{built_claim}
 use Rattle.claims.specs.declared.change.ClaimChange.{ClaimChange}
 use Rattle.claims.specs.declared.change.ClaimChange.TheVariants.{Create, Update as Change}
-use Rattle.claims.specs.Changes.{all_made, entries_of, kept_claims, made, made_claims, released_claims, update, updated}
-use Rattle.claims.specs.Owners.{owner_in_range, owner_of_condemned, wanted}
+use Rattle.claims.specs.Changes.{all_creates_and_updates, entries_of, keep_claims, create_or_update, make_claims, release_claims, update, with_owner_entries}
+use Rattle.claims.specs.Owners.{owner_in_range, owner_of_condemned, wanted_entries}
 use Rattle.claims.proofs.OwnerLaws.{retained_condemned, retained_in_range, strangers_stay, update_is}
 use Rattle.sets.specs.declared.action.Action.{Action}
 use Rattle.sets.specs.declared.action.Action.TheVariants.{CreateClaim, CreatePod, DeletePod, UpdateClaim, WriteRevision, DeleteRevision, WriteStatus, Wait}
@@ -110,7 +110,7 @@ is_change (Some (Create o)) = false
 is_change (Some (Change o)) = true
 
 module _ (set : SetParts) (claims : Claims) (changed : Object) where
-  found_made : (i : ℕ) (c : Claim) (here : Option Object) → Contains set.claims c → claims (claim_name c.0 set.object.key.name i) ≡ here → made set i c here ≡ Some (Change changed) → IsFound set claims changed
+  found_made : (i : ℕ) (c : Claim) (here : Option Object) → Contains set.claims c → claims (claim_name c.0 set.object.key.name i) ≡ here → create_or_update set i c here ≡ Some (Change changed) → IsFound set claims changed
   unfolding is_change
   found_made i c None among there is = let clash : false ≡ true = ap is_change is in absurd (cc)
   found_made i c (Some claim) among there is = record { i = i; c = c; among = among; claim = claim; listed = there; is = inl is }
@@ -128,14 +128,14 @@ module _ (set : SetParts) (claims : Claims) (changed : Object) where
   found_in_step : (current update : Object) (s : Step) → Contains (actions_of set claims current update s) (UpdateClaim changed) → IsFound set claims changed
   unfolding actions_of
   found_in_step current update (steps.MakeClaims i) h =
-      let all = in_guarded _ (all_made set claims i set.claims) (Change changed) (in_changes (changes_in (made_claims set claims i)) (Change changed) h) in
-      let r = in_templates (λ c. made set i c (claims (claim_name c.0 set.object.key.name i))) set.claims (Change changed) all in
+      let all = in_guarded _ (all_creates_and_updates set claims i set.claims) (Change changed) (in_changes (changes_in (make_claims set claims i)) (Change changed) h) in
+      let r = in_templates (λ c. create_or_update set i c (claims (claim_name c.0 set.object.key.name i))) set.claims (Change changed) all in
       found_made i r.0 (claims (claim_name r.0.0 set.object.key.name i)) r.1 refl r.2
   found_in_step current update (steps.KeepClaims i) h =
-      let r = in_templates _ set.claims (Change changed) (in_changes (kept_claims set claims i) (Change changed) h) in
+      let r = in_templates _ set.claims (Change changed) (in_changes (keep_claims set claims i) (Change changed) h) in
       found_kept i r.0 (claims (claim_name r.0.0 set.object.key.name i)) r.1 refl r.2
   found_in_step current update (steps.ReleaseClaims i uid) h =
-      let r = in_templates _ set.claims (Change changed) (in_changes (released_claims set claims i uid) (Change changed) h) in
+      let r = in_templates _ set.claims (Change changed) (in_changes (release_claims set claims i uid) (Change changed) h) in
       found_released i uid r.0 (claims (claim_name r.0.0 set.object.key.name i)) r.1 refl r.2
   found_in_step current update (steps.CreatePod i revision) h = let clash : CreatePod (new_pod set (revision_of current update revision) i) ≡ UpdateClaim changed = alone (CreatePod (new_pod set (revision_of current update revision) i)) (UpdateClaim changed) h in absurd (cc)
   found_in_step current update (steps.DeletePod i uid) h = let clash : DeletePod (name_at set i) uid ≡ UpdateClaim changed = alone (DeletePod (name_at set i) uid) (UpdateClaim changed) h in absurd (cc)
@@ -156,7 +156,7 @@ owners_alone set claims listed owned current update actions changed e h =
       | inl is ↦ (
         f.i,
         f.claim,
-        wanted set (name_at set f.i) (owner_in_range set) (entries_of f.claim),
+        wanted_entries set (name_at set f.i) (owner_in_range set) (entries_of f.claim),
         record {
           listed = (f.c, f.among, f.listed);
           owners = sym (update_is set (name_at set f.i) (owner_in_range set) f.claim changed is);
@@ -166,7 +166,7 @@ owners_alone set claims listed owned current update actions changed e h =
       | inr is ↦ (
         f.i,
         f.claim,
-        wanted set (name_at set f.i) (owner_of_condemned set is.0) (entries_of f.claim),
+        wanted_entries set (name_at set f.i) (owner_of_condemned set is.0) (entries_of f.claim),
         record {
           listed = (f.c, f.among, f.listed);
           owners = sym (update_is set (name_at set f.i) (owner_of_condemned set is.0) f.claim changed is.1);
@@ -175,21 +175,21 @@ owners_alone set claims listed owned current update actions changed e h =
       )
     ]
 
-pub updated_retained : (set : SetParts) (claims : Claims) (listed : List PodParts) (owned : List Object) (current update : Object) (actions : List Action) (changed : Object) → set.when_deleted ≡ Retain → set.when_scaled ≡ Retain → plan_of_pods set claims listed owned current update ≡ Ok actions → Contains actions (UpdateClaim changed) → (i : ℕ) × (claim : Object) × (entries : List Data) × (changed ≡ updated claim entries) × (name_set_or_pod set i entries ≡ false)
+pub updated_retained : (set : SetParts) (claims : Claims) (listed : List PodParts) (owned : List Object) (current update : Object) (actions : List Action) (changed : Object) → set.when_deleted ≡ Retain → set.when_scaled ≡ Retain → plan_of_pods set claims listed owned current update ≡ Ok actions → Contains actions (UpdateClaim changed) → (i : ℕ) × (claim : Object) × (entries : List Data) × (changed ≡ with_owner_entries claim entries) × (name_set_or_pod set i entries ≡ false)
 updated_retained set claims listed owned current update actions changed deleted scaled e h =
     let f = found set claims listed owned current update actions changed e h in
     elim (f.is) [
       | inl is ↦ (
         f.i,
         f.claim,
-        wanted set (name_at set f.i) (owner_in_range set) (entries_of f.claim),
+        wanted_entries set (name_at set f.i) (owner_in_range set) (entries_of f.claim),
         sym (update_is set (name_at set f.i) (owner_in_range set) f.claim changed is),
         retained_in_range set (name_at set f.i) (entries_of f.claim) deleted,
       )
       | inr is ↦ (
         f.i,
         f.claim,
-        wanted set (name_at set f.i) (owner_of_condemned set is.0) (entries_of f.claim),
+        wanted_entries set (name_at set f.i) (owner_of_condemned set is.0) (entries_of f.claim),
         sym (update_is set (name_at set f.i) (owner_of_condemned set is.0) f.claim changed is.1),
         retained_condemned set (name_at set f.i) is.0 (entries_of f.claim) deleted scaled,
       )
@@ -210,7 +210,7 @@ object_of d (Some (Change o)) = d
 record IsBuilt (set : SetParts) (claim : Object) : Type 0 where
   i : ℕ
   c : Claim
-  is : claim ≡ built_claim set i (items_of (wanted set (name_at set i) (owner_in_range set) [])) c
+  is : claim ≡ built_claim set i (items_of (wanted_entries set (name_at set i) (owner_in_range set) [])) c
 
 no_create_at : (b : Bool) (u claim : Object) → cond b None (Some (Change u)) ≡ Some (Create claim) → ⊥
 unfolding is_create
@@ -223,23 +223,23 @@ none_created h claim none None e = let clash : false ≡ true = ap is_create e i
 none_created h claim none (Some o) e = none o e
 
 module _ (set : SetParts) (claims : Claims) (claim : Object) where
-  built_made : (i : ℕ) (c : Claim) (here : Option Object) → made set i c here ≡ Some (Create claim) → IsBuilt set claim
+  built_made : (i : ℕ) (c : Claim) (here : Option Object) → create_or_update set i c here ≡ Some (Create claim) → IsBuilt set claim
   unfolding object_of
   built_made i c None is = record { i = i; c = c; is = sym (ap (object_of claim) is) }
-  built_made i c (Some o) is = absurd (no_create_at _ (updated o (wanted set (name_at set i) (owner_in_range set) (entries_of o))) claim is)
+  built_made i c (Some o) is = absurd (no_create_at _ (with_owner_entries o (wanted_entries set (name_at set i) (owner_in_range set) (entries_of o))) claim is)
 
   built_in_step : (current newest : Object) (s : Step) → Contains (actions_of set claims current newest s) (CreateClaim claim) → IsBuilt set claim
   unfolding actions_of
   built_in_step current newest (steps.MakeClaims i) h =
-      let all = in_guarded _ (all_made set claims i set.claims) (Create claim) (in_changes (changes_in (made_claims set claims i)) (Create claim) h) in
-      let r = in_templates (λ c. made set i c (claims (claim_name c.0 set.object.key.name i))) set.claims (Create claim) all in
+      let all = in_guarded _ (all_creates_and_updates set claims i set.claims) (Create claim) (in_changes (changes_in (make_claims set claims i)) (Create claim) h) in
+      let r = in_templates (λ c. create_or_update set i c (claims (claim_name c.0 set.object.key.name i))) set.claims (Create claim) all in
       built_made i r.0 (claims (claim_name r.0.0 set.object.key.name i)) r.2
   built_in_step current newest (steps.KeepClaims i) h =
-      let r = in_templates _ set.claims (Create claim) (in_changes (kept_claims set claims i) (Create claim) h) in
-      absurd (none_created (update set (name_at set i) (owner_in_range set)) claim (λ o e. no_create_at _ (updated o (wanted set (name_at set i) (owner_in_range set) (entries_of o))) claim e) (claims (claim_name r.0.0 set.object.key.name i)) r.2)
+      let r = in_templates _ set.claims (Create claim) (in_changes (keep_claims set claims i) (Create claim) h) in
+      absurd (none_created (update set (name_at set i) (owner_in_range set)) claim (λ o e. no_create_at _ (with_owner_entries o (wanted_entries set (name_at set i) (owner_in_range set) (entries_of o))) claim e) (claims (claim_name r.0.0 set.object.key.name i)) r.2)
   built_in_step current newest (steps.ReleaseClaims i uid) h =
-      let r = in_templates _ set.claims (Create claim) (in_changes (released_claims set claims i uid) (Create claim) h) in
-      absurd (none_created (update set (name_at set i) (owner_of_condemned set uid)) claim (λ o e. no_create_at _ (updated o (wanted set (name_at set i) (owner_of_condemned set uid) (entries_of o))) claim e) (claims (claim_name r.0.0 set.object.key.name i)) r.2)
+      let r = in_templates _ set.claims (Create claim) (in_changes (release_claims set claims i uid) (Create claim) h) in
+      absurd (none_created (update set (name_at set i) (owner_of_condemned set uid)) claim (λ o e. no_create_at _ (with_owner_entries o (wanted_entries set (name_at set i) (owner_of_condemned set uid) (entries_of o))) claim e) (claims (claim_name r.0.0 set.object.key.name i)) r.2)
   built_in_step current newest (steps.CreatePod i revision) h = let clash : CreatePod (new_pod set (revision_of current newest revision) i) ≡ CreateClaim claim = alone (CreatePod (new_pod set (revision_of current newest revision) i)) (CreateClaim claim) h in absurd (cc)
   built_in_step current newest (steps.DeletePod i uid) h = let clash : DeletePod (name_at set i) uid ≡ CreateClaim claim = alone (DeletePod (name_at set i) uid) (CreateClaim claim) h in absurd (cc)
   built_in_step current newest (steps.Wait i cause) h = let clash : Wait cause (name_at set i) ≡ CreateClaim claim = alone (Wait cause (name_at set i)) (CreateClaim claim) h in absurd (cc)
@@ -250,4 +250,4 @@ created_retained set claims listed owned current update actions claim deleted sc
     let p = planned_over set claims listed owned current update actions e in
     let s = origin set claims listed owned current update actions p.0 (CreateClaim claim) refl p.1 h in
     let b = built_in_step set claims claim current update s.0 s.2 in
-    (b.i, b.c, wanted set (name_at set b.i) (owner_in_range set) [], b.is, retained_in_range set (name_at set b.i) [] deleted)
+    (b.i, b.c, wanted_entries set (name_at set b.i) (owner_in_range set) [], b.is, retained_in_range set (name_at set b.i) [] deleted)

@@ -16,13 +16,13 @@ use Rattle.set_views.specs.Pod.{PodParts}
 use Rattle.set_views.specs.Set.{SetParts}
 use Rattle.set_views.specs.Steps.{guarded}
 use Rattle.set_views.specs.Words.{in_range, is_ready}
-use Rattle.revisions.specs.History.{expired}
+use Rattle.revisions.specs.History.{expired_revisions}
 use Rattle.pod_steps.specs.declared.replica.Replica.{Replica}
 use Rattle.pod_steps.specs.declared.step.Step.{Step}
 use Rattle.pod_steps.specs.declared.step.Step.TheVariants as steps
-use Rattle.pod_steps.specs.Replicas.{Pods, is_condemned, is_due, is_failed, lacks_healthy, ordinals, pod_at}
+use Rattle.pod_steps.specs.Replicas.{Pods, is_out_of_range, is_due, is_failed, lacks_healthy, ordinals, pod_at}
 use Rattle.pod_steps.specs.Step.{is_of_pod}
-use Rattle.pod_steps.specs.Whole.{all_brought, at_once, brought, goes_unless, in_order, in_order_at, is_other_unhealthy, kept, let_go, made, mended, planned, planned_by, removed, replaced, retired, retired_or_updated, revision_at, rolled, scaled_at_once, updated, updated_by, wait_for}
+use Rattle.pod_steps.specs.FullSteps.{all_target_steps, at_once, target_steps, removal_steps_unless, in_order, in_order_at, is_other_unhealthy, keep_steps, condemned_steps, creation_steps, gap_steps, full_steps, full_steps_by, removal_steps, replacement_steps, scale_down_steps, scale_down_or_update_steps, revision_at, rolling_update_steps, scaling_steps_at_once, update_steps, update_steps_by, wait_for}
 use Rattle.pod_steps.proofs.AtOnce.{alone, nowhere, single}
 use Rattle.pod_steps.proofs.Causes.{found_in}
 use Rattle.pod_steps.proofs.InOrder.{bounds, inside}
@@ -30,14 +30,14 @@ use Rattle.manifests.specs.BuiltClaim.{built_claim}
 use Rattle.manifests.specs.BuiltStatus.{built_status}
 use Rattle.claims.specs.declared.change.ClaimChange.{ClaimChange}
 use Rattle.claims.specs.declared.change.ClaimChange.TheVariants.{Create, Update as Change}
-use Rattle.claims.specs.Changes.{all_made, kept_claims, made as made_of, made_claims, released_claims}
-use Rattle.claims.specs.Owners.{owner_in_range, wanted}
+use Rattle.claims.specs.Changes.{all_creates_and_updates, keep_claims, create_or_update as made_of, make_claims, release_claims}
+use Rattle.claims.specs.Owners.{owner_in_range, wanted_entries}
 use Rattle.sets.specs.declared.action.Action.{Action}
 use Rattle.sets.specs.declared.action.Action.TheVariants.{CreateClaim, CreatePod, DeletePod, UpdateClaim, WriteRevision, DeleteRevision, WriteStatus, Wait}
 use Rattle.sets.specs.Actions.{Claims, actions_of, changes_in, claim_action, claim_actions, name_at, new_pod, revision_of}
-use Rattle.sets.specs.Laws.{AreMade}
+use Rattle.sets.specs.Laws.{CreateMissingClaims}
 use Rattle.sets.specs.Plan.{plan_of_pods}
-use Rattle.sets.specs.Whole.{current_name, deletion, deletions, status_of, status_write, whole}
+use Rattle.sets.specs.FullPlan.{current_name, deletion, deletions, status_of, status_write, full_plan}
 use Rattle.sets.proofs.ClaimActions.{from_template}
 use Rattle.sets.proofs.Names.{created_fits}
 use Rattle.sets.proofs.Origins.{planned_over}
@@ -46,7 +46,7 @@ module _ (set : SetParts) (claims : Claims) where
   -- what is said of an action after these
   Follows : List Action → Action → Type 0
   Follows before (CreateClaim o) = ⊤
-  Follows before (CreatePod pod) = (i : ℕ) × (pod.key.name ≡ name_at set i) × (in_range set i ≡ true) × AreMade set claims before i
+  Follows before (CreatePod pod) = (i : ℕ) × (pod.key.name ≡ name_at set i) × (in_range set i ≡ true) × CreateMissingClaims set claims before i
   Follows before (DeletePod name uid) = ⊤
   Follows before (UpdateClaim o) = ⊤
   Follows before (WriteRevision o) = ⊤
@@ -113,7 +113,7 @@ module _ (set : SetParts) (claims : Claims) where
   stand_status (Some o) before = (tt, tt)
 
   -- ---- the actions of a create
-  all_in : (i : ℕ) (b : Bool) → b ≡ true → changes_in (guarded NameTooLong b (all_made set claims i set.claims)) ≡ all_made set claims i set.claims
+  all_in : (i : ℕ) (b : Bool) → b ≡ true → changes_in (guarded NameTooLong b (all_creates_and_updates set claims i set.claims)) ≡ all_creates_and_updates set claims i set.claims
   all_in i true fit = refl
   all_in i false fit = absurd (cc)
 
@@ -129,14 +129,14 @@ module _ (set : SetParts) (claims : Claims) where
         | inr k ↦ Contains-append_right (claim_action x ∷ []) (claim_actions changes) (claim_action change) (among_actions changes change k)
       ]
 
-  all_are_made : Fits → (i : ℕ) → in_range set i ≡ true → (before : List Action) → AreMade set claims (before ++ claim_actions (changes_in (made_claims set claims i))) i
+  all_are_made : Fits → (i : ℕ) → in_range set i ≡ true → (before : List Action) → CreateMissingClaims set claims (before ++ claim_actions (changes_in (make_claims set claims i))) i
   unfolding Fits built_claim
   all_are_made fits i within before c there missing =
-      let new : Object = built_claim set i (items_of (wanted set (name_at set i) (owner_in_range set) [])) c in
+      let new : Object = built_claim set i (items_of (wanted_entries set (name_at set i) (owner_in_range set) [])) c in
       let is : made_of set i c (claims (claim_name c.0 set.object.key.name i)) ≡ Some (Create new) = ap (made_of set i c) missing in
-      let among : Contains (all_made set claims i set.claims) (Create new) = from_template (λ x. made_of set i x (claims (claim_name x.0 set.object.key.name i))) set.claims c (Create new) there is in
+      let among : Contains (all_creates_and_updates set claims i set.claims) (Create new) = from_template (λ x. made_of set i x (claims (claim_name x.0 set.object.key.name i))) set.claims c (Create new) there is in
       let P : List ClaimChange → Type 0 = λ l. Contains (claim_actions l) (CreateClaim new) in
-      (new, Contains-append_right before (claim_actions (changes_in (made_claims set claims i))) (CreateClaim new) (subst P (sym (all_in i _ (fits i within))) (among_actions (all_made set claims i set.claims) (Create new) among)), refl)
+      (new, Contains-append_right before (claim_actions (changes_in (make_claims set claims i))) (CreateClaim new) (subst P (sym (all_in i _ (fits i within))) (among_actions (all_creates_and_updates set claims i set.claims) (Create new) among)), refl)
 
   module _ (current update : Object) where
     -- ---- the actions of steps
@@ -155,13 +155,13 @@ module _ (set : SetParts) (claims : Claims) where
     unfolding StepsStand
     one_step x f = stand_both (actions_of set claims current update x) [] f stand_none
 
-    keeping : (i : ℕ) → StepsStand (kept i)
+    keeping : (i : ℕ) → StepsStand (keep_steps i)
     unfolding actions_of
-    keeping i = one_step (steps.KeepClaims i) (stand_changes (kept_claims set claims i))
+    keeping i = one_step (steps.KeepClaims i) (stand_changes (keep_claims set claims i))
 
     releasing : (i uid : ℕ) → StepsStand (steps.ReleaseClaims i uid ∷ [])
     unfolding actions_of
-    releasing i uid = one_step (steps.ReleaseClaims i uid) (stand_changes (released_claims set claims i uid))
+    releasing i uid = one_step (steps.ReleaseClaims i uid) (stand_changes (release_claims set claims i uid))
 
     deleting : (i uid : ℕ) → StepsStand (steps.DeletePod i uid ∷ [])
     unfolding actions_of Stands AllFollow Follows
@@ -171,14 +171,14 @@ module _ (set : SetParts) (claims : Claims) where
     unfolding actions_of Stands AllFollow Follows
     waiting i pod = one_step (wait_for i pod) (λ before. (tt, tt))
 
-    removing : (i : ℕ) (pod : Replica) → StepsStand (removed i pod)
+    removing : (i : ℕ) (pod : Replica) → StepsStand (removal_steps i pod)
     removing i pod = steps_both (steps.ReleaseClaims i pod.uid ∷ []) (steps.DeletePod i pod.uid ∷ []) (releasing i pod.uid) (deleting i pod.uid)
 
-    making : Fits → (i : ℕ) → in_range set i ≡ true → StepsStand (made set i)
+    making : Fits → (i : ℕ) → in_range set i ≡ true → StepsStand (creation_steps set i)
     unfolding actions_of StepsStand Stands AllFollow Follows
     making fits i within before =
-        let changes : List Action = claim_actions (changes_in (made_claims set claims i)) in
-        both before changes (CreatePod (new_pod set (revision_of current update (revision_at set.strategy i)) i) ∷ []) (stand_changes (changes_in (made_claims set claims i)) before)
+        let changes : List Action = claim_actions (changes_in (make_claims set claims i)) in
+        both before changes (CreatePod (new_pod set (revision_of current update (revision_at set.strategy i)) i) ∷ []) (stand_changes (changes_in (make_claims set claims i)) before)
         ((i, refl, within, all_are_made fits i within before), tt)
 
     -- ---- the walk
@@ -190,93 +190,93 @@ module _ (set : SetParts) (claims : Claims) where
     over_range g a zero f = steps_none
     over_range g a (suc n) f = steps_both (g a) (flat_map g (range_with_len (a + 1) n)) (f a (omega arith) (omega arith)) (over_range g (a + 1) n (λ j from to. f j (omega arith) (omega arith)))
 
-    mending : Fits → (i : ℕ) (here : Option Replica) → in_range set i ≡ true → StepsStand (mended set i here)
-    mending fits i None within = making fits i within
-    mending fits i (Some pod) within =
+    closing_gap : Fits → (i : ℕ) (here : Option Replica) → in_range set i ≡ true → StepsStand (gap_steps set i here)
+    closing_gap fits i None within = making fits i within
+    closing_gap fits i (Some pod) within =
         elim (pod.terminating) as (λ t. StepsStand (if t then wait_for i pod ∷ [] else if is_failed pod.readiness then steps.DeletePod i pod.uid ∷ [] else wait_for i pod ∷ [])) [
           | true ↦ waiting i pod
           | false ↦ elim (is_failed pod.readiness) as (λ f. StepsStand (if f then steps.DeletePod i pod.uid ∷ [] else wait_for i pod ∷ [])) [ true ↦ deleting i pod.uid | false ↦ waiting i pod ]
         ]
 
-    bringing : Fits → (i : ℕ) (here : Option Replica) → in_range set i ≡ true → StepsStand (brought set i here)
-    bringing fits i None within = making fits i within
-    bringing fits i (Some pod) within =
-        elim (pod.terminating) as (λ t. StepsStand (if t then [] else if is_failed pod.readiness then steps.DeletePod i pod.uid ∷ [] else if is_ready pod.readiness then kept i else [])) [
+    of_target : Fits → (i : ℕ) (here : Option Replica) → in_range set i ≡ true → StepsStand (target_steps set i here)
+    of_target fits i None within = making fits i within
+    of_target fits i (Some pod) within =
+        elim (pod.terminating) as (λ t. StepsStand (if t then [] else if is_failed pod.readiness then steps.DeletePod i pod.uid ∷ [] else if is_ready pod.readiness then keep_steps i else [])) [
           | true ↦ steps_none
-          | false ↦ elim (is_failed pod.readiness) as (λ f. StepsStand (if f then steps.DeletePod i pod.uid ∷ [] else if is_ready pod.readiness then kept i else [])) [
+          | false ↦ elim (is_failed pod.readiness) as (λ f. StepsStand (if f then steps.DeletePod i pod.uid ∷ [] else if is_ready pod.readiness then keep_steps i else [])) [
             | true ↦ deleting i pod.uid
-            | false ↦ elim (is_ready pod.readiness) as (λ r. StepsStand (if r then kept i else [])) [ true ↦ keeping i | false ↦ steps_none ]
+            | false ↦ elim (is_ready pod.readiness) as (λ r. StepsStand (if r then keep_steps i else [])) [ true ↦ keeping i | false ↦ steps_none ]
           ]
         ]
 
-    letting_go : (e : ℕ × Replica) → StepsStand (let_go set e)
-    letting_go e = elim (in_range set e.0 || e.1.terminating) as (λ b. StepsStand (if b then [] else removed e.0 e.1)) [ true ↦ steps_none | false ↦ removing e.0 e.1 ]
+    of_condemned : (e : ℕ × Replica) → StepsStand (condemned_steps set e)
+    of_condemned e = elim (in_range set e.0 || e.1.terminating) as (λ b. StepsStand (if b then [] else removal_steps e.0 e.1)) [ true ↦ steps_none | false ↦ removing e.0 e.1 ]
 
-    replacing : (i : ℕ) (here : Option Replica) → StepsStand (replaced i here)
+    replacing : (i : ℕ) (here : Option Replica) → StepsStand (replacement_steps i here)
     replacing i None = steps_none
     replacing i (Some pod) = elim (not pod.updated && not pod.terminating) as (λ b. StepsStand (if b then steps.DeletePod i pod.uid ∷ [] else wait_for i pod ∷ [])) [ true ↦ deleting i pod.uid | false ↦ waiting i pod ]
 
-    rolling : (pods : Pods) (due : Option ℕ) → StepsStand (rolled pods due)
+    rolling : (pods : Pods) (due : Option ℕ) → StepsStand (rolling_update_steps pods due)
     rolling pods None = steps_none
     rolling pods (Some i) = replacing i (pod_at pods i)
 
-    updating : (pods : Pods) → StepsStand (updated set pods)
-    unfolding updated
+    updating : (pods : Pods) → StepsStand (update_steps set pods)
+    unfolding update_steps
     updating pods =
-        elim (set.strategy) as (λ s. StepsStand (updated_by s set pods)) [
+        elim (set.strategy) as (λ s. StepsStand (update_steps_by s set pods)) [
           | RollingUpdate partition ↦ rolling pods (find (is_due partition pods) (reverse (ordinals set)))
           | OnDelete ↦ steps_none
         ]
 
-    retiring : (pods : Pods) (e : ℕ × Replica) → StepsStand (retired set pods e)
-    retiring pods e =
-        elim (e.1.terminating) as (λ t. StepsStand (if t then wait_for e.0 e.1 ∷ [] else goes_unless e (find (is_other_unhealthy set e.0) pods))) [
+    scaling_down : (pods : Pods) (e : ℕ × Replica) → StepsStand (scale_down_steps set pods e)
+    scaling_down pods e =
+        elim (e.1.terminating) as (λ t. StepsStand (if t then wait_for e.0 e.1 ∷ [] else removal_steps_unless e (find (is_other_unhealthy set e.0) pods))) [
           | true ↦ waiting e.0 e.1
-          | false ↦ elim (find (is_other_unhealthy set e.0) pods) as (λ o. StepsStand (goes_unless e o)) [ None ↦ removing e.0 e.1 | Some other ↦ waiting other.0 other.1 ]
+          | false ↦ elim (find (is_other_unhealthy set e.0) pods) as (λ o. StepsStand (removal_steps_unless e o)) [ None ↦ removing e.0 e.1 | Some other ↦ waiting other.0 other.1 ]
         ]
 
-    ending : (pods : Pods) (highest : Option (ℕ × Replica)) → StepsStand (retired_or_updated set pods highest)
+    ending : (pods : Pods) (highest : Option (ℕ × Replica)) → StepsStand (scale_down_or_update_steps set pods highest)
     ending pods None = updating pods
-    ending pods (Some e) = retiring pods e
+    ending pods (Some e) = scaling_down pods e
 
     in_order_stand : Fits → (pods : Pods) → StepsStand (in_order set pods)
     in_order_stand fits pods =
         elim (find (lacks_healthy pods) (ordinals set)) as (λ g. find (lacks_healthy pods) (ordinals set) ≡ g → StepsStand (in_order_at set pods g)) [
           | Some i ↦ λ e.
               let at = found_in (lacks_healthy pods) set.start set.replicas i e in
-              steps_both (flat_map kept (range_with_len set.start (i - set.start))) (mended set i (pod_at pods i)) (over_all kept keeping (range_with_len set.start (i - set.start))) (mending fits i (pod_at pods i) (inside set i at.0 at.1))
-          | None ↦ λ e. steps_both (flat_map kept (ordinals set)) (retired_or_updated set pods (find (is_condemned set) (reverse pods))) (over_all kept keeping (ordinals set)) (ending pods (find (is_condemned set) (reverse pods)))
+              steps_both (flat_map keep_steps (range_with_len set.start (i - set.start))) (gap_steps set i (pod_at pods i)) (over_all keep_steps keeping (range_with_len set.start (i - set.start))) (closing_gap fits i (pod_at pods i) (inside set i at.0 at.1))
+          | None ↦ λ e. steps_both (flat_map keep_steps (ordinals set)) (scale_down_or_update_steps set pods (find (is_out_of_range set) (reverse pods))) (over_all keep_steps keeping (ordinals set)) (ending pods (find (is_out_of_range set) (reverse pods)))
         ] refl
 
     at_once_stand : Fits → (pods : Pods) → StepsStand (at_once set pods)
-    unfolding scaled_at_once
+    unfolding scaling_steps_at_once
     at_once_stand fits pods =
-        let rest : List Step = if list_any is_of_pod (scaled_at_once set pods) then [] else updated set pods in
-        steps_both (scaled_at_once set pods) rest
-        (steps_both (all_brought set pods) (flat_map (let_go set) (reverse pods))
-        (over_range (λ i. brought set i (pod_at pods i)) set.start set.replicas (λ j from to. bringing fits j (pod_at pods j) (inside set j from to)))
-        (over_all (let_go set) letting_go (reverse pods)))
-        (elim (list_any is_of_pod (scaled_at_once set pods)) as (λ b. StepsStand (if b then [] else updated set pods)) [ true ↦ steps_none | false ↦ updating pods ])
+        let rest : List Step = if list_any is_of_pod (scaling_steps_at_once set pods) then [] else update_steps set pods in
+        steps_both (scaling_steps_at_once set pods) rest
+        (steps_both (all_target_steps set pods) (flat_map (condemned_steps set) (reverse pods))
+        (over_range (λ i. target_steps set i (pod_at pods i)) set.start set.replicas (λ j from to. of_target fits j (pod_at pods j) (inside set j from to)))
+        (over_all (condemned_steps set) of_condemned (reverse pods)))
+        (elim (list_any is_of_pod (scaling_steps_at_once set pods)) as (λ b. StepsStand (if b then [] else update_steps set pods)) [ true ↦ steps_none | false ↦ updating pods ])
 
-    planned_stand : Fits → (pods : Pods) → StepsStand (planned set pods)
-    planned_stand fits pods = elim (set.policy) as (λ p. StepsStand (planned_by p set pods)) [ OrderedReady ↦ in_order_stand fits pods | Parallel ↦ at_once_stand fits pods ]
+    planned_stand : Fits → (pods : Pods) → StepsStand (full_steps set pods)
+    planned_stand fits pods = elim (set.policy) as (λ p. StepsStand (full_steps_by p set pods)) [ OrderedReady ↦ in_order_stand fits pods | Parallel ↦ at_once_stand fits pods ]
 
-    -- ---- the whole plan
-    whole_stands : Fits → (listed : List PodParts) (owned : List Object) (pods : Pods) → Stands (whole set claims listed owned current update pods)
-    unfolding whole StepsStand
-    whole_stands fits listed owned pods =
+    -- ---- the full plan
+    full_plan_stands : Fits → (listed : List PodParts) (owned : List Object) (pods : Pods) → Stands (full_plan set claims listed owned current update pods)
+    unfolding full_plan StepsStand
+    full_plan_stands fits listed owned pods =
         let name : List ℕ = current_name set pods current update in
-        let steps : List Action = flat_map (actions_of set claims current update) (planned set pods) in
-        let gone : List Action = deletions set listed owned name update.key.name (planned set pods) in
+        let steps : List Action = flat_map (actions_of set claims current update) (full_steps set pods) in
+        let gone : List Action = deletions set listed owned name update.key.name (full_steps set pods) in
         stand_both (steps ++ gone) (status_write set (status_of set pods name update.key.name))
-        (stand_both steps gone (planned_stand fits pods) (stand_history (list_any is_of_pod (planned set pods)) (expired set listed name update.key.name owned)))
+        (stand_both steps gone (planned_stand fits pods) (stand_history (list_any is_of_pod (full_steps set pods)) (expired_revisions set listed name update.key.name owned)))
         (stand_status (built_status set (status_of set pods name update.key.name)))
 
-pub claims_come_first : (set : SetParts) (claims : Claims) (listed : List PodParts) (owned : List Object) (current update : Object) (before after : List Action) (pod : Object) → set.start + set.replicas ≤ 2 ^ 31 → plan_of_pods set claims listed owned current update ≡ Ok (before ++ CreatePod pod ∷ after) → (i : ℕ) × (pod.key.name ≡ name_at set i) × (in_range set i ≡ true) × AreMade set claims before i
+pub claims_come_first : (set : SetParts) (claims : Claims) (listed : List PodParts) (owned : List Object) (current update : Object) (before after : List Action) (pod : Object) → set.start + set.replicas ≤ 2 ^ 31 → plan_of_pods set claims listed owned current update ≡ Ok (before ++ CreatePod pod ∷ after) → (i : ℕ) × (pod.key.name ≡ name_at set i) × (in_range set i ≡ true) × CreateMissingClaims set claims before i
 unfolding Follows Stands Fits
 claims_come_first set claims listed owned current update before after pod small e =
     let p = planned_over set claims listed owned current update (before ++ CreatePod pod ∷ after) e in
     let fits : Fits set claims = λ i within. (let range = bounds set i within in created_fits set i range.0 range.1 small p.1.2) in
-    let all = of_first set claims 1024 [] (whole set claims listed owned current update p.0) (whole_stands set claims current update fits listed owned p.0 []) in
+    let all = of_first set claims 1024 [] (full_plan set claims listed owned current update p.0) (full_plan_stands set claims current update fits listed owned p.0 []) in
     let P : List Action → Type 0 = λ l. AllFollow set claims [] l in
     at set claims [] before after (CreatePod pod) (subst P (sym p.1.1) all)

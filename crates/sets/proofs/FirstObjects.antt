@@ -10,54 +10,54 @@ use Rattle.set_views.specs.Firsts.{is_held}
 use Rattle.set_views.specs.Pod.{PodParts, pod_parts}
 use Rattle.set_views.specs.Set.{SetParts}
 use Rattle.set_views.specs.Steps.{◌>>=◌, Gives, guarded}
-use Rattle.revisions.specs.History.{all_but_last, expired, has_pod}
-use Rattle.revisions.specs.Plan.{Planned, created, renumbered, settled, plan_of}
+use Rattle.revisions.specs.History.{all_but_last, expired_revisions, has_pod}
+use Rattle.revisions.specs.Plan.{PlanParts, created, renumbered, settled, plan_of}
 use Rattle.revisions.specs.Revision.{listed}
 use Rattle.pod_steps.specs.Listed.{is_named, replicas_in}
 use Rattle.pod_steps.specs.Replicas.{Pods}
 use Rattle.pod_steps.specs.Step.{is_of_pod}
 use Rattle.pod_steps.specs.Views.{AreViews, listed_pod, listed_pods}
-use Rattle.pod_steps.specs.Whole.{planned}
+use Rattle.pod_steps.specs.FullSteps.{full_steps}
 use Rattle.pod_steps.proofs.Same.{same_replicas}
 use Rattle.claims.specs.Listed.{listed_claim}
 use Rattle.sets.specs.declared.action.Action.{Action}
 use Rattle.sets.specs.declared.action.Action.TheVariants.{WriteRevision}
 use Rattle.sets.specs.declared.action.Plan.{Plan}
 use Rattle.sets.specs.Actions.{Claims, actions_of}
-use Rattle.sets.specs.Plan.{IsPlan, fitting, names_fit, plan_by, plan_of_pods, refusal, unless_refused}
-use Rattle.sets.specs.Planned.{views_of}
-use Rattle.sets.specs.Whole.{current_name, deletion, status_of, status_write, whole}
+use Rattle.sets.specs.Plan.{IsPlan, fitting_pods, names_fit, plan_by, plan_of_pods, refusal, unless_refused}
+use Rattle.sets.specs.PlanOfLists.{views_of}
+use Rattle.sets.specs.FullPlan.{current_name, deletion, status_of, status_write, full_plan}
 use Rattle.sets.proofs.FirstPods.{same_firsts, same_held, stays_listed, views_among}
-use Rattle.sets.proofs.Places.{same_views}
+use Rattle.sets.proofs.SplitNames.{same_views}
 
 module _ (set : SetParts) (listed moved : List PodParts) (firsts : (i : ℕ) → find (is_named set i) listed ≡ find (is_named set i) moved) (held : (name : List ℕ) → has_pod set listed name ≡ has_pod set moved name) where
   fitting_at : (b : Bool) (u v : List ℕ) → (guarded errors.NameTooLong b listed >>= λ fit. replicas_in set u v fit) ≡ (guarded errors.NameTooLong b moved >>= λ fit. replicas_in set u v fit)
   fitting_at true u v = same_replicas set u v listed moved firsts
   fitting_at false u v = refl
 
-  same_fitting : (u v : List ℕ) → fitting set u v listed ≡ fitting set u v moved
-  unfolding fitting
+  same_fitting : (u v : List ℕ) → fitting_pods set u v listed ≡ fitting_pods set u v moved
+  unfolding fitting_pods
   same_fitting u v = fitting_at (names_fit set) u v
 
-  same_expired : (current update : List ℕ) (owned : List Object) → expired set listed current update owned ≡ expired set moved current update owned
+  same_expired : (current update : List ℕ) (owned : List Object) → expired_revisions set listed current update owned ≡ expired_revisions set moved current update owned
   same_expired current update owned =
       let each : has_pod set listed ≡ has_pod set moved = λ i name. held name i in
       ap (λ (has : List ℕ → Bool). all_but_last set.history_limit (filter (λ o. not (has o.key.name || (bytes_eq o.key.name update || bytes_eq o.key.name current))) owned)) each
 
-  same_whole : (claims : Claims) (owned : List Object) (current update : Object) (pods : Pods) → whole set claims listed owned current update pods ≡ whole set claims moved owned current update pods
-  unfolding whole
-  same_whole claims owned current update pods =
+  same_full_plan : (claims : Claims) (owned : List Object) (current update : Object) (pods : Pods) → full_plan set claims listed owned current update pods ≡ full_plan set claims moved owned current update pods
+  unfolding full_plan
+  same_full_plan claims owned current update pods =
       let name : List ℕ = current_name set pods current update in
       ap (λ (gone : List Object).
-      flat_map (actions_of set claims current update) (planned set pods) ++ (if list_any is_of_pod (planned set pods) then [] else map deletion gone) ++ status_write set (status_of set pods name update.key.name))
+      flat_map (actions_of set claims current update) (full_steps set pods) ++ (if list_any is_of_pod (full_steps set pods) then [] else map deletion gone) ++ status_write set (status_of set pods name update.key.name))
       (same_expired name update.key.name owned)
 
   same_pods : (claims : Claims) (owned : List Object) (current update : Object) → plan_of_pods set claims listed owned current update ≡ plan_of_pods set claims moved owned current update
   unfolding plan_of_pods
   same_pods claims owned current update =
-      let each : whole set claims listed owned current update ≡ whole set claims moved owned current update = λ i pods. same_whole claims owned current update pods i in
-      ap (λ (r : Result Pods PlanError). r >>= λ replicas. Ok (take 1024 (whole set claims listed owned current update replicas))) (same_fitting update.key.name current.key.name)
-      ∙ ap (λ (f : Pods → List Action). fitting set update.key.name current.key.name moved >>= λ replicas. Ok (take 1024 (f replicas))) each
+      let each : full_plan set claims listed owned current update ≡ full_plan set claims moved owned current update = λ i pods. same_full_plan claims owned current update pods i in
+      ap (λ (r : Result Pods PlanError). r >>= λ replicas. Ok (take 1024 (full_plan set claims listed owned current update replicas))) (same_fitting update.key.name current.key.name)
+      ∙ ap (λ (f : Pods → List Action). fitting_pods set update.key.name current.key.name moved >>= λ replicas. Ok (take 1024 (f replicas))) each
 
   same_unless_refused : (answer : Result (List Action) PlanError) → unless_refused set listed answer ≡ unless_refused set moved answer
   same_unless_refused answer = ap (λ (r : Result Pods PlanError). r >>= λ _. answer) (same_fitting [] [])
@@ -66,7 +66,7 @@ module _ (set : SetParts) (listed moved : List PodParts) (firsts : (i : ℕ) →
   same_refusal errors.NoRevisionName = same_unless_refused (Err errors.NoRevisionName)
   same_refusal e = refl
 
-  same_plan : (claims : Claims) (p : Result Planned PlanError) → plan_by set claims listed p ≡ plan_by set claims moved p
+  same_plan : (claims : Claims) (p : Result PlanParts PlanError) → plan_by set claims listed p ≡ plan_by set claims moved p
   unfolding plan_by
   same_plan claims (Ok (created o)) = same_unless_refused (Ok (WriteRevision o ∷ []))
   same_plan claims (Ok (renumbered o)) = same_unless_refused (Ok (WriteRevision o ∷ []))
@@ -81,7 +81,7 @@ pub plan_of_other_pods : (set : SetParts) (pods others claims revisions : List O
     → IsPlan set pods claims revisions digits result → IsPlan set others claims revisions digits result
 plan_of_other_pods set pods others claims revisions digits (Err errors.Memory) same is = tt
 plan_of_other_pods set pods others claims revisions digits result same is =
-    let found : Result Planned PlanError = plan_of set (is_held (listed set revisions)) digits is.0 in
+    let found : Result PlanParts PlanError = plan_of set (is_held (listed set revisions)) digits is.0 in
     let by : List PodParts → Result (List Action) PlanError = λ ps. plan_by set (listed_claim set claims) ps found in
     let read = views_among (listed_pods set others) (listed_pods set pods) is.2.0 is.2.1 (stays_listed set others pods (λ name. sym (same name))) in
     let before : map pod_parts is.2.0 ≡ views_of set pods = read_views set pods is.2.0 is.2.1 in
@@ -96,5 +96,5 @@ pub plan_of_other_claims : (set : SetParts) (pods claims others revisions : List
 plan_of_other_claims set pods claims others revisions digits (Err errors.Memory) same is = tt
 plan_of_other_claims set pods claims others revisions digits result same is =
     let each : listed_claim set claims ≡ listed_claim set others = λ i name. same name i in
-    let found : Result Planned PlanError = plan_of set (is_held (listed set revisions)) digits is.0 in
+    let found : Result PlanParts PlanError = plan_of set (is_held (listed set revisions)) digits is.0 in
     (is.0, is.1, (is.2.0, is.2.1, subst (λ (c : Claims). Gives (λ (p : Plan). p.actions.items) result (plan_by set c (map pod_parts is.2.0) found)) each is.2.2))

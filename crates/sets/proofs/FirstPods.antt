@@ -18,10 +18,10 @@ use Rattle.pod_steps.specs.Listed.{is_named}
 use Rattle.pod_steps.specs.Views.{AreViews, IsViewOf, listed_pod, listed_pods}
 use Rattle.collector.specs.Collectable.{Among}
 use Rattle.sets.specs.Actions.{name_at}
-use Rattle.sets.specs.Place.{place_in}
-use Rattle.sets.specs.Planned.{view_of, views_of}
+use Rattle.sets.specs.SplitName.{split_name_in}
+use Rattle.sets.specs.PlanOfLists.{view_of, views_of}
 use Rattle.sets.proofs.Owned.{filtered, one_of_a_name}
-use Rattle.sets.proofs.Places.{found_below}
+use Rattle.sets.proofs.SplitNames.{found_below}
 
 -- ---- what is found
 
@@ -85,11 +85,11 @@ module _ (p : PodParts → Bool) (xs ys : List Object) (to : (o : Object) → Am
 
 -- ---- names
 
-named_place : (set : SetParts) (i : ℕ) (place : Option (List ℕ × ℕ))
-    → option_map_or (λ (j : ℕ). i == j) (option_and_then (λ (s : List ℕ × ℕ). if bytes_eq s.0 set.object.key.name then Some s.1 else None) place) false ≡ true
-    → (s : List ℕ × ℕ) × (place ≡ Some s) × (s.0 ≡ set.object.key.name) × (i ≡ s.1)
-named_place set i None h = absurd (true≢false (sym h))
-named_place set i (Some s) h =
+named_split_name : (set : SetParts) (i : ℕ) (split_name : Option (List ℕ × ℕ))
+    → option_map_or (λ (j : ℕ). i == j) (option_and_then (λ (s : List ℕ × ℕ). if bytes_eq s.0 set.object.key.name then Some s.1 else None) split_name) false ≡ true
+    → (s : List ℕ × ℕ) × (split_name ≡ Some s) × (s.0 ≡ set.object.key.name) × (i ≡ s.1)
+named_split_name set i None h = absurd (true≢false (sym h))
+named_split_name set i (Some s) h =
     elim (bytes_eq s.0 set.object.key.name) as (λ b. bytes_eq s.0 set.object.key.name ≡ b → option_map_or (λ (j : ℕ). i == j) (cond b (Some s.1) None) false ≡ true
     → (t : List ℕ × ℕ) × (Some s ≡ Some t) × (t.0 ≡ set.object.key.name) × (i ≡ t.1)) [
       | true ↦ λ e k. (s, refl, (bytes_eq-Decides s.0 set.object.key.name).0 e, eqb-true i s.1 k)
@@ -98,11 +98,11 @@ named_place set i (Some s) h =
 
 -- a pod of the set's ordinal has its name
 pub named_is : (set : SetParts) (i : ℕ) (o : Object) → is_named set i (view_of o) ≡ true → o.key.name ≡ name_at set i
-unfolding place_in
+unfolding split_name_in
 named_is set i o h =
-    let place = named_place set i (place_in o.key.name) h in
-    let called : IsPodName o.key.name place.0.0 place.0.1 = found_below o.key.name (length o.key.name) place.0 place.1 in
-    called.joined ∙ (λ j. pod_name (place.2 j) (sym place.3 j))
+    let split_name = named_split_name set i (split_name_in o.key.name) h in
+    let called : IsPodName o.key.name split_name.0.0 split_name.0.1 = found_below o.key.name (length o.key.name) split_name.0 split_name.1 in
+    called.joined ∙ (λ j. pod_name (split_name.2 j) (sym split_name.3 j))
 
 -- ---- the first of a name
 

@@ -1,6 +1,6 @@
 pub mod ClaimActions
 pub mod ClaimsFirst
-pub mod Cuts
+pub mod Truncation
 pub mod FirstObjects
 pub mod FirstPods
 pub mod Names
@@ -8,6 +8,6 @@ pub mod OnePlan
 pub mod Ordered
 pub mod Origins
 pub mod Owned
-pub mod Places
+pub mod SplitNames
 pub mod Plans
 pub mod Updates

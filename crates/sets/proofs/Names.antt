@@ -12,10 +12,10 @@ use Rattle.set_views.specs.Set.{SetParts}
 use Rattle.pod_steps.specs.declared.step.Step.{Step}
 use Rattle.pod_steps.specs.declared.step.Step.TheVariants.{MakeClaims, KeepClaims, ReleaseClaims, CreatePod, DeletePod, Wait}
 use Rattle.pod_steps.specs.Replicas.{AreInOrder, Pods}
-use Rattle.pod_steps.specs.Step.{cut}
-use Rattle.pod_steps.specs.Whole.{planned}
+use Rattle.pod_steps.specs.Step.{truncated}
+use Rattle.pod_steps.specs.FullSteps.{full_steps}
 use Rattle.pod_steps.proofs.Causes.{created_is_absent}
-use Rattle.pod_steps.proofs.Cuts.{cut_is_a_beginning}
+use Rattle.pod_steps.proofs.Truncation.{truncated_is_a_beginning}
 use Rattle.pod_steps.proofs.InOrder.{bounds}
 use Rattle.objects.specs.declared.object.Object.{Object}
 use Rattle.set_views.specs.declared.fault.PlanError.{PlanError}
@@ -24,9 +24,9 @@ use Rattle.set_views.specs.Steps.{Fails, guarded}
 use Rattle.manifests.specs.BuiltPod.{built_pod}
 use Rattle.claims.specs.declared.change.ClaimChange.{ClaimChange}
 use Rattle.sets.specs.Actions.{Claims, actions_of, changes_in, name_at, new_pod}
-use Rattle.sets.specs.Cut.{AreNameable, is_nameable}
+use Rattle.sets.specs.Truncation.{AreNameable, is_nameable}
 use Rattle.sets.specs.Plan.{names_fit}
-use Rattle.sets.proofs.Cuts.{ActsOnPods}
+use Rattle.sets.proofs.Truncation.{ActsOnPods}
 
 abbrev IsBelow : ℕ → List ℕ → Type 0
 IsBelow n ds = n < 10 ^ length ds
@@ -73,7 +73,7 @@ created_fits set i from to small fit =
     le-leb _ 63 (fits_below set.object.key.name i (set.start + set.replicas - 1) (omega arith) (omega arith) last)
 
 -- the creates of a plan are of names that are not too long
-planned_fits : (set : SetParts) (pods : Pods) (x : Step) → AreInOrder pods → set.start + set.replicas ≤ 2 ^ 31 → names_fit set ≡ true → Contains (planned set pods) x → is_nameable set x ≡ true
+planned_fits : (set : SetParts) (pods : Pods) (x : Step) → AreInOrder pods → set.start + set.replicas ≤ 2 ^ 31 → names_fit set ≡ true → Contains (full_steps set pods) x → is_nameable set x ≡ true
 planned_fits set pods (MakeClaims i) sorted small fit there = refl
 planned_fits set pods (KeepClaims i) sorted small fit there = refl
 planned_fits set pods (ReleaseClaims i uid) sorted small fit there = refl
@@ -83,14 +83,14 @@ planned_fits set pods (CreatePod i revision) sorted small fit there =
 planned_fits set pods (DeletePod i uid) sorted small fit there = refl
 planned_fits set pods (Wait i cause) sorted small fit there = refl
 
-pub nameable : (set : SetParts) (pods : Pods) (steps : List Step) → AreInOrder pods → set.start + set.replicas ≤ 2 ^ 31 → names_fit set ≡ true → steps ≡ cut (planned set pods) → AreNameable set steps
+pub nameable : (set : SetParts) (pods : Pods) (steps : List Step) → AreInOrder pods → set.start + set.replicas ≤ 2 ^ 31 → names_fit set ≡ true → steps ≡ truncated (full_steps set pods) → AreNameable set steps
 nameable set pods steps sorted small fit is k d inside =
-    let begun = cut_is_a_beginning (planned set pods) in
+    let begun = truncated_is_a_beginning (full_steps set pods) in
     let x : Step = get_or steps k d in
     let here : Contains steps x = (k, inside, get_or_default steps k x d inside) in
-    let cut_there : Contains (cut (planned set pods)) x = subst (λ (l : List Step). Contains l x) is here in
+    let truncated_there : Contains (truncated (full_steps set pods)) x = subst (λ (l : List Step). Contains l x) is here in
     planned_fits set pods x sorted small fit
-    (subst (λ (l : List Step). Contains l x) (sym begun.1) (Contains-append_left (cut (planned set pods)) begun.0 x cut_there))
+    (subst (λ (l : List Step). Contains l x) (sym begun.1) (Contains-append_left (truncated (full_steps set pods)) begun.0 x truncated_there))
 
 pub acts : (set : SetParts) (claims : Claims) (current update : Object) → ActsOnPods (actions_of set claims current update)
 unfolding actions_of

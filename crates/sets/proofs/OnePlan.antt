@@ -14,13 +14,13 @@ use Rattle.pod_steps.specs.Views.{listed_pods}
 use Rattle.claims.specs.Listed.{listed_claim}
 use Rattle.sets.specs.declared.action.Plan.{Plan}
 use Rattle.sets.specs.Plan.{IsPlan, plan_by}
-use Rattle.sets.specs.Planned.{owned_of, planned, views_of}
+use Rattle.sets.specs.PlanOfLists.{owned_of, plan_of_lists, views_of}
 use Rattle.sets.proofs.Owned.{owned_is}
-use Rattle.sets.proofs.Places.{same_views}
+use Rattle.sets.proofs.SplitNames.{same_views}
 
 pub one_plan : (set : SetParts) (pods claims revisions : List Object) (digits : ℕ) (result : Result Plan PlanError) → IsPlan set pods claims revisions digits result
-    → Gives (λ p. p.actions.items) result (planned set digits revisions pods claims)
-unfolding planned views_of
+    → Gives (λ p. p.actions.items) result (plan_of_lists set digits revisions pods claims)
+unfolding plan_of_lists views_of
 one_plan set pods claims revisions digits (Err errors.Memory) is = tt
 one_plan set pods claims revisions digits result is =
     let owned : is.0 ≡ owned_of set revisions = owned_is set revisions is.0 is.1 in
@@ -29,12 +29,12 @@ one_plan set pods claims revisions digits result is =
     subst (λ (os : List Object). P os (views_of set pods)) owned (subst (P is.0) views is.2.2)
 
 module _ (set : SetParts) (pods claims revisions : List Object) (digits : ℕ) where
-  planned_is : (plan : Plan) → IsPlan set pods claims revisions digits (Ok plan) → planned set digits revisions pods claims ≡ Ok plan.actions.items
+  planned_is : (plan : Plan) → IsPlan set pods claims revisions digits (Ok plan) → plan_of_lists set digits revisions pods claims ≡ Ok plan.actions.items
   planned_is plan is = one_plan set pods claims revisions digits (Ok plan) is
 
-  refused_is : (e : PlanError) → is_memory e ≡ false → IsPlan set pods claims revisions digits (Err e) → planned set digits revisions pods claims ≡ Err e
+  refused_is : (e : PlanError) → is_memory e ≡ false → IsPlan set pods claims revisions digits (Err e) → plan_of_lists set digits revisions pods claims ≡ Err e
   refused_is e ample is =
-      subst (λ b. MatchBool b ⊤ (planned set digits revisions pods claims ≡ Err e)) ample (one_plan set pods claims revisions digits (Err e) is)
+      subst (λ b. MatchBool b ⊤ (plan_of_lists set digits revisions pods claims ≡ Err e)) ample (one_plan set pods claims revisions digits (Err e) is)
 
   pub one_list : (one other : Plan) → IsPlan set pods claims revisions digits (Ok one) → IsPlan set pods claims revisions digits (Ok other) → one.actions.items ≡ other.actions.items
   one_list one other a b = let same = sym (planned_is one a) ∙ planned_is other b in cc

@@ -12,7 +12,7 @@ use Rattle.set_views.specs.Firsts.{first_of_each}
 use Rattle.set_views.specs.Set.{SetParts}
 use Rattle.revisions.specs.Revision.{AreOwned, is_owned, listed, number_of, owned_among, revision_cmp}
 use Rattle.collector.specs.Collectable.{Among}
-use Rattle.sets.specs.Planned.{owned_of}
+use Rattle.sets.specs.PlanOfLists.{owned_of}
 use Rattle.sets.proofs.Ordered.{HasNoTies, sorted_is_in_order}
 
 pub filtered : {X : Type 0} (p : X → Bool) (x : X) (xs : List X) → Among x (filter p xs) → Among x xs × (p x ≡ true)

@@ -15,7 +15,7 @@ use Rattle.pod_steps.specs.Listed.{replica_of}
 use Rattle.pod_steps.specs.Replicas as replicas
 use Rattle.pod_steps.specs.Replicas.{AreInOrder, Pods, is_failed, is_settled, pod_at}
 use Rattle.pod_steps.specs.Step.{pod_steps}
-use Rattle.pod_steps.specs.Whole.{planned}
+use Rattle.pod_steps.specs.FullSteps.{full_steps}
 use Rattle.pod_steps.proofs.Causes.{deleted, replaced_from_partition, replaced_in_turn, replaced_where_all_healthy}
 use Rattle.pod_steps.proofs.Firsts.{is_listed, replicas_in_order}
 use Rattle.pod_steps.proofs.Replaced.{IsReplaced, by_the_update, none_is_absent, one_is_touched, replaced_is_outdated}
@@ -35,7 +35,7 @@ record Gone (set : SetParts) (current update : Object) (listed : List PodParts) 
   replica : Replica
   same : replica_of set update.key.name current.key.name pod ≡ replica
   here : pod_at pods i ≡ Some replica
-  there : Contains (planned set pods) (steps.DeletePod i uid)
+  there : Contains (full_steps set pods) (steps.DeletePod i uid)
   sorted : AreInOrder pods
 
 gone_from : (set : SetParts) (claims : Claims) (listed : List PodParts) (owned : List Object) (current update : Object) (actions : List Action) (pods : Pods) (name : List ℕ) (uid : ℕ) → IsOver set claims listed owned current update actions pods → Contains actions (DeletePod name uid) → Gone set current update listed pods name uid
@@ -43,8 +43,8 @@ unfolding is_from_step
 gone_from set claims listed owned current update actions pods name uid over h =
     let s = origin set claims listed owned current update actions pods (DeletePod name uid) refl over h in
     let d = deleted_from set claims current update s.0 name uid s.2 in
-    let P : Step → Type 0 = λ x. Contains (planned set pods) x in
-    let there : Contains (planned set pods) (steps.DeletePod d.0 uid) = subst P d.1 s.1 in
+    let P : Step → Type 0 = λ x. Contains (full_steps set pods) x in
+    let there : Contains (full_steps set pods) (steps.DeletePod d.0 uid) = subst P d.1 s.1 in
     let sorted = replicas_in_order set update.key.name current.key.name listed pods over.0 in
     let r = deleted set pods d.0 uid sorted there in
     let l = is_listed set update.key.name current.key.name listed pods d.0 r.0 over.0 r.1 in
@@ -65,7 +65,7 @@ replaced_alone set claims listed owned current update actions name uid e h =
         g.pod,
         g.at,
         λ within staying.
-            let few : length (pod_steps (planned set p.0)) ≤ 1 = one_is_touched set p.0 g.i uid g.replica g.sorted (replaced set current update listed p.0 name uid g within staying) in
+            let few : length (pod_steps (full_steps set p.0)) ≤ 1 = one_is_touched set p.0 g.i uid g.replica g.sorted (replaced set current update listed p.0 name uid g within staying) in
             few_on_pods set claims listed owned current update actions p.0 p.1 few,
       ),
     )
@@ -75,8 +75,8 @@ module _ (set : SetParts) (claims : Claims) (listed : List PodParts) (owned : Li
   updated_target : (j : ℕ) (y : Replica) → pod_at pods j ≡ Some y → is_settled y ≡ true → HasUpdatedTarget set update.key.name listed j
   updated_target j y here settled =
       let l = is_listed set update.key.name current.key.name listed pods j y over.0 here in
-      let parts = and_parts y.updated (replicas.is_healthy y) settled in
-      (l.0, l.1, ap (λ (r : Replica). r.owned) l.2 ∙ l.3, ap (λ (r : Replica). r.updated) l.2 ∙ parts.0, ap replicas.is_healthy l.2 ∙ parts.1)
+      let parts = and_parts y.updated (replicas.is_healthy_replica y) settled in
+      (l.0, l.1, ap (λ (r : Replica). r.owned) l.2 ∙ l.3, ap (λ (r : Replica). r.updated) l.2 ∙ parts.0, ap replicas.is_healthy_replica l.2 ∙ parts.1)
 
   targets_above : (i uid partition : ℕ) (pod : Replica) (sorted : AreInOrder pods) (gone : IsReplaced set pods i uid pod) → set.strategy ≡ RollingUpdate partition → (j : ℕ) → in_range set j ≡ true → i < j → HasUpdatedTarget set update.key.name listed j
   targets_above i uid partition pod sorted gone rolling j within above =

@@ -12,7 +12,7 @@ use Rattle.manifests.specs.BuiltPod.{named_pod}
 use Rattle.manifests.specs.Template.{template_of}
 use Rattle.claims.specs.declared.change.ClaimChange.{ClaimChange}
 use Rattle.claims.specs.declared.change.ClaimChange.TheVariants.{Create, Update as Change}
-use Rattle.claims.specs.Changes.{kept_claims, made_claims, released_claims}
+use Rattle.claims.specs.Changes.{keep_claims, make_claims, release_claims}
 use Rattle.sets.specs.declared.action.Action.{Action}
 use Rattle.sets.specs.declared.action.Action.TheVariants.{CreateClaim, CreatePod, DeletePod, UpdateClaim, Wait}
 
@@ -47,9 +47,9 @@ changes_in (Err e) = []
 
 -- the actions of a step, given the listed claims, and the current and the update revision
 unfoldable pub actions_of : SetParts → Claims → Object → Object → Step → List Action
-actions_of set claims current update (steps.MakeClaims i) = claim_actions (changes_in (made_claims set claims i))
-actions_of set claims current update (steps.KeepClaims i) = claim_actions (kept_claims set claims i)
-actions_of set claims current update (steps.ReleaseClaims i uid) = claim_actions (released_claims set claims i uid)
+actions_of set claims current update (steps.MakeClaims i) = claim_actions (changes_in (make_claims set claims i))
+actions_of set claims current update (steps.KeepClaims i) = claim_actions (keep_claims set claims i)
+actions_of set claims current update (steps.ReleaseClaims i uid) = claim_actions (release_claims set claims i uid)
 actions_of set claims current update (steps.CreatePod i revision) = CreatePod (new_pod set (revision_of current update revision) i) ∷ []
 actions_of set claims current update (steps.DeletePod i uid) = DeletePod (name_at set i) uid ∷ []
 actions_of set claims current update (steps.Wait i cause) = Wait cause (name_at set i) ∷ []

@@ -11,7 +11,7 @@ use Rattle.set_views.specs.Pod.{PodParts}
 use Rattle.set_views.specs.Set.{SetParts}
 use Rattle.set_views.specs.Words.{in_range, is_healthy, is_owned}
 use Rattle.pod_steps.specs.Listed.{has_revision, is_named}
-use Rattle.claims.specs.Changes.{entries_of, updated}
+use Rattle.claims.specs.Changes.{entries_of, with_owner_entries}
 use Rattle.claims.specs.Owners.{is_of_pod, is_of_set, is_stranger, owner_in_range, owner_of_condemned}
 use Rattle.sets.specs.declared.action.Action.{Action}
 use Rattle.sets.specs.declared.action.Action.TheVariants.{CreateClaim, CreatePod, DeletePod, UpdateClaim, WriteRevision, DeleteRevision, WriteStatus, Wait}
@@ -49,8 +49,8 @@ pub record IsNextToUpdate (set : SetParts) (update : List ℕ) (listed : List Po
   pub above : (j : ℕ) → in_range set j ≡ true → i < j → HasUpdatedTarget set update listed j
 
 -- These actions create the claim of each template that the pod has none of yet.
-abbrev pub AreMade : SetParts → Claims → List Action → ℕ → Type 0
-AreMade set claims before i =
+abbrev pub CreateMissingClaims : SetParts → Claims → List Action → ℕ → Type 0
+CreateMissingClaims set claims before i =
     (c : Claim) → Contains set.claims c → claims (claim_name c.0 set.object.key.name i) ≡ None
     → (claim : Object) × Contains before (CreateClaim claim) × (claim.key ≡ key_parts PersistentVolumeClaim set.object.key.namespace (claim_name c.0 set.object.key.name i))
 
@@ -62,7 +62,7 @@ KeepsAll p old new = filter p new ≡ filter p old
 -- set, the pod or the owner that retention gives it, in range or condemned, are other ones now.
 pub record IsUpdatedClaim (set : SetParts) (claims : Claims) (i : ℕ) (claim : Object) (entries : List Data) (changed : Object) : Type 0 where
   pub listed : (c : Claim) × Contains set.claims c × (claims (claim_name c.0 set.object.key.name i) ≡ Some claim)
-  pub owners : changed ≡ updated claim entries
+  pub owners : changed ≡ with_owner_entries claim entries
   pub others : KeepsAll (is_stranger set (name_at set i) (owner_in_range set)) (entries_of claim) entries ⊎ ((uid : ℕ) × KeepsAll (is_stranger set (name_at set i) (owner_of_condemned set uid)) (entries_of claim) entries)
 
 -- one of these owner references names the set, or a pod with the name of the ordinal's

@@ -1,13 +1,13 @@
 -- ---- what public clauses cite
 pub mod Actions
-pub mod Whole
+pub mod FullPlan
 pub mod Plan
-pub mod Planned
+pub mod PlanOfLists
 pub mod Laws
-pub mod Cut
+pub mod Truncation
 -- ---- what only proofs use
 pub mod Order
-pub mod Place
+pub mod SplitName
 -- ---- of the crates below
 pub use Rattle.claims.specs.Changes
 pub use Rattle.claims.specs.Listed
@@ -30,7 +30,7 @@ pub use Rattle.pod_steps.specs.Status
 pub use Rattle.pod_steps.specs.Step
 pub use Rattle.pod_steps.specs.Update
 pub use Rattle.pod_steps.specs.Views
-pub use Rattle.pod_steps.specs.Whole as Steps
+pub use Rattle.pod_steps.specs.FullSteps as Steps
 pub use Rattle.set_views.specs.Pod
 pub use Rattle.set_views.specs.Readiness
 pub use Rattle.set_views.specs.Set

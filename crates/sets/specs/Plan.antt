@@ -9,7 +9,7 @@ use Rattle.set_views.specs.Firsts.{is_held}
 use Rattle.set_views.specs.Pod.{PodParts, pod_parts}
 use Rattle.set_views.specs.Set.{SetParts}
 use Rattle.set_views.specs.Steps.{◌>>=◌, guarded, Gives}
-use Rattle.revisions.specs.Plan.{Planned, created, renumbered, settled, plan_of}
+use Rattle.revisions.specs.Plan.{PlanParts, created, renumbered, settled, plan_of}
 use Rattle.revisions.specs.Revision.{AreOwned, listed}
 use Rattle.pod_steps.specs.Listed.{replicas_in}
 use Rattle.pod_steps.specs.Replicas.{Pods}
@@ -20,7 +20,7 @@ use Rattle.sets.specs.declared.action.Action.{Action}
 use Rattle.sets.specs.declared.action.Action.TheVariants.{WriteRevision}
 use Rattle.sets.specs.declared.action.Plan.{Plan}
 use Rattle.sets.specs.Actions.{Claims, name_at}
-use Rattle.sets.specs.Whole.{whole}
+use Rattle.sets.specs.FullPlan.{full_plan}
 
 -- the most actions of one plan; the rest is left to the next
 abbrev pub most_actions : ℕ
@@ -32,14 +32,14 @@ names_fit set = (set.replicas == 0) || nat_le (length (name_at set (set.start + 
 
 -- the set's pods among the listed ones, given the names of its update and current revisions; NameTooLong is tested before
 -- Foreign
-unfoldable pub fitting : SetParts → List ℕ → List ℕ → List PodParts → Result Pods PlanError
-fitting set update current pods = do
+unfoldable pub fitting_pods : SetParts → List ℕ → List ℕ → List PodParts → Result Pods PlanError
+fitting_pods set update current pods = do
   fit ← guarded NameTooLong (names_fit set) pods
   replicas_in set update current fit
 
 -- where no update revision is in place the pods are looked at for their refusals alone
 abbrev pub unless_refused : {A : Type 0} → SetParts → List PodParts → Result A PlanError → Result A PlanError
-unless_refused set pods answer = fitting set [] [] pods >>= λ _. answer
+unless_refused set pods answer = fitting_pods set [] [] pods >>= λ _. answer
 
 -- where the revisions are refused
 abbrev pub refusal : SetParts → List PodParts → PlanError → Result (List Action) PlanError
@@ -49,10 +49,10 @@ refusal set pods e = Err e
 -- where the update revision is in place
 unfoldable pub plan_of_pods : SetParts → Claims → List PodParts → List Object → Object → Object → Result (List Action) PlanError
 plan_of_pods set claims pods owned current update =
-    fitting set update.key.name current.key.name pods >>= λ replicas. Ok (take most_actions (whole set claims pods owned current update replicas))
+    fitting_pods set update.key.name current.key.name pods >>= λ replicas. Ok (take most_actions (full_plan set claims pods owned current update replicas))
 
 -- given what is planned of the revisions: where one is written there is nothing else
-unfoldable pub plan_by : SetParts → Claims → List PodParts → Result Planned PlanError → Result (List Action) PlanError
+unfoldable pub plan_by : SetParts → Claims → List PodParts → Result PlanParts PlanError → Result (List Action) PlanError
 plan_by set claims pods (Ok (created o)) = unless_refused set pods (Ok (WriteRevision o ∷ []))
 plan_by set claims pods (Ok (renumbered o)) = unless_refused set pods (Ok (WriteRevision o ∷ []))
 plan_by set claims pods (Ok (settled owned current update)) = plan_of_pods set claims pods owned current update

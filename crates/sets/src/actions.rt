@@ -1,6 +1,6 @@
 // The list that holds the first actions of a plan.
 ghost use Rattle.std.specs.Prelude.{◌≡◌, ◌≤◌, ◌+◌, [], ◌∷◌, ◌↔◌, IsTrue, OnOk, length};
-ghost use Rattle.sets.specs.Cut.{Adds};
+ghost use Rattle.sets.specs.Truncation.{Adds};
 
 use crate::action::Action;
 use objects::Memory;
@@ -40,7 +40,7 @@ impl Actions {
     }
 
     /// Adds an action, unless the list is full.
-    #[tactic(auto, using(crate::proofs::Cuts::adds_one, crate::proofs::Cuts::adds_past))]
+    #[tactic(auto, using(crate::proofs::Truncation::adds_one, crate::proofs::Truncation::adds_past))]
     pub fn add(&mut self, action: Action) -> Result<(), Memory>
         ensures { OnOk result (Adds self.old.list.items self.new.list.items (action ∷ [])) }
     {

@@ -3,8 +3,8 @@ ghost use Rattle.std.specs.Prelude.{◌≡◌, map, IfOk, OnOk};
 ghost use Rattle.set_views.specs.Pod.{pod_parts};
 ghost use Rattle.set_views.specs.Set.{set_parts};
 ghost use Rattle.revisions.specs.Plan.{objects_of};
-ghost use Rattle.sets.specs.Cut.{Adds};
-ghost use Rattle.sets.specs.Whole.{current_name, deletion, deletions, status_of, status_write};
+ghost use Rattle.sets.specs.Truncation.{Adds};
+ghost use Rattle.sets.specs.FullPlan.{current_name, deletion, deletions, status_of, status_write};
 
 use crate::action::Action;
 use crate::actions::Actions;

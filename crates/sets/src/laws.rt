@@ -18,13 +18,13 @@ ghost use Rattle.pod_steps.specs.Listed.{is_named};
 ghost use Rattle.pod_steps.specs.Replicas.{is_failed};
 ghost use Rattle.pod_steps.specs.Views.{listed_pod};
 ghost use Rattle.manifests.specs.BuiltClaim.{built_claim};
-ghost use Rattle.claims.specs.Changes.{updated};
+ghost use Rattle.claims.specs.Changes.{with_owner_entries};
 ghost use Rattle.claims.specs.Listed.{listed_claim};
 ghost use Rattle.sets.specs.declared.action.Action.{Action};
 ghost use Rattle.sets.specs.declared.action.Action.TheVariants.{CreateClaim, CreatePod, DeletePod, UpdateClaim, WriteRevision};
 ghost use Rattle.sets.specs.declared.action.Plan.{Plan};
 ghost use Rattle.sets.specs.Actions.{Claims, name_at};
-ghost use Rattle.sets.specs.Laws.{AreMade, HasHealthyTarget, IsNextToUpdate, IsPodAt, IsUpdatedClaim, is_on_pod, name_set_or_pod};
+ghost use Rattle.sets.specs.Laws.{CreateMissingClaims, HasHealthyTarget, IsNextToUpdate, IsPodAt, IsUpdatedClaim, is_on_pod, name_set_or_pod};
 ghost use Rattle.sets.specs.Plan.{IsPlan, plan_by, plan_of_pods};
 
 /// A plan deletes a pod only if the set controls it: the first listed one of its name, by its UID.
@@ -99,7 +99,7 @@ pub fn plans_make_claims_before_their_pod()
     ensures { (set : SetParts) (claims : Claims) (listed : List PodParts) (owned : List Object)
         (current update : Object) (before after : List Action) (pod : Object) → set.start + set.replicas ≤ 2 ^ 31
         → plan_of_pods set claims listed owned current update ≡ Ok (before ++ CreatePod pod ∷ after)
-        → (i : ℕ) × (pod.key.name ≡ name_at set i) × (in_range set i ≡ true) × AreMade set claims before i }
+        → (i : ℕ) × (pod.key.name ≡ name_at set i) × (in_range set i ≡ true) × CreateMissingClaims set claims before i }
 {}
 
 /// A plan updates only listed claims of pods of the set. It sets their `ownerReferences` and nothing else, and of these it
@@ -116,7 +116,7 @@ pub fn plans_retain_claims()
     ensures updated { (set : SetParts) (claims : Claims) (listed : List PodParts) (owned : List Object) (current update : Object)
         (actions : List Action) (changed : Object) → set.when_deleted ≡ Retain → set.when_scaled ≡ Retain
         → plan_of_pods set claims listed owned current update ≡ Ok actions → Contains actions (UpdateClaim changed)
-        → (i : ℕ) × (claim : Object) × (entries : List Data) × (changed ≡ updated claim entries) × (name_set_or_pod set i entries ≡ false) }
+        → (i : ℕ) × (claim : Object) × (entries : List Data) × (changed ≡ with_owner_entries claim entries) × (name_set_or_pod set i entries ≡ false) }
     ensures created { (set : SetParts) (claims : Claims) (listed : List PodParts) (owned : List Object)
         (current update : Object) (actions : List Action) (claim : Object) → set.when_deleted ≡ Retain → set.when_scaled ≡ Retain
         → plan_of_pods set claims listed owned current update ≡ Ok actions → Contains actions (CreateClaim claim)

@@ -6,11 +6,11 @@ ghost use Rattle.set_views.specs.declared.fault.PlanError.TheVariants.{Memory as
 ghost use Rattle.set_views.specs.Pod.{pod_parts};
 ghost use Rattle.set_views.specs.Set.{set_parts};
 ghost use Rattle.set_views.specs.Steps.{Gives};
-ghost use Rattle.revisions.specs.Plan.{Planned, objects_of, planned_of};
+ghost use Rattle.revisions.specs.Plan.{PlanParts, objects_of, plan_parts};
 ghost use Rattle.sets.specs.declared.action.Action.TheVariants.{WriteRevision};
-ghost use Rattle.sets.specs.Plan.{IsPlan, fitting, most_actions, names_fit, plan_by, plan_of_pods, refusal, unless_refused};
+ghost use Rattle.sets.specs.Plan.{IsPlan, fitting_pods, most_actions, names_fit, plan_by, plan_of_pods, refusal, unless_refused};
 ghost use Rattle.claims.specs.Listed.{IsFor, claim_named};
-ghost use Rattle.sets.specs.Whole.{whole};
+ghost use Rattle.sets.specs.FullPlan.{full_plan};
 
 use crate::action::{Action, Plan};
 use crate::actions::Actions;
@@ -37,7 +37,7 @@ fn names_fit(alloc: Global, set: &Set) -> Result<bool, Memory>
 }
 
 /// The set's pods among the listed ones, given the names of its update and current revisions.
-#[tactic(auto, using(set_views::proofs::Chains::fails_then), unfolding(crate::specs::Plan::fitting))]
+#[tactic(auto, using(set_views::proofs::Chains::fails_then), unfolding(crate::specs::Plan::fitting_pods))]
 fn fitting_pods(
     alloc: Global,
     set: &Set,
@@ -45,7 +45,7 @@ fn fitting_pods(
     current: &str,
     views: &[PodView<'_>],
 ) -> Result<BTreeMap<u32, Replica>, PlanError>
-    ensures { Gives (λ pods. pods.entries) result (fitting (set_parts set.now) update.now current.now (map pod_parts views.now)) }
+    ensures { Gives (λ pods. pods.entries) result (fitting_pods (set_parts set.now) update.now current.now (map pod_parts views.now)) }
 {
     if names_fit(alloc, set)? {
         replicas_of(alloc, set, update, current, views)
@@ -66,7 +66,7 @@ fn actions_over(
     requires for_set { IsFor (set_parts set.now) claims.now }
     requires fit { names_fit (set_parts set.now) ≡ true }
     ensures { IfOk result (λ actions. actions.items ≡ take most_actions
-        (whole (set_parts set.now) (claim_named claims.now) (map pod_parts views.now) (objects_of revisions.now.owned.items)
+        (full_plan (set_parts set.now) (claim_named claims.now) (map pod_parts views.now) (objects_of revisions.now.owned.items)
         revisions.now.current.object.now revisions.now.update.object.now pods.now.entries)) }
 {
     // A map's length says that its keys are in order.
@@ -112,7 +112,7 @@ fn plan_of_pods(
 
 /// The write of that revision alone.
 #[tactic(auto, using(set_views::proofs::Chains::fails_then))]
-fn writing(
+fn write_alone(
     alloc: Global,
     set: &Set,
     views: &[PodView<'_>],
@@ -135,7 +135,7 @@ fn writing(
 
 /// The refusal where no revision can be named: what the pods refuse comes before it.
 #[tactic(auto, using(set_views::proofs::Chains::fails_then))]
-fn unnamed(alloc: Global, set: &Set, views: &[PodView<'_>]) -> Result<Plan, PlanError>
+fn no_name_refusal(alloc: Global, set: &Set, views: &[PodView<'_>]) -> Result<Plan, PlanError>
     ensures { Gives (λ plan. plan.actions.items) result (unless_refused (set_parts set.now) (map pod_parts views.now) (Err NoRevisionName)) }
 {
     let pods = fitting_pods(alloc, set, "", "", views)?;
@@ -154,7 +154,7 @@ fn refusal(
     ensures memory { error ≡ OutOfMemory → result ≡ Err OutOfMemory }
 {
     match error {
-        PlanError::NoRevisionName => unnamed(alloc, set, views),
+        PlanError::NoRevisionName => no_name_refusal(alloc, set, views),
         _ => Err(error),
     }
 }
@@ -169,13 +169,13 @@ fn plan_by(
     found: Result<RevisionPlan<'_>, PlanError>,
 ) -> Result<Plan, PlanError>
     requires { IsFor (set_parts set.now) claims.now }
-    ensures planned { (planned : Result Planned PlanError) → Gives planned_of found.entry planned
+    ensures planned { (planned : Result PlanParts PlanError) → Gives plan_parts found.entry planned
         → Gives (λ plan. plan.actions.items) result (plan_by (set_parts set.now) (claim_named claims.now) (map pod_parts views.now) planned) }
     ensures memory { found.entry ≡ Err OutOfMemory → result ≡ Err OutOfMemory }
 {
     match found {
-        Ok(RevisionPlan::Create(revision)) => writing(alloc, set, views, revision),
-        Ok(RevisionPlan::Renumber(revision)) => writing(alloc, set, views, revision),
+        Ok(RevisionPlan::Create(revision)) => write_alone(alloc, set, views, revision),
+        Ok(RevisionPlan::Renumber(revision)) => write_alone(alloc, set, views, revision),
         Ok(RevisionPlan::Settled(revisions)) => plan_of_pods(alloc, set, views, claims, &revisions),
         Err(error) => refusal(alloc, set, views, error),
     }
@@ -184,7 +184,7 @@ fn plan_by(
 /// Plans what is to be done for a set, given the pods, claims and revisions that were listed (Kubernetes, "StatefulSets").
 /// Objects of other kinds and namespaces are passed over, and of several with one name the first counts.
 ///
-/// Where a revision is to be made or to get a new number, its write is the whole plan. Else come the actions on pods, as
+/// Where a revision is to be made or to get a new number, its write is all of the plan. Else come the actions on pods, as
 /// the set's `podManagementPolicy` and `updateStrategy` have them; where there is none of these, the deletions of
 /// revisions that are history, by `revisionHistoryLimit`; and last the set with its new `status`, where that differs.
 ///

@@ -4,14 +4,14 @@ ghost use Rattle.std.specs.List.{flat_map};
 ghost use Rattle.set_views.specs.declared.fault.PlanError.TheVariants.{Memory as OutOfMemory};
 ghost use Rattle.set_views.specs.Set.{set_parts};
 ghost use Rattle.objects.specs.Names.{most_label};
-ghost use Rattle.claims.specs.Changes.{made_claims};
+ghost use Rattle.claims.specs.Changes.{make_claims};
 ghost use Rattle.claims.specs.Listed.{IsFor, claim_named};
 ghost use Rattle.sets.specs.Actions.{actions_of, changes_in, claim_action, claim_actions, name_at, new_pod, revision_of};
-ghost use Rattle.sets.specs.Cut.{Adds, AreNameable, is_nameable};
+ghost use Rattle.sets.specs.Truncation.{Adds, AreNameable, is_nameable};
 
 use crate::action::Action;
 use crate::actions::Actions;
-use claims::{ClaimChange, ListedClaims, kept_claims, made_claims, released_claims};
+use claims::{ClaimChange, ListedClaims, keep_claims, make_claims, release_claims};
 use manifests::{PodTemplate, pod_of};
 use objects::{Memory, Object, Text, pod_name};
 use pod_steps::{Revision, Step};
@@ -116,16 +116,16 @@ fn add_changes(actions: &mut Actions, changes: Vec<ClaimChange>) -> Result<(), M
 
 /// The first so many changes of the claims of a pod that is then created. There are none where its name is too long, which
 /// the plan is refused for before.
-fn made_changes(
+fn make_claim_changes(
     alloc: Global,
     set: &Set,
     claims: &ListedClaims<'_>,
     ordinal: u32,
     most: usize,
 ) -> Result<Vec<ClaimChange>, Memory>
-    ensures { IfOk result (λ changes. changes.items ≡ take most (changes_in (made_claims (set_parts set.now) (claim_named claims.now) ordinal))) }
+    ensures { IfOk result (λ changes. changes.items ≡ take most (changes_in (make_claims (set_parts set.now) (claim_named claims.now) ordinal))) }
 {
-    match made_claims(alloc, set, claims, ordinal, most) {
+    match make_claims(alloc, set, claims, ordinal, most) {
         Ok(changes) => Ok(changes),
         Err(error) => match error {
             PlanError::Memory => Err(Memory),
@@ -139,7 +139,7 @@ fn made_changes(
 }
 
 /// Adds the changes of the claims of a pod that is then created. No more of them are made than there is room for.
-fn add_made(
+fn add_make_claims(
     actions: &mut Actions,
     alloc: Global,
     set: &Set,
@@ -147,16 +147,16 @@ fn add_made(
     ordinal: u32,
 ) -> Result<(), Memory>
     ensures { OnOk result (Adds actions.old.list.items actions.new.list.items
-        (claim_actions (changes_in (made_claims (set_parts set.now) (claim_named claims.now) ordinal)))) }
+        (claim_actions (changes_in (make_claims (set_parts set.now) (claim_named claims.now) ordinal)))) }
 {
     let most = actions.room();
-    let changes = made_changes(alloc, set, claims, ordinal, most)?;
+    let changes = make_claim_changes(alloc, set, claims, ordinal, most)?;
     add_changes(actions, changes)?;
     Ok(())
 }
 
 /// Adds the actions of a step. Nothing is made for a list that is full.
-#[tactic(auto, using(crate::proofs::Cuts::adds_past), unfolding(crate::specs::Actions::actions_of))]
+#[tactic(auto, using(crate::proofs::Truncation::adds_past), unfolding(crate::specs::Actions::actions_of))]
 fn add_step(
     actions: &mut Actions,
     alloc: Global,
@@ -176,13 +176,13 @@ fn add_step(
         return Ok(());
     }
     match step {
-        Step::MakeClaims { ordinal } => add_made(actions, alloc, set, claims, ordinal),
+        Step::MakeClaims { ordinal } => add_make_claims(actions, alloc, set, claims, ordinal),
         Step::KeepClaims { ordinal } => {
-            let changes = kept_claims(alloc, set, claims, ordinal)?;
+            let changes = keep_claims(alloc, set, claims, ordinal)?;
             add_changes(actions, changes)
         }
         Step::ReleaseClaims { ordinal, uid } => {
-            let changes = released_claims(alloc, set, claims, ordinal, uid)?;
+            let changes = release_claims(alloc, set, claims, ordinal, uid)?;
             add_changes(actions, changes)
         }
         Step::CreatePod { ordinal, revision } => {

@@ -5,32 +5,32 @@ use Rattle.std.specs.List.{list_any}
 use Rattle.pod_steps.specs.declared.step.Step.{Step}
 use Rattle.set_views.specs.Set.{SetParts, set_parts}
 use Rattle.pod_steps.specs.Step.{Adds, is_of_pod, pod_steps}
-use Rattle.pod_steps.specs.Whole.{at_once, scaled_at_once, updated}
+use Rattle.pod_steps.specs.FullSteps.{at_once, scaling_steps_at_once, update_steps}
 use Rattle.pod_steps.specs.Replicas.{Pods}
-use Rattle.pod_steps.proofs.Cuts.{adds_more, adds_past, room_left, whole_below}
+use Rattle.pod_steps.proofs.Truncation.{adds_more, adds_past, room_left, nothing_truncated}
 use Rattle.pod_steps.proofs.at_once.plan_at_once.Goals as goal
 
--- nothing was cut, and a pod is created or deleted
-touched : (set : SetParts) (pods : Pods) (xs ys : List Step) → xs ≡ [] → Adds xs ys (scaled_at_once set pods) → length (pod_steps ys) + 1 ≤ 1024 → list_any is_of_pod ys ≡ true → Adds xs ys (at_once set pods)
+-- nothing was truncated, and a pod is created or deleted
+touched : (set : SetParts) (pods : Pods) (xs ys : List Step) → xs ≡ [] → Adds xs ys (scaling_steps_at_once set pods) → length (pod_steps ys) + 1 ≤ 1024 → list_any is_of_pod ys ≡ true → Adds xs ys (at_once set pods)
 touched set pods xs ys none adds room touches =
-    let whole : ys ≡ scaled_at_once set pods = whole_below ys _ (subst (λ (l : List Step). Adds l ys (scaled_at_once set pods)) none adds) room in
-    let test : list_any is_of_pod (scaled_at_once set pods) ≡ true = ap (list_any is_of_pod) (sym whole) ∙ touches in
+    let whole : ys ≡ scaling_steps_at_once set pods = nothing_truncated ys _ (subst (λ (l : List Step). Adds l ys (scaling_steps_at_once set pods)) none adds) room in
+    let test : list_any is_of_pod (scaling_steps_at_once set pods) ≡ true = ap (list_any is_of_pod) (sym whole) ∙ touches in
     let P : List Step → Type 0 = λ l. Adds xs ys l in
-    subst P (sym (ap (λ b. scaled_at_once set pods ++ (if b then [] else updated set pods)) test ∙ append-nil (scaled_at_once set pods))) adds
+    subst P (sym (ap (λ b. scaling_steps_at_once set pods ++ (if b then [] else update_steps set pods)) test ∙ append-nil (scaling_steps_at_once set pods))) adds
 
 -- or none is
-untouched : (set : SetParts) (pods : Pods) (xs ys zs : List Step) → xs ≡ [] → Adds xs ys (scaled_at_once set pods) → length (pod_steps ys) + 1 ≤ 1024 → list_any is_of_pod ys ≡ false → Adds ys zs (updated set pods) → Adds xs zs (at_once set pods)
+untouched : (set : SetParts) (pods : Pods) (xs ys zs : List Step) → xs ≡ [] → Adds xs ys (scaling_steps_at_once set pods) → length (pod_steps ys) + 1 ≤ 1024 → list_any is_of_pod ys ≡ false → Adds ys zs (update_steps set pods) → Adds xs zs (at_once set pods)
 untouched set pods xs ys zs none adds room touches updates =
-    let whole : ys ≡ scaled_at_once set pods = whole_below ys _ (subst (λ (l : List Step). Adds l ys (scaled_at_once set pods)) none adds) room in
-    let test : list_any is_of_pod (scaled_at_once set pods) ≡ false = ap (list_any is_of_pod) (sym whole) ∙ touches in
+    let whole : ys ≡ scaling_steps_at_once set pods = nothing_truncated ys _ (subst (λ (l : List Step). Adds l ys (scaling_steps_at_once set pods)) none adds) room in
+    let test : list_any is_of_pod (scaling_steps_at_once set pods) ≡ false = ap (list_any is_of_pod) (sym whole) ∙ touches in
     let P : List Step → Type 0 = λ l. Adds xs zs l in
-    subst P (sym (ap (λ b. scaled_at_once set pods ++ (if b then [] else updated set pods)) test)) (adds_more xs ys zs _ _ adds updates)
+    subst P (sym (ap (λ b. scaling_steps_at_once set pods ++ (if b then [] else update_steps set pods)) test)) (adds_more xs ys zs _ _ adds updates)
 
 pub returns-then-is_full : goal.returns-then-is_full
-returns-then-is_full c = adds_past c.args.steps.now.list.items c.scale.new.steps.list.items (scaled_at_once (set_parts c.args.set.now) c.args.pods.now.entries) (if list_any is_of_pod (scaled_at_once (set_parts c.args.set.now) c.args.pods.now.entries) then [] else updated (set_parts c.args.set.now) c.args.pods.now.entries) c.in_ok-scale.ensures (c.is_full.ensures.0 c.if-is_full.true)
+returns-then-is_full c = adds_past c.args.steps.now.list.items c.scale.new.steps.list.items (scaling_steps_at_once (set_parts c.args.set.now) c.args.pods.now.entries) (if list_any is_of_pod (scaling_steps_at_once (set_parts c.args.set.now) c.args.pods.now.entries) then [] else update_steps (set_parts c.args.set.now) c.args.pods.now.entries) c.in_ok-scale.ensures (c.is_full.ensures.0 c.if-is_full.true)
 
-pub returns-then-are_of_pods : goal.returns-then-are_of_pods
-returns-then-are_of_pods c = touched (set_parts c.args.set.now) c.args.pods.now.entries _ _ c.requires c.in_ok-scale.ensures (room_left _ _ c.is_full.ensures c.if-is_full.false) (sym c.are_of_pods.ensures ∙ c.if-are_of_pods.true)
+pub returns-then-has_pod_step : goal.returns-then-has_pod_step
+returns-then-has_pod_step c = touched (set_parts c.args.set.now) c.args.pods.now.entries _ _ c.requires c.in_ok-scale.ensures (room_left _ _ c.is_full.ensures c.if-is_full.false) (sym c.has_pod_step.ensures ∙ c.if-has_pod_step.true)
 
 pub returns : goal.returns
-returns c = on_ok_weaker c.update.result (untouched (set_parts c.args.set.now) c.args.pods.now.entries _ _ _ c.requires c.in_ok-scale.ensures (room_left _ _ c.is_full.ensures c.if-is_full.false) (sym c.are_of_pods.ensures ∙ c.if-are_of_pods.false)) c.update.ensures
+returns c = on_ok_weaker c.update.result (untouched (set_parts c.args.set.now) c.args.pods.now.entries _ _ _ c.requires c.in_ok-scale.ensures (room_left _ _ c.is_full.ensures c.if-is_full.false) (sym c.has_pod_step.ensures ∙ c.if-has_pod_step.false)) c.update.ensures

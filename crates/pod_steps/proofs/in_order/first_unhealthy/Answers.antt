@@ -2,7 +2,7 @@ use Rattle.std.proofs.Common.{rules, tests}
 use Rattle.std.proofs.lemmas.Iterator.Consumers.{YieldsList-from_rest}
 use Rattle.std.proofs.lemmas.Iterator.Search.{find_from_yields_List}
 use Rattle.set_views.specs.Set.{set_parts}
-use Rattle.pod_steps.specs.Whole.{is_other_unhealthy}
+use Rattle.pod_steps.specs.FullSteps.{is_other_unhealthy}
 use Rattle.pod_steps.proofs.in_order.first_unhealthy.Goals as goal
 
 pub returns : goal.returns

@@ -37,7 +37,7 @@ loop-object-preserved c =
             subst (λ views. V views (take (c.loop-object.object-index + 1) c.args.objects.now)) (sym (ap (λ v. v.items) w.views-is ∙ w.in_ok-push.ensures.items))
                 (subst (V (c.loop-object.views.items ++ w.read_pod.result ∷ [])) (sym more)
                 (view_added near done c.loop-object.views.items o w.read_pod.result c.loop-object.invariant.1 (λ j. is j && not (new j))
-                (record { parts = w.read_pod.ensures.parts; placed = w.read_pod.ensures.placed; unplaced = w.read_pod.ensures.unplaced }))),
+                (record { parts = w.read_pod.ensures.parts; set_pod = w.read_pod.ensures.set_pod; no_set_pod = w.read_pod.ensures.no_set_pod }))),
           )
       | else-has_in_namespace w ↦ elim w.else-has_in_namespace.branch [
         | else-has_in_namespace-via-then-has_in_namespace+in_ok-insert+else-branch k ↦

@@ -18,5 +18,5 @@ pub returns : goal.returns
 returns c =
     let sound = sym (c.are_sound.ensures ∙ ap (λ l. are_sound (set_parts c.args.set.now) (objects_of l)) c.deref.ensures.value) ∙ c.if-not-are_sound.false in
     let choice = choice_is _ _ _ _ _ c.in_ok-template.ensures c.deref-2.ensures.value c.in-Create.ensures in
-    plan_created (set_parts c.args.set.now) (λ q. has_name q c.args.found.names.keys) c.args.digits _ (objects_of c.args.found.owned.items) c.in_ok-created-in-Create.field-0 sound choice
-    (ap (λ n. n + 1) (c.greatest-number-in-Create.ensures ∙ ap (λ l. greatest (objects_of l)) c.deref-in-Create.ensures.value)) c.in_ok-created-in-Create.ensures
+    plan_created (set_parts c.args.set.now) (λ q. has_name q c.args.found.names.keys) c.args.digits _ (objects_of c.args.found.owned.items) c.in_ok-creation-in-Create.field-0 sound choice
+    (ap (λ n. n + 1) (c.greatest-number-in-Create.ensures ∙ ap (λ l. greatest (objects_of l)) c.deref-in-Create.ensures.value)) c.in_ok-creation-in-Create.ensures

@@ -1,7 +1,7 @@
 use Rattle.std.proofs.Common.{◌<◌, ◌∷◌, [], ◌++◌, length, take, ap, ◌∙◌, arith}
 use Rattle.revisions.specs.declared.view.RevisionView.{RevisionView}
-use Rattle.sets.specs.Whole.{deletion}
-use Rattle.sets.proofs.Cuts.{adds_none, map_more}
+use Rattle.sets.specs.FullPlan.{deletion}
+use Rattle.sets.proofs.Truncation.{adds_none, map_more}
 use Rattle.sets.proofs.ending.add_deletions.Goals as goal
 
 pub loop-revision-init : goal.loop-revision-init

@@ -1,8 +1,8 @@
 use Rattle.std.proofs.Common.{take}
 use Rattle.std.specs.Prelude.{map}
 use Rattle.revisions.specs.Plan.{objects_of}
-use Rattle.sets.specs.Cut.{Adds}
-use Rattle.sets.specs.Whole.{deletion}
+use Rattle.sets.specs.Truncation.{Adds}
+use Rattle.sets.specs.FullPlan.{deletion}
 use Rattle.sets.proofs.ending.add_deletions.Given as goal
 
 abbrev pub invariant-loop-revision : goal.invariant-loop-revision

@@ -1,7 +1,7 @@
 use Rattle.std.proofs.Common.{sym, ◌∙◌}
 use Rattle.std.specs.List.{list_any}
 use Rattle.pod_steps.specs.Step.{is_of_pod}
-use Rattle.sets.proofs.Cuts.{none_gone}
+use Rattle.sets.proofs.Truncation.{none_gone}
 use Rattle.sets.proofs.ending.add_history.Goals as goal
 
 pub returns-else-are_quiet : goal.returns-else-are_quiet

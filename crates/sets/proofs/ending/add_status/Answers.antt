@@ -1,7 +1,7 @@
 use Rattle.std.proofs.Common.{sym, ap, ◌∙◌}
 use Rattle.set_views.specs.Set.{set_parts}
 use Rattle.manifests.specs.BuiltStatus.{built_status}
-use Rattle.sets.specs.Whole.{status_of, status_with}
+use Rattle.sets.specs.FullPlan.{status_of, status_with}
 use Rattle.sets.proofs.Plans.{no_write}
 use Rattle.sets.proofs.ending.add_status.Goals as goal
 

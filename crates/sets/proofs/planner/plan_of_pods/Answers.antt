@@ -3,7 +3,7 @@ use Rattle.set_views.specs.Pod.{pod_parts}
 use Rattle.set_views.specs.Set.{set_parts}
 use Rattle.revisions.specs.Plan.{objects_of}
 use Rattle.claims.specs.Listed.{claim_named}
-use Rattle.sets.proofs.Plans.{fitting_fits, pods_planned, pods_refused}
+use Rattle.sets.proofs.Plans.{fitting_pods_fit, pods_planned, pods_refused}
 use Rattle.sets.proofs.planner.plan_of_pods.Goals as goal
 
 pub returns-in-Err : goal.returns-in-Err
@@ -13,7 +13,7 @@ returns-in-Err c =
 
 pub actions_over-requires-clause-fit : goal.actions_over-requires-clause-fit
 actions_over-requires-clause-fit c =
-    fitting_fits (set_parts c.args.set.now) (map pod_parts c.args.views.now) c.args.revisions.now.update.name.now c.args.revisions.now.current.name.now c.in-Ok.pods.entries c.in-Ok.ensures
+    fitting_pods_fit (set_parts c.args.set.now) (map pod_parts c.args.views.now) c.args.revisions.now.update.name.now c.args.revisions.now.current.name.now c.in-Ok.pods.entries c.in-Ok.ensures
 
 pub returns : goal.returns
 returns c =

@@ -8,5 +8,5 @@ abbrev pub invariant-loop-change : goal.invariant-loop-change
 invariant-loop-change l = record {
   can : (goal.iterator-loop-change).can_next l.change-iterator;
   finite : (goal.iterator-loop-change).is_finite l.change-iterator;
-  whole : take 1024 (l.actions.list.items ++ claim_actions (into_iter_items l.change-iterator)) ≡ take 1024 (l.fn.actions.list.items ++ claim_actions l.fn.changes.items);
+  all_added : take 1024 (l.actions.list.items ++ claim_actions (into_iter_items l.change-iterator)) ≡ take 1024 (l.fn.actions.list.items ++ claim_actions l.fn.changes.items);
 }

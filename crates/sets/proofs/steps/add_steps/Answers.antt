@@ -2,7 +2,7 @@ use Rattle.std.proofs.Common.{arith}
 use Rattle.set_views.specs.Set.{set_parts}
 use Rattle.claims.specs.Listed.{claim_named}
 use Rattle.sets.specs.Actions.{actions_of}
-use Rattle.sets.proofs.Cuts.{adds_none, walk_at}
+use Rattle.sets.proofs.Truncation.{adds_none, walk_at}
 use Rattle.sets.proofs.steps.add_steps.Goals as goal
 
 pub loop-step-init : goal.loop-step-init

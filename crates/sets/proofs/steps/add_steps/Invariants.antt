@@ -3,7 +3,7 @@ use Rattle.set_views.specs.Set.{set_parts}
 use Rattle.std.specs.List.{flat_map}
 use Rattle.claims.specs.Listed.{claim_named}
 use Rattle.sets.specs.Actions.{actions_of}
-use Rattle.sets.specs.Cut.{Adds}
+use Rattle.sets.specs.Truncation.{Adds}
 use Rattle.sets.proofs.steps.add_steps.Given as goal
 
 abbrev pub invariant-loop-step : goal.invariant-loop-step
