@@ -30,8 +30,8 @@ fn claim(alloc: Global, first: u64) -> Result<Object> {
 /// So many claims; the owners of the first have the numbers 1, 2 and 3, those of the next 4, 5 and 6, and so on.
 fn claims(alloc: Global, count: u32) -> Result<Vec<Object>> {
     let mut claims = Vec::new(alloc);
-    for place in 0..count {
-        let claim = claim(alloc, u64::from(place) * 3 + 1)?;
+    for index in 0..count {
+        let claim = claim(alloc, u64::from(index) * 3 + 1)?;
         claims.push(claim)?;
     }
     Ok(claims)

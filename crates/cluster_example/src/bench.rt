@@ -2,7 +2,7 @@
 use crate::fault::Fault;
 use crate::steps::SHARDS;
 use crate::store::CAPACITY;
-use crate::story::{Account, Story, spec_of, told};
+use crate::story::{Account, Story, account_of, spec_of};
 use controllers::{ClusterSpec, run_cluster};
 use history::{Event, replay};
 use std::time::Instant;
@@ -15,7 +15,7 @@ fn rate(count: usize, micros: u128) -> u128 {
 /// Runs the story over a plain store, and says how many pods there were after each line of the operator.
 fn measure_plain(rt: &HostRuntime, spec: &ClusterSpec, story: &Story) -> Result<Account, Fault> {
     let start = Instant::now(rt)?;
-    let account = told(rt.alloc(), spec, story)?;
+    let account = account_of(rt.alloc(), spec, story)?;
     let elapsed = start.elapsed(rt)?.as_millis();
     println!(rt; "Eight controllers:")?;
     for line in account.text.as_str().lines() {

@@ -19,14 +19,14 @@ use bench::measure;
 use controllers::run_cluster;
 use fault::Fault;
 use std::env;
-use story::{large, small, spec_of, told};
+use story::{account_of, large, small, spec_of};
 use transcript::transcript;
 
 /// Three controllers over both stores, with each write.
 fn show(rt: &HostRuntime) -> Result<(), Fault> {
     let story = small(rt.alloc())?;
     let spec = spec_of(rt.alloc(), story.controllers)?;
-    let account = told(rt.alloc(), &spec, &story)?;
+    let account = account_of(rt.alloc(), &spec, &story)?;
     let found = run_cluster(rt.alloc(), &spec, account.events.as_slice())?;
     let text = transcript(rt.alloc(), &account, &found)?;
     print!(rt; "{}", text.as_str())?;
@@ -45,7 +45,7 @@ fn show(rt: &HostRuntime) -> Result<(), Fault> {
 }
 
 /// The number that the first word after the program's name is, or three.
-fn replicas_given(rt: &HostRuntime) -> u64 {
+fn replicas_from_words(rt: &HostRuntime) -> u64 {
     let word = match env::args(rt) {
         Ok(mut words) => words.nth(1),
         Err(_) => None,
@@ -58,6 +58,6 @@ fn replicas_given(rt: &HostRuntime) -> u64 {
 
 fn main(rt: HostRuntime) -> Result<(), Fault> {
     show(&rt)?;
-    let story = large(rt.alloc(), replicas_given(&rt).min(1_000))?;
+    let story = large(rt.alloc(), replicas_from_words(&rt).min(1_000))?;
     measure(&rt, &story)
 }

@@ -23,7 +23,7 @@ pub(crate) struct Recorder {
     pub store: Store,
     controllers: Vec<Controller>,
     /// For each caller that a controller is or was: which controller.
-    lives: Vec<usize>,
+    incarnations: Vec<usize>,
     /// After how many steps the next write is cut off.
     cut: usize,
     pub events: Vec<ClusterEvent>,
@@ -35,7 +35,7 @@ impl Recorder {
             alloc,
             store,
             controllers,
-            lives: Vec::new(alloc),
+            incarnations: Vec::new(alloc),
             cut: LAST_CUT + 1,
             events: Vec::new(alloc),
         }
@@ -44,7 +44,7 @@ impl Recorder {
     /// Each controller is a caller.
     pub(crate) fn begin(&mut self) -> Result<(), Fault> {
         for number in 0..self.controllers.len() {
-            self.lives.push(number)?;
+            self.incarnations.push(number)?;
         }
         Ok(())
     }
@@ -58,9 +58,9 @@ impl Recorder {
     /// The caller that a controller is since its last crash.
     fn caller_of(&self, number: usize) -> u64 {
         let mut caller = 0;
-        for (life, controller) in self.lives.iter().enumerate() {
+        for (incarnation, controller) in self.incarnations.iter().enumerate() {
             if *controller == number {
-                caller = life;
+                caller = incarnation;
             }
         }
         caller as u64
@@ -122,7 +122,7 @@ impl Recorder {
         if let Some(controller) = self.controllers.get_mut(number) {
             controller.crash();
         }
-        self.lives.push(number)?;
+        self.incarnations.push(number)?;
         self.events.push(ClusterEvent::Crash(number))?;
         Ok(())
     }
@@ -132,7 +132,7 @@ impl Recorder {
         Account {
             events: self.events,
             text: self.store.into_text(),
-            lives: self.lives,
+            incarnations: self.incarnations,
         }
     }
 

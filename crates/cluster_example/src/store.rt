@@ -26,7 +26,7 @@ impl Store {
         Ok(Store { alloc, plain, text })
     }
 
-    /// Takes a whole request. Where it is a write, it is told with what came of it.
+    /// Takes a whole request. Where it is a write, it is printed with what came of it.
     pub(crate) fn take(
         &mut self,
         who: Who,
@@ -76,10 +76,10 @@ impl Store {
     pub(crate) fn put_census(&mut self) -> Result<(), Fault> {
         let request = read_request(self.alloc, LIST_PODS.as_bytes())?;
         let reply = self.plain.take(request)?;
-        let told = put_listed(self.alloc, &mut self.text, &reply);
+        let put = put_listed(self.alloc, &mut self.text, &reply);
         // Let go by name, which is proved once for the type and not at each way out.
         drop(reply);
-        told
+        put
     }
 }
 

@@ -24,7 +24,7 @@ pub(crate) struct Story {
 pub(crate) struct Account {
     pub events: Vec<ClusterEvent>,
     pub text: String,
-    pub lives: Vec<usize>,
+    pub incarnations: Vec<usize>,
 }
 
 /// The set as the operator writes it, with a template that has this spec.
@@ -137,7 +137,11 @@ fn tell(alloc: Global, recorder: &mut Recorder, story: &Story) -> Result<(), Fau
 }
 
 /// The story: after each line of the operator five writes of controllers are cut off, each after another step.
-pub(crate) fn told(alloc: Global, spec: &ClusterSpec, story: &Story) -> Result<Account, Fault> {
+pub(crate) fn account_of(
+    alloc: Global,
+    spec: &ClusterSpec,
+    story: &Story,
+) -> Result<Account, Fault> {
     let mut recorder = recorder_of(alloc, spec)?;
     tell(alloc, &mut recorder, story)?;
     Ok(recorder.into_account())

@@ -9,17 +9,17 @@ use history::Item;
 use plain::Request;
 use std::alloc::Global;
 
-fn who_is(lives: &[usize], caller: u64) -> Who {
+fn who_is(incarnations: &[usize], caller: u64) -> Who {
     match caller {
         KUBELET => Who::Kubelet,
         OPERATOR => Who::Operator,
-        _ => Who::Controller(controller_of(lives, caller), caller),
+        _ => Who::Controller(controller_of(incarnations, caller), caller),
     }
 }
 
 /// The number of the controller that the caller is or was.
-fn controller_of(lives: &[usize], caller: u64) -> usize {
-    match lives.get(caller as usize) {
+fn controller_of(incarnations: &[usize], caller: u64) -> usize {
+    match incarnations.get(caller as usize) {
         Some(number) => *number,
         None => usize::MAX,
     }
@@ -43,29 +43,37 @@ fn called_at(items: &[Item], at: u64) -> Option<(u64, &Request)> {
 }
 
 /// Whether the caller was replied to after that place. One that crashed never was.
-fn is_told(items: &[Item], caller: u64, at: u64) -> bool {
+fn is_answered(items: &[Item], caller: u64, at: u64) -> bool {
     items.iter().any(
-        |item| matches!(item, Item::Reply { place, caller: told, reply: _ } if *told == caller && at < *place),
+        |item| matches!(item, Item::Reply { place, caller: answered, reply: _ } if *answered == caller && at < *place),
     )
 }
 
 /// Takes the request that was called at a place.
-fn put_place(store: &mut Store, lives: &[usize], items: &[Item], place: u64) -> Result<(), Fault> {
+fn put_place(
+    store: &mut Store,
+    incarnations: &[usize],
+    items: &[Item],
+    place: u64,
+) -> Result<(), Fault> {
     let Some((caller, request)) = called_at(items, place) else {
         return Ok(());
     };
     if caller == OPERATOR && !store.text.is_empty() {
         store.put_census()?;
     }
-    let is_heard = write_of(request).is_none() || is_told(items, caller, place);
-    drop(store.take(who_is(lives, caller), request.clone()?, is_heard)?);
+    let is_heard = write_of(request).is_none() || is_answered(items, caller, place);
+    drop(store.take(who_is(incarnations, caller), request.clone()?, is_heard)?);
     Ok(())
 }
 
 fn put_places(store: &mut Store, account: &Account, found: &ClusterRun) -> Result<(), Fault> {
-    let (lives, items) = (account.lives.as_slice(), found.run.trace.items.as_slice());
+    let (incarnations, items) = (
+        account.incarnations.as_slice(),
+        found.run.trace.items.as_slice(),
+    );
     for place in found.run.order.iter() {
-        put_place(store, lives, items, *place)?;
+        put_place(store, incarnations, items, *place)?;
     }
     store.put_census()
 }

@@ -10,9 +10,9 @@ use Rattle.std.proofs.lemmas.List.{length-set}
 use Rattle.std.proofs.lemmas.Option.{none-some}
 use Rattle.interleavings.proofs.Basics.{Compared, Least, above, atmost, compare, eq_self, least, other, same}
 use Rattle.history.proofs.Stepping.{lt_false, lt_true}
-use Rattle.rounds.specs.Transcript.{Life}
+use Rattle.rounds.specs.Transcript.{Incarnation}
 use Rattle.rounds.specs.World.{put}
-use Rattle.cluster_runs.specs.Cluster.{Cluster, first_life, is_used, life_after, lowest_unused, start, with_crash}
+use Rattle.cluster_runs.specs.Cluster.{Cluster, first_incarnation, is_used, incarnation_after, lowest_unused, start, with_crash}
 use Rattle.cluster_runs.proofs.Kept.{among, put_other, put_same}
 use Rattle.cluster_runs.specs.Callers.{AreCallers, HoldsCallers, owner}
 use Rattle.cluster_runs.specs.Ran.{owner_in}
@@ -26,7 +26,7 @@ module _ (count : ℕ) (k : Cluster) (callers : Callers) (are : AreCallers count
   unused_lowest n none = by (is_used k n) refl
     where
       by : (b : Bool) → is_used k n ≡ b → is_used k n ≡ false
-      by true is = absurd (none-some _ (sym none ∙ are.owners n ∙ ap (λ b. cond b (Some (owner k.lives n)) None) is))
+      by true is = absurd (none-some _ (sym none ∙ are.owners n ∙ ap (λ b. cond b (Some (owner k.incarnations n)) None) is))
       by false is = is
 
   used_by : (n : ℕ) → is_some (get nat_cmp callers.owners n) ≡ true → is_used k n ≡ true
@@ -34,17 +34,17 @@ module _ (count : ℕ) (k : Cluster) (callers : Callers) (are : AreCallers count
     where
       by : (b : Bool) → is_used k n ≡ b → is_used k n ≡ true
       by true is = is
-      by false is = absurd (false≢true (sym (ap is_some (are.owners n ∙ ap (λ b. cond b (Some (owner k.lives n)) None) is)) ∙ some))
+      by false is = absurd (false≢true (sym (ap is_some (are.owners n ∙ ap (λ b. cond b (Some (owner k.incarnations n)) None) is)) ∙ some))
 
-  -- the owner of each caller is the controller whose life it is or was
-  pub owned_by : (n : ℕ) → owner_in callers.owners n ≡ owner k.lives n
+  -- the owner of each caller is the controller whose incarnation it is or was
+  pub owned_by : (n : ℕ) → owner_in callers.owners n ≡ owner k.incarnations n
   owned_by n = by (is_used k n) refl
     where
-      by : (b : Bool) → is_used k n ≡ b → owner_in callers.owners n ≡ owner k.lives n
-      by true is = ap (option_and_then (λ who. who)) (are.owners n ∙ ap (λ b. cond b (Some (owner k.lives n)) None) is)
+      by : (b : Bool) → is_used k n ≡ b → owner_in callers.owners n ≡ owner k.incarnations n
+      by true is = ap (option_and_then (λ who. who)) (are.owners n ∙ ap (λ b. cond b (Some (owner k.incarnations n)) None) is)
       by false is =
-          ap (option_and_then (λ who. who)) (are.owners n ∙ ap (λ b. cond b (Some (owner k.lives n)) None) is)
-          ∙ sym (ap (option_map (λ (life : Life). life.controller)) (are.unborn n is))
+          ap (option_and_then (λ who. who)) (are.owners n ∙ ap (λ b. cond b (Some (owner k.incarnations n)) None) is)
+          ∙ sym (ap (option_map (λ (incarnation : Incarnation). incarnation.controller)) (are.unborn n is))
 
   pub used_below : (n : ℕ) → ((m : ℕ) → callers.unused ≤ m → m < n → is_some (get nat_cmp callers.owners m) ≡ true) → (m : ℕ) → m < n → is_used k m ≡ true
   used_below n others m low = by (least callers.unused m)
@@ -93,20 +93,20 @@ not_among n used m fresh = (apart, sym (among_other n used m apart) ∙ fresh)
 abbrev pub IsPut : (old new : Callers) → ℕ → Option ℕ → Type 0
 IsPut old new n who = (m : ℕ) → get nat_cmp new.owners m ≡ cond (m == n) (Some who) (get nat_cmp old.owners m)
 
-owners_more : (old new : Callers) (n : ℕ) (who : Option ℕ) (used : List ℕ) (lives lives' : ℕ → Option Life) → IsPut old new n who → owner lives' n ≡ who
-    → ((m : ℕ) → m ≢ n → lives' m ≡ lives m)
-    → ((m : ℕ) → get nat_cmp old.owners m ≡ cond (among used m) (Some (owner lives m)) None)
-    → (m : ℕ) → get nat_cmp new.owners m ≡ cond (among (n ∷ used) m) (Some (owner lives' m)) None
-owners_more old new n who used lives lives' puts here others was m = by (compare m n)
+owners_more : (old new : Callers) (n : ℕ) (who : Option ℕ) (used : List ℕ) (incarnations incarnations' : ℕ → Option Incarnation) → IsPut old new n who → owner incarnations' n ≡ who
+    → ((m : ℕ) → m ≢ n → incarnations' m ≡ incarnations m)
+    → ((m : ℕ) → get nat_cmp old.owners m ≡ cond (among used m) (Some (owner incarnations m)) None)
+    → (m : ℕ) → get nat_cmp new.owners m ≡ cond (among (n ∷ used) m) (Some (owner incarnations' m)) None
+owners_more old new n who used incarnations incarnations' puts here others was m = by (compare m n)
   where
-    by : Compared m n → get nat_cmp new.owners m ≡ cond (among (n ∷ used) m) (Some (owner lives' m)) None
+    by : Compared m n → get nat_cmp new.owners m ≡ cond (among (n ∷ used) m) (Some (owner incarnations' m)) None
     by (same e b) =
-        puts m ∙ ap (λ b. cond b (Some who) (get nat_cmp old.owners m)) b ∙ ap Some (sym here ∙ ap (owner lives') (sym e))
-        ∙ sym (ap (λ b. cond b (Some (owner lives' m)) None) (ap (among (n ∷ used)) e ∙ among_first n used))
+        puts m ∙ ap (λ b. cond b (Some who) (get nat_cmp old.owners m)) b ∙ ap Some (sym here ∙ ap (owner incarnations') (sym e))
+        ∙ sym (ap (λ b. cond b (Some (owner incarnations' m)) None) (ap (among (n ∷ used)) e ∙ among_first n used))
     by (other ne b) =
         puts m ∙ ap (λ b. cond b (Some who) (get nat_cmp old.owners m)) b ∙ was m
-        ∙ ap (λ (life : Option Life). cond (among used m) (Some (option_map (λ (l : Life). l.controller) life)) None) (sym (others m ne))
-        ∙ sym (ap (λ b. cond b (Some (owner lives' m)) None) (among_other n used m ne))
+        ∙ ap (λ (incarnation : Option Incarnation). cond (among used m) (Some (option_map (λ (l : Incarnation). l.controller) incarnation)) None) (sym (others m ne))
+        ∙ sym (ap (λ b. cond b (Some (owner incarnations' m)) None) (among_other n used m ne))
 
 -- ---- another caller of a controller
 
@@ -114,23 +114,23 @@ pub renewed : (count : ℕ) (k : Cluster) (c n : ℕ) (old new : Callers) → Ar
     → new.present.items ≡ set old.present.items c n → new.unused ≡ n → IsPut old new n (Some c) → btree_map_len new.owners ≡ btree_map_len old.owners + 1
     → btree_map_len old.owners ≢ 4096 → AreCallers count (with_crash k c) new
 renewed count k c n old new are there fresh lowest changed unused puts many few =
-    subst (λ m. HoldsCallers count (put k.callers c m) (m ∷ k.used) (put k.lives m (Some (life_after k c))) new) (sym (lowest_is k n fresh lowest)) (record {
+    subst (λ m. HoldsCallers count (put k.callers c m) (m ∷ k.used) (put k.incarnations m (Some (incarnation_after k c))) new) (sym (lowest_is k n fresh lowest)) (record {
       count_is = ap length changed ∙ length-set old.present.items c n ∙ are.count_is;
       present_is = present;
-      owners = owners_more old new n (Some c) k.used k.lives (put k.lives n (Some (life_after k c))) puts mine (λ m apart. put_other k.lives n (Some (life_after k c)) m apart) are.owners;
+      owners = owners_more old new n (Some c) k.used k.incarnations (put k.incarnations n (Some (incarnation_after k c))) puts mine (λ m apart. put_other k.incarnations n (Some (incarnation_after k c)) m apart) are.owners;
       many = (let had = are.many in omega (arith, many, had));
       few = (let had = are.many in let most = are.few in omega (arith, few, had, most));
       below = λ m low. among_later n k.used m (lowest m (subst (λ u. m < u) unused low));
       own = own;
       there = has;
-      unborn = λ m free. let rest = not_among n k.used m free in put_other k.lives n (Some (life_after k c)) m rest.0 ∙ are.unborn m rest.1;
+      unborn = λ m free. let rest = not_among n k.used m free in put_other k.incarnations n (Some (incarnation_after k c)) m rest.0 ∙ are.unborn m rest.1;
     })
   where
-    mine : owner (put k.lives n (Some (life_after k c))) n ≡ Some c
-    mine = ap (option_map (λ (l : Life). l.controller)) (put_same k.lives n (Some (life_after k c)))
+    mine : owner (put k.incarnations n (Some (incarnation_after k c))) n ≡ Some c
+    mine = ap (option_map (λ (l : Incarnation). l.controller)) (put_same k.incarnations n (Some (incarnation_after k c)))
 
-    kept : (m : ℕ) → m ≢ n → owner (put k.lives n (Some (life_after k c))) m ≡ owner k.lives m
-    kept m apart = ap (option_map (λ (l : Life). l.controller)) (put_other k.lives n (Some (life_after k c)) m apart)
+    kept : (m : ℕ) → m ≢ n → owner (put k.incarnations n (Some (incarnation_after k c))) m ≡ owner k.incarnations m
+    kept m apart = ap (option_map (λ (l : Incarnation). l.controller)) (put_other k.incarnations n (Some (incarnation_after k c)) m apart)
 
     present : (d : ℕ) → d < count → get_or new.present.items d 0 ≡ put k.callers c n d
     present d low = by (compare d c)
@@ -142,22 +142,22 @@ renewed count k c n old new are there fresh lowest changed unused puts many few 
         by (other ne b) =
             ap (λ xs. get_or xs d 0) changed ∙ get_or-set_other old.present.items c d n 0 ne ∙ are.present_is d low ∙ sym (ap (λ b. cond b n (k.callers d)) b)
 
-    -- whoever has a life was used
+    -- whoever has an incarnation was used
     had : (d : ℕ) → d < count → k.callers d ≢ n
-    had d low e = none-some d (sym (ap (option_map (λ (l : Life). l.controller)) (ap k.lives e ∙ are.unborn n fresh)) ∙ are.own d low)
+    had d low e = none-some d (sym (ap (option_map (λ (l : Incarnation). l.controller)) (ap k.incarnations e ∙ are.unborn n fresh)) ∙ are.own d low)
 
-    own : (d : ℕ) → d < count → owner (put k.lives n (Some (life_after k c))) (put k.callers c n d) ≡ Some d
+    own : (d : ℕ) → d < count → owner (put k.incarnations n (Some (incarnation_after k c))) (put k.callers c n d) ≡ Some d
     own d low = by (compare d c)
       where
-        by : Compared d c → owner (put k.lives n (Some (life_after k c))) (put k.callers c n d) ≡ Some d
-        by (same e b) = ap (λ b. owner (put k.lives n (Some (life_after k c))) (cond b n (k.callers d))) b ∙ mine ∙ ap Some (sym e)
-        by (other ne b) = ap (λ b. owner (put k.lives n (Some (life_after k c))) (cond b n (k.callers d))) b ∙ kept (k.callers d) (had d low) ∙ are.own d low
+        by : Compared d c → owner (put k.incarnations n (Some (incarnation_after k c))) (put k.callers c n d) ≡ Some d
+        by (same e b) = ap (λ b. owner (put k.incarnations n (Some (incarnation_after k c))) (cond b n (k.callers d))) b ∙ mine ∙ ap Some (sym e)
+        by (other ne b) = ap (λ b. owner (put k.incarnations n (Some (incarnation_after k c))) (cond b n (k.callers d))) b ∙ kept (k.callers d) (had d low) ∙ are.own d low
 
-    has : (m : ℕ) → IfSome (owner (put k.lives n (Some (life_after k c))) m) (λ d. d < count)
+    has : (m : ℕ) → IfSome (owner (put k.incarnations n (Some (incarnation_after k c))) m) (λ d. d < count)
     has m = by (compare m n)
       where
-        by : Compared m n → IfSome (owner (put k.lives n (Some (life_after k c))) m) (λ d. d < count)
-        by (same e b) = subst (λ o. IfSome o (λ d. d < count)) (sym (ap (owner (put k.lives n (Some (life_after k c)))) e ∙ mine)) there
+        by : Compared m n → IfSome (owner (put k.incarnations n (Some (incarnation_after k c))) m) (λ d. d < count)
+        by (same e b) = subst (λ o. IfSome o (λ d. d < count)) (sym (ap (owner (put k.incarnations n (Some (incarnation_after k c)))) e ∙ mine)) there
         by (other ne b) = subst (λ o. IfSome o (λ d. d < count)) (sym (kept m ne)) (are.there m)
 
 -- ---- controllers that begin
@@ -191,19 +191,19 @@ pub started : (count : ℕ) (callers : Callers) → length callers.present.items
 started count callers counted own owners many none few = record {
   count_is = counted;
   present_is = own;
-  owners = λ n. owners n ∙ both (nat_lt n count) n ∙ sym (ap (λ b. cond b (Some (owner (first_life count) n)) None) (used_at_start count n));
+  owners = λ n. owners n ∙ both (nat_lt n count) n ∙ sym (ap (λ b. cond b (Some (owner (first_incarnation count) n)) None) (used_at_start count n));
   many = many ∙ sym (length-range_with_len 0 count);
   few = (let same = length-range_with_len 0 count in omega (arith, same, few));
   below = λ n low. absurd (omega (arith, none, low));
-  own = λ c low. ap (λ b. option_map (λ (l : Life). l.controller) (cond b (Some (record { controller = c; crashes = 0 })) None)) (lt_true c count low);
+  own = λ c low. ap (λ b. option_map (λ (l : Incarnation). l.controller) (cond b (Some (record { controller = c; crashes = 0 })) None)) (lt_true c count low);
   there = λ n. there n (nat_lt n count) refl;
   unborn = λ n fresh. ap (λ b. cond b (Some (record { controller = n; crashes = 0 })) None) (sym (used_at_start count n) ∙ fresh);
 }
   where
-    both : (b : Bool) (n : ℕ) → cond b (Some (Some n)) None ≡ cond b (Some (option_map (λ (l : Life). l.controller) (cond b (Some (record { controller = n; crashes = 0 })) None))) None
+    both : (b : Bool) (n : ℕ) → cond b (Some (Some n)) None ≡ cond b (Some (option_map (λ (l : Incarnation). l.controller) (cond b (Some (record { controller = n; crashes = 0 })) None))) None
     both true n = refl
     both false n = refl
 
-    there : (n : ℕ) (b : Bool) → nat_lt n count ≡ b → IfSome (option_map (λ (l : Life). l.controller) (cond b (Some (record { controller = n; crashes = 0 })) None)) (λ c. c < count)
+    there : (n : ℕ) (b : Bool) → nat_lt n count ≡ b → IfSome (option_map (λ (l : Incarnation). l.controller) (cond b (Some (record { controller = n; crashes = 0 })) None)) (λ c. c < count)
     there n true is = ltb-true n count is
     there n false is = tt

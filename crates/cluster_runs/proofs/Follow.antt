@@ -7,7 +7,7 @@ use Rattle.interleavings.specs.declared.trace.Item.TheVariants as item
 use Rattle.interleavings.specs.Linearization.{Answers, Has, IsHistory}
 use Rattle.interleavings.proofs.Basics.{Compared, same, other, compare, Least, atmost, above, least}
 use Rattle.interleavings.proofs.Histories.{caller_of}
-use Rattle.rounds.specs.Life.{Follows}
+use Rattle.rounds.specs.Incarnation.{Follows}
 use Rattle.rounds.specs.Phase.{Phase, takes}
 use Rattle.rounds.specs.Reconciler.{Reconciler}
 use Rattle.cluster_runs.proofs.Heard.{HasAsked, asked_at, heard_before, heard_later, heard_once}

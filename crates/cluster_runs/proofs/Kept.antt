@@ -1,5 +1,5 @@
--- What is kept where controllers ask as callers: each caller with a life has asked what its controller was to ask, each controller stands
--- where its caller's replies have taken it, no two callers have one life, and a caller that was not used has done nothing.
+-- What is kept where controllers ask as callers: each caller with an incarnation has asked what its controller was to ask, each controller stands
+-- where its caller's replies have taken it, no two callers have one incarnation, and a caller that was not used has done nothing.
 use Rattle.std.proofs.Common.{◌≡◌, ◌≢◌, ◌≤◌, ◌<◌, ◌==◌, ◌+◌, inl, inr, ℕ, Bool, true, false, cond, List, [], ◌∷◌, ◌++◌, Option, Some, refl, sym, ap, subst, ◌∙◌, true≢false, ne_eqb, arith}
 use Rattle.std.specs.Prelude.{◌||◌}
 use Rattle.std.specs.List.{list_any}
@@ -14,7 +14,7 @@ use Rattle.interleavings.proofs.Histories.{caller_of}
 use Rattle.interleavings.proofs.Lists.{has_last}
 use Rattle.rounds.specs.Phase.{Phase, reading_set, takes}
 use Rattle.rounds.specs.Reconciler.{Reconciler}
-use Rattle.rounds.specs.Transcript.{Life}
+use Rattle.rounds.specs.Transcript.{Incarnation}
 use Rattle.rounds.specs.World.{put}
 use Rattle.cluster_runs.proofs.Heard.{HasAsked, asked_call, asked_nothing, asked_reply, heard, heard_call, heard_nothing, heard_reply, next_asked}
 
@@ -27,17 +27,17 @@ put_other f n x i ne = ap (λ b. cond b x (f i)) (ne_eqb i n ne)
 abbrev pub among : List ℕ → ℕ → Bool
 among used n = list_any (λ m. m == n) used
 
-pub record IsKept (reconcilers : ℕ → Reconciler) (count : ℕ) (phases : ℕ → Phase) (crashes callers : ℕ → ℕ) (used : List ℕ) (lives : ℕ → Option Life) (items : List Item) : Type 0 where
-  pub asked : (n : ℕ) (life : Life) → lives n ≡ Some life → HasAsked (reconcilers life.controller) n reading_set items
+pub record IsKept (reconcilers : ℕ → Reconciler) (count : ℕ) (phases : ℕ → Phase) (crashes callers : ℕ → ℕ) (used : List ℕ) (incarnations : ℕ → Option Incarnation) (items : List Item) : Type 0 where
+  pub asked : (n : ℕ) (incarnation : Incarnation) → incarnations n ≡ Some incarnation → HasAsked (reconcilers incarnation.controller) n reading_set items
   pub phases_are : (c : ℕ) → c < count → phases c ≡ heard (reconcilers c) (callers c) reading_set items
-  pub live : (c : ℕ) → c < count → lives (callers c) ≡ Some (record { controller = c; crashes = crashes c })
-  pub born : (n : ℕ) (life : Life) → lives n ≡ Some life → life.crashes ≤ crashes life.controller
-  pub alone : (n m : ℕ) (life : Life) → lives n ≡ Some life → lives m ≡ Some life → n ≡ m
-  pub known : (n : ℕ) (life : Life) → lives n ≡ Some life → among used n ≡ true
+  pub live : (c : ℕ) → c < count → incarnations (callers c) ≡ Some (record { controller = c; crashes = crashes c })
+  pub born : (n : ℕ) (incarnation : Incarnation) → incarnations n ≡ Some incarnation → incarnation.crashes ≤ crashes incarnation.controller
+  pub alone : (n m : ℕ) (incarnation : Incarnation) → incarnations n ≡ Some incarnation → incarnations m ≡ Some incarnation → n ≡ m
+  pub known : (n : ℕ) (incarnation : Incarnation) → incarnations n ≡ Some incarnation → among used n ≡ true
   pub seen : (i : Item) → Has i items → among used (caller_of i) ≡ true
 
-module _ (reconcilers : ℕ → Reconciler) (count : ℕ) (phases : ℕ → Phase) (crashes callers : ℕ → ℕ) (used : List ℕ) (lives : ℕ → Option Life) (items : List Item)
-    (kept : IsKept reconcilers count phases crashes callers used lives items) where
+module _ (reconcilers : ℕ → Reconciler) (count : ℕ) (phases : ℕ → Phase) (crashes callers : ℕ → ℕ) (used : List ℕ) (incarnations : ℕ → Option Incarnation) (items : List Item)
+    (kept : IsKept reconcilers count phases crashes callers used incarnations items) where
   seen_more : (new : Item) → among used (caller_of new) ≡ true → (i : Item) → Has i (items ++ new ∷ []) → among used (caller_of i) ≡ true
   seen_more new is i at = elim (has_last i new items at) [
     | inl there ↦ kept.seen i there
@@ -45,11 +45,11 @@ module _ (reconcilers : ℕ → Reconciler) (count : ℕ) (phases : ℕ → Phas
   ]
 
   pub call_kept : (x n : ℕ) (r : Request) → among used n ≡ true
-      → ((life : Life) → lives n ≡ Some life → r ≡ next_asked (reconcilers life.controller) n items)
-      → IsKept reconcilers count phases crashes callers used lives (items ++ item.Call x n r ∷ [])
+      → ((incarnation : Incarnation) → incarnations n ≡ Some incarnation → r ≡ next_asked (reconcilers incarnation.controller) n items)
+      → IsKept reconcilers count phases crashes callers used incarnations (items ++ item.Call x n r ∷ [])
   call_kept x n r is asked = record {
-    asked = λ m life has. asked_call (reconcilers life.controller) m reading_set items x n r (kept.asked m life has)
-        (λ e. subst (λ i. r ≡ next_asked (reconcilers life.controller) i items) e (asked life (ap lives e ∙ has)));
+    asked = λ m incarnation has. asked_call (reconcilers incarnation.controller) m reading_set items x n r (kept.asked m incarnation has)
+        (λ e. subst (λ i. r ≡ next_asked (reconcilers incarnation.controller) i items) e (asked incarnation (ap incarnations e ∙ has)));
     phases_are = λ c low. kept.phases_are c low ∙ sym (heard_call (reconcilers c) (callers c) reading_set items x n r);
     live = kept.live;
     born = kept.born;
@@ -60,9 +60,9 @@ module _ (reconcilers : ℕ → Reconciler) (count : ℕ) (phases : ℕ → Phas
 
   pub reply_kept : (x n : ℕ) (a : Reply) (now : ℕ → Phase) → among used n ≡ true
       → ((c : ℕ) → c < count → now c ≡ cond (n == callers c) (takes (reconcilers c) (phases c) a) (phases c))
-      → IsKept reconcilers count now crashes callers used lives (items ++ item.Reply x n a ∷ [])
+      → IsKept reconcilers count now crashes callers used incarnations (items ++ item.Reply x n a ∷ [])
   reply_kept x n a now is goes = record {
-    asked = λ m life has. asked_reply (reconcilers life.controller) m reading_set items x n a (kept.asked m life has);
+    asked = λ m incarnation has. asked_reply (reconcilers incarnation.controller) m reading_set items x n a (kept.asked m incarnation has);
     phases_are = λ c low.
         goes c low ∙ ap (λ phase. cond (n == callers c) (takes (reconcilers c) phase a) phase) (kept.phases_are c low)
         ∙ sym (heard_reply (reconcilers c) (callers c) reading_set items x n a);
@@ -80,21 +80,21 @@ module _ (reconcilers : ℕ → Reconciler) (count : ℕ) (phases : ℕ → Phas
       go true at = refl
       go false at = at
 
-  pub used_kept : (n : ℕ) → IsKept reconcilers count phases crashes callers (n ∷ used) lives items
+  pub used_kept : (n : ℕ) → IsKept reconcilers count phases crashes callers (n ∷ used) incarnations items
   used_kept n = record {
     asked = kept.asked;
     phases_are = kept.phases_are;
     live = kept.live;
     born = kept.born;
     alone = kept.alone;
-    known = λ m life has. still_among n m (kept.known m life has);
+    known = λ m incarnation has. still_among n m (kept.known m incarnation has);
     seen = λ i at. still_among n (caller_of i) (kept.seen i at);
   }
 
-  -- ---- another life of a controller, as a caller that was not used
+  -- ---- another incarnation of a controller, as a caller that was not used
   module _ (c n : ℕ) (fresh : among used n ≡ false) where
-    abbrev pub next_life : Life
-    next_life = record { controller = c; crashes = crashes c + 1 }
+    abbrev pub next_incarnation : Incarnation
+    next_incarnation = record { controller = c; crashes = crashes c + 1 }
 
     not_used : (m : ℕ) → among used m ≡ true → m ≢ n
     not_used m is e = true≢false (sym is ∙ ap (among used) e ∙ fresh)
@@ -102,32 +102,32 @@ module _ (reconcilers : ℕ → Reconciler) (count : ℕ) (phases : ℕ → Phas
     silent : (i : Item) → Has i items → caller_of i ≢ n
     silent i at = not_used (caller_of i) (kept.seen i at)
 
-    -- whose life it is, after the crash
-    data Whose (m : ℕ) (life : Life) : Type 0 where
-      new : m ≡ n → life ≡ next_life → Whose m life
-      old : m ≢ n → lives m ≡ Some life → Whose m life
+    -- whose incarnation it is, after the crash
+    data Whose (m : ℕ) (incarnation : Incarnation) : Type 0 where
+      new : m ≡ n → incarnation ≡ next_incarnation → Whose m incarnation
+      old : m ≢ n → incarnations m ≡ Some incarnation → Whose m incarnation
 
-    whose : (m : ℕ) (life : Life) → put lives n (Some next_life) m ≡ Some life → Whose m life
-    whose m life is = go (compare m n)
+    whose : (m : ℕ) (incarnation : Incarnation) → put incarnations n (Some next_incarnation) m ≡ Some incarnation → Whose m incarnation
+    whose m incarnation is = go (compare m n)
       where
-        go : Compared m n → Whose m life
-        go (same e b) = new e (same_Some life next_life (sym is ∙ ap (put lives n (Some next_life)) e ∙ put_same lives n (Some next_life)))
-        go (other ne b) = old ne (sym (put_other lives n (Some next_life) m ne) ∙ is)
+        go : Compared m n → Whose m incarnation
+        go (same e b) = new e (same_Some incarnation next_incarnation (sym is ∙ ap (put incarnations n (Some next_incarnation)) e ∙ put_same incarnations n (Some next_incarnation)))
+        go (other ne b) = old ne (sym (put_other incarnations n (Some next_incarnation) m ne) ∙ is)
 
-    pub crash_kept : IsKept reconcilers count (put phases c reading_set) (put crashes c (crashes c + 1)) (put callers c n) (n ∷ used) (put lives n (Some next_life)) items
+    pub crash_kept : IsKept reconcilers count (put phases c reading_set) (put crashes c (crashes c + 1)) (put callers c n) (n ∷ used) (put incarnations n (Some next_incarnation)) items
     crash_kept = record {
-      asked = λ m life is. asked m life (whose m life is);
+      asked = λ m incarnation is. asked m incarnation (whose m incarnation is);
       phases_are = λ i low. stands i low (compare i c);
-      live = λ i low. lives_on i low (compare i c);
-      born = λ m life is. born m life (whose m life is);
-      alone = λ m k life is also. alone m k life (whose m life is) (whose k life also);
-      known = λ m life is. known m life (whose m life is);
+      live = λ i low. compares_on i low (compare i c);
+      born = λ m incarnation is. born m incarnation (whose m incarnation is);
+      alone = λ m k incarnation is also. alone m k incarnation (whose m incarnation is) (whose k incarnation also);
+      known = λ m incarnation is. known m incarnation (whose m incarnation is);
       seen = λ i at. still_among n (caller_of i) (kept.seen i at);
     }
       where
-        asked : (m : ℕ) (life : Life) → Whose m life → HasAsked (reconcilers life.controller) m reading_set items
-        asked m life (new e f) = asked_nothing (reconcilers life.controller) m reading_set items (λ i at g. silent i at (g ∙ e))
-        asked m life (old ne is) = kept.asked m life is
+        asked : (m : ℕ) (incarnation : Incarnation) → Whose m incarnation → HasAsked (reconcilers incarnation.controller) m reading_set items
+        asked m incarnation (new e f) = asked_nothing (reconcilers incarnation.controller) m reading_set items (λ i at g. silent i at (g ∙ e))
+        asked m incarnation (old ne is) = kept.asked m incarnation is
 
         stands : (i : ℕ) → i < count → Compared i c → put phases c reading_set i ≡ heard (reconcilers i) (put callers c n i) reading_set items
         stands i low (same e b) =
@@ -137,15 +137,15 @@ module _ (reconcilers : ℕ → Reconciler) (count : ℕ) (phases : ℕ → Phas
             ap (λ t. cond t reading_set (phases i)) b ∙ kept.phases_are i low
             ∙ ap (λ t. heard (reconcilers i) (cond t n (callers i)) reading_set items) (sym b)
 
-        lives_on : (i : ℕ) → i < count → Compared i c
-            → put lives n (Some next_life) (put callers c n i) ≡ Some (record { controller = i; crashes = put crashes c (crashes c + 1) i })
-        lives_on i low (same e b) =
-            ap (λ t. put lives n (Some next_life) (cond t n (callers i))) b ∙ put_same lives n (Some next_life)
+        compares_on : (i : ℕ) → i < count → Compared i c
+            → put incarnations n (Some next_incarnation) (put callers c n i) ≡ Some (record { controller = i; crashes = put crashes c (crashes c + 1) i })
+        compares_on i low (same e b) =
+            ap (λ t. put incarnations n (Some next_incarnation) (cond t n (callers i))) b ∙ put_same incarnations n (Some next_incarnation)
             ∙ ap (λ k. Some (record { controller = k; crashes = crashes c + 1 })) (sym e)
             ∙ ap (λ t. Some (record { controller = i; crashes = cond t (crashes c + 1) (crashes i) })) (sym b)
-        lives_on i low (other ne b) =
-            ap (λ t. put lives n (Some next_life) (cond t n (callers i))) b
-            ∙ put_other lives n (Some next_life) (callers i) (not_used (callers i) (kept.known (callers i) _ (kept.live i low)))
+        compares_on i low (other ne b) =
+            ap (λ t. put incarnations n (Some next_incarnation) (cond t n (callers i))) b
+            ∙ put_other incarnations n (Some next_incarnation) (callers i) (not_used (callers i) (kept.known (callers i) _ (kept.live i low)))
             ∙ kept.live i low
             ∙ ap (λ t. Some (record { controller = i; crashes = cond t (crashes c + 1) (crashes i) })) (sym b)
 
@@ -153,27 +153,27 @@ module _ (reconcilers : ℕ → Reconciler) (count : ℕ) (phases : ℕ → Phas
         more i (same e b) = let here = ap crashes e in let now = ap (λ t. cond t (crashes c + 1) (crashes i)) b in omega (arith, here, now)
         more i (other ne b) = let now = ap (λ t. cond t (crashes c + 1) (crashes i)) b in omega (arith, now)
 
-        born : (m : ℕ) (life : Life) → Whose m life → life.crashes ≤ put crashes c (crashes c + 1) life.controller
-        born m life (new e f) =
-            let is : life.crashes ≡ crashes c + 1 = ap (λ (l : Life). l.crashes) f in
-            let now : put crashes c (crashes c + 1) life.controller ≡ crashes c + 1 = ap (λ (l : Life). put crashes c (crashes c + 1) l.controller) f ∙ put_same crashes c (crashes c + 1) in
+        born : (m : ℕ) (incarnation : Incarnation) → Whose m incarnation → incarnation.crashes ≤ put crashes c (crashes c + 1) incarnation.controller
+        born m incarnation (new e f) =
+            let is : incarnation.crashes ≡ crashes c + 1 = ap (λ (l : Incarnation). l.crashes) f in
+            let now : put crashes c (crashes c + 1) incarnation.controller ≡ crashes c + 1 = ap (λ (l : Incarnation). put crashes c (crashes c + 1) l.controller) f ∙ put_same crashes c (crashes c + 1) in
             omega (arith, is, now)
-        born m life (old ne is) = let was = kept.born m life is in let now = more life.controller (compare life.controller c) in omega (arith, was, now)
+        born m incarnation (old ne is) = let was = kept.born m incarnation is in let now = more incarnation.controller (compare incarnation.controller c) in omega (arith, was, now)
 
-        -- no caller had the new life
-        unborn : (m : ℕ) (life : Life) → life ≡ next_life → lives m ≡ Some life → ⊥
-        unborn m life f is =
-            let was = kept.born m life is in
-            let number : life.crashes ≡ crashes c + 1 = ap (λ (l : Life). l.crashes) f in
-            let here : crashes life.controller ≡ crashes c = ap (λ (l : Life). crashes l.controller) f in
+        -- no caller had the new incarnation
+        unborn : (m : ℕ) (incarnation : Incarnation) → incarnation ≡ next_incarnation → incarnations m ≡ Some incarnation → ⊥
+        unborn m incarnation f is =
+            let was = kept.born m incarnation is in
+            let number : incarnation.crashes ≡ crashes c + 1 = ap (λ (l : Incarnation). l.crashes) f in
+            let here : crashes incarnation.controller ≡ crashes c = ap (λ (l : Incarnation). crashes l.controller) f in
             absurd (omega (arith, was, number, here))
 
-        alone : (m k : ℕ) (life : Life) → Whose m life → Whose k life → m ≡ k
-        alone m k life (new e f) (new g h) = e ∙ sym g
-        alone m k life (new e f) (old ne is) = absurd (unborn k life f is)
-        alone m k life (old ne is) (new e f) = absurd (unborn m life f is)
-        alone m k life (old ne is) (old nf also) = kept.alone m k life is also
+        alone : (m k : ℕ) (incarnation : Incarnation) → Whose m incarnation → Whose k incarnation → m ≡ k
+        alone m k incarnation (new e f) (new g h) = e ∙ sym g
+        alone m k incarnation (new e f) (old ne is) = absurd (unborn k incarnation f is)
+        alone m k incarnation (old ne is) (new e f) = absurd (unborn m incarnation f is)
+        alone m k incarnation (old ne is) (old nf also) = kept.alone m k incarnation is also
 
-        known : (m : ℕ) (life : Life) → Whose m life → among (n ∷ used) m ≡ true
-        known m life (new e f) = ap (λ b. b || among used m) (ap (λ i. n == i) e ∙ eq_self n)
-        known m life (old ne is) = still_among n m (kept.known m life is)
+        known : (m : ℕ) (incarnation : Incarnation) → Whose m incarnation → among (n ∷ used) m ≡ true
+        known m incarnation (new e f) = ap (λ b. b || among used m) (ap (λ i. n == i) e ∙ eq_self n)
+        known m incarnation (old ne is) = still_among n m (kept.known m incarnation is)

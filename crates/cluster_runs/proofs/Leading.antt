@@ -26,7 +26,7 @@ Outcome = List ClusterEvent × Option Reply
 
 module _ {X : Type 0} (reconciler : X → Reconciler) (phase : X → Phase) (is_waiting : X → Bool) where
   pub self_leads : (a : Course) (old : Program) (before : List X) → Leads reconciler phase is_waiting a a old old before before
-  self_leads a old before z reconcilers k shows = record { done = []; whole_is = refl; told_is = refl; holds = shows }
+  self_leads a old before z reconcilers k shows = record { done = []; whole_is = refl; delivered_is = refl; holds = shows }
 
   -- on, over the cluster that it has come to
   pub come_on : (claim : Claim) (z : Size) (n : ℕ) (reconcilers : ℕ → Reconciler) (k : Cluster) (a b c : Course) (mid : Program) (between : List X) → length between ≡ n
@@ -39,7 +39,7 @@ module _ {X : Type 0} (reconciler : X → Reconciler) (phase : X → Phase) (is_
         done = one.done ++ two.done;
         whole_is = one.whole_is ∙ ap (λ l. one.done ++ l) two.whole_is ∙ sym (append_assoc one.done two.done (c z n reconcilers (run z n reconcilers middle two.done)).0)
             ∙ ap (λ v. (one.done ++ two.done) ++ (c z n reconcilers v).0) (sym all);
-        told_is = one.told_is ∙ two.told_is ∙ ap (λ v. (c z n reconcilers v).1) (sym all);
+        delivered_is = one.delivered_is ∙ two.delivered_is ∙ ap (λ v. (c z n reconcilers v).1) (sym all);
         holds = subst (λ v. claim z n reconcilers v) (sym all) two.holds;
       }
 
@@ -62,16 +62,16 @@ module _ {X : Type 0} (reconciler : X → Reconciler) (phase : X → Phase) (is_
   comes_as claim a b c old before same comes z reconcilers k shows =
       let one = comes z reconcilers k shows in
       let is = same z reconcilers k shows in
-      record { done = one.done; whole_is = ap (λ (o : Outcome). o.0) is ∙ one.whole_is; told_is = ap (λ (o : Outcome). o.1) is ∙ one.told_is; holds = one.holds }
+      record { done = one.done; whole_is = ap (λ (o : Outcome). o.0) is ∙ one.whole_is; delivered_is = ap (λ (o : Outcome). o.1) is ∙ one.delivered_is; holds = one.holds }
 
   pub ends_as : (a b : Course) (old : Program) (before : List X) → AreSame a b old before → Leads reconciler phase is_waiting a b old old before before
   ends_as a b old before same z reconcilers k shows =
       let is = same z reconcilers k shows in
-      record { done = []; whole_is = ap (λ (o : Outcome). o.0) is; told_is = ap (λ (o : Outcome). o.1) is; holds = shows }
+      record { done = []; whole_is = ap (λ (o : Outcome). o.0) is; delivered_is = ap (λ (o : Outcome). o.1) is; holds = shows }
 
   pub event_leads : (e : ClusterEvent) (next : Course) (old new : Program) (before now : List X) → Happens reconciler phase is_waiting e old new before now
       → Leads reconciler phase is_waiting (event_and e next) next old new before now
-  event_leads e next old new before now happens z reconcilers k shows = record { done = e ∷ []; whole_is = refl; told_is = refl; holds = happens z reconcilers k shows }
+  event_leads e next old new before now happens z reconcilers k shows = record { done = e ∷ []; whole_is = refl; delivered_is = refl; holds = happens z reconcilers k shows }
 
   pub event_halts : (fault : ClusterFault) (e : ClusterEvent) (next : Course) (old : Program) (before now : List X) → Stay reconciler phase before now
       → (fault ≡ TooManyCallers → Exceeds reconciler phase is_waiting e old before) → Halts reconciler phase is_waiting fault (event_and e next) old before now
@@ -80,7 +80,7 @@ module _ {X : Type 0} (reconciler : X → Reconciler) (phase : X → Phase) (is_
     λ z reconcilers k shows. record {
       done = [];
       whole_is = refl;
-      told_is = refl;
+      delivered_is = refl;
       holds = (
         still_stand reconciler phase before now reconcilers k.phases stay (shown_stand reconciler phase is_waiting z reconcilers k old before shows),
         λ is.
@@ -99,10 +99,10 @@ module _ {X : Type 0} (reconciler : X → Reconciler) (phase : X → Phase) (is_
   event_fails (Err fault) e next old before now stay exceeds = event_halts fault e next old before now stay (λ is. exceeds (ap Err is))
 
   -- the same of a reply
-  pub reply_leads : (n : ℕ) (told : Option Reply) (old new : Program) (before now : List X) → Happens reconciler phase is_waiting (Step (event.Reply n)) old new before now
-      → Tells reconciler phase is_waiting n told old before → Leads reconciler phase is_waiting (reply_to n) (ends_with told) old new before now
-  reply_leads n told old new before now happens tells z reconcilers k shows =
-      record { done = Step (event.Reply n) ∷ []; whole_is = refl; told_is = tells z reconcilers k shows; holds = happens z reconcilers k shows }
+  pub reply_leads : (n : ℕ) (delivered : Option Reply) (old new : Program) (before now : List X) → Happens reconciler phase is_waiting (Step (event.Reply n)) old new before now
+      → Tells reconciler phase is_waiting n delivered old before → Leads reconciler phase is_waiting (reply_to n) (ends_with delivered) old new before now
+  reply_leads n delivered old new before now happens tells z reconcilers k shows =
+      record { done = Step (event.Reply n) ∷ []; whole_is = refl; delivered_is = tells z reconcilers k shows; holds = happens z reconcilers k shows }
 
   pub reply_halts : (fault : ClusterFault) (n : ℕ) (old : Program) (before now : List X) → Stay reconciler phase before now
       → (fault ≡ TooManyCallers → Exceeds reconciler phase is_waiting (Step (event.Reply n)) old before) → Halts reconciler phase is_waiting fault (reply_to n) old before now
@@ -111,7 +111,7 @@ module _ {X : Type 0} (reconciler : X → Reconciler) (phase : X → Phase) (is_
     λ z reconcilers k shows. record {
       done = [];
       whole_is = refl;
-      told_is = refl;
+      delivered_is = refl;
       holds = (still_stand reconciler phase before now reconcilers k.phases stay (shown_stand reconciler phase is_waiting z reconcilers k old before shows), λ is. exceeds is z reconcilers k shows);
     },
   )
@@ -124,7 +124,7 @@ module _ {X : Type 0} (reconciler : X → Reconciler) (phase : X → Phase) (is_
     λ z reconcilers k shows. record {
       done = [];
       whole_is = refl;
-      told_is = refl;
+      delivered_is = refl;
       holds = (still_stand reconciler phase before now reconcilers k.phases stay (shown_stand reconciler phase is_waiting z reconcilers k old before shows), λ is. absurd (other is));
     },
   )
@@ -144,8 +144,8 @@ module _ {X : Type 0} (reconciler : X → Reconciler) (phase : X → Phase) (is_
       record {
         done = one.done;
         whole_is = ap (λ l. l ++ (next r z n reconcilers (run z n reconcilers k l)).0) all
-            ∙ ap (λ o. one.done ++ (next o z n reconcilers (run z n reconcilers k one.done)).0) one.told_is;
-        told_is = ap (λ l. (next r z n reconcilers (run z n reconcilers k l)).1) all ∙ ap (λ o. (next o z n reconcilers (run z n reconcilers k one.done)).1) one.told_is;
+            ∙ ap (λ o. one.done ++ (next o z n reconcilers (run z n reconcilers k one.done)).0) one.delivered_is;
+        delivered_is = ap (λ l. (next r z n reconcilers (run z n reconcilers k l)).1) all ∙ ap (λ o. (next o z n reconcilers (run z n reconcilers k one.done)).1) one.delivered_is;
         holds = one.holds;
       }
 
@@ -164,11 +164,11 @@ module _ {X : Type 0} (reconciler : X → Reconciler) (phase : X → Phase) (is_
         record {
           done = one.done;
           whole_is = ap (λ l. l ++ (next r z n reconcilers (run z n reconcilers k l)).0) one.whole_is
-              ∙ ap (λ o. (one.done ++ left.0) ++ (next o z n reconcilers (run z n reconcilers k (one.done ++ left.0))).0) one.told_is
+              ∙ ap (λ o. (one.done ++ left.0) ++ (next o z n reconcilers (run z n reconcilers k (one.done ++ left.0))).0) one.delivered_is
               ∙ append_assoc one.done left.0 (then (run z n reconcilers k (one.done ++ left.0))).0
               ∙ ap (λ w. one.done ++ (left.0 ++ (then w).0)) both;
-          told_is = ap (λ l. (next r z n reconcilers (run z n reconcilers k l)).1) one.whole_is
-              ∙ ap (λ o. (next o z n reconcilers (run z n reconcilers k (one.done ++ left.0))).1) one.told_is
+          delivered_is = ap (λ l. (next r z n reconcilers (run z n reconcilers k l)).1) one.whole_is
+              ∙ ap (λ o. (next o z n reconcilers (run z n reconcilers k (one.done ++ left.0))).1) one.delivered_is
               ∙ ap (λ w. (then w).1) both;
           holds = (
             one.holds.0,

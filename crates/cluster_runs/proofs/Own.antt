@@ -9,7 +9,7 @@ use Rattle.interleavings.specs.declared.trace.Item.{Item}
 use Rattle.interleavings.specs.declared.trace.Item.TheVariants as item
 use Rattle.interleavings.specs.Linearization.{AreCalled, AreOnce, AreRising, Before, Has}
 use Rattle.interleavings.proofs.Basics.{Compared, same, other, compare, Least, atmost, above, least}
-use Rattle.rounds.specs.Transcript.{Exchange, Life, exchanges_of, is_by, of_life, requests_of}
+use Rattle.rounds.specs.Transcript.{Exchange, Incarnation, exchanges_of, is_by, of_incarnation, requests_of}
 use Rattle.cluster_runs.specs.Ordered.{called_at, entries_of, then_entries}
 use Rattle.cluster_runs.proofs.Items.{before_has, called_has, called_there, same_item}
 
@@ -27,14 +27,14 @@ AreUpward (x ∷ xs) = ((y : Placed) → Has y xs → x.0 < y.0) × AreUpward xs
 
 -- ---- what the store takes in the order is a run
 
-pub entries_run : (lives : ℕ → Option Life) (items : List Item) (s : Store) (ps : List ℕ)
-    → exchanges_of (entries_of lives items s ps) ≡ exchanges s (requests_of (entries_of lives items s ps))
-entries_run lives items s [] = refl
-entries_run lives items s (p ∷ ps) = go (called_at items p) (λ t. entries_run lives items t ps)
+pub entries_run : (incarnations : ℕ → Option Incarnation) (items : List Item) (s : Store) (ps : List ℕ)
+    → exchanges_of (entries_of incarnations items s ps) ≡ exchanges s (requests_of (entries_of incarnations items s ps))
+entries_run incarnations items s [] = refl
+entries_run incarnations items s (p ∷ ps) = go (called_at items p) (λ t. entries_run incarnations items t ps)
   where
     go : (call : Option (ℕ × Request))
-        → ((t : Store) → exchanges_of (entries_of lives items t ps) ≡ exchanges t (requests_of (entries_of lives items t ps)))
-        → exchanges_of (then_entries lives s call (λ t. entries_of lives items t ps)) ≡ exchanges s (requests_of (then_entries lives s call (λ t. entries_of lives items t ps)))
+        → ((t : Store) → exchanges_of (entries_of incarnations items t ps) ≡ exchanges t (requests_of (entries_of incarnations items t ps)))
+        → exchanges_of (then_entries incarnations s call (λ t. entries_of incarnations items t ps)) ≡ exchanges s (requests_of (then_entries incarnations s call (λ t. entries_of incarnations items t ps)))
     go None rest = rest s
     go (Some call) rest = ap (λ l. (call.1, (step s call.1).1) ∷ l) (rest (step s call.1).0)
 
@@ -143,20 +143,20 @@ module _ (mine : ℕ → Bool) (items : List Item) where
       go None found rest = rest s
       go (Some call) found rest = first call (mine call.0) refl found (rest (step s call.1).0)
 
--- ---- the exchanges of a life are those of the callers that have it
+-- ---- the exchanges of an incarnation are those of the callers that have it
 
-pub own_life : (life : Life) (lives : ℕ → Option Life) (items : List Item) (s : Store) (ps : List ℕ)
-    → of_life life (entries_of lives items s ps) ≡ exchanges_in (own (λ n. is_by life (lives n)) items s ps)
-own_life life lives items s [] = refl
-own_life life lives items s (p ∷ ps) = go (called_at items p) (λ t. own_life life lives items t ps)
+pub own_incarnation : (incarnation : Incarnation) (incarnations : ℕ → Option Incarnation) (items : List Item) (s : Store) (ps : List ℕ)
+    → of_incarnation incarnation (entries_of incarnations items s ps) ≡ exchanges_in (own (λ n. is_by incarnation (incarnations n)) items s ps)
+own_incarnation incarnation incarnations items s [] = refl
+own_incarnation incarnation incarnations items s (p ∷ ps) = go (called_at items p) (λ t. own_incarnation incarnation incarnations items t ps)
   where
     first : (b : Bool) (x : Placed) (es : List Exchange) (xs : List Placed) → es ≡ exchanges_in xs → cond b (x.1 ∷ es) es ≡ exchanges_in (cond b (x ∷ xs) xs)
     first true x es xs is = ap (λ l. x.1 ∷ l) is
     first false x es xs is = is
 
     go : (call : Option (ℕ × Request))
-        → ((t : Store) → of_life life (entries_of lives items t ps) ≡ exchanges_in (own (λ n. is_by life (lives n)) items t ps))
-        → of_life life (then_entries lives s call (λ t. entries_of lives items t ps))
-        ≡ exchanges_in (then_own (λ n. is_by life (lives n)) items s p call (λ t. own (λ n. is_by life (lives n)) items t ps))
+        → ((t : Store) → of_incarnation incarnation (entries_of incarnations items t ps) ≡ exchanges_in (own (λ n. is_by incarnation (incarnations n)) items t ps))
+        → of_incarnation incarnation (then_entries incarnations s call (λ t. entries_of incarnations items t ps))
+        ≡ exchanges_in (then_own (λ n. is_by incarnation (incarnations n)) items s p call (λ t. own (λ n. is_by incarnation (incarnations n)) items t ps))
     go None rest = rest s
-    go (Some call) rest = first (is_by life (lives call.0)) (p, (call.1, (step s call.1).1)) _ _ (rest (step s call.1).0)
+    go (Some call) rest = first (is_by incarnation (incarnations call.0)) (p, (call.1, (step s call.1).1)) _ _ (rest (step s call.1).0)

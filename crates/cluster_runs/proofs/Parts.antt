@@ -25,27 +25,27 @@ drop_at : {A : Type 0} (xs : List A) (i : ℕ) (x : A) → i < length xs → x �
 drop_at xs i x low is = rw add-one (drop-cons xs i x low ∙ ap (λ y. y ∷ drop (suc i) xs) (sym is))
 
 module _ {X : Type 0} (reconciler : X → Reconciler) (phase : X → Phase) (is_waiting : X → Bool) {A : Type 0} (each : List A → Course) (one : A → Course)
-    (none : each [] ≡ nothing) (some : (x : A) (xs : List A) → each (x ∷ xs) ≡ followed_by (one x) (λ told. each xs)) (whole : Course) (xs : List A) where
+    (none : each [] ≡ nothing) (some : (x : A) (xs : List A) → each (x ∷ xs) ≡ followed_by (one x) (λ delivered. each xs)) (whole : Course) (xs : List A) where
   -- so many parts have been gone
   abbrev pub Walked : ℕ → (old new : Program) → (before now : List X) → Type 0
   Walked i old new before now = Leads reconciler phase is_waiting whole (each (drop i xs)) old new before now
 
   walked_at : (i : ℕ) (x : A) (old mid : Program) (before between : List X) → i < length xs → x ≡ get_or xs i x → Walked i old mid before between
-      → Leads reconciler phase is_waiting whole (followed_by (one x) (λ told. each (drop (i + 1) xs))) old mid before between
+      → Leads reconciler phase is_waiting whole (followed_by (one x) (λ delivered. each (drop (i + 1) xs))) old mid before between
   walked_at i x old mid before between low is walked =
       subst (λ c. Leads reconciler phase is_waiting whole c old mid before between) (ap each (drop_at xs i x low is) ∙ some x (drop (i + 1) xs)) walked
 
-  pub walked_more : (i : ℕ) (x : A) (told : Option Reply) (old mid new : Program) (before between now : List X) → i < length xs → x ≡ get_or xs i x → length between ≡ length before
-      → Walked i old mid before between → Leads reconciler phase is_waiting (one x) (ends_with told) mid new between now → Walked (i + 1) old new before now
-  walked_more i x told old mid new before between now low is same walked leads =
-      leads_on reconciler phase is_waiting whole (followed_by (one x) (λ told. each (drop (i + 1) xs))) (each (drop (i + 1) xs)) old mid new before between now same
-      (walked_at i x old mid before between low is walked) (first_leads reconciler phase is_waiting (one x) told (λ told. each (drop (i + 1) xs)) mid new between now leads)
+  pub walked_more : (i : ℕ) (x : A) (delivered : Option Reply) (old mid new : Program) (before between now : List X) → i < length xs → x ≡ get_or xs i x → length between ≡ length before
+      → Walked i old mid before between → Leads reconciler phase is_waiting (one x) (ends_with delivered) mid new between now → Walked (i + 1) old new before now
+  walked_more i x delivered old mid new before between now low is same walked leads =
+      leads_on reconciler phase is_waiting whole (followed_by (one x) (λ delivered. each (drop (i + 1) xs))) (each (drop (i + 1) xs)) old mid new before between now same
+      (walked_at i x old mid before between low is walked) (first_leads reconciler phase is_waiting (one x) delivered (λ delivered. each (drop (i + 1) xs)) mid new between now leads)
 
   pub walked_halts : (i : ℕ) (x : A) (fault : ClusterFault) (old mid : Program) (before between now : List X) → i < length xs → x ≡ get_or xs i x → length between ≡ length before
       → Walked i old mid before between → Halts reconciler phase is_waiting fault (one x) mid between now → Halts reconciler phase is_waiting fault whole old before now
   walked_halts i x fault old mid before between now low is same walked halts =
-      halts_on reconciler phase is_waiting fault whole (followed_by (one x) (λ told. each (drop (i + 1) xs))) old mid before between now same
-      (walked_at i x old mid before between low is walked) (first_halts reconciler phase is_waiting fault (one x) (λ told. each (drop (i + 1) xs)) mid between now halts)
+      halts_on reconciler phase is_waiting fault whole (followed_by (one x) (λ delivered. each (drop (i + 1) xs))) old mid before between now same
+      (walked_at i x old mid before between low is walked) (first_halts reconciler phase is_waiting fault (one x) (λ delivered. each (drop (i + 1) xs)) mid between now halts)
 
   pub walked_all : (i : ℕ) (old new : Program) (before now : List X) → length xs ≤ i → Walked i old new before now → Leads reconciler phase is_waiting whole nothing old new before now
   walked_all i old new before now past walked = subst (λ c. Leads reconciler phase is_waiting whole c old new before now) (ap each (drop_all i xs past) ∙ none) walked
@@ -56,7 +56,7 @@ module _ {X : Type 0} (reconciler : X → Reconciler) (phase : X → Phase) (is_
 abbrev pub then_round : (requests controller : ℕ) → Course
 then_round requests c = λ z count reconcilers k. if is_within z reconcilers k c then round_in requests c z count reconcilers k else ([], None)
 
-pub round_on : (requests c : ℕ) → round_in (suc requests) c ≡ followed_by (asked c) (λ told. then_round requests c)
+pub round_on : (requests c : ℕ) → round_in (suc requests) c ≡ followed_by (asked c) (λ delivered. then_round requests c)
 unfolding round_in
 round_on requests c = refl
 
@@ -74,11 +74,11 @@ module _ {X : Type 0} (reconciler : X → Reconciler) (phase : X → Phase) (is_
   peek_leads requests c true program before now peeks z reconcilers k shows =
       let peek = peeks z reconcilers k shows in
       let is = ap (λ b. cond b (round_in requests c z (length before) reconcilers k) ([], None)) peek.0 in
-      record { done = []; whole_is = ap (λ (o : List _ × Option Reply). o.0) is; told_is = ap (λ (o : List _ × Option Reply). o.1) is; holds = peek.1 }
+      record { done = []; whole_is = ap (λ (o : List _ × Option Reply). o.0) is; delivered_is = ap (λ (o : List _ × Option Reply). o.1) is; holds = peek.1 }
   peek_leads requests c false program before now peeks z reconcilers k shows =
       let peek = peeks z reconcilers k shows in
       let is = ap (λ b. cond b (round_in requests c z (length before) reconcilers k) ([], None)) peek.0 in
-      record { done = []; whole_is = ap (λ (o : List _ × Option Reply). o.0) is; told_is = ap (λ (o : List _ × Option Reply). o.1) is; holds = peek.1 }
+      record { done = []; whole_is = ap (λ (o : List _ × Option Reply). o.0) is; delivered_is = ap (λ (o : List _ × Option Reply). o.1) is; holds = peek.1 }
 
 -- ---- requests
 
@@ -111,7 +111,7 @@ module _ {X : Type 0} (reconciler : X → Reconciler) (phase : X → Phase) (is_
   Rounded i old new before now = Leads reconciler phase is_waiting whole (rounds_of (range_with_len i (n - i))) old new before now
 
   rounded_at : (i : ℕ) (old mid : Program) (before between : List X) → i < n → Rounded i old mid before between
-      → Leads reconciler phase is_waiting whole (followed_by (round i) (λ told. rounds_of (range_with_len (i + 1) (n - (i + 1))))) old mid before between
+      → Leads reconciler phase is_waiting whole (followed_by (round i) (λ delivered. rounds_of (range_with_len (i + 1) (n - (i + 1))))) old mid before between
   rounded_at i old mid before between low rounded = subst (λ l. Leads reconciler phase is_waiting whole (rounds_of l) old mid before between) (rounds_at n i low) rounded
 
   pub rounded_none : (old : Program) (before : List X) → whole ≡ rounds_of (range_with_len 0 n) → Rounded 0 old old before before
@@ -124,15 +124,15 @@ module _ {X : Type 0} (reconciler : X → Reconciler) (phase : X → Phase) (is_
       → Leads reconciler phase is_waiting (round i) nothing mid new between now → Rounded (i + 1) old new before now
   rounded_more i old mid new before between now low same rounded leads =
       let rest = rounds_of (range_with_len (i + 1) (n - (i + 1))) in
-      leads_on reconciler phase is_waiting whole (followed_by (round i) (λ told. rest)) rest old mid new before between now same
-      (rounded_at i old mid before between low rounded) (first_leads reconciler phase is_waiting (round i) None (λ told. rest) mid new between now leads)
+      leads_on reconciler phase is_waiting whole (followed_by (round i) (λ delivered. rest)) rest old mid new before between now same
+      (rounded_at i old mid before between low rounded) (first_leads reconciler phase is_waiting (round i) None (λ delivered. rest) mid new between now leads)
 
   pub rounded_halts : (i : ℕ) (fault : ClusterFault) (old mid : Program) (before between now : List X) → i < n → length between ≡ length before → Rounded i old mid before between
       → Halts reconciler phase is_waiting fault (round i) mid between now → Halts reconciler phase is_waiting fault whole old before now
   rounded_halts i fault old mid before between now low same rounded halts =
       let rest = rounds_of (range_with_len (i + 1) (n - (i + 1))) in
-      halts_on reconciler phase is_waiting fault whole (followed_by (round i) (λ told. rest)) old mid before between now same
-      (rounded_at i old mid before between low rounded) (first_halts reconciler phase is_waiting fault (round i) (λ told. rest) mid between now halts)
+      halts_on reconciler phase is_waiting fault whole (followed_by (round i) (λ delivered. rest)) old mid before between now same
+      (rounded_at i old mid before between low rounded) (first_halts reconciler phase is_waiting fault (round i) (λ delivered. rest) mid between now halts)
 
   pub rounded_all : (i : ℕ) (old new : Program) (before now : List X) → n ≤ i → Rounded i old new before now → Leads reconciler phase is_waiting whole nothing old new before now
   rounded_all i old new before now past rounded =
@@ -140,7 +140,7 @@ module _ {X : Type 0} (reconciler : X → Reconciler) (phase : X → Phase) (is_
 
 -- ---- settle
 
-pub settles_on : (rounds n : ℕ) (namespaces : List (List ℕ)) → settled_as (suc rounds) n namespaces ≡ followed_by (settled_once n namespaces) (λ told. settled_as rounds n namespaces)
+pub settles_on : (rounds n : ℕ) (namespaces : List (List ℕ)) → settled_as (suc rounds) n namespaces ≡ followed_by (settled_once n namespaces) (λ delivered. settled_as rounds n namespaces)
 unfolding settled_as
 settles_on rounds n namespaces = refl
 

@@ -18,23 +18,23 @@ use Rattle.interleavings.specs.World as world
 use Rattle.interleavings.proofs.Basics.{Compared, Least, above, atmost, compare, eq_self, least, other, same}
 use Rattle.history.specs.After.{IsAfter, IsReplyTo}
 use Rattle.history.specs.Named.{callers, named}
-use Rattle.history.specs.Replayed.{named_by, told_at}
+use Rattle.history.specs.Replayed.{named_by, delivered_at}
 use Rattle.history.specs.declared.replaying.Replay.{Replay}
 use Rattle.history.proofs.Reached.{after_more}
 use Rattle.rounds.specs.Phase.{Phase, asks, reading_set, takes}
 use Rattle.rounds.specs.Reconciler.{Reconciler}
-use Rattle.rounds.specs.Transcript.{Life}
+use Rattle.rounds.specs.Transcript.{Incarnation}
 use Rattle.rounds.specs.World.{AreMadeOf, StandAt, put}
 use Rattle.cluster_runs.specs.declared.event.ClusterEvent.{ClusterEvent}
 use Rattle.cluster_runs.specs.declared.event.ClusterEvent.TheVariants.{Next, Outside, Step, Crash}
-use Rattle.cluster_runs.specs.Cluster.{Cluster, controller_at, controller_by, hand, hand_if, happens, hears, is_idle, is_nobody, is_used, lowest_unused, reply_in, run, start, told, with_crash, with_next, with_outside, with_step, with_used}
+use Rattle.cluster_runs.specs.Cluster.{Cluster, controller_at, controller_by, hand, hand_if, happens, hears, is_idle, is_nobody, is_used, lowest_unused, reply_in, run, start, delivered, with_crash, with_next, with_outside, with_step, with_used}
 use Rattle.cluster_runs.specs.Callers.{AreCallers, owner}
 use Rattle.cluster_runs.specs.Shown.{Becomes, Follows, Hands, Happens, HasTaken, Hears, HoldsEvents, IsCluster, Shows, Stands, Stay}
 use Rattle.cluster_runs.specs.declared.cluster.Cluster.{Cluster as Program}
 use Rattle.cluster_runs.proofs.Kept.{among, put_other, put_same}
 use Rattle.cluster_runs.proofs.Calling.{among_first, among_later, not_among}
 use Rattle.cluster_runs.proofs.Naming.{all_more, all_named, few_callers}
-use Rattle.cluster_runs.proofs.Standing.{goes_on, idle_stays, others_stay, told_was_busy}
+use Rattle.cluster_runs.proofs.Standing.{goes_on, idle_stays, others_stay, delivered_was_busy}
 
 -- ---- the events that were taken
 
@@ -141,9 +141,9 @@ module _ (z : Size) (count : ℕ) (k : Cluster) (n : ℕ) (r : Request) where
   )
 
   pub outside_more : (old middle new : Program) → IsCluster z count k old → middle.events.items ≡ old.events.items → middle.replay ≡ old.replay
-      → AreCallers count (with_used k n) middle.callers → k.lives n ≡ None → Hands (event.Call n r) middle new → IsCluster z count (with_outside k n r (k.lives n)) new
+      → AreCallers count (with_used k n) middle.callers → k.incarnations n ≡ None → Hands (event.Call n r) middle new → IsCluster z count (with_outside k n r (k.incarnations n)) new
   outside_more old middle new is alike was are nobody hands =
-      subst (λ life. IsCluster z count (with_outside k n r life) new) (sym nobody)
+      subst (λ incarnation. IsCluster z count (with_outside k n r incarnation) new) (sym nobody)
       (cluster_more z count (with_used k n) middle new (event.Call n r) (admitted_cluster old middle is alike was are) hands (used_now (is_used k n) refl))
 
   pub outside_few : (old middle : Program) → IsCluster z count k old → middle.events.items ≡ old.events.items → middle.replay ≡ old.replay
@@ -158,16 +158,16 @@ module _ (z : Size) (count : ℕ) (k : Cluster) (n : ℕ) (r : Request) where
       by true = refl
       by false = refl
 
-  pub outside_absent : (program : Program) → is_some (k.lives n) ≡ true → IsCluster z count k program → IsCluster z count (with_outside k n r (k.lives n)) program
-  outside_absent program there is = by (k.lives n) there
+  pub outside_absent : (program : Program) → is_some (k.incarnations n) ≡ true → IsCluster z count k program → IsCluster z count (with_outside k n r (k.incarnations n)) program
+  outside_absent program there is = by (k.incarnations n) there
     where
-      by : (life : Option Life) → is_some life ≡ true → IsCluster z count (with_outside k n r life) program
+      by : (incarnation : Option Incarnation) → is_some incarnation ≡ true → IsCluster z count (with_outside k n r incarnation) program
       by None there = absurd (false≢true there)
-      by (Some life) there = is
+      by (Some incarnation) there = is
 
-pub no_life : (life : Option Life) → is_some life ≡ false → life ≡ None
-no_life None is = refl
-no_life (Some life) is = absurd (false≢true (sym is))
+pub no_incarnation : (incarnation : Option Incarnation) → is_some incarnation ≡ false → incarnation ≡ None
+no_incarnation None is = refl
+no_incarnation (Some incarnation) is = absurd (false≢true (sym is))
 
 -- ---- the controllers
 
@@ -222,14 +222,14 @@ at_err (Err e) P holds = holds
 
 -- two controllers are two callers
 apart_by : (count : ℕ) (k : Cluster) (program : Program) → AreCallers count k program.callers → (c d : ℕ) → c < count → d < count → d ≢ c → k.callers d ≢ k.callers c
-apart_by count k program are c d low less apart e = apart (same_Some d c (sym (are.own d less) ∙ ap (owner k.lives) e ∙ are.own c low))
+apart_by count k program are c d low less apart e = apart (same_Some d c (sym (are.own d less) ∙ ap (owner k.incarnations) e ∙ are.own c low))
 
 is_used_by : (count : ℕ) (k : Cluster) (program : Program) → AreCallers count k program.callers → (c : ℕ) → c < count → is_used k (k.callers c) ≡ true
 is_used_by count k program are c low = by (is_used k (k.callers c)) refl
   where
     by : (b : Bool) → is_used k (k.callers c) ≡ b → is_used k (k.callers c) ≡ true
     by true is = is
-    by false is = absurd (none-some c (sym (ap (option_map (λ (l : Life). l.controller)) (are.unborn (k.callers c) is)) ∙ are.own c low))
+    by false is = absurd (none-some c (sym (ap (option_map (λ (l : Incarnation). l.controller)) (are.unborn (k.callers c) is)) ∙ are.own c low))
 
 module _ {X : Type 0} (reconciler : X → Reconciler) (phase : X → Phase) (is_waiting : X → Bool) where
   abbrev Standing : Size → List Event → (ℕ → Reconciler) → (ℕ → Phase) → (ℕ → ℕ) → List X → Type 0
@@ -395,24 +395,24 @@ module _ {X : Type 0} (reconciler : X → Reconciler) (phase : X → Phase) (is_
 
   -- ---- somebody else
 
-  -- nobody is the owner of a caller that no life has
+  -- nobody is the owner of a caller that no incarnation has
   pub outside_shows : (z : Size) (reconcilers : ℕ → Reconciler) (k : Cluster) (old new : Program) (xs : List X) (n : ℕ) (r : Request) → Shown z reconcilers k old xs
-      → IsCluster z (length xs) (with_outside k n r (k.lives n)) new → Shown z reconcilers (with_outside k n r (k.lives n)) new xs
-  outside_shows z reconcilers k old new xs n r shows is = (is, by (k.lives n) refl)
+      → IsCluster z (length xs) (with_outside k n r (k.incarnations n)) new → Shown z reconcilers (with_outside k n r (k.incarnations n)) new xs
+  outside_shows z reconcilers k old new xs n r shows is = (is, by (k.incarnations n) refl)
     where
-      apart : k.lives n ≡ None → (c : ℕ) → c < length xs → k.callers c ≢ n
-      apart nobody c low e = none-some c (sym (ap (option_map (λ (l : Life). l.controller)) (ap k.lives e ∙ nobody)) ∙ shows.0.1.own c low)
+      apart : k.incarnations n ≡ None → (c : ℕ) → c < length xs → k.callers c ≢ n
+      apart nobody c low e = none-some c (sym (ap (option_map (λ (l : Incarnation). l.controller)) (ap k.incarnations e ∙ nobody)) ∙ shows.0.1.own c low)
 
-      with : (b : Bool) → k.lives n ≡ None → Standing z ((cond b k (record k { used = n ∷ k.used })).events ++ event.Call n r ∷ []) reconcilers
+      with : (b : Bool) → k.incarnations n ≡ None → Standing z ((cond b k (record k { used = n ∷ k.used })).events ++ event.Call n r ∷ []) reconcilers
           (cond b k (record k { used = n ∷ k.used })).phases (cond b k (record k { used = n ∷ k.used })).callers xs
       with true nobody = standing_on z k.events (event.Call n r) reconcilers k.phases k.callers xs
           (λ c low idle. others_stay z (after z opening k.events) (event.Call n r) (k.callers c) (λ f. apart nobody c low (sym (same_Some _ _ f))) ∙ idle) shows.1
       with false nobody = standing_on z k.events (event.Call n r) reconcilers k.phases k.callers xs
           (λ c low idle. others_stay z (after z opening k.events) (event.Call n r) (k.callers c) (λ f. apart nobody c low (sym (same_Some _ _ f))) ∙ idle) shows.1
 
-      by : (life : Option Life) → k.lives n ≡ life → Standing z (with_outside k n r life).events reconcilers (with_outside k n r life).phases (with_outside k n r life).callers xs
+      by : (incarnation : Option Incarnation) → k.incarnations n ≡ incarnation → Standing z (with_outside k n r incarnation).events reconcilers (with_outside k n r incarnation).phases (with_outside k n r incarnation).callers xs
       by None nobody = with (is_used k n) nobody
-      by (Some life) somebody = shows.1
+      by (Some incarnation) somebody = shows.1
 
   -- ---- a step of the store
 
@@ -448,36 +448,36 @@ module _ {X : Type 0} (reconciler : X → Reconciler) (phase : X → Phase) (is_
       (λ z count k are is c low idle. others_stay z (after z opening k.events) (event.Crash n) (k.callers c) (λ f. owned count k are is c low (same_Some _ _ f)) ∙ idle) becomes
     where
       owned : (count : ℕ) (k : Cluster) → AreCallers count k old.callers → (is_used k n && is_nobody (controller_at k n)) ≡ true → (c : ℕ) → c < count → n ≡ k.callers c → ⊥
-      owned count k are is c low e = by (k.lives n) refl (is_used k n) is
+      owned count k are is c low e = by (k.incarnations n) refl (is_used k n) is
         where
-          by : (life : Option Life) → k.lives n ≡ life → (b : Bool) → (b && is_nobody (controller_by k n life)) ≡ true → ⊥
-          by life has false is = false≢true is
-          by None has true is = none-some c (sym (ap (option_map (λ (l : Life). l.controller)) (ap k.lives (sym e) ∙ has)) ∙ are.own c low)
-          by (Some life) has true is = false≢true (sym (ap (λ b. is_nobody (cond b (Some life.controller) None)) here) ∙ is)
+          by : (incarnation : Option Incarnation) → k.incarnations n ≡ incarnation → (b : Bool) → (b && is_nobody (controller_by k n incarnation)) ≡ true → ⊥
+          by incarnation has false is = false≢true is
+          by None has true is = none-some c (sym (ap (option_map (λ (l : Incarnation). l.controller)) (ap k.incarnations (sym e) ∙ has)) ∙ are.own c low)
+          by (Some incarnation) has true is = false≢true (sym (ap (λ b. is_nobody (cond b (Some incarnation.controller) None)) here) ∙ is)
             where
-              mine : life.controller ≡ c
-              mine = same_Some _ _ (sym (ap (option_map (λ (l : Life). l.controller)) (ap k.lives (sym e) ∙ has)) ∙ are.own c low)
+              mine : incarnation.controller ≡ c
+              mine = same_Some _ _ (sym (ap (option_map (λ (l : Incarnation). l.controller)) (ap k.incarnations (sym e) ∙ has)) ∙ are.own c low)
 
-              here : (k.callers life.controller == n) ≡ true
+              here : (k.callers incarnation.controller == n) ≡ true
               here = ap (λ i. k.callers i == n) mine ∙ ap (λ i. k.callers c == i) e ∙ eq_self (k.callers c)
 
   -- ---- a reply
 
-  pub told_is : (z : Size) (events : List Event) (n : ℕ) (reply : Option Reply) → IsReplyTo z events (event.Reply n) reply → told z events (event.Reply n) ≡ reply
-  unfolding told
-  told_is z events n None is = ap (λ l. reply_in (drop (length (trace z events)) l)) is ∙ ap reply_in (drop-append_seam (trace z events) [])
-  told_is z events n (Some reply) is = ap (λ l. reply_in (drop (length (trace z events)) l)) is ∙ ap reply_in (drop-append_seam (trace z events) (told_at (length events) n (Some reply)))
+  pub delivered_is : (z : Size) (events : List Event) (n : ℕ) (reply : Option Reply) → IsReplyTo z events (event.Reply n) reply → delivered z events (event.Reply n) ≡ reply
+  unfolding delivered
+  delivered_is z events n None is = ap (λ l. reply_in (drop (length (trace z events)) l)) is ∙ ap reply_in (drop-append_seam (trace z events) [])
+  delivered_is z events n (Some reply) is = ap (λ l. reply_in (drop (length (trace z events)) l)) is ∙ ap reply_in (drop-append_seam (trace z events) (delivered_at (length events) n (Some reply)))
 
   caller_of : (k : Cluster) (n c : ℕ) → controller_at k n ≡ Some c → k.callers c ≡ n
-  caller_of k n c is = by (k.lives n) is
+  caller_of k n c is = by (k.incarnations n) is
     where
-      by : (life : Option Life) → controller_by k n life ≡ Some c → k.callers c ≡ n
+      by : (incarnation : Option Incarnation) → controller_by k n incarnation ≡ Some c → k.callers c ≡ n
       by None is = absurd (none-some c is)
-      by (Some life) is = at (compare (k.callers life.controller) n)
+      by (Some incarnation) is = at (compare (k.callers incarnation.controller) n)
         where
-          at : Compared (k.callers life.controller) n → k.callers c ≡ n
-          at (same e b) = ap k.callers (sym (same_Some _ _ (sym (ap (λ b. cond b (Some life.controller) None) b) ∙ is))) ∙ e
-          at (other ne b) = absurd (none-some c (sym (ap (λ b. cond b (Some life.controller) None) b) ∙ is))
+          at : Compared (k.callers incarnation.controller) n → k.callers c ≡ n
+          at (same e b) = ap k.callers (sym (same_Some _ _ (sym (ap (λ b. cond b (Some incarnation.controller) None) b) ∙ is))) ∙ e
+          at (other ne b) = absurd (none-some c (sym (ap (λ b. cond b (Some incarnation.controller) None) b) ∙ is))
 
   unheard : (z : Size) (reconcilers : ℕ → Reconciler) (k : Cluster) (old new : Program) (xs ys : List X) (n : ℕ) → is_used k n ≡ true → Hands (event.Reply n) old new → ys ≡ xs
       → Shown z reconcilers k old xs → Shown z reconcilers (hand k (event.Reply n)) new ys
@@ -491,9 +491,9 @@ module _ {X : Type 0} (reconciler : X → Reconciler) (phase : X → Phase) (is_
   heard_shows : (z : Size) (reconcilers : ℕ → Reconciler) (k : Cluster) (old new : Program) (xs ys : List X) (n : ℕ) (who : Option ℕ) (reply : Option Reply)
       → controller_at k n ≡ who → is_used k n ≡ true → IsReplyTo z k.events (event.Reply n) reply → Hands (event.Reply n) old new → Hears reconciler phase is_waiting xs ys who reply
       → Shown z reconcilers k old xs → Shown z reconcilers (hand (hears reconcilers k who reply) (event.Reply n)) new ys
-  heard_shows z reconcilers k old new xs ys n (Some c) (Some reply) at used told hands heard shows =
+  heard_shows z reconcilers k old new xs ys n (Some c) (Some reply) at used delivered hands heard shows =
       let next = event.Reply n in
-      let busy = told_was_busy z k.events n reply told in
+      let busy = delivered_was_busy z k.events n reply delivered in
       let mine = caller_of k n c at in
       let stood = stands_in z reconcilers k old xs c heard.old heard.there shows in
       let p = takes (reconcilers c) (k.phases c) reply in
@@ -514,16 +514,16 @@ module _ {X : Type 0} (reconciler : X → Reconciler) (phase : X → Phase) (is_
             (λ d less apart v stands. stands_as z (k.events ++ next ∷ []) (reconcilers d) (k.phases d) (put k.phases c p d) (k.callers d) (k.callers d) v (put_other k.phases c p d apart) refl
             (stands_on z k.events next (reconcilers d) (k.phases d) (k.callers d) v (λ idle. idle_stays z (after z opening k.events) next (k.callers d) refl idle) stands)) shows.1),
       )
-  heard_shows z reconcilers k old new xs ys n (Some c) None at used told hands heard shows = unheard z reconcilers k old new xs ys n used hands heard shows
-  heard_shows z reconcilers k old new xs ys n None reply at used told hands heard shows = unheard z reconcilers k old new xs ys n used hands heard shows
+  heard_shows z reconcilers k old new xs ys n (Some c) None at used delivered hands heard shows = unheard z reconcilers k old new xs ys n used hands heard shows
+  heard_shows z reconcilers k old new xs ys n None reply at used delivered hands heard shows = unheard z reconcilers k old new xs ys n used hands heard shows
 
   pub replied_shows : (z : Size) (reconcilers : ℕ → Reconciler) (k : Cluster) (old new : Program) (xs ys : List X) (n : ℕ) (who : Option ℕ) (reply : Option Reply)
       → who ≡ controller_at k n → is_used k n ≡ true → IsReplyTo z k.events (event.Reply n) reply → Hands (event.Reply n) old new → Hears reconciler phase is_waiting xs ys who reply
       → Shown z reconcilers k old xs → Shown z reconcilers (with_step z reconcilers k (event.Reply n)) new ys
   replied_shows z reconcilers k old new xs ys n who reply at used answer hands heard shows =
       subst (λ v. Shown z reconcilers v new ys) (sym (
-      ap (λ b. cond b (hand (hears reconcilers k (controller_at k n) (told z k.events (event.Reply n))) (event.Reply n)) k) used
-      ∙ ap (λ l. hand (hears reconcilers k (controller_at k n) l) (event.Reply n)) (told_is z k.events n reply answer)
+      ap (λ b. cond b (hand (hears reconcilers k (controller_at k n) (delivered z k.events (event.Reply n))) (event.Reply n)) k) used
+      ∙ ap (λ l. hand (hears reconcilers k (controller_at k n) l) (event.Reply n)) (delivered_is z k.events n reply answer)
       ∙ ap (λ o. hand (hears reconcilers k o reply) (event.Reply n)) (sym at)))
       (heard_shows z reconcilers k old new xs ys n who reply (sym at) used answer hands heard shows)
 
@@ -592,13 +592,13 @@ step_grows z reconcilers k (event.ReadAt n) = hand_grows (is_used k n) k (event.
 step_grows z reconcilers k (event.Compact n) = hand_grows (is_used k n) k (event.Compact n)
 step_grows z reconcilers k (event.Part n) = hand_grows (is_used k n) k (event.Part n)
 step_grows z reconcilers k (event.Reply n) =
-    let heard = hears reconcilers k (controller_at k n) (told z k.events (event.Reply n)) in
-    let kept = ap length (hears_same reconcilers k (controller_at k n) (told z k.events (event.Reply n))) in
+    let heard = hears reconcilers k (controller_at k n) (delivered z k.events (event.Reply n)) in
+    let kept = ap length (hears_same reconcilers k (controller_at k n) (delivered z k.events (event.Reply n))) in
     used_if (is_used k n) k (hand heard (event.Reply n)) (omega (arith, kept))
 step_grows z reconcilers k (event.Crash n) = hand_grows (is_used k n && is_nobody (controller_at k n)) k (event.Crash n)
 
-outside_grows : (k : Cluster) (n : ℕ) (r : Request) (life : Option Life) → length k.used ≤ length (with_outside k n r life).used
-outside_grows k n r (Some life) = omega arith
+outside_grows : (k : Cluster) (n : ℕ) (r : Request) (incarnation : Option Incarnation) → length k.used ≤ length (with_outside k n r incarnation).used
+outside_grows k n r (Some incarnation) = omega arith
 outside_grows k n r None = by (is_used k n)
   where
     by : (b : Bool) → length k.used ≤ length (cond b k (record k { used = n ∷ k.used })).used
@@ -612,7 +612,7 @@ next_grows false k e = omega arith
 happens_grows : (z : Size) (count : ℕ) (reconcilers : ℕ → Reconciler) (k : Cluster) (e : ClusterEvent) → length k.used ≤ length (happens z count reconcilers k e).used
 happens_grows z count reconcilers k (Next c) =
     used_if (nat_lt c count) k (with_next z reconcilers k c) (next_grows (is_idle ((after z opening k.events).phase (k.callers c))) k (event.Call (k.callers c) (asks (reconcilers c) (k.phases c))))
-happens_grows z count reconcilers k (Outside n r) = outside_grows k n r (k.lives n)
+happens_grows z count reconcilers k (Outside n r) = outside_grows k n r (k.incarnations n)
 happens_grows z count reconcilers k (Step e) = step_grows z reconcilers k e
 happens_grows z count reconcilers k (Crash c) = used_if (nat_lt c count) k (with_crash k c) (omega arith)
 

@@ -16,11 +16,11 @@ use Rattle.interleavings.specs.declared.event.Event.TheVariants.{Call, Check, Re
 use Rattle.interleavings.specs.declared.event.Event.TheVariants as event
 use Rattle.interleavings.specs.declared.trace.Item.{Item}
 use Rattle.interleavings.specs.Log.{Writing, value}
-use Rattle.interleavings.specs.Step.{begun_unless, called, checked, checked_by, checked_in, compacted, compacted_by, crashed, drawn_by, floored, given, given_if, judged, only, part, published, raised, read, read_at, read_at_by, read_by, replied, reserved, step}
+use Rattle.interleavings.specs.Step.{begun_unless, called, checked, checked_by, checked_in, compacted, compacted_by, crashed, drawn_by, floored, with_reply, with_reply_if, judged, only, part, published, raised, read, read_at, read_at_by, read_by, replied, reserved, step}
 use Rattle.interleavings.specs.Trace.{after, trace}
 use Rattle.interleavings.specs.World.{Phase, Idle, Called, Holding, Drawn, Waiting, Reading, Gone, Size, World, changed, opening, shard}
 use Rattle.interleavings.proofs.Basics.{Compared, changed-other, changed-same, compare, other, same}
-use Rattle.history.specs.Replayed.{named_by, told_at}
+use Rattle.history.specs.Replayed.{named_by, delivered_at}
 use Rattle.history.proofs.Reached.{after_more}
 
 -- ---- another caller's event
@@ -106,7 +106,7 @@ module _ (z : Size) (w : World) (c d : ℕ) (apart : d ≢ c) where
   by_reply : (ph : Phase) → Stays (replied z w c ph)
   by_reply (Waiting saw place reply) = gives (nat_le saw w.frontier)
     where
-      gives : (b : Bool) → Stays (given_if b w c reply)
+      gives : (b : Bool) → Stays (with_reply_if b w c reply)
       gives true = turns _
       gives false = refl
   by_reply (Reading n p r [] found) = turns _
@@ -165,16 +165,16 @@ idle_stays z w (Part c) d on idle = idle_by w c d (part z w c) refl (λ apart. b
 idle_stays z w (event.Reply c) d on idle = idle_by w c d (replied z w c) refl (λ apart. by_reply z w c d apart (w.phase c)) idle
 idle_stays z w (Crash c) d on idle = absurd cc
 
--- ---- a caller that is told its reply
+-- ---- a caller that gets its reply
 
 -- a Reply changes nothing, or gives a caller that was not idle its reply
 abbrev Gives : Size → World → ℕ → Phase → Type 0
-Gives z w c ph = (replied z w c ph ≡ w) ⊎ ((ph ≢ Idle) × ((reply : Reply) × (replied z w c ph ≡ given w c reply)))
+Gives z w c ph = (replied z w c ph ≡ w) ⊎ ((ph ≢ Idle) × ((reply : Reply) × (replied z w c ph ≡ with_reply w c reply)))
 
 gives : (z : Size) (w : World) (c : ℕ) (ph : Phase) → Gives z w c ph
 gives z w c (Waiting saw place reply) = by (nat_le saw w.frontier)
   where
-    by : (b : Bool) → (given_if b w c reply ≡ w) ⊎ ((Waiting saw place reply ≢ Idle) × ((r : Reply) × (given_if b w c reply ≡ given w c r)))
+    by : (b : Bool) → (with_reply_if b w c reply ≡ w) ⊎ ((Waiting saw place reply ≢ Idle) × ((r : Reply) × (with_reply_if b w c reply ≡ with_reply w c r)))
     by true = inr (λ e. cc, (reply, refl))
     by false = inl refl
 gives z w c (Reading n p r [] found) = inr (λ e. cc, ((store.step (only z n found) r).1, refl))
@@ -183,9 +183,9 @@ gives z w c ph = inl refl
 more : (xs : List Item) (x : Item) → xs ≡ xs ++ x ∷ [] → ⊥
 more xs x e = let n = ap length e in let m = length-append xs (x ∷ []) in omega arith
 
-pub told_was_busy : (z : Size) (events : List Event) (c : ℕ) (reply : Reply) → trace z (events ++ event.Reply c ∷ []) ≡ trace z events ++ told_at (length events) c (Some reply)
+pub delivered_was_busy : (z : Size) (events : List Event) (c : ℕ) (reply : Reply) → trace z (events ++ event.Reply c ∷ []) ≡ trace z events ++ delivered_at (length events) c (Some reply)
     → ((after z opening events).phase c ≢ Idle) × ((after z opening (events ++ event.Reply c ∷ [])).phase c ≡ Idle)
-told_was_busy z events c reply told = by (gives z w c (w.phase c))
+delivered_was_busy z events c reply delivered = by (gives z w c (w.phase c))
   where
     w : World
     w = after z opening events
@@ -194,5 +194,5 @@ told_was_busy z events c reply told = by (gives z w c (w.phase c))
     next = after_more z events opening (event.Reply c)
 
     by : Gives z w c (w.phase c) → (w.phase c ≢ Idle) × ((after z opening (events ++ event.Reply c ∷ [])).phase c ≡ Idle)
-    by (inl unchanged) = absurd (more w.trace _ (sym (ap (λ (v : World). v.trace) unchanged) ∙ sym (ap (λ (v : World). v.trace) next) ∙ told))
+    by (inl unchanged) = absurd (more w.trace _ (sym (ap (λ (v : World). v.trace) unchanged) ∙ sym (ap (λ (v : World). v.trace) next) ∙ delivered))
     by (inr (busy, (r, is))) = (busy, ap (λ (v : World). v.phase c) next ∙ ap (λ (v : World). v.phase c) is ∙ changed-same w.phase c Idle)

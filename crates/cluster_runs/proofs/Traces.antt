@@ -13,7 +13,7 @@ use Rattle.plain_store.specs.Store as store
 use Rattle.interleavings.specs.declared.event.Event.{Event}
 use Rattle.interleavings.specs.declared.trace.Item.TheVariants as item
 use Rattle.interleavings.specs.Log.{Writing, value}
-use Rattle.interleavings.specs.Step.{begun_unless, called, checked, checked_by, checked_in, compacted, compacted_by, crashed, drawn_by, floored, given_if, given_read, judged, only, part, part_of, published, raised, read, read_at, read_at_by, read_by, replied, reserved, step}
+use Rattle.interleavings.specs.Step.{begun_unless, called, checked, checked_by, checked_in, compacted, compacted_by, crashed, drawn_by, floored, with_reply_if, with_read_reply, judged, only, part, part_of, published, raised, read, read_at, read_at_by, read_by, replied, reserved, step}
 use Rattle.interleavings.specs.Trace.{after}
 use Rattle.interleavings.specs.World.{Phase, Idle, Called, Holding, Drawn, Waiting, Reading, Gone, Size, World, shard}
 
@@ -35,17 +35,17 @@ module _ (z : Size) (w : World) (n : ℕ) where
   abbrev pub Given : World → Type 0
   Given v = ((a : Reply) × (v.trace ≡ w.trace ++ item.Reply w.now n a ∷ [])) ⊎ (v.trace ≡ w.trace)
 
-  given_trace : (b : Bool) (a : Reply) → Given (given_if b w n a)
-  given_trace true a = inl (a, refl)
-  given_trace false a = inr refl
+  with_reply_trace : (b : Bool) (a : Reply) → Given (with_reply_if b w n a)
+  with_reply_trace true a = inl (a, refl)
+  with_reply_trace false a = inr refl
 
-  read_given : (number : ℕ) (r : Request) (parts : List ℕ) (found : Objects) → Given (given_read z w n number r parts found)
-  read_given number r [] found = inl ((store.step (only z number found) r).1, refl)
-  read_given number r (s ∷ parts) found = inr refl
+  with_read_reply_trace : (number : ℕ) (r : Request) (parts : List ℕ) (found : Objects) → Given (with_read_reply z w n number r parts found)
+  with_read_reply_trace number r [] found = inl ((store.step (only z number found) r).1, refl)
+  with_read_reply_trace number r (s ∷ parts) found = inr refl
 
   pub reply_trace : (ph : Phase) → Given (replied z w n ph)
-  reply_trace (Waiting saw place a) = given_trace _ a
-  reply_trace (Reading number place r parts found) = read_given number r parts found
+  reply_trace (Waiting saw place a) = with_reply_trace _ a
+  reply_trace (Reading number place r parts found) = with_read_reply_trace number r parts found
   reply_trace ph = inr refl
 
   -- ---- nothing

@@ -1,4 +1,4 @@
--- Controllers that ask the interleaved store, each as one of its callers, and anybody else beside them. A crash ends a life:
+-- Controllers that ask the interleaved store, each as one of its callers, and anybody else beside them. A crash ends an incarnation:
 -- the controller goes on as a caller that nobody used, and the one that it was is gone.
 use Rattle.std.specs.Prelude.{ℕ, suc, max, Bool, true, false, not, ◌&&◌, ◌==◌, ◌+◌, nat_lt, List, [], ◌∷◌, ◌++◌, drop, length, Option, Some, None, unwrap_or, if◌then◌else◌}
 use Rattle.std.specs.List.{find, list_any, range_with_len}
@@ -13,7 +13,7 @@ use Rattle.interleavings.specs.World.{Size, opening}
 use Rattle.interleavings.specs.World as callers
 use Rattle.rounds.specs.Phase.{Phase, asks, reading_set, takes}
 use Rattle.rounds.specs.Reconciler.{Reconciler}
-use Rattle.rounds.specs.Transcript.{Life}
+use Rattle.rounds.specs.Transcript.{Incarnation}
 use Rattle.rounds.specs.World.{put}
 use Rattle.cluster_runs.specs.declared.event.ClusterEvent.{ClusterEvent}
 use Rattle.cluster_runs.specs.declared.event.ClusterEvent.TheVariants.{Next, Outside, Step, Crash}
@@ -25,17 +25,17 @@ pub record Cluster : Type 0 where
   pub phases : ℕ → Phase
   pub crashes : ℕ → ℕ
   pub callers : ℕ → ℕ
-  -- the callers that were used, and whose life each caller is or was; nobody's where somebody else asks
+  -- the callers that were used, and whose incarnation each caller is or was; nobody's where somebody else asks
   pub used : List ℕ
-  pub lives : ℕ → Option Life
+  pub incarnations : ℕ → Option Incarnation
 
--- the first life of the caller, if it has the number of a controller
-abbrev pub first_life : ℕ → ℕ → Option Life
-first_life count n = if nat_lt n count then Some (record { controller = n; crashes = 0 }) else None
+-- the first incarnation of the caller, if it has the number of a controller
+abbrev pub first_incarnation : ℕ → ℕ → Option Incarnation
+first_incarnation count n = if nat_lt n count then Some (record { controller = n; crashes = 0 }) else None
 
 -- so many controllers that have read nothing, each a caller of its own number
 abbrev pub start : ℕ → Cluster
-start count = record { events = []; phases = λ c. reading_set; crashes = λ c. 0; callers = λ c. c; used = range_with_len 0 count; lives = first_life count }
+start count = record { events = []; phases = λ c. reading_set; crashes = λ c. 0; callers = λ c. c; used = range_with_len 0 count; incarnations = first_incarnation count }
 
 abbrev pub is_used : Cluster → ℕ → Bool
 is_used k n = list_any (λ m. m == n) k.used
@@ -65,13 +65,13 @@ with_next z reconcilers k c =
 abbrev pub with_used : Cluster → ℕ → Cluster
 with_used k n = if is_used k n then k else record k { used = n ∷ k.used }
 
-abbrev pub with_outside : Cluster → ℕ → Request → Option Life → Cluster
+abbrev pub with_outside : Cluster → ℕ → Request → Option Incarnation → Cluster
 with_outside k n r None = hand (with_used k n) (event.Call n r)
-with_outside k n r (Some life) = k
+with_outside k n r (Some incarnation) = k
 
--- ---- Crash: the controller begins another life, as a caller that nobody used
-abbrev pub life_after : Cluster → ℕ → Life
-life_after k c = record { controller = c; crashes = k.crashes c + 1 }
+-- ---- Crash: the controller begins another incarnation, as a caller that nobody used
+abbrev pub incarnation_after : Cluster → ℕ → Incarnation
+incarnation_after k c = record { controller = c; crashes = k.crashes c + 1 }
 
 abbrev pub with_crash : Cluster → ℕ → Cluster
 with_crash k c = record {
@@ -80,25 +80,25 @@ with_crash k c = record {
   crashes = put k.crashes c (k.crashes c + 1);
   callers = put k.callers c (lowest_unused k);
   used = lowest_unused k ∷ k.used;
-  lives = put k.lives (lowest_unused k) (Some (life_after k c));
+  incarnations = put k.incarnations (lowest_unused k) (Some (incarnation_after k c));
 }
 
 -- ---- Step: a caller that was used goes on, or the frontier does
 -- the controller that asks as this caller now
-abbrev pub controller_by : Cluster → ℕ → Option Life → Option ℕ
+abbrev pub controller_by : Cluster → ℕ → Option Incarnation → Option ℕ
 controller_by k n None = None
-controller_by k n (Some life) = if k.callers life.controller == n then Some life.controller else None
+controller_by k n (Some incarnation) = if k.callers incarnation.controller == n then Some incarnation.controller else None
 
 abbrev pub controller_at : Cluster → ℕ → Option ℕ
-controller_at k n = controller_by k n (k.lives n)
+controller_at k n = controller_by k n (k.incarnations n)
 
 -- the reply that an event gives, if it gives one
 abbrev pub reply_in : List Item → Option Reply
 reply_in (item.Reply place caller reply ∷ items) = Some reply
 reply_in items = None
 
-unfoldable pub told : Size → List Event → Event → Option Reply
-told z events e = reply_in (drop (length (trace z events)) (trace z (events ++ e ∷ [])))
+unfoldable pub delivered : Size → List Event → Event → Option Reply
+delivered z events e = reply_in (drop (length (trace z events)) (trace z (events ++ e ∷ [])))
 
 -- the controller takes the reply
 abbrev pub hears : (ℕ → Reconciler) → Cluster → Option ℕ → Option Reply → Cluster
@@ -123,14 +123,14 @@ with_step z reconcilers k (event.ReadAt n) = hand_if (is_used k n) k (event.Read
 with_step z reconcilers k (event.Compact n) = hand_if (is_used k n) k (event.Compact n)
 with_step z reconcilers k (event.Part n) = hand_if (is_used k n) k (event.Part n)
 with_step z reconcilers k (event.Reply n) =
-    if is_used k n then hand (hears reconcilers k (controller_at k n) (told z k.events (event.Reply n))) (event.Reply n) else k
+    if is_used k n then hand (hears reconcilers k (controller_at k n) (delivered z k.events (event.Reply n))) (event.Reply n) else k
 with_step z reconcilers k (event.Crash n) = hand_if (is_used k n && is_nobody (controller_at k n)) k (event.Crash n)
 
 -- ---- the run
 -- The controllers that are there have the numbers below the count.
 abbrev pub happens : Size → ℕ → (ℕ → Reconciler) → Cluster → ClusterEvent → Cluster
 happens z count reconcilers k (Next c) = if nat_lt c count then with_next z reconcilers k c else k
-happens z count reconcilers k (Outside n r) = with_outside k n r (k.lives n)
+happens z count reconcilers k (Outside n r) = with_outside k n r (k.incarnations n)
 happens z count reconcilers k (Step e) = with_step z reconcilers k e
 happens z count reconcilers k (Crash c) = if nat_lt c count then with_crash k c else k
 

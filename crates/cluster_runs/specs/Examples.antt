@@ -8,7 +8,7 @@ use Rattle.interleavings.specs.declared.event.Event.TheVariants as event
 use Rattle.interleavings.specs.Trace.{trace}
 use Rattle.interleavings.specs.World.{Size}
 use Rattle.rounds.specs.Examples.{one_replica, web}
-use Rattle.rounds.specs.Transcript.{Entry, Life}
+use Rattle.rounds.specs.Transcript.{Entry, Incarnation}
 use Rattle.cluster_runs.specs.declared.event.ClusterEvent.{ClusterEvent}
 use Rattle.cluster_runs.specs.declared.event.ClusterEvent.TheVariants.{Next, Outside, Step, Crash}
 use Rattle.cluster_runs.specs.Cluster.{Cluster, run, start}
@@ -23,16 +23,16 @@ cluster_after events = run size 1 (λ c. one_replica) (start 1) events
 abbrev pub handed_on : List ClusterEvent → List Event
 handed_on events = (cluster_after events).events
 
--- whose life asked each request of an order
-abbrev pub askers : List Entry → List (Option Life)
+-- whose incarnation asked each request of an order
+abbrev pub askers : List Entry → List (Option Incarnation)
 askers [] = []
 askers (e ∷ es) = e.0 ∷ askers es
 
-abbrev pub asked_by : List ClusterEvent → List ℕ → List (Option Life)
-asked_by events order = askers (entries_of (cluster_after events).lives (trace size (handed_on events)) (opening size.capacity) order)
+abbrev pub asked_by : List ClusterEvent → List ℕ → List (Option Incarnation)
+asked_by events order = askers (entries_of (cluster_after events).incarnations (trace size (handed_on events)) (opening size.capacity) order)
 
-abbrev pub life : ℕ → Life
-life crashes = record { controller = 0; crashes = crashes }
+abbrev pub incarnation : ℕ → Incarnation
+incarnation crashes = record { controller = 0; crashes = crashes }
 
 -- what the controller asks first
 abbrev pub get : Request

@@ -22,7 +22,7 @@ Claim = Size → ℕ → (ℕ → Reconciler) → Cluster → Type 0
 pub record HasCome (claim : Claim) (z : Size) (count : ℕ) (reconcilers : ℕ → Reconciler) (k : Cluster) (whole left : Course) : Type 0 where
   pub done : List ClusterEvent
   pub whole_is : (whole z count reconcilers k).0 ≡ done ++ (left z count reconcilers (run z count reconcilers k done)).0
-  pub told_is : (whole z count reconcilers k).1 ≡ (left z count reconcilers (run z count reconcilers k done)).1
+  pub delivered_is : (whole z count reconcilers k).1 ≡ (left z count reconcilers (run z count reconcilers k done)).1
   pub holds : claim z count reconcilers (run z count reconcilers k done)
 
 -- more callers are used than there may be
@@ -57,4 +57,4 @@ module _ {X : Type 0} (reconciler : X → Reconciler) (phase : X → Phase) (is_
 -- what is left after a step
 abbrev pub after_step : Advance → (next : Course) → Course
 after_step On next = next
-after_step (Over told) next = ends_with told
+after_step (Over delivered) next = ends_with delivered

@@ -5,7 +5,7 @@ use Rattle.std.specs.Ordering.{nat_cmp}
 use Rattle.interleavings.specs.World.{Size}
 use Rattle.history.specs.After.{IsRunOf}
 use Rattle.rounds.specs.Reconciler.{Reconciler}
-use Rattle.rounds.specs.Transcript.{Life}
+use Rattle.rounds.specs.Transcript.{Incarnation}
 use Rattle.cluster_runs.specs.declared.event.ClusterEvent.{ClusterEvent}
 use Rattle.cluster_runs.specs.Cluster.{Cluster, run, start}
 use Rattle.cluster_runs.specs.declared.run.ClusterRun.{ClusterRun}
@@ -15,17 +15,17 @@ abbrev pub cluster_after : Size → ℕ → (ℕ → Reconciler) → List Cluste
 cluster_after z count reconcilers events = run z count reconcilers (start count) events
 
 -- the controller that is or was this caller, if one is or was
-abbrev pub owner : (ℕ → Option Life) → ℕ → Option ℕ
-owner lives n = option_map (λ (life : Life). life.controller) (lives n)
+abbrev pub owner : (ℕ → Option Incarnation) → ℕ → Option ℕ
+owner incarnations n = option_map (λ (incarnation : Incarnation). incarnation.controller) (incarnations n)
 
 -- the same, as a map of the callers that were used has it
 abbrev pub owner_in : BTreeMap ℕ (Option ℕ) → ℕ → Option ℕ
 owner_in owners n = option_and_then (λ who. who) (get nat_cmp owners n)
 
--- The events are those that were handed on, and the run is theirs, with an order that is legal; each caller is told whose it
+-- The events are those that were handed on, and the run is theirs, with an order that is legal; of each caller it is said whose it
 -- is; and no more than 4,096 callers were used.
 pub record IsClusterRun (z : Size) (count : ℕ) (reconcilers : ℕ → Reconciler) (events : List ClusterEvent) (found : ClusterRun) : Type 0 where
   pub handed : found.events.items ≡ (cluster_after z count reconcilers events).events
   pub run_is : IsRunOf z (cluster_after z count reconcilers events).events found.run
-  pub owned : (n : ℕ) → owner_in found.owners n ≡ owner (cluster_after z count reconcilers events).lives n
+  pub owned : (n : ℕ) → owner_in found.owners n ≡ owner (cluster_after z count reconcilers events).incarnations n
   pub few : length (cluster_after z count reconcilers events).used ≤ 4096

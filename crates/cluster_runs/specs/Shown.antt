@@ -12,7 +12,7 @@ use Rattle.history.specs.declared.replaying.Replay.{Replay}
 use Rattle.rounds.specs.Phase.{Phase, takes}
 use Rattle.rounds.specs.Reconciler.{Reconciler}
 use Rattle.cluster_runs.specs.declared.event.ClusterEvent.{ClusterEvent}
-use Rattle.cluster_runs.specs.Cluster.{Cluster, happens, is_used, told}
+use Rattle.cluster_runs.specs.Cluster.{Cluster, happens, is_used, delivered}
 use Rattle.cluster_runs.specs.declared.cluster.Cluster.{Cluster as Program}
 use Rattle.cluster_runs.specs.Callers.{AreCallers}
 
@@ -67,10 +67,10 @@ module _ {X : Type 0} (reconciler : X → Reconciler) (phase : X → Phase) (is_
   Happens e old new before now = (z : Size) (reconcilers : ℕ → Reconciler) (k : Cluster) → Shows z reconcilers k old before
       → Shows z reconcilers (happens z (length before) reconcilers k e) new now
 
-  -- what the caller is told by its reply
+  -- the reply that the caller gets
   abbrev pub Tells : (caller : ℕ) → Option Reply → Program → List X → Type 0
   Tells n reply old before = (z : Size) (reconcilers : ℕ → Reconciler) (k : Cluster) → Shows z reconcilers k old before
-      → (if is_used k n then told z k.events (event.Reply n) else None) ≡ reply
+      → (if is_used k n then delivered z k.events (event.Reply n) else None) ≡ reply
 
   -- more callers are used than there may be
   abbrev pub Exceeds : ClusterEvent → Program → List X → Type 0

@@ -1,4 +1,4 @@
--- The events that short lines of a script stand for: each time those that come next, given the cluster as the ones before left it.
+-- The events that short lines of a script stand for: each time those that come next, over the cluster as the ones before left it.
 use Rattle.std.specs.Prelude.{ℕ, zero, suc, Bool, true, false, not, ◌&&◌, nat_lt, List, [], ◌∷◌, ◌++◌, Option, Some, None, if◌then◌else◌}
 use Rattle.std.specs.List.{range_with_len}
 use Rattle.objects.specs.declared.kind.Kind.TheVariants.{Pod}
@@ -16,7 +16,7 @@ use Rattle.rounds.specs.Phase.{asks}
 use Rattle.rounds.specs.Reconciler.{Reconciler}
 use Rattle.cluster_runs.specs.declared.event.ClusterEvent.{ClusterEvent}
 use Rattle.cluster_runs.specs.declared.event.ClusterEvent.TheVariants.{Next, Outside, Step}
-use Rattle.cluster_runs.specs.Cluster.{Cluster, happens, is_idle, is_used, lowest_unused, run, start, told}
+use Rattle.cluster_runs.specs.Cluster.{Cluster, happens, is_idle, is_used, lowest_unused, run, start, delivered}
 use Rattle.cluster_runs.specs.declared.turn.Turn.{Turn}
 use Rattle.cluster_runs.specs.declared.turn.Turn.TheVariants as turn
 
@@ -48,9 +48,9 @@ abbrev pub reply_of : Event → Option ℕ
 reply_of (event.Reply n) = Some n
 reply_of e = None
 
--- what is told by the reply to a caller
+-- the event that replies to a caller, and the reply that it gets
 abbrev pub reply_to : (caller : ℕ) → Course
-reply_to n = λ z count reconcilers k. (Step (event.Reply n) ∷ [], if is_used k n then told z k.events (event.Reply n) else None)
+reply_to n = λ z count reconcilers k. (Step (event.Reply n) ∷ [], if is_used k n then delivered z k.events (event.Reply n) else None)
 
 abbrev pub step_by : Event → (replied : Option ℕ) → (next : Course) → Course
 step_by e (Some n) next = reply_to n
@@ -90,14 +90,14 @@ abbrev pub begins : Request → Bool
 begins (request.Get k) = true
 begins r = false
 
--- its reply was given, and the request that it asks next does not begin a round
+-- it got its reply, and the request that it asks next does not begin a round
 abbrev pub is_within : Size → (ℕ → Reconciler) → Cluster → (controller : ℕ) → Bool
 is_within z reconcilers k c = is_idle_at z k (k.callers c) && not (begins (asks (reconcilers c) (k.phases c)))
 
 unfoldable pub round_in : (requests controller : ℕ) → Course
 round_in zero c = nothing
 round_in (suc requests) c =
-    followed_by (asked c) (λ told z count reconcilers k. if is_within z reconcilers k c then round_in requests c z count reconcilers k else ([], None))
+    followed_by (asked c) (λ delivered z count reconcilers k. if is_within z reconcilers k c then round_in requests c z count reconcilers k else ([], None))
 
 -- more requests no round has
 abbrev pub most_requests : ℕ
@@ -109,7 +109,7 @@ round c = round_in most_requests c
 -- one after another
 abbrev pub rounds_of : (controllers : List ℕ) → Course
 rounds_of [] = nothing
-rounds_of (c ∷ cs) = followed_by (round c) (λ told. rounds_of cs)
+rounds_of (c ∷ cs) = followed_by (round c) (λ delivered. rounds_of cs)
 
 -- ---- the kubelet's turn: it asks as somebody else, if its caller is idle
 abbrev pub asked_as : (caller : ℕ) → Request → Course
@@ -117,32 +117,32 @@ asked_as n r = λ z count reconcilers k. if is_idle_at z k n then event_and (Out
 
 abbrev pub asked_all : (caller : ℕ) → List Request → Course
 asked_all n [] = nothing
-asked_all n (r ∷ rs) = followed_by (asked_as n r) (λ told. asked_all n rs)
+asked_all n (r ∷ rs) = followed_by (asked_as n r) (λ delivered. asked_all n rs)
 
 -- what it asks after a list
 abbrev pub tends : Option Reply → List Request
 tends (Some (reply.Listed pods at)) = kubelet_asks_all pods
-tends told = []
+tends delivered = []
 
 abbrev pub tended : (caller : ℕ) → (namespace : List ℕ) → Course
-tended n namespace = followed_by (asked_as n (request.List Pod namespace 0)) (λ told. asked_all n (tends told))
+tended n namespace = followed_by (asked_as n (request.List Pod namespace 0)) (λ delivered. asked_all n (tends delivered))
 
 abbrev pub tended_all : (caller : ℕ) → (namespaces : List (List ℕ)) → Course
 tended_all n [] = nothing
-tended_all n (s ∷ ss) = followed_by (tended n s) (λ told. tended_all n ss)
+tended_all n (s ∷ ss) = followed_by (tended n s) (λ delivered. tended_all n ss)
 
 -- a request of its last turn that is still open comes first
 abbrev pub kubelet_turn : (caller : ℕ) → (namespaces : List (List ℕ)) → Course
-kubelet_turn n namespaces = followed_by (carried n) (λ told. tended_all n namespaces)
+kubelet_turn n namespaces = followed_by (carried n) (λ delivered. tended_all n namespaces)
 
 -- ---- settle: each controller makes a round, and then the kubelet a turn, so many times
 abbrev pub settled_once : (kubelet : ℕ) → (namespaces : List (List ℕ)) → Course
 settled_once n namespaces =
-    followed_by (λ z count reconcilers k. rounds_of (range_with_len 0 count) z count reconcilers k) (λ told. kubelet_turn n namespaces)
+    followed_by (λ z count reconcilers k. rounds_of (range_with_len 0 count) z count reconcilers k) (λ delivered. kubelet_turn n namespaces)
 
 unfoldable pub settled_as : (rounds kubelet : ℕ) → (namespaces : List (List ℕ)) → Course
 settled_as zero n namespaces = nothing
-settled_as (suc rounds) n namespaces = followed_by (settled_once n namespaces) (λ told. settled_as rounds n namespaces)
+settled_as (suc rounds) n namespaces = followed_by (settled_once n namespaces) (λ delivered. settled_as rounds n namespaces)
 
 abbrev pub settled : (rounds : ℕ) → (namespaces : List (List ℕ)) → Course
 settled rounds namespaces = λ z count reconcilers k. settled_as rounds (lowest_unused k) namespaces z count reconcilers k
@@ -155,7 +155,7 @@ course_of namespaces (turn.Settle rounds) = settled rounds namespaces
 
 abbrev pub course_of_all : (namespaces : List (List ℕ)) → List Turn → Course
 course_of_all namespaces [] = nothing
-course_of_all namespaces (t ∷ ts) = followed_by (course_of namespaces t) (λ told. course_of_all namespaces ts)
+course_of_all namespaces (t ∷ ts) = followed_by (course_of namespaces t) (λ delivered. course_of_all namespaces ts)
 
 -- the events of a whole run, where the controllers' sets have these namespaces
 unfoldable pub events_of_turns : Size → ℕ → (ℕ → Reconciler) → (namespaces : List (List ℕ)) → List Turn → List ClusterEvent

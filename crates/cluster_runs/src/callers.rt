@@ -52,7 +52,7 @@ impl Callers {
 
     /// Whether a controller is or was that caller.
     pub(crate) fn is_controllers(&self, caller: u64) -> bool
-        ensures { (count : ℕ) (k : Cluster) → AreCallers count k self.now → result ≡ is_some (k.lives caller) }
+        ensures { (count : ℕ) (k : Cluster) → AreCallers count k self.now → result ≡ is_some (k.incarnations caller) }
     {
         matches!(self.owners.get(&caller), Some(Some(_)))
     }
@@ -74,7 +74,7 @@ impl Callers {
     pub(crate) fn admit(&mut self, caller: u64) -> Result<(), ClusterFault>
         ensures present { self.new.present ≡ self.old.present }
         ensures callers { OnOk result ((count : ℕ) (k : Cluster)
-            → AreCallers count k self.old → k.lives caller ≡ None → AreCallers count (with_used k caller) self.new) }
+            → AreCallers count k self.old → k.incarnations caller ≡ None → AreCallers count (with_used k caller) self.new) }
         ensures too_many { IsErrOf result ClusterFault.TooManyCallers
             → (count : ℕ) (k : Cluster) → AreCallers count k self.old → 4096 < length (with_used k caller).used }
         ensures reasons { IfErr result IsShort }

@@ -45,8 +45,8 @@ impl Cluster {
         ensures many { length controllers.new ≡ length controllers.old }
         ensures present { KeepsCallers self.old self.new }
         ensures follows { OnOk result (Follows self.new) }
-        ensures leads { IfOk result (λ told. Leads C.reconciler C.phase C.is_waiting
-            (run_of number) (ends_with told) self.old self.new controllers.old controllers.new) }
+        ensures leads { IfOk result (λ delivered. Leads C.reconciler C.phase C.is_waiting
+            (run_of number) (ends_with delivered) self.old self.new controllers.old controllers.new) }
         ensures halts { IfErr result (λ fault. Halts C.reconciler C.phase C.is_waiting fault (run_of number) self.old controllers.old controllers.new) }
         ensures reasons { IfErr result IsShort }
     {
@@ -68,8 +68,8 @@ impl Cluster {
         ensures many { length controllers.new ≡ length controllers.old }
         ensures present { KeepsCallers self.old self.new }
         ensures follows { OnOk result (Follows self.new) }
-        ensures leads { IfOk result (λ told. Leads C.reconciler C.phase C.is_waiting
-            (carried caller) (ends_with told) self.old self.new controllers.old controllers.new) }
+        ensures leads { IfOk result (λ delivered. Leads C.reconciler C.phase C.is_waiting
+            (carried caller) (ends_with delivered) self.old self.new controllers.old controllers.new) }
         ensures halts { IfErr result (λ fault. Halts C.reconciler C.phase C.is_waiting fault (carried caller) self.old controllers.old controllers.new) }
         ensures reasons { IfErr result IsShort }
     {
@@ -77,7 +77,7 @@ impl Cluster {
             let went = self.advance(controllers, caller)?;
             match went {
                 Advance::On => {}
-                Advance::Over(told) => return Ok(told),
+                Advance::Over(delivered) => return Ok(delivered),
             }
         }
         Ok(None)
@@ -130,7 +130,7 @@ impl Cluster {
             self.step(controllers, event)?;
             return Ok(Advance::On);
         };
-        let told = self.tell(controllers, caller)?;
-        Ok(Advance::Over(told))
+        let delivered = self.tell(controllers, caller)?;
+        Ok(Advance::Over(delivered))
     }
 }

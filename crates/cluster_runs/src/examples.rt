@@ -4,14 +4,14 @@ ghost use Rattle.objects.specs.declared.kind.Kind.TheVariants.{PersistentVolumeC
 ghost use Rattle.interleavings.specs.declared.event.Event.TheVariants.{Call, Crash, Part, Read, Reply};
 ghost use Rattle.rounds.specs.Examples.{one_replica};
 ghost use Rattle.rounds.specs.Phase.{list_of};
-ghost use Rattle.cluster_runs.specs.Examples.{asked_by, beside_another, crash_in_a_read, get, handed_on, life, nothing_but_a_call, reply_is_heard};
+ghost use Rattle.cluster_runs.specs.Examples.{asked_by, beside_another, crash_in_a_read, get, handed_on, incarnation, nothing_but_a_call, reply_is_heard};
 
-/// What some short runs hand on to the store, and whose lives ask the requests of an order of their calls.
+/// What some short runs hand on to the store, and whose incarnations ask the requests of an order of their calls.
 pub fn short_clusters()
     ensures crash_in_a_read { handed_on crash_in_a_read ≡ Call 0 get ∷ Read 0 ∷ Crash 0 ∷ Call 1 get ∷ [] }
     ensures beside_another { handed_on beside_another ≡ Call 1 get ∷ Call 0 get ∷ Crash 0 ∷ Call 2 get ∷ [] }
     ensures reply_is_heard { handed_on reply_is_heard ≡
         Call 0 get ∷ Read 0 ∷ Part 0 ∷ Reply 0 ∷ Call 0 (list_of one_replica PersistentVolumeClaim) ∷ [] }
     ensures nothing_but_a_call { handed_on nothing_but_a_call ≡ Call 0 get ∷ [] }
-    ensures lives { asked_by beside_another (3 ∷ 0 ∷ 1 ∷ []) ≡ Some (life 1) ∷ None ∷ Some (life 0) ∷ [] }
+    ensures incarnations { asked_by beside_another (3 ∷ 0 ∷ 1 ∷ []) ≡ Some (incarnation 1) ∷ None ∷ Some (incarnation 0) ∷ [] }
 {}

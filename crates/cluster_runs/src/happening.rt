@@ -106,8 +106,8 @@ impl Cluster {
         requires { Follows self.old }
         ensures present { self.new.callers.present ≡ self.old.callers.present }
         ensures follows { OnOk result (Follows self.new) }
-        ensures shows { OnOk result (Becomes (λ k. with_outside k caller request.now (k.lives caller)) self.old self.new) }
-        ensures too_many { IsErrOf result ClusterFault.TooManyCallers → Overfills (λ k. with_outside k caller request.now (k.lives caller)) self.old }
+        ensures shows { OnOk result (Becomes (λ k. with_outside k caller request.now (k.incarnations caller)) self.old self.new) }
+        ensures too_many { IsErrOf result ClusterFault.TooManyCallers → Overfills (λ k. with_outside k caller request.now (k.incarnations caller)) self.old }
         ensures reasons { IfErr result IsShort }
     {
         if self.callers.is_controllers(caller) {
@@ -192,15 +192,15 @@ impl Cluster {
         ensures reasons { IfErr result IsShort }
     {
         match self.tell(controllers, caller) {
-            Ok(told) => {
-                drop(told);
+            Ok(delivered) => {
+                drop(delivered);
                 Ok(())
             }
             Err(fault) => Err(fault),
         }
     }
 
-    /// The same, and what it was told.
+    /// The same, and the reply that it got.
     pub(crate) fn tell<C: ControlLoop>(
         &mut self,
         controllers: &mut [C],
@@ -212,7 +212,7 @@ impl Cluster {
         ensures present { KeepsCallers self.old self.new }
         ensures follows { OnOk result (Follows self.new) }
         ensures shows { OnOk result (Happens C.reconciler C.phase C.is_waiting (Step (event.Reply caller)) self.old self.new controllers.old controllers.new) }
-        ensures told { IfOk result (λ told. Tells C.reconciler C.phase C.is_waiting caller told self.old controllers.old) }
+        ensures delivered { IfOk result (λ delivered. Tells C.reconciler C.phase C.is_waiting caller delivered self.old controllers.old) }
         ensures stays { OnErr result (Stay C.reconciler C.phase controllers.old controllers.new) }
         ensures too_many { IsErrOf result ClusterFault.TooManyCallers
             → Exceeds C.reconciler C.phase C.is_waiting (Step (event.Reply caller)) self.old controllers.old }
@@ -222,13 +222,13 @@ impl Cluster {
             return Ok(None);
         }
         let controller = self.callers.controller_at(caller);
-        let told = self.hand(Event::Reply(caller))?;
-        let heard = hear(controllers, controller, &told);
+        let delivered = self.hand(Event::Reply(caller))?;
+        let heard = hear(controllers, controller, &delivered);
         match heard {
-            Ok(()) => Ok(told),
+            Ok(()) => Ok(delivered),
             Err(fault) => {
                 // Let go by name, which is proved once for the type and not at each way out.
-                drop(told);
+                drop(delivered);
                 Err(fault)
             }
         }
@@ -288,7 +288,7 @@ impl Cluster {
         ensures callers { self.new.callers ≡ self.old.callers }
         ensures follows { OnOk result (Follows self.new) }
         ensures hands { OnOk result (Hands event self.old self.new) }
-        ensures told { IfOk result (λ told. (size : Size) (events : List Event) → IsAfter size events self.old.replay → IsReplyTo size events event told) }
+        ensures delivered { IfOk result (λ delivered. (size : Size) (events : List Event) → IsAfter size events self.old.replay → IsReplyTo size events event delivered) }
         ensures too_many { IsErrOf result ClusterFault.TooManyCallers → (size : Size) (events : List Event)
             → IsAfter size events self.old.replay → 4096 < callers (events ++ event ∷ []) }
         ensures reasons { IfErr result IsShort }
@@ -299,9 +299,9 @@ impl Cluster {
             return Err(ClusterFault::Memory);
         }
         match self.replay.step(&event) {
-            Ok(told) => {
+            Ok(delivered) => {
                 self.events.push_reserved(event);
-                Ok(told)
+                Ok(delivered)
             }
             Err(error) => {
                 drop(event);
@@ -311,22 +311,22 @@ impl Cluster {
     }
 }
 
-/// The controller of the number takes what was told.
+/// The controller of the number takes the reply.
 fn hear<C: ControlLoop>(
     controllers: &mut [C],
     number: Option<usize>,
-    told: &Option<Reply>,
+    delivered: &Option<Reply>,
 ) -> Result<(), ClusterFault>
     requires { IfSome number (λ c. c < length controllers.old) }
     ensures many { length controllers.new ≡ length controllers.old }
-    ensures hears { OnOk result (Hears C.reconciler C.phase C.is_waiting controllers.old controllers.new number told.now) }
+    ensures hears { OnOk result (Hears C.reconciler C.phase C.is_waiting controllers.old controllers.new number delivered.now) }
     ensures stays { OnErr result (Stay C.reconciler C.phase controllers.old controllers.new) }
     ensures memory { IfErr result (λ reason. reason ≡ OutOfMemory) }
 {
     let Some(number) = number else {
         return Ok(());
     };
-    let Some(reply) = told else {
+    let Some(reply) = delivered else {
         return Ok(());
     };
     controllers[number].take(reply)?;

@@ -39,10 +39,10 @@ fn list_of_pods(alloc: Global, namespace: &Text) -> Result<Request, Memory>
 }
 
 /// What the kubelet asks after a list.
-fn requests_after(alloc: Global, told: &Option<Reply>) -> Result<Vec<Request>, Memory>
-    ensures { IfOk result (λ requests. requests.items ≡ tends told.now) }
+fn requests_after(alloc: Global, delivered: &Option<Reply>) -> Result<Vec<Request>, Memory>
+    ensures { IfOk result (λ requests. requests.items ≡ tends delivered.now) }
 {
-    match told {
+    match delivered {
         Some(
             Reply::Listed {
                 objects,
@@ -160,8 +160,8 @@ impl Cluster {
         ensures many { length controllers.new ≡ length controllers.old }
         ensures present { KeepsCallers self.old self.new }
         ensures follows { OnOk result (Follows self.new) }
-        ensures leads { IfOk result (λ told. Leads C.reconciler C.phase C.is_waiting
-            (asked number) (ends_with told) self.old self.new controllers.old controllers.new) }
+        ensures leads { IfOk result (λ delivered. Leads C.reconciler C.phase C.is_waiting
+            (asked number) (ends_with delivered) self.old self.new controllers.old controllers.new) }
         ensures halts { IfErr result (λ fault. Halts C.reconciler C.phase C.is_waiting fault (asked number) self.old controllers.old controllers.new) }
         ensures reasons { IfErr result IsShort }
     {
@@ -170,7 +170,7 @@ impl Cluster {
         self.carry(controllers, caller)
     }
 
-    /// Whether the controller's reply was given, and its round goes on.
+    /// Whether the controller got its reply, and its round goes on.
     fn is_within<C: ControlLoop>(
         &self,
         controllers: &mut [C],
@@ -212,8 +212,8 @@ impl Cluster {
             (kubelet_turn caller namespaces.now) self.old controllers.old controllers.new) }
         ensures reasons { IfErr result IsShort }
     {
-        let told = self.carry(controllers, caller)?;
-        drop(told);
+        let delivered = self.carry(controllers, caller)?;
+        drop(delivered);
         for namespace in namespaces {
             self.tend(controllers, caller, namespace)?;
         }
@@ -243,9 +243,9 @@ impl Cluster {
         let listed = self.ask(controllers, caller, &list);
         // Let go by name, which is proved once for the type and not at each way out.
         drop(list);
-        let told = listed?;
-        let requests = requests_after(alloc, &told);
-        drop(told);
+        let delivered = listed?;
+        let requests = requests_after(alloc, &delivered);
+        drop(delivered);
         let requests = requests?;
         let asked = self.ask_all(controllers, caller, requests.as_slice());
         drop(requests);
@@ -271,8 +271,8 @@ impl Cluster {
         ensures reasons { IfErr result IsShort }
     {
         for request in requests {
-            let told = self.ask(controllers, caller, request)?;
-            drop(told);
+            let delivered = self.ask(controllers, caller, request)?;
+            drop(delivered);
         }
         Ok(())
     }
@@ -289,8 +289,8 @@ impl Cluster {
         ensures many { length controllers.new ≡ length controllers.old }
         ensures present { KeepsCallers self.old self.new }
         ensures follows { OnOk result (Follows self.new) }
-        ensures leads { IfOk result (λ told. Leads C.reconciler C.phase C.is_waiting
-            (asked_as caller request.now) (ends_with told) self.old self.new controllers.old controllers.new) }
+        ensures leads { IfOk result (λ delivered. Leads C.reconciler C.phase C.is_waiting
+            (asked_as caller request.now) (ends_with delivered) self.old self.new controllers.old controllers.new) }
         ensures halts { IfErr result (λ fault. Halts C.reconciler C.phase C.is_waiting fault
             (asked_as caller request.now) self.old controllers.old controllers.new) }
         ensures reasons { IfErr result IsShort }

@@ -108,8 +108,8 @@ impl Cluster {
         ensures reasons { IfErr result IsShort }
     {
         for turn in turns {
-            let told = self.turn(controllers, namespaces, turn)?;
-            drop(told);
+            let delivered = self.turn(controllers, namespaces, turn)?;
+            drop(delivered);
         }
         Ok(())
     }
@@ -126,8 +126,8 @@ impl Cluster {
         ensures many { length controllers.new ≡ length controllers.old }
         ensures present { KeepsCallers self.old self.new }
         ensures follows { OnOk result (Follows self.new) }
-        ensures leads { IfOk result (λ told. Leads C.reconciler C.phase C.is_waiting
-            (course_of namespaces.now turn.now) (ends_with told) self.old self.new controllers.old controllers.new) }
+        ensures leads { IfOk result (λ delivered. Leads C.reconciler C.phase C.is_waiting
+            (course_of namespaces.now turn.now) (ends_with delivered) self.old self.new controllers.old controllers.new) }
         ensures halts { IfErr result (λ fault. Halts C.reconciler C.phase C.is_waiting fault
             (course_of namespaces.now turn.now) self.old controllers.old controllers.new) }
         ensures reasons { IfErr result IsShort }

@@ -26,7 +26,7 @@ use Rattle.plain.specs.RequestParts.{◌>>=◌, required, exact_in, exact_number
 use Rattle.plain.specs.Requests.{request_in}
 use Rattle.plain.specs.Verbs.{request_by, verb_in, verb_named}
 use Rattle.plain.proofs.Readings.{compaction_read, deletion_read, list_read, of_create, of_get, of_status, of_update, part_read}
-use Rattle.cluster_scripts.specs.RequestLine.{IsGiven, IsOfItsObject, IsReadable, compaction_data, deletion_data, get_data, key_members, list_data, member_if, request_data, with_object}
+use Rattle.cluster_scripts.specs.RequestLine.{IsNotEmpty, IsOfItsObject, IsReadable, compaction_data, deletion_data, get_data, key_members, list_data, member_if, request_data, with_object}
 
 -- ---- members that may be left out
 
@@ -49,13 +49,13 @@ found k (Some s) ms same none = ap (λ r. match_ordering r (get_member k ms) (So
 
 -- ---- parts of a request
 
-given_text : (o : Option (List ℕ)) → IsGiven o → field_text (option_map string o) ≡ Ok o
-given_text None h = refl
-given_text (Some s) h = rw (lt-ltb 0 (length s) h) refl
+optional_text : (o : Option (List ℕ)) → IsNotEmpty o → field_text (option_map string o) ≡ Ok o
+optional_text None h = refl
+optional_text (Some s) h = rw (lt-ltb 0 (length s) h) refl
 
 -- the given text is read
-field_read : (k : List ℕ) (o : Option (List ℕ)) (ms : Members) → get_member k ms ≡ option_map string o → IsGiven o → field_text (get_member k ms) ≡ Ok o
-field_read k o ms is given = ap field_text is ∙ given_text o given
+field_read : (k : List ℕ) (o : Option (List ℕ)) (ms : Members) → get_member k ms ≡ option_map string o → IsNotEmpty o → field_text (get_member k ms) ≡ Ok o
+field_read k o ms is given = ap field_text is ∙ optional_text o given
 
 key_read : (ms : Members) (key : KeyParts) → get_member (codes "kind") ms ≡ Some (string (kind_name key.kind)) → get_member (codes "name") ms ≡ Some (string key.name)
     → get_member (codes "namespace") ms ≡ Some (string key.namespace) → is_key key ≡ true → key_in ms ≡ Ok key
@@ -103,7 +103,7 @@ exact_by : (none : Bool) (n : ℕ) → (n == 0) ≡ none → n < 2 ^ 64 → (fie
 exact_by true n is small = ap Ok (sym (eqb-true n 0 is))
 exact_by false n is small =
     let some = positive n is in
-    ap (λ r. r >>= exact_number) (given_text (Some (decimal n)) (length-decimal n some small)) ∙ exact_read n some small
+    ap (λ r. r >>= exact_number) (optional_text (Some (decimal n)) (length-decimal n some small)) ∙ exact_read n some small
 
 -- ---- the requests
 
@@ -145,10 +145,10 @@ listing_read kind namespace exact label small =
     verb_read ms (codes "list") refl
     ∙ list_read ms (kind, namespace) exact (collection_read ms kind namespace refl refl label) (sym said)
 
-removal_read : (key : KeyParts) (uid version at : Option (List ℕ)) → is_key key ≡ true → IsGiven uid → IsGiven version → IsGiven at
+removal_read : (key : KeyParts) (uid version at : Option (List ℕ)) → is_key key ≡ true → IsNotEmpty uid → IsNotEmpty version → IsNotEmpty at
     → request_in (deletion_data key uid version at) ≡ Ok (request.Delete key uid version at)
 unfolding request_by
-removal_read key uid version at right uid_given version_given at_given =
+removal_read key uid version at right uid_not_empty version_not_empty at_not_empty =
     let last = member_if (codes "uid") uid no_members in
     let behind = member_if (codes "resourceVersion") version last in
     let named = member (codes "do") (string (codes "delete")) (key_members key behind) in
@@ -160,14 +160,14 @@ removal_read key uid version at right uid_given version_given at_given =
     verb_read ms (codes "delete") (passed (codes "do") (codes "at") at named refl)
     ∙ deletion_read ms key uid version at
     (key_read ms key (passed (codes "kind") (codes "at") at named refl) (passed (codes "name") (codes "at") at named refl) (passed (codes "namespace") (codes "at") at named refl) right)
-    (field_read (codes "uid") uid ms uid_there uid_given) (field_read (codes "resourceVersion") version ms version_there version_given)
-    (field_read (codes "at") at ms (found (codes "at") at named refl no_time) at_given)
+    (field_read (codes "uid") uid ms uid_there uid_not_empty) (field_read (codes "resourceVersion") version ms version_there version_not_empty)
+    (field_read (codes "at") at ms (found (codes "at") at named refl no_time) at_not_empty)
 
 compact_read : (to : ℕ) → 0 < to → to < 2 ^ 64 → request_in (compaction_data to) ≡ Ok (request.Compact to)
 unfolding request_by
 compact_read to some small =
     let ms = member (codes "do") (string (codes "compact")) (member (codes "resourceVersion") (string (decimal to)) no_members) in
-    let said : named_in ms ≡ Ok to = ap (λ r. r >>= named_number) (given_text (Some (decimal to)) (length-decimal to some small)) ∙ stored_read to some small in
+    let said : named_in ms ≡ Ok to = ap (λ r. r >>= named_number) (optional_text (Some (decimal to)) (length-decimal to some small)) ∙ stored_read to some small in
     verb_read ms (codes "compact") refl ∙ compaction_read ms to (sym said)
 
 pub reads_back : (r : Request) → IsReadable r → request_in (request_data r) ≡ Ok r

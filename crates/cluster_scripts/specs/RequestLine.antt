@@ -71,8 +71,8 @@ pub record IsOfItsObject (d : Draft) : Type 0 where
   pub canonical : IsCanonical d.object.body
 
 -- an empty text counts as none
-abbrev pub IsGiven : Option (List ℕ) → Type 0
-IsGiven text = IfSome text (λ s. 0 < length s)
+abbrev pub IsNotEmpty : Option (List ℕ) → Type 0
+IsNotEmpty text = IfSome text (λ s. 0 < length s)
 
 abbrev pub IsReadable : Request → Type 0
 IsReadable (request.Create d) = IsOfItsObject d
@@ -80,14 +80,14 @@ IsReadable (request.Get key) = is_key key ≡ true
 IsReadable (request.List kind namespace exact) = (is_dns_label namespace ≡ true) × (exact < 2 ^ 64)
 IsReadable (request.Update d) = IsOfItsObject d
 IsReadable (request.UpdateStatus d) = IsOfItsObject d
-IsReadable (request.Delete key uid version at) = (is_key key ≡ true) × IsGiven uid × IsGiven version × IsGiven at
+IsReadable (request.Delete key uid version at) = (is_key key ≡ true) × IsNotEmpty uid × IsNotEmpty version × IsNotEmpty at
 IsReadable (request.Compact to) = (0 < to) × (to < 2 ^ 64)
 
 -- ---- for private clauses
 
-abbrev pub given_tokens : List ℕ → Option (List ℕ) → List Token
-given_tokens k None = []
-given_tokens k (Some s) = token.key k ∷ token.string s ∷ []
+abbrev pub optional_tokens : List ℕ → Option (List ℕ) → List Token
+optional_tokens k None = []
+optional_tokens k (Some s) = token.key k ∷ token.string s ∷ []
 
 abbrev pub key_tokens : KeyParts → List Token
 key_tokens key =

@@ -7,7 +7,7 @@ ghost use Rattle.serde_json.specs.Written.{outline};
 ghost use Rattle.objects.specs.Again.{text_unless_zero};
 ghost use Rattle.objects.specs.Key.{key_parts};
 ghost use Rattle.objects.specs.Kind.{kind_name};
-ghost use Rattle.cluster_scripts.specs.RequestLine.{compaction_data, deletion_data, get_data, given_tokens, key_tokens, list_data, request_data, with_object};
+ghost use Rattle.cluster_scripts.specs.RequestLine.{compaction_data, deletion_data, get_data, optional_tokens, key_tokens, list_data, request_data, with_object};
 
 use json::Writer;
 use objects::{Key, Kind, Object, Text};
@@ -75,7 +75,7 @@ fn write_list(kind: Kind, namespace: &str, exact: u64, out: &mut Writer) -> Resu
 // The resource version of a list; 0 asks for the newest, and is not written.
 fn write_exact(exact: u64, out: &mut Writer) -> Result<(), AllocError>
     ensures tokens { OnOk result (out.new.tokens
-        ≡ out.old.tokens ++ given_tokens (codes "resourceVersion") (text_unless_zero exact (decimal exact))) }
+        ≡ out.old.tokens ++ optional_tokens (codes "resourceVersion") (text_unless_zero exact (decimal exact))) }
     ensures before { out.new.before ≡ out.old.before }
 {
     if exact == 0 {
@@ -104,7 +104,7 @@ fn write_deletion(
     ensures before { out.new.before ≡ out.old.before }
 {
     out.begin_object()?;
-    write_given("at", at, out)?;
+    write_optional("at", at, out)?;
     write_text_member("do", "delete", out)?;
     write_key(key, out)?;
     write_preconditions(uid, version, out)?;
@@ -118,11 +118,11 @@ fn write_preconditions(
     out: &mut Writer,
 ) -> Result<(), AllocError>
     ensures tokens { OnOk result (out.new.tokens ≡ out.old.tokens
-        ++ (given_tokens (codes "resourceVersion") (option_copied version.entry) ++ given_tokens (codes "uid") (option_copied uid.entry))) }
+        ++ (optional_tokens (codes "resourceVersion") (option_copied version.entry) ++ optional_tokens (codes "uid") (option_copied uid.entry))) }
     ensures before { out.new.before ≡ out.old.before }
 {
-    write_given("resourceVersion", version, out)?;
-    write_given("uid", uid, out)
+    write_optional("resourceVersion", version, out)?;
+    write_optional("uid", uid, out)
 }
 
 fn write_compaction(to: u64, out: &mut Writer) -> Result<(), AllocError>
@@ -159,8 +159,8 @@ fn write_kind(kind: Kind, out: &mut Writer) -> Result<(), AllocError>
 }
 
 // A text, if it is given.
-fn write_given(name: &str, text: Option<&Text>, out: &mut Writer) -> Result<(), AllocError>
-    ensures tokens { OnOk result (out.new.tokens ≡ out.old.tokens ++ given_tokens name.now (option_copied text.entry)) }
+fn write_optional(name: &str, text: Option<&Text>, out: &mut Writer) -> Result<(), AllocError>
+    ensures tokens { OnOk result (out.new.tokens ≡ out.old.tokens ++ optional_tokens name.now (option_copied text.entry)) }
     ensures before { out.new.before ≡ out.old.before }
 {
     match text {

@@ -35,10 +35,10 @@ pub refused_run : (name : Option (List ℕ)) (input : List ℕ) (script : Size �
 refused_run None input script is refused = tt
 refused_run (Some name) input script is refused = inr (script, is, refused)
 
--- a refusal has the name that is told
-pub told_and : (name : Option (List ℕ)) (Is Said : List ℕ → Type 0) → IsNamed name Is → IfSome name Said → (n : List ℕ) × Is n × Said n
-told_and None Is Said named holds = absurd named
-told_and (Some n) Is Said named holds = (n, named, holds)
+-- a refusal has the name that is reported
+pub named_and : (name : Option (List ℕ)) (Is Said : List ℕ → Type 0) → IsNamed name Is → IfSome name Said → (n : List ℕ) × Is n × Said n
+named_and None Is Said named holds = absurd named
+named_and (Some n) Is Said named holds = (n, named, holds)
 
 -- a fault of the input has no name
 pub unnamed : (fault : InputFault) → name_of (halt_of fault) ≡ None

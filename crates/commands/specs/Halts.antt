@@ -1,4 +1,4 @@
--- Why there is no output, and what is told of it.
+-- Why there is no output, and what is reported of it.
 use Rattle.std.specs.Prelude.{◌≡◌, ◌<◌, ◌⊎◌, ℕ, Bool, true, false, List, [], ◌∷◌, ◌++◌, Option, Some, None, Result, Ok, Err, codes}
 use Rattle.plain.specs.Streams.{Puts}
 use Rattle.plain.specs.declared.devices.input.InputFault.{InputFault}

@@ -1,4 +1,4 @@
--- What a run of the program has told of an input that is refused.
+-- What a run of the program reports of an input that is refused.
 use Rattle.std.specs.Prelude.{◌≡◌, ℕ, List, Option, codes, true}
 use Rattle.clap.specs.Words.{Text}
 use Rattle.commands.specs.declared.words.PlanWords.{PlanWords}
@@ -8,9 +8,9 @@ use Rattle.commands.specs.Grammar.{asks_to}
 use Rattle.commands.specs.Planning.{IsPlanRefusedBy}
 use Rattle.commands.specs.Replaying.{IsRefusedBy}
 
--- A refusal by some name was told, and by that name the script of a replay or a cluster is refused, or the plan that the words ask
+-- A refusal by some name was reported, and by that name the script of a replay or a cluster is refused, or the plan that the words ask
 -- for.
-abbrev pub Refuses : List Text → Option (List ℕ) → Option (List ℕ) → (told : List ℕ → Type 0) → Type 0
-Refuses words had left told = (name : List ℕ) × told name × (asks_to (codes "replay") words ≡ true → IsRefusedBy had left name)
+abbrev pub Refuses : List Text → Option (List ℕ) → Option (List ℕ) → (reported : List ℕ → Type 0) → Type 0
+Refuses words had left reported = (name : List ℕ) × reported name × (asks_to (codes "replay") words ≡ true → IsRefusedBy had left name)
     × (asks_to (codes "cluster") words ≡ true → IsClusterRefusedBy had left name)
     × (asks_to (codes "plan") words ≡ true → (asked : PlanWords) × IsPlanAsked words asked × IsPlanRefusedBy asked had left name)

@@ -3,7 +3,7 @@ ghost use Rattle.std.specs.Prelude.{◌≡◌, ◌≢◌, ◌≤◌, ◌<◌, �
 ghost use Rattle.clap.specs.Words.{kind_of};
 ghost use Rattle.commands.specs.Grammar.{is_mistake, is_request};
 
-use crate::status::{BAD_WORDS, FAILURE, Heap, SUCCESS, shown, told};
+use crate::status::{BAD_WORDS, FAILURE, Heap, SUCCESS, report_bad_words, shown};
 use clap::Error;
 use clap::error::ErrorKind;
 use plain::Sink;
@@ -42,7 +42,7 @@ pub(crate) fn explained<W: Sink, F: Sink>(
     let kind = error.kind();
     match format!(in heap.alloc; "{error}") {
         Ok(text) if is_request(kind) => shown(writer, text.as_bytes()),
-        Ok(text) if is_mistake(kind) => told(faults, text.as_bytes()),
+        Ok(text) if is_mistake(kind) => report_bad_words(faults, text.as_bytes()),
         _ => {
             heap.refused = true;
             FAILURE

@@ -51,7 +51,7 @@ pub(crate) fn shown<W: Sink>(writer: &mut W, text: &[u8]) -> u8
 }
 
 /// Writes what is wrong with the words. The status already says that they are bad, so nothing is lost where this fails.
-pub(crate) fn told<F: Sink>(faults: &mut F, text: &[u8]) -> u8
+pub(crate) fn report_bad_words<F: Sink>(faults: &mut F, text: &[u8]) -> u8
     ensures status { result ≡ BAD_WORDS }
     ensures all { (Puts (F.written faults.old) text.now (F.written faults.new)) ⊎ (F.failures faults.old < F.failures faults.new) }
 {

@@ -20,17 +20,17 @@ module _ {X Y Z : Type 0} (f : X → Z) (g : Y → Z) where
   pub same_length : (xs : List X) (ys : List Y) → map f xs ≡ map g ys → length xs ≡ length ys
   same_length xs ys is = sym (length-map xs f) ∙ ap length is ∙ length-map ys g
 
-  same_place : (d : Z) (o : Option X) (p : Option Y) → option_map f o ≡ option_map g p → IfSome o (λ x. f x ≡ option_map_or g p d)
-  same_place d None p is = tt
-  same_place d (Some x) None is = absurd cc
-  same_place d (Some x) (Some y) is = cc
+  same_at_index : (d : Z) (o : Option X) (p : Option Y) → option_map f o ≡ option_map g p → IfSome o (λ x. f x ≡ option_map_or g p d)
+  same_at_index d None p is = tt
+  same_at_index d (Some x) None is = absurd cc
+  same_at_index d (Some x) (Some y) is = cc
 
-  pub same_places : (d : Z) (xs : List X) (ys : List Y) → map f xs ≡ map g ys → (n : ℕ) → IfSome (slice_get xs n) (λ x. f x ≡ option_map_or g (slice_get ys n) d)
-  same_places d xs ys is n = same_place d (slice_get xs n) (slice_get ys n) (sym (slice_get-map f xs n) ∙ ap (λ zs. slice_get zs n) is ∙ slice_get-map g ys n)
+  pub same_at_each_index : (d : Z) (xs : List X) (ys : List Y) → map f xs ≡ map g ys → (n : ℕ) → IfSome (slice_get xs n) (λ x. f x ≡ option_map_or g (slice_get ys n) d)
+  same_at_each_index d xs ys is n = same_at_index d (slice_get xs n) (slice_get ys n) (sym (slice_get-map f xs n) ∙ ap (λ zs. slice_get zs n) is ∙ slice_get-map g ys n)
 
 pub made_named : (controllers : List Controller) (sets : List SetSpec) → map reconciler_of controllers ≡ map reconciler_for sets → AreMadeOf reconciler_of controllers (reconciler_named sets)
 unfolding reconciler_named
-made_named controllers sets is = same_places reconciler_of reconciler_for _ controllers sets is
+made_named controllers sets is = same_at_each_index reconciler_of reconciler_for _ controllers sets is
 
 sound_by : (d : Reconciler) → IsSound d → (o : Option SetSpec) → IsSound (option_map_or reconciler_for o d)
 sound_by d sound None = sound

@@ -10,7 +10,7 @@ use Rattle.collector.specs.Collectable.{Among}
 use Rattle.rounds.specs.Planned.{IsPlanned, asked}
 use Rattle.rounds.specs.Promises.{CreatesArePlanned}
 use Rattle.rounds.specs.Reconciler.{Reconciler}
-use Rattle.rounds.specs.Transcript.{Entry, Exchange, of_life}
+use Rattle.rounds.specs.Transcript.{Entry, Exchange, of_incarnation}
 use Rattle.rounds.proofs.Lists.{among_right}
 use Rattle.plan_requests.specs.Planned.{or_none, requested}
 use Rattle.plan_requests.specs.Reconciler.{reconciler_with}
@@ -28,8 +28,8 @@ planned_in_turn set digits moment own d plan kind = λ s read policy.
     ] refl among
 
 pub pods_in_turn : (reconcilers : ℕ → Reconciler) (entries : List Entry) → ((c : ℕ) → IsOfSet (reconcilers c)) → CreatesArePlanned reconcilers entries → PodsComeInTurn reconcilers entries
-pods_in_turn reconcilers entries sets planned = λ before later life d reply at kind.
-    let own = of_life life before in
-    let plan = planned before later life d reply at in
-    let is = sets life.controller in
+pods_in_turn reconcilers entries sets planned = λ before later incarnation d reply at kind.
+    let own = of_incarnation incarnation before in
+    let plan = planned before later incarnation d reply at in
+    let is = sets incarnation.controller in
     (plan, subst (λ (c : Reconciler). (p : IsPlanned c own (Create d)) → ComesInTurn c own d p) (sym is.3) (λ p. planned_in_turn is.0 is.1 is.2 own d p kind) plan)

@@ -19,7 +19,7 @@ use Rattle.sets.specs.Laws.{HasHealthyTarget}
 use Rattle.sets.specs.PlanOfLists.{views_of}
 use Rattle.rounds.specs.Planned.{IsPlanned}
 use Rattle.rounds.specs.Reconciler.{Reconciler}
-use Rattle.rounds.specs.Transcript.{Entry, Exchange, Life, of_life}
+use Rattle.rounds.specs.Transcript.{Entry, Exchange, Incarnation, of_incarnation}
 use Rattle.plan_requests.specs.Reconciler.{reconciler_with}
 
 -- the request creates or deletes a pod
@@ -51,10 +51,10 @@ abbrev pub ComesInTurn : (c : Reconciler) (own : List Exchange) (d : Draft) → 
 ComesInTurn c own d plan = (set : SetParts) → set_of plan.set ≡ Ok set → set.policy ≡ OrderedReady
     → IsInTurn set plan.pods (c.plan plan.set plan.revisions plan.pods plan.claims) d
 
--- Each create of a pod that a life asks comes from a plan over what was answered to it in this round, and in turn.
+-- Each create of a pod that an incarnation asks comes from a plan over what was answered to it in this round, and in turn.
 abbrev pub PodsComeInTurn : (ℕ → Reconciler) → List Entry → Type 0
 PodsComeInTurn reconcilers entries =
-    (before later : List Entry) (life : Life) (d : Draft) (reply : Reply)
-    → entries ≡ before ++ ((Some life, Create d, reply) ∷ later) → d.object.key.kind ≡ Pod
-    → (plan : IsPlanned (reconcilers life.controller) (of_life life before) (Create d))
-    × ComesInTurn (reconcilers life.controller) (of_life life before) d plan
+    (before later : List Entry) (incarnation : Incarnation) (d : Draft) (reply : Reply)
+    → entries ≡ before ++ ((Some incarnation, Create d, reply) ∷ later) → d.object.key.kind ≡ Pod
+    → (plan : IsPlanned (reconcilers incarnation.controller) (of_incarnation incarnation before) (Create d))
+    × ComesInTurn (reconcilers incarnation.controller) (of_incarnation incarnation before) d plan

@@ -9,7 +9,7 @@ pub use Rattle.plan_requests.specs.Planned
 pub use Rattle.plan_requests.specs.Reconciler
 pub use Rattle.rounds.specs.Accepted
 pub use Rattle.rounds.specs.Before
-pub use Rattle.rounds.specs.Life
+pub use Rattle.rounds.specs.Incarnation
 pub use Rattle.rounds.specs.Phase
 pub use Rattle.rounds.specs.Planned as Plans
 pub use Rattle.rounds.specs.Promises

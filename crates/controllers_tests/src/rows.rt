@@ -1,6 +1,6 @@
 //! Runs of controllers over one store, as rows of tables.
 use crate::checks::first_fault;
-use crate::sample::{Step, taken_of, told_text};
+use crate::sample::{Step, taken_of, text_without_lists};
 use objects::Memory;
 use std::alloc::Global;
 use std::process::Abort;
@@ -16,7 +16,7 @@ pub(crate) type Row = (
 fn assert_row(rt: &impl Abort, alloc: Global, row: &Row) -> Result<(), Memory> {
     let (idea, names, steps, expected) = row;
     let taken = taken_of(alloc, names, steps)?;
-    let told = told_text(alloc, taken.as_slice());
+    let told = text_without_lists(alloc, taken.as_slice());
     let fault = first_fault(taken.as_slice());
     drop(taken);
     assert_eq!(rt; told?.as_str(), *expected, "{idea}");

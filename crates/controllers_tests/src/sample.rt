@@ -189,7 +189,7 @@ fn is_list(request: &Request) -> bool {
 }
 
 /// The same without the lists.
-pub(crate) fn told_text(alloc: Global, taken: &[Taken]) -> Result<String, Memory> {
+pub(crate) fn text_without_lists(alloc: Global, taken: &[Taken]) -> Result<String, Memory> {
     let mut text = String::new(alloc);
     for entry in taken {
         if !is_list(&entry.1) {

@@ -99,10 +99,10 @@ steps_by e m n k l does is thins = λ z w a sh facts.
     thins z (later v) (arranged w e (later v) a) (subst (λ x. Shows z (later v) (arranged w e (later v) a) x) (sym is)
     (subst (λ b. Shows z (later v) b (record n { now_at = n.now_at + 1 })) (sym (placed w v a e)) (later_shown z v (arranged w e v a) n (does z w a sh facts))))
 
--- what a caller is told goes by the trace
-pub answer_same : (e : Event) (m n k : Machine) (told : Option Reply) → k.items.items ≡ n.items.items → IsAnswer e m n told → IsAnswer e m k told
-answer_same (event.Reply c) m n k told items answer = items ∙ answer
-answer_same e m n k told items answer = answer
+-- what a caller gets goes by the trace
+pub answer_same : (e : Event) (m n k : Machine) (delivered : Option Reply) → k.items.items ≡ n.items.items → IsAnswer e m n delivered → IsAnswer e m k delivered
+answer_same (event.Reply c) m n k delivered items answer = items ∙ answer
+answer_same e m n k delivered items answer = answer
 
 pub same_stays : (m m' : Machine) → Same m.callers m'.callers → m' ≡ record m { callers = m'.callers } → Stays m m'
 unfolding Keeps Stays

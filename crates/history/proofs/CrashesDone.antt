@@ -85,11 +85,11 @@ crash_done m m' c denies entering e = λ z w a sh facts.
 pub crash_held : (m m' : Machine) (c s : ℕ) (t : CodeWriting) → holding_in (phase_at m.callers c) ≡ Some t → s ≡ shard_of t.key (length m.shards.items) → s < length m.holders.items → m'.holders.items ≡ set m.holders.items s None
     → Enters m.callers m'.callers c (gone_phase (phase_at m.callers c)) → m' ≡ record m { holders = m'.holders; callers = m'.callers } → Does (Crash c) m m'
 unfolding Does shard
-crash_held m m' c s t stated is lt seats entering e = λ z w a sh facts.
-    let here : w.phase c ≡ Holding (writing_of t) = holding_is (phase_at m.callers c) (w.phase c) t stated (sh.phases c) in
+crash_held m m' c s t phase_is is lt seats entering e = λ z w a sh facts.
+    let here : w.phase c ≡ Holding (writing_of t) = holding_is (phase_at m.callers c) (w.phase c) t phase_is (sh.phases c) in
     let own : s ≡ shard z t.key = is ∙ ap (shard_of t.key) sh.log.count in
     let u : World = record w { holder = changed w.holder s None; phase = changed w.phase c (Gone None) } in
-    let p = holding_code (phase_at m.callers c) t stated in
+    let p = holding_code (phase_at m.callers c) t phase_is in
     let n : Machine = record m { callers = m'.callers } in
     let shown = shows_entered z w a m sh m'.callers c code.Gone (Gone None) (subst (λ x. Enters m.callers m'.callers c (gone_phase x)) p entering) refl (sym (ap is_dropped p)) tt in
     steps z w c a m' u _ (Holding (writing_of t)) (Gone None)

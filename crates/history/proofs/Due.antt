@@ -1,4 +1,4 @@
--- When a caller can be given its reply.
+-- When a caller can get its reply.
 use Rattle.std.proofs.Common.{◌≡◌, ℕ, ◌<◌, ◌≤◌, true, cond, List, [], ◌∷◌, length, Option, Some, None, refl, sym, ap, ◌∙◌, subst, arith, ◌⊎◌, inl, inr}
 use Rattle.std.specs.FinMap as finite
 use Rattle.objects.specs.declared.kind.Kind.{Kind}
@@ -23,9 +23,9 @@ use Rattle.history.specs.declared.phase.Phase.TheVariants as code
 use Rattle.interleavings.specs.Facts.{Facts}
 use Rattle.interleavings.specs.Log.{state_at}
 use Rattle.interleavings.specs.Order.{Arrangement, moved}
-use Rattle.interleavings.specs.Step.{given, given_if, only, replied}
+use Rattle.interleavings.specs.Step.{with_reply, with_reply_if, only, replied}
 use Rattle.interleavings.specs.World.{Phase, Idle, Waiting, Reading, Size, World, shard}
-use Rattle.history.specs.Replayed.{Answers, Does, IsDue, IsNumbered, IsShown, IsTold, IsUnread, Shows, Stands, Tells, compaction_at, is_replying, phase_at, reading_in, records_of, shard_at, waiting_in}
+use Rattle.history.specs.Replayed.{Answers, Does, IsDue, IsNumbered, IsShown, IsDelivered, IsUnread, Shows, Stands, Tells, compaction_at, is_replying, phase_at, reading_in, records_of, shard_at, waiting_in}
 use Rattle.interleavings.proofs.Basics.{Compared, same, other, compare, Least, atmost, above, least, changed-same}
 use Rattle.history.specs.Mirrors.{found_in}
 use Rattle.history.proofs.ListAnswers.{list_answer}
@@ -61,10 +61,10 @@ module _ (m : Machine) (c : ℕ) where
     where
       by : (z : Size) (w : World) (a : Arrangement) → Shows z w a m → (place : ℕ) → Least saw w.frontier → replied z w c (Waiting saw place reply) ≡ w
       by z w a sh place (atmost le b) = let f = sh.frontier in absurd (omega arith)
-      by z w a sh place (above gt b) = ap (λ t. given_if t w c reply) b
+      by z w a sh place (above gt b) = ap (λ t. with_reply_if t w c reply) b
 
   pub due_now : (saw : ℕ) (reply : Reply) → waiting_in (phase_at m.callers c) ≡ Some (saw, reply) → saw ≤ m.frontier → IsDue c (Some reply) m
-  unfolding IsTold
+  unfolding IsDelivered
   due_now saw reply e le = (
     waiting_replies (phase_at m.callers c) (saw, reply) e,
     λ z w a sh facts.
@@ -72,13 +72,13 @@ module _ (m : Machine) (c : ℕ) where
         (ap (replied z w c) x.1 ∙ by z w a sh x.0 (least saw w.frontier), λ b. ap (λ ph. moved w.frontier c ph Idle b) x.1),
   )
     where
-      by : (z : Size) (w : World) (a : Arrangement) → Shows z w a m → (place : ℕ) → Least saw w.frontier → replied z w c (Waiting saw place reply) ≡ given w c reply
-      by z w a sh place (atmost k b) = ap (λ t. given_if t w c reply) b
+      by : (z : Size) (w : World) (a : Arrangement) → Shows z w a m → (place : ℕ) → Least saw w.frontier → replied z w c (Waiting saw place reply) ≡ with_reply w c reply
+      by z w a sh place (atmost k b) = ap (λ t. with_reply_if t w c reply) b
       by z w a sh place (above gt b) = let f = sh.frontier in absurd (omega arith)
 
   -- all shards have answered a read
   pub due_read : (n : ℕ) (r : Request) (reply : Reply) → reading_in (phase_at m.callers c) ≡ Some (n, r, 0) → Answers n r reply m → IsDue c (Some reply) m
-  unfolding IsTold Answers
+  unfolding IsDelivered Answers
   due_read n r reply e answer = (
     reading_replies (phase_at m.callers c) (n, r, 0) e,
     λ z w a sh facts.
@@ -86,8 +86,8 @@ module _ (m : Machine) (c : ℕ) where
         (by z w a sh facts x.0 x.1.0 x.1.1.0 x.1.1.1.0 x.1.1.1.1, λ b. ap (λ ph. moved w.frontier c ph Idle b) x.1.1.1.0),
   )
     where
-      by : (z : Size) (w : World) (a : Arrangement) → Shows z w a m → Facts z w → (place : ℕ) (parts : List ℕ) (got : Objects) → w.phase c ≡ Reading n place r parts got → length parts ≡ 0 → replied z w c (w.phase c) ≡ given w c reply
-      by z w a sh facts place [] got at count = ap (replied z w c) at ∙ ap (given w c) (facts.answer c n place r got at ∙ sym (answer z w a sh facts))
+      by : (z : Size) (w : World) (a : Arrangement) → Shows z w a m → Facts z w → (place : ℕ) (parts : List ℕ) (got : Objects) → w.phase c ≡ Reading n place r parts got → length parts ≡ 0 → replied z w c (w.phase c) ≡ with_reply w c reply
+      by z w a sh facts place [] got at count = ap (replied z w c) at ∙ ap (with_reply w c) (facts.answer c n place r got at ∙ sym (answer z w a sh facts))
       by z w a sh facts place (s ∷ parts) got at count = absurd (omega arith)
 
   -- some have not
@@ -114,10 +114,10 @@ module _ (m : Machine) (c : ℕ) where
   reply_nothing due = λ z w a sh facts. nothing z w c a m _ (due z w a sh facts) sh
 
   pub reply_done : (m' : Machine) (reply : Reply) → IsDue c (Some reply) m → Tells c reply m m' → Does (event.Reply c) m m'
-  unfolding Does Tells IsTold
+  unfolding Does Tells IsDelivered
   reply_done m' reply due tells = λ z w a sh facts.
-      let told = due.1 z w a sh facts in
-      steps z w c a m' (given w c reply) _ (w.phase c) Idle told.0 refl (changed-same w.phase c Idle) (subst (λ b. Shows z (given w c reply) b m') (sym (told.1 a)) (tells z w a sh))
+      let delivered = due.1 z w a sh facts in
+      steps z w c a m' (with_reply w c reply) _ (w.phase c) Idle delivered.0 refl (changed-same w.phase c Idle) (subst (λ b. Shows z (with_reply w c reply) b m') (sym (delivered.1 a)) (tells z w a sh))
 
 -- ---- a get
 pub get_found : (m : Machine) (number : ℕ) (k : Key) (reply : Reply) → shard_of k (length m.shards.items) < length m.shards.items → m.compacted ≤ number → reply ≡ found (versions.value (shard_at m.shards.items (shard_of k (length m.shards.items))).records number k) → Answers number (Get k) reply m

@@ -13,7 +13,7 @@ use Rattle.plain_store.specs.Store.{denied}
 use Rattle.interleavings.specs.declared.event.Event.{Event}
 use Rattle.interleavings.specs.declared.event.Event.TheVariants as event
 use Rattle.interleavings.specs.Log.{Writing, value}
-use Rattle.interleavings.specs.Step.{begun_unless, checked, checked_by, checked_in, compacted, compacted_by, drawn_by, floored, given_if, happens, judged, part, published, raised, read, read_at, read_at_by, read_by, replied, reserved}
+use Rattle.interleavings.specs.Step.{begun_unless, checked, checked_by, checked_in, compacted, compacted_by, drawn_by, floored, with_reply_if, happens, judged, part, published, raised, read, read_at, read_at_by, read_by, replied, reserved}
 use Rattle.interleavings.specs.World.{Phase, Idle, Called, Holding, Drawn, Waiting, Reading, Gone, Size, World, shard}
 use Rattle.interleavings.proofs.Basics.{changed-same}
 use Rattle.history.specs.declared.standing.Standing.TheVariants as standing
@@ -95,7 +95,7 @@ module _ (z : Size) (w : World) (c : ℕ) where
       → (e : Event) → (if b then Some (event.Reply c) else if can_rise w then Some event.Raise else None) ≡ Some e → happens z w e ≢ w
   waits saw p reply true is at e next =
       subst (λ x. happens z w x ≢ w) (same_Some _ _ next) (elsewhere (event.Reply c) (Waiting saw p reply) _ at
-      (ap (replied z w c) at ∙ ap (λ b. given_if b w c reply) is) (record { there = _; is = changed-same w.phase c _; other = λ x. absurd cc }))
+      (ap (replied z w c) at ∙ ap (λ b. with_reply_if b w c reply) is) (record { there = _; is = changed-same w.phase c _; other = λ x. absurd cc }))
   waits saw p reply false is at e next = rises_on (w.log w.frontier) refl e next
 
   leads : (ph : Phase) → w.phase c ≡ ph → (e : Event) → goes_on is_held w.frontier (can_rise w) c (standing_of z.shards ph) ≡ Some e → happens z w e ≢ w

@@ -16,7 +16,7 @@ use Rattle.history.specs.Mirrors.{Mirrors, found_in, read_up_to, with_objects}
 use Rattle.interleavings.specs.Step.{only, reads}
 use Rattle.interleavings.specs.World.{Reading, Size, World}
 use Rattle.interleavings.proofs.Basics.{Compared, same, other, compare}
-use Rattle.history.proofs.MirrorReads.{list_at_reply, list_reply, listed, none_unwanted, whole_answer}
+use Rattle.history.proofs.MirrorReads.{list_at_reply, list_reply, listed, none_unwanted, answer_of_all_parts}
 
 routed_now : (kind : Kind) (namespace : List ℕ) (exact : ℕ) → exact ≡ 0 → route (request.List kind namespace exact) ≡ lists kind namespace
 unfolding route
@@ -63,12 +63,12 @@ module _ (z : Size) (log : Log) (d : ℕ) (records : ℕ → Records) (floors : 
       by : Compared exact 0 → (exact ≡ 0) ⊎ (exact ≡ n) → (step (only z n (state_at log n)) r).1 ≡ Listed (map.values (found_in records n kind namespace z.shards)) n
       by (same e b) either =
           let is = routed_now kind namespace exact e in
-          whole_answer z log n r some (λ k x. let all : lists kind namespace ≡ writes k = sym is ∙ x in absurd cc)
+          answer_of_all_parts z log n r some (λ k x. let all : lists kind namespace ≡ writes k = sym is ∙ x in absurd cc)
           ∙ list_reply z n r found kind namespace is unwanted
           ∙ ap (λ m. Listed (map.values m) n) (sym (found_is r kind namespace (λ k. ap (λ ro. reads ro k) is) z.shards (omega arith)))
       by (other ne b) (inl e) = absurd (ne e)
       by (other ne b) (inr e) =
           let is = routed_at kind namespace exact ne ∙ ap (lists_at kind namespace) e in
-          whole_answer z log n r some (λ k x. let all : lists_at kind namespace n ≡ writes k = sym is ∙ x in absurd cc)
+          answer_of_all_parts z log n r some (λ k x. let all : lists_at kind namespace n ≡ writes k = sym is ∙ x in absurd cc)
           ∙ list_at_reply z n r found kind namespace is unwanted
           ∙ ap (λ m. Listed (map.values m) n) (sym (found_is r kind namespace (λ k. ap (λ ro. reads ro k) is) z.shards (omega arith)))

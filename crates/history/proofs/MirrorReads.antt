@@ -180,11 +180,11 @@ module _ (z : Size) (log : Log) (n : ℕ) (r : Request) where
   none_unwanted k unwanted (suc s) =
       get_with_part z log n r s (read_up_to z log n r s) k ∙ part_of_none _ (value log n k) _ (ap (λ b. b && nat_eq (shard z k) s) unwanted) ∙ none_unwanted k unwanted s
 
-  pub whole_read : 0 < z.shards → (k : Key) → reads (route r) k ≡ true → finite.get (read_up_to z log n r z.shards) k ≡ value log n k
-  whole_read some k wanted = beyond k wanted z.shards (shard_below z k some)
+  pub read_of_all_parts : 0 < z.shards → (k : Key) → reads (route r) k ≡ true → finite.get (read_up_to z log n r z.shards) k ≡ value log n k
+  read_of_all_parts some k wanted = beyond k wanted z.shards (shard_below z k some)
 
-  pub whole_answer : 0 < z.shards → ((k : Key) → route r ≡ writes k → ⊥) → (step (only z n (state_at log n)) r).1 ≡ (step (only z n (read_up_to z log n r z.shards)) r).1
-  whole_answer some no_write = same_answer z log n r (read_up_to z log n r z.shards) (route r) refl no_write (whole_read some)
+  pub answer_of_all_parts : 0 < z.shards → ((k : Key) → route r ≡ writes k → ⊥) → (step (only z n (state_at log n)) r).1 ≡ (step (only z n (read_up_to z log n r z.shards)) r).1
+  answer_of_all_parts some no_write = same_answer z log n r (read_up_to z log n r z.shards) (route r) refl no_write (read_of_all_parts some)
 
 -- ---- replies
 

@@ -12,7 +12,7 @@ use Rattle.plain_store.specs.Store.{denied}
 use Rattle.plain_store.proofs.Denials.{readable}
 use Rattle.interleavings.specs.Facts.{Facts}
 use Rattle.interleavings.specs.Order.{Arrangement, last_or_parked, with_last}
-use Rattle.interleavings.specs.Step.{begun, given}
+use Rattle.interleavings.specs.Step.{begun, with_reply}
 use Rattle.interleavings.specs.World.{Phase, Idle, Called, Holding, Waiting, Reading, Size, World, changed}
 use Rattle.history.specs.Replayed.{Begins, Enters, Holds, IsShown, Keeps, Settles, Shows, Stands, Stays, Tells, Waits, begun_phase, drops, is_called, is_dropped, is_replying, is_undecided, lot_at, named_phase, phase_at, shard_at, staying, writing_of}
 use Rattle.history.specs.declared.phase.Writing.{Writing as CodeWriting}
@@ -131,7 +131,7 @@ settled_later m m' saw c place lt live lots is = λ z w a sh. by z w a sh (least
       parked = shows_parked z w a m sh m'.parking saw c place (undecided_live (phase_at m.callers c) live) lots;
     }))
 
--- ---- a caller waits, holds its shard, reads, is told its reply
+-- ---- a caller waits, holds its shard, reads, gets its reply
 pub waits_by : (m s m' : Machine) (saw c place : ℕ) (reply : Reply) → is_undecided (phase_at m.callers c) ≡ true → Settles saw c place m s → s.callers ≡ m.callers → Enters s.callers m'.callers c (code.Waiting saw place reply)
     → m' ≡ record s { callers = m'.callers } → Waits c saw place reply m m'
 unfolding Settles Waits
@@ -146,8 +146,8 @@ waits_by m s m' saw c place reply live settles same entering is = λ z w a sh.
 pub holds_by : (m m' : Machine) (c s : ℕ) (t : CodeWriting) → is_called (phase_at m.callers c) ≡ true → s < length m.holders.items → m'.holders.items ≡ set m.holders.items s (Some c) → Enters m.callers m'.callers c (code.Holding t)
     → m' ≡ record m { holders = m'.holders; callers = m'.callers } → Holds c s (writing_of t) m m'
 unfolding Holds
-holds_by m m' c s t stated lt seats entering is = λ z w a sh.
-    let live : drops m.callers c ≡ false = undecided_live (phase_at m.callers c) (called_is_undecided (phase_at m.callers c) stated) in
+holds_by m m' c s t phase_is lt seats entering is = λ z w a sh.
+    let live : drops m.callers c ≡ false = undecided_live (phase_at m.callers c) (called_is_undecided (phase_at m.callers c) phase_is) in
     let next = shows_entered z w a m sh m'.callers c (code.Holding t) (Holding (writing_of t)) entering refl (sym live) tt in
     subst (λ x. Shows z (record w { holder = changed w.holder s (Some c); phase = changed w.phase c (Holding (writing_of t)) }) a x) (sym is) (record {
       capacity = sh.capacity;
@@ -169,9 +169,9 @@ holds_by m m' c s t stated lt seats entering is = λ z w a sh.
 pub begins_by : (m m' : Machine) (c place number left : ℕ) → is_called (phase_at m.callers c) ≡ true → m.compacted ≤ number → m'.order.items ≡ m.order.items ++ place ∷ [] → Enters m.callers m'.callers c (begun_phase number left (phase_at m.callers c))
     → m' ≡ record m { order = m'.order; callers = m'.callers } → Begins c place number left m m'
 unfolding Begins
-begins_by m m' c place number left stated kept order entering is = λ z w a r parts sh at count.
+begins_by m m' c place number left phase_is kept order entering is = λ z w a r parts sh at count.
     let next = shows_entered z w a m sh m'.callers c (begun_phase number left (phase_at m.callers c)) (Reading number place r parts map.empty) entering
-    (reads (phase_at m.callers c) stated (w.phase c) (sh.phases c) r place parts at count) (same_drops (phase_at m.callers c)) kept in
+    (reads (phase_at m.callers c) phase_is (w.phase c) (sh.phases c) r place parts at count) (same_drops (phase_at m.callers c)) kept in
     subst (λ x. Shows z (begun w c number place r parts) (with_last a place) x) (sym is) (record {
       capacity = sh.capacity;
       small = sh.small;
@@ -204,9 +204,9 @@ replying_live _ e = refl
 pub tells_by : (m m' : Machine) (c : ℕ) (reply : Reply) → is_replying (phase_at m.callers c) ≡ true → m'.items.items ≡ m.items.items ++ item.Reply m.now_at c reply ∷ [] → Enters m.callers m'.callers c code.Idle
     → m' ≡ record m { items = m'.items; callers = m'.callers } → Tells c reply m m'
 unfolding Tells
-tells_by m m' c reply stated items entering is = λ z w a sh.
-    let next = shows_entered z w a m sh m'.callers c code.Idle Idle entering refl (sym (replying_live (phase_at m.callers c) stated)) tt in
-    subst (λ x. Shows z (given w c reply) a x) (sym is) (record {
+tells_by m m' c reply phase_is items entering is = λ z w a sh.
+    let next = shows_entered z w a m sh m'.callers c code.Idle Idle entering refl (sym (replying_live (phase_at m.callers c) phase_is)) tt in
+    subst (λ x. Shows z (with_reply w c reply) a x) (sym is) (record {
       capacity = sh.capacity;
       small = sh.small;
       frontier = sh.frontier;

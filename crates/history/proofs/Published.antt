@@ -15,7 +15,7 @@ use Rattle.history.specs.declared.phase.Phase.TheVariants as code
 use Rattle.interleavings.specs.Facts.{Facts, draw_in, writing_in}
 use Rattle.interleavings.specs.Log.{Writing}
 use Rattle.interleavings.specs.Order.{Arrangement, moved_by}
-use Rattle.interleavings.specs.Step.{published, told}
+use Rattle.interleavings.specs.Step.{published, accepted_reply}
 use Rattle.interleavings.specs.World.{Phase, Draw, Drawn, Waiting, Gone, Size, World, changed, shard}
 use Rattle.history.specs.Replayed.{Does, Enters, Fills, IsShown, IsUnread, Keeps, Shows, Stands, Stays, draw_of, drawn_in, is_dropped, phase_at, published_phase, shard_at}
 use Rattle.interleavings.proofs.Basics.{changed-same}
@@ -82,8 +82,8 @@ publish_nothing m c none = λ z w a sh facts. nothing z w c a m _ (not_drawn z w
 pub publish_done : (m n k m' : Machine) (c s : ℕ) (d : CodeDraw) (v : Version) → drawn_in (phase_at m.callers c) ≡ Some d → s ≡ shard_of d.writing.key (length m.shards.items) → Stays m n → n.callers ≡ m.callers
     → Enters n.callers k.callers c (published_phase (phase_at n.callers c)) → k ≡ record n { callers = k.callers } → v ≡ version_of d.writing.change (d.index + 1) → Fills s d.index d.writing.place v k m' → Does (Publish c) m m'
 unfolding Does Fills Keeps Stays shard
-publish_done m n k m' c s d v stated is stays same entering k_is v_is fills = λ z w a sh facts.
-    by z w a sh facts (drawing (phase_at m.callers c) (w.phase c) d stated (sh.phases c))
+publish_done m n k m' c s d v phase_is is stays same entering k_is v_is fills = λ z w a sh facts.
+    by z w a sh facts (drawing (phase_at m.callers c) (w.phase c) d phase_is (sh.phases c))
   where
     T : Writing
     T = (draw_of d).writing
@@ -107,9 +107,9 @@ publish_done m n k m' c s d v stated is stays same entering k_is v_is fills = λ
         let at : IsDrawing (phase_at m.callers c) (w.phase c) d = draws p ph in
         let D : Draw = draw_of d in
         let drawn = draw_is (phase_at m.callers c) (w.phase c) d at in
-        let to : Phase = Waiting (suc d.index) T.place (told T.change (suc d.index)) in
-        let next : code.Waiting (d.index + 1) d.writing.place (told d.writing.change (d.index + 1)) ≡ code.Waiting (suc d.index) T.place (told T.change (suc d.index)) = ap (λ i. code.Waiting i d.writing.place (told d.writing.change i)) (add-one d.index) in
-        let shown = published_to z w a sh (code.Drawn d) (code.Waiting (suc d.index) T.place (told T.change (suc d.index))) p next refl to refl tt in
+        let to : Phase = Waiting (suc d.index) T.place (accepted_reply T.change (suc d.index)) in
+        let next : code.Waiting (d.index + 1) d.writing.place (accepted_reply d.writing.change (d.index + 1)) ≡ code.Waiting (suc d.index) T.place (accepted_reply T.change (suc d.index)) = ap (λ i. code.Waiting i d.writing.place (accepted_reply d.writing.change i)) (add-one d.index) in
+        let shown = published_to z w a sh (code.Drawn d) (code.Waiting (suc d.index) T.place (accepted_reply T.change (suc d.index))) p next refl to refl tt in
         let u : World = record w { log = changed w.log d.index (Some T); holder = changed w.holder s None; phase = changed w.phase c to } in
         steps z w c a m' u _ (Drawn D) to
         (ap (published z w c) ph ∙ ap (λ i. let x : World = record w { log = changed w.log d.index (Some T); holder = changed w.holder i None; phase = changed w.phase c to } in x) (own z w a sh)) ph (changed-same w.phase c to)

@@ -35,9 +35,9 @@ module _ (m : Machine) (c : ℕ) where
   unfolding Does
   compact_nothing denies = λ z w a sh facts. nothing z w c a m _ (compact_not_called z w c (phase_at m.callers c) (w.phase c) denies (sh.phases c)) sh
 
-module _ (m : Machine) (c place : ℕ) (r : Request) (stated : called_in (phase_at m.callers c) ≡ Some (place, r)) where
+module _ (m : Machine) (c place : ℕ) (r : Request) (phase_is : called_in (phase_at m.callers c) ≡ Some (place, r)) where
   at : (z : Size) (w : World) (a : Arrangement) → Shows z w a m → w.phase c ≡ Called place r
-  at z w a sh = called_is (phase_at m.callers c) (w.phase c) place r stated (sh.phases c)
+  at z w a sh = called_is (phase_at m.callers c) (w.phase c) place r phase_is (sh.phases c)
 
   -- ---- Read
   not_read : (z : Size) (w : World) (ro : Route) (n : ℕ) → parts_in n ro ≡ None → read_by z w c place r ro ≡ w

@@ -14,7 +14,7 @@ use Rattle.interleavings.specs.Order.{order}
 use Rattle.interleavings.specs.Linearization.{IsLegal}
 use Rattle.interleavings.specs.Trace.{trace}
 use Rattle.interleavings.specs.World.{Phase, Idle, Size}
-use Rattle.history.specs.Replayed.{IsAnswer, IsRun, IsShown, Stays, Steps, is_idle, named_by, told_at}
+use Rattle.history.specs.Replayed.{IsAnswer, IsRun, IsShown, Stays, Steps, is_idle, named_by, delivered_at}
 use Rattle.interleavings.proofs.Runs.{orders_are_legal}
 use Rattle.history.proofs.Naming.{named_more}
 use Rattle.history.proofs.Reached.{run_stays, run_steps}
@@ -47,19 +47,19 @@ after_still z es m m' n n' after stays same =
     let long = ap length same in
     (run_stays z es m m' after.0 stays, (same ∙ after.1.0, omega (arith, long, few)))
 
-pub answer_told : (z : Size) (es : List Event) (m m' : Machine) (e : Event) (told : Option Reply) → IsRun z es m → IsRun z (es ++ e ∷ []) m' → IsAnswer e m m' told → IsReplyTo z es e told
-answer_told z es m m' (event.Call c r) told run next answer = answer
-answer_told z es m m' (event.Check c) told run next answer = answer
-answer_told z es m m' (event.Reserve c) told run next answer = answer
-answer_told z es m m' (event.Publish c) told run next answer = answer
-answer_told z es m m' event.Raise told run next answer = answer
-answer_told z es m m' (event.Read c) told run next answer = answer
-answer_told z es m m' (event.ReadAt c) told run next answer = answer
-answer_told z es m m' (event.Compact c) told run next answer = answer
-answer_told z es m m' (event.Part c) told run next answer = answer
-answer_told z es m m' (event.Reply c) told run next answer =
-    sym next.shows.items ∙ answer ∙ ap (λ l. l ++ told_at m.now_at c told) run.shows.items ∙ ap (λ n. trace z es ++ told_at n c told) run.count
-answer_told z es m m' (event.Crash c) told run next answer = answer
+pub answer_is_reply : (z : Size) (es : List Event) (m m' : Machine) (e : Event) (delivered : Option Reply) → IsRun z es m → IsRun z (es ++ e ∷ []) m' → IsAnswer e m m' delivered → IsReplyTo z es e delivered
+answer_is_reply z es m m' (event.Call c r) delivered run next answer = answer
+answer_is_reply z es m m' (event.Check c) delivered run next answer = answer
+answer_is_reply z es m m' (event.Reserve c) delivered run next answer = answer
+answer_is_reply z es m m' (event.Publish c) delivered run next answer = answer
+answer_is_reply z es m m' event.Raise delivered run next answer = answer
+answer_is_reply z es m m' (event.Read c) delivered run next answer = answer
+answer_is_reply z es m m' (event.ReadAt c) delivered run next answer = answer
+answer_is_reply z es m m' (event.Compact c) delivered run next answer = answer
+answer_is_reply z es m m' (event.Part c) delivered run next answer = answer
+answer_is_reply z es m m' (event.Reply c) delivered run next answer =
+    sym next.shows.items ∙ answer ∙ ap (λ l. l ++ delivered_at m.now_at c delivered) run.shows.items ∙ ap (λ n. trace z es ++ delivered_at n c delivered) run.count
+answer_is_reply z es m m' (event.Crash c) delivered run next answer = answer
 
 idle_shown : (p : CodePhase) (ph : Phase) → IsShown p ph → is_idle p ≡ true → ph ≡ Idle
 idle_shown code.Idle ph h e = h

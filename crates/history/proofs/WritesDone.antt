@@ -47,14 +47,14 @@ module _ (m : Machine) (c : ℕ) where
 
   pub check_read : (place : ℕ) (r : Request) → called_in (phase_at m.callers c) ≡ Some (place, r) → is_write r ≡ false → Does (Check c) m m
   unfolding Does
-  check_read place r stated denies = λ z w a sh facts. nothing z w c a m _ (ap (checked z w c) (called_is (phase_at m.callers c) (w.phase c) place r stated (sh.phases c)) ∙ check_no_write z w c place r denies) sh
+  check_read place r phase_is denies = λ z w a sh facts. nothing z w c a m _ (ap (checked z w c) (called_is (phase_at m.callers c) (w.phase c) place r phase_is (sh.phases c)) ∙ check_no_write z w c place r denies) sh
 
   pub reserve_nothing : holding_in (phase_at m.callers c) ≡ None → Does (Reserve c) m m
   unfolding Does
   reserve_nothing denies = λ z w a sh facts. nothing z w c a m _ (reserve_not_holding z w c (phase_at m.callers c) (w.phase c) denies (sh.phases c)) sh
 
 -- ---- Check
-module _ (m : Machine) (c place : ℕ) (r : Request) (k : Key) (s : ℕ) (stated : called_in (phase_at m.callers c) ≡ Some (place, r)) (write : is_write r ≡ true) (key : key_named r ≡ Some k)
+module _ (m : Machine) (c place : ℕ) (r : Request) (k : Key) (s : ℕ) (phase_is : called_in (phase_at m.callers c) ≡ Some (place, r)) (write : is_write r ≡ true) (key : key_named r ≡ Some k)
     (is : s ≡ shard_of k (length m.shards.items)) (lt : s < length m.shards.items) where
   here : (z : Size) (w : World) (a : Arrangement) → Shows z w a m → shard z k ≡ s
   unfolding shard
@@ -64,7 +64,7 @@ module _ (m : Machine) (c place : ℕ) (r : Request) (k : Key) (s : ℕ) (stated
   below z w a sh = let e = sh.log.count in omega arith
 
   at : (z : Size) (w : World) (a : Arrangement) → Shows z w a m → w.phase c ≡ Called place r
-  at z w a sh = called_is (phase_at m.callers c) (w.phase c) place r stated (sh.phases c)
+  at z w a sh = called_is (phase_at m.callers c) (w.phase c) place r phase_is (sh.phases c)
 
   by_key : (z : Size) (w : World) (a : Arrangement) → Shows z w a m → checked z w c (w.phase c) ≡ checked_in z w c place r k (w.holder (shard z k))
   by_key z w a sh = ap (checked z w c) (at z w a sh) ∙ ap (checked_by z w c place r) (route_of_write r k write key)
@@ -114,9 +114,9 @@ module _ (m : Machine) (c place : ℕ) (r : Request) (k : Key) (s : ℕ) (stated
 pub call_done : (m : Machine) (c : ℕ) (r : Request) (m' : Machine) (cs : Callers) → is_idle (phase_at m.callers c) ≡ true → Enters m.callers cs c (code.Called m.now_at r)
     → m'.items.items ≡ m.items.items ++ item.Call m.now_at c r ∷ [] → (e : m' ≡ record m { items = m'.items; callers = cs }) → Does (Call c r) m m'
 unfolding Does
-call_done m c r m' cs stated entering is e = λ z w a sh facts.
-    let at : w.phase c ≡ Idle = idle_is (phase_at m.callers c) (w.phase c) stated (sh.phases c) in
-    let next = shows_entered z w a m sh cs c (code.Called m.now_at r) (Called w.now r) entering (ap (λ n. Called n r) (sym sh.place)) (sym (live (phase_at m.callers c) stated)) tt in
+call_done m c r m' cs phase_is entering is e = λ z w a sh facts.
+    let at : w.phase c ≡ Idle = idle_is (phase_at m.callers c) (w.phase c) phase_is (sh.phases c) in
+    let next = shows_entered z w a m sh cs c (code.Called m.now_at r) (Called w.now r) entering (ap (λ n. Called n r) (sym sh.place)) (sym (live (phase_at m.callers c) phase_is)) tt in
     steps z w c a m' (called w c r Idle) _ Idle (Called w.now r) (ap (called w c r) at) at (changed-same w.phase c (Called w.now r))
     (subst (λ x. Shows z (called w c r Idle) a x) (sym e) (record {
       capacity = sh.capacity;
@@ -147,9 +147,9 @@ call_done m c r m' cs stated entering is e = λ z w a sh facts.
     live code.Dropped e = absurd cc
 
 -- ---- Reserve
-module _ (m : Machine) (c : ℕ) (t : CodeWriting) (stated : holding_in (phase_at m.callers c) ≡ Some t) where
+module _ (m : Machine) (c : ℕ) (t : CodeWriting) (phase_is : holding_in (phase_at m.callers c) ≡ Some t) where
   stands_at : (z : Size) (w : World) (a : Arrangement) → Shows z w a m → w.phase c ≡ Holding (writing_of t)
-  stands_at z w a sh = holding_is (phase_at m.callers c) (w.phase c) t stated (sh.phases c)
+  stands_at z w a sh = holding_is (phase_at m.callers c) (w.phase c) t phase_is (sh.phases c)
 
   pub reserve_drawn : (m' : Machine) (index : ℕ) → index ≡ length m.places.items → index < m.capacity → m'.places.items ≡ m.places.items ++ None ∷ [] → Enters m.callers m'.callers c (with_draw index (phase_at m.callers c))
       → m' ≡ record m { places = m'.places; callers = m'.callers } → Does (Reserve c) m m'
@@ -161,9 +161,9 @@ module _ (m : Machine) (c : ℕ) (t : CodeWriting) (stated : holding_in (phase_a
       let capacity = sh.capacity in
       let to : Phase = Drawn (record { index = w.drawn; writing = T }) in
       let v : World = record w { drawn = suc w.drawn; phase = changed w.phase c to } in
-      let entered : Enters m.callers m'.callers c (code.Drawn (record { index = index; writing = t })) = subst (λ p. Enters m.callers m'.callers c (with_draw index p)) (holding_code (phase_at m.callers c) t stated) entering in
+      let entered : Enters m.callers m'.callers c (code.Drawn (record { index = index; writing = t })) = subst (λ p. Enters m.callers m'.callers c (with_draw index p)) (holding_code (phase_at m.callers c) t phase_is) entering in
       let next = shows_entered z w a m sh m'.callers c (code.Drawn (record { index = index; writing = t })) to entered (ap (λ i. let d : Draw = record { index = i; writing = T } in Drawn d) (sym count))
-      (sym (ap is_dropped (holding_code (phase_at m.callers c) t stated))) tt in
+      (sym (ap is_dropped (holding_code (phase_at m.callers c) t phase_is))) tt in
       let log : ShowsLog z w.log (suc w.drawn) m'.places.items m.shards.items m.compacted = record {
         drawn_is = ap length places ∙ length-append m.places.items (None ∷ []) ∙ add-one (length m.places.items) ∙ ap suc sh.log.drawn_is;
         filled = λ i. ap (λ l. get_or l i None) places ∙ none_more m.places.items i ∙ sh.log.filled i;

@@ -9,7 +9,7 @@ use Rattle.history.specs.declared.names.Names.{Names}
 use Rattle.history.specs.contracts.machine.Machine as machine
 use Rattle.history.specs.contracts.names.Names as names
 use Rattle.history.specs.Named.{named}
-use Rattle.history.specs.Replayed.{IsRun, told_at}
+use Rattle.history.specs.Replayed.{IsRun, delivered_at}
 use Rattle.interleavings.specs.declared.trace.Run.{Run}
 use Rattle.interleavings.specs.Linearization.{IsLegal}
 use Rattle.interleavings.specs.Order.{order}
@@ -45,16 +45,16 @@ pub record IsRunOf (z : Size) (events : List Event) (run : Run) : Type 0 where
   pub order_is : run.order.items ≡ order z events
   pub legal : IsLegal z.capacity run.trace.items.items run.order.items
 
--- What the caller of an event is told: of a Reply what it adds to the trace, and nothing of any other event.
+-- The reply that the caller of an event gets: of a Reply what it adds to the trace, and nothing of any other event.
 abbrev pub IsReplyTo : Size → List Event → Event → Option Reply → Type 0
-IsReplyTo z events (event.Call c r) told = told ≡ None
-IsReplyTo z events (event.Check c) told = told ≡ None
-IsReplyTo z events (event.Reserve c) told = told ≡ None
-IsReplyTo z events (event.Publish c) told = told ≡ None
-IsReplyTo z events event.Raise told = told ≡ None
-IsReplyTo z events (event.Read c) told = told ≡ None
-IsReplyTo z events (event.ReadAt c) told = told ≡ None
-IsReplyTo z events (event.Compact c) told = told ≡ None
-IsReplyTo z events (event.Part c) told = told ≡ None
-IsReplyTo z events (event.Reply c) told = trace z (events ++ event.Reply c ∷ []) ≡ trace z events ++ told_at (length events) c told
-IsReplyTo z events (event.Crash c) told = told ≡ None
+IsReplyTo z events (event.Call c r) delivered = delivered ≡ None
+IsReplyTo z events (event.Check c) delivered = delivered ≡ None
+IsReplyTo z events (event.Reserve c) delivered = delivered ≡ None
+IsReplyTo z events (event.Publish c) delivered = delivered ≡ None
+IsReplyTo z events event.Raise delivered = delivered ≡ None
+IsReplyTo z events (event.Read c) delivered = delivered ≡ None
+IsReplyTo z events (event.ReadAt c) delivered = delivered ≡ None
+IsReplyTo z events (event.Compact c) delivered = delivered ≡ None
+IsReplyTo z events (event.Part c) delivered = delivered ≡ None
+IsReplyTo z events (event.Reply c) delivered = trace z (events ++ event.Reply c ∷ []) ≡ trace z events ++ delivered_at (length events) c delivered
+IsReplyTo z events (event.Crash c) delivered = delivered ≡ None

@@ -35,7 +35,7 @@ use Rattle.interleavings.specs.Log.{Log, Writing, state_at}
 use Rattle.history.specs.Mirrors.{IsCompacted, Mirrors}
 use Rattle.interleavings.specs.Order.{Arrangement, Parked, arranged, arrangement, beginning, last_or_parked, moved, with_last}
 use Rattle.interleavings.specs.Step.{step as step_world}
-use Rattle.interleavings.specs.Step.{begun, enters, given, happens, only, replied, told}
+use Rattle.interleavings.specs.Step.{begun, enters, with_reply, happens, only, replied, accepted_reply}
 use Rattle.interleavings.specs.Trace.{after}
 use Rattle.interleavings.specs.World.{Draw, Phase, Idle, Called, Holding, Drawn, Waiting, Reading, Gone, Size, World, changed, opening, shard}
 use Rattle.history.specs.Begun.{is_open}
@@ -125,7 +125,7 @@ with_draw i (code.Holding t) = code.Drawn (record { index = i; writing = t })
 with_draw i phase = phase
 
 abbrev pub published_phase : CodePhase → CodePhase
-published_phase (code.Drawn d) = code.Waiting (d.index + 1) d.writing.place (told d.writing.change (d.index + 1))
+published_phase (code.Drawn d) = code.Waiting (d.index + 1) d.writing.place (accepted_reply d.writing.change (d.index + 1))
 published_phase (code.Left d) = code.Gone
 published_phase phase = phase
 
@@ -263,22 +263,22 @@ unfoldable pub Begins : ℕ → ℕ → ℕ → ℕ → Machine → Machine → 
 Begins c place number left old new = (z : Size) (w : World) (a : Arrangement) (r : Request) (parts : List ℕ) → Shows z w a old → w.phase c ≡ Called place r → length parts ≡ left
     → Shows z (begun w c number place r parts) (with_last a place) new
 
--- the caller is told a reply
+-- the caller gets a reply
 unfoldable pub Tells : ℕ → Reply → Machine → Machine → Type 0
-Tells c reply old new = (z : Size) (w : World) (a : Arrangement) → Shows z w a old → Shows z (given w c reply) a new
+Tells c reply old new = (z : Size) (w : World) (a : Arrangement) → Shows z w a old → Shows z (with_reply w c reply) a new
 
 -- the caller's wait or its read is over, and this is its reply
-unfoldable pub IsTold : Size → World → ℕ → Reply → Phase → Type 0
-IsTold z w c reply ph = (replied z w c ph ≡ given w c reply) × ((a : Arrangement) → moved w.frontier c ph Idle a ≡ a)
+unfoldable pub IsDelivered : Size → World → ℕ → Reply → Phase → Type 0
+IsDelivered z w c reply ph = (replied z w c ph ≡ with_reply w c reply) × ((a : Arrangement) → moved w.frontier c ph Idle a ≡ a)
 
 -- the reply to a read at a number is that of a store with what was there
 unfoldable pub Answers : ℕ → Request → Reply → Machine → Type 0
 Answers number r reply m = (z : Size) (w : World) (a : Arrangement) → Shows z w a m → Facts z w → reply ≡ (step (only z number (state_at w.log number)) r).1
 
--- the reply that a caller can be given now, or that it can be given none
+-- the reply that a caller can get now, or that it can get none
 abbrev pub IsDue : ℕ → Option Reply → Machine → Type 0
 IsDue c None m = (z : Size) (w : World) (a : Arrangement) → Shows z w a m → Facts z w → replied z w c (w.phase c) ≡ w
-IsDue c (Some reply) m = (is_replying (phase_at m.callers c) ≡ true) × ((z : Size) (w : World) (a : Arrangement) → Shows z w a m → Facts z w → IsTold z w c reply (w.phase c))
+IsDue c (Some reply) m = (is_replying (phase_at m.callers c) ≡ true) × ((z : Size) (w : World) (a : Arrangement) → Shows z w a m → Facts z w → IsDelivered z w c reply (w.phase c))
 
 -- a list at a number is read at that number
 abbrev pub IsNumbered : ℕ → Request → Type 0
@@ -319,9 +319,9 @@ abbrev pub Stands : Machine → Type 0
 Stands m = (z : Size) × ((w : World) × ((a : Arrangement) × (Shows z w a m × Facts z w)))
 
 -- what a reply adds to the trace
-abbrev pub told_at : ℕ → ℕ → Option Reply → List Item
-told_at place caller None = []
-told_at place caller (Some reply) = item.Reply place caller reply ∷ []
+abbrev pub delivered_at : ℕ → ℕ → Option Reply → List Item
+delivered_at place caller None = []
+delivered_at place caller (Some reply) = item.Reply place caller reply ∷ []
 
 -- the caller that an event names
 abbrev pub named_by : Event → Option ℕ
@@ -339,8 +339,8 @@ named_by (event.Crash c) = Some c
 
 -- only a Reply is answered, by what it adds to the trace
 abbrev pub IsAnswer : Event → Machine → Machine → Option Reply → Type 0
-IsAnswer (event.Reply c) old new told = new.items.items ≡ old.items.items ++ told_at old.now_at c told
-IsAnswer other old new told = told ≡ None
+IsAnswer (event.Reply c) old new delivered = new.items.items ≡ old.items.items ++ delivered_at old.now_at c delivered
+IsAnswer other old new delivered = delivered ≡ None
 
 -- whatever was shown is shown still, and the shards are compacted as far as nothing is read
 unfoldable pub Thins : Machine → Machine → Type 0

@@ -182,7 +182,7 @@ impl Callers {
     }
 
     /// The caller's draw is published: what is stored, while the caller waits with its reply, or is gone.
-    #[tactic(auto, unfolding(interleavings::specs::Step::told))]
+    #[tactic(auto, unfolding(interleavings::specs::Step::accepted_reply))]
     pub(crate) fn publish(&mut self, caller: u64) -> Version
         requires { IsSomeAnd (drawn_in (phase_at self.old caller)) (λ draw. draw.index < most_revisions) }
         ensures version { IfSome (drawn_in (phase_at self.old caller)) (λ draw. result ≡ version_of draw.writing.change (draw.index + 1)) }

@@ -13,7 +13,7 @@ ghost use Rattle.objects.specs.declared.key.Key.{Key};
 ghost use Rattle.plain_store.specs.Store.{denied};
 ghost use Rattle.interleavings.specs.declared.event.Event.TheVariants.{Compact, Crash, Part, Read, ReadAt};
 ghost use Rattle.interleavings.specs.declared.event.Event.TheVariants as event;
-ghost use Rattle.history.specs.Replayed.{Answers, Begins, Does, IsDue, IsNumbered, Stands, Stays, Tells, compaction_at, exact_in, floor_in, is_called, is_replying, named_phase, parts_in, phase_at, records_of, shard_at, told_at};
+ghost use Rattle.history.specs.Replayed.{Answers, Begins, Does, IsDue, IsNumbered, Stands, Stays, Tells, compaction_at, exact_in, floor_in, is_called, is_replying, named_phase, parts_in, phase_at, records_of, shard_at, delivered_at};
 
 use crate::gathered::Gathered;
 use crate::machine::Machine;
@@ -116,7 +116,7 @@ impl Machine {
     pub(crate) fn reply(&mut self, caller: u64) -> Result<Option<Reply>, Memory>
         requires { Stands self.old }
         ensures done { OnOk result (Does (event.Reply caller) self.old self.new) }
-        ensures told { IfOk result (λ told. self.new.items.items ≡ self.old.items.items ++ told_at self.old.now_at caller told) }
+        ensures delivered { IfOk result (λ delivered. self.new.items.items ≡ self.old.items.items ++ delivered_at self.old.now_at caller delivered) }
         ensures memory { OnErr result (Stays self.old self.new) }
         ensures place { self.new.now_at ≡ self.old.now_at }
     {
@@ -126,7 +126,7 @@ impl Machine {
         }
     }
 
-    /// The reply that the caller can be given now.
+    /// The reply that the caller can get now.
     fn due(&self, caller: u64) -> Result<Option<Reply>, Memory>
         requires { Stands self.now }
         ensures { IfOk result (λ due. IsDue caller due self.now) }
@@ -146,11 +146,11 @@ impl Machine {
         Ok(Some(self.answer(number, request)?))
     }
 
-    /// The caller is told its reply, which is handed on.
+    /// The caller gets its reply, which is handed on.
     fn give(&mut self, caller: u64, reply: Reply) -> Result<Option<Reply>, Memory>
         requires { is_replying (phase_at self.old.callers caller) ≡ true }
-        ensures told { OnOk result (Tells caller reply self.old self.new) }
-        ensures items { IfOk result (λ told. self.new.items.items ≡ self.old.items.items ++ told_at self.old.now_at caller told) }
+        ensures delivered { OnOk result (Tells caller reply self.old self.new) }
+        ensures items { IfOk result (λ delivered. self.new.items.items ≡ self.old.items.items ++ delivered_at self.old.now_at caller delivered) }
         ensures memory { OnErr result (Stays self.old self.new) }
         ensures place { self.new.now_at ≡ self.old.now_at }
     {
@@ -164,11 +164,11 @@ impl Machine {
         }
     }
 
-    /// The caller is told its reply, and is idle.
+    /// The caller gets its reply, and is idle.
     fn tell(&mut self, caller: u64, reply: &Reply) -> Result<(), Memory>
         requires { is_replying (phase_at self.old.callers caller) ≡ true }
-        ensures told { OnOk result (Tells caller reply.now self.old self.new) }
-        ensures items { OnOk result (self.new.items.items ≡ self.old.items.items ++ told_at self.old.now_at caller (Some reply.now)) }
+        ensures delivered { OnOk result (Tells caller reply.now self.old self.new) }
+        ensures items { OnOk result (self.new.items.items ≡ self.old.items.items ++ delivered_at self.old.now_at caller (Some reply.now)) }
         ensures memory { OnErr result (Stays self.old self.new) }
         ensures place { self.new.now_at ≡ self.old.now_at }
     {

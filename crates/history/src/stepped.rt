@@ -53,7 +53,7 @@ impl Replay {
         requires room { taken self.old < 2 ^ 64 - 1 }
         ensures reached { IsReached self.old }
         ensures done { (size : Size) (events : List Event) → IsAfter size events self.old → OnOk result (IsAfter size (events ++ event.now ∷ []) self.new) }
-        ensures told { (size : Size) (events : List Event) → IsAfter size events self.old → IfOk result (λ told. IsReplyTo size events event.now told) }
+        ensures delivered { (size : Size) (events : List Event) → IsAfter size events self.old → IfOk result (λ delivered. IsReplyTo size events event.now delivered) }
         ensures refused { (size : Size) (events : List Event) → IsAfter size events self.old → OnErr result (IsAfter size events self.new) }
         ensures count { OnOk result (taken self.new ≡ taken self.old + 1) }
         ensures reasons { IfErr result (λ reason. (reason ≡ ReplayError.TooManyCallers) ⊎ (reason ≡ ReplayError.Memory)) }
@@ -163,13 +163,13 @@ impl Machine {
         requires room { self.old.now_at < 2 ^ 64 - 1 }
         ensures done { OnOk result (Steps event.now self.old self.new) }
         ensures count { OnOk result (self.new.now_at ≡ self.old.now_at + 1) }
-        ensures told { IfOk result (λ told. IsAnswer event.now self.old self.new told) }
+        ensures delivered { IfOk result (λ delivered. IsAnswer event.now self.old self.new delivered) }
         ensures memory { OnErr result (Stays self.old self.new) }
     {
-        let told = self.dispatch(event)?;
+        let delivered = self.dispatch(event)?;
         self.now_at += 1;
         self.compact_shards();
-        Ok(told)
+        Ok(delivered)
     }
 
     /// One event, whoever its caller.
@@ -177,7 +177,7 @@ impl Machine {
         requires { Stands self.old }
         ensures done { OnOk result (Does event.now self.old self.new) }
         ensures place { self.new.now_at ≡ self.old.now_at }
-        ensures told { IfOk result (λ told. IsAnswer event.now self.old self.new told) }
+        ensures delivered { IfOk result (λ delivered. IsAnswer event.now self.old self.new delivered) }
         ensures memory { OnErr result (Stays self.old self.new) }
     {
         match caller_of(event) {
@@ -192,7 +192,7 @@ impl Machine {
         requires caller { named_by event.now ≡ Some caller }
         ensures done { OnOk result (Does event.now self.old self.new) }
         ensures place { self.new.now_at ≡ self.old.now_at }
-        ensures told { IfOk result (λ told. IsAnswer event.now self.old self.new told) }
+        ensures delivered { IfOk result (λ delivered. IsAnswer event.now self.old self.new delivered) }
         ensures memory { OnErr result (Stays self.old self.new) }
     {
         if self.callers.phase(caller).is_some() {
@@ -200,7 +200,7 @@ impl Machine {
         }
         self.callers.admit(caller)?;
         match self.take(event) {
-            Ok(told) => Ok(told),
+            Ok(delivered) => Ok(delivered),
             Err(Memory) => {
                 self.callers.dismiss(caller);
                 Err(Memory)
@@ -214,7 +214,7 @@ impl Machine {
         requires named { IfSome (named_by event.now) (λ c. named_phase self.old.callers c ≢ None) }
         ensures done { OnOk result (Does event.now self.old self.new) }
         ensures place { self.new.now_at ≡ self.old.now_at }
-        ensures told { IfOk result (λ told. IsAnswer event.now self.old self.new told) }
+        ensures delivered { IfOk result (λ delivered. IsAnswer event.now self.old self.new delivered) }
         ensures memory { OnErr result (Stays self.old self.new) }
     {
         match event {

@@ -79,15 +79,15 @@ static NAMES: [&str; 14] = [
     "TooLarge",
 ];
 
-/// Asserts that replies of all kinds were given, and that of four events one is a call or a reply.
+/// Asserts that replies of all kinds were delivered, and that of four events one is a call or a reply.
 fn assert_rich(rt: &impl Abort, slow: &Slow) {
     for name in NAMES {
-        assert!(rt; was_given(name, slow), "{name}");
+        assert!(rt; was_delivered(name, slow), "{name}");
     }
     assert!(rt; EVENTS / 4 < slow.shown.len());
 }
 
-fn was_given(name: &str, slow: &Slow) -> bool {
+fn was_delivered(name: &str, slow: &Slow) -> bool {
     for shown in slow.shown.iter() {
         if let Some(reply) = reply_of(*shown, slow.replies.as_slice()) {
             if parts_of(reply).0 == name {

@@ -95,7 +95,7 @@ fn cases() -> [&'static Case; 2] {
 }
 
 #[test]
-fn a_replay_that_is_refused_a_growth_ends(rt: HostRuntime) {
+fn a_replay_that_is_refused_an_allocation_ends(rt: HostRuntime) {
     for case in cases() {
         if let Ok(events) = events_of(rt.alloc(), case.steps) {
             assert_replayed(&rt, rt.alloc(), events.as_slice(), case.name);
@@ -161,7 +161,7 @@ fn assert_stepped(rt: &impl Abort, alloc: Global, events: &[Event], name: &str) 
 }
 
 #[test]
-fn a_step_that_is_refused_a_growth_changes_nothing(rt: HostRuntime) {
+fn a_step_that_is_refused_an_allocation_changes_nothing(rt: HostRuntime) {
     for case in cases() {
         if let Ok(events) = events_of(rt.alloc(), case.steps) {
             assert_stepped(&rt, rt.alloc(), events.as_slice(), case.name);

@@ -1,5 +1,5 @@
 //! Orders of histories, the legal one and others.
-use crate::traces::{EARLY_CONFLICT, GET, Row, Said, assert_checks, assert_row, trace};
+use crate::traces::{Content, EARLY_CONFLICT, GET, Row, assert_checks, assert_row, trace};
 use history::Trace;
 use plain::Reason;
 use std::alloc::Global;
@@ -40,10 +40,10 @@ fn an_early_conflict_has_an_order(rt: HostRuntime) -> Result<(), Fail> {
 
 /// Two gets of a pod that is not there, one after the other's reply.
 static GETS_IN_TURN: [Row; 4] = [
-    (0, 1, Said::Call(GET)),
-    (1, 1, Said::Refused(Reason::NotFound)),
-    (2, 2, Said::Call(GET)),
-    (3, 2, Said::Refused(Reason::NotFound)),
+    (0, 1, Content::Call(GET)),
+    (1, 1, Content::Refused(Reason::NotFound)),
+    (2, 2, Content::Call(GET)),
+    (3, 2, Content::Refused(Reason::NotFound)),
 ];
 
 #[test]
@@ -55,10 +55,10 @@ fn a_request_stands_before_one_called_after_its_reply(rt: HostRuntime) -> Result
 
 /// Two gets at once.
 static GETS_AT_ONCE: [Row; 4] = [
-    (0, 1, Said::Call(GET)),
-    (1, 2, Said::Call(GET)),
-    (2, 1, Said::Refused(Reason::NotFound)),
-    (3, 2, Said::Refused(Reason::NotFound)),
+    (0, 1, Content::Call(GET)),
+    (1, 2, Content::Call(GET)),
+    (2, 1, Content::Refused(Reason::NotFound)),
+    (3, 2, Content::Refused(Reason::NotFound)),
 ];
 
 #[test]
@@ -73,13 +73,13 @@ static UNANSWERED: [Row; 3] = [
     (
         0,
         1,
-        Said::Call(r#"{"do":"create","object":{"kind":"Pod","metadata":{"name":"b"}}}"#),
+        Content::Call(r#"{"do":"create","object":{"kind":"Pod","metadata":{"name":"b"}}}"#),
     ),
-    (1, 2, Said::Call(GET)),
+    (1, 2, Content::Call(GET)),
     (
         2,
         2,
-        Said::Found(
+        Content::Found(
             r#"{"kind":"Pod","metadata":{"generation":1,"name":"b","namespace":"default","resourceVersion":"1","uid":"00000000-0000-4000-8000-000000000001"}}"#,
         ),
     ),
@@ -97,10 +97,10 @@ static UNSEEN: [Row; 3] = [
     (
         0,
         1,
-        Said::Call(r#"{"do":"create","object":{"kind":"Pod","metadata":{"name":"b"}}}"#),
+        Content::Call(r#"{"do":"create","object":{"kind":"Pod","metadata":{"name":"b"}}}"#),
     ),
-    (1, 2, Said::Call(GET)),
-    (2, 2, Said::Refused(Reason::NotFound)),
+    (1, 2, Content::Call(GET)),
+    (2, 2, Content::Refused(Reason::NotFound)),
 ];
 
 #[test]
@@ -113,8 +113,8 @@ fn a_request_without_a_reply_may_be_left_out_of_the_order(rt: HostRuntime) -> Re
 
 /// A get whose reply comes many places later.
 static FAR_APART: [Row; 2] = [
-    (7, 1, Said::Call(GET)),
-    (1_000_000, 1, Said::Refused(Reason::NotFound)),
+    (7, 1, Content::Call(GET)),
+    (1_000_000, 1, Content::Refused(Reason::NotFound)),
 ];
 
 #[test]

@@ -1,5 +1,5 @@
 //! Traces that are no history, and capacities that no store has. Any order of them is refused.
-use crate::traces::{GET, Row, Said, assert_row};
+use crate::traces::{Content, GET, Row, assert_row};
 use plain::Reason;
 use std::test::Fail;
 
@@ -7,8 +7,8 @@ use std::test::Fail;
 const LAST: u64 = u64::MAX;
 
 static ANSWERED: [Row; 2] = [
-    (0, 1, Said::Call(GET)),
-    (LAST, 1, Said::Refused(Reason::NotFound)),
+    (0, 1, Content::Call(GET)),
+    (LAST, 1, Content::Refused(Reason::NotFound)),
 ];
 
 #[test]
@@ -20,7 +20,7 @@ fn the_capacity_is_a_plain_store_s(rt: HostRuntime) -> Result<(), Fail> {
     assert_row(&rt, rt.alloc(), 1_048_577, rows, &[0], false)
 }
 
-static NO_CALL: [Row; 1] = [(0, 1, Said::Refused(Reason::NotFound))];
+static NO_CALL: [Row; 1] = [(0, 1, Content::Refused(Reason::NotFound))];
 
 #[test]
 fn a_reply_answers_a_call(rt: HostRuntime) -> Result<(), Fail> {
@@ -28,8 +28,8 @@ fn a_reply_answers_a_call(rt: HostRuntime) -> Result<(), Fail> {
 }
 
 static ANOTHER_CALLER: [Row; 2] = [
-    (0, 1, Said::Call(GET)),
-    (1, 2, Said::Refused(Reason::NotFound)),
+    (0, 1, Content::Call(GET)),
+    (1, 2, Content::Refused(Reason::NotFound)),
 ];
 
 #[test]
@@ -38,9 +38,9 @@ fn a_reply_goes_to_the_caller(rt: HostRuntime) -> Result<(), Fail> {
 }
 
 static ANSWERED_TWICE: [Row; 3] = [
-    (0, 1, Said::Call(GET)),
-    (1, 1, Said::Refused(Reason::NotFound)),
-    (2, 1, Said::Refused(Reason::NotFound)),
+    (0, 1, Content::Call(GET)),
+    (1, 1, Content::Refused(Reason::NotFound)),
+    (2, 1, Content::Refused(Reason::NotFound)),
 ];
 
 #[test]
@@ -49,9 +49,9 @@ fn a_call_is_answered_once(rt: HostRuntime) -> Result<(), Fail> {
 }
 
 static CALLED_TWICE: [Row; 3] = [
-    (0, 1, Said::Call(GET)),
-    (1, 1, Said::Call(GET)),
-    (2, 1, Said::Refused(Reason::NotFound)),
+    (0, 1, Content::Call(GET)),
+    (1, 1, Content::Call(GET)),
+    (2, 1, Content::Refused(Reason::NotFound)),
 ];
 
 #[test]
@@ -60,13 +60,13 @@ fn a_caller_waits_for_its_reply(rt: HostRuntime) -> Result<(), Fail> {
 }
 
 static AT_ONE_PLACE: [Row; 2] = [
-    (LAST, 1, Said::Call(GET)),
-    (LAST, 1, Said::Refused(Reason::NotFound)),
+    (LAST, 1, Content::Call(GET)),
+    (LAST, 1, Content::Refused(Reason::NotFound)),
 ];
 
 static FALLING: [Row; 2] = [
-    (1, 1, Said::Call(GET)),
-    (0, 1, Said::Refused(Reason::NotFound)),
+    (1, 1, Content::Call(GET)),
+    (0, 1, Content::Refused(Reason::NotFound)),
 ];
 
 #[test]

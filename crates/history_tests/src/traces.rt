@@ -7,15 +7,15 @@ use std::process::Abort;
 use std::test::Fail;
 
 /// What stands at a place: a call, as its request line, or a reply, with its object as a text.
-pub(crate) enum Said {
+pub(crate) enum Content {
     Call(&'static str),
     Created(&'static str),
     Found(&'static str),
     Refused(Reason),
 }
 
-/// A place, a caller, and what is said there.
-pub(crate) type Row = (u64, u64, Said);
+/// A place, a caller, and what stands there.
+pub(crate) type Row = (u64, u64, Content);
 
 pub(crate) const GET: &str = r#"{"do":"get","kind":"Pod","name":"b"}"#;
 
@@ -26,43 +26,43 @@ pub(crate) static EARLY_CONFLICT: [Row; 8] = [
     (
         0,
         1,
-        Said::Call(r#"{"do":"create","object":{"kind":"Pod","metadata":{"name":"b"}}}"#),
+        Content::Call(r#"{"do":"create","object":{"kind":"Pod","metadata":{"name":"b"}}}"#),
     ),
     (
         5,
         1,
-        Said::Created(
+        Content::Created(
             r#"{"kind":"Pod","metadata":{"generation":1,"name":"b","namespace":"default","resourceVersion":"1","uid":"00000000-0000-4000-8000-000000000001"}}"#,
         ),
     ),
     (
         6,
         2,
-        Said::Call(r#"{"do":"create","object":{"kind":"Pod","metadata":{"name":"a"}}}"#),
+        Content::Call(r#"{"do":"create","object":{"kind":"Pod","metadata":{"name":"a"}}}"#),
     ),
     (
         9,
         1,
-        Said::Call(
+        Content::Call(
             r#"{"do":"update","object":{"kind":"Pod","metadata":{"labels":{"x":"y"},"name":"b","resourceVersion":"1"}}}"#,
         ),
     ),
     (
         13,
         3,
-        Said::Call(
+        Content::Call(
             r#"{"do":"update","object":{"kind":"Pod","metadata":{"name":"b","resourceVersion":"1"}}}"#,
         ),
     ),
-    (16, 4, Said::Call(GET)),
+    (16, 4, Content::Call(GET)),
     (
         19,
         4,
-        Said::Found(
+        Content::Found(
             r#"{"kind":"Pod","metadata":{"generation":1,"name":"b","namespace":"default","resourceVersion":"1","uid":"00000000-0000-4000-8000-000000000001"}}"#,
         ),
     ),
-    (23, 3, Said::Refused(Reason::Conflict)),
+    (23, 3, Content::Refused(Reason::Conflict)),
 ];
 
 fn reply(place: u64, caller: u64, reply: Reply) -> Item {
@@ -79,16 +79,16 @@ fn object(alloc: Global, text: &str) -> Result<Object, RequestError> {
 }
 
 fn item(alloc: Global, row: &Row) -> Result<Item, RequestError> {
-    let (place, caller, said) = row;
-    Ok(match said {
-        Said::Call(line) => Item::Call {
+    let (place, caller, content) = row;
+    Ok(match content {
+        Content::Call(line) => Item::Call {
             place: *place,
             caller: *caller,
             request: read_request(alloc, line.as_bytes())?,
         },
-        Said::Created(text) => reply(*place, *caller, Reply::Created(object(alloc, text)?)),
-        Said::Found(text) => reply(*place, *caller, Reply::Found(object(alloc, text)?)),
-        Said::Refused(reason) => reply(*place, *caller, Reply::Refused(*reason)),
+        Content::Created(text) => reply(*place, *caller, Reply::Created(object(alloc, text)?)),
+        Content::Found(text) => reply(*place, *caller, Reply::Found(object(alloc, text)?)),
+        Content::Refused(reason) => reply(*place, *caller, Reply::Refused(*reason)),
     })
 }
 

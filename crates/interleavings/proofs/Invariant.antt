@@ -12,7 +12,7 @@ use Rattle.plain_store.specs.Store.{Objects, step}
 use Rattle.interleavings.specs.Log.{Log, Writing, state_at, value}
 use Rattle.interleavings.specs.World.{Phase, Idle, Called, Holding, Drawn, Waiting, Reading, Gone, Size, World, shard}
 use Rattle.interleavings.specs.Order.{Parked}
-use Rattle.interleavings.specs.Step.{only, reads, told}
+use Rattle.interleavings.specs.Step.{only, reads, accepted_reply}
 use Rattle.interleavings.specs.Linearization.{Answers, Has, IsHistory, place_of}
 use Rattle.interleavings.proofs.Jobs.{InTime, Job, Once, Tells, state_after}
 use Rattle.interleavings.proofs.Plainly.{by_verdict, judge, moves, plainly, stays}
@@ -80,7 +80,7 @@ pub record StaysFacts (z : Size) (log : Log) (b : Key → ℕ) (s : ℕ) (q : Re
 -- a caller waits for a number: its request is parked there, or is the write of that number
 pub data AwaitFacts (z : Size) (log : Log) (ps : List Parked) (φ : ℕ → Fate) (b : Key → ℕ) (c s p : ℕ) (r : Reply) : Type 0 where
   is_aside : (q : Request) → Has (record { number = s; caller = c; place = p }) ps → φ p ≡ Known q Aside → StaysFacts z log b s q r → AwaitFacts z log ps φ b c s p r
-  is_queued : (i : ℕ) (t : Writing) → s ≡ suc i → log i ≡ Some t → t.place ≡ p → told t.change (suc i) ≡ r → AwaitFacts z log ps φ b c s p r
+  is_queued : (i : ℕ) (t : Writing) → s ≡ suc i → log i ≡ Some t → t.place ≡ p → accepted_reply t.change (suc i) ≡ r → AwaitFacts z log ps φ b c s p r
 
 pub record WaitingFacts (z : Size) (w : World) (g : Ghost) (c s p : ℕ) (r : Reply) : Type 0 where
   pub passed : s ≤ w.frontier → Tells z g.jobs p r

@@ -18,7 +18,7 @@ use Rattle.interleavings.specs.declared.event.Event.TheVariants as event
 use Rattle.interleavings.specs.Facts.{draw_in}
 use Rattle.interleavings.specs.Log.{Log, Writing, last_write, value}
 use Rattle.interleavings.specs.World.{Draw, Phase, Idle, Called, Holding, Drawn, Waiting, Reading, Gone, Size, World, changed, shard}
-use Rattle.interleavings.specs.Step.{all_shards, begun_unless, called, checked, checked_by, checked_in, compacted, compacted_by, crashed, drawn_by, filled, floored, given_if, given_read, judged, part, part_of, published, raised, read, read_at, read_at_by, read_by, replied, reserved, step, with_part}
+use Rattle.interleavings.specs.Step.{all_shards, begun_unless, called, checked, checked_by, checked_in, compacted, compacted_by, crashed, drawn_by, filled, floored, with_reply_if, with_read_reply, judged, part, part_of, published, raised, read, read_at, read_at_by, read_by, replied, reserved, step, with_part}
 use Rattle.interleavings.proofs.Basics.{changed_all}
 use Rattle.interleavings.proofs.Plainly.{denied_none}
 
@@ -149,16 +149,16 @@ module _ (z : Size) (w : World) (c : ℕ) (P : Log → ℕ → Phase → Type 0)
 
   -- ---- replies and crashes
   by_reply : (ph : Phase) → All (replied z w c ph)
-  by_reply (Waiting saw place reply) = given _
+  by_reply (Waiting saw place reply) = by_wait _
     where
-      given : (b : Bool) → All (given_if b w c reply)
-      given true = rest Idle refl
-      given false = all
-  by_reply (Reading n p r parts found) = given parts
+      by_wait : (b : Bool) → All (with_reply_if b w c reply)
+      by_wait true = rest Idle refl
+      by_wait false = all
+  by_reply (Reading n p r parts found) = by_parts parts
     where
-      given : (parts : List ℕ) → All (given_read z w c n r parts found)
-      given [] = rest Idle refl
-      given (s ∷ parts) = all
+      by_parts : (parts : List ℕ) → All (with_read_reply z w c n r parts found)
+      by_parts [] = rest Idle refl
+      by_parts (s ∷ parts) = all
   by_reply ph = all
 
   by_crash : (ph : Phase) → w.phase c ≡ ph → All (crashed z w c ph)

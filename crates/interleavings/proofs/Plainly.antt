@@ -15,7 +15,7 @@ use Rattle.plain_store.specs.Route.{Route, compacts, route, writes}
 use Rattle.plain_store.specs.Store.{Objects, Store, carried_out, compacted_to, denied, map_at, put_at, routed, step, with_change}
 use Rattle.interleavings.specs.Log.{Log, Writing, state_at, value, with_writing}
 use Rattle.interleavings.specs.World.{Size, changed}
-use Rattle.interleavings.specs.Step.{told}
+use Rattle.interleavings.specs.Step.{accepted_reply}
 use Rattle.interleavings.proofs.Basics.{Compared, same, other, compare}
 use Rattle.interleavings.proofs.Values.{get_state, state_put}
 
@@ -154,14 +154,14 @@ pub stays_there : (z : Size) (log : Log) (f n : ℕ) (k : Key) (q : Request) (r 
 stays_there z log f n k q r h e = judged_there z log f n k q (stays r) h e
 
 -- a write that the log has next
-pub moves_there : (z : Size) (log : Log) (f n : ℕ) (t : Writing) (q : Request) → f ≤ n → log n ≡ Some t → route q ≡ writes t.key → judge z n (value log n t.key) q ≡ moves t.change → step (plainly z log f n) q ≡ (plainly z log f (suc n), told t.change (suc n))
-unfolding told
+pub moves_there : (z : Size) (log : Log) (f n : ℕ) (t : Writing) (q : Request) → f ≤ n → log n ≡ Some t → route q ≡ writes t.key → judge z n (value log n t.key) q ≡ moves t.change → step (plainly z log f n) q ≡ (plainly z log f (suc n), accepted_reply t.change (suc n))
+unfolding accepted_reply
 moves_there z log f n t q low has h e =
     let one : n + 1 ≡ suc n = omega arith in
     judged_there z log f n t.key q (moves t.change) h e
     ∙ ap (λ i. let end : Store × Reply = (store z f i (put_at (state_at log n) t.key (kept t.change i)) (pasts log f (n - f) ++ state_at log n ∷ []), accepted t.change (stamp t.change i)) in end) one
-    ∙ ap (λ o. let end : Store × Reply = (store z f (suc n) (with_writing o n (state_at log n)) (pasts log f (n - f) ++ state_at log n ∷ []), told t.change (suc n)) in end) (sym has)
-    ∙ ap (λ l. let end : Store × Reply = (store z f (suc n) (state_at log (suc n)) l, told t.change (suc n)) in end) (pasts_next log f n low)
+    ∙ ap (λ o. let end : Store × Reply = (store z f (suc n) (with_writing o n (state_at log n)) (pasts log f (n - f) ++ state_at log n ∷ []), accepted_reply t.change (suc n)) in end) (sym has)
+    ∙ ap (λ l. let end : Store × Reply = (store z f (suc n) (state_at log (suc n)) l, accepted_reply t.change (suc n)) in end) (pasts_next log f n low)
 
 -- a compaction that is done
 pub compacts_there : (z : Size) (log : Log) (f n i : ℕ) (q : Request) → route q ≡ compacts i → denied f n i ≡ None → step (plainly z log f n) q ≡ (plainly z log i n, Compacted i)

@@ -21,7 +21,7 @@ use Rattle.plain_store.specs.Store.{Objects, Store, collection, compacted_to, de
 use Rattle.interleavings.specs.Log.{Writing, last_write, state_at, value}
 use Rattle.interleavings.specs.World.{Phase, Idle, Called, Holding, Drawn, Waiting, Reading, Gone, Size, World, changed, shard}
 use Rattle.interleavings.specs.Order.{Arrangement, Parked, last_or_parked, moved, with_last, without}
-use Rattle.interleavings.specs.Step.{all_shards, begun, begun_unless, called, checked, checked_by, checked_in, compacted, compacted_by, crashed, enters, enters_with, floored, given, given_if, given_read, judged, later, only, part, part_of, read, read_at, read_at_by, read_by, reads, replied, with_part}
+use Rattle.interleavings.specs.Step.{all_shards, begun, begun_unless, called, checked, checked_by, checked_in, compacted, compacted_by, crashed, enters, enters_with, floored, with_reply, with_reply_if, with_read_reply, judged, later, only, part, part_of, read, read_at, read_at_by, read_by, reads, replied, with_part}
 use Rattle.interleavings.specs.Linearization.{Has}
 use Rattle.interleavings.proofs.Basics.{Compared, same, other, compare, changed-same, changed-other, Least, atmost, above, least, changed_key, changed_key-same, changed_key-other, changed_key_all, keys_equal}
 use Rattle.interleavings.proofs.Values.{get_part, last_bound, last_le, part_of_none, part_of_same, value_last}
@@ -426,8 +426,8 @@ module _ (z : Size) (w : World) (g : Ghost) (iv : Invariant z w g) (a : Arrangem
   part_goes ph at h op = idle_goes ph at
 
   -- ---- Reply
-  given_goes : (j : ℕ) (r : Reply) → IsLastCall w.trace c j → Tells z g.jobs j r → Holds z (later (given w c r)) a
-  given_goes j r op tells = (
+  with_reply_goes : (j : ℕ) (r : Reply) → IsLastCall w.trace c j → Tells z g.jobs j r → Holds z (later (with_reply w c r)) a
+  with_reply_goes j r op tells = (
     next_ghost g g.fate g.settled g.jobs g.parked,
     (
       quiet z w g c w.floor w.holder Idle g.jobs g.parked (w.trace ++ item.Reply w.now c r ∷ []) g.fate g.settled iv (record {
@@ -451,9 +451,9 @@ module _ (z : Size) (w : World) (g : Ghost) (iv : Invariant z w g) (a : Arrangem
     ),
   )
 
-  given_read_goes : (n j : ℕ) (q : Request) (parts : List ℕ) (got : Objects) → w.phase c ≡ Reading n j q parts got → ReadingFacts z w g n j q parts got → IsLastCall w.trace c j → Moves z w c (Reading n j q parts got) a (later (given_read z w c n q parts got))
-  given_read_goes n j q (s ∷ parts) got at h op = idle_goes (Reading n j q (s ∷ parts) got) at
-  given_read_goes n j q [] got at h op = record { after = Idle; entered = entered Idle; holds = given_goes j _ op (subst (λ r. Tells z g.jobs j r) (same_answer z w.log n q got (route q) refl h.no_write (λ k want. seen k (h.seen k want))) h.tells) }
+  with_read_reply_goes : (n j : ℕ) (q : Request) (parts : List ℕ) (got : Objects) → w.phase c ≡ Reading n j q parts got → ReadingFacts z w g n j q parts got → IsLastCall w.trace c j → Moves z w c (Reading n j q parts got) a (later (with_read_reply z w c n q parts got))
+  with_read_reply_goes n j q (s ∷ parts) got at h op = idle_goes (Reading n j q (s ∷ parts) got) at
+  with_read_reply_goes n j q [] got at h op = record { after = Idle; entered = entered Idle; holds = with_reply_goes j _ op (subst (λ r. Tells z g.jobs j r) (same_answer z w.log n q got (route q) refl h.no_write (λ k want. seen k (h.seen k want))) h.tells) }
     where
       seen : (k : Key) → (⊥ × (map.get got k ≡ None)) ⊎ (map.get got k ≡ value w.log n k) → map.get got k ≡ value w.log n k
       seen k (inl h) = absurd h.0
@@ -462,10 +462,10 @@ module _ (z : Size) (w : World) (g : Ghost) (iv : Invariant z w g) (a : Arrangem
   pub reply_goes : (ph : Phase) → w.phase c ≡ ph → PhaseFacts z w g c ph → Opens w.trace c ph → Moves z w c ph a (later (replied z w c ph))
   reply_goes (Waiting saw j r) at h op = go (least saw w.frontier)
     where
-      go : Least saw w.frontier → Moves z w c (Waiting saw j r) a (later (given_if (nat_le saw w.frontier) w c r))
-      go (atmost le e) = rw e (record { after = Idle; entered = entered Idle; holds = given_goes j r op (h.passed le) })
+      go : Least saw w.frontier → Moves z w c (Waiting saw j r) a (later (with_reply_if (nat_le saw w.frontier) w c r))
+      go (atmost le e) = rw e (record { after = Idle; entered = entered Idle; holds = with_reply_goes j r op (h.passed le) })
       go (above lt e) = rw e (idle_goes (Waiting saw j r) at)
-  reply_goes (Reading n j q parts got) at h op = given_read_goes n j q parts got at h op
+  reply_goes (Reading n j q parts got) at h op = with_read_reply_goes n j q parts got at h op
   reply_goes ph at h op = idle_goes ph at
 
   -- ---- Crash

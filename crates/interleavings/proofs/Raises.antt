@@ -7,7 +7,7 @@ use Rattle.plain_store.specs.Store.{Store, step}
 use Rattle.interleavings.specs.Log.{Writing, value}
 use Rattle.interleavings.specs.World.{Size, World, changed}
 use Rattle.interleavings.specs.Order.{Arrangement, Parked, passed, places_at, rest}
-use Rattle.interleavings.specs.Step.{later, raised, told}
+use Rattle.interleavings.specs.Step.{later, raised, accepted_reply}
 use Rattle.interleavings.specs.Linearization.{Has}
 use Rattle.interleavings.proofs.Basics.{Compared, same, other, compare, changed-other, Least, atmost, above, least}
 use Rattle.interleavings.proofs.Plainly.{judge, moves_there, plainly, stays, stays_there}
@@ -168,7 +168,7 @@ module _ (z : Size) (w : World) (g : Ghost) (iv : Invariant z w g) (a : Arrangem
       now_store = plainly z w.log w.floor next
 
       -- the write itself
-      written_now : step (plainly z w.log w.floor w.frontier) facts.request ≡ (now_store, told t.change next)
+      written_now : step (plainly z w.log w.floor w.frontier) facts.request ≡ (now_store, accepted_reply t.change next)
       written_now = moves_there z w.log w.floor w.frontier t facts.request iv.standing e facts.routed facts.judged
 
       -- a request that is parked at the number
@@ -231,13 +231,13 @@ module _ (z : Size) (w : World) (g : Ghost) (iv : Invariant z w g) (a : Arrangem
           subst (λ v. Tells z after_all.jobs j v) (ap (λ (x : Store × Reply). x.1) (stays_now s q r es st))
           (after_all.told_now (record { number = s; caller = d; place = j }) m es q (fate_other g.fate t.place j facts.request q (Queued w.frontier) Aside _ queued_now eq (λ x. cc)))
 
-      told_write : (j : ℕ) (r : Reply) (i : ℕ) (u : Writing) → i ≡ w.frontier → w.log i ≡ Some u → u.place ≡ j → told u.change (suc i) ≡ r → Tells z after_all.jobs j r
+      told_write : (j : ℕ) (r : Reply) (i : ℕ) (u : Writing) → i ≡ w.frontier → w.log i ≡ Some u → u.place ≡ j → accepted_reply u.change (suc i) ≡ r → Tells z after_all.jobs j r
       told_write j r i u ei eu ep er =
           let all : Some t ≡ Some u = sym e ∙ ap w.log (sym ei) ∙ eu in
           let same_write : t ≡ u = cc in
           after_all.tells j r (inl (
             ap (λ (y : Writing). y.place) same_write ∙ ep,
-            ap (λ s. (step s facts.request).1) iv.state ∙ ap (λ (x : Store × Reply). x.1) written_now ∙ ap (λ (y : Writing). told y.change next) same_write ∙ ap (λ n. told u.change (suc n)) (sym ei) ∙ er,
+            ap (λ s. (step s facts.request).1) iv.state ∙ ap (λ (x : Store × Reply). x.1) written_now ∙ ap (λ (y : Writing). accepted_reply y.change next) same_write ∙ ap (λ n. accepted_reply u.change (suc n)) (sym ei) ∙ er,
           ))
 
       waits : (d s j : ℕ) (r : Reply) → w.frontier < s → AwaitFacts z w.log g.parked g.fate g.settled d s j r → Compared s next → WaitingFacts z w' g' d s j r

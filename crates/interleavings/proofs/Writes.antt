@@ -6,7 +6,7 @@ use Rattle.requests.specs.declared.reply.Reply.{Reply}
 use Rattle.interleavings.specs.Log.{Log, Writing, value}
 use Rattle.interleavings.specs.World.{Draw, Phase, Holding, Drawn, Waiting, Gone, Size, World, changed, shard}
 use Rattle.interleavings.specs.Order.{Arrangement}
-use Rattle.interleavings.specs.Step.{drawn_by, filled, later, published, reserved, told}
+use Rattle.interleavings.specs.Step.{drawn_by, filled, later, published, reserved, accepted_reply}
 use Rattle.interleavings.proofs.Basics.{Compared, same, other, compare, changed-same, changed-other, changed_all, changed_key, changed_key-same, changed_key-other, changed_key_all}
 use Rattle.interleavings.proofs.Values.{state_put, value_none, value_put}
 use Rattle.interleavings.proofs.Plainly.{judge, judge_moves, plainly_put}
@@ -208,9 +208,9 @@ module _ (z : Size) (w : World) (g : Ghost) (iv : Invariant z w g) (a : Arrangem
 
   pub publish_goes : (ph : Phase) → w.phase c ≡ ph → PhaseFacts z w g c ph → Opens w.trace c ph → Moves z w c ph a (later (published z w c ph))
   publish_goes (Drawn x) at h op = record {
-    after = Waiting (suc x.index) x.writing.place (told x.writing.change (suc x.index));
+    after = Waiting (suc x.index) x.writing.place (accepted_reply x.writing.change (suc x.index));
     entered = changed-same w.phase c _;
-    holds = fill_goes x (Waiting (suc x.index) x.writing.place (told x.writing.change (suc x.index))) h op (λ w' g' ef er. record {
+    holds = fill_goes x (Waiting (suc x.index) x.writing.place (accepted_reply x.writing.change (suc x.index))) h op (λ w' g' ef er. record {
       passed = λ le. let a = h.ahead in absurd (omega arith);
       awaits = λ lt. is_queued x.index x.writing refl er refl refl;
     });

@@ -1,4 +1,4 @@
--- Short runs with two shards, and what their callers are told. The pods `a` and `b` are in the namespace `default`: `a` is
+-- Short runs with two shards, and what their callers are answered. The pods `a` and `b` are in the namespace `default`: `a` is
 -- in the shard 1, `b` in the shard 0.
 use Rattle.std.specs.Prelude.{ℕ, List, [], ◌∷◌, ◌++◌, take, drop, codes, None}
 use Rattle.serde_json.specs.Data.{object, no_members}
@@ -20,28 +20,28 @@ use Rattle.interleavings.specs.Order.{order}
 use Rattle.interleavings.specs.Trace.{trace}
 
 -- the place of a reply, its name, and the resource version that it has
-pub record Told : Type 0 where
+pub record ReplySummary : Type 0 where
   pub place : ℕ
   pub name : List ℕ
   pub version : ℕ
 
-abbrev pub told : ℕ → Reply → Told
-told at (Created o) = record { place = at; name = codes "Created"; version = o.meta.revision }
-told at (Found o) = record { place = at; name = codes "Found"; version = o.meta.revision }
-told at (Listed os n) = record { place = at; name = codes "Listed"; version = n }
-told at (Updated o) = record { place = at; name = codes "Updated"; version = o.meta.revision }
-told at (Unchanged o) = record { place = at; name = codes "Unchanged"; version = o.meta.revision }
-told at (Marked o) = record { place = at; name = codes "Marked"; version = o.meta.revision }
-told at (Removed o) = record { place = at; name = codes "Removed"; version = o.meta.revision }
-told at (Compacted n) = record { place = at; name = codes "Compacted"; version = n }
-told at (Refused reason) = record { place = at; name = reason_name reason; version = 0 }
+abbrev pub summary : ℕ → Reply → ReplySummary
+summary at (Created o) = record { place = at; name = codes "Created"; version = o.meta.revision }
+summary at (Found o) = record { place = at; name = codes "Found"; version = o.meta.revision }
+summary at (Listed os n) = record { place = at; name = codes "Listed"; version = n }
+summary at (Updated o) = record { place = at; name = codes "Updated"; version = o.meta.revision }
+summary at (Unchanged o) = record { place = at; name = codes "Unchanged"; version = o.meta.revision }
+summary at (Marked o) = record { place = at; name = codes "Marked"; version = o.meta.revision }
+summary at (Removed o) = record { place = at; name = codes "Removed"; version = o.meta.revision }
+summary at (Compacted n) = record { place = at; name = codes "Compacted"; version = n }
+summary at (Refused reason) = record { place = at; name = reason_name reason; version = 0 }
 
-abbrev pub replies_in : List Item → List Told
+abbrev pub replies_in : List Item → List ReplySummary
 replies_in [] = []
 replies_in (item.Call at c r ∷ items) = replies_in items
-replies_in (item.Reply at c r ∷ items) = told at r ∷ replies_in items
+replies_in (item.Reply at c r ∷ items) = summary at r ∷ replies_in items
 
-abbrev pub answers : ℕ → List Event → List Told
+abbrev pub answers : ℕ → List Event → List ReplySummary
 answers capacity events = replies_in (trace (record { capacity = capacity; shards = 2 }) events)
 
 abbrev pub order_in : ℕ → List Event → List ℕ

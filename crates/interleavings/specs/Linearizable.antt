@@ -1,4 +1,4 @@
--- The headline: whatever callers do, and however their steps are mixed, one plain store explains what they are told.
+-- The headline: whatever callers do, and however their steps are mixed, one plain store explains what they are answered.
 use Rattle.std.specs.Prelude.{ℕ, List}
 use Rattle.interleavings.specs.declared.event.Event.{Event}
 use Rattle.interleavings.specs.World.{Size}

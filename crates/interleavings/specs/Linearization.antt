@@ -13,7 +13,7 @@ abbrev pub Has : {A : Type 0} → A → List A → Type 0
 Has x [] = ⊥
 Has x (y ∷ ys) = (x ≡ y) ⊎ Has x ys
 
--- At the place `at` the request that was called at `place` was given the reply: the call is the caller's last one before
+-- At the place `at` the request that was called at `place` got the reply: the call is the caller's last one before
 -- the reply, and the reply the first one to the caller after the call.
 pub record Answers (trace : List Item) (at place : ℕ) (reply : Reply) : Type 0 where
   pub caller : ℕ

@@ -74,11 +74,11 @@ abbrev pub filled : Size → World → ℕ → Draw → Phase → World
 filled z w c d phase = record w { log = changed w.log d.index (Some d.writing); holder = changed w.holder (shard z d.writing.key) None; phase = changed w.phase c phase }
 
 -- the reply to a write of that number
-unfoldable pub told : Change → ℕ → Reply
-told change n = accepted change (stamp change n)
+unfoldable pub accepted_reply : Change → ℕ → Reply
+accepted_reply change n = accepted change (stamp change n)
 
 abbrev pub published : Size → World → ℕ → Phase → World
-published z w c (Drawn d) = filled z w c d (Waiting (suc d.index) d.writing.place (told d.writing.change (suc d.index)))
+published z w c (Drawn d) = filled z w c d (Waiting (suc d.index) d.writing.place (accepted_reply d.writing.change (suc d.index)))
 published z w c (Gone (Some d)) = filled z w c d (Gone None)
 published z w c _ = w
 
@@ -164,25 +164,25 @@ part z w c (Reading number place r parts found) = part_of z w c number place r p
 part z w c _ = w
 
 -- ---- Reply: once the frontier is at least what was seen, or all parts are read
-abbrev pub given : World → ℕ → Reply → World
-given w c reply = record w { phase = changed w.phase c Idle; trace = w.trace ++ item.Reply w.now c reply ∷ [] }
+abbrev pub with_reply : World → ℕ → Reply → World
+with_reply w c reply = record w { phase = changed w.phase c Idle; trace = w.trace ++ item.Reply w.now c reply ∷ [] }
 
-abbrev pub given_if : Bool → World → ℕ → Reply → World
-given_if true w c reply = given w c reply
-given_if false w c reply = w
+abbrev pub with_reply_if : Bool → World → ℕ → Reply → World
+with_reply_if true w c reply = with_reply w c reply
+with_reply_if false w c reply = w
 
 -- a store that begins with this map at this number
 abbrev pub only : Size → ℕ → Objects → Store
 only z n m = record { objects = m; counter = n; capacity = z.capacity; floor = n; past = [] }
 
 -- a read is answered by what it has found
-abbrev pub given_read : Size → World → ℕ → ℕ → Request → List ℕ → Objects → World
-given_read z w c number r [] found = given w c (store.step (only z number found) r).1
-given_read z w c number r (s ∷ parts) found = w
+abbrev pub with_read_reply : Size → World → ℕ → ℕ → Request → List ℕ → Objects → World
+with_read_reply z w c number r [] found = with_reply w c (store.step (only z number found) r).1
+with_read_reply z w c number r (s ∷ parts) found = w
 
 abbrev pub replied : Size → World → ℕ → Phase → World
-replied z w c (Waiting saw place reply) = given_if (nat_le saw w.frontier) w c reply
-replied z w c (Reading number place r parts found) = given_read z w c number r parts found
+replied z w c (Waiting saw place reply) = with_reply_if (nat_le saw w.frontier) w c reply
+replied z w c (Reading number place r parts found) = with_read_reply z w c number r parts found
 replied z w c _ = w
 
 -- ---- Crash: a shard that was held is free, and a number that was drawn is left to be published

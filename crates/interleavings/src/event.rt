@@ -13,7 +13,7 @@ pub enum Event {
     /// A write is judged over the newest object of its key, unless the key's shard is held. An accepted one holds the
     /// shard; the others wait for the frontier to reach what they saw.
     Check(u64),
-    /// The caller that holds a shard draws the next number, or is told that the store is full.
+    /// The caller that holds a shard draws the next number, or finds that the store is full.
     Reserve(u64),
     /// The write of the drawn number is put into its shard, the number is filled, and the shard is free.
     Publish(u64),
@@ -27,7 +27,7 @@ pub enum Event {
     Compact(u64),
     /// The next shard of a read answers.
     Part(u64),
-    /// The reply is given, once the frontier has reached what it rests on.
+    /// The reply is delivered, once the frontier has reached what it rests on.
     Reply(u64),
     /// The caller is gone. A write that has drawn a number stays to be published; any other request is dropped.
     Crash(u64),

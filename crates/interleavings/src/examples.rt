@@ -2,7 +2,7 @@
 ghost use Rattle.std.specs.Prelude.{◌≡◌, [], ◌∷◌, codes};
 ghost use Rattle.interleavings.specs.Examples.{answers, crash_after_reserve, crash_before, crash_in_holding, full_store, hole, list_beside_a_write, order_in, past_list, read_below_a_hole};
 
-/// What the callers of some short runs are told, at which places, and with which resource versions.
+/// What the callers of some short runs are answered, at which places, and with which resource versions.
 pub fn short_runs()
     ensures hole { answers 100 hole ≡
         record { place = 17; name = codes "AlreadyExists"; version = 0 } ∷ record { place = 18; name = codes "Created"; version = 2 } ∷ [] }

@@ -41,7 +41,7 @@ fn ready_status(alloc: Global) -> Result<Tree, AllocError>
     Ok(Tree::Map(whole))
 }
 
-fn given_uid(alloc: Global, number: u64) -> Result<Option<Text>, Memory>
+fn uid_precondition(alloc: Global, number: u64) -> Result<Option<Text>, Memory>
     requires { number < 2 ^ 48 }
     ensures { IfOk result (λ text. text ≡ unless_zero uid_text number) }
 {
@@ -52,7 +52,7 @@ fn given_uid(alloc: Global, number: u64) -> Result<Option<Text>, Memory>
     Ok(Some(Text::from(uid_text(alloc, number)?)))
 }
 
-fn given_version(alloc: Global, number: u64) -> Result<Option<Text>, AllocError>
+fn version_precondition(alloc: Global, number: u64) -> Result<Option<Text>, AllocError>
     ensures { IfOk result (λ text. text ≡ unless_zero decimal number) }
 {
     if number == 0 {
@@ -65,8 +65,8 @@ fn given_version(alloc: Global, number: u64) -> Result<Option<Text>, AllocError>
 fn texts_of(alloc: Global, pod: &Object) -> Result<(Option<Text>, Option<Text>), Memory>
     ensures { IfOk result (λ texts. (texts.0 ≡ unless_zero uid_text pod.now.meta.uid) × (texts.1 ≡ unless_zero decimal pod.now.meta.revision)) }
 {
-    let uid = given_uid(alloc, pod.meta.uid)?;
-    let version = given_version(alloc, pod.meta.revision)?;
+    let uid = uid_precondition(alloc, pod.meta.uid)?;
+    let version = version_precondition(alloc, pod.meta.revision)?;
     Ok((uid, version))
 }
 

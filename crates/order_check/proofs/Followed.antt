@@ -12,9 +12,9 @@ use Rattle.plain_store.specs.Run.{replies}
 use Rattle.plain_store.specs.Store.{Store, opening, step}
 use Rattle.interleavings.specs.declared.trace.Item.{Item}
 use Rattle.interleavings.specs.declared.trace.Item.TheVariants as item
-use Rattle.order_check.specs.Following.{AreMarked, Follows, IsCalled, IsDue, IsRest, IsTold, MayTake, Standing, Takes}
+use Rattle.order_check.specs.Following.{AreCallsAt, Follows, IsCalled, IsDue, IsRest, IsAnswered, MayTake, Standing, Takes}
 use Rattle.interleavings.specs.Linearization.{Answers, AreCalled, AreOnce, Before, Has, IsLegal}
-use Rattle.order_check.specs.Marks.{Marks}
+use Rattle.order_check.specs.Lookup.{Lookup}
 use Rattle.order_check.specs.Pairing.{AreFound}
 use Rattle.interleavings.proofs.Basics.{Compared, same, other, compare, Least, atmost, above, least}
 use Rattle.interleavings.proofs.Lists.{has_at}
@@ -23,12 +23,12 @@ use Rattle.interleavings.proofs.Lists.{has_at}
 pub record IsLeft (items : List Item) (s : Standing) (at p : ℕ) (reply : Reply) : Type 0 where
   pub index : ℕ
   pub caller : ℕ
-  pub marked : s.answers p ≡ Some index
+  pub index_is : s.answers p ≡ Some index
   pub is : slice_get items index ≡ Some (item.Reply at caller reply)
 
 -- a map that gives nothing has nothing
-pub no_marks : (m : BTreeMap ℕ ℕ) → ((p : ℕ) → get nat_cmp m p ≡ None) → btree_map_len m ≡ 0
-no_marks m none = go m.entries none
+pub no_entries : (m : BTreeMap ℕ ℕ) → ((p : ℕ) → get nat_cmp m p ≡ None) → btree_map_len m ≡ 0
+no_entries m none = go m.entries none
   where
     go : (es : List (ℕ × ℕ)) → ((p : ℕ) → lookup (is_at (nat_cmp p)) es ≡ None) → length es ≡ 0
     go [] h = refl
@@ -39,27 +39,27 @@ module _ (items : List Item) where
   was_called None p r h = absurd h
   was_called (Some i) p r h = (h.0, has_at items i _ h.1)
 
-  is_marked : (m : Option ℕ) (p : ℕ) (r : Request) → IsCalled items m p r → m ≢ None
-  is_marked None p r h = λ n. h
-  is_marked (Some i) p r h = λ n. cc
+  has_index : (m : Option ℕ) (p : ℕ) (r : Request) → IsCalled items m p r → m ≢ None
+  has_index None p r h = λ n. h
+  has_index (Some i) p r h = λ n. cc
 
   left_on : (s t : Standing) (q at p : ℕ) (reply : Reply) → Takes items s q t → p ≢ q → IsLeft items s at p reply → IsLeft items t at p reply
-  left_on s t q at p reply k ne h = record { index = h.index; caller = h.caller; marked = k.answers.others p ne ∙ h.marked; is = h.is }
+  left_on s t q at p reply k ne h = record { index = h.index; caller = h.caller; index_is = k.answers.others p ne ∙ h.index_is; is = h.is }
 
   -- the store gives that reply, and the latest call came no later
-  told : (s : Standing) (q at p latest : ℕ) (reply given : Reply) → IsTold items (s.answers q) latest given → p ≡ q → IsLeft items s at p reply → (given ≡ reply) × (latest ≤ at)
-  told s q at p latest reply given k e h = go (subst (λ m. IsTold items m latest given) (sym (ap s.answers e) ∙ h.marked) k)
+  answer_fits : (s : Standing) (q at p latest : ℕ) (reply recorded : Reply) → IsAnswered items (s.answers q) latest recorded → p ≡ q → IsLeft items s at p reply → (recorded ≡ reply) × (latest ≤ at)
+  answer_fits s q at p latest reply recorded k e h = go (subst (λ m. IsAnswered items m latest recorded) (sym (ap s.answers e) ∙ h.index_is) k)
     where
-      go : IsTold items (Some h.index) latest given → (given ≡ reply) × (latest ≤ at)
+      go : IsAnswered items (Some h.index) latest recorded → (recorded ≡ reply) × (latest ≤ at)
       go w =
-          let all : Some (item.Reply w.0 w.1.0 given) ≡ Some (item.Reply at h.caller reply) = sym w.1.1.0 ∙ h.is in
+          let all : Some (item.Reply w.0 w.1.0 recorded) ≡ Some (item.Reply at h.caller reply) = sym w.1.1.0 ∙ h.is in
           let el : latest ≤ w.0 = w.1.1.1 in
           let ea : w.0 ≡ at = cc in
-          let er : given ≡ reply = cc in
+          let er : recorded ≡ reply = cc in
           (er, omega arith)
 
   none_left : (s : Standing) (at p : ℕ) (reply : Reply) → ((p : ℕ) → s.answers p ≡ None) → IsLeft items s at p reply → ⊥
-  none_left s at p reply none h = let e : None ≡ Some h.index = sym (none p) ∙ h.marked in cc
+  none_left s at p reply none h = let e : None ≡ Some h.index = sym (none p) ∙ h.index_is in cc
 
   abbrev requests : (s : Standing) (ps : List ℕ) → Follows items s ps → List Request
   requests s [] f = []
@@ -72,7 +72,7 @@ module _ (items : List Item) where
   -- what stands in the order was listed
   listed : (s : Standing) (ps : List ℕ) → Follows items s ps → (q : ℕ) → Has q ps → s.calls q ≢ None
   listed s [] f q h = absurd h
-  listed s (p ∷ ps) f q (inl e) = λ n. is_marked (s.calls p) p f.1.0.may.request f.1.0.may.called (sym (ap s.calls e) ∙ n)
+  listed s (p ∷ ps) f q (inl e) = λ n. has_index (s.calls p) p f.1.0.may.request f.1.0.may.called (sym (ap s.calls e) ∙ n)
   listed s (p ∷ ps) f q (inr h) = go (compare q p) (listed f.0 ps f.1.1 q h)
     where
       go : Compared q p → f.0.calls q ≢ None → s.calls q ≢ None
@@ -95,8 +95,8 @@ module _ (items : List Item) where
   right s [] f at p reply h = absurd (none_left s at p reply f h)
   right s (q ∷ ps) f at p reply h = go (compare p q) (right f.0 ps f.1.1 at p reply)
     where
-      given : Reply
-      given = (step s.store f.1.0.may.request).1
+      recorded : Reply
+      recorded = (step s.store f.1.0.may.request).1
 
       Given : ℕ → Reply → Type 0
       Given x r = ◌≡◌ {A = ℕ × Reply} (p, reply) (x, r)
@@ -104,8 +104,8 @@ module _ (items : List Item) where
       Later : Store → Type 0
       Later st = Has (p, reply) (zip ps (replies st (requests f.0 ps f.1.1)))
 
-      go : Compared p q → (IsLeft items f.0 at p reply → Later f.0.store) → Given q given ⊎ Later (step s.store f.1.0.may.request).0
-      go (same e b) later = let k = told s q at p s.latest reply given f.1.0.may.told e h in inl (subst (λ r. Given q r) (sym k.0) (subst (λ x. Given x reply) e refl))
+      go : Compared p q → (IsLeft items f.0 at p reply → Later f.0.store) → Given q recorded ⊎ Later (step s.store f.1.0.may.request).0
+      go (same e b) later = let k = answer_fits s q at p s.latest reply recorded f.1.0.may.answer_fits e h in inl (subst (λ r. Given q r) (sym k.0) (subst (λ x. Given x reply) e refl))
       go (other ne b) later = inr (subst Later f.1.0.stepped (later (left_on s f.0 q at p reply f.1.0 ne h)))
 
   -- a reply that is left comes after all calls so far
@@ -114,7 +114,7 @@ module _ (items : List Item) where
   after_latest s (q ∷ ps) f at p reply h = go (compare p q) (after_latest f.0 ps f.1.1 at p reply)
     where
       go : Compared p q → (IsLeft items f.0 at p reply → f.0.latest ≤ at) → s.latest ≤ at
-      go (same e b) later = (told s q at p s.latest reply _ f.1.0.may.told e h).1
+      go (same e b) later = (answer_fits s q at p s.latest reply _ f.1.0.may.answer_fits e h).1
       go (other ne b) later =
           let l : f.0.latest ≤ at = later (left_on s f.0 q at p reply f.1.0 ne h) in
           let grows = f.1.0.grows in
@@ -144,10 +144,10 @@ module _ (items : List Item) where
   }
     where
       left : (at p : ℕ) (reply : Reply) → Answers items at p reply → IsLeft items s at p reply
-      left at p reply a = let h = found.replied at p reply a in record { index = h.0; caller = h.1.0; marked = h.1.1.0; is = h.1.1.1 }
+      left at p reply a = let h = found.replied at p reply a in record { index = h.0; caller = h.1.0; index_is = h.1.1.0; is = h.1.1.1 }
 
   -- ---- the other way round
-  begun_with : (s : Standing) (ps : List ℕ) (rs : List Request) → AreFound items items s.calls s.answers → AreCalled items ps rs → AreMarked items s.calls ps rs
+  begun_with : (s : Standing) (ps : List ℕ) (rs : List Request) → AreFound items items s.calls s.answers → AreCalled items ps rs → AreCallsAt items s.calls ps rs
   begun_with s [] [] found a = tt
   begun_with s [] (r ∷ rs) found a = a
   begun_with s (p ∷ ps) [] found a = a
@@ -184,7 +184,7 @@ module _ (items : List Item) where
   has_second p q (x ∷ xs) (inl w) = inr w.1
   has_second p q (x ∷ xs) (inr b) = inr (has_second p q xs b)
 
-  -- what was called at a marked place is one request
+  -- what was called at a place with an index is one request
   one_request : (m : Option ℕ) (p : ℕ) (q r : Request) → IsCalled items m p q → IsCalled items m p r → q ≡ r
   one_request None p q r h k = absurd h
   one_request (Some i) p q r h k = let all : Some (item.Call p h.0 q) ≡ Some (item.Call p k.0 r) = sym h.1 ∙ k.1 in cc
@@ -199,25 +199,25 @@ module _ (items : List Item) where
 
   pub may_take : (s : Standing) (p : ℕ) (ps : List ℕ) (rs : List Request) → IsRest items s (p ∷ ps) rs → MayTake items s p
   may_take s p ps [] h = absurd h.called
-  may_take s p ps (r ∷ rs) h = record { request = r; called = h.called.0; told = told_at (s.answers p) refl }
+  may_take s p ps (r ∷ rs) h = record { request = r; called = h.called.0; answer_fits = answered_at (s.answers p) refl }
     where
-      given : Reply
-      given = (step s.store r).1
+      recorded : Reply
+      recorded = (step s.store r).1
 
-      is_given : (y : Reply) → Has (p, y) (zip (p ∷ ps) (replies s.store (r ∷ rs))) → y ≡ given
-      is_given y (inl e) = ap (λ (x : ℕ × Reply). x.1) e
-      is_given y (inr m) = absurd (h.once.0 (in_order p y ps (replies (step s.store r).0 rs) m))
+      is_recorded : (y : Reply) → Has (p, y) (zip (p ∷ ps) (replies s.store (r ∷ rs))) → y ≡ recorded
+      is_recorded y (inl e) = ap (λ (x : ℕ × Reply). x.1) e
+      is_recorded y (inr m) = absurd (h.once.0 (in_order p y ps (replies (step s.store r).0 rs) m))
 
-      told_at : (m : Option ℕ) → s.answers p ≡ m → IsTold items m s.latest given
-      told_at None e = tt
-      told_at (Some i) e = let d = h.due p i e in (d.at, (d.caller, (d.is ∙ ap (λ y. Some (item.Reply d.at d.caller y)) (is_given d.reply d.right), d.late)))
+      answered_at : (m : Option ℕ) → s.answers p ≡ m → IsAnswered items m s.latest recorded
+      answered_at None e = tt
+      answered_at (Some i) e = let d = h.due p i e in (d.at, (d.caller, (d.is ∙ ap (λ y. Some (item.Reply d.at d.caller y)) (is_recorded d.reply d.right), d.late)))
 
-  marked_on : (s t : Marks) (p : ℕ) (ps : List ℕ) (rs : List Request) → ((q : ℕ) → q ≢ p → t q ≡ s q) → (Has p ps → ⊥) → AreMarked items s ps rs → AreMarked items t ps rs
-  marked_on s t p [] [] others none a = tt
-  marked_on s t p [] (r ∷ rs) others none a = a
-  marked_on s t p (q ∷ ps) [] others none a = a
-  marked_on s t p (q ∷ ps) (r ∷ rs) others none a =
-      (subst (λ m. IsCalled items m q r) (sym (others q (λ e. none (inl (sym e))))) a.0, marked_on s t p ps rs others (λ m. none (inr m)) a.1)
+  calls_on : (s t : Lookup) (p : ℕ) (ps : List ℕ) (rs : List Request) → ((q : ℕ) → q ≢ p → t q ≡ s q) → (Has p ps → ⊥) → AreCallsAt items s ps rs → AreCallsAt items t ps rs
+  calls_on s t p [] [] others none a = tt
+  calls_on s t p [] (r ∷ rs) others none a = a
+  calls_on s t p (q ∷ ps) [] others none a = a
+  calls_on s t p (q ∷ ps) (r ∷ rs) others none a =
+      (subst (λ m. IsCalled items m q r) (sym (others q (λ e. none (inl (sym e))))) a.0, calls_on s t p ps rs others (λ m. none (inr m)) a.1)
 
   -- what is left once the first place is taken
   pub rest_after : (s t : Standing) (p : ℕ) (ps : List ℕ) (rs : List Request) → IsRest items s (p ∷ ps) rs → Takes items s p t → (later : List Request) × IsRest items t ps later
@@ -225,7 +225,7 @@ module _ (items : List Item) where
   rest_after s t p ps (r ∷ rs) h k = (
     rs,
     record {
-      called = marked_on s.calls t.calls p ps rs k.calls.others h.once.0 h.called.1;
+      called = calls_on s.calls t.calls p ps rs k.calls.others h.once.0 h.called.1;
       once = h.once.1;
       due = λ q i e. due q i e (compare q p);
     },

@@ -1,3 +1,3 @@
 pub mod Followed
 pub mod Paired
-pub mod Told
+pub mod ReplyMarks

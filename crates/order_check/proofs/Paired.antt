@@ -152,17 +152,17 @@ module _ (items trace : List Item) (s t : Seen) (h : IsPaired items trace s) whe
       found at p x (inr a) = older at p x a (compare p k.called)
 
       called : (p d : ℕ) (q : Request) → Has (item.Call p d q) trace ⊎ (item.Call p d q ≡ item.Reply now c r) → (i : ℕ) × ((t.calls p ≡ Some i) × (slice_get items i ≡ Some (item.Call p d q)))
-      called p d q (inl m) = let f = h.found.called p d q m in (f.0, (ap (λ marks. marks p) k.calls ∙ f.1.0, f.1.1))
+      called p d q (inl m) = let f = h.found.called p d q m in (f.0, (ap (λ lookups. lookups p) k.calls ∙ f.1.0, f.1.1))
       called p d q (inr e) = absurd cc
 
-      told : (at : ℕ) (x : Reply) → Answers (trace ++ new ∷ []) at k.called x → ((now ≡ at) × (k.called ≡ k.called) × (r ≡ x)) ⊎ Answers trace at k.called x → IsReplyTo items (trace ++ new ∷ []) index k.called
-      told at x a (inl e) = record { at = at; caller = c; reply = x; is = is ∙ ap (λ n. Some (item.Reply n c r)) e.0 ∙ ap (λ y. Some (item.Reply at c y)) e.2; answers = a }
-      told at x a (inr old) = absurd (not_answered trace h.history c k.called at x latest old)
+      answer_fits : (at : ℕ) (x : Reply) → Answers (trace ++ new ∷ []) at k.called x → ((now ≡ at) × (k.called ≡ k.called) × (r ≡ x)) ⊎ Answers trace at k.called x → IsReplyTo items (trace ++ new ∷ []) index k.called
+      answer_fits at x a (inl e) = record { at = at; caller = c; reply = x; is = is ∙ ap (λ n. Some (item.Reply n c r)) e.0 ∙ ap (λ y. Some (item.Reply at c y)) e.2; answers = a }
+      answer_fits at x a (inr old) = absurd (not_answered trace h.history c k.called at x latest old)
 
       answered : IsReplyTo items (trace ++ new ∷ []) index k.called
       answered =
           let a = all_answered trace now dated h.history c k.called r latest k.called latest.request (has_front _ trace _ latest.called) in
-          told a.0 a.1.0 a.1.1 (answers_by_reply trace now c k.called r dated latest a.0 k.called a.1.0 a.1.1)
+          answer_fits a.0 a.1.0 a.1.1 (answers_by_reply trace now c k.called r dated latest a.0 k.called a.1.0 a.1.1)
 
       right : (p i : ℕ) → t.answers p ≡ Some i → Compared p k.called → IsReplyTo items (trace ++ new ∷ []) i p
       right p i e (same d b) =
@@ -209,7 +209,7 @@ module _ (items trace rest : List Item) (s : Seen) (h : IsPaired items trace s) 
       let b : p < a.0 = a.1.1.0.before in
       omega arith
 
-  -- who is told a reply awaits one
+  -- who gets a reply awaits one
   no_reply : (now c : ℕ) (r : Reply) → IsHistory (trace ++ item.Reply now c r ∷ rest) → s.awaited c ≡ None → ⊥
   no_reply now c r history e =
       let full = trace ++ item.Reply now c r ∷ rest in

@@ -1,4 +1,4 @@
--- How an order is followed: one place after another, each request given to a plain store, and its reply compared.
+-- How an order is followed: one place after another, each request taken by a plain store, and its reply compared.
 use Rattle.std.specs.Prelude.{◌≡◌, ℕ, ◌<◌, ◌≤◌, List, [], ◌∷◌, Option, Some, None, zip}
 use Rattle.std.specs.BTreeMap.{get}
 use Rattle.std.specs.Ordering.{nat_cmp}
@@ -11,34 +11,34 @@ use Rattle.interleavings.specs.declared.trace.Item.{Item}
 use Rattle.interleavings.specs.declared.trace.Item.TheVariants as item
 use Rattle.order_check.specs.declared.walk.Walk.{Walk}
 use Rattle.interleavings.specs.Linearization.{AreOnce, Before, Has}
-use Rattle.order_check.specs.Marks.{Marks, IsWithout}
+use Rattle.order_check.specs.Lookup.{Lookup, IsWithout}
 
 -- by the places of their calls, the calls and the replies that are still to come; the plain store so far; and the largest
 -- place so far
 pub record Standing : Type 0 where
-  pub calls : Marks
-  pub answers : Marks
+  pub calls : Lookup
+  pub answers : Lookup
   pub store : Store
   pub latest : ℕ
 
 abbrev pub standing : Walk → Standing
 standing w = record { calls = get nat_cmp w.calls; answers = get nat_cmp w.answers; store = w.store; latest = w.latest }
 
--- the mark is that of this request's call at the place
+-- the index is that of this request's call at the place
 abbrev pub IsCalled : List Item → Option ℕ → ℕ → Request → Type 0
 IsCalled items None place request = ⊥
 IsCalled items (Some i) place request = (caller : ℕ) × (slice_get items i ≡ Some (item.Call place caller request))
 
--- where an item is marked, it has this reply, and comes after all calls so far
-abbrev pub IsTold : List Item → Option ℕ → (latest : ℕ) → Reply → Type 0
-IsTold items None latest reply = Unit {0}
-IsTold items (Some i) latest reply = (at : ℕ) × ((caller : ℕ) × ((slice_get items i ≡ Some (item.Reply at caller reply)) × (latest ≤ at)))
+-- where there is an index, its item has this reply, and comes after all calls so far
+abbrev pub IsAnswered : List Item → Option ℕ → (latest : ℕ) → Reply → Type 0
+IsAnswered items None latest reply = Unit {0}
+IsAnswered items (Some i) latest reply = (at : ℕ) × ((caller : ℕ) × ((slice_get items i ≡ Some (item.Reply at caller reply)) × (latest ≤ at)))
 
--- a request was called at the place, and is told what the store answers
+-- a request was called at the place, and is answered as the store answers
 pub record MayTake (items : List Item) (s : Standing) (place : ℕ) : Type 0 where
   pub request : Request
   pub called : IsCalled items (s.calls place) place request
-  pub told : IsTold items (s.answers place) s.latest (step s.store request).1
+  pub answer_fits : IsAnswered items (s.answers place) s.latest (step s.store request).1
 
 pub record Takes (items : List Item) (s : Standing) (place : ℕ) (t : Standing) : Type 0 where
   pub may : MayTake items s place
@@ -55,11 +55,11 @@ Follows items s [] = (p : ℕ) → s.answers p ≡ None
 Follows items s (p ∷ ps) = (t : Standing) × (Takes items s p t × Follows items t ps)
 
 -- ---- what is left of a legal order, with its requests
-abbrev pub AreMarked : List Item → Marks → List ℕ → List Request → Type 0
-AreMarked items calls [] [] = Unit {0}
-AreMarked items calls (p ∷ ps) (r ∷ rs) = IsCalled items (calls p) p r × AreMarked items calls ps rs
-AreMarked items calls [] (r ∷ rs) = ⊥
-AreMarked items calls (p ∷ ps) [] = ⊥
+abbrev pub AreCallsAt : List Item → Lookup → List ℕ → List Request → Type 0
+AreCallsAt items calls [] [] = Unit {0}
+AreCallsAt items calls (p ∷ ps) (r ∷ rs) = IsCalled items (calls p) p r × AreCallsAt items calls ps rs
+AreCallsAt items calls [] (r ∷ rs) = ⊥
+AreCallsAt items calls (p ∷ ps) [] = ⊥
 
 -- the reply with that index is the store's to the call at p, and no call after it stands before that one
 pub record IsDue (items : List Item) (s : Standing) (places : List ℕ) (requests : List Request) (p index : ℕ) : Type 0 where
@@ -72,6 +72,6 @@ pub record IsDue (items : List Item) (s : Standing) (places : List ℕ) (request
   pub in_time : (q : ℕ) → Has q places → at < q → Before p q places
 
 pub record IsRest (items : List Item) (s : Standing) (places : List ℕ) (requests : List Request) : Type 0 where
-  pub called : AreMarked items s.calls places requests
+  pub called : AreCallsAt items s.calls places requests
   pub once : AreOnce places
   pub due : (p i : ℕ) → s.answers p ≡ Some i → IsDue items s places requests p i

@@ -1,5 +1,5 @@
 -- ---- what public clauses cite
-pub mod Marks
+pub mod Lookup
 -- ---- what only proofs use
 pub mod Following
 pub mod Pairing

@@ -9,15 +9,15 @@ use Rattle.order_check.specs.declared.pairs.Pairs.{Pairs}
 use Rattle.interleavings.specs.declared.trace.Item.{Item}
 use Rattle.interleavings.specs.declared.trace.Item.TheVariants as item
 use Rattle.interleavings.specs.Linearization.{Answers, Has}
-use Rattle.order_check.specs.Marks.{Marks, IsWith, IsWithout}
+use Rattle.order_check.specs.Lookup.{Lookup, IsWith, IsWithout}
 
 -- the place of the last item; by its caller, the place of each call that has no reply yet; by its place, the index of each
 -- call; by the place of its call, the index of each reply
 pub record Seen : Type 0 where
   pub last : Option ℕ
-  pub awaited : Marks
-  pub calls : Marks
-  pub answers : Marks
+  pub awaited : Lookup
+  pub calls : Lookup
+  pub answers : Lookup
 
 abbrev pub seen : Pairs → Seen
 seen p = record { last = p.last; awaited = get nat_cmp p.awaited; calls = get nat_cmp p.calls; answers = get nat_cmp p.answers }
@@ -27,7 +27,7 @@ abbrev pub IsAfter : Option ℕ → ℕ → Type 0
 IsAfter None place = Unit {0}
 IsAfter (Some last) place = last < place
 
--- a history may go on with the item: its caller awaits no reply where it calls, and awaits one where it is told one
+-- a history may go on with the item: its caller awaits no reply where it calls, and awaits one where it gets one
 abbrev pub MayCome : Item → Seen → Type 0
 MayCome (item.Call place caller request) s = IsAfter s.last place × (s.awaited caller ≡ None)
 MayCome (item.Reply place caller reply) s = IsAfter s.last place × (s.awaited caller ≢ None)
@@ -64,7 +64,7 @@ pub record IsReplyTo (items trace : List Item) (index p : ℕ) : Type 0 where
   pub answers : Answers trace at p reply
 
 -- each call is found among the items by its place, and each reply by the place of its call
-pub record AreFound (items trace : List Item) (calls answers : Marks) : Type 0 where
+pub record AreFound (items trace : List Item) (calls answers : Lookup) : Type 0 where
   pub called : (p c : ℕ) (r : Request) → Has (item.Call p c r) trace → (i : ℕ) × ((calls p ≡ Some i) × (slice_get items i ≡ Some (item.Call p c r)))
   pub replied : (at p : ℕ) (reply : Reply) → Answers trace at p reply
       → (i : ℕ) × ((caller : ℕ) × ((answers p ≡ Some i) × (slice_get items i ≡ Some (item.Reply at caller reply))))

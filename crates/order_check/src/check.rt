@@ -16,7 +16,7 @@ use std::alloc::Global;
 
 /// Whether the order, by the places of the calls, explains the trace: a yes means that the trace is a history, and that
 /// the order is a legal one of it, and at a capacity that a plain store has a no means that one of both is not so. So the
-/// answer is no where places do not rise, where a caller calls again before its reply or is given a reply that it does not
+/// answer is no where places do not rise, where a caller calls again before its reply or gets a reply that it does not
 /// await, and where the order has a place at which nothing was called; places may have gaps, and a call without a reply
 /// may be left out of the order. Whoever made the trace and the order is not trusted.
 ///

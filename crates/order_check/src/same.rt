@@ -1,4 +1,4 @@
-// Whether a reply is the one that a store gives, told by the texts of the objects: a text that the store keeps need not be
+// Whether a reply is the one that a store gives, found by the texts of the objects: a text that the store keeps need not be
 // read.
 ghost use Rattle.std.specs.Prelude.{◌≡◌, ◌↔◌, IfOk, IsTrue, length, map};
 ghost use Rattle.plain_store.specs.PrintedReplies.{reply_printed, reply_stored};
@@ -27,17 +27,17 @@ impl Comparer {
     /// Whether the reply is the one to a request that is no write.
     pub(crate) fn is_stored(
         &mut self,
-        given: &Reply,
+        recorded: &Reply,
         stored: &StoredReply<'_>,
     ) -> Result<bool, Memory>
-        ensures { IfOk result (λ yes. IsTrue yes ↔ (given.now ≡ reply_stored stored.now)) }
+        ensures { IfOk result (λ yes. IsTrue yes ↔ (recorded.now ≡ reply_stored stored.now)) }
     {
         match stored {
-            StoredReply::Found(packed) => match given {
+            StoredReply::Found(packed) => match recorded {
                 Reply::Found(object) => self.is_packed(object, packed),
                 _ => Ok(false),
             },
-            StoredReply::Listed { objects, revision } => match given {
+            StoredReply::Listed { objects, revision } => match recorded {
                 Reply::Listed {
                     objects: listed,
                     revision: read_at,
@@ -45,10 +45,10 @@ impl Comparer {
                 _ => Ok(false),
             },
             StoredReply::Compacted { revision } => {
-                Ok(matches!(given, Reply::Compacted { revision: r } if *r == *revision))
+                Ok(matches!(recorded, Reply::Compacted { revision: r } if *r == *revision))
             }
             StoredReply::Refused(reason) => {
-                Ok(matches!(given, Reply::Refused(r) if *r == *reason))
+                Ok(matches!(recorded, Reply::Refused(r) if *r == *reason))
             }
         }
     }
@@ -56,77 +56,77 @@ impl Comparer {
     /// Whether the reply is the one to a write.
     pub(crate) fn is_printed(
         &mut self,
-        given: &Reply,
+        recorded: &Reply,
         printed: &PrintedReply,
     ) -> Result<bool, Memory>
-        ensures { IfOk result (λ yes. IsTrue yes ↔ (given.now ≡ reply_printed printed.now)) }
+        ensures { IfOk result (λ yes. IsTrue yes ↔ (recorded.now ≡ reply_printed printed.now)) }
     {
         match printed {
-            PrintedReply::Created(text) => match given {
+            PrintedReply::Created(text) => match recorded {
                 Reply::Created(object) => self.has_text(object, text),
                 _ => Ok(false),
             },
-            PrintedReply::Updated(text) => match given {
+            PrintedReply::Updated(text) => match recorded {
                 Reply::Updated(object) => self.has_text(object, text),
                 _ => Ok(false),
             },
-            PrintedReply::Unchanged(text) => match given {
+            PrintedReply::Unchanged(text) => match recorded {
                 Reply::Unchanged(object) => self.has_text(object, text),
                 _ => Ok(false),
             },
-            PrintedReply::Marked(text) => match given {
+            PrintedReply::Marked(text) => match recorded {
                 Reply::Marked(object) => self.has_text(object, text),
                 _ => Ok(false),
             },
-            PrintedReply::Removed(text) => match given {
+            PrintedReply::Removed(text) => match recorded {
                 Reply::Removed(object) => self.has_text(object, text),
                 _ => Ok(false),
             },
             PrintedReply::Refused(reason) => {
-                Ok(matches!(given, Reply::Refused(r) if *r == *reason))
+                Ok(matches!(recorded, Reply::Refused(r) if *r == *reason))
             }
         }
     }
 
     fn is_list(
         &mut self,
-        given: &[Object],
+        recorded: &[Object],
         read_at: u64,
         stored: &[&Packed],
         revision: u64,
     ) -> Result<bool, Memory>
-        ensures { IfOk result (λ yes. IsTrue yes ↔ ((read_at ≡ revision) × (given.now ≡ map (λ o. o.now) stored.now))) }
+        ensures { IfOk result (λ yes. IsTrue yes ↔ ((read_at ≡ revision) × (recorded.now ≡ map (λ o. o.now) stored.now))) }
     {
-        if read_at != revision || given.len() != stored.len() {
+        if read_at != revision || recorded.len() != stored.len() {
             return Ok(false);
         }
-        self.are_packed(given, stored)
+        self.are_packed(recorded, stored)
     }
 
-    fn are_packed(&mut self, given: &[Object], stored: &[&Packed]) -> Result<bool, Memory>
-        requires { length given.now ≡ length stored.now }
-        ensures { IfOk result (λ yes. IsTrue yes ↔ (given.now ≡ map (λ o. o.now) stored.now)) }
+    fn are_packed(&mut self, recorded: &[Object], stored: &[&Packed]) -> Result<bool, Memory>
+        requires { length recorded.now ≡ length stored.now }
+        ensures { IfOk result (λ yes. IsTrue yes ↔ (recorded.now ≡ map (λ o. o.now) stored.now)) }
     {
-        for i in 0..given.len() {
-            if !self.is_packed(&given[i], stored[i])? {
+        for i in 0..recorded.len() {
+            if !self.is_packed(&recorded[i], stored[i])? {
                 return Ok(false);
             }
         }
         Ok(true)
     }
 
-    fn is_packed(&mut self, given: &Object, stored: &Packed) -> Result<bool, Memory>
-        ensures { IfOk result (λ yes. IsTrue yes ↔ (given.now ≡ stored.now)) }
+    fn is_packed(&mut self, recorded: &Object, stored: &Packed) -> Result<bool, Memory>
+        ensures { IfOk result (λ yes. IsTrue yes ↔ (recorded.now ≡ stored.now)) }
     {
         let stored = stored.printed(&mut self.reader, &mut self.printer)?;
-        self.has_text(given, &stored)
+        self.has_text(recorded, &stored)
     }
 
-    fn has_text(&mut self, given: &Object, text: &Printed) -> Result<bool, Memory>
-        ensures { IfOk result (λ yes. IsTrue yes ↔ (given.now ≡ text.now)) }
+    fn has_text(&mut self, recorded: &Object, text: &Printed) -> Result<bool, Memory>
+        ensures { IfOk result (λ yes. IsTrue yes ↔ (recorded.now ≡ text.now)) }
     {
-        let given = self.printer.print(given)?;
-        Ok(are_same_texts(&given, text))
+        let recorded = self.printer.print(recorded)?;
+        Ok(are_same_texts(&recorded, text))
     }
 }
 

@@ -6,7 +6,7 @@ ghost use Rattle.plain_store.specs.PrintedReplies.{reply_printed, reply_stored};
 ghost use Rattle.plain_store.specs.Store.{step};
 ghost use Rattle.requests.specs.declared.reply.Reply.{Reply as SpecReply};
 ghost use Rattle.requests.specs.declared.request.Request.{Request as SpecRequest};
-ghost use Rattle.order_check.specs.Following.{Follows, IsCalled, IsRest, IsTold, MayTake, Takes, standing};
+ghost use Rattle.order_check.specs.Following.{Follows, IsCalled, IsRest, IsAnswered, MayTake, Takes, standing};
 
 use crate::same::Comparer;
 use interleavings::Item;
@@ -54,9 +54,9 @@ impl Walk {
             return Ok(false);
         };
         let answer = self.answers.remove(&place);
-        let told = self.hear(items, answer, request)?;
+        let answer_fits = self.hear(items, answer, request)?;
         self.latest = self.latest.max(place);
-        Ok(told)
+        Ok(answer_fits)
     }
 
     /// Gives the store the request, and says whether its reply is the one of the item with that index.
@@ -66,7 +66,7 @@ impl Walk {
         answer: Option<usize>,
         request: &Request,
     ) -> Result<bool, Memory>
-        ensures told { IfOk result (λ yes. IsTrue yes ↔ IsTold items.now answer self.old.latest (step self.old.store request.now).1) }
+        ensures answer_fits { IfOk result (λ yes. IsTrue yes ↔ IsAnswered items.now answer self.old.latest (step self.old.store request.now).1) }
         ensures stepped { OnOk result (self.new.store ≡ (step self.old.store request.now).0) }
         ensures stays { (self.new.calls ≡ self.old.calls) × (self.new.answers ≡ self.old.answers) × (self.new.latest ≡ self.old.latest) }
     {
@@ -78,11 +78,11 @@ impl Walk {
                 exact: _,
             } => {
                 let stored = self.store.read(request)?;
-                is_told_stored(&mut self.comparer, items, answer, self.latest, &stored)
+                has_stored_reply(&mut self.comparer, items, answer, self.latest, &stored)
             }
             Request::Compact { to } => {
                 let stored = self.store.compact(*to);
-                is_told_stored(&mut self.comparer, items, answer, self.latest, &stored)
+                has_stored_reply(&mut self.comparer, items, answer, self.latest, &stored)
             }
             Request::Create(_)
             | Request::Update(_)
@@ -94,7 +94,7 @@ impl Walk {
                 at: _,
             } => {
                 let printed = self.store.write(request.clone()?)?;
-                let told = is_told_printed(
+                let answer_fits = has_printed_reply(
                     &mut self.comparer,
                     items,
                     answer,
@@ -103,7 +103,7 @@ impl Walk {
                 );
                 // Let go by name, which is proved once for the type and not at each way out.
                 drop(printed);
-                told
+                answer_fits
             }
         }
     }
@@ -148,8 +148,8 @@ fn called_at(items: &[Item], index: usize, place: u64) -> Option<&Request>
 
 /// The reply of the item with that index, if its place is not before the latest call.
 fn reply_at(items: &[Item], index: usize, latest: u64) -> Option<&Reply>
-    ensures told { IfSome result (λ reply. IsTold items.now (Some index) latest reply.now) }
-    ensures complete { (reply : SpecReply) → IsTold items.now (Some index) latest reply → option_copied result ≡ Some reply }
+    ensures answer_fits { IfSome result (λ reply. IsAnswered items.now (Some index) latest reply.now) }
+    ensures complete { (reply : SpecReply) → IsAnswered items.now (Some index) latest reply → option_copied result ≡ Some reply }
 {
     match item_at(items, index) {
         Some(
@@ -171,39 +171,39 @@ fn reply_at(items: &[Item], index: usize, latest: u64) -> Option<&Reply>
 }
 
 /// Whether the reply to a write is the one of the item with that index, at a place that is not before the latest call.
-fn is_told_printed(
+fn has_printed_reply(
     comparer: &mut Comparer,
     items: &[Item],
     answer: Option<usize>,
     latest: u64,
     printed: &PrintedReply,
 ) -> Result<bool, Memory>
-    ensures { IfOk result (λ yes. IsTrue yes ↔ IsTold items.now answer latest (reply_printed printed.now)) }
+    ensures { IfOk result (λ yes. IsTrue yes ↔ IsAnswered items.now answer latest (reply_printed printed.now)) }
 {
     let Some(index) = answer else {
         return Ok(true);
     };
     match reply_at(items, index, latest) {
-        Some(given) => comparer.is_printed(given, printed),
+        Some(recorded) => comparer.is_printed(recorded, printed),
         None => Ok(false),
     }
 }
 
 /// The same of the reply to a request that is no write.
-fn is_told_stored(
+fn has_stored_reply(
     comparer: &mut Comparer,
     items: &[Item],
     answer: Option<usize>,
     latest: u64,
     stored: &StoredReply<'_>,
 ) -> Result<bool, Memory>
-    ensures { IfOk result (λ yes. IsTrue yes ↔ IsTold items.now answer latest (reply_stored stored.now)) }
+    ensures { IfOk result (λ yes. IsTrue yes ↔ IsAnswered items.now answer latest (reply_stored stored.now)) }
 {
     let Some(index) = answer else {
         return Ok(true);
     };
     match reply_at(items, index, latest) {
-        Some(given) => comparer.is_stored(given, stored),
+        Some(recorded) => comparer.is_stored(recorded, stored),
         None => Ok(false),
     }
 }

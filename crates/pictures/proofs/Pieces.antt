@@ -1,17 +1,17 @@
 -- A line whose words were put behind its beginning.
 use Rattle.std.proofs.Common.{◌≡◌, ℕ, List, [], ◌++◌, codes, decimal, ap, ◌∙◌, append_assoc}
-use Rattle.pictures.specs.Lines.{frontier_to_caller, note_over_caller, said}
+use Rattle.pictures.specs.Lines.{frontier_to_caller, note_over_caller, labelled}
 
-said_on : (place : ℕ) (text : List ℕ) → said place [] ++ text ≡ said place text
-said_on place text = ap (λ t. codes ": " ++ t) (append_assoc (decimal place) (codes ": ") text)
+labelled_on : (place : ℕ) (text : List ℕ) → labelled place [] ++ text ≡ labelled place text
+labelled_on place text = ap (λ t. codes ": " ++ t) (append_assoc (decimal place) (codes ": ") text)
 
 noted_on : (c place : ℕ) (text : List ℕ) → note_over_caller c place [] ++ text ≡ note_over_caller c place text
 noted_on c place text =
-    ap (λ t. codes "    Note over C" ++ t) (append_assoc (decimal c) (said place []) text ∙ ap (λ t. decimal c ++ t) (said_on place text))
+    ap (λ t. codes "    Note over C" ++ t) (append_assoc (decimal c) (labelled place []) text ∙ ap (λ t. decimal c ++ t) (labelled_on place text))
 
-given_on : (c place : ℕ) (text : List ℕ) → frontier_to_caller c place [] ++ text ≡ frontier_to_caller c place text
-given_on c place text =
-    ap (λ t. codes "    F-->>C" ++ t) (append_assoc (decimal c) (said place []) text ∙ ap (λ t. decimal c ++ t) (said_on place text))
+from_frontier_on : (c place : ℕ) (text : List ℕ) → frontier_to_caller c place [] ++ text ≡ frontier_to_caller c place text
+from_frontier_on c place text =
+    ap (λ t. codes "    F-->>C" ++ t) (append_assoc (decimal c) (labelled place []) text ∙ ap (λ t. decimal c ++ t) (labelled_on place text))
 
 -- what was put in three pieces
 three : (old one two new a b c : List ℕ) → one ≡ old ++ a → two ≡ one ++ b → new ≡ two ++ c → new ≡ old ++ (a ++ (b ++ c))
@@ -24,10 +24,10 @@ pub noted : (old one two new words : List ℕ) (c place : ℕ) → one ≡ old +
 noted old one two new words c place first second third =
     three old one two new (note_over_caller c place []) words (codes "\n") first second third ∙ ap (λ t. old ++ t) (noted_on c place (words ++ codes "\n"))
 
-pub given : (old one two new words : List ℕ) (c place : ℕ) → one ≡ old ++ frontier_to_caller c place [] → two ≡ one ++ words → new ≡ two ++ codes "\n"
+pub from_frontier : (old one two new words : List ℕ) (c place : ℕ) → one ≡ old ++ frontier_to_caller c place [] → two ≡ one ++ words → new ≡ two ++ codes "\n"
     → new ≡ old ++ frontier_to_caller c place (words ++ codes "\n")
-given old one two new words c place first second third =
-    three old one two new (frontier_to_caller c place []) words (codes "\n") first second third ∙ ap (λ t. old ++ t) (given_on c place (words ++ codes "\n"))
+from_frontier old one two new words c place first second third =
+    three old one two new (frontier_to_caller c place []) words (codes "\n") first second third ∙ ap (λ t. old ++ t) (from_frontier_on c place (words ++ codes "\n"))
 
 -- the line of a caller
 pub introduced : (old one two new role : List ℕ) (c : ℕ) → one ≡ old ++ (codes "    participant C" ++ (decimal c ++ codes " as ")) → two ≡ one ++ role

@@ -9,12 +9,12 @@ use Rattle.interleavings.specs.Trace.{after, trace}
 use Rattle.interleavings.specs.World.{Size, World, opening}
 use Rattle.interleavings.proofs.Facts.{facts_after}
 use Rattle.history.specs.After.{IsAfter, IsReplyTo, ReplayParts}
-use Rattle.history.specs.Replayed.{named_by, told_at}
+use Rattle.history.specs.Replayed.{named_by, delivered_at}
 use Rattle.history.proofs.Reached.{after_more}
 use Rattle.plain_store.specs.Reached.{most_revisions}
 use Rattle.pictures.specs.declared.moment.Moment.{Moment}
 use Rattle.pictures.specs.Lines.{reply_line}
-use Rattle.pictures.specs.Picture.{event_lines, lines_between, lines_of, moment_of, reply_in, told}
+use Rattle.pictures.specs.Picture.{event_lines, lines_between, lines_of, moment_of, reply_in, delivered}
 
 -- the events up to one are those before it, and it
 pub taken_more : (i : ℕ) (es : List Event) (e : Event) → i < length es → e ≡ get_or es i e → take (i + 1) es ≡ take i es ++ e ∷ []
@@ -30,30 +30,30 @@ lines_more z (x ∷ es) place w e =
     ∙ sym (append_assoc first (lines_of z (suc place) (step z w x) es) _)
     ∙ ap (λ p. (first ++ lines_of z (suc place) (step z w x) es) ++ lines_between z p e (after z (step z w x) es) (step z (after z (step z w x) es) e)) (omega arith)
 
--- what the caller of a Reply is told is what the event adds to the trace
-told_is : (z : Size) (events : List Event) (c : ℕ) (reply : Option Reply) → IsReplyTo z events (event.Reply c) reply
-    → told (after z opening events) (step z (after z opening events) (event.Reply c)) ≡ reply
-told_is z events c reply is =
+-- what the caller of a Reply gets is what the event adds to the trace
+delivered_is : (z : Size) (events : List Event) (c : ℕ) (reply : Option Reply) → IsReplyTo z events (event.Reply c) reply
+    → delivered (after z opening events) (step z (after z opening events) (event.Reply c)) ≡ reply
+delivered_is z events c reply is =
     ap (λ (w : World). reply_in (drop (length (trace z events)) w.trace)) (sym (after_more z events opening (event.Reply c)))
     ∙ ap (λ l. reply_in (drop (length (trace z events)) l)) is ∙ by reply
   where
-    by : (r : Option Reply) → reply_in (drop (length (trace z events)) (trace z events ++ told_at (length events) c r)) ≡ r
+    by : (r : Option Reply) → reply_in (drop (length (trace z events)) (trace z events ++ delivered_at (length events) c r)) ≡ r
     by None = ap reply_in (drop-append_seam (trace z events) [])
-    by (Some r) = ap reply_in (drop-append_seam (trace z events) (told_at (length events) c (Some r)))
+    by (Some r) = ap reply_in (drop-append_seam (trace z events) (delivered_at (length events) c (Some r)))
 
-pub lines_told : (z : Size) (events : List Event) (e : Event) (reply : Option Reply) (shards place : ℕ) (before now : Moment) → IsReplyTo z events e reply
-    → event_lines shards place e before now reply ≡ event_lines shards place e before now (told (after z opening events) (step z (after z opening events) e))
-lines_told z events (event.Reply c) reply shards place before now is = ap (reply_line place c) (sym (told_is z events c reply is))
-lines_told z events (event.Call c r) reply shards place before now is = refl
-lines_told z events (event.Check c) reply shards place before now is = refl
-lines_told z events (event.Reserve c) reply shards place before now is = refl
-lines_told z events (event.Publish c) reply shards place before now is = refl
-lines_told z events event.Raise reply shards place before now is = refl
-lines_told z events (event.Read c) reply shards place before now is = refl
-lines_told z events (event.ReadAt c) reply shards place before now is = refl
-lines_told z events (event.Compact c) reply shards place before now is = refl
-lines_told z events (event.Part c) reply shards place before now is = refl
-lines_told z events (event.Crash c) reply shards place before now is = refl
+pub lines_delivered : (z : Size) (events : List Event) (e : Event) (reply : Option Reply) (shards place : ℕ) (before now : Moment) → IsReplyTo z events e reply
+    → event_lines shards place e before now reply ≡ event_lines shards place e before now (delivered (after z opening events) (step z (after z opening events) e))
+lines_delivered z events (event.Reply c) reply shards place before now is = ap (reply_line place c) (sym (delivered_is z events c reply is))
+lines_delivered z events (event.Call c r) reply shards place before now is = refl
+lines_delivered z events (event.Check c) reply shards place before now is = refl
+lines_delivered z events (event.Reserve c) reply shards place before now is = refl
+lines_delivered z events (event.Publish c) reply shards place before now is = refl
+lines_delivered z events event.Raise reply shards place before now is = refl
+lines_delivered z events (event.Read c) reply shards place before now is = refl
+lines_delivered z events (event.ReadAt c) reply shards place before now is = refl
+lines_delivered z events (event.Compact c) reply shards place before now is = refl
+lines_delivered z events (event.Part c) reply shards place before now is = refl
+lines_delivered z events (event.Crash c) reply shards place before now is = refl
 
 -- the frontier of a replay is not above the most numbers that there are
 pub frontier_small : (z : Size) (events : List Event) (replay : ReplayParts) → IsAfter z events replay → (after z opening events).frontier ≤ most_revisions
@@ -78,7 +78,7 @@ step_lines z events e shards place caller before now reply old new many at who b
     ∙ ap (λ m. old ++ event_lines z.shards (length events) e m now reply) (before_is ∙ ap (moment_of z w) who)
     ∙ ap (λ m. old ++ event_lines z.shards (length events) e (moment_of z w (named_by e)) m reply)
     (now_is ∙ ap (λ v. moment_of z v caller) (after_more z events opening e) ∙ ap (moment_of z (step z w e)) who)
-    ∙ ap (λ t. old ++ t) (lines_told z events e reply z.shards (length events) (moment_of z w (named_by e)) (moment_of z (step z w e) (named_by e)) is)
+    ∙ ap (λ t. old ++ t) (lines_delivered z events e reply z.shards (length events) (moment_of z w (named_by e)) (moment_of z (step z w e) (named_by e)) is)
 
 -- the text of one event more
 pub text_next : (z : Size) (i : ℕ) (es : List Event) (e : Event) (head text new : List ℕ) → i < length es → e ≡ get_or es i e

@@ -9,29 +9,29 @@ use Rattle.history.specs.declared.standing.Standing.TheVariants.{Idle, Called, H
 use Rattle.pictures.specs.Words.{reply_words, request_words}
 
 -- ---- the forms of a line: `FROM ARROW TO: PLACE: TEXT`, and `Note over WHO: PLACE: TEXT`
-abbrev pub said : (place : ℕ) → (text : List ℕ) → List ℕ
-said place text = codes ": " ++ (decimal place ++ (codes ": " ++ text))
+abbrev pub labelled : (place : ℕ) → (text : List ℕ) → List ℕ
+labelled place text = codes ": " ++ (decimal place ++ (codes ": " ++ text))
 
 abbrev pub caller_to_shard : (caller shard place : ℕ) → (text : List ℕ) → List ℕ
-caller_to_shard c s place text = codes "    C" ++ (decimal c ++ (codes "->>S" ++ (decimal s ++ said place text)))
+caller_to_shard c s place text = codes "    C" ++ (decimal c ++ (codes "->>S" ++ (decimal s ++ labelled place text)))
 
 abbrev pub caller_to_frontier : (caller place : ℕ) → (text : List ℕ) → List ℕ
-caller_to_frontier c place text = codes "    C" ++ (decimal c ++ (codes "->>F" ++ said place text))
+caller_to_frontier c place text = codes "    C" ++ (decimal c ++ (codes "->>F" ++ labelled place text))
 
 abbrev pub shard_to_caller : (shard caller place : ℕ) → (text : List ℕ) → List ℕ
-shard_to_caller s c place text = codes "    S" ++ (decimal s ++ (codes "-->>C" ++ (decimal c ++ said place text)))
+shard_to_caller s c place text = codes "    S" ++ (decimal s ++ (codes "-->>C" ++ (decimal c ++ labelled place text)))
 
 abbrev pub frontier_to_caller : (caller place : ℕ) → (text : List ℕ) → List ℕ
-frontier_to_caller c place text = codes "    F-->>C" ++ (decimal c ++ said place text)
+frontier_to_caller c place text = codes "    F-->>C" ++ (decimal c ++ labelled place text)
 
 abbrev pub note_over_caller : (caller place : ℕ) → (text : List ℕ) → List ℕ
-note_over_caller c place text = codes "    Note over C" ++ (decimal c ++ said place text)
+note_over_caller c place text = codes "    Note over C" ++ (decimal c ++ labelled place text)
 
 abbrev pub note_over_shard : (shard place : ℕ) → (text : List ℕ) → List ℕ
-note_over_shard s place text = codes "    Note over S" ++ (decimal s ++ said place text)
+note_over_shard s place text = codes "    Note over S" ++ (decimal s ++ labelled place text)
 
 abbrev pub note_over_frontier : (place : ℕ) → (text : List ℕ) → List ℕ
-note_over_frontier place text = codes "    Note over F" ++ said place text
+note_over_frontier place text = codes "    Note over F" ++ labelled place text
 
 -- ---- Call
 abbrev pub call_line : (place caller : ℕ) → Request → (before : Standing) → List ℕ
@@ -117,4 +117,4 @@ reply_line place c None = []
 abbrev pub crash_line : (place caller : ℕ) → (before : Standing) → List ℕ
 crash_line place c Gone = []
 crash_line place c (Left number s) = []
-crash_line place c _ = codes "    C" ++ (decimal c ++ (codes "-xF" ++ said place (codes "crash\n")))
+crash_line place c _ = codes "    C" ++ (decimal c ++ (codes "-xF" ++ labelled place (codes "crash\n")))

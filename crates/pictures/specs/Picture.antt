@@ -31,25 +31,25 @@ reply_in (item.Reply place caller reply ∷ items) = Some reply
 reply_in items = None
 
 -- the reply that an event gives, if it gives one: what it adds to the trace
-abbrev pub told : (before after : World) → Option Reply
-told before after = reply_in (drop (length before.trace) after.trace)
+abbrev pub delivered : (before after : World) → Option Reply
+delivered before after = reply_in (drop (length before.trace) after.trace)
 
 -- ---- the lines of one event
-abbrev pub event_lines : (shards place : ℕ) → Event → (before after : Moment) → (told : Option Reply) → List ℕ
-event_lines shards place (event.Call c r) before after told = call_line place c r before.standing
-event_lines shards place (event.Check c) before after told = check_line place c before.standing after.standing
-event_lines shards place (event.Reserve c) before after told = reserve_line place c before.standing after.standing
-event_lines shards place (event.Publish c) before after told = publish_lines place c before.standing after.can_rise after.frontier
-event_lines shards place event.Raise before after told = raise_line place before.can_rise after.frontier
-event_lines shards place (event.Read c) before after told = read_line place c before.standing after.standing
-event_lines shards place (event.ReadAt c) before after told = read_at_line place c before.standing after.standing
-event_lines shards place (event.Compact c) before after told = compact_line place c before.standing
-event_lines shards place (event.Part c) before after told = part_line shards place c before.standing
-event_lines shards place (event.Reply c) before after told = reply_line place c told
-event_lines shards place (event.Crash c) before after told = crash_line place c before.standing
+abbrev pub event_lines : (shards place : ℕ) → Event → (before after : Moment) → (delivered : Option Reply) → List ℕ
+event_lines shards place (event.Call c r) before after delivered = call_line place c r before.standing
+event_lines shards place (event.Check c) before after delivered = check_line place c before.standing after.standing
+event_lines shards place (event.Reserve c) before after delivered = reserve_line place c before.standing after.standing
+event_lines shards place (event.Publish c) before after delivered = publish_lines place c before.standing after.can_rise after.frontier
+event_lines shards place event.Raise before after delivered = raise_line place before.can_rise after.frontier
+event_lines shards place (event.Read c) before after delivered = read_line place c before.standing after.standing
+event_lines shards place (event.ReadAt c) before after delivered = read_at_line place c before.standing after.standing
+event_lines shards place (event.Compact c) before after delivered = compact_line place c before.standing
+event_lines shards place (event.Part c) before after delivered = part_line shards place c before.standing
+event_lines shards place (event.Reply c) before after delivered = reply_line place c delivered
+event_lines shards place (event.Crash c) before after delivered = crash_line place c before.standing
 
 abbrev pub lines_between : Size → (place : ℕ) → Event → (before after : World) → List ℕ
-lines_between z place e before after = event_lines z.shards place e (moment_of z before (named_by e)) (moment_of z after (named_by e)) (told before after)
+lines_between z place e before after = event_lines z.shards place e (moment_of z before (named_by e)) (moment_of z after (named_by e)) (delivered before after)
 
 -- ---- the lines of a run
 -- the first event has this place

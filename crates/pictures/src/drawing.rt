@@ -11,7 +11,7 @@ ghost use Rattle.pictures.specs.Heading.{heading};
 
 use crate::heading::put_heading;
 use crate::lines::{
-    put_call, put_check, put_compact, put_crash, put_given, put_part, put_publish, put_raise,
+    put_call, put_check, put_compact, put_crash, put_delivered, put_part, put_publish, put_raise,
     put_read, put_read_at, put_reserve,
 };
 use crate::moment::{Moment, look};
@@ -44,7 +44,7 @@ pub fn picture<R: Roles>(
     ensures too_many { IsErrOf result ReplayError.TooManyCallers → 4096 < callers events.now }
 {
     let mut replay = Replay::new(alloc, shards, capacity)?;
-    let mut text = begun(alloc, shards, events, roles)?;
+    let mut text = begin_picture(alloc, shards, events, roles)?;
     for event in events {
         put_step(shards, &mut replay, event, &mut text)?;
     }
@@ -52,7 +52,7 @@ pub fn picture<R: Roles>(
 }
 
 /// The lines of those who take part.
-fn begun<R: Roles>(
+fn begin_picture<R: Roles>(
     alloc: Global,
     shards: usize,
     events: &[Event],
@@ -85,26 +85,26 @@ fn put_step(
     let place = replay.events();
     let caller = named_by(event);
     let before = look(replay, caller);
-    let told = replay.step(event)?;
+    let delivered = replay.step(event)?;
     let after = look(replay, caller);
-    let put = put_event(shards, place, event, before, after, &told, out);
+    let put = put_event(shards, place, event, before, after, &delivered, out);
     // Let go by name, which is proved once for the type and not at each way out.
-    drop(told);
+    drop(delivered);
     Ok(put?)
 }
 
-/// Puts the lines of an event behind the text, by the moment before it and the one after it, and by what its caller is told.
+/// Puts the lines of an event behind the text, by the moment before it and the one after it, and by the reply that its caller gets.
 fn put_event(
     shards: usize,
     place: u64,
     event: &Event,
     before: Moment,
     after: Moment,
-    told: &Option<Reply>,
+    delivered: &Option<Reply>,
     out: &mut String,
 ) -> Result<(), AllocError>
     requires { after.frontier < 2 ^ 64 - 1 }
-    ensures { OnOk result (string_bytes out.new ≡ string_bytes out.old ++ event_lines shards place event.now before after told.now) }
+    ensures { OnOk result (string_bytes out.new ≡ string_bytes out.old ++ event_lines shards place event.now before after delivered.now) }
 {
     match event {
         Event::Call(caller, request) => put_call(place, *caller, request, before.standing, out),
@@ -123,7 +123,7 @@ fn put_event(
         Event::ReadAt(caller) => put_read_at(place, *caller, before.standing, after.standing, out),
         Event::Compact(caller) => put_compact(place, *caller, before.standing, out),
         Event::Part(caller) => put_part(shards, place, *caller, before.standing, out),
-        Event::Reply(caller) => put_given(place, *caller, told, out),
+        Event::Reply(caller) => put_delivered(place, *caller, delivered, out),
         Event::Crash(caller) => put_crash(place, *caller, before.standing, out),
     }
 }

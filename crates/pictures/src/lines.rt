@@ -281,21 +281,26 @@ fn answering(shards: usize, shard: Option<usize>, left: usize) -> usize
     }
 }
 
-pub(crate) fn put_given(
+pub(crate) fn put_delivered(
     place: u64,
     caller: u64,
-    told: &Option<Reply>,
+    delivered: &Option<Reply>,
     out: &mut String,
 ) -> Result<(), AllocError>
-    ensures { OnOk result (string_bytes out.new ≡ string_bytes out.old ++ reply_line place caller told.now) }
+    ensures { OnOk result (string_bytes out.new ≡ string_bytes out.old ++ reply_line place caller delivered.now) }
 {
-    match told {
-        Some(reply) => put_told(place, caller, reply, out),
+    match delivered {
+        Some(reply) => put_reply_line(place, caller, reply, out),
         None => Ok(()),
     }
 }
 
-fn put_told(place: u64, caller: u64, reply: &Reply, out: &mut String) -> Result<(), AllocError>
+fn put_reply_line(
+    place: u64,
+    caller: u64,
+    reply: &Reply,
+    out: &mut String,
+) -> Result<(), AllocError>
     ensures { OnOk result (string_bytes out.new ≡ string_bytes out.old ++ reply_line place caller (Some reply.now)) }
 {
     write!(out, "    F-->>C{caller}: {place}: ")?;

@@ -44,12 +44,12 @@ fn as_read(alloc: Global, object: Object) -> Result<Draft, Memory>
 fn read_texts(alloc: Global, object: &Object) -> Result<(Option<Text>, Option<Text>), Memory>
     ensures { IfOk result (λ texts. (texts.0 ≡ text_unless_zero uid_text object.now.meta.uid) × (texts.1 ≡ text_unless_zero decimal object.now.meta.revision)) }
 {
-    let uid = given_uid(alloc, object.meta.uid)?;
-    let version = given_version(alloc, object.meta.revision)?;
+    let uid = uid_precondition(alloc, object.meta.uid)?;
+    let version = version_precondition(alloc, object.meta.revision)?;
     Ok((uid, version))
 }
 
-fn given_uid(alloc: Global, number: u64) -> Result<Option<Text>, Memory>
+fn uid_precondition(alloc: Global, number: u64) -> Result<Option<Text>, Memory>
     requires { number < 2 ^ 48 }
     ensures { IfOk result (λ text. text ≡ text_unless_zero uid_text number) }
 {
@@ -60,7 +60,7 @@ fn given_uid(alloc: Global, number: u64) -> Result<Option<Text>, Memory>
     Ok(Some(Text::from(uid_text(alloc, number)?)))
 }
 
-fn given_version(alloc: Global, number: u64) -> Result<Option<Text>, AllocError>
+fn version_precondition(alloc: Global, number: u64) -> Result<Option<Text>, AllocError>
     ensures { IfOk result (λ text. text ≡ text_unless_zero decimal number) }
 {
     if number == 0 {

@@ -16,7 +16,7 @@ use Rattle.race_log.specs.declared.stamp.Stamp.{Stamp}
 use Rattle.race_log.specs.Judged.{calls_of}
 use Rattle.race_log.specs.Logged.{IsNoted, Noted}
 use Rattle.race_log.specs.Order.{IsOrderOf}
-use Rattle.race_log.specs.Twice.{repeats, reply_at, told, with_next}
+use Rattle.race_log.specs.Twice.{repeats, reply_at, replies_in_order, with_next}
 use Rattle.race_log.proofs.Once.{none_twice_in_run, onto}
 
 -- ---- what stands in a list
@@ -53,16 +53,16 @@ has_zip x y (z ∷ xs) (w ∷ ys) (inr m) = inr (has_zip x y xs ys m)
 abbrev Fits : List Item → List (ℕ × Reply) → Stamp → Type 0
 Fits items given s = (reply : Reply) × ((reply_at items s.reply ≡ Some reply) × Has (s.call, reply) given)
 
-told_onto : (items : List Item) (order : List Stamp) (st : Store) (rs : List Request) (earlier : List Reply)
+replies_onto : (items : List Item) (order : List Stamp) (st : Store) (rs : List Request) (earlier : List Reply)
     → AreCalled items (calls_of order) rs → AreOnce (calls_of order)
     → ((s : Stamp) → Has s order → Fits items (zip (calls_of order) (replies st rs)) s)
-    → told items order earlier ≡ onto (replies st rs) earlier
-told_onto items [] st [] earlier called once fits = refl
-told_onto items [] st (r ∷ rs) earlier called once fits = absurd called
-told_onto items (s ∷ order) st [] earlier called once fits = absurd called
-told_onto items (s ∷ order) st (r ∷ rs) earlier called once fits =
-    ap (λ o. told items order (with_next o earlier)) (first (fits s (inl refl)))
-    ∙ told_onto items order (step st r).0 rs ((step st r).1 ∷ earlier) called.1 once.1 (λ x m. rest x m (fits x (inr m)))
+    → replies_in_order items order earlier ≡ onto (replies st rs) earlier
+replies_onto items [] st [] earlier called once fits = refl
+replies_onto items [] st (r ∷ rs) earlier called once fits = absurd called
+replies_onto items (s ∷ order) st [] earlier called once fits = absurd called
+replies_onto items (s ∷ order) st (r ∷ rs) earlier called once fits =
+    ap (λ o. replies_in_order items order (with_next o earlier)) (first (fits s (inl refl)))
+    ∙ replies_onto items order (step st r).0 rs ((step st r).1 ∷ earlier) called.1 once.1 (λ x m. rest x m (fits x (inr m)))
   where
     first : Fits items (zip (calls_of (s ∷ order)) (replies st (r ∷ rs))) s → reply_at items s.reply ≡ Some (step st r).1
     first (reply, (is, inl e)) = is ∙ ap (λ p. Some p.1) e
@@ -74,14 +74,14 @@ told_onto items (s ∷ order) st (r ∷ rs) earlier called once fits =
     rest x m (reply, (is, inr k)) = (reply, (is, k))
 
 pub legal_once : (capacity : ℕ) (n : Noted) (order : List Stamp) → IsNoted n → IsOrderOf n.stamps order → IsLegal capacity n.items (calls_of order)
-    → repeats (told n.items order []) ≡ 0
+    → repeats (replies_in_order n.items order []) ≡ 0
 legal_once capacity n order noted ordered legal =
-    ap repeats (told_onto n.items order (opening capacity) legal.requests [] legal.called legal.once fits) ∙ none_twice_in_run capacity legal.requests
+    ap repeats (replies_onto n.items order (opening capacity) legal.requests [] legal.called legal.once fits) ∙ none_twice_in_run capacity legal.requests
   where
     fits : (s : Stamp) → Has s order → Fits n.items (zip (calls_of order) (replies (opening capacity) legal.requests)) s
     fits s m = let k = noted.stamped s (has_permutation n.stamps order ordered.same s m) in (k.reply, (k.is, legal.right s.reply s.call k.reply k.answers))
 
 -- the same where it is known only that the log is so
 pub legal_once_merely : (capacity : ℕ) (n : Noted) (order : List Stamp) → ∥ IsNoted n ∥₁ → IsOrderOf n.stamps order → IsLegal capacity n.items (calls_of order)
-    → repeats (told n.items order []) ≡ 0
+    → repeats (replies_in_order n.items order []) ≡ 0
 legal_once_merely capacity n order noted ordered legal = ∥∥₁_elim noted (ℕ_set _ _) (λ is. legal_once capacity n order is ordered legal)

@@ -17,7 +17,7 @@ use Rattle.interleavings.proofs.Basics.{Compared, same, other, compare}
 use Rattle.interleavings.proofs.Lists.{has_back, has_front, has_last, has_cases}
 use Rattle.interleavings.proofs.Histories.{answers_more, caller_of, last_call_more}
 use Rattle.interleavings.proofs.Invariant.{IsLastCall}
-use Rattle.order_check.specs.Marks.{IsWith, IsWithout}
+use Rattle.order_check.specs.Lookup.{IsWith, IsWithout}
 use Rattle.race_log.specs.declared.stamp.Stamp.{Stamp}
 use Rattle.race_log.specs.Logged.{IsNoted, IsOpen, IsStamped, Noted, stamp_for}
 use Rattle.race_log.specs.Twice.{reply_at, reply_of}

@@ -3,11 +3,11 @@ use Rattle.std.proofs.Common.{◌≡◌, ℕ, ◌+◌, ◌<◌, List, length, ge
 use Rattle.requests.specs.declared.reply.Reply.{Reply}
 use Rattle.interleavings.specs.declared.trace.Item.{Item}
 use Rattle.race_log.specs.declared.stamp.Stamp.{Stamp}
-use Rattle.race_log.specs.Twice.{reply_at, told, with_next}
+use Rattle.race_log.specs.Twice.{reply_at, replies_in_order, with_next}
 
--- what was told and what is left to tell make the whole
-pub told-next : (items : List Item) (order : List Stamp) (at : ℕ) (d : Stamp) (earlier all : List Reply) → at < length order
-    → told items (drop at order) earlier ≡ all → told items (drop (at + 1) order) (with_next (reply_at items (get_or order at d).reply) earlier) ≡ all
-told-next items order at d earlier all inside so_far =
-    ap (λ n. told items (drop n order) (with_next (reply_at items (get_or order at d).reply) earlier)) (add-one at)
-    ∙ ap (λ ss. told items ss earlier) (sym (drop-cons order at d inside)) ∙ so_far
+-- the replies so far and those that are left make all of them
+pub replies_in_order-next : (items : List Item) (order : List Stamp) (at : ℕ) (d : Stamp) (earlier all : List Reply) → at < length order
+    → replies_in_order items (drop at order) earlier ≡ all → replies_in_order items (drop (at + 1) order) (with_next (reply_at items (get_or order at d).reply) earlier) ≡ all
+replies_in_order-next items order at d earlier all inside so_far =
+    ap (λ n. replies_in_order items (drop n order) (with_next (reply_at items (get_or order at d).reply) earlier)) (add-one at)
+    ∙ ap (λ ss. replies_in_order items ss earlier) (sym (drop-cons order at d inside)) ∙ so_far

@@ -9,7 +9,7 @@ use Rattle.race_log.specs.declared.spec.RaceSpec.{RaceSpec}
 use Rattle.race_log.specs.declared.stamp.Stamp.{Stamp}
 use Rattle.race_log.specs.Logged.{Noted}
 use Rattle.race_log.specs.Order.{IsOrderOf}
-use Rattle.race_log.specs.Twice.{repeats, told}
+use Rattle.race_log.specs.Twice.{repeats, replies_in_order}
 
 -- what a log says
 abbrev pub noted_of : Log → Noted
@@ -28,4 +28,4 @@ pub record IsReportOf (capacity : ℕ) (spec : RaceSpec) (log : Noted) (report :
   pub ordered : IsOrderOf log.stamps order
   pub history : IsTrue report.legal → IsHistory log.items
   pub legal : IsTrue report.legal → IsLegal capacity log.items (calls_of order)
-  pub twice : report.twice ≡ repeats (told log.items order [])
+  pub twice : report.twice ≡ repeats (replies_in_order log.items order [])

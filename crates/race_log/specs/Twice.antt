@@ -25,9 +25,9 @@ with_next None earlier = earlier
 with_next (Some reply) earlier = reply ∷ earlier
 
 -- the replies of these stamps after earlier ones: the newest first
-abbrev pub told : List Item → List Stamp → List Reply → List Reply
-told items [] earlier = earlier
-told items (s ∷ later) earlier = told items later (with_next (reply_at items s.reply) earlier)
+abbrev pub replies_in_order : List Item → List Stamp → List Reply → List Reply
+replies_in_order items [] earlier = earlier
+replies_in_order items (s ∷ later) earlier = replies_in_order items later (with_next (reply_at items s.reply) earlier)
 
 -- ---- by replies, the newest first
 

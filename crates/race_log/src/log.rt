@@ -1,7 +1,7 @@
 ghost use Rattle.std.specs.Prelude.{◌≡◌, ◌++◌, ◌∷◌, [], ℕ, vec_len, OnOk, OnErr, None};
 ghost use Rattle.std.specs.BTreeMap.{get};
 ghost use Rattle.std.specs.Ordering.{nat_cmp};
-ghost use Rattle.order_check.specs.Marks.{IsWith, IsWithout};
+ghost use Rattle.order_check.specs.Lookup.{IsWith, IsWithout};
 ghost use Rattle.interleavings.specs.declared.trace.Item.TheVariants as item;
 ghost use Rattle.race_log.specs.Logged.{IsNoted, is_accepted, stamp_for};
 

@@ -3,7 +3,7 @@ ghost use Rattle.std.specs.Prelude.{◌≡◌, ◌<◌, ◌≤◌, ◌^◌, ◌+
 ghost use Rattle.requests.specs.declared.reply.Reply.{Reply};
 ghost use Rattle.requests.specs.declared.reply.Reply.TheVariants.{Created};
 ghost use Rattle.race_log.specs.Living.{Knows};
-ghost use Rattle.race_log.specs.Twice.{is_pod, repeats, reply_at, told, with_next};
+ghost use Rattle.race_log.specs.Twice.{is_pod, repeats, reply_at, replies_in_order, with_next};
 
 use crate::stamp::Stamp;
 use interleavings::Item;
@@ -89,7 +89,7 @@ impl Living {
 /// How many of the accepted creates of a pod follow, in the order, another one of its name with no accepted removal
 /// between.
 pub(crate) fn repeats(alloc: Global, items: &[Item], order: &[Stamp]) -> Result<u64, Memory>
-    ensures { IfOk result (λ n. n ≡ repeats (told items.now order.now [])) }
+    ensures { IfOk result (λ n. n ≡ repeats (replies_in_order items.now order.now [])) }
 {
     let mut living = Living {
         keys: BTreeSet::new(alloc),

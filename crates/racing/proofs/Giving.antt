@@ -11,7 +11,7 @@ use Rattle.requests.specs.Verdict.{is_write}
 use Rattle.store.specs.History.{IsHistory, store_after}
 use Rattle.store.specs.Callers.{Caller, HasRead}
 use Rattle.store.specs.Tickets.{IsReply, IsTicketOf, Ticket, after_given}
-use Rattle.racing.specs.Given.{IsGiven, reads_now}
+use Rattle.racing.specs.Answered.{IsAnswered, reads_now}
 
 no_read : (r : Request) → is_write r ≡ true → reads_now r ≡ true → ⊥
 no_read (Create d) write now = absurd cc
@@ -25,9 +25,9 @@ no_read (Compact to) write now = absurd cc
 no_write : (r : Request) → is_write r ≡ false → is_write r ≡ true → ⊥
 no_write r is not_so = let k : false ≡ true = sym is ∙ not_so in absurd cc
 
-pub given_to_ticket : (shards capacity : ℕ) (t : Ticket) (reply : Reply) (c d : Caller) → IsTicketOf shards capacity t c → IsReply capacity t reply d
-    → IsGiven capacity t.request reply t.place
-given_to_ticket shards capacity t reply c d of is = record {
+pub answered_to_ticket : (shards capacity : ℕ) (t : Ticket) (reply : Reply) (c d : Caller) → IsTicketOf shards capacity t c → IsReply capacity t reply d
+    → IsAnswered capacity t.request reply t.place
+answered_to_ticket shards capacity t reply c d of is = record {
   seen = d.seen;
   history = is.history;
   long = is.long;
@@ -36,9 +36,9 @@ given_to_ticket shards capacity t reply c d of is = record {
   read = λ now. absurd (no_read t.request of.write now);
 }
 
-pub given_to_read : (capacity : ℕ) (r : Request) (reply : Reply) (c d : Caller) → HasRead capacity c d → is_write r ≡ false
-    → (reads_now r ≡ true → reply ≡ (step (store_after capacity d.seen) r).1) → IsGiven capacity r reply (length d.seen)
-given_to_read capacity r reply c d has reads is = record {
+pub answered_to_read : (capacity : ℕ) (r : Request) (reply : Reply) (c d : Caller) → HasRead capacity c d → is_write r ≡ false
+    → (reads_now r ≡ true → reply ≡ (step (store_after capacity d.seen) r).1) → IsAnswered capacity r reply (length d.seen)
+answered_to_read capacity r reply c d has reads is = record {
   seen = d.seen;
   history = subst (IsHistory capacity) (sym whole) has.history;
   long = ap length whole;
@@ -54,11 +54,11 @@ given_to_read capacity r reply c d has reads is = record {
 past : (exact : ℕ) → 0 < exact → (exact == 0) ≡ true → ⊥
 past exact above is = let k : false ≡ true = sym (ne_eqb exact 0 (λ e. absurd (omega arith))) ∙ is in absurd cc
 
-pub given_of_past : {E : Type 0} (capacity : ℕ) (kind : Kind) (namespace : List ℕ) (exact : ℕ) (r : Result Reply E) (c d : Caller) → HasRead capacity c d
-    → 0 < exact → IfOk r (λ reply. IsGiven capacity (request.List kind namespace exact) reply (length d.seen))
-given_of_past capacity kind namespace exact (Ok reply) c d has above =
-    given_to_read capacity (request.List kind namespace exact) reply c d has refl (λ now. absurd (past exact above now))
-given_of_past capacity kind namespace exact (Err e) c d has above = tt
+pub answered_of_past : {E : Type 0} (capacity : ℕ) (kind : Kind) (namespace : List ℕ) (exact : ℕ) (r : Result Reply E) (c d : Caller) → HasRead capacity c d
+    → 0 < exact → IfOk r (λ reply. IsAnswered capacity (request.List kind namespace exact) reply (length d.seen))
+answered_of_past capacity kind namespace exact (Ok reply) c d has above =
+    answered_to_read capacity (request.List kind namespace exact) reply c d has refl (λ now. absurd (past exact above now))
+answered_of_past capacity kind namespace exact (Err e) c d has above = tt
 
 chosen : (b : Bool) (t : Ticket)
     → ((if b then record t { reply = None } else t).request ≡ t.request) × ((if b then record t { reply = None } else t).place ≡ t.place)

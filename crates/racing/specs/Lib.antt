@@ -1,2 +1,2 @@
 -- ---- what public clauses cite
-pub mod Given
+pub mod Answered

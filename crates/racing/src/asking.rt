@@ -10,7 +10,7 @@ use std::thread::yield_now;
 use store::Gate;
 
 /// Asks a write, and tries for its reply until it comes.
-fn written<S: SharedStore, R: Wait, G: Gate>(
+fn ask_write<S: SharedStore, R: Wait, G: Gate>(
     rt: &R,
     store: &S,
     gate: &G,
@@ -72,7 +72,7 @@ pub fn answered<S: SharedStore, R: Wait, G: Gate>(
     ensures { IfOk result (λ r. S.gave request r.0 r.1) }
 {
     if request.is_write() {
-        return written(rt, store, gate, caller, request);
+        return ask_write(rt, store, gate, caller, request);
     }
     let answer = read(rt, store, caller, &request);
     // Let go by name, which is proved once for the type and not at each way out.

@@ -28,13 +28,13 @@ fn memory_of(error: StoreError) -> Memory {
 impl<H: Sharding, N: Naming> SharedStore for Store<H, N> {
     ghost use Rattle.std.specs.Prelude.{length};
     ghost use Rattle.store.specs.Tickets.{IsTicketOf};
-    ghost use Rattle.racing.specs.Given.{IsGiven};
+    ghost use Rattle.racing.specs.Answered.{IsAnswered};
 
     type Caller = Caller<H, N>;
 
     type Ticket = Ticket<H, N>;
 
-    ghost gave = { IsGiven N.capacity };
+    ghost gave = { IsAnswered N.capacity };
 
     ghost asked = { λ ticket. ticket.request };
 

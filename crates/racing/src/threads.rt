@@ -116,11 +116,11 @@ where
     if !spec.is_allowed() {
         return Err(RaceFault::BadRace);
     }
-    Ok(raced(rt, alloc, store, spec, gate)?)
+    Ok(run_threads(rt, alloc, store, spec, gate)?)
 }
 
 /// As `race_over`, at a size that is allowed.
-fn raced<S: SharedStore + Sync, R: Threads + Wait + Sync, G: Gate + Sync>(
+fn run_threads<S: SharedStore + Sync, R: Threads + Wait + Sync, G: Gate + Sync>(
     rt: &R,
     alloc: Global,
     store: &S,

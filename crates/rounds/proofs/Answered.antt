@@ -21,7 +21,7 @@ use Rattle.plain_store.proofs.WholeLists.{listed_there}
 use Rattle.collector.specs.Collectable.{Among}
 use Rattle.rounds.specs.Planned.{IsPlanned}
 use Rattle.rounds.specs.Reconciler.{Reconciler}
-use Rattle.rounds.specs.Transcript.{Entry, Life, of_life, requests_of}
+use Rattle.rounds.specs.Transcript.{Entry, Incarnation, of_incarnation, requests_of}
 use Rattle.rounds.proofs.Entries.{IsStepwise, stands_in}
 use Rattle.rounds.proofs.Lists.{among_either, among_right, contains_among}
 
@@ -39,7 +39,7 @@ list_reply : (s : Store) (kind : Kind) (namespace : List ℕ) → (step s (reque
 unfolding step route
 list_reply s kind namespace = refl
 
-was_listed_by : (s : Store) (es : List Entry) (who : Option Life) (kind : Kind) (namespace : List ℕ) (os : List Object) (n : ℕ) → IsStepwise s es
+was_listed_by : (s : Store) (es : List Entry) (who : Option Incarnation) (kind : Kind) (namespace : List ℕ) (os : List Object) (n : ℕ) → IsStepwise s es
     → Among (who, request.List kind namespace 0, Listed os n) es → WasListed s (after s (requests_of es)) kind namespace os n
 was_listed_by s [] who kind namespace os n run at = absurd at
 was_listed_by s (e ∷ es) who kind namespace os n run (inl is) =
@@ -52,11 +52,11 @@ was_listed_by s (e ∷ es) who kind namespace os n run (inr at) =
     let w = was_listed_by (step s e.1).0 es who kind namespace os n run.1 at in
     record { first = e.1 ∷ w.first; rest = w.rest; objects = w.objects; counted = w.counted; end_is = w.end_is }
 
--- a list that a life was answered
-pub was_listed : (s : Store) (es : List Entry) (life : Life) (kind : Kind) (namespace : List ℕ) (os : List Object) (n : ℕ) → IsStepwise s es
-    → Among (request.List kind namespace 0, Listed os n) (of_life life es) → WasListed s (after s (requests_of es)) kind namespace os n
-was_listed s es life kind namespace os n run at =
-    let stands = stands_in life (request.List kind namespace 0, Listed os n) es at in
+-- a list that an incarnation was answered
+pub was_listed : (s : Store) (es : List Entry) (incarnation : Incarnation) (kind : Kind) (namespace : List ℕ) (os : List Object) (n : ℕ) → IsStepwise s es
+    → Among (request.List kind namespace 0, Listed os n) (of_incarnation incarnation es) → WasListed s (after s (requests_of es)) kind namespace os n
+was_listed s es incarnation kind namespace os n run at =
+    let stands = stands_in incarnation (request.List kind namespace 0, Listed os n) es at in
     was_listed_by s es stands.who kind namespace os n run stands.at
 
 -- ---- an object that was there
@@ -120,18 +120,18 @@ kind_of kind namespace key of =
 pub namespace_of : (kind : Kind) (namespace : List ℕ) (key : Key) → is_of kind namespace key ≡ true → key.namespace ≡ namespace
 namespace_of kind namespace key of = (bytes_eq-Decides key.namespace namespace).0 (and_parts (kind_index key.kind == kind_index kind) (bytes_eq key.namespace namespace) of).1
 
-pub plan_read : (c : Reconciler) (capacity : ℕ) (before : List Entry) (life : Life) (r : Request) (o : Object) → 1 ≤ capacity → capacity ≤ 1048576
-    → IsStepwise (opening capacity) before → (plan : IsPlanned c (of_life life before) r) → Among o (plan.revisions ++ plan.pods)
+pub plan_read : (c : Reconciler) (capacity : ℕ) (before : List Entry) (incarnation : Incarnation) (r : Request) (o : Object) → 1 ≤ capacity → capacity ≤ 1048576
+    → IsStepwise (opening capacity) before → (plan : IsPlanned c (of_incarnation incarnation before) r) → Among o (plan.revisions ++ plan.pods)
     → WasRead capacity (after (opening capacity) (requests_of before)) c.set.namespace o
-plan_read c capacity before life r o least most run plan at =
+plan_read c capacity before incarnation r o least most run plan at =
     let end = after (opening capacity) (requests_of before) in
     let namespace = c.set.namespace in
     elim (among_either o plan.revisions plan.pods at) [
-      | inl revision ↦ (let listed = was_listed (opening capacity) before life ControllerRevision namespace plan.revisions plan.revisions_at run
+      | inl revision ↦ (let listed = was_listed (opening capacity) before incarnation ControllerRevision namespace plan.revisions plan.revisions_at run
           (subst (Among _) (sym plan.answered) (among_right _ plan.before _ (inr (inl refl)))) in
           let was = was_there capacity end ControllerRevision namespace plan.revisions plan.revisions_at o least most listed revision in
           record { kind = ControllerRevision; was = was; kind_is = inr (kind_of ControllerRevision namespace o.key was.of) })
-      | inr pod ↦ (let listed = was_listed (opening capacity) before life Pod namespace plan.pods plan.pods_at run
+      | inr pod ↦ (let listed = was_listed (opening capacity) before incarnation Pod namespace plan.pods plan.pods_at run
           (subst (Among _) (sym plan.answered) (among_right _ plan.before _ (inr (inr (inl refl))))) in
           let was = was_there capacity end Pod namespace plan.pods plan.pods_at o least most listed pod in
           record { kind = Pod; was = was; kind_is = inl (kind_of Pod namespace o.key was.of) })

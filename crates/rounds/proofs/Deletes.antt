@@ -33,7 +33,7 @@ use Rattle.rounds.specs.Planned.{IsCollected, IsPlanned}
 use Rattle.rounds.specs.Promises.{HasOwnerOf, HasRead}
 use Rattle.rounds.specs.Reconciler.{Reconciler}
 use Rattle.rounds.specs.Sound.{IsSound}
-use Rattle.rounds.specs.Transcript.{Entry, Exchange, Life, of_life, requests_of}
+use Rattle.rounds.specs.Transcript.{Entry, Exchange, Incarnation, of_incarnation, requests_of}
 use Rattle.rounds.proofs.Entries.{IsStepwise, after-append}
 use Rattle.rounds.proofs.Knowing.{action, is_collection}
 use Rattle.rounds.proofs.Lists.{among_contained, among_right, listed_among}
@@ -68,16 +68,16 @@ same_number n m some low first most same =
 kind_by : {k l : Key} → k ≡ l → (l.kind ≡ Pod) ⊎ (l.kind ≡ ControllerRevision) → (k.kind ≡ Pod) ⊎ (k.kind ≡ ControllerRevision)
 kind_by same kinds = subst (λ (x : Key). (x.kind ≡ Pod) ⊎ (x.kind ≡ ControllerRevision)) (sym same) kinds
 
-pub plan_takes : (c : Reconciler) (capacity : ℕ) (before : List Entry) (life : Life) (k : Key) (uid version at : Option (List ℕ)) (o : Object)
+pub plan_takes : (c : Reconciler) (capacity : ℕ) (before : List Entry) (incarnation : Incarnation) (k : Key) (uid version at : Option (List ℕ)) (o : Object)
     → 1 ≤ capacity → capacity ≤ 1048576 → IsStepwise (opening capacity) before → IsSound c
-    → (plan : IsPlanned c (of_life life before) (Delete k uid version at))
+    → (plan : IsPlanned c (of_incarnation incarnation before) (Delete k uid version at))
     → taken (step (after (opening capacity) (requests_of before)) (Delete k uid version at)).1 ≡ Some o
     → HasRead (plan.revisions ++ plan.pods) o × ((o.key.kind ≡ Pod) ⊎ (o.key.kind ≡ ControllerRevision))
-plan_takes c capacity before life k uid version at o least most run sound plan told =
+plan_takes c capacity before incarnation k uid version at o least most run sound plan told =
     let rs = requests_of before in
     let s = after (opening capacity) rs in
-    let named = action c (of_life life before) (Delete k uid version at) sound plan in
-    let read = plan_read c capacity before life (Delete k uid version at) named.object least most run plan named.among in
+    let named = action c (of_incarnation incarnation before) (Delete k uid version at) sound plan in
+    let read = plan_read c capacity before incarnation (Delete k uid version at) named.object least most run plan named.among in
     let was = read.was.numbers in
     let t = delete_takes s k uid version at o told in
     let now = numbered capacity rs k t.current least most t.there in
@@ -93,12 +93,12 @@ plan_takes c capacity before life k uid version at o least most run sound plan t
     )
 
 -- a plan's delete is of a pod or of a revision
-pub plan_deletes : (c : Reconciler) (capacity : ℕ) (before : List Entry) (life : Life) (k : Key) (uid version at : Option (List ℕ))
-    → 1 ≤ capacity → capacity ≤ 1048576 → IsStepwise (opening capacity) before → IsSound c → IsPlanned c (of_life life before) (Delete k uid version at)
+pub plan_deletes : (c : Reconciler) (capacity : ℕ) (before : List Entry) (incarnation : Incarnation) (k : Key) (uid version at : Option (List ℕ))
+    → 1 ≤ capacity → capacity ≤ 1048576 → IsStepwise (opening capacity) before → IsSound c → IsPlanned c (of_incarnation incarnation before) (Delete k uid version at)
     → (k.kind ≡ Pod) ⊎ (k.kind ≡ ControllerRevision)
-plan_deletes c capacity before life k uid version at least most run sound plan =
-    let named = action c (of_life life before) (Delete k uid version at) sound plan in
-    kind_by named.key_is (plan_read c capacity before life (Delete k uid version at) named.object least most run plan named.among).kind_is
+plan_deletes c capacity before incarnation k uid version at least most run sound plan =
+    let named = action c (of_incarnation incarnation before) (Delete k uid version at) sound plan in
+    kind_by named.key_is (plan_read c capacity before incarnation (Delete k uid version at) named.object least most run plan named.among).kind_is
 
 -- ---- a collector's delete
 
@@ -207,14 +207,14 @@ module _ (c : Reconciler) (own : List Exchange) (r : Request) (is : IsCollected 
   others_known : HasList c own PersistentVolumeClaim is.others (LeastOf is)
   others_known = record { revision = is.others_at; stands = answered_among _ (inr (inr (inr (inr (inl refl))))); low = omega arith }
 
-pub collector_takes : (c : Reconciler) (capacity : ℕ) (before : List Entry) (life : Life) (k : Key) (uid version at : Option (List ℕ)) (claim : Object)
-    → 1 ≤ capacity → capacity ≤ 1048576 → IsStepwise (opening capacity) before → IsSound c → IsCollected c (of_life life before) (Delete k uid version at)
+pub collector_takes : (c : Reconciler) (capacity : ℕ) (before : List Entry) (incarnation : Incarnation) (k : Key) (uid version at : Option (List ℕ)) (claim : Object)
+    → 1 ≤ capacity → capacity ≤ 1048576 → IsStepwise (opening capacity) before → IsSound c → IsCollected c (of_incarnation incarnation before) (Delete k uid version at)
     → taken (step (after (opening capacity) (requests_of before)) (Delete k uid version at)).1 ≡ Some claim
     → (more : List Request) → HasOwnerOf (after (opening capacity) (requests_of before ++ more)) claim → ⊥
-collector_takes c capacity before life k uid version at claim least most run sound is told more owner =
+collector_takes c capacity before incarnation k uid version at claim least most run sound is told more owner =
     let rs = requests_of before in
     let s = after (opening capacity) rs in
-    let own = of_life life before in
+    let own = of_incarnation incarnation before in
     let asked = Delete k uid version at in
     let owners : List (List Object) = OwnersOf is in
     let i = is_collection c own asked sound is in
@@ -223,14 +223,14 @@ collector_takes c capacity before life k uid version at claim least most run sou
     let key_is : k ≡ i.claim.key = cc in
     let version_is : version ≡ text_unless_zero decimal i.claim.meta.revision = cc in
     let t = delete_takes s k uid version at claim told in
-    let was = λ (kind : Kind) (os : List Object) (from : ℕ) (l : HasList c (of_life life before) kind os from).
-    was_listed (opening capacity) before life kind c.set.namespace os l.revision run l.stands in
+    let was = λ (kind : Kind) (os : List Object) (from : ℕ) (l : HasList c (of_incarnation incarnation before) kind os from).
+    was_listed (opening capacity) before incarnation kind c.set.namespace os l.revision run l.stands in
     let same = claim_is capacity rs c.set.namespace is.claims known.revision i.claim t.current uid version least most
     (was PersistentVolumeClaim is.claims 0 known) i.among (subst (λ x. Has s x t.current) key_is t.there) version_is t.fits in
     let body : claim.body ≡ i.claim.body = t.body_is ∙ ap (λ (x : Object). x.body) same.0 in
     let home : owner.key.namespace ≡ c.set.namespace = owner.in_namespace ∙ ap (λ (x : Key). x.namespace) (t.key_is ∙ ap (λ (x : Object). x.key) same.0) ∙ same.1 in
     let gone = absent owners (LeastOf is) owner.object.meta.uid i.claim i.collectable (subst (λ b. HasOwner owner.object.meta.uid (owners_of b)) body owner.owns) in
-    let none = λ (kind : Kind) (os : List Object) (l : HasList c (of_life life before) kind os (LeastOf is)) (within : Among os owners) (e : owner.key.kind ≡ kind).
+    let none = λ (kind : Kind) (os : List Object) (l : HasList c (of_incarnation incarnation before) kind os (LeastOf is)) (within : Among os owners) (e : owner.key.kind ≡ kind).
     none_of capacity rs more kind c.set.namespace os owners l.revision (LeastOf is) owner.key owner.object (was kind os (LeastOf is) l) within l.low e home owner.there gone in
     by_kind (λ kind. owner.key.kind ≡ kind → ⊥)
     (λ e. none StatefulSet is.sets (sets_known c own asked is) (inl refl) e)
@@ -240,16 +240,16 @@ collector_takes c capacity before life k uid version at claim least most run sou
     owner.key.kind refl
 
 -- a collector's delete is of a claim
-pub collector_deletes : (c : Reconciler) (capacity : ℕ) (before : List Entry) (life : Life) (k : Key) (uid version at : Option (List ℕ))
-    → 1 ≤ capacity → capacity ≤ 1048576 → IsStepwise (opening capacity) before → IsSound c → IsCollected c (of_life life before) (Delete k uid version at)
+pub collector_deletes : (c : Reconciler) (capacity : ℕ) (before : List Entry) (incarnation : Incarnation) (k : Key) (uid version at : Option (List ℕ))
+    → 1 ≤ capacity → capacity ≤ 1048576 → IsStepwise (opening capacity) before → IsSound c → IsCollected c (of_incarnation incarnation before) (Delete k uid version at)
     → k.kind ≡ PersistentVolumeClaim
-collector_deletes c capacity before life k uid version at least most run sound is =
-    let own = of_life life before in
+collector_deletes c capacity before incarnation k uid version at least most run sound is =
+    let own = of_incarnation incarnation before in
     let asked = Delete k uid version at in
     let i = is_collection c own asked sound is in
     let deleted : Delete k uid version at ≡ Delete i.claim.key (text_unless_zero uid_text i.claim.meta.uid) (text_unless_zero decimal i.claim.meta.revision) None = i.deletes in
     let key_is : k ≡ i.claim.key = cc in
     let known = claims_known c own asked is in
-    let listed' = was_listed (opening capacity) before life PersistentVolumeClaim c.set.namespace is.claims known.revision run known.stands in
+    let listed' = was_listed (opening capacity) before incarnation PersistentVolumeClaim c.set.namespace is.claims known.revision run known.stands in
     let was = was_there capacity (after (opening capacity) (requests_of before)) PersistentVolumeClaim c.set.namespace is.claims known.revision i.claim least most listed' i.among in
     ap (λ (x : Key). x.kind) key_is ∙ kind_of PersistentVolumeClaim c.set.namespace i.claim.key was.of

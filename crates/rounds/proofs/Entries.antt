@@ -7,10 +7,10 @@ use Rattle.requests.specs.declared.reply.Reply.{Reply}
 use Rattle.plain_store.specs.Store.{Store, step}
 use Rattle.plain_store.specs.Run.{after, exchanges}
 use Rattle.collector.specs.Collectable.{Among}
-use Rattle.rounds.specs.Life.{Follows, phase_after}
+use Rattle.rounds.specs.Incarnation.{Follows, phase_after}
 use Rattle.rounds.specs.Phase.{Phase, asks, takes}
 use Rattle.rounds.specs.Reconciler.{Reconciler}
-use Rattle.rounds.specs.Transcript.{Entry, Exchange, Life, exchanges_of, is_by, of_life, requests_of}
+use Rattle.rounds.specs.Transcript.{Entry, Exchange, Incarnation, exchanges_of, is_by, of_incarnation, requests_of}
 use Rattle.rounds.proofs.Lists.{same_first, same_rest}
 
 pub after-append : (s : Store) (rs more : List Request) → after s (rs ++ more) ≡ after (after s rs) more
@@ -38,13 +38,13 @@ pub stepwise_at : (s : Store) (es fs : List Entry) → IsStepwise s (es ++ fs) �
 stepwise_at s [] fs run = run
 stepwise_at s (e ∷ es) fs run = stepwise_at (step s e.1).0 es fs run.1
 
--- ---- one life
+-- ---- one incarnation
 
 itself : (n : ℕ) → (n == n) ≡ true
 itself n = grind (arith, nat_tests)
 
-pub own_life : (life : Life) → is_by life (Some life) ≡ true
-own_life life = rw (itself life.controller, itself life.crashes) refl
+pub own_incarnation : (incarnation : Incarnation) → is_by incarnation (Some incarnation) ≡ true
+own_incarnation incarnation = rw (itself incarnation.controller, itself incarnation.crashes) refl
 
 abbrev Asks : Reconciler → Phase → Request → List Exchange → Type 0
 Asks c phase r own = Follows c phase own × (r ≡ asks c (phase_after c phase own))
@@ -59,16 +59,16 @@ asked_first : (c : Reconciler) (phase : Phase) (r : Request) (reply : Reply) (b 
 asked_first c phase r reply true all is follows = follows.0
 asked_first c phase r reply false all is follows = cc
 
--- a life asks at an entry what it is to ask after those before it
-pub asks_at : (c : Reconciler) (phase : Phase) (life : Life) (es : List Entry) (r : Request) (reply : Reply) (fs : List Entry)
-    → Follows c phase (of_life life (es ++ (Some life, r, reply) ∷ fs)) → Asks c phase r (of_life life es)
-asks_at c phase life [] r reply fs follows = (tt, asked_first c phase r reply (is_by life (Some life)) (of_life life fs) (own_life life) follows)
-asks_at c phase life (e ∷ es) r reply fs follows =
-    split_by c phase r (is_by life e.0) (e.1, e.2) (of_life life es) (of_life life (es ++ (Some life, r, reply) ∷ fs))
-    (λ p later. asks_at c p life es r reply fs later) follows
+-- an incarnation asks at an entry what it is to ask after those before it
+pub asks_at : (c : Reconciler) (phase : Phase) (incarnation : Incarnation) (es : List Entry) (r : Request) (reply : Reply) (fs : List Entry)
+    → Follows c phase (of_incarnation incarnation (es ++ (Some incarnation, r, reply) ∷ fs)) → Asks c phase r (of_incarnation incarnation es)
+asks_at c phase incarnation [] r reply fs follows = (tt, asked_first c phase r reply (is_by incarnation (Some incarnation)) (of_incarnation incarnation fs) (own_incarnation incarnation) follows)
+asks_at c phase incarnation (e ∷ es) r reply fs follows =
+    split_by c phase r (is_by incarnation e.0) (e.1, e.2) (of_incarnation incarnation es) (of_incarnation incarnation (es ++ (Some incarnation, r, reply) ∷ fs))
+    (λ p later. asks_at c p incarnation es r reply fs later) follows
 
 pub record Stands (a : Exchange) (es : List Entry) : Type 0 where
-  pub who : Option Life
+  pub who : Option Incarnation
   pub at : Among (who, a.0, a.1) es
 
 stands_later : (a : Exchange) (e : Entry) (es : List Entry) → Stands a es → Stands a (e ∷ es)
@@ -80,12 +80,12 @@ stands_by true a e es own later (inl is) = record { who = e.0; at = inl (ap (λ 
 stands_by true a e es own later (inr at) = stands_later a e es (later at)
 stands_by false a e es own later at = stands_later a e es (later at)
 
--- what was answered to a life stands in the transcript
-pub stands_in : (life : Life) (a : Exchange) (es : List Entry) → Among a (of_life life es) → Stands a es
-stands_in life a [] at = absurd at
-stands_in life a (e ∷ es) at = stands_by (is_by life e.0) a e es (of_life life es) (stands_in life a es) at
+-- what was answered to an incarnation stands in the transcript
+pub stands_in : (incarnation : Incarnation) (a : Exchange) (es : List Entry) → Among a (of_incarnation incarnation es) → Stands a es
+stands_in incarnation a [] at = absurd at
+stands_in incarnation a (e ∷ es) at = stands_by (is_by incarnation e.0) a e es (of_incarnation incarnation es) (stands_in incarnation a es) at
 
--- ---- a life that ends early
+-- ---- an incarnation that ends early
 
 pub follows_first : (c : Reconciler) (phase : Phase) (own more : List Exchange) → Follows c phase (own ++ more) → Follows c phase own
 follows_first c phase [] more follows = tt

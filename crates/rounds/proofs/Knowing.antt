@@ -13,7 +13,7 @@ use Rattle.requests.specs.declared.reply.Reply.TheVariants.{Found, Listed, Refus
 use Rattle.requests.specs.declared.reply.Reason.TheVariants.{NotFound}
 use Rattle.collector.specs.Collectable.{Among}
 use Rattle.rounds.specs.Accepted.{is_accepted}
-use Rattle.rounds.specs.Life.{Follows, phase_after}
+use Rattle.rounds.specs.Incarnation.{Follows, phase_after}
 use Rattle.rounds.specs.Phase.{Phase, reading_set, listing_revisions, listing_pods, listing_claims, acting, listing_old_claims, listing_owner_sets, listing_owner_pods, listing_owner_revisions, listing_owner_claims, deleting, acts, asks, deletes, from_list, from_set, is_refusal, list_of, takes}
 use Rattle.rounds.specs.Planned.{IsCollected, IsPlanned, asked}
 use Rattle.rounds.specs.Reconciler.{Reconciler}
@@ -228,7 +228,7 @@ known_from c own phase (e ∷ es) knows follows =
     let next = subst (λ (x : Exchange). Knows c (own ++ x ∷ []) (takes c phase e.1)) again (knows_next c own phase e.1 knows) in
     subst (λ l. Knows c l (phase_after c (takes c phase e.1) es)) (append_assoc own (e ∷ []) es) (known_from c (own ++ e ∷ []) (takes c phase e.1) es next follows.1)
 
--- what a life knows
+-- what an incarnation knows
 pub known : (c : Reconciler) (own : List Exchange) → Follows c reading_set own → Knows c own (phase_after c reading_set own)
 known c own follows = known_from c [] reading_set own tt follows
 

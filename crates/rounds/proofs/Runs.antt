@@ -11,12 +11,12 @@ use Rattle.plain_store.specs.Store.{Store, opening, step}
 use Rattle.rounds.specs.declared.event.WholeEvent.{WholeEvent}
 use Rattle.rounds.specs.declared.event.WholeEvent.TheVariants.{Ask, Crash, Outside}
 use Rattle.rounds.specs.Before.{entries_before}
-use Rattle.rounds.specs.Life.{Follows, phase_after}
+use Rattle.rounds.specs.Incarnation.{Follows, phase_after}
 use Rattle.rounds.specs.Phase.{Phase, asks, reading_set, takes}
 use Rattle.rounds.specs.Promises.{IsTranscript}
 use Rattle.rounds.specs.Reconciler.{Reconciler}
-use Rattle.rounds.specs.Transcript.{Entry, Exchange, Life, exchanges_of, is_by, of_life, requests_of}
-use Rattle.rounds.specs.World.{World, happens, life_of, put, run, start, with_ask, with_crash, with_entry}
+use Rattle.rounds.specs.Transcript.{Entry, Exchange, Incarnation, exchanges_of, is_by, of_incarnation, requests_of}
+use Rattle.rounds.specs.World.{World, happens, incarnation_of, put, run, start, with_ask, with_crash, with_entry}
 use Rattle.rounds.proofs.Entries.{after-append}
 use Rattle.rounds.proofs.Lists.{same_first, same_rest}
 
@@ -42,17 +42,17 @@ own_by : (b : Bool) (f : Exchange) (all own : List Exchange) → all ≡ own →
 own_by true f all own is = ap (λ l. f ∷ l) is
 own_by false f all own is = is
 
-own_other : (life : Life) (es : List Entry) (e : Entry) → is_by life e.0 ≡ false → of_life life (es ++ e ∷ []) ≡ of_life life es
-own_other life [] e is = ap (λ b. cond b ((e.1, e.2) ∷ []) []) is
-own_other life (f ∷ es) e is = own_by (is_by life f.0) (f.1, f.2) _ _ (own_other life es e is)
+own_other : (incarnation : Incarnation) (es : List Entry) (e : Entry) → is_by incarnation e.0 ≡ false → of_incarnation incarnation (es ++ e ∷ []) ≡ of_incarnation incarnation es
+own_other incarnation [] e is = ap (λ b. cond b ((e.1, e.2) ∷ []) []) is
+own_other incarnation (f ∷ es) e is = own_by (is_by incarnation f.0) (f.1, f.2) _ _ (own_other incarnation es e is)
 
 own_after : (b : Bool) (f a : Exchange) (all own : List Exchange) → all ≡ own ++ a ∷ [] → cond b (f ∷ all) all ≡ cond b (f ∷ own) own ++ a ∷ []
 own_after true f a all own is = ap (λ l. f ∷ l) is
 own_after false f a all own is = is
 
-own_more : (life : Life) (es : List Entry) (e : Entry) → is_by life e.0 ≡ true → of_life life (es ++ e ∷ []) ≡ of_life life es ++ (e.1, e.2) ∷ []
-own_more life [] e is = ap (λ b. cond b ((e.1, e.2) ∷ []) []) is
-own_more life (f ∷ es) e is = own_after (is_by life f.0) (f.1, f.2) (e.1, e.2) _ _ (own_more life es e is)
+own_more : (incarnation : Incarnation) (es : List Entry) (e : Entry) → is_by incarnation e.0 ≡ true → of_incarnation incarnation (es ++ e ∷ []) ≡ of_incarnation incarnation es ++ (e.1, e.2) ∷ []
+own_more incarnation [] e is = ap (λ b. cond b ((e.1, e.2) ∷ []) []) is
+own_more incarnation (f ∷ es) e is = own_after (is_by incarnation f.0) (f.1, f.2) (e.1, e.2) _ _ (own_more incarnation es e is)
 
 follows_more : (c : Reconciler) (phase : Phase) (own : List Exchange) (a : Exchange) → Follows c phase own → a.0 ≡ asks c (phase_after c phase own) → Follows c phase (own ++ a ∷ [])
 follows_more c phase [] a follows is = (is, tt)
@@ -62,28 +62,28 @@ phase_more : (c : Reconciler) (phase : Phase) (own : List Exchange) (a : Exchang
 phase_more c phase [] a = refl
 phase_more c phase (e ∷ own) a = phase_more c (takes c phase e.1) own a
 
--- ---- lives
+-- ---- incarnations
 
 equal : (n m : ℕ) → (n == m) ≡ true → n ≡ m
 equal n m is = grind (arith, nat_tests)
 
-same_life : (life other : Life) → is_by life (Some other) ≡ true → life ≡ other
-same_life life other is =
-    let parts = and_parts (life.controller == other.controller) (life.crashes == other.crashes) is in
-    let one : life.controller ≡ other.controller = equal _ _ parts.0 in
-    let two : life.crashes ≡ other.crashes = equal _ _ parts.1 in
-    ap (λ n. record { controller = n; crashes = life.crashes }) one ∙ ap (λ n. record { controller = other.controller; crashes = n }) two
+same_incarnation : (incarnation other : Incarnation) → is_by incarnation (Some other) ≡ true → incarnation ≡ other
+same_incarnation incarnation other is =
+    let parts = and_parts (incarnation.controller == other.controller) (incarnation.crashes == other.crashes) is in
+    let one : incarnation.controller ≡ other.controller = equal _ _ parts.0 in
+    let two : incarnation.crashes ≡ other.crashes = equal _ _ parts.1 in
+    ap (λ n. record { controller = n; crashes = incarnation.crashes }) one ∙ ap (λ n. record { controller = other.controller; crashes = n }) two
 
 -- ---- what is kept
 
--- What was taken is a run that left the store. Each life follows its machine, its controller stands where it has taken it, and
--- no life that is still to come has asked.
+-- What was taken is a run that left the store. Each incarnation follows its machine, its controller stands where it has taken it, and
+-- no incarnation that is still to come has asked.
 pub record IsKept (reconcilers : ℕ → Reconciler) (capacity : ℕ) (before : List Entry) (w : World) : Type 0 where
   pub run : exchanges_of (before ++ w.entries) ≡ exchanges (opening capacity) (requests_of (before ++ w.entries))
   pub store : w.store ≡ after (opening capacity) (requests_of (before ++ w.entries))
-  pub lives : (life : Life) → Follows (reconcilers life.controller) reading_set (of_life life (before ++ w.entries))
-  pub phases : (c : ℕ) → w.phases c ≡ phase_after (reconcilers c) reading_set (of_life (life_of w c) (before ++ w.entries))
-  pub unborn : (life : Life) → w.crashes life.controller < life.crashes → of_life life (before ++ w.entries) ≡ []
+  pub incarnations : (incarnation : Incarnation) → Follows (reconcilers incarnation.controller) reading_set (of_incarnation incarnation (before ++ w.entries))
+  pub phases : (c : ℕ) → w.phases c ≡ phase_after (reconcilers c) reading_set (of_incarnation (incarnation_of w c) (before ++ w.entries))
+  pub unborn : (incarnation : Incarnation) → w.crashes incarnation.controller < incarnation.crashes → of_incarnation incarnation (before ++ w.entries) ≡ []
 
 module _ (reconcilers : ℕ → Reconciler) (capacity : ℕ) (before : List Entry) (w : World) (kept : IsKept reconcilers capacity before w) where
   all : List Entry
@@ -93,11 +93,11 @@ module _ (reconcilers : ℕ → Reconciler) (capacity : ℕ) (before : List Entr
   unfolding all
   longer e = append_assoc before w.entries (e ∷ [])
 
-  -- one more entry: what each life has asked is as it was, but for that of the entry
-  entry_kept : (who : Option Life) (r : Request) (phases : ℕ → Phase)
-      → ((life : Life) → is_by life who ≡ true → r ≡ asks (reconcilers life.controller) (phase_after (reconcilers life.controller) reading_set (of_life life all)))
-      → ((life : Life) → is_by life who ≡ true → life.crashes ≤ w.crashes life.controller)
-      → ((c : ℕ) (b : Bool) → is_by (life_of w c) who ≡ b → phases c ≡ cond b (takes (reconcilers c) (w.phases c) (step w.store r).1) (w.phases c))
+  -- one more entry: what each incarnation has asked is as it was, but for that of the entry
+  entry_kept : (who : Option Incarnation) (r : Request) (phases : ℕ → Phase)
+      → ((incarnation : Incarnation) → is_by incarnation who ≡ true → r ≡ asks (reconcilers incarnation.controller) (phase_after (reconcilers incarnation.controller) reading_set (of_incarnation incarnation all)))
+      → ((incarnation : Incarnation) → is_by incarnation who ≡ true → incarnation.crashes ≤ w.crashes incarnation.controller)
+      → ((c : ℕ) (b : Bool) → is_by (incarnation_of w c) who ≡ b → phases c ≡ cond b (takes (reconcilers c) (w.phases c) (step w.store r).1) (w.phases c))
       → IsKept reconcilers capacity before (with_entry w who r phases)
   unfolding all longer
   entry_kept who r phases asked born goes =
@@ -105,31 +105,31 @@ module _ (reconcilers : ℕ → Reconciler) (capacity : ℕ) (before : List Entr
       record {
         run = subst (λ es. exchanges_of es ≡ exchanges (opening capacity) (requests_of es)) (longer e) (run_more (opening capacity) w.store all e kept.store refl kept.run);
         store = store_more (opening capacity) w.store all e kept.store ∙ ap (λ es. after (opening capacity) (requests_of es)) (longer e);
-        lives = λ life. subst (λ es. Follows (reconcilers life.controller) reading_set (of_life life es)) (longer e) (lives_by life (is_by life who) refl);
-        phases = λ c. phases_by c (is_by (life_of w c) who) refl ∙ ap (λ es. phase_after (reconcilers c) reading_set (of_life (life_of w c) es)) (longer e);
-        unborn = λ life late. ap (of_life life) (sym (longer e)) ∙ unborn_by life late (is_by life who) refl;
+        incarnations = λ incarnation. subst (λ es. Follows (reconcilers incarnation.controller) reading_set (of_incarnation incarnation es)) (longer e) (follows_by incarnation (is_by incarnation who) refl);
+        phases = λ c. phases_by c (is_by (incarnation_of w c) who) refl ∙ ap (λ es. phase_after (reconcilers c) reading_set (of_incarnation (incarnation_of w c) es)) (longer e);
+        unborn = λ incarnation late. ap (of_incarnation incarnation) (sym (longer e)) ∙ unborn_by incarnation late (is_by incarnation who) refl;
       }
     where
-      lives_by : (life : Life) (b : Bool) → is_by life who ≡ b → Follows (reconcilers life.controller) reading_set (of_life life (all ++ (who, r, (step w.store r).1) ∷ []))
-      lives_by life true is =
-          subst (Follows (reconcilers life.controller) reading_set) (sym (own_more life all (who, r, (step w.store r).1) is))
-          (follows_more (reconcilers life.controller) reading_set (of_life life all) (r, (step w.store r).1) (kept.lives life) (asked life is))
-      lives_by life false is = subst (Follows (reconcilers life.controller) reading_set) (sym (own_other life all (who, r, (step w.store r).1) is)) (kept.lives life)
+      follows_by : (incarnation : Incarnation) (b : Bool) → is_by incarnation who ≡ b → Follows (reconcilers incarnation.controller) reading_set (of_incarnation incarnation (all ++ (who, r, (step w.store r).1) ∷ []))
+      follows_by incarnation true is =
+          subst (Follows (reconcilers incarnation.controller) reading_set) (sym (own_more incarnation all (who, r, (step w.store r).1) is))
+          (follows_more (reconcilers incarnation.controller) reading_set (of_incarnation incarnation all) (r, (step w.store r).1) (kept.incarnations incarnation) (asked incarnation is))
+      follows_by incarnation false is = subst (Follows (reconcilers incarnation.controller) reading_set) (sym (own_other incarnation all (who, r, (step w.store r).1) is)) (kept.incarnations incarnation)
 
-      phases_by : (c : ℕ) (b : Bool) → is_by (life_of w c) who ≡ b → phases c ≡ phase_after (reconcilers c) reading_set (of_life (life_of w c) (all ++ (who, r, (step w.store r).1) ∷ []))
+      phases_by : (c : ℕ) (b : Bool) → is_by (incarnation_of w c) who ≡ b → phases c ≡ phase_after (reconcilers c) reading_set (of_incarnation (incarnation_of w c) (all ++ (who, r, (step w.store r).1) ∷ []))
       phases_by c true is =
           goes c true is ∙ ap (λ p. takes (reconcilers c) p (step w.store r).1) (kept.phases c)
-          ∙ sym (ap (phase_after (reconcilers c) reading_set) (own_more (life_of w c) all (who, r, (step w.store r).1) is)
-          ∙ phase_more (reconcilers c) reading_set (of_life (life_of w c) all) (r, (step w.store r).1))
+          ∙ sym (ap (phase_after (reconcilers c) reading_set) (own_more (incarnation_of w c) all (who, r, (step w.store r).1) is)
+          ∙ phase_more (reconcilers c) reading_set (of_incarnation (incarnation_of w c) all) (r, (step w.store r).1))
       phases_by c false is =
-          goes c false is ∙ kept.phases c ∙ sym (ap (phase_after (reconcilers c) reading_set) (own_other (life_of w c) all (who, r, (step w.store r).1) is))
+          goes c false is ∙ kept.phases c ∙ sym (ap (phase_after (reconcilers c) reading_set) (own_other (incarnation_of w c) all (who, r, (step w.store r).1) is))
 
-      unborn_by : (life : Life) → w.crashes life.controller < life.crashes → (b : Bool) → is_by life who ≡ b → of_life life (all ++ (who, r, (step w.store r).1) ∷ []) ≡ []
-      unborn_by life late true is = let low = born life is in absurd (omega (arith, low, late))
-      unborn_by life late false is = own_other life all (who, r, (step w.store r).1) is ∙ kept.unborn life late
+      unborn_by : (incarnation : Incarnation) → w.crashes incarnation.controller < incarnation.crashes → (b : Bool) → is_by incarnation who ≡ b → of_incarnation incarnation (all ++ (who, r, (step w.store r).1) ∷ []) ≡ []
+      unborn_by incarnation late true is = let low = born incarnation is in absurd (omega (arith, low, late))
+      unborn_by incarnation late false is = own_other incarnation all (who, r, (step w.store r).1) is ∙ kept.unborn incarnation late
 
   outside_kept : (r : Request) → IsKept reconcilers capacity before (with_entry w None r w.phases)
-  outside_kept r = entry_kept None r w.phases (λ life is. cc) (λ life is. cc) nobody
+  outside_kept r = entry_kept None r w.phases (λ incarnation is. cc) (λ incarnation is. cc) nobody
     where
       nobody : (c : ℕ) (b : Bool) → false ≡ b → w.phases c ≡ cond b (takes (reconcilers c) (w.phases c) (step w.store r).1) (w.phases c)
       nobody c true is = cc
@@ -139,16 +139,16 @@ module _ (reconcilers : ℕ → Reconciler) (capacity : ℕ) (before : List Entr
   unfolding all
   ask_kept c =
       let r = asks (reconcilers c) (w.phases c) in
-      entry_kept (Some (life_of w c)) r (put w.phases c (takes (reconcilers c) (w.phases c) (step w.store r).1)) mine_asks mine_born goes
+      entry_kept (Some (incarnation_of w c)) r (put w.phases c (takes (reconcilers c) (w.phases c) (step w.store r).1)) mine_asks mine_born goes
     where
-      mine_asks : (life : Life) → is_by life (Some (life_of w c)) ≡ true
-          → asks (reconcilers c) (w.phases c) ≡ asks (reconcilers life.controller) (phase_after (reconcilers life.controller) reading_set (of_life life all))
-      mine_asks life is =
-          subst (λ (l : Life). asks (reconcilers c) (w.phases c) ≡ asks (reconcilers l.controller) (phase_after (reconcilers l.controller) reading_set (of_life l (before ++ w.entries))))
-          (sym (same_life life (life_of w c) is)) (ap (asks (reconcilers c)) (kept.phases c))
+      mine_asks : (incarnation : Incarnation) → is_by incarnation (Some (incarnation_of w c)) ≡ true
+          → asks (reconcilers c) (w.phases c) ≡ asks (reconcilers incarnation.controller) (phase_after (reconcilers incarnation.controller) reading_set (of_incarnation incarnation all))
+      mine_asks incarnation is =
+          subst (λ (l : Incarnation). asks (reconcilers c) (w.phases c) ≡ asks (reconcilers l.controller) (phase_after (reconcilers l.controller) reading_set (of_incarnation l (before ++ w.entries))))
+          (sym (same_incarnation incarnation (incarnation_of w c) is)) (ap (asks (reconcilers c)) (kept.phases c))
 
-      mine_born : (life : Life) → is_by life (Some (life_of w c)) ≡ true → life.crashes ≤ w.crashes life.controller
-      mine_born life is = subst (λ (l : Life). l.crashes ≤ w.crashes l.controller) (sym (same_life life (life_of w c) is)) (omega arith)
+      mine_born : (incarnation : Incarnation) → is_by incarnation (Some (incarnation_of w c)) ≡ true → incarnation.crashes ≤ w.crashes incarnation.controller
+      mine_born incarnation is = subst (λ (l : Incarnation). l.crashes ≤ w.crashes l.controller) (sym (same_incarnation incarnation (incarnation_of w c) is)) (omega arith)
 
       goes_by : (i : ℕ) (b : Bool) (t : Bool) → (i == c) ≡ t → (t && (w.crashes i == w.crashes c)) ≡ b
           → cond t (takes (reconcilers c) (w.phases c) (step w.store (asks (reconcilers c) (w.phases c))).1) (w.phases i)
@@ -161,7 +161,7 @@ module _ (reconcilers : ℕ → Reconciler) (capacity : ℕ) (before : List Entr
       goes_by i true false same is = cc
       goes_by i false false same is = refl
 
-      goes : (i : ℕ) (b : Bool) → is_by (life_of w i) (Some (life_of w c)) ≡ b
+      goes : (i : ℕ) (b : Bool) → is_by (incarnation_of w i) (Some (incarnation_of w c)) ≡ b
           → put w.phases c (takes (reconcilers c) (w.phases c) (step w.store (asks (reconcilers c) (w.phases c))).1) i
           ≡ cond b (takes (reconcilers i) (w.phases i) (step w.store (asks (reconcilers c) (w.phases c))).1) (w.phases i)
       goes i b is = goes_by i b (i == c) refl is
@@ -170,23 +170,23 @@ module _ (reconcilers : ℕ → Reconciler) (capacity : ℕ) (before : List Entr
   crash_kept c = record {
     run = kept.run;
     store = kept.store;
-    lives = kept.lives;
+    incarnations = kept.incarnations;
     phases = λ i. phases_by i (i == c) refl;
-    unborn = λ life late. unborn_by life (life.controller == c) refl late;
+    unborn = λ incarnation late. unborn_by incarnation (incarnation.controller == c) refl late;
   }
     where
       phases_by : (i : ℕ) (t : Bool) → (i == c) ≡ t → cond t reading_set (w.phases i)
-          ≡ phase_after (reconcilers i) reading_set (of_life (record { controller = i; crashes = cond t (w.crashes c + 1) (w.crashes i) }) (before ++ w.entries))
+          ≡ phase_after (reconcilers i) reading_set (of_incarnation (record { controller = i; crashes = cond t (w.crashes c + 1) (w.crashes i) }) (before ++ w.entries))
       phases_by i true is =
           let e : w.crashes i ≡ w.crashes c = ap w.crashes (equal i c is) in
           sym (ap (phase_after (reconcilers i) reading_set) (kept.unborn (record { controller = i; crashes = w.crashes c + 1 }) (omega (arith, e))))
       phases_by i false is = kept.phases i
 
-      unborn_by : (life : Life) (t : Bool) → (life.controller == c) ≡ t → cond t (w.crashes c + 1) (w.crashes life.controller) < life.crashes → of_life life (before ++ w.entries) ≡ []
-      unborn_by life true is late =
-          let e : w.crashes life.controller ≡ w.crashes c = ap w.crashes (equal life.controller c is) in
-          kept.unborn life (omega (arith, e, late))
-      unborn_by life false is late = kept.unborn life late
+      unborn_by : (incarnation : Incarnation) (t : Bool) → (incarnation.controller == c) ≡ t → cond t (w.crashes c + 1) (w.crashes incarnation.controller) < incarnation.crashes → of_incarnation incarnation (before ++ w.entries) ≡ []
+      unborn_by incarnation true is late =
+          let e : w.crashes incarnation.controller ≡ w.crashes c = ap w.crashes (equal incarnation.controller c is) in
+          kept.unborn incarnation (omega (arith, e, late))
+      unborn_by incarnation false is late = kept.unborn incarnation late
 
 -- ---- a whole run
 
@@ -223,22 +223,22 @@ before_requests : (s : Store) (rs : List Request) → requests_of (entries_befor
 before_requests s [] = refl
 before_requests s (r ∷ rs) = ap (λ l. r ∷ l) (before_requests (step s r).0 rs)
 
-before_own : (s : Store) (rs : List Request) (life : Life) → of_life life (entries_before s rs) ≡ []
-before_own s [] life = refl
-before_own s (r ∷ rs) life = before_own (step s r).0 rs life
+before_own : (s : Store) (rs : List Request) (incarnation : Incarnation) → of_incarnation incarnation (entries_before s rs) ≡ []
+before_own s [] incarnation = refl
+before_own s (r ∷ rs) incarnation = before_own (step s r).0 rs incarnation
 
 start_kept : (reconcilers : ℕ → Reconciler) (capacity : ℕ) (rs : List Request) (s : Store) → s ≡ after (opening capacity) rs
     → IsKept reconcilers capacity (entries_before (opening capacity) rs) (start s)
 start_kept reconcilers capacity rs s is =
     let before = entries_before (opening capacity) rs in
     let same = before_requests (opening capacity) rs in
-    let none = λ (life : Life). ap (of_life life) (append_none before) ∙ before_own (opening capacity) rs life in
+    let none = λ (incarnation : Incarnation). ap (of_incarnation incarnation) (append_none before) ∙ before_own (opening capacity) rs incarnation in
     record {
       run = ap exchanges_of (append_none before) ∙ before_run (opening capacity) rs ∙ sym (ap (λ es. exchanges (opening capacity) (requests_of es)) (append_none before) ∙ ap (exchanges (opening capacity)) same);
       store = is ∙ sym (ap (λ es. after (opening capacity) (requests_of es)) (append_none before) ∙ ap (after (opening capacity)) same);
-      lives = λ life. subst (Follows (reconcilers life.controller) reading_set) (sym (none life)) tt;
+      incarnations = λ incarnation. subst (Follows (reconcilers incarnation.controller) reading_set) (sym (none incarnation)) tt;
       phases = λ c. sym (ap (phase_after (reconcilers c) reading_set) (none (record { controller = c; crashes = 0 })));
-      unborn = λ life late. none life;
+      unborn = λ incarnation late. none incarnation;
     }
 
 -- what a run takes is a transcript
@@ -248,4 +248,4 @@ transcript count reconcilers s reached events =
     let capacity = reached.capacity in
     let before = entries_before (opening capacity) reached.requests in
     let kept = run_kept count reconcilers capacity before (start s) events (start_kept reconcilers capacity reached.requests s reached.left) in
-    record { least = reached.least; most = reached.most; run = kept.run; lives = kept.lives }
+    record { least = reached.least; most = reached.most; run = kept.run; incarnations = kept.incarnations }

@@ -14,7 +14,7 @@ use Rattle.rounds.specs.Phase.{Phase, asks, reading_set, takes}
 use Rattle.rounds.specs.Reconciler.{Reconciler}
 use Rattle.rounds.specs.Shown.{HasTaken, IsIdle, Shows}
 use Rattle.rounds.specs.Transcript.{Entry}
-use Rattle.rounds.specs.World.{AreMadeOf, Matches, StandAt, Taken, World, happens, life_of, run, start, taken_of, with_ask, with_crash}
+use Rattle.rounds.specs.World.{AreMadeOf, Matches, StandAt, Taken, World, happens, incarnation_of, run, start, taken_of, with_ask, with_crash}
 
 -- ---- lists
 
@@ -81,7 +81,7 @@ module _ {X : Type 0} (reconciler : X → Reconciler) (phase : X → Phase) (rec
       let r = asks (reconcilers c) (w.phases c) in
       let same : before ++ (Some c, asks (reconciler x) (phase x), (step s (asks (reconciler x) (phase x))).1) ∷ []
       ≡ taken_of w.entries ++ (Some c, r, (step w.store r).1) ∷ [] = cc in
-      same ∙ sym (taken_more w.entries (Some (life_of w c), r, (step w.store r).1))
+      same ∙ sym (taken_more w.entries (Some (incarnation_of w c), r, (step w.store r).1))
 
   pub asked_shows : (old new : Store) (xs : List X) (before after : List Taken) (w : World) (c count : ℕ) (x y : X) → c < count
       → slice_get xs c ≡ Some x → reconciler y ≡ reconciler x → HasTaken old new before after (Some c) (asks (reconciler x) (phase x))

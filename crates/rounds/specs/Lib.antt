@@ -2,7 +2,7 @@
 pub mod Accepted
 pub mod Before
 pub mod Examples
-pub mod Life
+pub mod Incarnation
 pub mod Phase
 pub mod Planned
 pub mod Promises

@@ -1,4 +1,4 @@
--- The plan or the collection that a request of a life comes from, and what was answered for it.
+-- The plan or the collection that a request of an incarnation comes from, and what was answered for it.
 use Rattle.std.specs.Prelude.{◌≡◌, ℕ, min, List, [], ◌∷◌, ◌++◌}
 use Rattle.objects.specs.declared.kind.Kind.TheVariants.{StatefulSet, Pod, PersistentVolumeClaim, ControllerRevision}
 use Rattle.objects.specs.declared.object.Object.{Object}
@@ -13,9 +13,9 @@ abbrev pub asked : List Exchange → List Request
 asked [] = []
 asked (e ∷ es) = e.0 ∷ asked es
 
--- The request is the next one of a plan. The life was last answered the set and the three lists that the plan is over, and
+-- The request is the next one of a plan. The incarnation was last answered the set and the three lists that the plan is over, and
 -- then the requests of the plan that stand before this one.
-pub record IsPlanned (c : Reconciler) (life : List Exchange) (r : Request) : Type 0 where
+pub record IsPlanned (c : Reconciler) (incarnation : List Exchange) (r : Request) : Type 0 where
   pub before : List Exchange
   pub set : Object
   pub revisions : List Object
@@ -26,16 +26,16 @@ pub record IsPlanned (c : Reconciler) (life : List Exchange) (r : Request) : Typ
   pub claims_at : ℕ
   pub done : List Exchange
   pub later : List Request
-  pub answered : life ≡ before ++ ((Get c.set, Found set)
+  pub answered : incarnation ≡ before ++ ((Get c.set, Found set)
       ∷ (list_of c ControllerRevision, Listed revisions revisions_at)
       ∷ (list_of c Pod, Listed pods pods_at)
       ∷ (list_of c PersistentVolumeClaim, Listed claims claims_at)
       ∷ done)
   pub planned : asked done ++ r ∷ later ≡ c.plan set revisions pods claims
 
--- The request is the next one of a collection. The life was last answered the claims, and the lists of all that may own one,
+-- The request is the next one of a collection. The incarnation was last answered the claims, and the lists of all that may own one,
 -- and then the requests of the collection that stand before this one.
-pub record IsCollected (c : Reconciler) (life : List Exchange) (r : Request) : Type 0 where
+pub record IsCollected (c : Reconciler) (incarnation : List Exchange) (r : Request) : Type 0 where
   pub before : List Exchange
   pub claims : List Object
   pub claims_at : ℕ
@@ -49,7 +49,7 @@ pub record IsCollected (c : Reconciler) (life : List Exchange) (r : Request) : T
   pub others_at : ℕ
   pub done : List Exchange
   pub later : List Request
-  pub answered : life ≡ before ++ ((list_of c PersistentVolumeClaim, Listed claims claims_at)
+  pub answered : incarnation ≡ before ++ ((list_of c PersistentVolumeClaim, Listed claims claims_at)
       ∷ (list_of c StatefulSet, Listed sets sets_at)
       ∷ (list_of c Pod, Listed pods pods_at)
       ∷ (list_of c ControllerRevision, Listed revisions revisions_at)

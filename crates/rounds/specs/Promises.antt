@@ -15,20 +15,20 @@ use Rattle.plain_store.specs.Store.{Store, opening}
 use Rattle.plain_store.specs.Taken.{taken}
 use Rattle.collector.specs.Collectable.{Among, HasOwner}
 use Rattle.rounds.specs.Accepted.{Creates, HasRemoval}
-use Rattle.rounds.specs.Life.{Follows}
+use Rattle.rounds.specs.Incarnation.{Follows}
 use Rattle.rounds.specs.Phase.{reading_set}
 use Rattle.plain_store.specs.Reached.{most_revisions}
 use Rattle.rounds.specs.Planned.{IsCollected, IsPlanned}
 use Rattle.rounds.specs.Reconciler.{Reconciler}
-use Rattle.rounds.specs.Transcript.{Entry, Exchange, IsRun, Life, exchanges_of, of_life, requests_of}
+use Rattle.rounds.specs.Transcript.{Entry, Exchange, IsRun, Incarnation, exchanges_of, of_incarnation, requests_of}
 
--- A run of the plain store, whose capacity is from 1 to 1,048,576, in which each life of a controller begins by reading its
+-- A run of the plain store, whose capacity is from 1 to 1,048,576, in which each incarnation of a controller begins by reading its
 -- set and asks what the controller's reconciler has it ask.
 pub record IsTranscript (reconcilers : ℕ → Reconciler) (capacity : ℕ) (entries : List Entry) : Type 0 where
   pub least : 1 ≤ capacity
   pub most : capacity ≤ most_revisions
   pub run : IsRun capacity entries
-  pub lives : (life : Life) → Follows (reconcilers life.controller) reading_set (of_life life entries)
+  pub incarnations : (incarnation : Incarnation) → Follows (reconcilers incarnation.controller) reading_set (of_incarnation incarnation entries)
 
 -- Between two accepted creates of one key stands an accepted removal of the UID of the first.
 abbrev pub NamesAreFreed : List Exchange → Type 0
@@ -46,24 +46,24 @@ pub record HasRead (objects : List Object) (o : Object) : Type 0 where
 -- What an accepted delete of a plan marks or removes has the UID that was listed for the plan.
 abbrev pub PlansTakeWhatTheyRead : (ℕ → Reconciler) → List Entry → Type 0
 PlansTakeWhatTheyRead reconcilers entries =
-    (before later : List Entry) (life : Life) (k : Key) (uid version at : Option (List ℕ)) (reply : Reply) (o : Object)
-    → entries ≡ before ++ ((Some life, Delete k uid version at, reply) ∷ later) → taken reply ≡ Some o
-    → (plan : IsPlanned (reconcilers life.controller) (of_life life before) (Delete k uid version at)) → HasRead (plan.revisions ++ plan.pods) o
+    (before later : List Entry) (incarnation : Incarnation) (k : Key) (uid version at : Option (List ℕ)) (reply : Reply) (o : Object)
+    → entries ≡ before ++ ((Some incarnation, Delete k uid version at, reply) ∷ later) → taken reply ≡ Some o
+    → (plan : IsPlanned (reconcilers incarnation.controller) (of_incarnation incarnation before) (Delete k uid version at)) → HasRead (plan.revisions ++ plan.pods) o
 
--- Each create that a life asks comes from a plan over what was answered to it in this round.
+-- Each create that an incarnation asks comes from a plan over what was answered to it in this round.
 abbrev pub CreatesArePlanned : (ℕ → Reconciler) → List Entry → Type 0
 CreatesArePlanned reconcilers entries =
-    (before later : List Entry) (life : Life) (d : Draft) (reply : Reply)
-    → entries ≡ before ++ ((Some life, Create d, reply) ∷ later) → IsPlanned (reconcilers life.controller) (of_life life before) (Create d)
+    (before later : List Entry) (incarnation : Incarnation) (d : Draft) (reply : Reply)
+    → entries ≡ before ++ ((Some incarnation, Create d, reply) ∷ later) → IsPlanned (reconcilers incarnation.controller) (of_incarnation incarnation before) (Create d)
 
--- Each delete that a life asks is of a pod or a revision, and comes from a plan over what was answered to it in this round; or
+-- Each delete that an incarnation asks is of a pod or a revision, and comes from a plan over what was answered to it in this round; or
 -- it is of a claim, and comes from a collection over what was answered to it in this round.
 abbrev pub DeletesArePlannedOrCollected : (ℕ → Reconciler) → List Entry → Type 0
 DeletesArePlannedOrCollected reconcilers entries =
-    (before later : List Entry) (life : Life) (k : Key) (uid version at : Option (List ℕ)) (reply : Reply)
-    → entries ≡ before ++ ((Some life, Delete k uid version at, reply) ∷ later)
-    → (((k.kind ≡ Pod) ⊎ (k.kind ≡ ControllerRevision)) × IsPlanned (reconcilers life.controller) (of_life life before) (Delete k uid version at))
-    ⊎ ((k.kind ≡ PersistentVolumeClaim) × IsCollected (reconcilers life.controller) (of_life life before) (Delete k uid version at))
+    (before later : List Entry) (incarnation : Incarnation) (k : Key) (uid version at : Option (List ℕ)) (reply : Reply)
+    → entries ≡ before ++ ((Some incarnation, Delete k uid version at, reply) ∷ later)
+    → (((k.kind ≡ Pod) ⊎ (k.kind ≡ ControllerRevision)) × IsPlanned (reconcilers incarnation.controller) (of_incarnation incarnation before) (Delete k uid version at))
+    ⊎ ((k.kind ≡ PersistentVolumeClaim) × IsCollected (reconcilers incarnation.controller) (of_incarnation incarnation before) (Delete k uid version at))
 
 -- an object of the claim's namespace has the UID of an owner of the claim
 pub record HasOwnerOf (s : Store) (claim : Object) : Type 0 where
@@ -77,8 +77,8 @@ pub record HasOwnerOf (s : Store) (claim : Object) : Type 0 where
 -- from then on.
 abbrev pub OwnersAreGone : ℕ → List Entry → Type 0
 OwnersAreGone capacity entries =
-    (before later : List Entry) (life : Life) (k : Key) (uid version at : Option (List ℕ)) (claim : Object)
-    → entries ≡ before ++ ((Some life, Delete k uid version at, Removed claim) ∷ later) → claim.key.kind ≡ PersistentVolumeClaim
+    (before later : List Entry) (incarnation : Incarnation) (k : Key) (uid version at : Option (List ℕ)) (claim : Object)
+    → entries ≡ before ++ ((Some incarnation, Delete k uid version at, Removed claim) ∷ later) → claim.key.kind ≡ PersistentVolumeClaim
     → (more : List Request) → HasOwnerOf (after (opening capacity) (requests_of before ++ more)) claim → ⊥
 
 -- all five

@@ -9,14 +9,14 @@ use Rattle.plain_store.specs.Store.{opening}
 abbrev pub Exchange : Type 0
 Exchange = Request × Reply
 
--- A life of a controller is what it does between two crashes: the controller's number, and how often it crashed before.
-pub record Life : Type 0 where
+-- An incarnation of a controller is what it does between two crashes: the controller's number, and how often it crashed before.
+pub record Incarnation : Type 0 where
   pub controller : ℕ
   pub crashes : ℕ
 
--- Who asked, the request and the reply. Whoever is no controller has no life.
+-- Who asked, the request and the reply. Whoever is no controller has no incarnation.
 abbrev pub Entry : Type 0
-Entry = Option Life × Request × Reply
+Entry = Option Incarnation × Request × Reply
 
 abbrev pub requests_of : List Entry → List Request
 requests_of [] = []
@@ -30,11 +30,11 @@ exchanges_of (e ∷ es) = (e.1, e.2) ∷ exchanges_of es
 abbrev pub IsRun : ℕ → List Entry → Type 0
 IsRun capacity entries = exchanges_of entries ≡ exchanges (opening capacity) (requests_of entries)
 
-abbrev pub is_by : Life → Option Life → Bool
-is_by life None = false
-is_by life (Some other) = life.controller == other.controller && life.crashes == other.crashes
+abbrev pub is_by : Incarnation → Option Incarnation → Bool
+is_by incarnation None = false
+is_by incarnation (Some other) = incarnation.controller == other.controller && incarnation.crashes == other.crashes
 
--- what one life asked and was answered, in order
-abbrev pub of_life : Life → List Entry → List Exchange
-of_life life [] = []
-of_life life (e ∷ es) = if is_by life e.0 then (e.1, e.2) ∷ of_life life es else of_life life es
+-- what one incarnation asked and was answered, in order
+abbrev pub of_incarnation : Incarnation → List Entry → List Exchange
+of_incarnation incarnation [] = []
+of_incarnation incarnation (e ∷ es) = if is_by incarnation e.0 then (e.1, e.2) ∷ of_incarnation incarnation es else of_incarnation incarnation es

@@ -7,7 +7,7 @@ use Rattle.rounds.specs.declared.event.WholeEvent.{WholeEvent}
 use Rattle.rounds.specs.declared.event.WholeEvent.TheVariants.{Ask, Crash, Outside}
 use Rattle.rounds.specs.Phase.{Phase, asks, reading_set, takes}
 use Rattle.rounds.specs.Reconciler.{Reconciler}
-use Rattle.rounds.specs.Transcript.{Entry, Life}
+use Rattle.rounds.specs.Transcript.{Entry, Incarnation}
 
 -- the store, where each controller stands and how often it has crashed, and what the store took
 pub record World : Type 0 where
@@ -24,7 +24,7 @@ abbrev pub put : {X : Type 0} → (ℕ → X) → ℕ → X → ℕ → X
 put f n x i = if i == n then x else f i
 
 -- the store takes a request
-abbrev pub with_entry : World → Option Life → Request → (ℕ → Phase) → World
+abbrev pub with_entry : World → Option Incarnation → Request → (ℕ → Phase) → World
 with_entry w who r phases = record {
   store = (step w.store r).0;
   phases = phases;
@@ -32,16 +32,16 @@ with_entry w who r phases = record {
   entries = w.entries ++ (who, r, (step w.store r).1) ∷ [];
 }
 
-abbrev pub life_of : World → ℕ → Life
-life_of w c = record { controller = c; crashes = w.crashes c }
+abbrev pub incarnation_of : World → ℕ → Incarnation
+incarnation_of w c = record { controller = c; crashes = w.crashes c }
 
 -- a controller asks its next request, and takes the reply
 abbrev pub with_ask : (ℕ → Reconciler) → World → ℕ → World
 with_ask reconcilers w c =
     let r = asks (reconcilers c) (w.phases c) in
-    with_entry w (Some (life_of w c)) r (put w.phases c (takes (reconcilers c) (w.phases c) (step w.store r).1))
+    with_entry w (Some (incarnation_of w c)) r (put w.phases c (takes (reconcilers c) (w.phases c) (step w.store r).1))
 
--- a controller forgets its round, and begins another life
+-- a controller forgets its round, and begins another incarnation
 abbrev pub with_crash : World → ℕ → World
 with_crash w c = record {
   store = w.store;
@@ -66,7 +66,7 @@ Taken = Option ℕ × Request × Reply
 
 abbrev pub taken_of : List Entry → List Taken
 taken_of [] = []
-taken_of (e ∷ es) = (option_map (λ (life : Life). life.controller) e.0, e.1, e.2) ∷ taken_of es
+taken_of (e ∷ es) = (option_map (λ (incarnation : Incarnation). incarnation.controller) e.0, e.1, e.2) ∷ taken_of es
 
 -- the store, and what it took, are those of the world
 pub record Matches (store : Store) (taken : List Taken) (w : World) : Type 0 where

@@ -7,7 +7,7 @@ ghost use Rattle.plain_store.specs.Reached.{IsReached};
 ghost use Rattle.plain_store.specs.Store.{Store, opening};
 ghost use Rattle.rounds.specs.declared.event.WholeEvent.{WholeEvent};
 ghost use Rattle.rounds.specs.Before.{RunKeepsPromises};
-ghost use Rattle.rounds.specs.Life.{Follows};
+ghost use Rattle.rounds.specs.Incarnation.{Follows};
 ghost use Rattle.rounds.specs.Phase.{Phase};
 ghost use Rattle.rounds.specs.Promises.{CreatesArePlanned, DeletesArePlannedOrCollected, IsTranscript, KeepsPromises, NamesAreFreed, OwnersAreGone, PlansTakeWhatTheyRead};
 ghost use Rattle.rounds.specs.Reconciler.{Reconciler};
@@ -67,9 +67,9 @@ pub fn runs_keep_promises()
     transcripts_keep_promises();
 }
 
-/// A life that is cut off anywhere is a life, and so is one whose last request has another reply: a controller that crashes
+/// An incarnation that is cut off anywhere is one, and so is one whose last request has another reply: a controller that crashes
 /// never learns it.
-pub fn lives_may_end_anywhere()
+pub fn incarnations_may_end_anywhere()
     ensures cut { (c : Reconciler) (phase : Phase) (own more : List Exchange) → Follows c phase (own ++ more) → Follows c phase own }
     ensures last { (c : Reconciler) (phase : Phase) (own : List Exchange) (request : Request) (told other : Reply)
         → Follows c phase (own ++ (request, told) ∷ []) → Follows c phase (own ++ (request, other) ∷ []) }

@@ -12,7 +12,8 @@ pub use control_loop::ControlLoop;
 pub use event::{Taken, WholeEvent};
 pub use examples::short_rounds;
 pub use laws::{
-    creates_are_planned, deletes_are_planned_or_collected, lives_may_end_anywhere, names_are_freed,
-    owners_are_gone, plans_take_what_they_read, runs_keep_promises, transcripts_keep_promises,
+    creates_are_planned, deletes_are_planned_or_collected, incarnations_may_end_anywhere,
+    names_are_freed, owners_are_gone, plans_take_what_they_read, runs_keep_promises,
+    transcripts_keep_promises,
 };
 pub use whole::{WholeRun, run_whole};

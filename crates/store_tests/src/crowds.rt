@@ -125,7 +125,7 @@ fn assert_legal<R: Abort>(rt: &R, alloc: Global, log: Log) -> Result<(), Fail> {
 }
 
 /// Eight threads ask by chance; what they were told is legal.
-pub(crate) fn assert_told<S: SharedStore + Sync, R: Threads + Wait + Abort + Sync>(
+pub(crate) fn assert_replies_are_legal<S: SharedStore + Sync, R: Threads + Wait + Abort + Sync>(
     rt: &R,
     alloc: Global,
     store: &S,

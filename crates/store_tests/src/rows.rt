@@ -129,6 +129,6 @@ fn shards_work_at_once(rt: HostRuntime) -> Result<(), Fail> {
 
 /// Eight threads ask by chance; what they were told is legal.
 #[test]
-fn what_eight_threads_are_told_is_legal(rt: HostRuntime) -> Result<(), Fail> {
+fn replies_to_eight_threads_are_legal(rt: HostRuntime) -> Result<(), Fail> {
     assert_on(&rt, rt.alloc(), CAPACITY, 8, Scene::Crowd)
 }

@@ -6,7 +6,7 @@ ghost use Rattle.store.specs.Callers.{IsLine};
 
 use crate::asking::assert_rows;
 use crate::callers::assert_callers;
-use crate::crowds::assert_told;
+use crate::crowds::assert_replies_are_legal;
 use crate::gates::assert_steps;
 use crate::growths::assert_ample;
 use crate::meeting::assert_meeting;
@@ -45,7 +45,7 @@ fn assert_scene<
         Scene::Meeting => assert_meeting(rt, alloc, store),
         Scene::Callers => assert_callers(rt, store),
         Scene::Gate => assert_steps(rt, alloc, store),
-        Scene::Crowd => assert_told(rt, alloc, store),
+        Scene::Crowd => assert_replies_are_legal(rt, alloc, store),
         Scene::Growths => assert_ample(rt, alloc, store),
     }
 }

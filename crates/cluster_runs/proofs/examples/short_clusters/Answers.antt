@@ -16,12 +16,12 @@ use Rattle.interleavings.proofs.Values.{find_or, get_part}
 use Rattle.rounds.specs.Examples.{one_replica, web}
 use Rattle.rounds.specs.Phase.{asks, takes}
 use Rattle.cluster_runs.specs.declared.event.ClusterEvent.TheVariants.{Next, Step}
-use Rattle.cluster_runs.specs.Cluster.{hand, hears, lowest_unused, run, told}
+use Rattle.cluster_runs.specs.Cluster.{hand, hears, lowest_unused, run, delivered}
 use Rattle.cluster_runs.specs.Examples.{cluster_after, get, size}
 use Rattle.cluster_runs.proofs.examples.short_clusters.Goals as goal
 
-no_set : told size (event.Call 0 get ∷ event.Read 0 ∷ event.Part 0 ∷ []) (event.Reply 0) ≡ Some (Refused NotFound)
-unfolding route step with_part changed shard told find_or
+no_set : delivered size (event.Call 0 get ∷ event.Read 0 ∷ event.Part 0 ∷ []) (event.Reply 0) ≡ Some (Refused NotFound)
+unfolding route step with_part changed shard delivered find_or
 no_set =
     ap (λ (o : Option Object). Some (found o))
     (get_part (λ i. None) 0 (λ k. reads (route get) k && nat_eq (shard size k) (shard size web.key)) map.empty web.key ∙ get-empty key_cmp web.key)
@@ -44,6 +44,6 @@ pub returns-clause-nothing_but_a_call : goal.returns-clause-nothing_but_a_call
 unfolding route step changed asks
 returns-clause-nothing_but_a_call c = refl
 
-pub returns-clause-lives : goal.returns-clause-lives
+pub returns-clause-incarnations : goal.returns-clause-incarnations
 unfolding route step changed asks lowest_unused
-returns-clause-lives c = refl
+returns-clause-incarnations c = refl

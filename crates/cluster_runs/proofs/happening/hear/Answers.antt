@@ -18,8 +18,8 @@ returns-clause-hears g c =
     let xs = c.args.controllers.now in
     let low = subst (λ o. IfSome o (λ n. n < length xs)) c.in-Some.is c.requires in
     let ys = slice_set xs c.in-Some.number c.take.new.self in
-    subst (λ o. Hears g.C.ControlLoop.reconciler g.C.ControlLoop.phase g.C.ControlLoop.is_waiting xs ys o c.args.told.now) (sym c.in-Some.is)
-    (subst (λ r. Hears g.C.ControlLoop.reconciler g.C.ControlLoop.phase g.C.ControlLoop.is_waiting xs ys (Some c.in-Some.number) r) (sym c.in-Some-told.is) (record {
+    subst (λ o. Hears g.C.ControlLoop.reconciler g.C.ControlLoop.phase g.C.ControlLoop.is_waiting xs ys o c.args.delivered.now) (sym c.in-Some.is)
+    (subst (λ r. Hears g.C.ControlLoop.reconciler g.C.ControlLoop.phase g.C.ControlLoop.is_waiting xs ys (Some c.in-Some.number) r) (sym c.in-Some-delivered.is) (record {
       old = slice_index_or xs c.in-Some.number c.index-controllers-number.result;
       new = c.take.new.self;
       there = get_at xs c.in-Some.number c.index-controllers-number.result low;

@@ -10,5 +10,5 @@ returns c = λ size count reconcilers events order some least most sound legal.
     let items = trace size k.events in
     let history = (c.runs_are_linearizable.ensures size k.events some).history in
     c.transcripts_keep_promises.ensures reconcilers size.capacity _ sound
-    (transcript reconcilers count size.capacity k.phases k.crashes k.callers k.used k.lives items
+    (transcript reconcilers count size.capacity k.phases k.crashes k.callers k.used k.incarnations items
     (run_kept size reconcilers count (start count) (start_kept size reconcilers count) events) history order legal least most)

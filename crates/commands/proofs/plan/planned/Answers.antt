@@ -1,7 +1,7 @@
 use Rattle.std.proofs.Common.{inl, inr}
 use Rattle.commands.proofs.Halted.{read-fails, spared-read, spared-unwritten}
 use Rattle.commands.proofs.Planned.{plans, plans-part}
-use Rattle.commands.proofs.Replayed.{told_and}
+use Rattle.commands.proofs.Replayed.{named_and}
 use Rattle.commands.specs.Halts.{Tells, name_of}
 use Rattle.commands.specs.Planning.{IsPlanRefusedBy}
 use Rattle.commands.proofs.plan.planned.Goals as goal
@@ -24,7 +24,7 @@ returns-in-Err-clause-spared g c = spared-unwritten _ c.in-Err.halt _ _ _ c.in-E
 
 pub returns-in-Err-clause-named : goal.returns-in-Err-clause-named
 returns-in-Err-clause-named g c = λ is.
-    told_and (name_of c.in-Err.halt)
+    named_and (name_of c.in-Err.halt)
     (λ name. Tells name (g.F.Sink.written c.args.faults.now) (g.F.Sink.written c.halted.new.faults) (g.F.Sink.failures c.args.faults.now) (g.F.Sink.failures c.halted.new.faults))
     (IsPlanRefusedBy c.args.asked.now (g.R.Source.remaining c.args.reader.now) (g.R.Source.remaining c.plan_of_input.new.reader))
     (c.halted.ensures.named is) c.in-Err.ensures.refused

@@ -1,6 +1,6 @@
 use Rattle.std.proofs.Common.{inl, inr, refl}
 use Rattle.commands.proofs.Halted.{read-fails, spared-unwritten}
-use Rattle.commands.proofs.Replayed.{replays, told_and}
+use Rattle.commands.proofs.Replayed.{replays, named_and}
 use Rattle.commands.specs.Halts.{Tells, name_of}
 use Rattle.commands.specs.Replaying.{IsRefusedBy}
 use Rattle.commands.proofs.replay.replayed.Goals as goal
@@ -12,7 +12,7 @@ returns-in-Ok-clause-replayed g c = λ is.
 
 pub returns-in-Err-clause-named : goal.returns-in-Err-clause-named
 returns-in-Err-clause-named g c = λ is.
-    told_and (name_of c.in-Err.halt)
+    named_and (name_of c.in-Err.halt)
     (λ name. Tells name (g.F.Sink.written c.args.faults.now) (g.F.Sink.written c.halted.new.faults) (g.F.Sink.failures c.args.faults.now) (g.F.Sink.failures c.halted.new.faults))
     (IsRefusedBy (g.R.Source.remaining c.args.reader.now) (g.R.Source.remaining c.replay_of_input.new.reader)) (c.halted.ensures.named is) c.in-Err.ensures.refused
 

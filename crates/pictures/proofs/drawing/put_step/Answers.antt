@@ -7,13 +7,13 @@ pub put_event-put-requires : goal.put_event-put-requires
 put_event-put-requires c =
     let reached = c.step.ensures.reached in
     let events = reached.events ++ c.args.event.now ∷ [] in
-    let done = c.in_ok-told.ensures.done reached.size reached.events reached.after in
+    let done = c.in_ok-delivered.ensures.done reached.size reached.events reached.after in
     let same = ap (λ (m : Moment). m.frontier) (c.look-after.ensures reached.size events done) in
     let small = frontier_small reached.size events _ done in
     omega (arith, same, small)
 
 pub returns-clause-put : goal.returns-clause-put
 returns-clause-put c = λ size events is same.
-    step_lines size events c.args.event.now c.args.shards c.events-place.result c.named_by-caller.result c.look-before.result c.look-after.result c.in_ok-told.told
+    step_lines size events c.args.event.now c.args.shards c.events-place.result c.named_by-caller.result c.look-before.result c.look-after.result c.in_ok-delivered.delivered
     (string_bytes c.args.out.now) _ same (c.events-place.ensures.count size events is) c.named_by-caller.ensures (c.look-before.ensures size events is)
-    (c.look-after.ensures size (events ++ c.args.event.now ∷ []) (c.in_ok-told.ensures.done size events is)) (c.in_ok-told.ensures.told size events is) c.in_ok-put.ensures
+    (c.look-after.ensures size (events ++ c.args.event.now ∷ []) (c.in_ok-delivered.ensures.done size events is)) (c.in_ok-delivered.ensures.delivered size events is) c.in_ok-put.ensures

@@ -1,7 +1,7 @@
 use Rattle.std.proofs.Common.{false, get_or, arith}
 use Rattle.race_log.specs.declared.stamp.Stamp.{Stamp}
 use Rattle.race_log.specs.Twice.{reply_at, with_next}
-use Rattle.race_log.proofs.Walks.{told-next}
+use Rattle.race_log.proofs.Walks.{replies_in_order-next}
 use Rattle.race_log.proofs.twice.repeats.Goals as goal
 
 pub loop-stamp-preserved : goal.loop-stamp-preserved
@@ -11,6 +11,6 @@ loop-stamp-preserved c =
     record {
       earlier = with_next (reply_at c.args.items.now (get_or c.args.order.now c.loop-stamp.stamp-index d).reply) inv.earlier;
       known = c.in_ok-take_at.ensures.known inv.earlier inv.known;
-      whole = told-next c.args.items.now c.args.order.now c.loop-stamp.stamp-index d inv.earlier _ c.loop-stamp-test.true inv.whole;
+      whole = replies_in_order-next c.args.items.now c.args.order.now c.loop-stamp.stamp-index d inv.earlier _ c.loop-stamp-test.true inv.whole;
       counted = omega (arith, c.in_ok-take_at.ensures.counted);
     }

@@ -7,8 +7,8 @@ use Rattle.rounds.proofs.Entries.{IsStepwise, stepwise, stepwise_at, stepwise_be
 use Rattle.rounds.proofs.laws.plans_take_what_they_read.Goals as goal
 
 pub returns : goal.returns
-returns c = λ reconcilers capacity entries sound is before later life k uid version at reply o where' told plan.
+returns c = λ reconcilers capacity entries sound is before later incarnation k uid version at reply o where' told plan.
     let run = subst (IsStepwise (opening capacity)) where' (stepwise (opening capacity) entries is.run) in
-    let here = stepwise_at (opening capacity) before ((Some life, Delete k uid version at, reply) ∷ later) run in
-    (plan_takes (reconcilers life.controller) capacity before life k uid version at o is.least is.most
-    (stepwise_before (opening capacity) before ((Some life, Delete k uid version at, reply) ∷ later) run) (sound life.controller) plan (ap taken (sym here.0) ∙ told)).0
+    let here = stepwise_at (opening capacity) before ((Some incarnation, Delete k uid version at, reply) ∷ later) run in
+    (plan_takes (reconcilers incarnation.controller) capacity before incarnation k uid version at o is.least is.most
+    (stepwise_before (opening capacity) before ((Some incarnation, Delete k uid version at, reply) ∷ later) run) (sound incarnation.controller) plan (ap taken (sym here.0) ∙ told)).0

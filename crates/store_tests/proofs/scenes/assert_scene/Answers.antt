@@ -20,17 +20,17 @@ assert_steps-requires-sync-S g c κs within =
     let held : IsSend (param 0 g.row.H) = c.type_bounds.send-H in
     let sent : IsSend (param 1 g.row.N) = c.type_bounds.send-N in search (store-sync, sendable, crosses) depth 40
 
-pub assert_told-requires-send-S-Caller : goal.assert_told-requires-send-S-Caller
-assert_told-requires-send-S-Caller g c κs within =
+pub assert_replies_are_legal-requires-send-S-Caller : goal.assert_replies_are_legal-requires-send-S-Caller
+assert_replies_are_legal-requires-send-S-Caller g c κs within =
     let held : IsSend (param 0 g.row.H) = c.type_bounds.send-H in
     let sent : IsSend (param 1 g.row.N) = c.type_bounds.send-N in search (caller-send, sendable, crosses) depth 40
 
-pub assert_told-requires-send-S-Ticket : goal.assert_told-requires-send-S-Ticket
-assert_told-requires-send-S-Ticket g c κs within =
+pub assert_replies_are_legal-requires-send-S-Ticket : goal.assert_replies_are_legal-requires-send-S-Ticket
+assert_replies_are_legal-requires-send-S-Ticket g c κs within =
     let held : IsSend (param 0 g.row.H) = c.type_bounds.send-H in
     let sent : IsSend (param 1 g.row.N) = c.type_bounds.send-N in search (ticket-send, sendable, crosses) depth 40
 
-pub assert_told-requires-sync-S : goal.assert_told-requires-sync-S
-assert_told-requires-sync-S g c κs within =
+pub assert_replies_are_legal-requires-sync-S : goal.assert_replies_are_legal-requires-sync-S
+assert_replies_are_legal-requires-sync-S g c κs within =
     let held : IsSend (param 0 g.row.H) = c.type_bounds.send-H in
     let sent : IsSend (param 1 g.row.N) = c.type_bounds.send-N in search (store-sync, sendable, crosses) depth 40

@@ -30,9 +30,9 @@ pub returns-clause-leads : goal.returns-clause-leads
 returns-clause-leads g c =
     let e = Outside c.args.caller c.args.request.now in
     IfOk-weaker c.carry.result _ _
-    (λ told leads. comes_as g.C.ControlLoop.reconciler g.C.ControlLoop.phase g.C.ControlLoop.is_waiting (IsShownAs g.C.ControlLoop.reconciler g.C.ControlLoop.phase g.C.ControlLoop.is_waiting c.carry.new.self c.carry.new.controllers) (asked_as c.args.caller c.args.request.now) (event_and e (carried c.args.caller)) (ends_with told) c.args.self.now c.args.controllers.now
+    (λ delivered leads. comes_as g.C.ControlLoop.reconciler g.C.ControlLoop.phase g.C.ControlLoop.is_waiting (IsShownAs g.C.ControlLoop.reconciler g.C.ControlLoop.phase g.C.ControlLoop.is_waiting c.carry.new.self c.carry.new.controllers) (asked_as c.args.caller c.args.request.now) (event_and e (carried c.args.caller)) (ends_with delivered) c.args.self.now c.args.controllers.now
     (λ z reconcilers k shows. as_idle c.args.caller c.args.request.now z _ reconcilers k ((c.idle.ensures z k.events shows.0.0.taken).0 c.if-not-idle.false))
-    (leads_on g.C.ControlLoop.reconciler g.C.ControlLoop.phase g.C.ControlLoop.is_waiting (event_and e (carried c.args.caller)) (carried c.args.caller) (ends_with told) c.args.self.now c.outside.new.self c.carry.new.self c.args.controllers.now c.outside.new.controllers c.carry.new.controllers c.in_ok-outside.ensures.many
+    (leads_on g.C.ControlLoop.reconciler g.C.ControlLoop.phase g.C.ControlLoop.is_waiting (event_and e (carried c.args.caller)) (carried c.args.caller) (ends_with delivered) c.args.self.now c.outside.new.self c.carry.new.self c.args.controllers.now c.outside.new.controllers c.carry.new.controllers c.in_ok-outside.ensures.many
     (event_leads g.C.ControlLoop.reconciler g.C.ControlLoop.phase g.C.ControlLoop.is_waiting e (carried c.args.caller) c.args.self.now c.outside.new.self c.args.controllers.now c.outside.new.controllers c.in_ok-outside.ensures.shows) leads))
     c.carry.ensures.leads
 

@@ -25,9 +25,9 @@ returns-clause-leads g c =
     let between = c.call_next.new.controllers in
     let there = subst (λ m. n < m) (sym c.in_ok-call_next.ensures.many) c.requires.there in
     IfOk-weaker c.carry.result _ _
-    (λ told leads. leads_on g.C.ControlLoop.reconciler g.C.ControlLoop.phase g.C.ControlLoop.is_waiting (asked n) (own n) (ends_with told) c.args.self.now mid c.carry.new.self c.args.controllers.now between c.carry.new.controllers c.in_ok-call_next.ensures.many
+    (λ delivered leads. leads_on g.C.ControlLoop.reconciler g.C.ControlLoop.phase g.C.ControlLoop.is_waiting (asked n) (own n) (ends_with delivered) c.args.self.now mid c.carry.new.self c.args.controllers.now between c.carry.new.controllers c.in_ok-call_next.ensures.many
     (event_leads g.C.ControlLoop.reconciler g.C.ControlLoop.phase g.C.ControlLoop.is_waiting (Next n) (own n) c.args.self.now mid c.args.controllers.now between c.in_ok-call_next.ensures.shows)
-    (comes_as g.C.ControlLoop.reconciler g.C.ControlLoop.phase g.C.ControlLoop.is_waiting (IsShownAs g.C.ControlLoop.reconciler g.C.ControlLoop.phase g.C.ControlLoop.is_waiting c.carry.new.self c.carry.new.controllers) (own n) (carried c.index-caller.result.now) (ends_with told) mid between
+    (comes_as g.C.ControlLoop.reconciler g.C.ControlLoop.phase g.C.ControlLoop.is_waiting (IsShownAs g.C.ControlLoop.reconciler g.C.ControlLoop.phase g.C.ControlLoop.is_waiting c.carry.new.self c.carry.new.controllers) (own n) (carried c.index-caller.result.now) (ends_with delivered) mid between
     (asks_next g.C.ControlLoop.reconciler g.C.ControlLoop.phase g.C.ControlLoop.is_waiting n c.index-caller.result.now mid between there c.index-caller.ensures) leads))
     c.carry.ensures.leads
 

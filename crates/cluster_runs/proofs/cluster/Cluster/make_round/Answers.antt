@@ -35,7 +35,7 @@ loop-preserved g c =
           c.args.controllers.now c.loop.controllers c.is_within.new.controllers c.loop-test.true kept.many kept.leads
           (subst (λ whole. Leads g.C.ControlLoop.reconciler g.C.ControlLoop.phase g.C.ControlLoop.is_waiting whole (cond c.in_ok-within.within (round_in left c.args.number) nothing) c.loop.self c.ask_next.new.self c.loop.controllers c.is_within.new.controllers) (sym (round_on left c.args.number))
           (leads_on g.C.ControlLoop.reconciler g.C.ControlLoop.phase g.C.ControlLoop.is_waiting _ next _ c.loop.self c.ask_next.new.self c.ask_next.new.self c.loop.controllers c.ask_next.new.controllers c.is_within.new.controllers c.in_ok-ask_next.ensures.many
-          (first_leads g.C.ControlLoop.reconciler g.C.ControlLoop.phase g.C.ControlLoop.is_waiting (asked c.args.number) c.in_ok-ask_next.field-0 (λ told. next) c.loop.self c.ask_next.new.self c.loop.controllers c.ask_next.new.controllers c.in_ok-ask_next.ensures.leads)
+          (first_leads g.C.ControlLoop.reconciler g.C.ControlLoop.phase g.C.ControlLoop.is_waiting (asked c.args.number) c.in_ok-ask_next.field-0 (λ delivered. next) c.loop.self c.ask_next.new.self c.loop.controllers c.ask_next.new.controllers c.in_ok-ask_next.ensures.leads)
           (peek_leads g.C.ControlLoop.reconciler g.C.ControlLoop.phase g.C.ControlLoop.is_waiting left c.args.number c.in_ok-within.within c.ask_next.new.self c.ask_next.new.controllers c.is_within.new.controllers c.in_ok-within.ensures.peeks))));
     }
 
@@ -49,7 +49,7 @@ returns-then-not-within-clause-leads g c =
     c.args.controllers.now c.loop.controllers c.is_within.new.controllers c.loop-test.true kept.many kept.leads
     (subst (λ whole. Leads g.C.ControlLoop.reconciler g.C.ControlLoop.phase g.C.ControlLoop.is_waiting whole (cond c.in_ok-within.within (round_in left c.args.number) nothing) c.loop.self c.ask_next.new.self c.loop.controllers c.is_within.new.controllers) (sym (round_on left c.args.number))
     (leads_on g.C.ControlLoop.reconciler g.C.ControlLoop.phase g.C.ControlLoop.is_waiting _ next _ c.loop.self c.ask_next.new.self c.ask_next.new.self c.loop.controllers c.ask_next.new.controllers c.is_within.new.controllers c.in_ok-ask_next.ensures.many
-    (first_leads g.C.ControlLoop.reconciler g.C.ControlLoop.phase g.C.ControlLoop.is_waiting (asked c.args.number) c.in_ok-ask_next.field-0 (λ told. next) c.loop.self c.ask_next.new.self c.loop.controllers c.ask_next.new.controllers c.in_ok-ask_next.ensures.leads)
+    (first_leads g.C.ControlLoop.reconciler g.C.ControlLoop.phase g.C.ControlLoop.is_waiting (asked c.args.number) c.in_ok-ask_next.field-0 (λ delivered. next) c.loop.self c.ask_next.new.self c.loop.controllers c.ask_next.new.controllers c.in_ok-ask_next.ensures.leads)
     (peek_leads g.C.ControlLoop.reconciler g.C.ControlLoop.phase g.C.ControlLoop.is_waiting left c.args.number c.in_ok-within.within c.ask_next.new.self c.ask_next.new.controllers c.is_within.new.controllers c.in_ok-within.ensures.peeks))))
 
 pub returns-in_err-ask_next-clause-halts : goal.returns-in_err-ask_next-clause-halts
@@ -62,7 +62,7 @@ returns-in_err-ask_next-clause-halts g c =
     (far_halts g.C.ControlLoop.reconciler g.C.ControlLoop.phase g.C.ControlLoop.is_waiting (round c.args.number) (λ requests. round_in requests c.args.number) most_requests c.loop.counter fault c.args.self.now c.loop.self c.args.controllers.now c.loop.controllers c.ask_next.new.controllers
     c.loop-test.true kept.many kept.leads
     (subst (λ whole. Halts g.C.ControlLoop.reconciler g.C.ControlLoop.phase g.C.ControlLoop.is_waiting fault whole c.loop.self c.loop.controllers c.ask_next.new.controllers) (sym (round_on left c.args.number))
-    (first_halts g.C.ControlLoop.reconciler g.C.ControlLoop.phase g.C.ControlLoop.is_waiting fault (asked c.args.number) (λ told. then_round left c.args.number) c.loop.self c.loop.controllers c.ask_next.new.controllers c.in_err-ask_next.ensures.halts)))
+    (first_halts g.C.ControlLoop.reconciler g.C.ControlLoop.phase g.C.ControlLoop.is_waiting fault (asked c.args.number) (λ delivered. then_round left c.args.number) c.loop.self c.loop.controllers c.ask_next.new.controllers c.in_err-ask_next.ensures.halts)))
 
 pub returns-in_err-within-clause-halts : goal.returns-in_err-within-clause-halts
 returns-in_err-within-clause-halts g c =
@@ -76,7 +76,7 @@ returns-in_err-within-clause-halts g c =
     c.loop-test.true kept.many kept.leads
     (subst (λ whole. Halts g.C.ControlLoop.reconciler g.C.ControlLoop.phase g.C.ControlLoop.is_waiting fault whole c.loop.self c.loop.controllers c.is_within.new.controllers) (sym (round_on left c.args.number))
     (halts_on g.C.ControlLoop.reconciler g.C.ControlLoop.phase g.C.ControlLoop.is_waiting fault _ next c.loop.self c.ask_next.new.self c.loop.controllers c.ask_next.new.controllers c.is_within.new.controllers c.in_ok-ask_next.ensures.many
-    (first_leads g.C.ControlLoop.reconciler g.C.ControlLoop.phase g.C.ControlLoop.is_waiting (asked c.args.number) c.in_ok-ask_next.field-0 (λ told. next) c.loop.self c.ask_next.new.self c.loop.controllers c.ask_next.new.controllers c.in_ok-ask_next.ensures.leads)
+    (first_leads g.C.ControlLoop.reconciler g.C.ControlLoop.phase g.C.ControlLoop.is_waiting (asked c.args.number) c.in_ok-ask_next.field-0 (λ delivered. next) c.loop.self c.ask_next.new.self c.loop.controllers c.ask_next.new.controllers c.in_ok-ask_next.ensures.leads)
     (still_halts g.C.ControlLoop.reconciler g.C.ControlLoop.phase g.C.ControlLoop.is_waiting fault next c.ask_next.new.self c.ask_next.new.controllers c.is_within.new.controllers c.in_err-within.ensures.stays (λ many. let both = sym c.in_err-within.ensures.reasons ∙ many in cc)))))
 
 pub returns-clause-leads : goal.returns-clause-leads

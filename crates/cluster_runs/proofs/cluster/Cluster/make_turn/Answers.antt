@@ -6,19 +6,19 @@ use Rattle.cluster_runs.proofs.Leading.{first_halts, first_leads}
 use Rattle.cluster_runs.proofs.Parts.{walked_all, walked_halts, walked_more}
 use Rattle.cluster_runs.proofs.cluster.Cluster.make_turn.Goals as goal
 
-pub returns-in_err-told-clause-halts : goal.returns-in_err-told-clause-halts
-returns-in_err-told-clause-halts g c =
-    let fault = c.in_err-told.field-0.0 in
+pub returns-in_err-delivered-clause-halts : goal.returns-in_err-delivered-clause-halts
+returns-in_err-delivered-clause-halts g c =
+    let fault = c.in_err-delivered.field-0.0 in
     let is : c.from_residual.result ≡ Err fault = search rules in
     subst (λ r. IfErr r (λ fault. Halts g.C.ControlLoop.reconciler g.C.ControlLoop.phase g.C.ControlLoop.is_waiting fault (kubelet_turn c.args.caller c.args.namespaces.now) c.args.self.now c.args.controllers.now c.carry.new.controllers)) (sym is)
-    (first_halts g.C.ControlLoop.reconciler g.C.ControlLoop.phase g.C.ControlLoop.is_waiting fault (carried c.args.caller) (λ told. tended_all c.args.caller c.args.namespaces.now) c.args.self.now c.args.controllers.now c.carry.new.controllers c.in_err-told.ensures.halts)
+    (first_halts g.C.ControlLoop.reconciler g.C.ControlLoop.phase g.C.ControlLoop.is_waiting fault (carried c.args.caller) (λ delivered. tended_all c.args.caller c.args.namespaces.now) c.args.self.now c.args.controllers.now c.carry.new.controllers c.in_err-delivered.ensures.halts)
 
 pub loop-namespace-init : goal.loop-namespace-init
 loop-namespace-init g c = record {
-  many = c.in_ok-told.ensures.many;
-  present = c.in_ok-told.ensures.many ∙ c.requires.present ∙ sym c.in_ok-told.ensures.present;
-  follows = c.in_ok-told.ensures.follows;
-  leads = first_leads g.C.ControlLoop.reconciler g.C.ControlLoop.phase g.C.ControlLoop.is_waiting (carried c.args.caller) c.in_ok-told.told (λ told. tended_all c.args.caller c.args.namespaces.now) c.args.self.now c.carry.new.self c.args.controllers.now c.carry.new.controllers c.in_ok-told.ensures.leads;
+  many = c.in_ok-delivered.ensures.many;
+  present = c.in_ok-delivered.ensures.many ∙ c.requires.present ∙ sym c.in_ok-delivered.ensures.present;
+  follows = c.in_ok-delivered.ensures.follows;
+  leads = first_leads g.C.ControlLoop.reconciler g.C.ControlLoop.phase g.C.ControlLoop.is_waiting (carried c.args.caller) c.in_ok-delivered.delivered (λ delivered. tended_all c.args.caller c.args.namespaces.now) c.args.self.now c.carry.new.self c.args.controllers.now c.carry.new.controllers c.in_ok-delivered.ensures.leads;
 }
 
 pub loop-namespace-preserved : goal.loop-namespace-preserved

@@ -9,7 +9,7 @@ use Rattle.cluster_runs.proofs.cluster.Cluster.run.Goals as goal
 pub returns-then-number-controllers-clause-leads : goal.returns-then-number-controllers-clause-leads
 returns-then-number-controllers-clause-leads g c =
     IfOk-weaker c.carry.result _ _
-    (λ told leads. comes_as g.C.ControlLoop.reconciler g.C.ControlLoop.phase g.C.ControlLoop.is_waiting (IsShownAs g.C.ControlLoop.reconciler g.C.ControlLoop.phase g.C.ControlLoop.is_waiting c.carry.new.self c.carry.new.controllers) (run_of c.args.number) (carried c.index-caller.result.now) (ends_with told) c.args.self.now c.args.controllers.now
+    (λ delivered leads. comes_as g.C.ControlLoop.reconciler g.C.ControlLoop.phase g.C.ControlLoop.is_waiting (IsShownAs g.C.ControlLoop.reconciler g.C.ControlLoop.phase g.C.ControlLoop.is_waiting c.carry.new.self c.carry.new.controllers) (run_of c.args.number) (carried c.index-caller.result.now) (ends_with delivered) c.args.self.now c.args.controllers.now
     (runs_carried g.C.ControlLoop.reconciler g.C.ControlLoop.phase g.C.ControlLoop.is_waiting c.args.number c.index-caller.result.now c.args.self.now c.args.controllers.now c.if-number-controllers.true c.index-caller.ensures) leads)
     c.carry.ensures.leads
 

@@ -31,7 +31,7 @@ loop-preserved g c =
       leads = far_on g.C.ControlLoop.reconciler g.C.ControlLoop.phase g.C.ControlLoop.is_waiting (settled c.args.rounds c.args.namespaces.now) (λ rounds. settled_as rounds c.in-Some.kubelet c.args.namespaces.now) c.args.rounds c.loop.counter rest c.args.self.now c.loop.self c.settle_once.new.self
           c.args.controllers.now c.loop.controllers c.settle_once.new.controllers c.loop-test.true kept.many kept.leads
           (subst (λ whole. Leads g.C.ControlLoop.reconciler g.C.ControlLoop.phase g.C.ControlLoop.is_waiting whole rest c.loop.self c.settle_once.new.self c.loop.controllers c.settle_once.new.controllers) (sym (settles_on left c.in-Some.kubelet c.args.namespaces.now))
-          (first_leads g.C.ControlLoop.reconciler g.C.ControlLoop.phase g.C.ControlLoop.is_waiting (settled_once c.in-Some.kubelet c.args.namespaces.now) None (λ told. rest) c.loop.self c.settle_once.new.self c.loop.controllers c.settle_once.new.controllers c.in_ok-settle_once.ensures.leads));
+          (first_leads g.C.ControlLoop.reconciler g.C.ControlLoop.phase g.C.ControlLoop.is_waiting (settled_once c.in-Some.kubelet c.args.namespaces.now) None (λ delivered. rest) c.loop.self c.settle_once.new.self c.loop.controllers c.settle_once.new.controllers c.in_ok-settle_once.ensures.leads));
     }
 
 pub returns-in_err-settle_once-clause-halts : goal.returns-in_err-settle_once-clause-halts
@@ -45,7 +45,7 @@ returns-in_err-settle_once-clause-halts g c =
     (far_halts g.C.ControlLoop.reconciler g.C.ControlLoop.phase g.C.ControlLoop.is_waiting (settled c.args.rounds c.args.namespaces.now) (λ rounds. settled_as rounds c.in-Some.kubelet c.args.namespaces.now) c.args.rounds c.loop.counter fault c.args.self.now c.loop.self c.args.controllers.now c.loop.controllers
     c.settle_once.new.controllers c.loop-test.true kept.many kept.leads
     (subst (λ whole. Halts g.C.ControlLoop.reconciler g.C.ControlLoop.phase g.C.ControlLoop.is_waiting fault whole c.loop.self c.loop.controllers c.settle_once.new.controllers) (sym (settles_on left c.in-Some.kubelet c.args.namespaces.now))
-    (first_halts g.C.ControlLoop.reconciler g.C.ControlLoop.phase g.C.ControlLoop.is_waiting fault (settled_once c.in-Some.kubelet c.args.namespaces.now) (λ told. rest) c.loop.self c.loop.controllers c.settle_once.new.controllers c.in_err-settle_once.ensures.halts)))
+    (first_halts g.C.ControlLoop.reconciler g.C.ControlLoop.phase g.C.ControlLoop.is_waiting fault (settled_once c.in-Some.kubelet c.args.namespaces.now) (λ delivered. rest) c.loop.self c.loop.controllers c.settle_once.new.controllers c.in_err-settle_once.ensures.halts)))
 
 pub returns-clause-leads : goal.returns-clause-leads
 returns-clause-leads g c =

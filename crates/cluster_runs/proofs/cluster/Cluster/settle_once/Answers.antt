@@ -16,7 +16,7 @@ returns-in_err-make_rounds-clause-halts g c =
     let fault = c.in_err-make_rounds.field-0.0 in
     let is : c.from_residual.result ≡ Err fault = search rules in
     subst (λ r. IfErr r (λ fault. Halts g.C.ControlLoop.reconciler g.C.ControlLoop.phase g.C.ControlLoop.is_waiting fault (settled_once c.args.kubelet c.args.namespaces.now) c.args.self.now c.args.controllers.now c.make_rounds.new.controllers)) (sym is)
-    (first_halts g.C.ControlLoop.reconciler g.C.ControlLoop.phase g.C.ControlLoop.is_waiting fault all_rounds (λ told. kubelet_turn c.args.kubelet c.args.namespaces.now) c.args.self.now c.args.controllers.now c.make_rounds.new.controllers
+    (first_halts g.C.ControlLoop.reconciler g.C.ControlLoop.phase g.C.ControlLoop.is_waiting fault all_rounds (λ delivered. kubelet_turn c.args.kubelet c.args.namespaces.now) c.args.self.now c.args.controllers.now c.make_rounds.new.controllers
     (halts_as g.C.ControlLoop.reconciler g.C.ControlLoop.phase g.C.ControlLoop.is_waiting fault all_rounds (rounds_of (range_with_len 0 (length c.args.controllers.now))) c.args.self.now c.args.controllers.now c.make_rounds.new.controllers (λ z reconcilers k shows. refl) c.in_err-make_rounds.ensures.halts))
 
 pub returns-clause-leads : goal.returns-clause-leads
@@ -24,7 +24,7 @@ returns-clause-leads g c =
     let turn = kubelet_turn c.args.kubelet c.args.namespaces.now in
     on_ok_by _ _ c.make_turn.result
     (leads_on g.C.ControlLoop.reconciler g.C.ControlLoop.phase g.C.ControlLoop.is_waiting (settled_once c.args.kubelet c.args.namespaces.now) turn nothing c.args.self.now c.make_rounds.new.self c.make_turn.new.self c.args.controllers.now c.make_rounds.new.controllers c.make_turn.new.controllers c.in_ok-make_rounds.ensures.many
-    (first_leads g.C.ControlLoop.reconciler g.C.ControlLoop.phase g.C.ControlLoop.is_waiting all_rounds None (λ told. turn) c.args.self.now c.make_rounds.new.self c.args.controllers.now c.make_rounds.new.controllers
+    (first_leads g.C.ControlLoop.reconciler g.C.ControlLoop.phase g.C.ControlLoop.is_waiting all_rounds None (λ delivered. turn) c.args.self.now c.make_rounds.new.self c.args.controllers.now c.make_rounds.new.controllers
     (comes_as g.C.ControlLoop.reconciler g.C.ControlLoop.phase g.C.ControlLoop.is_waiting (IsShownAs g.C.ControlLoop.reconciler g.C.ControlLoop.phase g.C.ControlLoop.is_waiting c.make_rounds.new.self c.make_rounds.new.controllers) all_rounds (rounds_of (range_with_len 0 (length c.args.controllers.now))) nothing c.args.self.now c.args.controllers.now (λ z reconcilers k shows. refl) c.in_ok-make_rounds.ensures.leads)))
     c.make_turn.ensures.leads
 
@@ -33,6 +33,6 @@ returns-clause-halts g c =
     let turn = kubelet_turn c.args.kubelet c.args.namespaces.now in
     IfErr-weaker c.make_turn.result _ _
     (λ fault. halts_on g.C.ControlLoop.reconciler g.C.ControlLoop.phase g.C.ControlLoop.is_waiting fault (settled_once c.args.kubelet c.args.namespaces.now) turn c.args.self.now c.make_rounds.new.self c.args.controllers.now c.make_rounds.new.controllers c.make_turn.new.controllers c.in_ok-make_rounds.ensures.many
-    (first_leads g.C.ControlLoop.reconciler g.C.ControlLoop.phase g.C.ControlLoop.is_waiting all_rounds None (λ told. turn) c.args.self.now c.make_rounds.new.self c.args.controllers.now c.make_rounds.new.controllers
+    (first_leads g.C.ControlLoop.reconciler g.C.ControlLoop.phase g.C.ControlLoop.is_waiting all_rounds None (λ delivered. turn) c.args.self.now c.make_rounds.new.self c.args.controllers.now c.make_rounds.new.controllers
     (comes_as g.C.ControlLoop.reconciler g.C.ControlLoop.phase g.C.ControlLoop.is_waiting (IsShownAs g.C.ControlLoop.reconciler g.C.ControlLoop.phase g.C.ControlLoop.is_waiting c.make_rounds.new.self c.make_rounds.new.controllers) all_rounds (rounds_of (range_with_len 0 (length c.args.controllers.now))) nothing c.args.self.now c.args.controllers.now (λ z reconcilers k shows. refl) c.in_ok-make_rounds.ensures.leads)))
     c.make_turn.ensures.halts

@@ -20,7 +20,7 @@ returns-in_err-happen-in-Event-clause-halts g c =
 
 pub returns-in-Run-clause-leads : goal.returns-in-Run-clause-leads
 returns-in-Run-clause-leads g c =
-    subst (λ t. IfOk c.run.result (λ told. Leads g.C.ControlLoop.reconciler g.C.ControlLoop.phase g.C.ControlLoop.is_waiting (course_of c.args.namespaces.now t) (ends_with told) c.args.self.now c.run.new.self c.args.controllers.now c.run.new.controllers)) (sym c.in-Run.is) c.run.ensures.leads
+    subst (λ t. IfOk c.run.result (λ delivered. Leads g.C.ControlLoop.reconciler g.C.ControlLoop.phase g.C.ControlLoop.is_waiting (course_of c.args.namespaces.now t) (ends_with delivered) c.args.self.now c.run.new.self c.args.controllers.now c.run.new.controllers)) (sym c.in-Run.is) c.run.ensures.leads
 
 pub returns-in-Run-clause-halts : goal.returns-in-Run-clause-halts
 returns-in-Run-clause-halts g c =

@@ -10,7 +10,7 @@ returns-in_err-reply-clause-memory c = on_err _ _ (stays_same c.args.self.now)
 pub returns-in-Some-clause-done : goal.returns-in-Some-clause-done
 returns-in-Some-clause-done c =
     let m = c.args.self.now in
-    on_ok_by _ _ c.give.result (λ tells. reply_done m c.args.caller c.give.new.self c.in-Some.reply (subst (λ d. IsDue c.args.caller d m) c.in-Some.is c.in_ok-reply.ensures) tells) c.give.ensures.told
+    on_ok_by _ _ c.give.result (λ tells. reply_done m c.args.caller c.give.new.self c.in-Some.reply (subst (λ d. IsDue c.args.caller d m) c.in-Some.is c.in_ok-reply.ensures) tells) c.give.ensures.delivered
 
 pub returns-in-None-clause-done : goal.returns-in-None-clause-done
 returns-in-None-clause-done c =

@@ -6,7 +6,7 @@ use Rattle.history.specs.declared.replay_error.ReplayError.TheVariants.{TooManyC
 use Rattle.history.proofs.Naming.{named_more}
 use Rattle.history.proofs.Pieces.{on_err, stays_same}
 use Rattle.history.proofs.Reached.{run_stands, run_steps}
-use Rattle.history.proofs.Replays.{after_next, after_still, answer_told, names_next}
+use Rattle.history.proofs.Replays.{after_next, after_still, answer_is_reply, names_next}
 use Rattle.history.proofs.replaying.Replay.step.Goals as goal
 
 pub note-requires : goal.note-requires
@@ -44,14 +44,14 @@ returns-in-Ok-clause-done c = λ size events after.
     after_next size events c.args.event.now c.self.inside.machine c.step.new.self c.self.inside.names c.note.new.self (subst (IsAfter size events) (sym c.self.view_is) after)
     c.in-Ok.ensures.done c.in-Ok.ensures.count c.in_ok-newly.ensures.noted c.in_ok-newly.ensures.few
 
-pub returns-in-Ok-clause-told : goal.returns-in-Ok-clause-told
+pub returns-in-Ok-clause-delivered : goal.returns-in-Ok-clause-delivered
 unfolding IsAfter
-returns-in-Ok-clause-told c = λ size events after.
+returns-in-Ok-clause-delivered c = λ size events after.
     let m = c.self.inside.machine in
     let n = c.step.new.self in
     let e = c.args.event.now in
     let old = subst (IsAfter size events) (sym c.self.view_is) after in
-    answer_told size events m n e c.in-Ok.reply old.0 (run_steps size events e m n old.0 c.in-Ok.ensures.done c.in-Ok.ensures.count) c.in-Ok.ensures.told
+    answer_is_reply size events m n e c.in-Ok.reply old.0 (run_steps size events e m n old.0 c.in-Ok.ensures.done c.in-Ok.ensures.count) c.in-Ok.ensures.delivered
 
 pub returns-in-Ok-clause-count : goal.returns-in-Ok-clause-count
 unfolding taken

@@ -3,4 +3,4 @@ use Rattle.order_check.proofs.same.Comparer.are_packed.Given as goal
 
 -- the objects so far are equal, so what is left tells
 abbrev pub invariant-loop-i : goal.invariant-loop-i
-invariant-loop-i l = (drop l.i l.given ≡ map (λ o. o.now) (drop l.i l.stored)) ↔ (l.given ≡ map (λ o. o.now) l.stored)
+invariant-loop-i l = (drop l.i l.recorded ≡ map (λ o. o.now) (drop l.i l.stored)) ↔ (l.recorded ≡ map (λ o. o.now) l.stored)

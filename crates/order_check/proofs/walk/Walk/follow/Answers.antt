@@ -1,7 +1,7 @@
 use Rattle.std.proofs.Common.{◌∙◌, sym, subst}
 use Rattle.std.proofs.lemmas.List.{drop_all, drop_more}
 use Rattle.order_check.specs.Following.{Follows, IsRest, standing}
-use Rattle.order_check.proofs.Followed.{may_take, no_marks, none_due, rest_after}
+use Rattle.order_check.proofs.Followed.{may_take, no_entries, none_due, rest_after}
 use Rattle.order_check.proofs.walk.Walk.follow.Goals as goal
 
 pub loop-place-preserved : goal.loop-place-preserved
@@ -29,4 +29,4 @@ returns-clause-complete c = λ requests h.
     let here = standing c.loop-place.self in
     let none = drop_all c.loop-place.place-index c.args.order.now c.loop-place-test.false in
     let left = c.loop-place.invariant.rest requests h in
-    c.is_empty.ensures.1 (no_marks c.loop-place.self.answers (none_due c.args.items.now here left.0 (subst (λ ps. IsRest c.args.items.now here ps left.0) none left.1)))
+    c.is_empty.ensures.1 (no_entries c.loop-place.self.answers (none_due c.args.items.now here left.0 (subst (λ ps. IsRest c.args.items.now here ps left.0) none left.1)))

@@ -1,6 +1,6 @@
 use Rattle.std.proofs.Common.{arith, rules, subst, sym}
 use Rattle.plain_store.specs.Store.{step}
-use Rattle.order_check.specs.Following.{IsCalled, IsTold}
+use Rattle.order_check.specs.Following.{IsCalled, IsAnswered}
 use Rattle.order_check.proofs.walk.Walk.take.Goals as goal
 
 pub returns-in_default-called_at-clause-complete : goal.returns-in_default-called_at-clause-complete
@@ -14,14 +14,14 @@ returns-clause-takes c = λ yes.
     let place = c.args.place in
     let request = c.in-Some-called_at.request.now in
     let old = c.args.self.now in
-    let heard = c.in_ok-told.ensures in
+    let heard = c.in_ok-answer_fits.ensures in
     let largest = c.max-self.ensures in
     let same = heard.stays.2 in
     record {
       may = record {
         request = request;
         called = subst (λ m. IsCalled items m place request) c.in-Some.ensures.value c.in-Some-called_at.ensures.called;
-        told = subst (λ m. IsTold items m old.latest (step old.store request).1) c.remove-answer.ensures.value (heard.told.0 yes);
+        answer_fits = subst (λ m. IsAnswered items m old.latest (step old.store request).1) c.remove-answer.ensures.value (heard.answer_fits.0 yes);
       };
       stepped = heard.stepped;
       calls = search rules;

@@ -4,7 +4,7 @@ ghost use Rattle.serde_json.specs.Data.{no_members, put};
 ghost use Rattle.objects.specs.Tree.{data_of};
 ghost use Rattle.objects.specs.declared.kind.Kind.TheVariants.{StatefulSet};
 ghost use Rattle.objects.specs.Key.{key_parts};
-ghost use Rattle.race_log.specs.Raced.{creates_set, namespace_raced, set_raced, spec_raced};
+ghost use Rattle.race_log.specs.RaceSet.{creates_set, set_namespace, set_name, set_spec};
 
 use objects::{Draft, Key, Kind, Members, Memory, Object, Text, Tree};
 use requests::Request;
@@ -18,7 +18,7 @@ pub const SET: &str = "web";
 
 #[tactic(auto, unfolding(objects::specs::Names::is_dns_label))]
 fn key(alloc: Global) -> Result<Key, AllocError>
-    ensures { IfOk result (λ key. key ≡ key_parts StatefulSet namespace_raced set_raced) }
+    ensures { IfOk result (λ key. key ≡ key_parts StatefulSet set_namespace set_name) }
 {
     let namespace = Text::copy_of(alloc, NAMESPACE)?;
     let name = Text::copy_of(alloc, SET)?;
@@ -30,7 +30,7 @@ fn key(alloc: Global) -> Result<Key, AllocError>
 }
 
 fn spec(alloc: Global, replicas: u64) -> Result<Tree, AllocError>
-    ensures { IfOk result (λ spec. data_of spec ≡ spec_raced replicas) }
+    ensures { IfOk result (λ spec. data_of spec ≡ set_spec replicas) }
 {
     let template = Members::none(alloc)?;
     let counted = Members::none(alloc)?.with_number("replicas", replicas)?;
@@ -40,7 +40,7 @@ fn spec(alloc: Global, replicas: u64) -> Result<Tree, AllocError>
 
 /// The members of the set.
 fn members(alloc: Global, replicas: u64) -> Result<Members, AllocError>
-    ensures { IfOk result (λ members. members ≡ put (codes "spec") (spec_raced replicas) no_members) }
+    ensures { IfOk result (λ members. members ≡ put (codes "spec") (set_spec replicas) no_members) }
 {
     let spec = spec(alloc, replicas)?;
     Members::none(alloc)?.with("spec", Some(spec))

@@ -1,5 +1,5 @@
 use Rattle.rounds.proofs.Entries.{follows_first, follows_last}
-use Rattle.rounds.proofs.laws.lives_may_end_anywhere.Goals as goal
+use Rattle.rounds.proofs.laws.incarnations_may_end_anywhere.Goals as goal
 
 pub returns-clause-cut : goal.returns-clause-cut
 returns-clause-cut c = follows_first

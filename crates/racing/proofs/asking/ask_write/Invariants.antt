@@ -1,5 +1,5 @@
 use Rattle.std.proofs.Common.{◌≡◌}
-use Rattle.racing.proofs.asking.written.Given as goal
+use Rattle.racing.proofs.asking.ask_write.Given as goal
 
 -- the ticket is that of the request
 abbrev pub invariant-loop : goal.invariant-loop

@@ -2,7 +2,7 @@ use denote.Param.{param}
 use denote.Param.Send.{IsSync, sendable}
 use Rattle.std.proofs.Crossing.{crosses}
 use Rattle.racing.proofs.Sent.{Log-send}
-use Rattle.store_tests.proofs.crowds.assert_told.Goals as goal
+use Rattle.store_tests.proofs.crowds.assert_replies_are_legal.Goals as goal
 
 -- the store and the handle by their bounds, and the log by what it holds
 pub map_indices-requires-sync-F : goal.map_indices-requires-sync-F

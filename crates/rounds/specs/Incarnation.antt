@@ -1,4 +1,4 @@
--- A life of a controller: what it asks and is answered from its start, or from a crash, to its next crash.
+-- An incarnation of a controller: what it asks and is answered from its start, or from a crash, to its next crash.
 use Rattle.std.specs.Prelude.{◌≡◌, List, [], ◌∷◌, ⊤}
 use Rattle.rounds.specs.Phase.{Phase, asks, takes}
 use Rattle.rounds.specs.Reconciler.{Reconciler}

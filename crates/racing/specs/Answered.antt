@@ -18,7 +18,7 @@ reads_now _ = false
 -- The caller has seen a history of at least that length. The reply to an accepted write is the plain store's as its last
 -- request; that to any other one, and that to a read of now, is the plain store's behind it. Of a list of the past and of a
 -- compaction no more is said than that there is a history.
-pub record IsGiven (capacity : ℕ) (request : Request) (reply : Reply) (number : ℕ) : Type 0 where
+pub record IsAnswered (capacity : ℕ) (request : Request) (reply : Reply) (number : ℕ) : Type 0 where
   pub seen : List Writing
   pub history : IsHistory capacity (take number seen)
   pub long : length (take number seen) ≡ number
