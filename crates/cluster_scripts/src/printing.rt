@@ -10,7 +10,7 @@ use cluster_runs::ClusterRun;
 use interleavings::Item;
 use json::Writer;
 use objects::Memory;
-use plain::{Request, end_line, write_whole_member};
+use plain::{Request, end_line, write_integer_member};
 use replay_lines::{put_order, put_reply};
 use std::alloc::{AllocError, Global};
 use std::collections::BTreeMap;
@@ -124,7 +124,7 @@ fn write_caller(
     ensures tokens { OnOk result (out.new.tokens ≡ out.old.tokens ++ caller_tokens place caller controller) }
     ensures before { out.new.before ≡ out.old.before }
 {
-    write_whole_member("at", place, out)?;
-    write_whole_member("caller", caller, out)?;
-    write_whole_member("controller", controller as u64, out)
+    write_integer_member("at", place, out)?;
+    write_integer_member("caller", caller, out)?;
+    write_integer_member("controller", controller as u64, out)
 }

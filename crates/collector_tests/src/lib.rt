@@ -3,8 +3,8 @@
 #![tactic(auto)]
 
 #[cfg(test)]
-mod collections;
+mod allocation_failures;
 #[cfg(test)]
-mod growths;
+mod collections;
 #[cfg(test)]
 mod texts;

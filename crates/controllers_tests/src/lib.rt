@@ -3,9 +3,9 @@
 #![tactic(auto)]
 
 #[cfg(test)]
-mod checks;
+mod allocation_failures;
 #[cfg(test)]
-mod growths;
+mod checks;
 #[cfg(test)]
 mod old_plans;
 #[cfg(test)]

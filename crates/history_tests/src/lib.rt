@@ -3,13 +3,13 @@
 #![tactic(auto)]
 
 #[cfg(test)]
+mod allocation_failures;
+#[cfg(test)]
 mod beside;
 #[cfg(test)]
 mod chance;
 #[cfg(test)]
 mod crashes;
-#[cfg(test)]
-mod growths;
 #[cfg(test)]
 mod legal_orders;
 #[cfg(test)]

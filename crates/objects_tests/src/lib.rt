@@ -3,11 +3,11 @@
 #![tactic(auto)]
 
 #[cfg(test)]
+mod allocation_failures;
+#[cfg(test)]
 mod asserts;
 #[cfg(test)]
 mod drafts;
-#[cfg(test)]
-mod growths;
 #[cfg(test)]
 mod keys;
 #[cfg(test)]

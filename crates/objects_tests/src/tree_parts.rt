@@ -1,6 +1,6 @@
 //! Trees and their parts: found, taken, made, copied and compared.
 use crate::asserts::{assert_so, read_members};
-use objects::{Items, Members, ReadError, Text, Tree, Integer, read_tree};
+use objects::{Integer, Items, Members, ReadError, Text, Tree, read_tree};
 use std::alloc::{AllocError, Global};
 use std::cmp::Ordering;
 

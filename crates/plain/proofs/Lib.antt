@@ -1,7 +1,7 @@
 pub mod Readings
 pub mod Written
 pub mod CompactGets
-pub mod LineCuts
+pub mod LineSplits
 pub mod Flows
 pub mod Servings
 pub mod RunsOfLines

@@ -5,8 +5,8 @@ use Rattle.std.specs.Result.{OnErr}
 use Rattle.plain_store.specs.Store.{Store}
 use Rattle.plain.specs.Lines.{ended_lines, lines}
 use Rattle.plain.specs.Served.{answers}
-use Rattle.plain.specs.Cuts.{NoFeed, LeadsTo}
-use Rattle.plain.proofs.LineCuts.{ended-none}
+use Rattle.plain.specs.Splits.{NoFeed, LeadsTo}
+use Rattle.plain.proofs.LineSplits.{ended-none}
 use Rattle.plain.specs.Streams.{Takes, Puts, PutsPart, ServesEnded, ServesPart}
 use Rattle.plain.specs.Serving.{Answered, Serving}
 use Rattle.plain.specs.declared.server.ServeFault.{ServeFault}

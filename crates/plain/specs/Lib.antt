@@ -11,7 +11,7 @@ pub mod ValueLines
 pub mod Verbs
 -- ---- what only proofs use
 pub mod CompactGets
-pub mod Cuts
+pub mod Splits
 pub mod Serving
 -- ---- of the crates below
 pub use Rattle.plain_store.specs.AtKey

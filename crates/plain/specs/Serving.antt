@@ -1,7 +1,7 @@
 -- A serving, from what the reader and the writer had to what they have.
 use Rattle.std.specs.Prelude.{ℕ, List, [], Option}
 use Rattle.plain_store.specs.Store.{Store}
-use Rattle.plain.specs.Cuts.{LeadsTo}
+use Rattle.plain.specs.Splits.{LeadsTo}
 use Rattle.plain.specs.Streams.{Takes, Puts}
 
 -- The replies to these bytes were written, but for what is kept: from a store, bytes and a count of lines, and what the

@@ -13,7 +13,7 @@ pub use devices::slices::SliceSource;
 pub use devices::stream::{Sink, Source, write_all};
 pub use devices::wrappers::{ReadSource, WriteSink};
 pub use laws::lines_are_one_run;
-pub use lines::members::{end_line, write_object_member, write_text_member, write_whole_member};
+pub use lines::members::{end_line, write_integer_member, write_object_member, write_text_member};
 pub use lines::reply_value::write_reply;
 pub use lines::request_error::RequestError;
 pub use lines::request_line::{read_request, request_in};
@@ -21,7 +21,7 @@ pub use lines::split::split_line;
 pub use plain_store::{
     Api, ApiFault, MAX_REVISIONS, Plain, PlainError, PrintedReply, StoredReply,
     capacity_bounds_the_counter, compactions_give_up_the_past_alone, deletes_spare_other_uids,
-    deletes_take_what_is_there, generation_rises_with_spec, lists_are_whole,
+    deletes_take_what_is_there, generation_rises_with_spec, lists_are_complete,
     lists_of_one_version_are_equal, names_live_once, objects_stand_under_their_keys,
     old_objects_were_there, only_the_status_request_changes_status,
     only_what_was_compacted_expires, only_writes_and_compactions_change_the_store, past_stays,

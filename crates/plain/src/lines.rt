@@ -2,11 +2,11 @@
 
 mod answer;
 mod compact_get;
-pub(crate) mod cutter;
 pub(crate) mod members;
 mod reply_line;
 pub(crate) mod reply_value;
 pub(crate) mod request_error;
 pub(crate) mod request_line;
 pub(crate) mod split;
+pub(crate) mod splitter;
 mod verb;

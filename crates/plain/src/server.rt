@@ -2,7 +2,7 @@ ghost use Rattle.std.specs.Prelude.{◌≡◌, ◌+◌, ◌<◌, ◌≤◌, ◌^
 ghost use Rattle.plain_store.specs.Store.{opening};
 ghost use Rattle.plain.specs.Lines.{ended_lines, lines};
 ghost use Rattle.plain.specs.Served.{served, served_so_far, answers};
-ghost use Rattle.plain.specs.Cuts.{NoFeed, LeadsTo};
+ghost use Rattle.plain.specs.Splits.{NoFeed, LeadsTo};
 ghost use Rattle.plain.specs.Streams.{Takes, Puts, PutsPart, ServesEnded, ServesPart};
 ghost use Rattle.plain.specs.Serving.{Answered};
 ghost use Rattle.plain.specs.Faults.{CountsReads, CountsWrites, IsWriteOrMemory, IsInRange};
@@ -10,7 +10,7 @@ ghost use Rattle.plain_store.specs.Reached.{most_revisions};
 ghost use Rattle.plain.specs.declared.server.ServeFault.TheVariants.{Memory as OutOfMemory, BadCapacity as CapacityOut};
 
 use crate::devices::stream::{Sink, Source, write_all};
-use crate::lines::cutter::{Cutter, Paused, answer_last, answer_piece};
+use crate::lines::splitter::{Paused, Splitter, answer_last, answer_piece};
 use objects::{Memory, TreeReader};
 use plain_store::{Plain, PlainError};
 use std::alloc::{AllocError, Global};
@@ -67,27 +67,27 @@ fn answer_some<'a, W: Sink>(
     alloc: Global,
     plain: &mut Plain,
     writer: &mut W,
-    cutter: Cutter,
+    splitter: Splitter,
     piece: &'a [u8],
 ) -> Result<Paused<'a>, ServeFault>
-    requires begun { NoFeed cutter.pending.items }
-    requires room { cutter.lines + length cutter.pending.items + length piece.now < 2 ^ 64 }
-    requires written { cutter.replies.items ≡ [] }
-    ensures reaches { IfOk result (λ v. Answered plain.old (cutter.pending.items ++ piece.now) cutter.lines (W.written writer.old)
-        plain.new (v.cutter.pending.items ++ v.rest.now) v.cutter.lines (W.written writer.new)) }
-    ensures begun { IfOk result (λ v. NoFeed v.cutter.pending.items) }
+    requires begun { NoFeed splitter.pending.items }
+    requires room { splitter.lines + length splitter.pending.items + length piece.now < 2 ^ 64 }
+    requires written { splitter.replies.items ≡ [] }
+    ensures reaches { IfOk result (λ v. Answered plain.old (splitter.pending.items ++ piece.now) splitter.lines (W.written writer.old)
+        plain.new (v.splitter.pending.items ++ v.rest.now) v.splitter.lines (W.written writer.new)) }
+    ensures begun { IfOk result (λ v. NoFeed v.splitter.pending.items) }
     ensures count { IfOk result (λ v.
-        v.cutter.lines + length v.cutter.pending.items + length v.rest.now ≤ cutter.lines + length cutter.pending.items + length piece.now) }
+        v.splitter.lines + length v.splitter.pending.items + length v.rest.now ≤ splitter.lines + length splitter.pending.items + length piece.now) }
     ensures shorter { IfOk result (λ v. 0 < length piece.now → length v.rest.now < length piece.now) }
-    ensures written { IfOk result (λ v. v.cutter.replies.items ≡ []) }
+    ensures written { IfOk result (λ v. v.splitter.replies.items ≡ []) }
     ensures fault { OnErr result (PutsPart (W.written writer.old)
-        (answers plain.old (ended_lines (cutter.pending.items ++ piece.now))) (W.written writer.new)) }
+        (answers plain.old (ended_lines (splitter.pending.items ++ piece.now))) (W.written writer.new)) }
     ensures writes { CountsWrites result (W.failures writer.old) (W.failures writer.new) }
     ensures cause { IsWriteOrMemory result }
 {
-    let mut paused = answer_piece(alloc, plain, cutter, piece)?;
-    write_all(writer, paused.cutter.replies.as_slice()).ok_or(ServeFault::Write)?;
-    paused.cutter.replies.clear();
+    let mut paused = answer_piece(alloc, plain, splitter, piece)?;
+    write_all(writer, paused.splitter.replies.as_slice()).ok_or(ServeFault::Write)?;
+    paused.splitter.replies.clear();
     Ok(paused)
 }
 
@@ -96,29 +96,29 @@ fn answer_read<W: Sink>(
     alloc: Global,
     plain: &mut Plain,
     writer: &mut W,
-    mut cutter: Cutter,
+    mut splitter: Splitter,
     piece: &[u8],
-) -> Result<Cutter, ServeFault>
-    requires begun { NoFeed cutter.pending.items }
-    requires room { cutter.lines + length cutter.pending.items + length piece.now < 2 ^ 64 }
-    requires written { cutter.replies.items ≡ [] }
-    ensures reaches { IfOk result (λ v. Answered plain.old (cutter.pending.items ++ piece.now) cutter.lines (W.written writer.old)
+) -> Result<Splitter, ServeFault>
+    requires begun { NoFeed splitter.pending.items }
+    requires room { splitter.lines + length splitter.pending.items + length piece.now < 2 ^ 64 }
+    requires written { splitter.replies.items ≡ [] }
+    ensures reaches { IfOk result (λ v. Answered plain.old (splitter.pending.items ++ piece.now) splitter.lines (W.written writer.old)
         plain.new v.pending.items v.lines (W.written writer.new)) }
     ensures begun { IfOk result (λ v. NoFeed v.pending.items) }
-    ensures count { IfOk result (λ v. v.lines + length v.pending.items ≤ cutter.lines + length cutter.pending.items + length piece.now) }
+    ensures count { IfOk result (λ v. v.lines + length v.pending.items ≤ splitter.lines + length splitter.pending.items + length piece.now) }
     ensures written { IfOk result (λ v. v.replies.items ≡ []) }
     ensures fault { OnErr result (PutsPart (W.written writer.old)
-        (answers plain.old (ended_lines (cutter.pending.items ++ piece.now))) (W.written writer.new)) }
+        (answers plain.old (ended_lines (splitter.pending.items ++ piece.now))) (W.written writer.new)) }
     ensures writes { CountsWrites result (W.failures writer.old) (W.failures writer.new) }
     ensures cause { IsWriteOrMemory result }
 {
     let mut rest = piece;
     while !rest.is_empty() {
-        let paused = answer_some(alloc, plain, writer, cutter, rest)?;
-        cutter = paused.cutter;
+        let paused = answer_some(alloc, plain, writer, splitter, rest)?;
+        splitter = paused.splitter;
         rest = paused.rest;
     }
-    Ok(cutter)
+    Ok(splitter)
 }
 
 /// Answers the last line, if its line feed has not come, and writes the reply. Answers how many lines there were.
@@ -126,20 +126,20 @@ fn answer_rest<W: Sink>(
     alloc: Global,
     plain: &mut Plain,
     writer: &mut W,
-    cutter: Cutter,
+    splitter: Splitter,
 ) -> Result<u64, ServeFault>
-    requires begun { NoFeed cutter.pending.items }
-    requires room { cutter.lines + length cutter.pending.items < 2 ^ 64 }
-    requires written { cutter.replies.items ≡ [] }
-    ensures text { OnOk result (Puts (W.written writer.old) (answers plain.old (lines cutter.pending.items)) (W.written writer.new)) }
-    ensures count { IfOk result (λ n. n ≡ cutter.lines + length (lines cutter.pending.items)) }
-    ensures fault { OnErr result (PutsPart (W.written writer.old) (answers plain.old (lines cutter.pending.items)) (W.written writer.new)) }
+    requires begun { NoFeed splitter.pending.items }
+    requires room { splitter.lines + length splitter.pending.items < 2 ^ 64 }
+    requires written { splitter.replies.items ≡ [] }
+    ensures text { OnOk result (Puts (W.written writer.old) (answers plain.old (lines splitter.pending.items)) (W.written writer.new)) }
+    ensures count { IfOk result (λ n. n ≡ splitter.lines + length (lines splitter.pending.items)) }
+    ensures fault { OnErr result (PutsPart (W.written writer.old) (answers plain.old (lines splitter.pending.items)) (W.written writer.new)) }
     ensures writes { CountsWrites result (W.failures writer.old) (W.failures writer.new) }
     ensures cause { IsWriteOrMemory result }
 {
-    let cutter = answer_last(alloc, plain, cutter)?;
-    write_all(writer, cutter.replies.as_slice()).ok_or(ServeFault::Write)?;
-    Ok(cutter.lines)
+    let splitter = answer_last(alloc, plain, splitter)?;
+    write_all(writer, splitter.replies.as_slice()).ok_or(ServeFault::Write)?;
+    Ok(splitter.lines)
 }
 
 /// Answers the lines of the reader's bytes from this store, with this room for one read.
@@ -163,7 +163,7 @@ fn serve_store<R: Source, W: Sink>(
     ensures writes { CountsWrites result (W.failures writer.old) (W.failures writer.new) }
     ensures cause { IsInRange result }
 {
-    let mut cutter = Cutter {
+    let mut splitter = Splitter {
         reader: Box::new(alloc, TreeReader::new(alloc)).map_err(AllocError::from)?,
         pending: Vec::new(alloc),
         replies: Vec::new(alloc),
@@ -172,16 +172,16 @@ fn serve_store<R: Source, W: Sink>(
     'reads: loop {
         let Some(count) = reader.read(room) else {
             // It goes by `drop`, here and below: that is proved once for a type, not for each of its parts.
-            drop(cutter);
+            drop(splitter);
             return Err(ServeFault::Read);
         };
         // 0 is the end of the input.
         if count == 0 {
             break;
         }
-        cutter = answer_read(alloc, plain, writer, cutter, &room[..count])?;
+        splitter = answer_read(alloc, plain, writer, splitter, &room[..count])?;
     }
-    answer_rest(alloc, plain, writer, cutter)
+    answer_rest(alloc, plain, writer, splitter)
 }
 
 /// Answers each line of the reader's bytes with a line to the writer, as the plain store with room for `capacity`

@@ -12,9 +12,9 @@ pub mod OneKey
 pub mod Verdicts
 pub mod FoundEntries
 pub mod KeptUids
-pub mod ToldLives
+pub mod EventLives
 pub mod StatusKept
 pub mod Generations
 pub mod StaleVersions
 pub mod TakenObjects
-pub mod WholeLists
+pub mod CompleteLists

@@ -63,12 +63,12 @@ step_elsewhere s r q other = by (route r) refl
     by (compacts n) is = ap (λ m. map.get m q) (objects_stay s n (denied s.floor s.counter n))
 
 -- a delete that names another UID than the object's
-pub spared : (s : Store) (k : Key) (given version at : Option (List ℕ)) (uid : List ℕ) (current : Object)
-    → map.get s.objects k ≡ Some current → nonempty given ≡ Some uid → bytes_eq uid (uid_text current.meta.uid) ≡ false → step s (Delete k given version at) ≡ (s, Refused Conflict)
+pub spared : (s : Store) (k : Key) (precondition version at : Option (List ℕ)) (uid : List ℕ) (current : Object)
+    → map.get s.objects k ≡ Some current → nonempty precondition ≡ Some uid → bytes_eq uid (uid_text current.meta.uid) ≡ false → step s (Delete k precondition version at) ≡ (s, Refused Conflict)
 unfolding step route
-spared s k given version at uid current there is other =
+spared s k precondition version at uid current there is other =
     let old = differs version (decimal current.meta.revision) in
     let then : Bool → Verdict = λ b. cond b (Refuse Conflict) (deleted (graceful current.key.kind at) current) in
-    ap (λ o. carried_out s k (on_delete version given at o)) there
+    ap (λ o. carried_out s k (on_delete version precondition at o)) there
     ∙ ap (λ g. carried_out s k (then (old || option_map_or (λ t. not (bytes_eq t (uid_text current.meta.uid))) g false))) is
     ∙ ap (λ b. carried_out s k (then (old || not b))) other ∙ ap (λ b. carried_out s k (then b)) (or-true old)

@@ -22,8 +22,8 @@ no true other = absurd (other refl)
 no false other = refl
 
 -- another version than the object's is a conflict
-stale : (given uid : Option (List ℕ)) (version : List ℕ) (o : Object) → nonempty given ≡ Some version → version ≢ decimal o.meta.revision → conflicts given uid o ≡ true
-stale given uid version o is other =
+stale : (precondition uid : Option (List ℕ)) (version : List ℕ) (o : Object) → nonempty precondition ≡ Some version → version ≢ decimal o.meta.revision → conflicts precondition uid o ≡ true
+stale precondition uid version o is other =
     let unequal = no (bytes_eq version (decimal o.meta.revision)) (λ tie. other ((bytes_eq-Decides version (decimal o.meta.revision)).0 tie)) in
     ap (λ g. option_map_or (λ t. not (bytes_eq t (decimal o.meta.revision))) g false || differs uid (uid_text o.meta.uid)) is ∙ ap (λ b. not b || differs uid (uid_text o.meta.uid)) unequal
 
@@ -48,9 +48,9 @@ stale_status s d version o there is other =
     by_kind s d.object.key (has_status d.object.key.kind) (on_status_of d (map.get s.objects d.object.key))
     (ap (on_status_of d) there ∙ refused_by (conflicts d.version d.uid o) (status_unless_same o d) (stale d.version d.uid version o is other))
 
-pub stale_delete : (s : Store) (k : Key) (uid given at : Option (List ℕ)) (version : List ℕ) (o : Object) → Has s k o → nonempty given ≡ Some version → version ≢ decimal o.meta.revision
-    → step s (Delete k uid given at) ≡ (s, Refused Conflict)
+pub stale_delete : (s : Store) (k : Key) (uid precondition at : Option (List ℕ)) (version : List ℕ) (o : Object) → Has s k o → nonempty precondition ≡ Some version → version ≢ decimal o.meta.revision
+    → step s (Delete k uid precondition at) ≡ (s, Refused Conflict)
 unfolding step route
-stale_delete s k uid given at version o there is other =
-    ap (λ x. carried_out s k (on_delete given uid at x)) there
-    ∙ ap (carried_out s k) (refused_by (conflicts given uid o) (deleted (graceful o.key.kind at) o) (stale given uid version o is other))
+stale_delete s k uid precondition at version o there is other =
+    ap (λ x. carried_out s k (on_delete precondition uid at x)) there
+    ∙ ap (carried_out s k) (refused_by (conflicts precondition uid o) (deleted (graceful o.key.kind at) o) (stale precondition uid version o is other))

@@ -10,29 +10,29 @@ use Rattle.requests.specs.declared.reply.Reply.{Reply}
 use Rattle.requests.specs.declared.reply.Reply.TheVariants.{Created, Found, Listed, Updated, Unchanged, Marked, Removed, Compacted, Refused}
 use Rattle.plain_store.specs.Route.{Route, compacts, gets, lists, lists_at, route, writes}
 
--- what is told of an object: that its life begins with it as it is here, that it is written anew or read, that it ends
+-- what a reply says of an object: that its life begins with it as it is here, that it is written anew or read, that it ends
 pub data Event : Type 0 where
   begins : Object → Event
   changes : Object → Event
   lasts : Object → Event
   ends : Object → Event
 
--- what a reply of now tells: a list tells of each of its objects
-abbrev pub said : Reply → List Event
-said (Created o) = begins o ∷ []
-said (Updated o) = changes o ∷ []
-said (Marked o) = changes o ∷ []
-said (Found o) = lasts o ∷ []
-said (Unchanged o) = lasts o ∷ []
-said (Removed o) = ends o ∷ []
-said (Listed os revision) = map lasts os
-said (Compacted revision) = []
-said (Refused reason) = []
+-- the events of a reply of now: a list has one for each of its objects
+abbrev pub reply_events : Reply → List Event
+reply_events (Created o) = begins o ∷ []
+reply_events (Updated o) = changes o ∷ []
+reply_events (Marked o) = changes o ∷ []
+reply_events (Found o) = lasts o ∷ []
+reply_events (Unchanged o) = lasts o ∷ []
+reply_events (Removed o) = ends o ∷ []
+reply_events (Listed os revision) = map lasts os
+reply_events (Compacted revision) = []
+reply_events (Refused reason) = []
 
 abbrev pub events_by : Route → Reply → List Event
-events_by (gets key) reply = said reply
-events_by (lists kind namespace) reply = said reply
-events_by (writes key) reply = said reply
+events_by (gets key) reply = reply_events reply
+events_by (lists kind namespace) reply = reply_events reply
+events_by (writes key) reply = reply_events reply
 events_by (lists_at kind namespace number) reply = []
 events_by (compacts to) reply = []
 
@@ -40,15 +40,15 @@ events_by (compacts to) reply = []
 abbrev pub events : Request × Reply → List Event
 events e = events_by (route e.0) e.1
 
-abbrev pub tells_of : Key → Event → Bool
-tells_of key (begins o) = eq_by_cmp key_cmp key o.key
-tells_of key (changes o) = eq_by_cmp key_cmp key o.key
-tells_of key (lasts o) = eq_by_cmp key_cmp key o.key
-tells_of key (ends o) = eq_by_cmp key_cmp key o.key
+abbrev pub is_about : Key → Event → Bool
+is_about key (begins o) = eq_by_cmp key_cmp key o.key
+is_about key (changes o) = eq_by_cmp key_cmp key o.key
+is_about key (lasts o) = eq_by_cmp key_cmp key o.key
+is_about key (ends o) = eq_by_cmp key_cmp key o.key
 
 -- what they tell of the objects of that key, in order
 abbrev pub events_of : Key → List (Request × Reply) → List Event
-events_of key es = filter (tells_of key) (flat_map events es)
+events_of key es = filter (is_about key) (flat_map events es)
 
 -- there is an object, and it has this one's UID
 abbrev pub HasUidOf : Object → Option Object → Type 0

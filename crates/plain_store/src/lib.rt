@@ -3,10 +3,10 @@
 
 mod api;
 mod laws;
+mod object_reply;
 mod printed_reply;
 mod store;
 mod stored_reply;
-mod whole_reply;
 
 pub use api::{Api, ApiFault};
 pub use laws::changes::{
@@ -17,7 +17,7 @@ pub use laws::lifetimes::{
     names_live_once, objects_stand_under_their_keys, old_objects_were_there, uids_name_one_key,
     uids_stay,
 };
-pub use laws::lists::lists_are_whole;
+pub use laws::lists::lists_are_complete;
 pub use laws::past::{
     compactions_give_up_the_past_alone, lists_of_one_version_are_equal,
     only_what_was_compacted_expires, past_stays,

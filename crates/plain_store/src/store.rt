@@ -5,10 +5,10 @@ ghost use Rattle.plain_store.specs.PrintedReplies.{reply_stored};
 ghost use Rattle.requests.specs.Verdict.{is_write};
 ghost use Rattle.requests.specs.declared.request.Request.TheVariants.{Compact};
 
+mod by_object;
 mod by_text;
 mod next_number;
 mod reads;
-mod whole;
 
 use crate::stored_reply::StoredReply;
 use objects::{Memory, Printer, TreeReader};
@@ -87,7 +87,7 @@ impl Plain {
         // Looked at so that the invariant is known here; it costs nothing.
         let _ = &self.versions;
         if request.is_write() {
-            return Ok(self.write_whole(request)?.into_reply());
+            return Ok(self.write_by_object(request)?.into_reply());
         }
         let reply = self.answer(&request);
         // It goes by `drop`, which is proved once for its type, and not for each of its parts again.

@@ -1,14 +1,14 @@
-//! What crate `plain` answers, call by call: what no line shows, devices that fail, refused growths, limits, and slow bodies
+//! What crate `plain` answers, call by call: what no line shows, devices that fail, allocation failures, limits, and slow bodies
 //! beside fast ones. What a line shows is a transcript in `examples/serve`. Tests are a crate of their own, so that a library
 //! is proved once, and they reach only what it makes public.
 #![tactic(auto)]
 
 #[cfg(test)]
+mod allocation_failures;
+#[cfg(test)]
 mod asserts;
 #[cfg(test)]
 mod beside;
-#[cfg(test)]
-mod growths;
 #[cfg(test)]
 mod judged_texts;
 #[cfg(test)]

@@ -3,7 +3,7 @@ use json::Writer;
 use objects::{ReadError, TreeReader, read_object};
 use plain::{
     InputFault, ReadSource, Reason, Reply, RequestError, end_line, read_all, request_in,
-    split_line, write_object_member, write_reply, write_text_member, write_whole_member,
+    split_line, write_integer_member, write_object_member, write_reply, write_text_member,
 };
 use std::alloc::{AllocError, Global};
 use std::io;
@@ -89,7 +89,7 @@ fn a_value_is_a_request(rt: HostRuntime) {
 fn line(alloc: Global, created: &Reply) -> Result<Vec<u8>, AllocError> {
     let mut out = Writer::new(Vec::new(alloc));
     out.begin_object()?;
-    write_whole_member("at", 18446744073709551615, &mut out)?;
+    write_integer_member("at", 18446744073709551615, &mut out)?;
     write_text_member("do", "a \"word\"", &mut out)?;
     out.key("first")?;
     write_reply(created, &mut out)?;

@@ -12,11 +12,11 @@ use Rattle.requests.specs.declared.request.Request.{Request}
 use Rattle.requests.specs.declared.reply.Reply.{Reply}
 use Rattle.requests.specs.declared.reply.Reply.TheVariants.{Created, Found, Listed, Updated, Unchanged, Marked, Removed, Compacted, Refused}
 use Rattle.requests.specs.declared.reply.Reason.{Reason}
-use Rattle.plain_store.specs.Lives.{Event, begins, changes, lasts, ends, events, events_by, said, tells_of, AreLives, HasUidOf}
+use Rattle.plain_store.specs.Lives.{Event, begins, changes, lasts, ends, events, events_by, reply_events, is_about, AreLives, HasUidOf}
 use Rattle.plain_store.specs.Route.{Route, compacts, gets, lists, lists_at, route, writes}
 use Rattle.plain_store.specs.Run.{exchanges, replies}
 use Rattle.plain_store.specs.Store.{Store, compacted_to, collection, denied, listed_at, map_at, opening, routed, step}
-use Rattle.plain_store.proofs.ToldLives.{lives_in_run}
+use Rattle.plain_store.proofs.EventLives.{lives_in_run}
 use Rattle.race_log.specs.Twice.{is_alive, is_alive_after, is_pod, repeat_by, repeats}
 
 -- nothing begins, changes or ends
@@ -43,7 +43,7 @@ listed_last : (os : List Object) → OnlyLast (map lasts os)
 listed_last [] = tt
 listed_last (o ∷ os) = listed_last os
 
-said_tells : (reply : Reply) → Tells reply (said reply)
+said_tells : (reply : Reply) → Tells reply (reply_events reply)
 said_tells (Created o) = refl
 said_tells (Updated o) = refl
 said_tells (Marked o) = refl
@@ -101,7 +101,7 @@ lasted true current o later lives = lives.1
 lasted false current o later lives = lives
 
 abbrev about : Key → List Event → List Event
-about key es = filter (tells_of key) es
+about key es = filter (is_about key) es
 
 only_lasted : (key : Key) (current : Option Object) (es later : List Event) → OnlyLast es → AreLives current (about key (es ++ later)) → AreLives current (about key later)
 only_lasted key current [] later only lives = lives

@@ -6,7 +6,7 @@ ghost use Rattle.race_log.specs.Report.{report_data, report_text};
 
 use json::Writer;
 use objects::Memory;
-use plain::{end_line, write_whole_member};
+use plain::{end_line, write_integer_member};
 use std::alloc::{AllocError, Global};
 
 /// What a race came to.
@@ -41,9 +41,9 @@ fn write_report(report: &RaceReport, out: &mut Writer) -> Result<(), AllocError>
     ensures before { out.new.before ≡ out.old.before }
 {
     write_first(report, out)?;
-    write_whole_member("rounds", report.rounds, out)?;
-    write_whole_member("shards", report.shards, out)?;
-    write_whole_member("twice", report.twice, out)?;
+    write_integer_member("rounds", report.rounds, out)?;
+    write_integer_member("shards", report.shards, out)?;
+    write_integer_member("twice", report.twice, out)?;
     out.end_object()
 }
 
@@ -53,7 +53,7 @@ fn write_first(report: &RaceReport, out: &mut Writer) -> Result<(), AllocError>
     ensures before { out.new.before ≡ out.old.before }
 {
     out.begin_object()?;
-    write_whole_member("controllers", report.controllers, out)?;
+    write_integer_member("controllers", report.controllers, out)?;
     out.key("legal")?;
     out.boolean(report.legal)
 }

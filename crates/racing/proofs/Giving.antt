@@ -10,7 +10,7 @@ use Rattle.requests.specs.declared.request.Request.TheVariants.{Create, Get, Upd
 use Rattle.requests.specs.Verdict.{is_write}
 use Rattle.store.specs.History.{IsHistory, store_after}
 use Rattle.store.specs.Callers.{Caller, HasRead}
-use Rattle.store.specs.Tickets.{IsReply, IsTicketOf, Ticket, after_given}
+use Rattle.store.specs.Tickets.{IsReply, IsTicketOf, Ticket, after_reply}
 use Rattle.racing.specs.Answered.{IsAnswered, reads_now}
 
 no_read : (r : Request) → is_write r ≡ true → reads_now r ≡ true → ⊥
@@ -66,5 +66,5 @@ chosen true t = (refl, refl)
 chosen false t = (refl, refl)
 
 -- a try changes neither what a ticket stands for nor its place
-pub tried : (t : Ticket) (f : ℕ) → ((after_given t f).request ≡ t.request) × ((after_given t f).place ≡ t.place)
+pub tried : (t : Ticket) (f : ℕ) → ((after_reply t f).request ≡ t.request) × ((after_reply t f).place ≡ t.place)
 tried t f = chosen (nat_le t.saw f) t

@@ -8,7 +8,7 @@ ghost use Rattle.replay_lines.specs.Printing.{numbers, order_data, reply_data_at
 use history::{Item, Run};
 use json::Writer;
 use objects::Memory;
-use plain::{Reply, end_line, write_reply, write_whole_member};
+use plain::{Reply, end_line, write_reply, write_integer_member};
 use std::alloc::{AllocError, Global};
 
 /// The lines of a run: `{"at":P,"caller":N,"reply":R}` for each reply, P its place and R as a reply line of `serve`, and
@@ -71,8 +71,8 @@ fn write_reply_at(
     ensures before { out.new.before ≡ out.old.before }
 {
     out.begin_object()?;
-    write_whole_member("at", place, out)?;
-    write_whole_member("caller", caller, out)?;
+    write_integer_member("at", place, out)?;
+    write_integer_member("caller", caller, out)?;
     out.key("reply")?;
     write_reply(reply, out)?;
     out.end_object()

@@ -3,7 +3,7 @@
 #![tactic(auto)]
 
 #[cfg(test)]
-mod growths;
+mod allocation_failures;
 #[cfg(test)]
 mod printed;
 #[cfg(test)]

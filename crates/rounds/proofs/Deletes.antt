@@ -25,7 +25,7 @@ use Rattle.plain_store.specs.Store.{Store, collection, is_of, opening, step}
 use Rattle.plain_store.specs.Taken.{taken}
 use Rattle.plain_store.proofs.KeptUids.{drawn_in_run, filed_in_run, uid_since, version_since}
 use Rattle.plain_store.proofs.TakenObjects.{delete_takes}
-use Rattle.plain_store.proofs.WholeLists.{listed}
+use Rattle.plain_store.proofs.CompleteLists.{listed}
 use Rattle.collector.specs.Collectable.{Among, HasOwner, text_unless_zero, is_collectable, is_listed}
 use Rattle.collector.proofs.Gone.{is_collectable-kept, is_gone-later, is_gone-listed}
 use Rattle.rounds.specs.Phase.{list_of}

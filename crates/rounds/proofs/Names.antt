@@ -13,11 +13,11 @@ use Rattle.requests.specs.declared.request.Request.{Request}
 use Rattle.requests.specs.declared.reply.Reason.{Reason}
 use Rattle.requests.specs.declared.reply.Reply.{Reply}
 use Rattle.requests.specs.declared.reply.Reply.TheVariants.{Created, Found, Listed, Updated, Unchanged, Marked, Removed, Compacted, Refused}
-use Rattle.plain_store.specs.Lives.{Event, begins, changes, lasts, ends, events, events_by, events_of, said, tells_of, AreLives}
+use Rattle.plain_store.specs.Lives.{Event, begins, changes, lasts, ends, events, events_by, events_of, reply_events, is_about, AreLives}
 use Rattle.plain_store.specs.Route.{Route, compacts, gets, lists, lists_at, route, writes}
 use Rattle.plain_store.specs.Run.{exchanges}
 use Rattle.plain_store.specs.Store.{Store, compacted_to, denied, listed_at, opening, routed, step}
-use Rattle.plain_store.proofs.ToldLives.{lives_in_run}
+use Rattle.plain_store.proofs.EventLives.{lives_in_run}
 use Rattle.plain_store.proofs.Verdicts.{tied}
 use Rattle.collector.specs.Collectable.{Among}
 use Rattle.rounds.specs.Accepted.{Creates, HasRemoval}
@@ -27,18 +27,18 @@ use Rattle.rounds.proofs.Lists.{among_either, same_first, same_rest}
 -- what the exchanges tell of a key
 told : Key → List Exchange → List Event
 told key [] = []
-told key (e ∷ es) = filter (tells_of key) (events e) ++ told key es
+told key (e ∷ es) = filter (is_about key) (events e) ++ told key es
 
 told_is : (key : Key) (es : List Exchange) → told key es ≡ events_of key es
 unfolding told
 told_is key [] = refl
-told_is key (e ∷ es) = ap (λ l. filter (tells_of key) (events e) ++ l) (told_is key es) ∙ sym (filter-append (tells_of key) (events e) (flat_map events es))
+told_is key (e ∷ es) = ap (λ l. filter (is_about key) (events e) ++ l) (told_is key es) ∙ sym (filter-append (is_about key) (events e) (flat_map events es))
 
 told-append : (key : Key) (es fs : List Exchange) → told key (es ++ fs) ≡ told key es ++ told key fs
 unfolding told
 told-append key [] fs = refl
 told-append key (e ∷ es) fs =
-    ap (λ l. filter (tells_of key) (events e) ++ l) (told-append key es fs) ∙ sym (append_assoc (filter (tells_of key) (events e)) (told key es) (told key fs))
+    ap (λ l. filter (is_about key) (events e) ++ l) (told-append key es fs) ∙ sym (append_assoc (filter (is_about key) (events e)) (told key es) (told key fs))
 
 -- ---- creates
 
@@ -64,7 +64,7 @@ created s e o answered creates = ap (λ reply. events (e.0, reply)) creates ∙ 
 told_create : (key : Key) (e : Exchange) (o : Object) (es : List Exchange) → events e ≡ begins o ∷ [] → eq_by_cmp key_cmp key o.key ≡ true → told key (e ∷ es) ≡ begins o ∷ told key es
 unfolding told
 told_create key e o es is tie =
-    ap (λ xs. filter (tells_of key) xs ++ told key es) is ∙ ap (λ b. cond b (begins o ∷ []) [] ++ told key es) tie
+    ap (λ xs. filter (is_about key) xs ++ told key es) is ∙ ap (λ b. cond b (begins o ∷ []) [] ++ told key es) tie
 
 -- ---- lives
 
@@ -103,7 +103,7 @@ one_end : (q : Object) (x : Event) (P : Type 0) → (ends q ≡ x → P) → Amo
 one_end q x P is (inl e) = is e
 one_end q x P is (inr at) = absurd at
 
-removal : (q : Object) (reply : Reply) → Among (ends q) (said reply) → reply ≡ Removed q
+removal : (q : Object) (reply : Reply) → Among (ends q) (reply_events reply) → reply ≡ Removed q
 removal q (Created o) at = one_end q (begins o) (Created o ≡ Removed q) (λ e. cc) at
 removal q (Updated o) at = one_end q (changes o) (Updated o ≡ Removed q) (λ e. cc) at
 removal q (Marked o) at = one_end q (changes o) (Marked o ≡ Removed q) (λ e. cc) at
@@ -121,15 +121,15 @@ removal_by q (writes key) reply at = removal q reply at
 removal_by q (lists_at kind namespace n) reply at = absurd at
 removal_by q (compacts n) reply at = absurd at
 
-kept_by : (key : Key) (q : Object) (x : Event) (xs : List Event) (b : Bool) → tells_of key x ≡ b → (Among (ends q) (filter (tells_of key) xs) → Among (ends q) xs × (tells_of key (ends q) ≡ true))
-    → Among (ends q) (cond b (x ∷ filter (tells_of key) xs) (filter (tells_of key) xs)) → Among (ends q) (x ∷ xs) × (tells_of key (ends q) ≡ true)
-kept_by key q x xs true is later (inl e) = (inl e, ap (tells_of key) e ∙ is)
+kept_by : (key : Key) (q : Object) (x : Event) (xs : List Event) (b : Bool) → is_about key x ≡ b → (Among (ends q) (filter (is_about key) xs) → Among (ends q) xs × (is_about key (ends q) ≡ true))
+    → Among (ends q) (cond b (x ∷ filter (is_about key) xs) (filter (is_about key) xs)) → Among (ends q) (x ∷ xs) × (is_about key (ends q) ≡ true)
+kept_by key q x xs true is later (inl e) = (inl e, ap (is_about key) e ∙ is)
 kept_by key q x xs true is later (inr at) = let l = later at in (inr l.0, l.1)
 kept_by key q x xs false is later at = let l = later at in (inr l.0, l.1)
 
-kept : (key : Key) (q : Object) (xs : List Event) → Among (ends q) (filter (tells_of key) xs) → Among (ends q) xs × (tells_of key (ends q) ≡ true)
+kept : (key : Key) (q : Object) (xs : List Event) → Among (ends q) (filter (is_about key) xs) → Among (ends q) xs × (is_about key (ends q) ≡ true)
 kept key q [] at = absurd at
-kept key q (x ∷ xs) at = kept_by key q x xs (tells_of key x) refl (kept key q xs) at
+kept key q (x ∷ xs) at = kept_by key q x xs (is_about key x) refl (kept key q xs) at
 
 later_removal : (o : Object) (e : Exchange) (es : List Exchange) → HasRemoval o es → HasRemoval o (e ∷ es)
 later_removal o e es is =
@@ -139,7 +139,7 @@ found_removal : (o q : Object) (es : List Exchange) → q.meta.uid ≡ o.meta.ui
 unfolding told
 found_removal o q [] same at = absurd at
 found_removal o q (e ∷ es) same at =
-    elim (among_either (ends q) (filter (tells_of o.key) (events e)) (told o.key es) at) [
+    elim (among_either (ends q) (filter (is_about o.key) (events e)) (told o.key es) at) [
       | inl here ↦ (let k = kept o.key q (events e) here in
           record { exchange = e; stands = inl refl; removed = q; removes = removal_by q (route e.0) e.1 k.0; key_is = sym (tied o.key q.key k.1); uid_is = same })
       | inr later ↦ later_removal o e es (found_removal o q es same later)

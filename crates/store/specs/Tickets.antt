@@ -41,12 +41,12 @@ is_accepted (Compacted n) = false
 is_accepted (Refused r) = false
 
 -- what a ticket gives where the frontier is found at f: its reply, once f is at least what it saw
-abbrev pub given : Ticket → ℕ → Option Reply
-given t f = if nat_le t.saw f then t.reply else None
+abbrev pub due_reply : Ticket → ℕ → Option Reply
+due_reply t f = if nat_le t.saw f then t.reply else None
 
 -- after it was tried there
-abbrev pub after_given : Ticket → ℕ → Ticket
-after_given t f = if nat_le t.saw f then record t { reply = None } else t
+abbrev pub after_reply : Ticket → ℕ → Ticket
+after_reply t f = if nat_le t.saw f then record t { reply = None } else t
 
 -- a write that changed nothing saw the object of its key, at that object's revision
 abbrev pub Saw : Option Object → ℕ → Type 0

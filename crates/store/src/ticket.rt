@@ -1,6 +1,6 @@
 ghost use Rattle.std.specs.Prelude.{◌≡◌, ◌+◌, ◌<◌, IfSome, length};
 ghost use Rattle.store.specs.Callers.{HasRead};
-ghost use Rattle.store.specs.Tickets.{IsReply, IsTicketOf, after_given, given};
+ghost use Rattle.store.specs.Tickets.{IsReply, IsTicketOf, after_reply, due_reply};
 
 use crate::caller::Caller;
 use crate::naming::{Naming, Sharding};
@@ -43,8 +43,8 @@ impl<H: Sharding, N: Naming> Ticket<H, N> {
         ensures loaded { caller.new.loads ≡ caller.old.loads + 1 }
         ensures tried { (length caller.old.seen < N.capacity → caller.new.tries ≡ caller.old.tries + 1)
             × (length caller.old.seen ≡ N.capacity → caller.new.tries ≡ caller.old.tries) }
-        ensures given { result ≡ given self.old (length caller.new.seen) }
-        ensures left { self.new ≡ after_given self.old (length caller.new.seen) }
+        ensures due { result ≡ due_reply self.old (length caller.new.seen) }
+        ensures left { self.new ≡ after_reply self.old (length caller.new.seen) }
         ensures reply { IfSome result (λ reply. IsReply N.capacity self.old reply caller.new) }
         ensures ticket { IsTicketOf H.shards N.capacity self.new caller.new }
     {

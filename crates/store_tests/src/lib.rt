@@ -3,6 +3,8 @@
 #![tactic(auto)]
 
 #[cfg(test)]
+mod allocation_failures;
+#[cfg(test)]
 mod asking;
 #[cfg(test)]
 mod callers;
@@ -10,8 +12,6 @@ mod callers;
 mod crowds;
 #[cfg(test)]
 mod gates;
-#[cfg(test)]
-mod growths;
 #[cfg(test)]
 mod meeting;
 #[cfg(test)]

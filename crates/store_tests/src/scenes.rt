@@ -4,11 +4,11 @@ ghost use Rattle.std.specs.Prelude.{◌≡◌, ◌<◌, vec_len};
 ghost use Rattle.line.specs.Seat.{AreShards};
 ghost use Rattle.store.specs.Callers.{IsLine};
 
+use crate::allocation_failures::assert_ample;
 use crate::asking::assert_rows;
 use crate::callers::assert_callers;
 use crate::crowds::assert_replies_are_legal;
 use crate::gates::assert_steps;
-use crate::growths::assert_ample;
 use crate::meeting::assert_meeting;
 use crate::rows::{FULL, ONE_POD, PAST};
 use line::{Ends, Line, LineError};
@@ -30,7 +30,7 @@ pub(crate) enum Scene {
     Gate,
     Crowd,
     /// Here a store may be refused for want of memory.
-    Growths,
+    AllocationFailures,
 }
 
 fn assert_scene<
@@ -46,7 +46,7 @@ fn assert_scene<
         Scene::Callers => assert_callers(rt, store),
         Scene::Gate => assert_steps(rt, alloc, store),
         Scene::Crowd => assert_replies_are_legal(rt, alloc, store),
-        Scene::Growths => assert_ample(rt, alloc, store),
+        Scene::AllocationFailures => assert_ample(rt, alloc, store),
     }
 }
 
@@ -64,7 +64,7 @@ fn assert_on_line<
         Ok(store) => assert_scene(rt, alloc, &store, scene),
         Err(error) => {
             assert_eq!(rt; error, StoreError::Memory, "why there is no store");
-            assert!(rt; scene == Scene::Growths, "memory for a store");
+            assert!(rt; scene == Scene::AllocationFailures, "memory for a store");
             Ok(())
         }
     }
@@ -83,7 +83,7 @@ fn assert_on_shards<H: Sharding + Send + Sync, R: Threads + Wait + Abort + Sync>
         Ok(ends) => assert_on_line::<H, Brand, R>(rt, alloc, ends, scene),
         Err(error) => {
             assert_eq!(rt; error, LineError::Memory, "why there is no line");
-            assert!(rt; scene == Scene::Growths, "memory for a line");
+            assert!(rt; scene == Scene::AllocationFailures, "memory for a line");
             Ok(())
         }
     }

@@ -12,7 +12,7 @@ use Rattle.std.specs.Cmp.Lexicographic.{slice_cmp}
 use Rattle.std.specs.BTreeMap.{BTreeMap, IsOrdered, Updates}
 use Rattle.std.proofs.lemmas.Map.Text.{btree_map_updates_str, is_eq-slice_cmp}
 use Rattle.std.proofs.lemmas.Slice.Eq.{bytes_eq-Decides}
-use Rattle.version_map.specs.Named.{AreValues, Names, at_text, place_at_text}
+use Rattle.version_map.specs.Named.{AreValues, Names, at_text, slot_at_text}
 use Rattle.version_map.proofs.Named.{Text, by_bytes, by_name}
 
 -- names as a map has them
@@ -31,12 +31,12 @@ by_text es word = by_bytes (λ (k : Bor (List ℕ)). k.now) es word
 -- with the names that are left all names are added
 pub record IsAdding (old all : Texts) (names : Kept) (rest : List (Text × ℕ)) : Type 0 where
   pub ordered : IsStrictlySortedBy (slice_cmp nat_cmp) (keys_of rest)
-  pub same : (word : List ℕ) → option_or (by_name rest word) (place_at_text all word) ≡ option_or (at_text names word) (place_at_text old word)
+  pub same : (word : List ℕ) → option_or (by_name rest word) (slot_at_text all word) ≡ option_or (at_text names word) (slot_at_text old word)
 
 pub none_added : (old : Texts) (names : Kept) (rest : List (Text × ℕ)) → rest ≡ names.entries → IsOrdered (slice_cmp nat_cmp) names → IsAdding old old names rest
 none_added old names rest is ordered = record {
   ordered = subst (λ es. IsStrictlySortedBy (slice_cmp nat_cmp) (keys_of es)) (sym is) ordered;
-  same = λ word. ap (λ es. option_or (by_name es word) (place_at_text old word)) is;
+  same = λ word. ap (λ es. option_or (by_name es word) (slot_at_text old word)) is;
 }
 
 not_less : (r : Ordering) → r ≡ Less → is_eq r ≡ false
@@ -68,30 +68,30 @@ one_added old all next names rest more n p key is text written adding = record {
     parts : AllByRecursion (λ q. slice_cmp nat_cmp n q ≡ Less) (keys_of more) × IsStrictlySortedBy (slice_cmp nat_cmp) (keys_of more)
     parts = later n p more (subst (λ es. IsStrictlySortedBy (slice_cmp nat_cmp) (keys_of es)) is adding.ordered)
 
-    now : (word : List ℕ) → place_at_text next word ≡ cond (bytes_eq n word) (Some p) (place_at_text all word)
-    now word = btree_map_updates_str key.now all next (Some p) written word ∙ ap (λ b. cond (bytes_eq b word) (Some p) (place_at_text all word)) text
+    now : (word : List ℕ) → slot_at_text next word ≡ cond (bytes_eq n word) (Some p) (slot_at_text all word)
+    now word = btree_map_updates_str key.now all next (Some p) written word ∙ ap (λ b. cond (bytes_eq b word) (Some p) (slot_at_text all word)) text
 
     here : (word : List ℕ) (b : Bool) → bytes_eq n word ≡ b → by_name rest word ≡ cond b (Some p) (by_name more word)
     here word b same = ap (λ es. by_name es word) is ∙ ap (λ c. cond c (Some p) (by_name more word)) (is_eq-slice_cmp word n ∙ turned n word b same)
 
     by : (word : List ℕ) (b : Bool) → bytes_eq n word ≡ b
-        → option_or (by_name more word) (place_at_text next word) ≡ option_or (by_name rest word) (place_at_text all word)
+        → option_or (by_name more word) (slot_at_text next word) ≡ option_or (by_name rest word) (slot_at_text all word)
     by word true same =
-        ap (λ w. option_or (by_name more w) (place_at_text next word)) (sym ((bytes_eq-Decides n word).0 same))
-        ∙ ap (λ o. option_or o (place_at_text next word)) (above_none n more parts.0) ∙ now word ∙ ap (λ b. cond b (Some p) (place_at_text all word)) same
-        ∙ sym (ap (λ o. option_or o (place_at_text all word)) (here word true same))
+        ap (λ w. option_or (by_name more w) (slot_at_text next word)) (sym ((bytes_eq-Decides n word).0 same))
+        ∙ ap (λ o. option_or o (slot_at_text next word)) (above_none n more parts.0) ∙ now word ∙ ap (λ b. cond b (Some p) (slot_at_text all word)) same
+        ∙ sym (ap (λ o. option_or o (slot_at_text all word)) (here word true same))
     by word false same =
-        ap (option_or (by_name more word)) (now word ∙ ap (λ b. cond b (Some p) (place_at_text all word)) same) ∙ sym (ap (λ o. option_or o (place_at_text all word)) (here word false same))
+        ap (option_or (by_name more word)) (now word ∙ ap (λ b. cond b (Some p) (slot_at_text all word)) same) ∙ sym (ap (λ o. option_or o (slot_at_text all word)) (here word false same))
 
 pub all_added : (old all : Texts) (names : Kept) (rest : List (Text × ℕ)) → rest ≡ [] → IsAdding old all names rest
-    → (word : List ℕ) → place_at_text all word ≡ option_or (at_text names word) (place_at_text old word)
-all_added old all names rest none adding word = ap (λ es. option_or (by_name es word) (place_at_text all word)) (sym none) ∙ adding.same word
+    → (word : List ℕ) → slot_at_text all word ≡ option_or (at_text names word) (slot_at_text old word)
+all_added old all names rest none adding word = ap (λ es. option_or (by_name es word) (slot_at_text all word)) (sym none) ∙ adding.same word
 
 pub or_none : (o : Option ℕ) → option_or o None ≡ o
 or_none None = refl
 or_none (Some p) = refl
 
--- the places of ordered texts are values
+-- the slots of ordered texts are values
 
 abbrev owned : List (Bor (List ℕ) × ℕ) → Names
 owned [] = []
@@ -110,16 +110,16 @@ owned_values : (es : List (Bor (List ℕ) × ℕ)) → map (λ e. e.1) (owned es
 owned_values [] = refl
 owned_values (e ∷ es) = ap (λ vs. e.1 ∷ vs) (owned_values es)
 
-owned_places : (es : List (Bor (List ℕ) × ℕ)) (word : List ℕ) → by_name (owned es) word ≡ by_text es word
-owned_places [] word = refl
-owned_places (e ∷ es) word = ap (cond (is_eq (slice_cmp nat_cmp word e.0.now)) (Some e.1)) (owned_places es word)
+owned_slots : (es : List (Bor (List ℕ) × ℕ)) (word : List ℕ) → by_name (owned es) word ≡ by_text es word
+owned_slots [] word = refl
+owned_slots (e ∷ es) word = ap (cond (is_eq (slice_cmp nat_cmp word e.0.now)) (Some e.1)) (owned_slots es word)
 
-pub values_texts : (all : Texts) (values : List ℕ) → IsOrdered text_cmp all → values ≡ map (λ e. e.1) all.entries → AreValues values (place_at_text all)
-values_texts all values ordered are = (owned all.entries, owned_ordered all.entries ordered, owned_values all.entries ∙ sym are, owned_places all.entries)
+pub values_texts : (all : Texts) (values : List ℕ) → IsOrdered text_cmp all → values ≡ map (λ e. e.1) all.entries → AreValues values (slot_at_text all)
+values_texts all values ordered are = (owned all.entries, owned_ordered all.entries ordered, owned_values all.entries ∙ sym are, owned_slots all.entries)
 
 -- values are those of what is the same at each name
 pub values_by : (values : List ℕ) (f g : List ℕ → Option ℕ) → ((word : List ℕ) → f word ≡ g word) → AreValues values f → AreValues values g
 values_by values f g same are = (are.0, are.1, are.2, λ word. are.3 word ∙ same word)
 
-pub nothing : (none : Texts) → none.entries ≡ [] → (word : List ℕ) → place_at_text none word ≡ None
+pub nothing : (none : Texts) → none.entries ≡ [] → (word : List ℕ) → slot_at_text none word ≡ None
 nothing none empty word = ap (λ es. by_text es word) empty

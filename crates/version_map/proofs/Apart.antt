@@ -33,10 +33,10 @@ beside short long names are word old =
     again (at_text short word) (at_text long word) old ∙ ap (λ o. option_or o old) (sym (at_both short long word)) ∙ ap (λ ns. option_or (at_name ns word) old) are
 
 -- a change at a key that is the name
-pub changed_at : (key name : List ℕ) (m next : Kept) (place : Option ℕ) → key ≡ name → UpdatesBy (slice_cmp nat_cmp) (slice_cmp nat_cmp key) m next place
-    → (word : List ℕ) → at_text next word ≡ cond (bytes_eq name word) place (at_text m word)
-changed_at key name m next place same written =
-    subst (λ t. (word : List ℕ) → at_text next word ≡ cond (bytes_eq t word) place (at_text m word)) same (updates_text key m next place written)
+pub changed_at : (key name : List ℕ) (m next : Kept) (slot : Option ℕ) → key ≡ name → UpdatesBy (slice_cmp nat_cmp) (slice_cmp nat_cmp key) m next slot
+    → (word : List ℕ) → at_text next word ≡ cond (bytes_eq name word) slot (at_text m word)
+changed_at key name m next slot same written =
+    subst (λ t. (word : List ℕ) → at_text next word ≡ cond (bytes_eq t word) slot (at_text m word)) same (updates_text key m next slot written)
 
 module _ (short long : Kept) (apart : AreApart short long) (name : List ℕ) where
   pub at_short : length name ≤ 15 → at_text short name ≡ at_name (short.entries ++ long.entries) name
@@ -45,49 +45,49 @@ module _ (short long : Kept) (apart : AreApart short long) (name : List ℕ) whe
   pub at_long : 15 < length name → at_text long name ≡ at_name (short.entries ++ long.entries) name
   at_long many = sym (at_both short long name ∙ ap (λ o. option_or o (at_text long name)) (apart.0 name many))
 
-  module _ (next : Kept) (place : Option ℕ) where
+  module _ (next : Kept) (slot : Option ℕ) where
     -- a change at a short name
-    module _ (few : length name ≤ 15) (now : (word : List ℕ) → at_text next word ≡ cond (bytes_eq name word) place (at_text short word)) where
+    module _ (few : length name ≤ 15) (now : (word : List ℕ) → at_text next word ≡ cond (bytes_eq name word) slot (at_text short word)) where
       pub apart_short : AreApart next long
       apart_short = ((λ word many. by word many (bytes_eq name word) refl), apart.1)
         where
           by : (word : List ℕ) → 15 < length word → (b : Bool) → bytes_eq name word ≡ b → at_text next word ≡ None
           by word many true is = let same : length name ≡ length word = ap length ((bytes_eq-Decides name word).0 is) in absurd (omega (arith, few, many))
-          by word many false is = now word ∙ ap (λ b. cond b place (at_text short word)) is ∙ apart.0 word many
+          by word many false is = now word ∙ ap (λ b. cond b slot (at_text short word)) is ∙ apart.0 word many
 
-      pub changed_short : (word : List ℕ) → at_name (next.entries ++ long.entries) word ≡ cond (bytes_eq name word) place (at_name (short.entries ++ long.entries) word)
+      pub changed_short : (word : List ℕ) → at_name (next.entries ++ long.entries) word ≡ cond (bytes_eq name word) slot (at_name (short.entries ++ long.entries) word)
       changed_short word = at_both next long word ∙ ap (λ o. option_or o (at_text long word)) (now word) ∙ by (bytes_eq name word) refl
         where
           by : (b : Bool) → bytes_eq name word ≡ b
-              → option_or (cond (bytes_eq name word) place (at_text short word)) (at_text long word) ≡ cond (bytes_eq name word) place (at_name (short.entries ++ long.entries) word)
+              → option_or (cond (bytes_eq name word) slot (at_text short word)) (at_text long word) ≡ cond (bytes_eq name word) slot (at_name (short.entries ++ long.entries) word)
           by true is =
               let same : name ≡ word = (bytes_eq-Decides name word).0 is in
               let none : at_text long word ≡ None = apart.1 word (let long_as : length name ≡ length word = ap length same in omega (arith, few)) in
-              ap (λ b. option_or (cond b place (at_text short word)) (at_text long word)) is ∙ ap (option_or place) none ∙ or_none place
-              ∙ sym (ap (λ b. cond b place (at_name (short.entries ++ long.entries) word)) is)
+              ap (λ b. option_or (cond b slot (at_text short word)) (at_text long word)) is ∙ ap (option_or slot) none ∙ or_none slot
+              ∙ sym (ap (λ b. cond b slot (at_name (short.entries ++ long.entries) word)) is)
           by false is =
-              ap (λ b. option_or (cond b place (at_text short word)) (at_text long word)) is ∙ sym (at_both short long word)
-              ∙ sym (ap (λ b. cond b place (at_name (short.entries ++ long.entries) word)) is)
+              ap (λ b. option_or (cond b slot (at_text short word)) (at_text long word)) is ∙ sym (at_both short long word)
+              ∙ sym (ap (λ b. cond b slot (at_name (short.entries ++ long.entries) word)) is)
 
     -- and at a long one
-    module _ (many : 15 < length name) (now : (word : List ℕ) → at_text next word ≡ cond (bytes_eq name word) place (at_text long word)) where
+    module _ (many : 15 < length name) (now : (word : List ℕ) → at_text next word ≡ cond (bytes_eq name word) slot (at_text long word)) where
       pub apart_long : AreApart short next
       apart_long = (apart.0, λ word few. by word few (bytes_eq name word) refl)
         where
           by : (word : List ℕ) → length word ≤ 15 → (b : Bool) → bytes_eq name word ≡ b → at_text next word ≡ None
           by word few true is = let same : length name ≡ length word = ap length ((bytes_eq-Decides name word).0 is) in absurd (omega (arith, few, many))
-          by word few false is = now word ∙ ap (λ b. cond b place (at_text long word)) is ∙ apart.1 word few
+          by word few false is = now word ∙ ap (λ b. cond b slot (at_text long word)) is ∙ apart.1 word few
 
-      pub changed_long : (word : List ℕ) → at_name (short.entries ++ next.entries) word ≡ cond (bytes_eq name word) place (at_name (short.entries ++ long.entries) word)
+      pub changed_long : (word : List ℕ) → at_name (short.entries ++ next.entries) word ≡ cond (bytes_eq name word) slot (at_name (short.entries ++ long.entries) word)
       changed_long word = at_both short next word ∙ ap (option_or (at_text short word)) (now word) ∙ by (bytes_eq name word) refl
         where
           by : (b : Bool) → bytes_eq name word ≡ b
-              → option_or (at_text short word) (cond (bytes_eq name word) place (at_text long word)) ≡ cond (bytes_eq name word) place (at_name (short.entries ++ long.entries) word)
+              → option_or (at_text short word) (cond (bytes_eq name word) slot (at_text long word)) ≡ cond (bytes_eq name word) slot (at_name (short.entries ++ long.entries) word)
           by true is =
               let same : name ≡ word = (bytes_eq-Decides name word).0 is in
               let none : at_text short word ≡ None = apart.0 word (let long_as : length name ≡ length word = ap length same in omega (arith, many)) in
-              ap (λ b. option_or (at_text short word) (cond b place (at_text long word))) is ∙ ap (λ o. option_or o place) none
-              ∙ sym (ap (λ b. cond b place (at_name (short.entries ++ long.entries) word)) is)
+              ap (λ b. option_or (at_text short word) (cond b slot (at_text long word))) is ∙ ap (λ o. option_or o slot) none
+              ∙ sym (ap (λ b. cond b slot (at_name (short.entries ++ long.entries) word)) is)
           by false is =
-              ap (λ b. option_or (at_text short word) (cond b place (at_text long word))) is ∙ sym (at_both short long word)
-              ∙ sym (ap (λ b. cond b place (at_name (short.entries ++ long.entries) word)) is)
+              ap (λ b. option_or (at_text short word) (cond b slot (at_text long word))) is ∙ sym (at_both short long word)
+              ∙ sym (ap (λ b. cond b slot (at_name (short.entries ++ long.entries) word)) is)

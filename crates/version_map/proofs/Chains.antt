@@ -15,7 +15,7 @@ use Rattle.objects.specs.KeyOrder.{equal_from, exact_keys, key_cmp_total}
 use Rattle.version_map.specs.Keyed.{put_at}
 use Rattle.version_map.specs.Rows.{Row, begins_to, kept}
 use Rattle.version_map.specs.Versions.{RowsByKey, compacted, count, count_in, rows_at}
-use Rattle.version_map.specs.Whole.{Chains, Places, by_key, put_rows, rows_by, rows_in, rows_there}
+use Rattle.version_map.specs.Consistent.{Chains, KeySlots, by_key, put_rows, rows_by, rows_in, rows_there}
 
 pub same_key : (k q : Key) → eq_by_cmp key_cmp k q ≡ true → k ≡ q
 same_key k q tie = exact_keys k q (equal_from (key_cmp k q) tie)
@@ -96,22 +96,22 @@ module _ {X : Type 0} where
         | false ↦ refl
       ]
 
-  pub get_rows : (ps : Places) (cs : Chains X) (k : Key) → get (by_key ps cs) k ≡ some_rows (rows_in ps cs k)
+  pub get_rows : (ps : KeySlots) (cs : Chains X) (k : Key) → get (by_key ps cs) k ≡ some_rows (rows_in ps cs k)
   get_rows ps cs k = get_by cs (entries ps) k ∙ ap (λ o. some_rows (option_map_or (rows_there cs) o [])) (sym (get-entries ps k))
 
   or_none : (rows : List (Row X)) → unwrap_or (some_rows rows) [] ≡ rows
   or_none [] = refl
   or_none (r ∷ rs) = refl
 
-  pub rows_are : (ps : Places) (cs : Chains X) (k : Key) → rows_at (by_key ps cs) k ≡ rows_in ps cs k
+  pub rows_are : (ps : KeySlots) (cs : Chains X) (k : Key) → rows_at (by_key ps cs) k ≡ rows_in ps cs k
   rows_are ps cs k = ap (λ o. unwrap_or o []) (get_rows ps cs k) ∙ or_none (rows_in ps cs k)
 
   -- chains whose rows are the same are one map
-  pub same_rows : (ps : Places) (cs : Chains X) (qs : Places) (ds : Chains X) → ((k : Key) → rows_in qs ds k ≡ rows_in ps cs k) → by_key qs ds ≡ by_key ps cs
+  pub same_rows : (ps : KeySlots) (cs : Chains X) (qs : KeySlots) (ds : Chains X) → ((k : Key) → rows_in qs ds k ≡ rows_in ps cs k) → by_key qs ds ≡ by_key ps cs
   same_rows ps cs qs ds same = same_map key_cmp_total exact_keys _ _ (λ q. get_rows qs ds q ∙ ap some_rows (same q) ∙ sym (get_rows ps cs q))
 
   -- chains whose rows differ at one key are maps that differ there
-  pub written_rows : (ps : Places) (cs ds : Chains X) (k : Key) (rows : List (Row X)) → Some rows ≡ some_rows rows
+  pub written_rows : (ps : KeySlots) (cs ds : Chains X) (k : Key) (rows : List (Row X)) → Some rows ≡ some_rows rows
       → ((q : Key) → rows_in ps ds q ≡ cond (eq_by_cmp key_cmp k q) rows (rows_in ps cs q)) → by_key ps ds ≡ map.insert (by_key ps cs) k rows
   written_rows ps cs ds k rows some written = same_map key_cmp_total exact_keys _ _ (λ q.
       get_rows ps ds q ∙ ap some_rows (written q) ∙ by q (eq_by_cmp key_cmp k q) ∙ ap (λ b. cond b (Some rows) (get (by_key ps cs) q)) (swap k q)
@@ -152,17 +152,17 @@ module _ {X : Type 0} where
       ]
 
   -- what compaction leaves of some chains, by what it leaves of each key's rows
-  pub same_compacted : (ps : Places) (cs ds : Chains X) (n : ℕ) → ((k : Key) → kept n (rows_in ps ds k) ≡ kept n (rows_in ps cs k)) → compacted (by_key ps ds) n ≡ compacted (by_key ps cs) n
+  pub same_compacted : (ps : KeySlots) (cs ds : Chains X) (n : ℕ) → ((k : Key) → kept n (rows_in ps ds k) ≡ kept n (rows_in ps cs k)) → compacted (by_key ps ds) n ≡ compacted (by_key ps cs) n
   same_compacted ps cs ds n same = same_map key_cmp_total exact_keys _ _ (λ q. at ds q ∙ ap some_rows (same q) ∙ sym (at cs q))
     where
       at : (es : Chains X) (q : Key) → get (compacted (by_key ps es) n) q ≡ some_rows (kept n (rows_in ps es q))
       at es q = get_compacted (by_key ps es) n q ∙ ap (option_map (kept n)) (get_rows ps es q) ∙ kept_some n (rows_in ps es q)
 
-  pub none_compacted : (ps : Places) (cs : Chains X) (n : ℕ) → ((k : Key) → kept n (rows_in ps cs k) ≡ rows_in ps cs k) → compacted (by_key ps cs) n ≡ by_key ps cs
+  pub none_compacted : (ps : KeySlots) (cs : Chains X) (n : ℕ) → ((k : Key) → kept n (rows_in ps cs k) ≡ rows_in ps cs k) → compacted (by_key ps cs) n ≡ by_key ps cs
   none_compacted ps cs n all = same_map key_cmp_total exact_keys _ _ (λ q.
       get_compacted (by_key ps cs) n q ∙ ap (option_map (kept n)) (get_rows ps cs q) ∙ kept_some n (rows_in ps cs q) ∙ ap some_rows (all q) ∙ sym (get_rows ps cs q))
 
-  -- the rows of a key by the place that is found
-  pub rows_found : (ps : Places) (cs : Chains X) (m : RowsByKey X) (k : Key) (found : Option ℕ) → by_key ps cs ≡ m → get ps k ≡ found
+  -- the rows of a key by the slot that is found
+  pub rows_found : (ps : KeySlots) (cs : Chains X) (m : RowsByKey X) (k : Key) (found : Option ℕ) → by_key ps cs ≡ m → get ps k ≡ found
       → rows_at m k ≡ option_map_or (rows_there cs) found []
   rows_found ps cs m k found is at = ap (λ n. rows_at n k) (sym is) ∙ rows_are ps cs k ∙ ap (λ o. option_map_or (rows_there cs) o []) at

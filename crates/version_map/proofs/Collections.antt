@@ -20,8 +20,8 @@ use Rattle.objects.specs.Key.{key_cmp, key_parts, kind_index}
 use Rattle.objects.specs.KeyOrder.{exact_keys, key_cmp_total}
 use Rattle.version_map.specs.Keyed.{collection}
 use Rattle.version_map.specs.Keys.{is_of}
-use Rattle.version_map.specs.Named.{at_name, at_text, AreNames, AreValues, Names, Namespaces, Places, both, named, place_among, placed}
-use Rattle.version_map.proofs.Named.{Text, by_bytes, find_named, find_other, get_both, place_read}
+use Rattle.version_map.specs.Named.{at_name, at_text, AreNames, AreValues, Names, Namespaces, KeySlots, both, named, slot_among, slotted}
+use Rattle.version_map.proofs.Named.{Text, by_bytes, find_named, find_other, get_both, slot_read}
 
 abbrev pub values_of : {X : Type 0} → List (Key × X) → List X
 values_of {X} es = map (λ (e : Key × X). e.1) es
@@ -53,8 +53,8 @@ module _ {K : Type 0} (bytes : K → List ℕ) where
   values_named kind namespace [] = refl
   values_named kind namespace (e ∷ es) = ap (λ ps. e.1 ∷ ps) (values_named kind namespace es)
 
-  -- the names with their places make the collection, if the map has at the keys of the kind in the namespace what they have
-  pub collected : (m : Places) (kind : Kind) (namespace : List ℕ) (es : List (K × ℕ)) → IsStrictlySortedBy by_bytes_cmp (keys_of es)
+  -- the names with their slots make the collection, if the map has at the keys of the kind in the namespace what they have
+  pub collected : (m : KeySlots) (kind : Kind) (namespace : List ℕ) (es : List (K × ℕ)) → IsStrictlySortedBy by_bytes_cmp (keys_of es)
       → ((q : Key) → kind_index q.kind ≡ kind_index kind → q.namespace ≡ namespace → get m q ≡ by_bytes bytes es q.name) → collection m kind namespace ≡ map (λ e. e.1) es
   collected m kind namespace es ascending same =
       let sorted : T (is_sorted key_cmp (named bytes kind namespace es)) = subst T (sym (sorted_named kind namespace es ascending)) tt in
@@ -68,7 +68,7 @@ module _ {K : Type 0} (bytes : K → List ℕ) where
       by q false is = sym (find_other bytes kind namespace q es is)
 
 -- maps that agree at the keys of a kind in a namespace have one collection there
-pub same_collection : (m n : Places) (kind : Kind) (namespace : List ℕ) → ((q : Key) → kind_index q.kind ≡ kind_index kind → q.namespace ≡ namespace → get m q ≡ get n q)
+pub same_collection : (m n : KeySlots) (kind : Kind) (namespace : List ℕ) → ((q : Key) → kind_index q.kind ≡ kind_index kind → q.namespace ≡ namespace → get m q ≡ get n q)
     → collection m kind namespace ≡ collection n kind namespace
 same_collection m n kind namespace same = ap values (same_map key_cmp_total exact_keys (retain_keys m p) (retain_keys n p) (λ q.
     get-retain_keys m p q (alike q) ∙ by q (p q) refl ∙ sym (get-retain_keys n p q (alike q))))
@@ -85,7 +85,7 @@ same_collection m n kind namespace same = ap values (same_map key_cmp_total exac
 
 -- ---- names, as they are read
 
-module _ (m : Places) (kind : Kind) (namespace : List ℕ) where
+module _ (m : KeySlots) (kind : Kind) (namespace : List ℕ) where
   pub collection_of : (names : Names) (values : List ℕ) → AreNames m kind namespace (Some names) → AreValues values (at_name names) → collection m kind namespace ≡ values
   collection_of names values are all = collected (λ w. w) m kind namespace all.0 all.1 (λ q kinds same. are q kinds same ∙ sym (all.3 q.name)) ∙ all.2
 
@@ -93,8 +93,8 @@ module _ (m : Places) (kind : Kind) (namespace : List ℕ) where
   unfolding IsStrictlySortedBy
   none_collected are = collected {K = Text} (λ w. w) m kind namespace [] tt are
 
-  -- and of other places beside them
-  module _ (n : Places) where
+  -- and of other slots beside them
+  module _ (n : KeySlots) where
     pub first_alone : AreNames n kind namespace None → collection m kind namespace ≡ collection (both m n) kind namespace
     first_alone none = same_collection m (both m n) kind namespace (λ q kinds same. sym (get_both m n q ∙ ap (option_or (get m q)) (none q kinds same) ∙ or_none (get m q)))
       where
@@ -115,9 +115,9 @@ module _ (m : Places) (kind : Kind) (namespace : List ℕ) where
         ∙ all.2
 
 -- the names of a kind in a namespace, as they are found
-module _ (ms : List Namespaces) (m : Places) (i : ℕ) (d : Namespaces) (view : placed ms ≡ m) (many : length ms ≡ 4) (within : i < 4)
+module _ (ms : List Namespaces) (m : KeySlots) (i : ℕ) (d : Namespaces) (view : slotted ms ≡ m) (many : length ms ≡ 4) (within : i < 4)
     (kind : Kind) (namespace text : List ℕ) (index : i ≡ kind_index kind) (spaces : text ≡ namespace) where
   pub names_read : (names : Option Names) → names ≡ at_text (get_or ms i d) text → AreNames m kind namespace names
   names_read names found q kinds same =
-      place_read ms m i d view many within q (index ∙ sym kinds)
-      ∙ ap (λ o. place_among o q.name) (ap (at_text (get_or ms i d)) (same ∙ sym spaces) ∙ sym found)
+      slot_read ms m i d view many within q (index ∙ sym kinds)
+      ∙ ap (λ o. slot_among o q.name) (ap (at_text (get_or ms i d)) (same ∙ sym spaces) ∙ sym found)

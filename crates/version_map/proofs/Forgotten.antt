@@ -1,4 +1,4 @@
--- Keys that are forgotten, and places that new keys take again.
+-- Keys that are forgotten, and slots that new keys take again.
 use Rattle.std.proofs.Common.{◌≡◌, ◌≢◌, ℕ, ◌+◌, ◌<◌, ◌-◌, ◌==◌, Bool, true, false, cond, List, [], ◌∷◌, ◌++◌, length, drop, ◌⊎◌, inl, inr, Option, Some, None, option_and_then, slice_index_or, refl, sym, ap, subst, ◌∙◌, arith}
 use Rattle.std.specs.Prelude.{get_or, is_some, nat_le, IfSome, IsSome}
 use Rattle.std.proofs.Math.ListN.{length-set, set}
@@ -20,16 +20,16 @@ use Rattle.version_map.specs.Named.{both}
 use Rattle.version_map.specs.Records.{rows_of}
 use Rattle.version_map.specs.Rows.{AreBelow, Chain, Row, last_state, state_to}
 use Rattle.version_map.specs.Versions.{IsAbove, Versions, count, rows_at, state_at}
-use Rattle.version_map.specs.Whole.{AreListed, ArePlaced, AreStill, Chains, IsOwned, IsWhole, Places, by_key, numbers, rows_in, rows_there, waiting}
+use Rattle.version_map.specs.Consistent.{AreListed, HaveSlots, AreStill, Chains, IsOwned, IsConsistent, KeySlots, by_key, numbers, rows_in, rows_there, waiting}
 use Rattle.version_map.proofs.Chains.{count_written, get_rows, own_key, rows_are, same_key, some_rows, swap}
 use Rattle.version_map.proofs.Lists.{get_state}
 use Rattle.version_map.proofs.Named.{get_both}
-use Rattle.version_map.proofs.Placing.{as_many, chain_found, each_chain}
+use Rattle.version_map.proofs.SlotChains.{as_many, chain_found, each_chain}
 use Rattle.version_map.proofs.Rows.{all_more}
 use Rattle.version_map.proofs.Steps.{room_key, rows_after, rows_of_key, seen}
 
--- a key without a place, and the others with theirs
-module _ (ps : Places) (k r : Key) where
+-- a key without a slot, and the others with theirs
+module _ (ps : KeySlots) (k r : Key) where
   left_at : (q : ℕ) → get (remove ps k) r ≡ Some q → (eq_by_cmp key_cmp r k ≡ false) × (get ps r ≡ Some q)
   left_at q at = by (eq_by_cmp key_cmp r k) refl
     where
@@ -41,7 +41,7 @@ module _ (ps : Places) (k r : Key) where
   left_with other = get-remove key_cmp_total ps k r ∙ ap (λ b. cond b None (get ps r)) other
 
 -- of two maps as one
-pub both_removed : (l a : Places) (k : Key) → both (remove l k) (remove a k) ≡ remove (both l a) k
+pub both_removed : (l a : KeySlots) (k : Key) → both (remove l k) (remove a k) ≡ remove (both l a) k
 both_removed l a k = same_map key_cmp_total exact_keys _ _ (λ q.
     get_both (remove l k) (remove a k) q ∙ ap (λ o. option_or o (get (remove a k) q)) (get-remove key_cmp_total l k q)
     ∙ ap (option_or (cond (eq_by_cmp key_cmp q k) None (get l q))) (get-remove key_cmp_total a k q) ∙ by q (eq_by_cmp key_cmp q k)
@@ -60,9 +60,9 @@ removal_is older newest r is none removed = subst (λ o. IsRemoval (rows_of olde
     by [] none None state removed = (r.number, ap (λ o. (r.number, o) ∷ []) state)
     by [] none (Some x) state removed = let both : true ≡ false = sym (ap is_some state) ∙ removed in absurd cc
 
--- ---- places that no key has
+-- ---- slots that no key has
 
-module _ (ps : Places) (k : Key) (p many : ℕ) where
+module _ (ps : KeySlots) (k : Key) (p many : ℕ) where
   free_with : (free : List ℕ) → AllByRecursion (λ q. q ≢ p) free → AreFree ps many free → AreFree (insert ps k p) many free
   free_with [] other h = tt
   free_with (q ∷ free) other h = (h.0, λ r at. still r at (eq_by_cmp key_cmp r k) refl, h.2, free_with free other.1 h.3)
@@ -84,8 +84,8 @@ module _ (ps : Places) (k : Key) (p many : ℕ) where
             let both : true ≡ false = sym (own_key r) ∙ ap (eq_by_cmp key_cmp r) (apart r k p was.1 there) ∙ was.0 in cc
     free_more (q ∷ free) h = (h.0, λ r at. h.1 r (left_at ps k r q at).1, all_more (λ n. n ≢ q) free p h.2 (λ same. h.1 k (there ∙ ap Some same)), free_more free h.3)
 
--- another chain at a place leaves as many
-pub same_free : {X : Type 0} (ps : Places) (cs : Chains X) (p : ℕ) (d : Chain X) (free : List ℕ) → AreFree ps (length cs) free → AreFree ps (length (set cs p d)) free
+-- another chain at a slot leaves as many
+pub same_free : {X : Type 0} (ps : KeySlots) (cs : Chains X) (p : ℕ) (d : Chain X) (free : List ℕ) → AreFree ps (length cs) free → AreFree ps (length (set cs p d)) free
 same_free ps cs p d free are = subst (λ n. AreFree ps n free) (sym (length-set cs p d)) are
 
 pub first_free : (free : List ℕ) (p : ℕ) → 0 < length free → p ≡ slice_index_or free 0 p → free ≡ p ∷ drop 1 free
@@ -99,9 +99,9 @@ first_taken free rest None p some lookup is tail = absurd (none-some p is)
 first_taken free rest (Some x) p some lookup is tail =
     first_free free p (some refl) (subst (λ y. y ≡ slice_index_or free 0 y) (same_Some x.now p is) lookup) ∙ ap (λ xs. p ∷ xs) (sym tail)
 
--- ---- a new key at such a place
+-- ---- a new key at such a slot
 
-module _ {X : Type 0} (ps : Places) (cs : Chains X) (k : Key) (p : ℕ) (free : List ℕ) (placed : ArePlaced ps cs) (none : get ps k ≡ None) (are : AreFree ps (length cs) (p ∷ free)) where
+module _ {X : Type 0} (ps : KeySlots) (cs : Chains X) (k : Key) (p : ℕ) (free : List ℕ) (slotted : HaveSlots ps cs) (none : get ps k ≡ None) (are : AreFree ps (length cs) (p ∷ free)) where
   taken : (q : Key) → get (insert ps k p) q ≡ cond (eq_by_cmp key_cmp q k) (Some p) (get ps q)
   taken q = get-insert key_cmp_total ps k p q
 
@@ -110,7 +110,7 @@ module _ {X : Type 0} (ps : Places) (cs : Chains X) (k : Key) (p : ℕ) (free : 
     where
       by : (rows : List (Row X)) → rows_there cs p ≡ rows → rows_there cs p ≡ []
       by [] is = is
-      by (r ∷ rs) is = let owner = placed.owned p (subst (λ rows. 0 < length rows) (sym is) (omega arith)) in absurd (are.1 owner.0 owner.1)
+      by (r ∷ rs) is = let owner = slotted.owned p (subst (λ rows. 0 < length rows) (sym is) (omega arith)) in absurd (are.1 owner.0 owner.1)
 
   old_at : (q : Key) (n : ℕ) → get (insert ps k p) q ≡ Some n → eq_by_cmp key_cmp q k ≡ false → get ps q ≡ Some n
   old_at q n at other = sym (taken q ∙ ap (λ b. cond b (Some p) (get ps q)) other) ∙ at
@@ -125,22 +125,22 @@ module _ {X : Type 0} (ps : Places) (cs : Chains X) (k : Key) (p : ℕ) (free : 
       by true tie = absurd (none-some n (sym none ∙ ap (get ps) (sym (same_key q k tie)) ∙ at))
       by false other = taken q ∙ ap (λ b. cond b (Some p) (get ps q)) other ∙ at
 
-  pub placed_taken : ArePlaced (insert ps k p) cs
-  placed_taken = record {
+  pub slotted_taken : HaveSlots (insert ps k p) cs
+  slotted_taken = record {
     within = λ q n at. within q n at (eq_by_cmp key_cmp q k) refl;
     apart = λ q r n one two. apart q r n one two (eq_by_cmp key_cmp q k) refl (eq_by_cmp key_cmp r k) refl;
-    owned = λ n some. let owner = placed.owned n some in (owner.0, keeps owner.0 n owner.1);
+    owned = λ n some. let owner = slotted.owned n some in (owner.0, keeps owner.0 n owner.1);
   }
     where
       within : (q : Key) (n : ℕ) → get (insert ps k p) q ≡ Some n → (b : Bool) → eq_by_cmp key_cmp q k ≡ b → n < length cs
       within q n at true tie = subst (λ m. m < length cs) (new_at q n at tie) are.0
-      within q n at false other = placed.within q n (old_at q n at other)
+      within q n at false other = slotted.within q n (old_at q n at other)
 
       apart : (q r : Key) (n : ℕ) → get (insert ps k p) q ≡ Some n → get (insert ps k p) r ≡ Some n → (a : Bool) → eq_by_cmp key_cmp q k ≡ a → (b : Bool) → eq_by_cmp key_cmp r k ≡ b → q ≡ r
       apart q r n one two true first true second = same_key q k first ∙ sym (same_key r k second)
       apart q r n one two true first false second = absurd (are.1 r (old_at r n two second ∙ ap Some (sym (new_at q n one first))))
       apart q r n one two false first true second = absurd (are.1 q (old_at q n one first ∙ ap Some (sym (new_at r n two second))))
-      apart q r n one two false first false second = placed.apart q r n (old_at q n one first) (old_at r n two second)
+      apart q r n one two false first false second = slotted.apart q r n (old_at q n one first) (old_at r n two second)
 
   pub still_taken : AreStill ps cs (insert ps k p) cs
   still_taken = record {
@@ -158,13 +158,13 @@ module _ {X : Type 0} (ps : Places) (cs : Chains X) (k : Key) (p : ℕ) (free : 
 
 -- ---- a key that goes, and its chain with it
 
-module _ {X : Type 0} (ps : Places) (cs : Chains X) (ss : List Superseding) (many p : ℕ) (k : Key) (d : Chain X)
-    (whole : IsWhole ps cs ss many) (there : get ps k ≡ Some p) (removal : IsRemoval (rows_there cs p)) (empty : d.rows ≡ []) where
+module _ {X : Type 0} (ps : KeySlots) (cs : Chains X) (ss : List Superseding) (many p : ℕ) (k : Key) (d : Chain X)
+    (consistent : IsConsistent ps cs ss many) (there : get ps k ≡ Some p) (removal : IsRemoval (rows_there cs p)) (empty : d.rows ≡ []) where
   within_cs : p < length cs
-  within_cs = whole.placed.within k p there
+  within_cs = consistent.slotted.within k p there
 
   after : (q : Key) → rows_in ps (set cs p d) q ≡ cond (eq_by_cmp key_cmp k q) d.rows (rows_in ps cs q)
-  after = rows_after ps cs (set cs p d) p d k whole.placed there refl
+  after = rows_after ps cs (set cs p d) p d k consistent.slotted there refl
 
   -- what each key has then
   rows_gone : (q : Key) → rows_in (remove ps k) (set cs p d) q ≡ cond (eq_by_cmp key_cmp q k) [] (rows_in ps cs q)
@@ -199,14 +199,14 @@ module _ {X : Type 0} (ps : Places) (cs : Chains X) (ss : List Superseding) (man
       let is = ap count rows_with_it in
       let more = count_written (by_key (remove ps k) (set cs p d)) k row_gone in
       let none = ap length (rows_are (remove ps k) (set cs p d) k ∙ gone_here k (own_key k)) in
-      let was = whole.counted in omega arith
+      let was = consistent.counted in omega arith
 
-  placed_forgotten : ArePlaced (remove ps k) (set cs p d)
-  placed_forgotten = record {
-    within = λ q n at. let was = whole.placed.within q n (left_at ps k q n at).1 in let size = as_many cs (set cs p d) p d within_cs refl in omega arith;
-    apart = λ q r n one two. whole.placed.apart q r n (left_at ps k q n one).1 (left_at ps k r n two).1;
+  slotted_forgotten : HaveSlots (remove ps k) (set cs p d)
+  slotted_forgotten = record {
+    within = λ q n at. let was = consistent.slotted.within q n (left_at ps k q n at).1 in let size = as_many cs (set cs p d) p d within_cs refl in omega arith;
+    apart = λ q r n one two. consistent.slotted.apart q r n (left_at ps k q n one).1 (left_at ps k r n two).1;
     owned = each_chain cs (set cs p d) p d within_cs refl (λ n (c : Chain X). 0 < length c.rows → IsOwned (remove ps k) n)
-        (λ some. let none = ap length empty in absurd (omega (arith, none, some))) (λ n other some. let owner = whole.placed.owned n some in (owner.0, by n other owner.0 owner.1 (eq_by_cmp key_cmp owner.0 k) refl));
+        (λ some. let none = ap length empty in absurd (omega (arith, none, some))) (λ n other some. let owner = consistent.slotted.owned n some in (owner.0, by n other owner.0 owner.1 (eq_by_cmp key_cmp owner.0 k) refl));
   }
     where
       by : (n : ℕ) → (n == p) ≡ false → (q : Key) → get ps q ≡ Some n → (b : Bool) → eq_by_cmp key_cmp q k ≡ b → get (remove ps k) q ≡ Some n
@@ -216,18 +216,18 @@ module _ {X : Type 0} (ps : Places) (cs : Chains X) (ss : List Superseding) (man
           let both : true ≡ false = sym yes ∙ other in absurd cc
       by n other q at false tie = left_with ps k q tie ∙ at
 
-  pub whole_forgotten : IsWhole (remove ps k) (set cs p d) ss (many - 1)
-  whole_forgotten = record {
-    placed = placed_forgotten;
-    order = whole.order;
+  pub consistent_forgotten : IsConsistent (remove ps k) (set cs p d) ss (many - 1)
+  consistent_forgotten = record {
+    slotted = slotted_forgotten;
+    order = consistent.order;
     waits = each_chain cs (set cs p d) p d within_cs refl (λ q (c : Chain X). waiting q ss ≡ numbers (drop 1 c.rows))
-        (whole.waits p ∙ ap (λ rows. numbers (drop 1 rows)) removal.1 ∙ sym (ap (λ rows. numbers (drop 1 rows)) empty)) (λ q other. whole.waits q);
+        (consistent.waits p ∙ ap (λ rows. numbers (drop 1 rows)) removal.1 ∙ sym (ap (λ rows. numbers (drop 1 rows)) empty)) (λ q other. consistent.waits q);
     counted = let less = count_forgotten in omega arith;
   }
 
   pub free_forgotten : (free : List ℕ) → AreFree ps (length cs) free → AreFree (remove ps k) (length (set cs p d)) (free ++ p ∷ [])
   free_forgotten free are =
-      subst (λ n. AreFree (remove ps k) n (free ++ p ∷ [])) (sym (as_many cs (set cs p d) p d within_cs refl)) (free_more ps k p (length cs) there within_cs whole.placed.apart free are)
+      subst (λ n. AreFree (remove ps k) n (free ++ p ∷ [])) (sym (as_many cs (set cs p d) p d within_cs refl)) (free_more ps k p (length cs) there within_cs consistent.slotted.apart free are)
 
   pub listed_forgotten : (i j : Index) → i.all ≡ ps → j.all ≡ remove ps k → ((q : Key) → q ≢ k → get j.listed q ≡ get i.listed q) → AreListed i cs → AreListed j (set cs p d)
   listed_forgotten i j old new others listed q none = ap (λ m. last_state (rows_in m (set cs p d) q)) new ∙ by (eq_by_cmp key_cmp q k) refl
@@ -250,7 +250,7 @@ module _ {X : Type 0} (ps : Places) (cs : Chains X) (ss : List Superseding) (man
       by q true tie = inr (rows_are (remove ps k) (set cs p d) q ∙ gone_here q tie, (removal.0, rows_are ps cs q ∙ was_here q tie))
       by q false other = inl (rows_are (remove ps k) (set cs p d) q ∙ gone_elsewhere q other ∙ sym (rows_are ps cs q))
 
-  pub forgotten_seen : (v : Versions X) (floor : ℕ) (room : Option ℕ) (qs : Places) → room ≡ None → qs ≡ remove ps k → seen (by_key ps cs) floor (room_key ps room) ≡ v
+  pub forgotten_seen : (v : Versions X) (floor : ℕ) (room : Option ℕ) (qs : KeySlots) → room ≡ None → qs ≡ remove ps k → seen (by_key ps cs) floor (room_key ps room) ≡ v
       → AreForgotten v (seen (by_key qs (set cs p d)) floor (room_key qs room))
   forgotten_seen v floor room qs none gone view =
       subst (λ m. AreForgotten v (seen (by_key m (set cs p d)) floor (room_key m room))) (sym gone)
@@ -260,8 +260,8 @@ module _ {X : Type 0} (ps : Places) (cs : Chains X) (ss : List Superseding) (man
 -- ---- what is left
 
 module _ {X : Type 0} where
-  pub removal_there : (ps : Places) (cs : Chains X) (k : Key) (p : ℕ) (c : Chain X) → ArePlaced ps cs → get ps k ≡ Some p → c ≡ get_or cs p c → IsRemoval c.rows → IsRemoval (rows_there cs p)
-  removal_there ps cs k p c placed there read = subst (λ (x : Chain X). IsRemoval x.rows) (chain_found cs p c (placed.within k p there) read)
+  pub removal_there : (ps : KeySlots) (cs : Chains X) (k : Key) (p : ℕ) (c : Chain X) → HaveSlots ps cs → get ps k ≡ Some p → c ≡ get_or cs p c → IsRemoval c.rows → IsRemoval (rows_there cs p)
+  removal_there ps cs k p c slotted there read = subst (λ (x : Chain X). IsRemoval x.rows) (chain_found cs p c (slotted.within k p there) read)
 
   pub forgotten_none : (v w : Versions X) → w ≡ v → AreForgotten v w
   forgotten_none v w is = subst (AreForgotten v) (sym is) (record { floor = refl; room = refl; rows = λ k. inl refl })

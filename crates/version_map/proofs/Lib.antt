@@ -4,11 +4,11 @@ pub mod Collections
 pub mod Rows
 pub mod Records
 pub mod Chains
-pub mod Placing
+pub mod SlotChains
 pub mod Steps
 pub mod Lists
 pub mod Readings
-pub mod Aside
+pub mod Tombstones
 pub mod Forgotten
 pub mod Added
 pub mod ShortNames

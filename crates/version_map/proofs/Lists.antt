@@ -16,7 +16,7 @@ use Rattle.version_map.specs.Keys.{is_of}
 use Rattle.version_map.specs.Keyed.{collection, put_at}
 use Rattle.version_map.specs.Rows.{Row, state_to}
 use Rattle.version_map.specs.Versions.{IsAbove, RowsByKey, Versions, compacted, rows_at, state_at, states_to, value, with_state}
-use Rattle.version_map.specs.Whole.{Chains, Places, by_key, key_at, rows_there, values_in}
+use Rattle.version_map.specs.Consistent.{Chains, KeySlots, by_key, key_at, rows_there, values_in}
 use Rattle.version_map.proofs.Chains.{below_none, get_put_at, is_held, rows_are, same_key}
 use Rattle.version_map.proofs.Rows.{row_here}
 use Rattle.version_map.proofs.Steps.{room_key, seen, value_left}
@@ -103,7 +103,7 @@ module _ {X : Type 0} where
       by q true = let upto : nat_le n n ≡ true = grind (arith, nat_tests) in ap (option_and_then (λ r. r.1)) (row_here n (rows_at m k) (n, s) upto)
       by q false = refl
 
-  pub written_view : (ps : Places) (cs ds : Chains X) (p n : ℕ) (k : Key) (s : Option X) (v : Versions X) (floor : ℕ) (room : Option ℕ)
+  pub written_view : (ps : KeySlots) (cs ds : Chains X) (p n : ℕ) (k : Key) (s : Option X) (v : Versions X) (floor : ℕ) (room : Option ℕ)
       → seen (by_key ps cs) floor (room_key ps room) ≡ v → Some p ≡ room → key_at ps p ≡ Some k → IsAbove v.rows n
       → by_key ps ds ≡ insert (by_key ps cs) k (rows_at (by_key ps cs) k ++ (n, s) ∷ []) → IfSome v.room (λ key. state_at (by_key ps ds) n ≡ put_at (state_at v.rows n) key s)
   written_view ps cs ds p n k s v floor room view is at above rows =
@@ -111,7 +111,7 @@ module _ {X : Type 0} where
       (subst (λ (r : Option Key). IfSome r (λ key. state_at (by_key ps ds) n ≡ put_at (state_at (by_key ps cs) n) key s)) (sym at ∙ ap (room_key ps) is)
       (ap (λ m. state_at m n) rows ∙ state_more (by_key ps cs) k n s (subst (λ (u : Versions X). IsAbove u.rows n) (sym view) above)))
 
-  -- ---- the rows of the places, as entries
+  -- ---- the rows of the slots, as entries
 
   abbrev raw : Chains X → List (Key × ℕ) → List (Key × List (Row X))
   raw cs es = map (λ e. (e.0, rows_there cs e.1)) es
@@ -132,20 +132,20 @@ module _ {X : Type 0} where
   sorted_raw cs [] h = refl
   sorted_raw cs (e ∷ es) h = let parts = and_parts (below_all key_cmp e.0 es) (is_sorted key_cmp es) h in rw (below_raw e.0 cs es parts.0, sorted_raw cs es parts.1) refl
 
-  state_by_place : (n : ℕ) (cs : Chains X) (o : Option ℕ) → state_by n (option_map (rows_there cs) o) ≡ state_to n (option_map_or (rows_there cs) o [])
-  state_by_place n cs None = refl
-  state_by_place n cs (Some p) = refl
+  state_by_slot : (n : ℕ) (cs : Chains X) (o : Option ℕ) → state_by n (option_map (rows_there cs) o) ≡ state_to n (option_map_or (rows_there cs) o [])
+  state_by_slot n cs None = refl
+  state_by_slot n cs (Some p) = refl
 
   -- ---- what is there, of a kind in a namespace
 
-  state_is : (n : ℕ) (ps : Places) (cs : Chains X) → state_at (by_key ps cs) n ≡ from_sorted (states_to n (raw cs (entries ps)))
+  state_is : (n : ℕ) (ps : KeySlots) (cs : Chains X) → state_at (by_key ps cs) n ≡ from_sorted (states_to n (raw cs (entries ps)))
   state_is n ps cs =
       let rows = sorted_raw cs (entries ps) (is_held (is_sorted key_cmp (entries ps)) (entries_sorted ps)) in
       let states = states_to n (raw cs (entries ps)) in
       same_map key_cmp_total exact_keys _ _ (λ q.
       get_state (by_key ps cs) n q ∙ ap (state_to n) (rows_are ps cs q) ∙ ap (λ o. state_to n (option_map_or (rows_there cs) o [])) (get-entries ps q)
       ∙ sym (get-from_sorted key_cmp states q (holds (is_sorted key_cmp states) (sorted_states n (raw cs (entries ps)) rows))
-      ∙ find_states n q (raw cs (entries ps)) rows ∙ ap (state_by n) (find_raw q cs (entries ps)) ∙ state_by_place n cs (find key_cmp q (entries ps))))
+      ∙ find_states n q (raw cs (entries ps)) rows ∙ ap (state_by n) (find_raw q cs (entries ps)) ∙ state_by_slot n cs (find key_cmp q (entries ps))))
 
   filter_with : (p : Key → Bool) (k : Key) (s : Option X) (es : List (Key × X)) (b : Bool) → p k ≡ b → where_key key_cmp p (with_state k s es) ≡ cond b (with_state k s (where_key key_cmp p es)) (where_key key_cmp p es)
   filter_with p k None es true is = refl
@@ -169,7 +169,7 @@ module _ {X : Type 0} where
       by None = refl
       by (Some x) = refl
 
-  pub collection_is : (n : ℕ) (ps : Places) (cs : Chains X) (m : RowsByKey X) (kind : Kind) (namespace : List ℕ) → by_key ps cs ≡ m
+  pub collection_is : (n : ℕ) (ps : KeySlots) (cs : Chains X) (m : RowsByKey X) (kind : Kind) (namespace : List ℕ) → by_key ps cs ≡ m
       → values_in n cs (collection ps kind namespace) ≡ collection (state_at m n) kind namespace
   collection_is n ps cs m kind namespace is =
       let p = is_of kind namespace in

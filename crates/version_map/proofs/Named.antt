@@ -1,4 +1,4 @@
--- The places of keys as one map: what it has at a key is what is found by kind, by namespace and by name.
+-- The slots of keys as one map: what it has at a key is what is found by kind, by namespace and by name.
 use Rattle.std.proofs.Common.{◌≡◌, ℕ, ◌==◌, ◌<◌, length, get_or, Bool, true, false, ◌&&◌, not, cond, List, [], ◌∷◌, bytes_eq, Option, Some, None, option_and_then, refl, sym, ap, ◌∙◌, arith}
 use Rattle.std.specs.Prelude.{slice_get}
 use Rattle.std.specs.BTreeMap.{BTreeMap, UpdatesBy, is_at}
@@ -17,7 +17,7 @@ use Rattle.objects.specs.declared.kind.Kind.TheVariants.{StatefulSet, Pod, Persi
 use Rattle.objects.specs.Key.{key_cmp, key_parts, kind_index}
 use Rattle.objects.specs.KeyOrder.{exact_keys, key_cmp_total}
 use Rattle.version_map.specs.Keys.{is_of}
-use Rattle.version_map.specs.Named.{at_name, at_text, Names, Namespaces, Places, all_kinds, both, in_namespaces, is_kind, joined, named, of_kind, of_kinds, place_in, placed, put_all}
+use Rattle.version_map.specs.Named.{at_name, at_text, Names, Namespaces, KeySlots, all_kinds, both, in_namespaces, is_kind, joined, named, of_kind, of_kinds, slot_in, slotted, put_all}
 
 abbrev pub Text : Type 0
 Text = List ℕ
@@ -66,7 +66,7 @@ updates_text text m n w written q = written.0 q ∙ ap (λ b. cond b w (at_text 
 
 -- ---- maps that are joined
 
-pub get_put_all : (es : List (Key × ℕ)) (n : Places) (k : Key) → get (put_all es n) k ≡ option_or (find key_cmp k es) (get n k)
+pub get_put_all : (es : List (Key × ℕ)) (n : KeySlots) (k : Key) → get (put_all es n) k ≡ option_or (find key_cmp k es) (get n k)
 get_put_all [] n k = refl
 get_put_all (e ∷ es) n k =
     get-insert key_cmp_total (put_all es n) e.0 e.1 k ∙ ap (cond (eq_by_cmp key_cmp k e.0) (Some e.1)) (get_put_all es n k)
@@ -75,10 +75,10 @@ get_put_all (e ∷ es) n k =
       | false ↦ refl
     ]
 
-pub get_both : (m n : Places) (k : Key) → get (both m n) k ≡ option_or (get m k) (get n k)
+pub get_both : (m n : KeySlots) (k : Key) → get (both m n) k ≡ option_or (get m k) (get n k)
 get_both m n k = get_put_all (entries m) n k ∙ ap (λ o. option_or o (get n k)) (sym (get-entries m k))
 
-get_kept : (holds : Key → Bool) (m : Places) (k : Key) → get (retain_keys m holds) k ≡ cond (holds k) (get m k) None
+get_kept : (holds : Key → Bool) (m : KeySlots) (k : Key) → get (retain_keys m holds) k ≡ cond (holds k) (get m k) None
 get_kept holds m k = get-retain_keys m holds k (λ x tie. ap holds (sym (exact_keys k x tie)))
 
 chosen : (b : Bool) (p q : Option ℕ) → option_or (cond b p None) (cond (not b) q None) ≡ cond b p q
@@ -86,7 +86,7 @@ chosen true None q = refl
 chosen true (Some p) q = refl
 chosen false p q = refl
 
-get_joined : (holds : Key → Bool) (m n : Places) (k : Key) → get (joined holds m n) k ≡ cond (holds k) (get m k) (get n k)
+get_joined : (holds : Key → Bool) (m n : KeySlots) (k : Key) → get (joined holds m n) k ≡ cond (holds k) (get m k) (get n k)
 get_joined holds m n k =
     get_put_all (entries (retain_keys m holds)) (retain_keys n (λ q. not (holds q))) k
     ∙ ap (λ o. option_or o (get (retain_keys n (λ q. not (holds q))) k)) (sym (get-entries (retain_keys m holds) k) ∙ get_kept holds m k)
@@ -94,51 +94,51 @@ get_joined holds m n k =
 
 -- ---- the namespaces of a kind
 
-abbrev place_by : List (Text × Names) → Key → Option ℕ
-place_by es k = option_and_then (λ (names : Names). by_name names k.name) (by_name es k.namespace)
+abbrev slot_by : List (Text × Names) → Key → Option ℕ
+slot_by es k = option_and_then (λ (names : Names). by_name names k.name) (by_name es k.namespace)
 
 either : (b : Bool) (o : Option ℕ) → o ≡ cond b o o
 either true o = refl
 either false o = refl
 
-abbrev first_of : Kind → Text × Names → Places
+abbrev first_of : Kind → Text × Names → KeySlots
 first_of kind e = from_entries (named (λ w. w) kind e.0 e.1)
 
-get_namespaces : (kind : Kind) (es : List (Text × Names)) (k : Key) → get (in_namespaces kind es) k ≡ cond (is_kind kind k) (place_by es k) None
+get_namespaces : (kind : Kind) (es : List (Text × Names)) (k : Key) → get (in_namespaces kind es) k ≡ cond (is_kind kind k) (slot_by es k) None
 get_namespaces kind [] k = get-empty key_cmp k ∙ either (is_kind kind k) None
 get_namespaces kind (e ∷ es) k = get_joined (is_of kind e.0) (first_of kind e) (in_namespaces kind es) k ∙ by (is_kind kind k) refl (bytes_eq k.namespace e.0) refl (get_namespaces kind es k)
   where
     -- the first namespace, if it is the key's
-    first : (b : Bool) → bytes_eq k.namespace e.0 ≡ b → place_by (e ∷ es) k ≡ cond b (by_name e.1 k.name) (place_by es k)
+    first : (b : Bool) → bytes_eq k.namespace e.0 ≡ b → slot_by (e ∷ es) k ≡ cond b (by_name e.1 k.name) (slot_by es k)
     first b is = ap (λ c. option_and_then (λ (names : Names). by_name names k.name) (cond c (Some e.1) (by_name es k.namespace))) (is_eq-slice_cmp k.namespace e.0 ∙ is)
-        ∙ elim b as (λ c. option_and_then (λ (names : Names). by_name names k.name) (cond c (Some e.1) (by_name es k.namespace)) ≡ cond c (by_name e.1 k.name) (place_by es k)) [ true ↦ refl | false ↦ refl ]
+        ∙ elim b as (λ c. option_and_then (λ (names : Names). by_name names k.name) (cond c (Some e.1) (by_name es k.namespace)) ≡ cond c (by_name e.1 k.name) (slot_by es k)) [ true ↦ refl | false ↦ refl ]
 
     by : (a : Bool) → is_kind kind k ≡ a → (b : Bool) → bytes_eq k.namespace e.0 ≡ b
-        → get (in_namespaces kind es) k ≡ cond (is_kind kind k) (place_by es k) None
-        → cond (is_of kind e.0 k) (get (first_of kind e) k) (get (in_namespaces kind es) k) ≡ cond (is_kind kind k) (place_by (e ∷ es) k) None
+        → get (in_namespaces kind es) k ≡ cond (is_kind kind k) (slot_by es k) None
+        → cond (is_of kind e.0 k) (get (first_of kind e) k) (get (in_namespaces kind es) k) ≡ cond (is_kind kind k) (slot_by (e ∷ es) k) None
     by true kinds true spaces rest =
         let is : is_of kind e.0 k ≡ true = rw (kinds, spaces) refl in
         ap (λ c. cond c (get (first_of kind e) k) (get (in_namespaces kind es) k)) is ∙ get-from_entries key_cmp_total (named (λ w. w) kind e.0 e.1) k
-        ∙ find_named (λ w. w) kind e.0 k e.1 is ∙ sym (ap (λ c. cond c (place_by (e ∷ es) k) None) kinds ∙ first true spaces)
+        ∙ find_named (λ w. w) kind e.0 k e.1 is ∙ sym (ap (λ c. cond c (slot_by (e ∷ es) k) None) kinds ∙ first true spaces)
     by true kinds false spaces rest =
         let is : is_of kind e.0 k ≡ false = rw (kinds, spaces) refl in
-        ap (λ c. cond c (get (first_of kind e) k) (get (in_namespaces kind es) k)) is ∙ rest ∙ ap (λ c. cond c (place_by es k) None) kinds
-        ∙ sym (ap (λ c. cond c (place_by (e ∷ es) k) None) kinds ∙ first false spaces)
+        ap (λ c. cond c (get (first_of kind e) k) (get (in_namespaces kind es) k)) is ∙ rest ∙ ap (λ c. cond c (slot_by es k) None) kinds
+        ∙ sym (ap (λ c. cond c (slot_by (e ∷ es) k) None) kinds ∙ first false spaces)
     by false kinds b spaces rest =
         let is : is_of kind e.0 k ≡ false = rw kinds refl in
-        ap (λ c. cond c (get (first_of kind e) k) (get (in_namespaces kind es) k)) is ∙ rest ∙ ap (λ c. cond c (place_by es k) None) kinds
-        ∙ sym (ap (λ c. cond c (place_by (e ∷ es) k) None) kinds)
+        ap (λ c. cond c (get (first_of kind e) k) (get (in_namespaces kind es) k)) is ∙ rest ∙ ap (λ c. cond c (slot_by es k) None) kinds
+        ∙ sym (ap (λ c. cond c (slot_by (e ∷ es) k) None) kinds)
 
 -- ---- all kinds
 
-abbrev pub place_of : List Namespaces → Key → Option ℕ
-place_of ms k = option_and_then (λ m. place_in m k.namespace k.name) (slice_get ms (kind_index k.kind))
+abbrev pub slot_of : List Namespaces → Key → Option ℕ
+slot_of ms k = option_and_then (λ m. slot_in m k.namespace k.name) (slice_get ms (kind_index k.kind))
 
 get_kind : (ms : List Namespaces) (kind : Kind) (k : Key)
-    → get (of_kind ms kind) k ≡ cond (is_kind kind k) (option_and_then (λ m. place_in m k.namespace k.name) (slice_get ms (kind_index kind))) None
+    → get (of_kind ms kind) k ≡ cond (is_kind kind k) (option_and_then (λ m. slot_in m k.namespace k.name) (slice_get ms (kind_index kind))) None
 get_kind ms kind k = get_namespaces kind (option_map_or (λ (m : Namespaces). m.entries) (slice_get ms (kind_index kind)) []) k ∙ ap (λ o. cond (is_kind kind k) o None) (by (slice_get ms (kind_index kind)))
   where
-    by : (o : Option Namespaces) → place_by (option_map_or (λ (m : Namespaces). m.entries) o []) k ≡ option_and_then (λ m. place_in m k.namespace k.name) o
+    by : (o : Option Namespaces) → slot_by (option_map_or (λ (m : Namespaces). m.entries) o []) k ≡ option_and_then (λ m. slot_in m k.namespace k.name) o
     by None = refl
     by (Some m) = refl
 
@@ -150,39 +150,39 @@ get_kinds : (ms : List Namespaces) (kinds : List Kind) (k : Key) → get (of_kin
 get_kinds ms [] k = get-empty key_cmp k
 get_kinds ms (kind ∷ kinds) k = get_joined (is_kind kind) (of_kind ms kind) (of_kinds ms kinds) k ∙ ap (cond (is_kind kind k) (get (of_kind ms kind) k)) (get_kinds ms kinds k)
 
-pub get_placed : (ms : List Namespaces) (k : Key) → get (placed ms) k ≡ place_of ms k
-get_placed ms k = get_kinds ms all_kinds k ∙ at k.kind k.namespace k.name
+pub get_slotted : (ms : List Namespaces) (k : Key) → get (slotted ms) k ≡ slot_of ms k
+get_slotted ms k = get_kinds ms all_kinds k ∙ at k.kind k.namespace k.name
   where
-    at : (kind : Kind) (namespace name : List ℕ) → by_kind ms all_kinds (key_parts kind namespace name) ≡ place_of ms (key_parts kind namespace name)
+    at : (kind : Kind) (namespace name : List ℕ) → by_kind ms all_kinds (key_parts kind namespace name) ≡ slot_of ms (key_parts kind namespace name)
     at StatefulSet s n = get_kind ms StatefulSet (key_parts StatefulSet s n)
     at Pod s n = get_kind ms Pod (key_parts Pod s n)
     at PersistentVolumeClaim s n = get_kind ms PersistentVolumeClaim (key_parts PersistentVolumeClaim s n)
     at ControllerRevision s n = get_kind ms ControllerRevision (key_parts ControllerRevision s n)
 
 -- none where no kind has a namespace
-pub none_placed : (a b c d : Namespaces) → a.entries ≡ [] → b.entries ≡ [] → c.entries ≡ [] → d.entries ≡ [] → placed (a ∷ b ∷ c ∷ d ∷ []) ≡ empty
-none_placed a b c d none_a none_b none_c none_d = same_map key_cmp_total exact_keys _ _ (λ k. get_placed (a ∷ b ∷ c ∷ d ∷ []) k ∙ at k.kind k.namespace k.name ∙ sym (get-empty key_cmp k))
+pub none_slotted : (a b c d : Namespaces) → a.entries ≡ [] → b.entries ≡ [] → c.entries ≡ [] → d.entries ≡ [] → slotted (a ∷ b ∷ c ∷ d ∷ []) ≡ empty
+none_slotted a b c d none_a none_b none_c none_d = same_map key_cmp_total exact_keys _ _ (λ k. get_slotted (a ∷ b ∷ c ∷ d ∷ []) k ∙ at k.kind k.namespace k.name ∙ sym (get-empty key_cmp k))
   where
-    at : (kind : Kind) (namespace name : List ℕ) → place_of (a ∷ b ∷ c ∷ d ∷ []) (key_parts kind namespace name) ≡ None
-    at StatefulSet s n = ap (λ (es : List (Text × Names)). place_by es (key_parts StatefulSet s n)) none_a
-    at Pod s n = ap (λ (es : List (Text × Names)). place_by es (key_parts Pod s n)) none_b
-    at PersistentVolumeClaim s n = ap (λ (es : List (Text × Names)). place_by es (key_parts PersistentVolumeClaim s n)) none_c
-    at ControllerRevision s n = ap (λ (es : List (Text × Names)). place_by es (key_parts ControllerRevision s n)) none_d
+    at : (kind : Kind) (namespace name : List ℕ) → slot_of (a ∷ b ∷ c ∷ d ∷ []) (key_parts kind namespace name) ≡ None
+    at StatefulSet s n = ap (λ (es : List (Text × Names)). slot_by es (key_parts StatefulSet s n)) none_a
+    at Pod s n = ap (λ (es : List (Text × Names)). slot_by es (key_parts Pod s n)) none_b
+    at PersistentVolumeClaim s n = ap (λ (es : List (Text × Names)). slot_by es (key_parts PersistentVolumeClaim s n)) none_c
+    at ControllerRevision s n = ap (λ (es : List (Text × Names)). slot_by es (key_parts ControllerRevision s n)) none_d
 
 -- ---- what is read
 
 -- the namespaces of the key's kind, as they are read
-module _ (ms : List Namespaces) (m : Places) (i : ℕ) (d : Namespaces) (view : placed ms ≡ m) (many : length ms ≡ 4) (within : i < 4) where
-  pub place_read : (k : Key) → i ≡ kind_index k.kind → get m k ≡ place_in (get_or ms i d) k.namespace k.name
-  place_read k is =
-      ap (λ n. get n k) (sym view) ∙ get_placed ms k
-      ∙ ap (option_and_then (λ y. place_in y k.namespace k.name)) (ap (slice_get ms) (sym is) ∙ slice_get-get_or ms i d (omega (arith, many, within)))
+module _ (ms : List Namespaces) (m : KeySlots) (i : ℕ) (d : Namespaces) (view : slotted ms ≡ m) (many : length ms ≡ 4) (within : i < 4) where
+  pub slot_read : (k : Key) → i ≡ kind_index k.kind → get m k ≡ slot_in (get_or ms i d) k.namespace k.name
+  slot_read k is =
+      ap (λ n. get n k) (sym view) ∙ get_slotted ms k
+      ∙ ap (option_and_then (λ y. slot_in y k.namespace k.name)) (ap (slice_get ms) (sym is) ∙ slice_get-get_or ms i d (omega (arith, many, within)))
 
-  pub key_read : (k : Key) (kind : Kind) (space name : List ℕ) → key_parts kind space name ≡ k → i ≡ kind_index kind → get m k ≡ place_in (get_or ms i d) space name
-  key_read k kind space name parts is = sym (ap (λ q. get m q) parts) ∙ place_read (key_parts kind space name) is
+  pub key_read : (k : Key) (kind : Kind) (space name : List ℕ) → key_parts kind space name ≡ k → i ≡ kind_index kind → get m k ≡ slot_in (get_or ms i d) space name
+  key_read k kind space name parts is = sym (ap (λ q. get m q) parts) ∙ slot_read (key_parts kind space name) is
 
-pub name_read : (x : Namespaces) (names : Names) (a space name : List ℕ) → a ≡ space → Some names ≡ at_text x a → place_in x space name ≡ at_name names name
+pub name_read : (x : Namespaces) (names : Names) (a space name : List ℕ) → a ≡ space → Some names ≡ at_text x a → slot_in x space name ≡ at_name names name
 name_read x names a space name same is = ap (option_and_then (λ (y : Names). at_name y name)) (ap (at_text x) (sym same) ∙ sym is)
 
-pub none_read : (x : Namespaces) (a space name : List ℕ) → a ≡ space → None ≡ at_text x a → place_in x space name ≡ None
+pub none_read : (x : Namespaces) (a space name : List ℕ) → a ≡ space → None ≡ at_text x a → slot_in x space name ≡ None
 none_read x a space name same is = ap (option_and_then (λ (y : Names). at_name y name)) (ap (at_text x) (sym same) ∙ sym is)

@@ -15,20 +15,20 @@ use Rattle.objects.specs.Key.{key_cmp}
 use Rattle.version_map.specs.declared.map.Superseding.{Superseding}
 use Rattle.version_map.specs.Rows.{AreBelow, Chain, Row, kept, last_row, state_to}
 use Rattle.version_map.specs.Versions.{IsAbove, RowsByKey, Versions, compacted, count, count_in, newest, opening, pushed, rows_at, value, with_room}
-use Rattle.version_map.specs.Whole.{ArePlaced, AreStill, Chains, HasRoom, IsInOrder, IsOwned, IsWhole, Places, by_key, chain_there, is_roomy, key_at, numbers, rows_by, rows_in, rows_there, waiting}
+use Rattle.version_map.specs.Consistent.{HaveSlots, AreStill, Chains, HasRoom, IsInOrder, IsOwned, IsConsistent, KeySlots, by_key, chain_there, is_roomy, key_at, numbers, rows_by, rows_in, rows_there, waiting}
 use Rattle.version_map.proofs.Rows.{SecondIs, all_kept, all_more, all_weaker, kept_second, last_kept, numbers_more, row_kept, second_is}
 use Rattle.version_map.proofs.Chains.{count_written, none_compacted, own_key, rows_are, rows_compacted, same_compacted, same_key, same_rows, some_rows, written_rows}
-use Rattle.version_map.proofs.Placing.{as_many, chain_elsewhere, chain_found, chain_here, each_chain, key_of, still_owned}
+use Rattle.version_map.proofs.SlotChains.{as_many, chain_elsewhere, chain_found, chain_here, each_chain, key_of, still_owned}
 
 -- ---- the queue
 
-own_place : (p : ℕ) → (p == p) ≡ true
-own_place p = grind (arith, nat_tests)
+own_slot : (p : ℕ) → (p == p) ≡ true
+own_slot p = grind (arith, nat_tests)
 
-waiting_more : (p : ℕ) (ss : List Superseding) (t : Superseding) → waiting p (ss ++ t ∷ []) ≡ waiting p ss ++ cond (p == t.place) (t.number ∷ []) []
-waiting_more p [] t = elim (p == t.place) as (λ b. cond b (t.number ∷ []) [] ≡ cond b (t.number ∷ []) []) [ true ↦ refl | false ↦ refl ]
+waiting_more : (p : ℕ) (ss : List Superseding) (t : Superseding) → waiting p (ss ++ t ∷ []) ≡ waiting p ss ++ cond (p == t.slot) (t.number ∷ []) []
+waiting_more p [] t = elim (p == t.slot) as (λ b. cond b (t.number ∷ []) [] ≡ cond b (t.number ∷ []) []) [ true ↦ refl | false ↦ refl ]
 waiting_more p (s ∷ ss) t =
-    elim (p == s.place) as (λ b. cond b (s.number ∷ waiting p (ss ++ t ∷ [])) (waiting p (ss ++ t ∷ [])) ≡ cond b (s.number ∷ waiting p ss) (waiting p ss) ++ cond (p == t.place) (t.number ∷ []) []) [
+    elim (p == s.slot) as (λ b. cond b (s.number ∷ waiting p (ss ++ t ∷ [])) (waiting p (ss ++ t ∷ [])) ≡ cond b (s.number ∷ waiting p ss) (waiting p ss) ++ cond (p == t.slot) (t.number ∷ []) []) [
       | true ↦ ap (λ ns. s.number ∷ ns) (waiting_more p ss t)
       | false ↦ waiting_more p ss t
     ]
@@ -40,25 +40,25 @@ order_more (s ∷ ss) t above h = let here = above.0 in (all_more (λ (x : Super
 waiting_past : (n p : ℕ) (ss : List Superseding) → AllByRecursion (λ (s : Superseding). n < s.number) ss → AllByRecursion (λ m. n < m) (waiting p ss)
 waiting_past n p [] h = tt
 waiting_past n p (s ∷ ss) h =
-    elim (p == s.place) as (λ b. AllByRecursion (λ m. n < m) (cond b (s.number ∷ waiting p ss) (waiting p ss))) [
+    elim (p == s.slot) as (λ b. AllByRecursion (λ m. n < m) (cond b (s.number ∷ waiting p ss) (waiting p ss))) [
       | true ↦ (h.0, waiting_past n p ss h.1)
       | false ↦ waiting_past n p ss h.1
     ]
 
--- what waits under no place past a number is not past it
+-- what waits under no slot past a number is not past it
 waiting_all : (n : ℕ) (ss : List Superseding) → ((p : ℕ) → AllByRecursion (λ m. m < n) (waiting p ss)) → AllByRecursion (λ (s : Superseding). s.number < n) ss
 waiting_all n [] each = tt
-waiting_all n (s ∷ ss) each = (here.0, waiting_all n ss (λ p. by p (p == s.place) refl))
+waiting_all n (s ∷ ss) each = (here.0, waiting_all n ss (λ p. by p (p == s.slot) refl))
   where
-    here : AllByRecursion (λ m. m < n) (s.number ∷ waiting s.place ss)
-    here = subst (λ b. AllByRecursion (λ m. m < n) (cond b (s.number ∷ waiting s.place ss) (waiting s.place ss))) (own_place s.place) (each s.place)
+    here : AllByRecursion (λ m. m < n) (s.number ∷ waiting s.slot ss)
+    here = subst (λ b. AllByRecursion (λ m. m < n) (cond b (s.number ∷ waiting s.slot ss) (waiting s.slot ss))) (own_slot s.slot) (each s.slot)
 
-    by : (p : ℕ) (b : Bool) → (p == s.place) ≡ b → AllByRecursion (λ m. m < n) (waiting p ss)
+    by : (p : ℕ) (b : Bool) → (p == s.slot) ≡ b → AllByRecursion (λ m. m < n) (waiting p ss)
     by p true is = (subst (λ b. AllByRecursion (λ m. m < n) (cond b (s.number ∷ waiting p ss) (waiting p ss))) is (each p)).1
     by p false is = subst (λ b. AllByRecursion (λ m. m < n) (cond b (s.number ∷ waiting p ss) (waiting p ss))) is (each p)
 
--- the key that has room, by its place
-abbrev pub room_key : Places → Option ℕ → Option Key
+-- the key that has room, by its slot
+abbrev pub room_key : KeySlots → Option ℕ → Option Key
 room_key ps room = option_and_then (key_at ps) room
 
 module _ {X : Type 0} where
@@ -72,56 +72,56 @@ module _ {X : Type 0} where
 
   -- ---- where no row goes
 
-  none_goes : (ps : Places) (cs : Chains X) (ss : List Superseding) (many n : ℕ) → IsWhole ps cs ss many → AllByRecursion (λ (s : Superseding). n < s.number) ss
+  none_goes : (ps : KeySlots) (cs : Chains X) (ss : List Superseding) (many n : ℕ) → IsConsistent ps cs ss many → AllByRecursion (λ (s : Superseding). n < s.number) ss
       → compacted (by_key ps cs) n ≡ by_key ps cs
-  none_goes ps cs ss many n whole past = none_compacted ps cs n (λ k. by (get ps k))
+  none_goes ps cs ss many n consistent past = none_compacted ps cs n (λ k. by (get ps k))
     where
       by : (o : Option ℕ) → kept n (option_map_or (rows_there cs) o []) ≡ option_map_or (rows_there cs) o []
       by None = refl
-      by (Some p) = all_kept n (rows_there cs p) (subst (AllByRecursion (λ m. n < m)) (whole.waits p) (waiting_past n p ss past))
+      by (Some p) = all_kept n (rows_there cs p) (subst (AllByRecursion (λ m. n < m)) (consistent.waits p) (waiting_past n p ss past))
 
-  pub none_waits : (ps : Places) (cs : Chains X) (ss : List Superseding) (many n : ℕ) (m : RowsByKey X) → IsWhole ps cs ss many → by_key ps cs ≡ m → ss ≡ [] → compacted m n ≡ m
-  none_waits ps cs ss many n m whole is none =
-      subst (λ rs. compacted rs n ≡ rs) is (none_goes ps cs ss many n whole (subst (AllByRecursion (λ (s : Superseding). n < s.number)) (sym none) tt))
+  pub none_waits : (ps : KeySlots) (cs : Chains X) (ss : List Superseding) (many n : ℕ) (m : RowsByKey X) → IsConsistent ps cs ss many → by_key ps cs ≡ m → ss ≡ [] → compacted m n ≡ m
+  none_waits ps cs ss many n m consistent is none =
+      subst (λ rs. compacted rs n ≡ rs) is (none_goes ps cs ss many n consistent (subst (AllByRecursion (λ (s : Superseding). n < s.number)) (sym none) tt))
 
-  pub all_wait : (ps : Places) (cs : Chains X) (ss rest : List Superseding) (s : Superseding) (many n : ℕ) (m : RowsByKey X) → IsWhole ps cs ss many → by_key ps cs ≡ m
+  pub all_wait : (ps : KeySlots) (cs : Chains X) (ss rest : List Superseding) (s : Superseding) (many n : ℕ) (m : RowsByKey X) → IsConsistent ps cs ss many → by_key ps cs ≡ m
       → ss ≡ s ∷ rest → n < s.number → compacted m n ≡ m
-  all_wait ps cs ss rest s many n m whole is front past =
-      let order = subst IsInOrder front whole.order in
-      subst (λ rs. compacted rs n ≡ rs) is (none_goes ps cs ss many n whole (subst (AllByRecursion (λ (t : Superseding). n < t.number)) (sym front)
+  all_wait ps cs ss rest s many n m consistent is front past =
+      let order = subst IsInOrder front consistent.order in
+      subst (λ rs. compacted rs n ≡ rs) is (none_goes ps cs ss many n consistent (subst (AllByRecursion (λ (t : Superseding). n < t.number)) (sym front)
       (past, all_weaker (λ (t : Superseding). s.number ≤ t.number) (λ (t : Superseding). n < t.number) rest (λ t upto. omega arith) order.0)))
 
-  -- ---- the rows at a place
+  -- ---- the rows at a slot
 
-  pub rows_of_key : (ps : Places) (cs : Chains X) (k : Key) (p : ℕ) → get ps k ≡ Some p → rows_in ps cs k ≡ rows_there cs p
+  pub rows_of_key : (ps : KeySlots) (cs : Chains X) (k : Key) (p : ℕ) → get ps k ≡ Some p → rows_in ps cs k ≡ rows_there cs p
   rows_of_key ps cs k p there = ap (λ o. option_map_or (rows_there cs) o []) there
 
-  pub below_there : (ps : Places) (cs : Chains X) (n : ℕ) (m : RowsByKey X) → by_key ps cs ≡ m → ArePlaced ps cs → IsAbove m n → (p : ℕ) → AreBelow n (rows_there cs p)
-  below_there ps cs n m is placed above p = by (rows_there cs p) refl
+  pub below_there : (ps : KeySlots) (cs : Chains X) (n : ℕ) (m : RowsByKey X) → by_key ps cs ≡ m → HaveSlots ps cs → IsAbove m n → (p : ℕ) → AreBelow n (rows_there cs p)
+  below_there ps cs n m is slotted above p = by (rows_there cs p) refl
     where
       by : (rs : List (Row X)) → rows_there cs p ≡ rs → AreBelow n rs
       by [] here = tt
       by (r ∷ rs) here =
-          let owner = placed.owned p (subst (λ xs. 0 < length xs) (sym here) (omega arith)) in
+          let owner = slotted.owned p (subst (λ xs. 0 < length xs) (sym here) (omega arith)) in
           subst (AreBelow n) (ap (λ o. rows_at o owner.0) (sym is) ∙ rows_are ps cs owner.0 ∙ rows_of_key ps cs owner.0 p owner.1 ∙ here) (above owner.0)
 
-  pub second_there : (ps : Places) (cs : Chains X) (ss rest : List Superseding) (many : ℕ) (t : Superseding) → IsWhole ps cs ss many → ss ≡ t ∷ rest
-      → SecondIs (rows_there cs t.place) t.number (waiting t.place rest)
-  second_there ps cs ss rest many t whole front =
-      second_is (rows_there cs t.place) t.number (waiting t.place rest)
-      (sym (whole.waits t.place) ∙ ap (waiting t.place) front ∙ ap (λ b. cond b (t.number ∷ waiting t.place rest) (waiting t.place rest)) (own_place t.place))
+  pub second_there : (ps : KeySlots) (cs : Chains X) (ss rest : List Superseding) (many : ℕ) (t : Superseding) → IsConsistent ps cs ss many → ss ≡ t ∷ rest
+      → SecondIs (rows_there cs t.slot) t.number (waiting t.slot rest)
+  second_there ps cs ss rest many t consistent front =
+      second_is (rows_there cs t.slot) t.number (waiting t.slot rest)
+      (sym (consistent.waits t.slot) ∙ ap (waiting t.slot) front ∙ ap (λ b. cond b (t.number ∷ waiting t.slot rest) (waiting t.slot rest)) (own_slot t.slot))
 
   pub two_there : (rows : List (Row X)) (m : ℕ) (ns : List ℕ) → SecondIs rows m ns → 1 < length rows
   two_there rows m ns second = let many_rows = ap length second.are in omega arith
 
-  pub owner_there : (ps : Places) (cs : Chains X) (p m : ℕ) (ns : List ℕ) → ArePlaced ps cs → SecondIs (rows_there cs p) m ns → IsOwned ps p
-  owner_there ps cs p m ns placed second = let two = two_there (rows_there cs p) m ns second in placed.owned p (omega arith)
+  pub owner_there : (ps : KeySlots) (cs : Chains X) (p m : ℕ) (ns : List ℕ) → HaveSlots ps cs → SecondIs (rows_there cs p) m ns → IsOwned ps p
+  owner_there ps cs p m ns slotted second = let two = two_there (rows_there cs p) m ns second in slotted.owned p (omega arith)
 
   -- ---- a key's chain is another one
 
-  module _ (ps : Places) (cs ds : Chains X) (p : ℕ) (d : Chain X) (k : Key) (placed : ArePlaced ps cs) (there : get ps k ≡ Some p) (written : ds ≡ set cs p d) where
+  module _ (ps : KeySlots) (cs ds : Chains X) (p : ℕ) (d : Chain X) (k : Key) (slotted : HaveSlots ps cs) (there : get ps k ≡ Some p) (written : ds ≡ set cs p d) where
     within : p < length cs
-    within = placed.within k p there
+    within = slotted.within k p there
 
     rows_before : rows_in ps cs k ≡ rows_there cs p
     rows_before = rows_of_key ps cs k p there
@@ -132,30 +132,30 @@ module _ {X : Type 0} where
     pub rows_after : (q : Key) → rows_in ps ds q ≡ cond (eq_by_cmp key_cmp k q) d.rows (rows_in ps cs q)
     rows_after q = by (eq_by_cmp key_cmp k q) refl
       where
-        by_place : (o : Option ℕ) → get ps q ≡ o → eq_by_cmp key_cmp k q ≡ false → option_map_or (rows_there ds) o [] ≡ option_map_or (rows_there cs) o []
-        by_place None at other = refl
-        by_place (Some n) at other = by_same (n == p) refl
+        by_slot : (o : Option ℕ) → get ps q ≡ o → eq_by_cmp key_cmp k q ≡ false → option_map_or (rows_there ds) o [] ≡ option_map_or (rows_there cs) o []
+        by_slot None at other = refl
+        by_slot (Some n) at other = by_same (n == p) refl
           where
             by_same : (b : Bool) → (n == p) ≡ b → rows_there ds n ≡ rows_there cs n
             by_same true is =
-                let same : k ≡ q = placed.apart k q p there (at ∙ ap Some (eqb-true n p is)) in
+                let same : k ≡ q = slotted.apart k q p there (at ∙ ap Some (eqb-true n p is)) in
                 let both : true ≡ false = sym (own_key k) ∙ ap (eq_by_cmp key_cmp k) same ∙ other in cc
             by_same false is = ap (λ (c : Chain X). c.rows) (chain_elsewhere cs ds p d within written n is)
 
         by : (b : Bool) → eq_by_cmp key_cmp k q ≡ b → rows_in ps ds q ≡ cond b d.rows (rows_in ps cs q)
         by true tie = ap (rows_in ps ds) (sym (same_key k q tie)) ∙ rows_of_key ps ds k p there ∙ rows_here
-        by false other = by_place (get ps q) refl other
+        by false other = by_slot (get ps q) refl other
 
-    placed_after : ArePlaced ps ds
-    placed_after = record {
-      within = λ q n at. let was = placed.within q n at in let many = as_many cs ds p d within written in omega arith;
-      apart = placed.apart;
-      owned = each_chain cs ds p d within written (λ q (c : Chain X). 0 < length c.rows → IsOwned ps q) (λ some. (k, there)) (λ q other. placed.owned q);
+    slotted_after : HaveSlots ps ds
+    slotted_after = record {
+      within = λ q n at. let was = slotted.within q n at in let many = as_many cs ds p d within written in omega arith;
+      apart = slotted.apart;
+      owned = each_chain cs ds p d within written (λ q (c : Chain X). 0 < length c.rows → IsOwned ps q) (λ some. (k, there)) (λ q other. slotted.owned q);
     }
 
     -- ---- one more row
 
-    module _ (ss : List Superseding) (many n : ℕ) (s : Option X) (whole : IsWhole ps cs ss many) (above : (q : ℕ) → AreBelow n (rows_there cs q)) (rows : d.rows ≡ rows_there cs p ++ (n, s) ∷ []) where
+    module _ (ss : List Superseding) (many n : ℕ) (s : Option X) (consistent : IsConsistent ps cs ss many) (above : (q : ℕ) → AreBelow n (rows_there cs q)) (rows : d.rows ≡ rows_there cs p ++ (n, s) ∷ []) where
       some_more : (xs : List (Row X)) → Some (xs ++ (n, s) ∷ []) ≡ some_rows (xs ++ (n, s) ∷ [])
       some_more [] = refl
       some_more (x ∷ xs) = refl
@@ -171,29 +171,29 @@ module _ {X : Type 0} where
           ap (λ b. cond b ns (ns ++ n ∷ [])) e ∙ ap (λ ms. ms ++ n ∷ []) is ∙ sym (numbers_more rs (n, s))
 
       abbrev queued : Bool → List Superseding
-      queued b = if b then ss else ss ++ (record { number = n; place = p }) ∷ []
+      queued b = if b then ss else ss ++ (record { number = n; slot = p }) ∷ []
 
       waits_here : (b : Bool) → waiting p (queued b) ≡ cond b (waiting p ss) (waiting p ss ++ n ∷ [])
       waits_here true = refl
-      waits_here false = waiting_more p ss (record { number = n; place = p }) ∙ ap (λ t. waiting p ss ++ cond t (n ∷ []) []) (own_place p)
+      waits_here false = waiting_more p ss (record { number = n; slot = p }) ∙ ap (λ t. waiting p ss ++ cond t (n ∷ []) []) (own_slot p)
 
       waits_there : (b : Bool) (q : ℕ) → (q == p) ≡ false → waiting q (queued b) ≡ waiting q ss
       waits_there true q other = refl
-      waits_there false q other = waiting_more q ss (record { number = n; place = p }) ∙ ap (λ t. waiting q ss ++ cond t (n ∷ []) []) other ∙ append-nil (waiting q ss)
+      waits_there false q other = waiting_more q ss (record { number = n; slot = p }) ∙ ap (λ t. waiting q ss ++ cond t (n ∷ []) []) other ∙ append-nil (waiting q ss)
 
       ordered : (b : Bool) → IsInOrder (queued b)
-      ordered true = whole.order
-      ordered false = order_more ss (record { number = n; place = p })
-          (waiting_all n ss (λ q. subst (AllByRecursion (λ m. m < n)) (sym (whole.waits q)) (later_below n (rows_there cs q) (above q)))) whole.order
+      ordered true = consistent.order
+      ordered false = order_more ss (record { number = n; slot = p })
+          (waiting_all n ss (λ q. subst (AllByRecursion (λ m. m < n)) (sym (consistent.waits q)) (later_below n (rows_there cs q) (above q)))) consistent.order
 
-      pub pushed_whole : (ts : List Superseding) → ts ≡ queued (length (rows_there cs p) == 0) → IsWhole ps ds ts (many + 1)
-      pushed_whole ts queue = record {
-        placed = placed_after;
+      pub pushed_consistent : (ts : List Superseding) → ts ≡ queued (length (rows_there cs p) == 0) → IsConsistent ps ds ts (many + 1)
+      pushed_consistent ts queue = record {
+        slotted = slotted_after;
         order = subst IsInOrder (sym queue) (ordered (length (rows_there cs p) == 0));
         waits = each_chain cs ds p d within written (λ q (c : Chain X). waiting q ts ≡ numbers (drop 1 c.rows))
-            (ap (waiting p) queue ∙ waits_here (length (rows_there cs p) == 0) ∙ waits_by (rows_there cs p) (waiting p ss) (whole.waits p)
+            (ap (waiting p) queue ∙ waits_here (length (rows_there cs p) == 0) ∙ waits_by (rows_there cs p) (waiting p ss) (consistent.waits p)
             ∙ sym (ap (λ rs. numbers (drop 1 rs)) rows))
-            (λ q other. ap (waiting q) queue ∙ waits_there (length (rows_there cs p) == 0) q other ∙ whole.waits q);
+            (λ q other. ap (waiting q) queue ∙ waits_there (length (rows_there cs p) == 0) q other ∙ consistent.waits q);
         counted = counts;
       }
         where
@@ -203,13 +203,13 @@ module _ {X : Type 0} where
               let old = rows_at (by_key ps cs) k in
               let more = count_written (by_key ps cs) k (old ++ (n, s) ∷ []) in
               let one = length-append old ((n, s) ∷ []) in
-              let was = whole.counted in omega arith
+              let was = consistent.counted in omega arith
 
     -- ---- the first row goes
 
-    module _ (rest : List Superseding) (many n m : ℕ) (ss : List Superseding) (whole : IsWhole ps cs ss many) (front : ss ≡ (record { number = m; place = p }) ∷ rest) (rows : d.rows ≡ drop 1 (rows_there cs p)) where
+    module _ (rest : List Superseding) (many n m : ℕ) (ss : List Superseding) (consistent : IsConsistent ps cs ss many) (front : ss ≡ (record { number = m; slot = p }) ∷ rest) (rows : d.rows ≡ drop 1 (rows_there cs p)) where
       second : SecondIs (rows_there cs p) m (waiting p rest)
-      second = second_there ps cs ss rest many (record { number = m; place = p }) whole front
+      second = second_there ps cs ss rest many (record { number = m; slot = p }) consistent front
 
       left : d.rows ≡ (m, second.state) ∷ second.rest
       left = rows ∙ ap (drop 1) second.are
@@ -224,13 +224,13 @@ module _ {X : Type 0} where
           let was = ap length (rows_are ps cs k ∙ rows_before ∙ second.are) in
           let now_left = ap length left in omega arith
 
-      pub dropped_whole : IsWhole ps ds rest (many - 1)
-      dropped_whole = record {
-        placed = placed_after;
-        order = (subst IsInOrder front whole.order).1;
+      pub dropped_consistent : IsConsistent ps ds rest (many - 1)
+      dropped_consistent = record {
+        slotted = slotted_after;
+        order = (subst IsInOrder front consistent.order).1;
         waits = each_chain cs ds p d within written (λ q (c : Chain X). waiting q rest ≡ numbers (drop 1 c.rows)) (sym (ap (λ rs. numbers (drop 1 rs)) left ∙ second.later))
-            (λ q other. sym (ap (waiting q) front ∙ ap (λ b. cond b (m ∷ waiting q rest) (waiting q rest)) other) ∙ whole.waits q);
-        counted = let was = whole.counted in let less = one_less in omega arith;
+            (λ q other. sym (ap (waiting q) front ∙ ap (λ b. cond b (m ∷ waiting q rest) (waiting q rest)) other) ∙ consistent.waits q);
+        counted = let was = consistent.counted in let less = one_less in omega arith;
       }
 
       pub same_left : m ≤ n → compacted (by_key ps ds) n ≡ compacted (by_key ps cs) n
@@ -240,86 +240,86 @@ module _ {X : Type 0} where
           by q true tie = ap (kept n) left ∙ sym (kept_second n m second.first second.state second.rest upto) ∙ ap (kept n) (sym (rows_before ∙ second.are)) ∙ ap (λ x. kept n (rows_in ps cs x)) (same_key k q tie)
           by q false other = refl
 
-  pub its_room : (ps : Places) (cs : Chains X) (p : ℕ) (room : Option ℕ) → Some p ≡ room → IfSome room (HasRoom ps cs) → HasRoom ps cs p
+  pub its_room : (ps : KeySlots) (cs : Chains X) (p : ℕ) (room : Option ℕ) → Some p ≡ room → IfSome room (HasRoom ps cs) → HasRoom ps cs p
   its_room ps cs p room is has = subst (λ r. IfSome r (HasRoom ps cs)) (sym is) has
 
   -- ---- as the calls see it
 
-  -- a chain that is read at the key's place has the key's rows
-  pub rows_read : (ps : Places) (cs : Chains X) (m : RowsByKey X) (k : Key) (p : ℕ) (c : Chain X) → ArePlaced ps cs → by_key ps cs ≡ m → get ps k ≡ Some p → c ≡ get_or cs p c → c.rows ≡ rows_at m k
-  rows_read ps cs m k p c placed is there read =
-      ap (λ (x : Chain X). x.rows) (chain_found cs p c (placed.within k p there) read) ∙ sym (ap (λ o. rows_at o k) (sym is) ∙ rows_are ps cs k ∙ rows_of_key ps cs k p there)
+  -- a chain that is read at the key's slot has the key's rows
+  pub rows_read : (ps : KeySlots) (cs : Chains X) (m : RowsByKey X) (k : Key) (p : ℕ) (c : Chain X) → HaveSlots ps cs → by_key ps cs ≡ m → get ps k ≡ Some p → c ≡ get_or cs p c → c.rows ≡ rows_at m k
+  rows_read ps cs m k p c slotted is there read =
+      ap (λ (x : Chain X). x.rows) (chain_found cs p c (slotted.within k p there) read) ∙ sym (ap (λ o. rows_at o k) (sym is) ∙ rows_are ps cs k ∙ rows_of_key ps cs k p there)
 
-  module _ (ps : Places) (cs : Chains X) (p n : ℕ) (s : Option X) (c d : Chain X) (placed : ArePlaced ps cs) (has : HasRoom ps cs p) (read : c ≡ get_or cs p c) where
+  module _ (ps : KeySlots) (cs : Chains X) (p n : ℕ) (s : Option X) (c d : Chain X) (slotted : HaveSlots ps cs) (has : HasRoom ps cs p) (read : c ≡ get_or cs p c) where
     chain_pushed : c ≡ chain_there cs p
-    chain_pushed = chain_found cs p c (placed.within has.0.0 p has.0.1) read
+    chain_pushed = chain_found cs p c (slotted.within has.0.0 p has.0.1) read
 
     pub roomy_read : c.roomy ≡ true
     roomy_read = ap (λ (x : Chain X). x.roomy) chain_pushed ∙ has.1
 
     pub below_read : (m : RowsByKey X) → by_key ps cs ≡ m → IsAbove m n → AreBelow n c.rows
-    below_read m is above = subst (λ (x : Chain X). AreBelow n x.rows) (sym chain_pushed) (below_there ps cs n m is placed above p)
+    below_read m is above = subst (λ (x : Chain X). AreBelow n x.rows) (sym chain_pushed) (below_there ps cs n m is slotted above p)
 
     pub rows_more : d.rows ≡ c.rows ++ (n, s) ∷ [] → d.rows ≡ rows_there cs p ++ (n, s) ∷ []
     rows_more rows = rows ∙ ap (λ (x : Chain X). x.rows ++ (n, s) ∷ []) chain_pushed
 
-    pub rows_pushed : (ss : List Superseding) (many : ℕ) (m : RowsByKey X) → by_key ps cs ≡ m → IsWhole ps cs ss many → IsAbove m n → d.rows ≡ c.rows ++ (n, s) ∷ []
+    pub rows_pushed : (ss : List Superseding) (many : ℕ) (m : RowsByKey X) → by_key ps cs ≡ m → IsConsistent ps cs ss many → IsAbove m n → d.rows ≡ c.rows ++ (n, s) ∷ []
         → by_key ps (set cs p d) ≡ map.insert (by_key ps cs) has.0.0 (rows_at (by_key ps cs) has.0.0 ++ (n, s) ∷ [])
-    rows_pushed ss many m is whole above rows =
-        pushed_rows ps cs (set cs p d) p d has.0.0 placed has.0.1 refl ss many n s whole (below_there ps cs n m is placed above) (rows_more rows)
+    rows_pushed ss many m is consistent above rows =
+        pushed_rows ps cs (set cs p d) p d has.0.0 slotted has.0.1 refl ss many n s consistent (below_there ps cs n m is slotted above) (rows_more rows)
 
-    pub whole_pushed : (ss ts : List Superseding) (many : ℕ) (m : RowsByKey X) → by_key ps cs ≡ m → IsWhole ps cs ss many → IsAbove m n → d.rows ≡ c.rows ++ (n, s) ∷ []
-        → ts ≡ (if length c.rows == 0 then ss else ss ++ (record { number = n; place = p }) ∷ []) → IsWhole ps (set cs p d) ts (many + 1)
-    whole_pushed ss ts many m is whole above rows queue =
-        pushed_whole ps cs (set cs p d) p d has.0.0 placed has.0.1 refl ss many n s whole (below_there ps cs n m is placed above) (rows_more rows) ts
-        (queue ∙ ap (λ (x : Chain X). if length x.rows == 0 then ss else ss ++ (record { number = n; place = p }) ∷ []) chain_pushed)
+    pub consistent_pushed : (ss ts : List Superseding) (many : ℕ) (m : RowsByKey X) → by_key ps cs ≡ m → IsConsistent ps cs ss many → IsAbove m n → d.rows ≡ c.rows ++ (n, s) ∷ []
+        → ts ≡ (if length c.rows == 0 then ss else ss ++ (record { number = n; slot = p }) ∷ []) → IsConsistent ps (set cs p d) ts (many + 1)
+    consistent_pushed ss ts many m is consistent above rows queue =
+        pushed_consistent ps cs (set cs p d) p d has.0.0 slotted has.0.1 refl ss many n s consistent (below_there ps cs n m is slotted above) (rows_more rows) ts
+        (queue ∙ ap (λ (x : Chain X). if length x.rows == 0 then ss else ss ++ (record { number = n; slot = p }) ∷ []) chain_pushed)
 
-  module _ (ps : Places) (cs : Chains X) (ss rest : List Superseding) (many : ℕ) (t : Superseding) (whole : IsWhole ps cs ss many) (front : ss ≡ t ∷ rest) where
-    owner : IsOwned ps t.place
-    owner = owner_there ps cs t.place t.number (waiting t.place rest) whole.placed (second_there ps cs ss rest many t whole front)
+  module _ (ps : KeySlots) (cs : Chains X) (ss rest : List Superseding) (many : ℕ) (t : Superseding) (consistent : IsConsistent ps cs ss many) (front : ss ≡ t ∷ rest) where
+    owner : IsOwned ps t.slot
+    owner = owner_there ps cs t.slot t.number (waiting t.slot rest) consistent.slotted (second_there ps cs ss rest many t consistent front)
 
-    pub place_within : t.place < length cs
-    place_within = whole.placed.within owner.0 t.place owner.1
+    pub slot_within : t.slot < length cs
+    slot_within = consistent.slotted.within owner.0 t.slot owner.1
 
-    module _ (c d : Chain X) (read : c ≡ get_or cs t.place c) where
-      chain_dropped : c ≡ chain_there cs t.place
-      chain_dropped = chain_found cs t.place c place_within read
+    module _ (c d : Chain X) (read : c ≡ get_or cs t.slot c) where
+      chain_dropped : c ≡ chain_there cs t.slot
+      chain_dropped = chain_found cs t.slot c slot_within read
 
       pub two_read : 1 < length c.rows
-      two_read = subst (λ (x : Chain X). 1 < length x.rows) (sym chain_dropped) (two_there (rows_there cs t.place) t.number (waiting t.place rest) (second_there ps cs ss rest many t whole front))
+      two_read = subst (λ (x : Chain X). 1 < length x.rows) (sym chain_dropped) (two_there (rows_there cs t.slot) t.number (waiting t.slot rest) (second_there ps cs ss rest many t consistent front))
 
-      rows_fewer : d.rows ≡ drop 1 c.rows → d.rows ≡ drop 1 (rows_there cs t.place)
+      rows_fewer : d.rows ≡ drop 1 c.rows → d.rows ≡ drop 1 (rows_there cs t.slot)
       rows_fewer rows = rows ∙ ap (λ (x : Chain X). drop 1 x.rows) chain_dropped
 
-      pub count_dropped : d.rows ≡ drop 1 c.rows → count (by_key ps (set cs t.place d)) + 1 ≡ count (by_key ps cs)
-      count_dropped rows = one_less ps cs (set cs t.place d) t.place d owner.0 whole.placed owner.1 refl rest many 0 t.number ss whole front (rows_fewer rows)
+      pub count_dropped : d.rows ≡ drop 1 c.rows → count (by_key ps (set cs t.slot d)) + 1 ≡ count (by_key ps cs)
+      count_dropped rows = one_less ps cs (set cs t.slot d) t.slot d owner.0 consistent.slotted owner.1 refl rest many 0 t.number ss consistent front (rows_fewer rows)
 
-      pub whole_dropped : d.rows ≡ drop 1 c.rows → IsWhole ps (set cs t.place d) rest (many - 1)
-      whole_dropped rows = dropped_whole ps cs (set cs t.place d) t.place d owner.0 whole.placed owner.1 refl rest many 0 t.number ss whole front (rows_fewer rows)
+      pub consistent_dropped : d.rows ≡ drop 1 c.rows → IsConsistent ps (set cs t.slot d) rest (many - 1)
+      consistent_dropped rows = dropped_consistent ps cs (set cs t.slot d) t.slot d owner.0 consistent.slotted owner.1 refl rest many 0 t.number ss consistent front (rows_fewer rows)
 
-      pub left_dropped : (n : ℕ) → t.number ≤ n → d.rows ≡ drop 1 c.rows → compacted (by_key ps (set cs t.place d)) n ≡ compacted (by_key ps cs) n
-      left_dropped n upto rows = same_left ps cs (set cs t.place d) t.place d owner.0 whole.placed owner.1 refl rest many n t.number ss whole front (rows_fewer rows) upto
+      pub left_dropped : (n : ℕ) → t.number ≤ n → d.rows ≡ drop 1 c.rows → compacted (by_key ps (set cs t.slot d)) n ≡ compacted (by_key ps cs) n
+      left_dropped n upto rows = same_left ps cs (set cs t.slot d) t.slot d owner.0 consistent.slotted owner.1 refl rest many n t.number ss consistent front (rows_fewer rows) upto
 
-      pub room_dropped : (c.roomy ≡ true → d.roomy ≡ true) → (room : Option ℕ) → IfSome room (HasRoom ps cs) → IfSome room (HasRoom ps (set cs t.place d))
+      pub room_dropped : (c.roomy ≡ true → d.roomy ≡ true) → (room : Option ℕ) → IfSome room (HasRoom ps cs) → IfSome room (HasRoom ps (set cs t.slot d))
       room_dropped still None has = tt
       room_dropped still (Some p) has = (
         has.0,
-        each_chain cs (set cs t.place d) t.place d place_within refl (λ q (x : Chain X). is_roomy cs q ≡ true → x.roomy ≡ true)
+        each_chain cs (set cs t.slot d) t.slot d slot_within refl (λ q (x : Chain X). is_roomy cs q ≡ true → x.roomy ≡ true)
             (λ was. still (ap (λ (x : Chain X). x.roomy) chain_dropped ∙ was)) (λ q other was. was) p has.1,
       )
 
   -- ---- the same rows in other chains
 
-  pub still_whole : (ps : Places) (cs : Chains X) (qs : Places) (ds : Chains X) (ss ts : List Superseding) (many : ℕ) → AreStill ps cs qs ds → ArePlaced qs ds → ts ≡ ss
-      → IsWhole ps cs ss many → IsWhole qs ds ts many
-  still_whole ps cs qs ds ss ts many still placed queue whole = record {
-    placed = placed;
-    order = subst IsInOrder (sym queue) whole.order;
-    waits = λ p. ap (waiting p) queue ∙ whole.waits p ∙ ap (λ rs. numbers (drop 1 rs)) (sym (still.rows p));
-    counted = whole.counted ∙ ap count (sym (same_rows ps cs qs ds still.by_key));
+  pub still_consistent : (ps : KeySlots) (cs : Chains X) (qs : KeySlots) (ds : Chains X) (ss ts : List Superseding) (many : ℕ) → AreStill ps cs qs ds → HaveSlots qs ds → ts ≡ ss
+      → IsConsistent ps cs ss many → IsConsistent qs ds ts many
+  still_consistent ps cs qs ds ss ts many still slotted queue consistent = record {
+    slotted = slotted;
+    order = subst IsInOrder (sym queue) consistent.order;
+    waits = λ p. ap (waiting p) queue ∙ consistent.waits p ∙ ap (λ rs. numbers (drop 1 rs)) (sym (still.rows p));
+    counted = consistent.counted ∙ ap count (sym (same_rows ps cs qs ds still.by_key));
   }
 
-  pub still_room : (ps : Places) (cs : Chains X) (qs : Places) (ds : Chains X) (room : Option ℕ) → AreStill ps cs qs ds → IfSome room (HasRoom ps cs) → IfSome room (HasRoom qs ds)
+  pub still_room : (ps : KeySlots) (cs : Chains X) (qs : KeySlots) (ds : Chains X) (room : Option ℕ) → AreStill ps cs qs ds → IfSome room (HasRoom ps cs) → IfSome room (HasRoom qs ds)
   still_room ps cs qs ds None still has = tt
   still_room ps cs qs ds (Some p) still has = still_owned ps qs cs ds p still has
 
@@ -328,7 +328,7 @@ module _ {X : Type 0} where
   abbrev pub seen : RowsByKey X → ℕ → Option Key → Versions X
   seen m floor room = record { rows = m; floor = floor; room = room }
 
-  pub pushed_view : (ps : Places) (cs ds : Chains X) (p n : ℕ) (k : Key) (s : Option X) (v : Versions X) (floor : ℕ) (room gone : Option ℕ) → seen (by_key ps cs) floor (room_key ps room) ≡ v
+  pub pushed_view : (ps : KeySlots) (cs ds : Chains X) (p n : ℕ) (k : Key) (s : Option X) (v : Versions X) (floor : ℕ) (room gone : Option ℕ) → seen (by_key ps cs) floor (room_key ps room) ≡ v
       → Some p ≡ room → key_at ps p ≡ Some k → gone ≡ None → by_key ps ds ≡ map.insert (by_key ps cs) k (rows_at (by_key ps cs) k ++ (n, s) ∷ [])
       → IfSome v.room (λ key. seen (by_key ps ds) floor (room_key ps gone) ≡ pushed v n key s)
   pushed_view ps cs ds p n k s v floor room gone view is at none rows =
@@ -336,20 +336,20 @@ module _ {X : Type 0} where
       (subst (λ (r : Option Key). IfSome r (λ key. seen (by_key ps ds) floor (room_key ps gone) ≡ pushed (seen (by_key ps cs) floor r) n key s)) (sym at ∙ ap (room_key ps) is)
       (ap (λ (r : Option ℕ). seen (by_key ps ds) floor (room_key ps r)) none ∙ ap (λ m. seen m floor None) rows))
 
-  pub room_view : (ps : Places) (cs : Chains X) (qs : Places) (ds : Chains X) (k : Key) (v : Versions X) (floor p : ℕ) (room : Option Key) → seen (by_key ps cs) floor room ≡ v
-      → AreStill ps cs qs ds → ArePlaced qs ds → get qs k ≡ Some p → seen (by_key qs ds) floor (room_key qs (Some p)) ≡ with_room v k
-  room_view ps cs qs ds k v floor p room view still placed there =
-      ap (λ (r : Option Key). seen (by_key qs ds) floor r) (key_of qs ds k p placed there) ∙ ap (λ m. seen m floor (Some k)) (same_rows ps cs qs ds still.by_key)
+  pub room_view : (ps : KeySlots) (cs : Chains X) (qs : KeySlots) (ds : Chains X) (k : Key) (v : Versions X) (floor p : ℕ) (room : Option Key) → seen (by_key ps cs) floor room ≡ v
+      → AreStill ps cs qs ds → HaveSlots qs ds → get qs k ≡ Some p → seen (by_key qs ds) floor (room_key qs (Some p)) ≡ with_room v k
+  room_view ps cs qs ds k v floor p room view still slotted there =
+      ap (λ (r : Option Key). seen (by_key qs ds) floor r) (key_of qs ds k p slotted there) ∙ ap (λ m. seen m floor (Some k)) (same_rows ps cs qs ds still.by_key)
       ∙ ap (λ (u : Versions X). with_room u k) view
 
-  pub same_view : (ps : Places) (cs : Chains X) (qs : Places) (ds : Chains X) (v : Versions X) (floor : ℕ) (room : Option ℕ) → seen (by_key ps cs) floor (room_key ps room) ≡ v
-      → AreStill ps cs qs ds → ArePlaced ps cs → ArePlaced qs ds → IfSome room (HasRoom ps cs) → seen (by_key qs ds) floor (room_key qs room) ≡ v
-  same_view ps cs qs ds v floor room view still placed after has =
+  pub same_view : (ps : KeySlots) (cs : Chains X) (qs : KeySlots) (ds : Chains X) (v : Versions X) (floor : ℕ) (room : Option ℕ) → seen (by_key ps cs) floor (room_key ps room) ≡ v
+      → AreStill ps cs qs ds → HaveSlots ps cs → HaveSlots qs ds → IfSome room (HasRoom ps cs) → seen (by_key qs ds) floor (room_key qs room) ≡ v
+  same_view ps cs qs ds v floor room view still slotted after has =
       ap (λ m. seen m floor (room_key qs room)) (same_rows ps cs qs ds still.by_key) ∙ ap (seen (by_key ps cs) floor) (by room has) ∙ view
     where
       by : (r : Option ℕ) → IfSome r (HasRoom ps cs) → room_key qs r ≡ room_key ps r
       by None held = refl
-      by (Some p) held = key_of qs ds held.0.0 p after (still.keys held.0.0 p held.0.1) ∙ sym (key_of ps cs held.0.0 p placed held.0.1)
+      by (Some p) held = key_of qs ds held.0.0 p after (still.keys held.0.0 p held.0.1) ∙ sym (key_of ps cs held.0.0 p slotted held.0.1)
 
   -- ---- what compaction leaves
 
@@ -375,14 +375,14 @@ module _ {X : Type 0} where
   none_counted : (m : RowsByKey X) → m ≡ map.empty → count m ≡ 0
   none_counted m is = none_in (entries m) (sym (len-entries m) ∙ ap map.len is ∙ len-empty key_cmp (List (Row X)))
 
-  pub empty_view : (ps : Places) (cs : Chains X) → ps ≡ map.empty → cs ≡ [] → seen (by_key ps cs) 0 None ≡ opening
-  empty_view ps cs places chains = ap (λ m. seen m 0 None) (ap (λ (m : Places). by_key m cs) places ∙ ap (λ (es : Chains X). by_key map.empty es) chains ∙ no_rows)
+  pub empty_view : (ps : KeySlots) (cs : Chains X) → ps ≡ map.empty → cs ≡ [] → seen (by_key ps cs) 0 None ≡ opening
+  empty_view ps cs slots chains = ap (λ m. seen m 0 None) (ap (λ (m : KeySlots). by_key m cs) slots ∙ ap (λ (es : Chains X). by_key map.empty es) chains ∙ no_rows)
 
-  pub none_whole : (ps : Places) (cs : Chains X) (ss : List Superseding) → ps ≡ map.empty → cs ≡ [] → ss ≡ [] → IsWhole ps cs ss 0
-  none_whole ps cs ss places chains queue =
-      subst (λ (m : Places). IsWhole m cs ss 0) (sym places) (subst (λ (es : Chains X). IsWhole map.empty es ss 0) (sym chains)
-      (subst (λ (ts : List Superseding). IsWhole {X = X} map.empty [] ts 0) (sym queue) (record {
-        placed = record {
+  pub none_consistent : (ps : KeySlots) (cs : Chains X) (ss : List Superseding) → ps ≡ map.empty → cs ≡ [] → ss ≡ [] → IsConsistent ps cs ss 0
+  none_consistent ps cs ss slots chains queue =
+      subst (λ (m : KeySlots). IsConsistent m cs ss 0) (sym slots) (subst (λ (es : Chains X). IsConsistent map.empty es ss 0) (sym chains)
+      (subst (λ (ts : List Superseding). IsConsistent {X = X} map.empty [] ts 0) (sym queue) (record {
+        slotted = record {
           within = λ k p at. absurd (none-some p (sym (get-empty key_cmp k) ∙ at));
           apart = λ k q p at. absurd (none-some p (sym (get-empty key_cmp k) ∙ at));
           owned = λ p some. absurd (omega arith);

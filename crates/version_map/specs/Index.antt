@@ -1,20 +1,20 @@
--- The places of all keys, and of those that are listed.
+-- The slots of all keys, and of those that are listed.
 use Rattle.std.specs.Prelude.{◌≡◌, ℕ, Some, refl}
 use Rattle.std.specs.Coded.{Coded, code_by, coded×, coded_ℕ}
 use Rattle.std.specs.FinMap as finite
 use Rattle.objects.specs.declared.key.Key.{Key}
 use Rattle.objects.specs.Key.{key_coded}
-use Rattle.version_map.specs.Named.{Places, both}
+use Rattle.version_map.specs.Named.{KeySlots, both}
 
 pub record Index : Type 0 where
-  pub all : Places
-  pub listed : Places
+  pub all : KeySlots
+  pub listed : KeySlots
 
 abbrev pub index_coded : Coded Index
-index_coded = code_by (Places × Places) (coded× (finite.code key_coded coded_ℕ) (finite.code key_coded coded_ℕ)) (λ i. (i.all, i.listed)) (λ p. record { all = p.0; listed = p.1 }) (λ _. refl)
+index_coded = code_by (KeySlots × KeySlots) (coded× (finite.code key_coded coded_ℕ) (finite.code key_coded coded_ℕ)) (λ i. (i.all, i.listed)) (λ p. record { all = p.0; listed = p.1 }) (λ _. refl)
 
-abbrev pub index_with : (listed aside : Places) → Index
-index_with listed aside = record { all = both listed aside; listed = listed }
+abbrev pub index_with : (listed tombstones : KeySlots) → Index
+index_with listed tombstones = record { all = both listed tombstones; listed = listed }
 
 abbrev pub no_keys : Index
 no_keys = record { all = finite.empty; listed = finite.empty }
@@ -22,8 +22,8 @@ no_keys = record { all = finite.empty; listed = finite.empty }
 abbrev pub with_key : Index → Key → ℕ → Index
 with_key i k p = record { all = finite.insert i.all k p; listed = finite.insert i.listed k p }
 
--- what has a place keeps it
-abbrev pub AreKept : Places → Places → Type 0
+-- what has a slot keeps it
+abbrev pub AreKept : KeySlots → KeySlots → Type 0
 AreKept old new = (k : Key) (p : ℕ) → finite.get old k ≡ Some p → finite.get new k ≡ Some p
 
 abbrev pub AreWithin : Index → Type 0

@@ -9,4 +9,4 @@ pub mod Named
 pub mod ShortName
 pub mod Index
 pub mod Records
-pub mod Whole
+pub mod Consistent

@@ -1,4 +1,4 @@
--- The places of keys: for each kind, for each namespace, the place of each name.
+-- The slots of keys: for each kind, for each namespace, the slot of each name.
 use Rattle.std.specs.Prelude.{◌≡◌, ◌<◌, ◌≤◌, length, ℕ, Bool, ◌==◌, ◌&&◌, not, List, [], ◌∷◌, map, bytes_eq, Option, None, option_and_then, slice_get, if◌then◌else◌}
 use Rattle.std.specs.BTreeMap.{BTreeMap, get_by, is_at}
 use Rattle.std.specs.List.Sorted.{IsStrictlySortedBy}
@@ -15,21 +15,21 @@ use Rattle.objects.specs.declared.kind.Kind.TheVariants.{StatefulSet, Pod, Persi
 use Rattle.objects.specs.Key.{key_cmp, key_parts, kind_index}
 use Rattle.version_map.specs.Keys.{is_of}
 
--- names with their places
+-- names with their slots
 abbrev pub Names : Type 0
 Names = List (List ℕ × ℕ)
 
 abbrev pub Namespaces : Type 0
 Namespaces = BTreeMap (List ℕ) Names
 
-abbrev pub Places : Type 0
-Places = FinMap key_cmp ℕ
+abbrev pub KeySlots : Type 0
+KeySlots = FinMap key_cmp ℕ
 
 -- what stands at a text
 abbrev pub at_text : {X : Type 0} → BTreeMap (List ℕ) X → List ℕ → Option X
 at_text m word = get_by (slice_cmp nat_cmp word) m
 
--- the place of a name
+-- the slot of a name
 abbrev pub at_name : Names → List ℕ → Option ℕ
 at_name names name = lookup (is_at (slice_cmp nat_cmp name)) names
 
@@ -37,29 +37,29 @@ at_name names name = lookup (is_at (slice_cmp nat_cmp name)) names
 abbrev pub AreApart : BTreeMap (List ℕ) ℕ → BTreeMap (List ℕ) ℕ → Type 0
 AreApart short long = ((word : List ℕ) → 15 < length word → at_text short word ≡ None) × ((word : List ℕ) → length word ≤ 15 → at_text long word ≡ None)
 
--- the place of a name of a namespace
-abbrev pub place_in : Namespaces → List ℕ → List ℕ → Option ℕ
-place_in m namespace name = option_and_then (λ (names : Names). at_name names name) (at_text m namespace)
+-- the slot of a name of a namespace
+abbrev pub slot_in : Namespaces → List ℕ → List ℕ → Option ℕ
+slot_in m namespace name = option_and_then (λ (names : Names). at_name names name) (at_text m namespace)
 
--- each name of each namespace has the place that it had, but for the one that was given another, or none
+-- each name of each namespace has the slot that it had, but for the one that was given another, or none
 abbrev pub HasNow : Namespaces → Namespaces → List ℕ → List ℕ → Option ℕ → Type 0
-HasNow old new namespace name place =
-    (space word : List ℕ) → place_in new space word ≡ (if bytes_eq namespace space && bytes_eq name word then place else place_in old space word)
+HasNow old new namespace name slot =
+    (space word : List ℕ) → slot_in new space word ≡ (if bytes_eq namespace space && bytes_eq name word then slot else slot_in old space word)
 
--- the place of a name, where there are names
-abbrev pub place_among : Option Names → List ℕ → Option ℕ
-place_among names name = option_and_then (λ (x : Names). at_name x name) names
+-- the slot of a name, where there are names
+abbrev pub slot_among : Option Names → List ℕ → Option ℕ
+slot_among names name = option_and_then (λ (x : Names). at_name x name) names
 
--- the keys of the kind in the namespace have the places of these names
+-- the keys of the kind in the namespace have the slots of these names
 abbrev pub AreNames : FinMap key_cmp ℕ → Kind → List ℕ → Option Names → Type 0
-AreNames m kind namespace names = (q : Key) → kind_index q.kind ≡ kind_index kind → q.namespace ≡ namespace → finite.get m q ≡ place_among names q.name
+AreNames m kind namespace names = (q : Key) → kind_index q.kind ≡ kind_index kind → q.namespace ≡ namespace → finite.get m q ≡ slot_among names q.name
 
 abbrev pub AreAsBefore : Namespaces → Namespaces → Type 0
-AreAsBefore old new = (space word : List ℕ) → place_in new space word ≡ place_in old space word
+AreAsBefore old new = (space word : List ℕ) → slot_in new space word ≡ slot_in old space word
 
--- the place of a text among borrowed ones
-abbrev pub place_at_text : BTreeMap (Bor (List ℕ)) ℕ → List ℕ → Option ℕ
-place_at_text m word = get_by (λ k. slice_cmp nat_cmp word k.now) m
+-- the slot of a text among borrowed ones
+abbrev pub slot_at_text : BTreeMap (Bor (List ℕ)) ℕ → List ℕ → Option ℕ
+slot_at_text m word = get_by (λ k. slice_cmp nat_cmp word k.now) m
 
 -- the values are those of texts in their byte order, each of which has its value
 abbrev pub AreValues : List ℕ → (List ℕ → Option ℕ) → Type 0
@@ -67,37 +67,37 @@ AreValues values value = (es : Names) × IsStrictlySortedBy (slice_cmp nat_cmp) 
 
 -- ---- as one map by keys
 
-abbrev pub put_all : List (Key × ℕ) → Places → Places
+abbrev pub put_all : List (Key × ℕ) → KeySlots → KeySlots
 put_all [] n = n
 put_all (e ∷ es) n = finite.insert (put_all es n) e.0 e.1
 
 -- what m has, and for other keys what n has
-abbrev pub both : Places → Places → Places
+abbrev pub both : KeySlots → KeySlots → KeySlots
 both m n = put_all (entries m) n
 
 -- what m has where the test holds, and what n has elsewhere
-abbrev pub joined : (Key → Bool) → Places → Places → Places
+abbrev pub joined : (Key → Bool) → KeySlots → KeySlots → KeySlots
 joined holds m n = put_all (entries (finite.retain_keys m holds)) (finite.retain_keys n (λ k. not (holds k)))
 
 abbrev pub named : {K : Type 0} → (K → List ℕ) → Kind → List ℕ → List (K × ℕ) → List (Key × ℕ)
 named bytes kind namespace es = map (λ e. (key_parts kind namespace (bytes e.0), e.1)) es
 
-abbrev pub in_namespaces : Kind → List (List ℕ × Names) → Places
+abbrev pub in_namespaces : Kind → List (List ℕ × Names) → KeySlots
 in_namespaces kind [] = finite.empty
 in_namespaces kind (e ∷ es) = joined (is_of kind e.0) (finite.from_entries (named (λ w. w) kind e.0 e.1)) (in_namespaces kind es)
 
-abbrev pub of_kind : List Namespaces → Kind → Places
+abbrev pub of_kind : List Namespaces → Kind → KeySlots
 of_kind ms kind = in_namespaces kind (option_map_or (λ m. m.entries) (slice_get ms (kind_index kind)) [])
 
 abbrev pub is_kind : Kind → Key → Bool
 is_kind kind k = kind_index k.kind == kind_index kind
 
-abbrev pub of_kinds : List Namespaces → List Kind → Places
+abbrev pub of_kinds : List Namespaces → List Kind → KeySlots
 of_kinds ms [] = finite.empty
 of_kinds ms (kind ∷ kinds) = joined (is_kind kind) (of_kind ms kind) (of_kinds ms kinds)
 
 abbrev pub all_kinds : List Kind
 all_kinds = StatefulSet ∷ Pod ∷ PersistentVolumeClaim ∷ ControllerRevision ∷ []
 
-abbrev pub placed : List Namespaces → Places
-placed ms = of_kinds ms all_kinds
+abbrev pub slotted : List Namespaces → KeySlots
+slotted ms = of_kinds ms all_kinds

@@ -4,17 +4,17 @@ ghost use Rattle.objects.specs.declared.key.Key.{Key};
 ghost use Rattle.version_map.specs.Index.{AreKept, AreWithin, no_keys, with_key};
 ghost use Rattle.version_map.specs.Keyed.{collection};
 
-use crate::places::Places;
+use crate::key_slots::KeySlots;
 use objects::{Key, Kind, Text};
 use std::alloc::{AllocError, Global};
 use std::marker::Model;
 
-/// The place of each key. Keys that have no value can stand aside, so that a list of what is there does not walk over
-/// them.
+/// The slot of each key. Those of keys without a value can stand apart, as tombstones, so that a list of what is there
+/// does not walk over them.
 #[derive(Drop)]
 pub(crate) struct Index {
-    listed: Places,
-    aside: Places,
+    listed: KeySlots,
+    tombstones: KeySlots,
 }
 
 impl Model for Index {
@@ -24,7 +24,7 @@ impl Model for Index {
 
     ghost coded = { index_coded };
 
-    ghost view = { λ i. index_with i.listed i.aside };
+    ghost view = { λ i. index_with i.listed i.tombstones };
 }
 
 impl Index {
@@ -32,8 +32,8 @@ impl Index {
         ensures { result ≡ no_keys }
     {
         Index {
-            listed: Places::new(alloc),
-            aside: Places::new(alloc),
+            listed: KeySlots::new(alloc),
+            tombstones: KeySlots::new(alloc),
         }
     }
 
@@ -41,75 +41,75 @@ impl Index {
         ensures { result ≡ map.get self.now.all key.now }
     {
         match self.listed.get(key) {
-            Some(place) => Some(place),
-            None => self.aside.get(key),
+            Some(slot) => Some(slot),
+            None => self.tombstones.get(key),
         }
     }
 
-    /// The place of the key, which is listed from now on.
-    pub(crate) fn recall(&mut self, alloc: Global, key: &Key) -> Result<Option<usize>, AllocError>
-        ensures place { IfOk result (λ place. place ≡ map.get self.old.all key.now) }
-        ensures all { self.new.all ≡ self.old.all }
-        ensures listed { IfOk result (λ place. map.get self.new.listed key.now ≡ place) }
-        ensures kept { AreKept self.old.listed self.new.listed }
-    {
-        if let Some(place) = self.listed.get(key) {
-            return Ok(Some(place));
-        }
-        let Some(place) = self.aside.get(key) else {
-            return Ok(None);
-        };
-        // Listed before it leaves the others: where memory runs out, it still has its place.
-        self.listed.insert(alloc, key, place)?;
-        self.aside.remove(key);
-        Ok(Some(place))
-    }
-
-    /// Gives a key that place, and lists it.
-    pub(crate) fn insert(
+    /// The slot of the key, which is listed from now on.
+    pub(crate) fn lift_tombstone(
         &mut self,
         alloc: Global,
         key: &Key,
-        place: usize,
-    ) -> Result<(), AllocError>
-        ensures ok { OnOk result (self.new ≡ with_key self.old key.now place) }
-        ensures err { OnErr result (self.new ≡ self.old) }
+    ) -> Result<Option<usize>, AllocError>
+        ensures slot { IfOk result (λ slot. slot ≡ map.get self.old.all key.now) }
+        ensures all { self.new.all ≡ self.old.all }
+        ensures listed { IfOk result (λ slot. map.get self.new.listed key.now ≡ slot) }
+        ensures kept { AreKept self.old.listed self.new.listed }
     {
-        self.listed.insert(alloc, key, place)
+        if let Some(slot) = self.listed.get(key) {
+            return Ok(Some(slot));
+        }
+        let Some(slot) = self.tombstones.get(key) else {
+            return Ok(None);
+        };
+        // Listed before it leaves the others: where memory runs out, it still has its slot.
+        self.listed.insert(alloc, key, slot)?;
+        self.tombstones.remove(key);
+        Ok(Some(slot))
     }
 
-    /// Puts a key aside. Where memory runs out it stays listed.
-    pub(crate) fn put_aside(&mut self, alloc: Global, key: &Key)
+    /// Gives a key that slot, and lists it.
+    pub(crate) fn insert(&mut self, alloc: Global, key: &Key, slot: usize) -> Result<(), AllocError>
+        ensures ok { OnOk result (self.new ≡ with_key self.old key.now slot) }
+        ensures err { OnErr result (self.new ≡ self.old) }
+    {
+        self.listed.insert(alloc, key, slot)
+    }
+
+    /// Gives a key a tombstone. Where memory runs out it stays listed.
+    pub(crate) fn set_tombstone(&mut self, alloc: Global, key: &Key)
         ensures all { self.new.all ≡ self.old.all }
         ensures others { (k : Key) → k ≢ key.now → map.get self.new.listed k ≡ map.get self.old.listed k }
     {
-        let Some(place) = self.listed.get(key) else {
+        let Some(slot) = self.listed.get(key) else {
             return;
         };
-        if let Ok(()) = self.aside.insert(alloc, key, place) {
+        if let Ok(()) = self.tombstones.insert(alloc, key, slot) {
             self.listed.remove(key);
         }
     }
 
-    /// Takes the place of a key away.
+    /// Takes the slot of a key away.
     pub(crate) fn forget(&mut self, key: &Key)
         ensures all { self.new.all ≡ map.remove self.old.all key.now }
         ensures others { (k : Key) → k ≢ key.now → map.get self.new.listed k ≡ map.get self.old.listed k }
     {
         self.listed.remove(key);
-        self.aside.remove(key);
+        self.tombstones.remove(key);
     }
 
-    /// The places of the keys of a kind in a namespace, in the order of the keys.
+    /// The slots of the keys of a kind in a namespace, in the order of the keys.
     pub(crate) fn of(
         &self,
         alloc: Global,
         kind: Kind,
         namespace: &Text,
     ) -> Result<Vec<usize>, AllocError>
-        ensures { IfOk result (λ places. places.items ≡ collection self.now.all kind namespace.now) }
+        ensures { IfOk result (λ slots. slots.items ≡ collection self.now.all kind namespace.now) }
     {
-        self.listed.of_both(&self.aside, alloc, kind, namespace)
+        self.listed
+            .of_both(&self.tombstones, alloc, kind, namespace)
     }
 
     /// The same of the keys that are listed.
@@ -119,7 +119,7 @@ impl Index {
         kind: Kind,
         namespace: &Text,
     ) -> Result<Vec<usize>, AllocError>
-        ensures places { IfOk result (λ places. places.items ≡ collection self.now.listed kind namespace.now) }
+        ensures slots { IfOk result (λ slots. slots.items ≡ collection self.now.listed kind namespace.now) }
         ensures within { AreWithin self.now }
     {
         self.listed.of(alloc, kind, namespace)

@@ -3,10 +3,10 @@
 
 mod chain;
 mod index;
+mod key_slots;
 mod laws;
 mod map;
 mod names;
-mod places;
 mod short_name;
 
 pub use laws::states_have_the_values;

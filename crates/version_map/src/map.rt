@@ -6,7 +6,7 @@ ghost use Rattle.objects.specs.declared.key.Key.{Key};
 ghost use Rattle.version_map.specs.Forgotten.{AreForgotten, AreFree};
 ghost use Rattle.version_map.specs.Index.{AreKept};
 ghost use Rattle.version_map.specs.Rows.{state_to};
-ghost use Rattle.version_map.specs.Whole.{ArePlaced, AreStill, is_roomy, rows_there, values_in};
+ghost use Rattle.version_map.specs.Consistent.{HaveSlots, AreStill, is_roomy, rows_there, values_in};
 ghost use Rattle.version_map.specs.Keyed.{collection, put_at};
 ghost use Rattle.version_map.specs.Versions.{IsAbove, compacted, count, newest, opening, pushed, raised, state_at, value, with_room};
 
@@ -21,10 +21,10 @@ use std::marker::Model;
 #[derive(Drop)]
 struct Superseding {
     number: u64,
-    place: usize,
+    slot: usize,
 }
 
-/// A key that was put aside, and the number of its newest version then. The key goes once the floor has come up to it, if
+/// A key that got a tombstone, and the number of its newest version then. The key goes once the floor has come up to it, if
 /// nothing was written since.
 #[derive(Drop)]
 struct Removal {
@@ -44,11 +44,11 @@ pub struct VersionMap<V> {
     superseding: VecDeque<Superseding>,
     // In the order of their numbers, as far as the caller keeps it.
     removed: VecDeque<Removal>,
-    // The places of chains that no key has.
+    // The slots of chains that no key has.
     free: VecDeque<usize>,
     count: usize,
     floor: u64,
-    // The place of the key that a push has room for.
+    // The slot of the key that a push has room for.
     room: Option<usize>,
     alloc: Global,
 }
@@ -58,7 +58,7 @@ impl<V> Model for VersionMap<V> {
     ghost use Rattle.std.specs.VecDeque.{deque_capacity, deque_len};
     ghost use Rattle.version_map.specs.Forgotten.{AreFree};
     ghost use Rattle.version_map.specs.Versions.{Versions, versions_coded};
-    ghost use Rattle.version_map.specs.Whole.{AreListed, HasRoom, IsListed, IsWhole, by_key, key_at};
+    ghost use Rattle.version_map.specs.Consistent.{AreListed, HasRoom, IsListed, IsConsistent, by_key, key_at};
 
     ghost Value = { Versions V };
 
@@ -66,7 +66,7 @@ impl<V> Model for VersionMap<V> {
 
     ghost view = { λ s. record { rows = by_key s.index.all s.chains.items; floor = s.floor; room = option_and_then (key_at s.index.all) s.room } };
 
-    ghost invariant = { λ s. IsWhole s.index.all s.chains.items s.superseding.items s.count
+    ghost invariant = { λ s. IsConsistent s.index.all s.chains.items s.superseding.items s.count
         × IfSome s.room (HasRoom s.index.all s.chains.items)
         × AreListed s.index s.chains.items × IfSome s.room (IsListed s.index)
         × (IsSome s.room → (deque_len s.superseding < deque_capacity s.superseding) × (s.count + 1 < 2 ^ 64))
@@ -95,8 +95,8 @@ impl<V: Drop> VersionMap<V> {
     pub fn newest(&self, key: &Key) -> Option<(u64, Option<&V>)>
         ensures { option_map (λ p. (p.0, option_copied p.1)) result ≡ newest self.now.rows key.now }
     {
-        let place = self.index.get(key)?;
-        self.chains[place].newest()
+        let slot = self.index.get(key)?;
+        self.chains[slot].newest()
     }
 
     /// What the key was at a number, from the floor on.
@@ -104,8 +104,8 @@ impl<V: Drop> VersionMap<V> {
         requires { self.now.floor ≤ number }
         ensures { option_copied result ≡ value self.now.rows number key.now }
     {
-        let place = self.index.get(key)?;
-        self.chains[place].at(number)
+        let slot = self.index.get(key)?;
+        self.chains[slot].at(number)
     }
 
     /// The values of a kind in a namespace at a number, from the floor on, in byte order of their names.
@@ -113,11 +113,11 @@ impl<V: Drop> VersionMap<V> {
         requires { self.now.floor ≤ number }
         ensures { IfOk result (λ values. map (λ v. v.now) values.items ≡ collection (state_at self.now.rows number) kind namespace.now) }
     {
-        let places = self.index.of(self.alloc, kind, namespace)?;
-        Ok(values_at(self.alloc, &self.chains, places, number)?)
+        let slots = self.index.of(self.alloc, kind, namespace)?;
+        Ok(values_at(self.alloc, &self.chains, slots, number)?)
     }
 
-    /// The same at a number that no version is above. It does not walk over the keys that were put aside.
+    /// The same at a number that no version is above. It does not walk over tombstones.
     pub fn list_newest(&self, kind: Kind, namespace: &Text, number: u64) -> Result<Vec<&V>, Memory>
         requires { IsAbove self.now.rows (number + 1) }
         ensures { IfOk result (λ values. map (λ v. v.now) values.items ≡ collection (state_at self.now.rows number) kind namespace.now) }
@@ -126,9 +126,9 @@ impl<V: Drop> VersionMap<V> {
         Ok(values_at(self.alloc, &self.chains, listed, number)?)
     }
 
-    /// Puts aside a key that has no value, until room is made for it again. All readings stay. The key stays listed where
-    /// it has a value, where memory runs out, and where room is made for a push.
-    pub fn put_aside(&mut self, key: &Key)
+    /// Gives a key that has no value a tombstone, until room is made for it again. All readings stay. The key stays listed
+    /// where it has a value, where memory runs out, and where room is made for a push.
+    pub fn set_tombstone(&mut self, key: &Key)
         ensures { self.new ≡ self.old }
     {
         if self.has_value(key) {
@@ -137,14 +137,14 @@ impl<V: Drop> VersionMap<V> {
         match self.room {
             Some(_) => {}
             None => {
-                self.index.put_aside(self.alloc, key);
+                self.index.set_tombstone(self.alloc, key);
                 // Where the note finds no memory the key is not forgotten, which changes no reading.
                 let _ = self.note_removal(key);
             }
         }
     }
 
-    /// Notes a key that was put aside, so that it can be forgotten later with no more memory.
+    /// Notes a key with a tombstone, so that it can be forgotten later with no more memory.
     fn note_removal(&mut self, key: &Key) -> Result<(), AllocError>
         ensures { self.new ≡ self.old }
     {
@@ -169,7 +169,7 @@ impl<V: Drop> VersionMap<V> {
         }
     }
 
-    /// Makes room for one push of that key, in place of any room that was made before. All readings stay; where memory runs
+    /// Makes room for one push of that key, instead of any room that was made before. All readings stay; where memory runs
     /// out, so does the room that was made before.
     pub fn make_room(&mut self, key: &Key) -> Result<(), Memory>
         ensures made { OnOk result (self.new ≡ with_room self.old key.now) }
@@ -180,14 +180,14 @@ impl<V: Drop> VersionMap<V> {
             return Err(Memory);
         }
         self.superseding.reserve(1)?;
-        let place = reserve_for(
+        let slot = reserve_for(
             self.alloc,
             &mut self.index,
             &mut self.chains,
             &mut self.free,
             key,
         )?;
-        self.room = Some(place);
+        self.room = Some(slot);
         Ok(())
     }
 
@@ -198,16 +198,16 @@ impl<V: Drop> VersionMap<V> {
         ensures pushed { IfSome self.old.room (λ key. self.new ≡ pushed self.old number key state) }
         ensures written { IfSome self.old.room (λ key. state_at self.new.rows number ≡ put_at (state_at self.old.rows number) key state) }
     {
-        let Some(place) = self.room.take() else {
+        let Some(slot) = self.room.take() else {
             unreachable!();
         };
-        let chain = &mut self.chains[place];
+        let chain = &mut self.chains[slot];
         let is_first = chain.is_empty();
         chain.push(number, state);
         enqueue(
             &mut self.superseding,
             is_first,
-            Superseding { number, place },
+            Superseding { number, slot },
         );
         self.count += 1;
     }
@@ -246,15 +246,15 @@ impl<V: Drop> VersionMap<V> {
         let Some(next) = self.superseding.pop_front() else {
             unreachable!();
         };
-        let chain = &mut self.chains[next.place];
+        let chain = &mut self.chains[next.slot];
         chain.drop_first();
         self.count -= 1;
         true
     }
 
-    /// Forgets the keys that were put aside and have nothing but a removal that is not above the floor. Where room is made
-    /// for a push nothing is forgotten. All readings stay. It takes no memory, and its time is that of the keys which were
-    /// put aside and have come up to the floor, each of which is looked at once.
+    /// Forgets the keys with a tombstone that have nothing but a removal that is not above the floor. Where room is made
+    /// for a push nothing is forgotten. All readings stay. It takes no memory, and its time is that of the keys with a
+    /// tombstone that have come up to the floor, each of which is looked at once.
     pub fn forget_removed(&mut self)
         ensures forgotten { AreForgotten self.old self.new }
         ensures readings { (m : ℕ) → state_at self.new.rows m ≡ state_at self.old.rows m }
@@ -287,7 +287,7 @@ impl<V: Drop> VersionMap<V> {
     fn forget(&mut self, key: &Key)
         ensures { AreForgotten self.old self.new }
     {
-        // The key may be the one with room, whose place no other key may get.
+        // The key may be the one with room, whose slot no other key may get.
         if self.room.is_some() {
             return;
         }
@@ -295,16 +295,16 @@ impl<V: Drop> VersionMap<V> {
         let Ok(()) = self.free.reserve(1) else {
             return;
         };
-        let Some(place) = self.index.get(key) else {
+        let Some(slot) = self.index.get(key) else {
             return;
         };
-        if !self.chains[place].is_removal() {
+        if !self.chains[slot].is_removal() {
             return;
         }
         self.index.forget(key);
-        let chain = &mut self.chains[place];
+        let chain = &mut self.chains[slot];
         *chain = Chain::new(self.alloc);
-        self.free.push_back_reserved(place);
+        self.free.push_back_reserved(slot);
         self.count -= 1;
     }
 
@@ -323,29 +323,29 @@ impl<V: Drop> VersionMap<V> {
     }
 }
 
-/// What the chains at the places say at a number; nothing where nothing was there.
+/// What the chains at the slots say at a number; nothing where nothing was there.
 fn values_at<V: Drop>(
     alloc: Global,
     chains: &[Chain<V>],
-    places: Vec<usize>,
+    slots: Vec<usize>,
     number: u64,
 ) -> Result<Vec<&V>, AllocError>
-    ensures { IfOk result (λ values. map (λ v. v.now) values.items ≡ values_in number chains.now places.items) }
+    ensures { IfOk result (λ values. map (λ v. v.now) values.items ≡ values_in number chains.now slots.items) }
 {
     let mut found = Vec::new(alloc);
-    for place in places {
-        if let Some(value) = version_at(chains, place, number) {
+    for slot in slots {
+        if let Some(value) = version_at(chains, slot, number) {
             found.push(value)?;
         }
     }
     Ok(found)
 }
 
-/// What the chain at the place says at a number.
-fn version_at<V: Drop>(chains: &[Chain<V>], place: usize, number: u64) -> Option<&V>
-    ensures { option_copied result ≡ state_to number (rows_there chains.now place) }
+/// What the chain at the slot says at a number.
+fn version_at<V: Drop>(chains: &[Chain<V>], slot: usize, number: u64) -> Option<&V>
+    ensures { option_copied result ≡ state_to number (rows_there chains.now slot) }
 {
-    chains.get(place)?.at(number)
+    chains.get(slot)?.at(number)
 }
 
 /// Puts a version into the queue, unless it is the first of its key.
@@ -358,7 +358,7 @@ fn enqueue(superseding: &mut VecDeque<Superseding>, is_first: bool, next: Supers
     }
 }
 
-/// Makes room for one more version of the key, and answers its place. A new key is put in with no versions.
+/// Makes room for one more version of the key, and answers its slot. A new key is put in with no versions.
 fn reserve_for<V: Drop>(
     alloc: Global,
     index: &mut Index,
@@ -366,72 +366,72 @@ fn reserve_for<V: Drop>(
     free: &mut VecDeque<usize>,
     key: &Key,
 ) -> Result<usize, AllocError>
-    requires placed { ArePlaced index.old.all chains.old.items }
+    requires slotted { HaveSlots index.old.all chains.old.items }
     requires free { AreFree index.old.all (length chains.old.items) free.old.items }
-    ensures placed { ArePlaced index.new.all chains.new.items }
+    ensures slotted { HaveSlots index.new.all chains.new.items }
     ensures free { AreFree index.new.all (length chains.new.items) free.new.items }
     ensures still { AreStill index.old.all chains.old.items index.new.all chains.new.items }
     ensures kept { AreKept index.old.listed index.new.listed }
-    ensures listed { IfOk result (λ place. finite.get index.new.listed key.now ≡ Some place) }
-    ensures room { IfOk result (λ place. (finite.get index.new.all key.now ≡ Some place) × (is_roomy chains.new.items place ≡ true)) }
+    ensures listed { IfOk result (λ slot. finite.get index.new.listed key.now ≡ Some slot) }
+    ensures room { IfOk result (λ slot. (finite.get index.new.all key.now ≡ Some slot) × (is_roomy chains.new.items slot ≡ true)) }
 {
-    let place = place_of(alloc, index, chains, free, key)?;
-    let chain = &mut chains[place];
+    let slot = slot_of(alloc, index, chains, free, key)?;
+    let chain = &mut chains[slot];
     chain.reserve()?;
-    Ok(place)
+    Ok(slot)
 }
 
-/// The place of the key, which is put in with no versions if it is new.
-fn place_of<V: Drop>(
+/// The slot of the key, which is put in with no versions if it is new.
+fn slot_of<V: Drop>(
     alloc: Global,
     index: &mut Index,
     chains: &mut Vec<Chain<V>>,
     free: &mut VecDeque<usize>,
     key: &Key,
 ) -> Result<usize, AllocError>
-    requires placed { ArePlaced index.old.all chains.old.items }
+    requires slotted { HaveSlots index.old.all chains.old.items }
     requires free { AreFree index.old.all (length chains.old.items) free.old.items }
-    ensures placed { ArePlaced index.new.all chains.new.items }
+    ensures slotted { HaveSlots index.new.all chains.new.items }
     ensures free { AreFree index.new.all (length chains.new.items) free.new.items }
     ensures still { AreStill index.old.all chains.old.items index.new.all chains.new.items }
     ensures kept { AreKept index.old.listed index.new.listed }
-    ensures listed { IfOk result (λ place. finite.get index.new.listed key.now ≡ Some place) }
-    ensures place { IfOk result (λ place. finite.get index.new.all key.now ≡ Some place) }
+    ensures listed { IfOk result (λ slot. finite.get index.new.listed key.now ≡ Some slot) }
+    ensures slot { IfOk result (λ slot. finite.get index.new.all key.now ≡ Some slot) }
 {
-    let found = index.recall(alloc, key)?;
+    let found = index.lift_tombstone(alloc, key)?;
     match found {
-        Some(place) => Ok(place),
+        Some(slot) => Ok(slot),
         None => match free.front().copied() {
-            Some(place) => {
-                // The place is taken off once the index has it, so that want of memory loses none.
-                index.insert(alloc, key, place)?;
+            Some(slot) => {
+                // The slot is taken off once the index has it, so that want of memory loses none.
+                index.insert(alloc, key, slot)?;
                 free.pop_front();
-                Ok(place)
+                Ok(slot)
             }
-            None => add_place(alloc, index, chains, key),
+            None => add_slot(alloc, index, chains, key),
         },
     }
 }
 
-/// Gives a new key a place behind all others.
-fn add_place<V: Drop>(
+/// Gives a new key a slot behind all others.
+fn add_slot<V: Drop>(
     alloc: Global,
     index: &mut Index,
     chains: &mut Vec<Chain<V>>,
     key: &Key,
 ) -> Result<usize, AllocError>
-    requires placed { ArePlaced index.old.all chains.old.items }
+    requires slotted { HaveSlots index.old.all chains.old.items }
     requires new { (finite.get index.old.all key.now ≡ None) × (finite.get index.old.listed key.now ≡ None) }
-    ensures placed { ArePlaced index.new.all chains.new.items }
+    ensures slotted { HaveSlots index.new.all chains.new.items }
     ensures still { AreStill index.old.all chains.old.items index.new.all chains.new.items }
     ensures kept { AreKept index.old.listed index.new.listed }
-    ensures listed { IfOk result (λ place. finite.get index.new.listed key.now ≡ Some place) }
-    ensures place { IfOk result (λ place. finite.get index.new.all key.now ≡ Some place) }
+    ensures listed { IfOk result (λ slot. finite.get index.new.listed key.now ≡ Some slot) }
+    ensures slot { IfOk result (λ slot. finite.get index.new.all key.now ≡ Some slot) }
 {
-    // Before the index knows of the place, so that there is none without a chain.
+    // Before the index knows of the slot, so that there is none without a chain.
     chains.reserve(1)?;
-    let place = chains.len();
-    index.insert(alloc, key, place)?;
+    let slot = chains.len();
+    index.insert(alloc, key, slot)?;
     chains.push_reserved(Chain::new(alloc));
-    Ok(place)
+    Ok(slot)
 }

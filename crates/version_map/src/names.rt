@@ -2,7 +2,7 @@
 ghost use Rattle.std.specs.Prelude.{◌≡◌, ◌==◌, ◌∷◌, [], ℕ, length, List, Some, None, bytes_eq, cond, IfOk, OnOk, OnErr};
 ghost use Rattle.std.specs.BTreeMap.{IsOrdered, values};
 ghost use Rattle.std.specs.Option.{option_or};
-ghost use Rattle.version_map.specs.Named.{at_name, at_text, AreValues, place_at_text};
+ghost use Rattle.version_map.specs.Named.{at_name, at_text, AreValues, slot_at_text};
 
 use crate::short_name::ShortName;
 use objects::Text;
@@ -10,7 +10,7 @@ use std::alloc::{AllocError, Global};
 use std::collections::BTreeMap;
 use std::marker::Model;
 
-/// The place of each name. Short names stand apart, in a map that compares numbers, with keys of half the size.
+/// The slot of each name. Short names stand apart, in a map that compares numbers, with keys of half the size.
 #[derive(Drop)]
 pub(crate) struct Names {
     short: BTreeMap<ShortName, usize>,
@@ -53,23 +53,23 @@ impl Names {
         }
     }
 
-    /// Gives a name that place.
-    pub(crate) fn insert(&mut self, name: &Text, place: usize) -> Result<(), AllocError>
-        ensures ok { OnOk result ((word : List ℕ) → at_name self.new word ≡ cond (bytes_eq name.now word) (Some place) (at_name self.old word)) }
+    /// Gives a name that slot.
+    pub(crate) fn insert(&mut self, name: &Text, slot: usize) -> Result<(), AllocError>
+        ensures ok { OnOk result ((word : List ℕ) → at_name self.new word ≡ cond (bytes_eq name.now word) (Some slot) (at_name self.old word)) }
         ensures err { OnErr result (self.new ≡ self.old) }
     {
         match ShortName::of(name.as_str()) {
             Some(short) => {
-                self.short.insert(short, place)?;
+                self.short.insert(short, slot)?;
             }
             None => {
-                self.long.insert(name.clone()?, place)?;
+                self.long.insert(name.clone()?, slot)?;
             }
         }
         Ok(())
     }
 
-    /// Takes the place of a name away.
+    /// Takes the slot of a name away.
     pub(crate) fn remove(&mut self, name: &Text)
         ensures { (word : List ℕ) → at_name self.new word ≡ cond (bytes_eq name.now word) None (at_name self.old word) }
     {
@@ -83,44 +83,44 @@ impl Names {
         }
     }
 
-    /// The places of all names, in byte order of the names.
-    pub(crate) fn places(&self, alloc: Global) -> Result<Vec<usize>, AllocError>
-        ensures { IfOk result (λ places. AreValues places.items (at_name self.now)) }
+    /// The slots of all names, in byte order of the names.
+    pub(crate) fn slots(&self, alloc: Global) -> Result<Vec<usize>, AllocError>
+        ensures { IfOk result (λ slots. AreValues slots.items (at_name self.now)) }
     {
         if self.long.is_empty() {
-            return places_in(alloc, &self.short);
+            return slots_in(alloc, &self.short);
         }
         if self.short.is_empty() {
-            return places_in(alloc, &self.long);
+            return slots_in(alloc, &self.long);
         }
         let mut all = BTreeMap::new(alloc);
         self.add_to(&mut all)?;
-        places_in(alloc, &all)
+        slots_in(alloc, &all)
     }
 
-    /// The places of the names of both, in byte order of the names; of a name of both, the one that it has here.
-    pub(crate) fn places_with(&self, more: &Names, alloc: Global) -> Result<Vec<usize>, AllocError>
-        ensures { IfOk result (λ places. AreValues places.items (λ word. option_or (at_name self.now word) (at_name more.now word))) }
+    /// The slots of the names of both, in byte order of the names; of a name of both, the one that it has here.
+    pub(crate) fn slots_with(&self, more: &Names, alloc: Global) -> Result<Vec<usize>, AllocError>
+        ensures { IfOk result (λ slots. AreValues slots.items (λ word. option_or (at_name self.now word) (at_name more.now word))) }
     {
         let mut all = BTreeMap::new(alloc);
         // Its own come last, as a later entry of a name replaces an earlier one.
         more.add_to(&mut all)?;
         self.add_to(&mut all)?;
-        places_in(alloc, &all)
+        slots_in(alloc, &all)
     }
 
-    /// Adds the names with their places.
+    /// Adds the names with their slots.
     fn add_to<'a>(&'a self, all: &mut BTreeMap<&'a [u8], usize>) -> Result<(), AllocError>
-        ensures { OnOk result ((word : List ℕ) → place_at_text all.new word ≡ option_or (at_name self.now word) (place_at_text all.old word)) }
+        ensures { OnOk result ((word : List ℕ) → slot_at_text all.new word ≡ option_or (at_name self.now word) (slot_at_text all.old word)) }
     {
         add_long(all, &self.long)?;
         add_short(all, &self.short)
     }
 }
 
-/// The places of all names, in byte order of the names.
-fn places_in<N: Ord>(alloc: Global, names: &BTreeMap<N, usize>) -> Result<Vec<usize>, AllocError>
-    ensures places { IfOk result (λ places. places.items ≡ values names.now) }
+/// The slots of all names, in byte order of the names.
+fn slots_in<N: Ord>(alloc: Global, names: &BTreeMap<N, usize>) -> Result<Vec<usize>, AllocError>
+    ensures slots { IfOk result (λ slots. slots.items ≡ values names.now) }
     ensures ordered { IsOrdered N.cmp names.now }
 {
     names.values().copied().collect(alloc)
@@ -130,10 +130,10 @@ fn add_long<'a>(
     all: &mut BTreeMap<&'a [u8], usize>,
     names: &'a BTreeMap<Text, usize>,
 ) -> Result<(), AllocError>
-    ensures { OnOk result ((word : List ℕ) → place_at_text all.new word ≡ option_or (at_text names.now word) (place_at_text all.old word)) }
+    ensures { OnOk result ((word : List ℕ) → slot_at_text all.new word ≡ option_or (at_text names.now word) (slot_at_text all.old word)) }
 {
-    for (name, place) in names.iter() {
-        all.insert(name.as_str().as_bytes(), *place)?;
+    for (name, slot) in names.iter() {
+        all.insert(name.as_str().as_bytes(), *slot)?;
     }
     Ok(())
 }
@@ -142,10 +142,10 @@ fn add_short<'a>(
     all: &mut BTreeMap<&'a [u8], usize>,
     names: &'a BTreeMap<ShortName, usize>,
 ) -> Result<(), AllocError>
-    ensures { OnOk result ((word : List ℕ) → place_at_text all.new word ≡ option_or (at_text names.now word) (place_at_text all.old word)) }
+    ensures { OnOk result ((word : List ℕ) → slot_at_text all.new word ≡ option_or (at_text names.now word) (slot_at_text all.old word)) }
 {
-    for (name, place) in names.iter() {
-        all.insert(name.as_bytes(), *place)?;
+    for (name, slot) in names.iter() {
+        all.insert(name.as_bytes(), *slot)?;
     }
     Ok(())
 }

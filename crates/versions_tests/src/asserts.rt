@@ -1,5 +1,5 @@
 // What tests assert of a shard. The functions here only look at it, so that a failed assertion lets nothing go.
-use crate::shards::{listed, newest, revision_at};
+use crate::shards::{listed, newest, resource_version_at};
 use objects::{Key, Kind};
 use std::alloc::Global;
 use std::process::Abort;
@@ -7,14 +7,14 @@ use std::test::Fail;
 use versions::Shard;
 
 /// Asserts the resource version of the object that the key had at a number.
-pub(crate) fn assert_revision(
+pub(crate) fn assert_resource_version(
     rt: &impl Abort,
     shard: &Shard,
     key: &Key,
     number: u64,
     expected: Option<u64>,
 ) {
-    let found = revision_at(rt, shard, key, number);
+    let found = resource_version_at(rt, shard, key, number);
     assert_read(rt, key, Some((number, found)), Some((number, expected)));
 }
 

@@ -1,7 +1,7 @@
 //! A long script of pushes, compactions and readings, over a shard and a slow body beside it.
 ghost use Rattle.std.specs.Prelude.{◌<◌};
 
-use crate::asserts::{assert_list, assert_newest, assert_revision, assert_size};
+use crate::asserts::{assert_list, assert_newest, assert_resource_version, assert_size};
 use crate::rising::Rising;
 use crate::shards::{key_of, push};
 use crate::slow::Slow;
@@ -131,12 +131,12 @@ impl Pair {
         let place = self.chance.below(12) as usize;
         let further = 1 + self.chance.below(3);
         let number = self.rising.last().saturating_add(further);
-        let revision = if self.chance.below(4) == 0 {
+        let resource_version = if self.chance.below(4) == 0 {
             None
         } else {
             Some(number)
         };
-        self.push_at(rt, place, number, revision)
+        self.push_at(rt, place, number, resource_version)
     }
 
     fn push_at(
@@ -144,11 +144,18 @@ impl Pair {
         rt: &impl Abort,
         place: usize,
         number: u64,
-        revision: Option<u64>,
+        resource_version: Option<u64>,
     ) -> Result<(), Fail> {
         let key = key_at(rt, self.keys.as_slice(), place);
-        push(rt, self.alloc, &mut self.rising, number, key, revision)?;
-        Ok(self.slow.push(number, place, revision)?)
+        push(
+            rt,
+            self.alloc,
+            &mut self.rising,
+            number,
+            key,
+            resource_version,
+        )?;
+        Ok(self.slow.push(number, place, resource_version)?)
     }
 
     /// A compaction to a number near the last one: some are below the floor, and some above all records.
@@ -177,7 +184,7 @@ impl Pair {
     fn assert_reads(&self, rt: &impl Abort, place: usize, number: u64) {
         let shard = self.rising.shard();
         let key = key_at(rt, self.keys.as_slice(), place);
-        assert_revision(rt, shard, key, number, self.slow.at(place, number));
+        assert_resource_version(rt, shard, key, number, self.slow.at(place, number));
         assert_newest(rt, shard, key, self.slow.newest(place));
     }
 
@@ -206,8 +213,8 @@ impl Pair {
         let mut text = String::new(self.alloc);
         for (place, (kind, namespace, name)) in KEYS.iter().enumerate() {
             if *kind == collection.0 && *namespace == collection.1 {
-                if let Some(revision) = self.slow.at(place, number) {
-                    write!(text, "{name}{revision} ")?;
+                if let Some(resource_version) = self.slow.at(place, number) {
+                    write!(text, "{name}{resource_version} ")?;
                 }
             }
         }

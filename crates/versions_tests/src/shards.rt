@@ -1,6 +1,8 @@
 //! Records of a few keys, with what is read of them worked out by hand. A value of many parts is let go by `drop`, which
 //! is proved once for each type, and not at each way out of a test.
-use crate::asserts::{assert_list, assert_newest, assert_revision, assert_size, assert_text};
+use crate::asserts::{
+    assert_list, assert_newest, assert_resource_version, assert_size, assert_text,
+};
 use crate::rising::Rising;
 use objects::{Key, Kind, Memory, Object, Text, read_object};
 use plain::{Request, Verdict, read_request};
@@ -29,12 +31,12 @@ pub(crate) fn key_of(alloc: Global, parts: (Kind, &str, &str)) -> Result<Key, Fa
 }
 
 /// The text of an object of that key and that resource version.
-fn text_of(alloc: Global, key: &Key, revision: u64) -> Result<String, Fail> {
+fn text_of(alloc: Global, key: &Key, resource_version: u64) -> Result<String, Fail> {
     let kind = key.kind.name();
     let name = key.name.as_str();
     let namespace = key.namespace.as_str();
     Ok(format!(in alloc;
-        "{{\"kind\":\"{kind}\",\"metadata\":{{\"name\":\"{name}\",\"namespace\":\"{namespace}\",\"resourceVersion\":\"{revision}\"}}}}"
+        "{{\"kind\":\"{kind}\",\"metadata\":{{\"name\":\"{name}\",\"namespace\":\"{namespace}\",\"resourceVersion\":\"{resource_version}\"}}}}"
     )?)
 }
 
@@ -43,17 +45,17 @@ fn object_in(alloc: Global, text: &str) -> Result<Object, Fail> {
 }
 
 /// An object of that key and that resource version.
-fn object(alloc: Global, key: &Key, revision: u64) -> Result<Object, Fail> {
-    let text = text_of(alloc, key, revision)?;
+fn object(alloc: Global, key: &Key, resource_version: u64) -> Result<Object, Fail> {
+    let text = text_of(alloc, key, resource_version)?;
     let object = object_in(alloc, text.as_str());
     drop(text);
     object
 }
 
 /// What a key is from a number on: the object of a resource version, or none.
-fn state(alloc: Global, key: &Key, revision: Option<u64>) -> Result<Option<Object>, Fail> {
-    match revision {
-        Some(revision) => Ok(Some(object(alloc, key, revision)?)),
+fn state(alloc: Global, key: &Key, resource_version: Option<u64>) -> Result<Option<Object>, Fail> {
+    match resource_version {
+        Some(resource_version) => Ok(Some(object(alloc, key, resource_version)?)),
         None => Ok(None),
     }
 }
@@ -65,9 +67,9 @@ pub(crate) fn push(
     rising: &mut Rising,
     number: u64,
     key: &Key,
-    revision: Option<u64>,
+    resource_version: Option<u64>,
 ) -> Result<(), Fail> {
-    let state = state(alloc, key, revision)?;
+    let state = state(alloc, key, resource_version)?;
     rising.push(rt, number, key, state)
 }
 
@@ -77,9 +79,9 @@ fn push_record(
     rising: &mut Rising,
     record: &(u64, (Kind, &str, &str), Option<u64>),
 ) -> Result<(), Fail> {
-    let (number, parts, revision) = record;
+    let (number, parts, resource_version) = record;
     let key = key_of(alloc, *parts)?;
-    let pushed = push(rt, alloc, rising, *number, &key, *revision);
+    let pushed = push(rt, alloc, rising, *number, &key, *resource_version);
     drop(key);
     pushed
 }
@@ -98,7 +100,12 @@ fn push_all(
 }
 
 /// The resource version of the object that the key had at a number.
-pub(crate) fn revision_at(rt: &impl Abort, shard: &Shard, key: &Key, number: u64) -> Option<u64> {
+pub(crate) fn resource_version_at(
+    rt: &impl Abort,
+    shard: &Shard,
+    key: &Key,
+    number: u64,
+) -> Option<u64> {
     assert!(rt; shard.floor() <= number);
     Some(shard.at(key, number)?.meta.revision)
 }
@@ -133,9 +140,14 @@ static READINGS: [(u64, Option<u64>); 10] = [
     (u64::MAX, Some(Y)),
 ];
 
-fn assert_revisions(rt: &impl Abort, shard: &Shard, key: &Key, expected: &[(u64, Option<u64>)]) {
-    for (number, revision) in expected {
-        assert_revision(rt, shard, key, *number, *revision);
+fn assert_resource_versions(
+    rt: &impl Abort,
+    shard: &Shard,
+    key: &Key,
+    expected: &[(u64, Option<u64>)],
+) {
+    for (number, resource_version) in expected {
+        assert_resource_version(rt, shard, key, *number, *resource_version);
     }
 }
 
@@ -149,7 +161,7 @@ fn assert_key(
     newest: Option<(u64, Option<u64>)>,
 ) -> Result<(), Fail> {
     let key = key_of(alloc, parts)?;
-    assert_revisions(rt, shard, &key, readings);
+    assert_resource_versions(rt, shard, &key, readings);
     assert_newest(rt, shard, &key, newest);
     drop(key);
     Ok(())
@@ -318,11 +330,11 @@ fn assert_compacts(
     rising: &mut Rising,
     row: &(u64, usize, u64, u64),
 ) -> Result<(), Fail> {
-    let (number, records, floor, revision) = row;
+    let (number, records, floor, resource_version) = row;
     rising.compact(*number);
     let shard = rising.shard();
     assert_size(rt, shard, *records, *floor);
-    let readings = [(*floor, Some(*revision)), (7, Some(7))];
+    let readings = [(*floor, Some(*resource_version)), (7, Some(7))];
     assert_key(rt, alloc, shard, A, readings.as_slice(), Some((7, Some(7))))?;
     assert_key(rt, alloc, shard, B, [].as_slice(), Some((3, None)))
 }
@@ -391,8 +403,8 @@ fn names(alloc: Global, objects: &[Object]) -> Result<String, Fail> {
     let mut text = String::new(alloc);
     for object in objects {
         let name = object.key.name.as_str();
-        let revision = object.meta.revision;
-        write!(text, "{name}{revision} ")?;
+        let resource_version = object.meta.revision;
+        write!(text, "{name}{resource_version} ")?;
     }
     Ok(text)
 }

@@ -7,7 +7,7 @@ use std::alloc::{AllocError, Global};
 struct Record {
     number: u64,
     key: usize,
-    revision: Option<u64>,
+    resource_version: Option<u64>,
 }
 
 /// Records in the order of their pushes.
@@ -29,12 +29,12 @@ impl Slow {
         &mut self,
         number: u64,
         key: usize,
-        revision: Option<u64>,
+        resource_version: Option<u64>,
     ) -> Result<(), AllocError> {
         self.records.push(Record {
             number,
             key,
-            revision,
+            resource_version,
         })?;
         Ok(())
     }
@@ -43,20 +43,20 @@ impl Slow {
         let mut newest = None;
         for record in self.records.as_slice() {
             if record.key == key {
-                newest = Some((record.number, record.revision));
+                newest = Some((record.number, record.resource_version));
             }
         }
         newest
     }
 
     pub(crate) fn at(&self, key: usize, number: u64) -> Option<u64> {
-        let mut revision = None;
+        let mut resource_version = None;
         for record in self.records.as_slice() {
             if record.key == key && record.number <= number {
-                revision = record.revision;
+                resource_version = record.resource_version;
             }
         }
-        revision
+        resource_version
     }
 
     /// Keeps the records above the number, and of those up to it each that no later one of its key follows up to there.

@@ -40,11 +40,11 @@ fn named_by(line: &[u8]) -> Option<Named<'_>>
     ensures utf8 { IfSome result (λ n. IsUtf8 n.name.now × IsUtf8 n.namespace.now) }
 {
     let rest = line.strip_prefix(b"{\"do\":\"get\",\"kind\":\"")?;
-    let (kind, rest) = cut_at_quote(rest)?;
+    let (kind, rest) = split_at_quote(rest)?;
     let rest = rest.strip_prefix(b",\"name\":\"")?;
-    let (name, rest) = cut_at_quote(rest)?;
+    let (name, rest) = split_at_quote(rest)?;
     let rest = rest.strip_prefix(b",\"namespace\":\"")?;
-    let (namespace, rest) = cut_at_quote(rest)?;
+    let (namespace, rest) = split_at_quote(rest)?;
     if rest != b"}".as_slice() {
         return None;
     }
@@ -74,7 +74,7 @@ fn text_of(bytes: &[u8]) -> Option<&str>
 }
 
 // What stands before the first quotation mark, and behind it.
-fn cut_at_quote(bytes: &[u8]) -> Option<(&[u8], &[u8])>
+fn split_at_quote(bytes: &[u8]) -> Option<(&[u8], &[u8])>
     ensures { IfSome result (λ p. bytes.now ≡ p.0.now ++ 34 ∷ p.1.now) }
 {
     let at = memchr(b'"', bytes)?;

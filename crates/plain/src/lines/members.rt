@@ -20,7 +20,7 @@ pub fn write_text_member(name: &str, text: &str, out: &mut Writer) -> Result<(),
 }
 
 /// Writes a member whose value is a whole number.
-pub fn write_whole_member(name: &str, number: u64, out: &mut Writer) -> Result<(), AllocError>
+pub fn write_integer_member(name: &str, number: u64, out: &mut Writer) -> Result<(), AllocError>
     ensures tokens { OnOk result (out.new.tokens ≡ out.old.tokens ++ key_token name.now ∷ number_token (decimal number) ∷ []) }
     ensures before { out.new.before ≡ out.old.before }
 {

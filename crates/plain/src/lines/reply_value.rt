@@ -6,7 +6,7 @@ ghost use Rattle.serde_json.specs.Written.{outline, items_outline};
 ghost use Rattle.plain.specs.Replies.{printed_items, reply_data, with_items, with_object, with_reason, with_revision};
 ghost use Rattle.requests.specs.Reasons.{reason_code, reason_name};
 
-use crate::lines::members::{write_object_member, write_text_member, write_whole_member};
+use crate::lines::members::{write_integer_member, write_object_member, write_text_member};
 use json::Writer;
 use objects::{Object, write_object};
 use requests::{Reason, Reply};
@@ -41,7 +41,7 @@ fn write_changed(
     ensures before { out.new.before ≡ out.old.before }
 {
     out.begin_object()?;
-    write_whole_member("code", code, out)?;
+    write_integer_member("code", code, out)?;
     write_object_member("object", object, out)?;
     write_text_member("result", outcome, out)?;
     out.end_object()
@@ -52,7 +52,7 @@ fn write_listed(objects: &[Object], revision: u64, out: &mut Writer) -> Result<(
     ensures before { out.new.before ≡ out.old.before }
 {
     out.begin_object()?;
-    write_whole_member("code", 200, out)?;
+    write_integer_member("code", 200, out)?;
     write_items(objects, out)?;
     write_version(revision, out)?;
     write_text_member("result", "Listed", out)?;
@@ -93,7 +93,7 @@ fn write_compacted(revision: u64, out: &mut Writer) -> Result<(), AllocError>
     ensures before { out.new.before ≡ out.old.before }
 {
     out.begin_object()?;
-    write_whole_member("code", 200, out)?;
+    write_integer_member("code", 200, out)?;
     write_version(revision, out)?;
     write_text_member("result", "Compacted", out)?;
     out.end_object()
@@ -110,7 +110,7 @@ fn write_refused(code: u64, reason: &str, out: &mut Writer) -> Result<(), AllocE
     ensures before { out.new.before ≡ out.old.before }
 {
     out.begin_object()?;
-    write_whole_member("code", code, out)?;
+    write_integer_member("code", code, out)?;
     write_text_member("reason", reason, out)?;
     out.end_object()
 }

@@ -49,7 +49,7 @@ pub fn updates_with_a_stale_version_change_nothing()
     ensures status { (s : Store) (draft : Draft) (version : List ℕ) (current : Object)
         → Has s draft.object.key current → nonempty draft.version ≡ Some version → version ≢ decimal current.meta.revision
         → step s (UpdateStatus draft) ≡ (s, Refused (if has_status draft.object.key.kind then Conflict else Invalid)) }
-    ensures delete { (s : Store) (key : Key) (uid given at : Option (List ℕ)) (version : List ℕ) (current : Object)
-        → Has s key current → nonempty given ≡ Some version → version ≢ decimal current.meta.revision
-        → step s (Delete key uid given at) ≡ (s, Refused Conflict) }
+    ensures delete { (s : Store) (key : Key) (uid precondition at : Option (List ℕ)) (version : List ℕ) (current : Object)
+        → Has s key current → nonempty precondition ≡ Some version → version ≢ decimal current.meta.revision
+        → step s (Delete key uid precondition at) ≡ (s, Refused Conflict) }
 {}

@@ -10,9 +10,9 @@ ghost use Rattle.plain_store.specs.AtKey.{Has};
 ghost use Rattle.plain_store.specs.Reached.{IsReached};
 ghost use Rattle.plain_store.specs.Store.{Store, collection, is_of};
 
-/// A list is whole: it has every object of the kind in the namespace, each once, in the order of their names, and nothing
+/// A list is complete: it has every object of the kind in the namespace, each once, in the order of their names, and nothing
 /// else.
-pub fn lists_are_whole()
+pub fn lists_are_complete()
     ensures all { (s : Store) (kind : Kind) (namespace : List ℕ) (key : Key) (o : Object) → Has s key o → is_of kind namespace key ≡ true
         → Contains (collection s.objects kind namespace) o }
     ensures only { (s : Store) (kind : Kind) (namespace : List ℕ) (o : Object) → IsReached s → Contains (collection s.objects kind namespace) o

@@ -54,9 +54,9 @@ pub fn requests_touch_one_key()
 
 /// A delete that names a UID takes away, and marks, no object of another UID: it is a Conflict, and changes nothing.
 pub fn deletes_spare_other_uids()
-    ensures { (s : Store) (key : Key) (given version at : Option (List ℕ)) (uid : List ℕ) (current : Object)
-        → map.get s.objects key ≡ Some current → nonempty given ≡ Some uid → bytes_eq uid (uid_text current.meta.uid) ≡ false
-        → step s (Delete key given version at) ≡ (s, Refused Conflict) }
+    ensures { (s : Store) (key : Key) (precondition version at : Option (List ℕ)) (uid : List ℕ) (current : Object)
+        → map.get s.objects key ≡ Some current → nonempty precondition ≡ Some uid → bytes_eq uid (uid_text current.meta.uid) ≡ false
+        → step s (Delete key precondition version at) ≡ (s, Refused Conflict) }
 {}
 
 /// A delete that is accepted marks or takes away the object that is under its key, with the UID and the resource version

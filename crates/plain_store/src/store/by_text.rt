@@ -39,7 +39,7 @@ impl Plain {
                 if has_status(draft.object.key.kind) {
                     self.write_update(draft)
                 } else {
-                    Ok(self.write_whole(Request::Update(draft))?.into_printed())
+                    Ok(self.write_by_object(Request::Update(draft))?.into_printed())
                 }
             }
             Request::UpdateStatus(draft) => {
@@ -53,7 +53,7 @@ impl Plain {
                 version,
                 at,
             } => self.delete(key, uid, version, at),
-            request => Ok(self.write_whole(request)?.into_printed()),
+            request => Ok(self.write_by_object(request)?.into_printed()),
         }
     }
 
@@ -206,7 +206,7 @@ impl Plain {
                 version,
                 at,
             };
-            return Ok(self.write_whole(request)?.into_printed());
+            return Ok(self.write_by_object(request)?.into_printed());
         }
         drop(at);
         let printed = self.remove(&key, uid.as_ref(), version.as_ref());

@@ -30,19 +30,19 @@ impl Plain {
         self.versions.make_room(key)?;
         self.versions.push(self.counter + 1, state);
         self.counter += 1;
-        self.put_aside(kind, key);
+        self.set_tombstone_if_removed(kind, key);
         Ok(())
     }
 
-    /// After a change of that kind a list of what is there need not come upon the key.
-    fn put_aside(&mut self, kind: ChangeKind, key: &Key)
+    /// Gives the key a tombstone where the change is its removal, so that a list of what is there does not come upon it.
+    fn set_tombstone_if_removed(&mut self, kind: ChangeKind, key: &Key)
         ensures { self.new ≡ self.old }
     {
         // Looked at so that the invariant is known here; it costs nothing.
         let _ = &self.versions;
         match kind {
             ChangeKind::Creation | ChangeKind::Update | ChangeKind::Mark => {}
-            ChangeKind::Removal => self.versions.put_aside(key),
+            ChangeKind::Removal => self.versions.set_tombstone(key),
         }
     }
 

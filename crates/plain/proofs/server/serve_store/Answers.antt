@@ -8,19 +8,19 @@ returns-in_default-clause-fault g c = Serving-unread _ _ _ _ _ _ _ _ _ c.reads.i
 pub returns-in_default-clause-unread : goal.returns-in_default-clause-unread
 returns-in_default-clause-unread g c = λ _. Serving-ended _ _ _ _ _ _ _ _ _ c.reads.invariant.serving c.reads.invariant.begun c.in_default.ensures.kept
 
-pub returns-in_err-cutter-clause-fault : goal.returns-in_err-cutter-clause-fault
-returns-in_err-cutter-clause-fault g c =
-    on_err _ c.from_residual-in_err-cutter.result
-    (Serving-fault _ _ _ _ _ _ _ _ _ _ _ c.reads.invariant.serving c.in-Some.ensures.taken c.in_err-cutter.ensures.fault)
+pub returns-in_err-splitter-clause-fault : goal.returns-in_err-splitter-clause-fault
+returns-in_err-splitter-clause-fault g c =
+    on_err _ c.from_residual-in_err-splitter.result
+    (Serving-fault _ _ _ _ _ _ _ _ _ _ _ c.reads.invariant.serving c.in-Some.ensures.taken c.in_err-splitter.ensures.fault)
 
 pub reads-preserved : goal.reads-preserved
 reads-preserved g c = record {
-  serving = Serving-next _ _ _ _ _ _ _ _ _ _ _ _ _ _ c.reads.invariant.serving c.in-Some.ensures.taken c.in_ok-cutter.ensures.reaches;
-  begun = c.in_ok-cutter.ensures.begun;
-  written = c.in_ok-cutter.ensures.written;
-  room = omega (arith, length-take c.in-Some.count c.read.new.room, c.in_ok-cutter.ensures.count, c.in-Some.ensures.bounded, c.reads.invariant.room);
+  serving = Serving-next _ _ _ _ _ _ _ _ _ _ _ _ _ _ c.reads.invariant.serving c.in-Some.ensures.taken c.in_ok-splitter.ensures.reaches;
+  begun = c.in_ok-splitter.ensures.begun;
+  written = c.in_ok-splitter.ensures.written;
+  room = omega (arith, length-take c.in-Some.count c.read.new.room, c.in_ok-splitter.ensures.count, c.in-Some.ensures.bounded, c.reads.invariant.room);
   reads = c.in-Some.ensures.well ∙ c.reads.invariant.reads;
-  writes = c.in_ok-cutter.ensures.writes ∙ c.reads.invariant.writes;
+  writes = c.in_ok-splitter.ensures.writes ∙ c.reads.invariant.writes;
 }
 
 pub returns-clause-fault : goal.returns-clause-fault

@@ -7,4 +7,4 @@ pub returns-clause-tokens : goal.returns-clause-tokens
 returns-clause-tokens c =
     on_ok_weaker c.end_object.result (λ last.
     four c.args.out.now.tokens _ _ _ _ _ _ _ _ _
-    c.in_ok-begin_object.ensures.ok c.in_ok-write_whole_member.ensures.tokens c.in_ok-write_text_member.ensures.tokens last refl) c.end_object.ensures.ok
+    c.in_ok-begin_object.ensures.ok c.in_ok-write_integer_member.ensures.tokens c.in_ok-write_text_member.ensures.tokens last refl) c.end_object.ensures.ok

@@ -1,6 +1,6 @@
 use Rattle.std.proofs.Common.{length, refl, sym, arith}
 use Rattle.std.proofs.lemmas.Bool.{eqb-false}
-use Rattle.plain.proofs.LineCuts.{first-line, only-line, shorter-next}
+use Rattle.plain.proofs.LineSplits.{first-line, only-line, shorter-next}
 use Rattle.plain.proofs.lines.split.split_line.Goals as goal
 
 pub returns-in-Some-clause-first : goal.returns-in-Some-clause-first

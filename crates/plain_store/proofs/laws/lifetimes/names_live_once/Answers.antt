@@ -1,4 +1,4 @@
-use Rattle.plain_store.proofs.ToldLives.{lives_in_run}
+use Rattle.plain_store.proofs.EventLives.{lives_in_run}
 use Rattle.plain_store.proofs.laws.lifetimes.names_live_once.Goals as goal
 
 pub returns : goal.returns

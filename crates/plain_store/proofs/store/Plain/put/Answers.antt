@@ -25,6 +25,6 @@ returns-clause-put c =
     let v = c.self.inside.versions in
     let key = c.args.key.now in
     let is = pushed_there v _ c.push.new.self (c.self.inside.counter + 1) key c.in_ok-state.state c.in_ok-make_room.ensures.made c.push.ensures.pushed in
-    c.put_aside.ensures
+    c.set_tombstone_if_removed.ensures
     ∙ pushed_is v c.push.new.self c.self.inside.counter c.self.inside.capacity key c.in_ok-state.state c.self.invariant.2 is
     ∙ ap (λ (t : Store). with_next t key c.in_ok-state.state) c.self.view_is ∙ ap (with_next s key) c.in_ok-state.ensures

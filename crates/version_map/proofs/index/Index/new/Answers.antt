@@ -1,7 +1,7 @@
 use Rattle.std.proofs.Common.{ap, ◌∙◌}
 use Rattle.std.specs.FinMap.{empty}
 use Rattle.version_map.specs.Index.{index_with}
-use Rattle.version_map.proofs.Aside.{index_at, none_both}
+use Rattle.version_map.proofs.Tombstones.{index_at, none_both}
 use Rattle.version_map.proofs.index.Index.new.Goals as goal
 
 pub returns : goal.returns

@@ -1,8 +1,8 @@
 use Rattle.std.proofs.Common.{◌≤◌, refl, ap, subst, ◌∙◌, arith}
 use Rattle.version_map.specs.Versions.{compacted, count}
-use Rattle.version_map.proofs.Aside.{listed_dropped}
+use Rattle.version_map.proofs.Tombstones.{listed_dropped}
 use Rattle.version_map.proofs.Forgotten.{same_free}
-use Rattle.version_map.proofs.Steps.{all_wait, count_dropped, front_is, left_dropped, no_front, none_waits, place_within, room_dropped, same_front, two_read, whole_dropped}
+use Rattle.version_map.proofs.Steps.{all_wait, count_dropped, front_is, left_dropped, no_front, none_waits, slot_within, room_dropped, same_front, two_read, consistent_dropped}
 use Rattle.version_map.proofs.map.VersionMap.drop_next.Goals as goal
 
 pub returns-in_default-clause-none : goal.returns-in_default-clause-none
@@ -19,7 +19,7 @@ returns-then-number-next-clause-none g c _ = (
 
 pub index_mut-chain-requires : goal.index_mut-chain-requires
 index_mut-chain-requires g c =
-    let within = place_within c.self.inside.index.all c.self.inside.chains.items c.self.inside.superseding.items c.pop_front.new.self.items c.self.inside.count c.in-Some-pop_front.next c.self.invariant.0 c.in-Some-pop_front.ensures.items in
+    let within = slot_within c.self.inside.index.all c.self.inside.chains.items c.self.inside.superseding.items c.pop_front.new.self.items c.self.inside.count c.in-Some-pop_front.next c.self.invariant.0 c.in-Some-pop_front.ensures.items in
     omega arith
 
 pub drop_first-requires : goal.drop_first-requires
@@ -37,7 +37,7 @@ pub invariant_of-self : goal.invariant_of-self
 invariant_of-self g c =
     let len = c.pop_front.ensures.len in
     let capacity = c.pop_front.ensures.capacity in (
-      whole_dropped c.self.inside.index.all c.self.inside.chains.items c.self.inside.superseding.items c.pop_front.new.self.items c.self.inside.count c.in-Some-pop_front.next c.self.invariant.0 c.in-Some-pop_front.ensures.items c.index_mut-chain.result.now c.drop_first.new.self c.index_mut-chain.ensures.value c.drop_first.ensures.rows,
+      consistent_dropped c.self.inside.index.all c.self.inside.chains.items c.self.inside.superseding.items c.pop_front.new.self.items c.self.inside.count c.in-Some-pop_front.next c.self.invariant.0 c.in-Some-pop_front.ensures.items c.index_mut-chain.result.now c.drop_first.new.self c.index_mut-chain.ensures.value c.drop_first.ensures.rows,
       room_dropped c.self.inside.index.all c.self.inside.chains.items c.self.inside.superseding.items c.pop_front.new.self.items c.self.inside.count c.in-Some-pop_front.next c.self.invariant.0 c.in-Some-pop_front.ensures.items c.index_mut-chain.result.now c.drop_first.new.self c.index_mut-chain.ensures.value c.drop_first.ensures.room c.self.inside.room c.self.invariant.1,
       listed_dropped c.self.inside.index c.self.inside.chains.items c.self.inside.superseding.items c.pop_front.new.self.items c.self.inside.count c.in-Some-pop_front.next c.self.invariant.0 c.in-Some-pop_front.ensures.items
           c.index_mut-chain.result.now c.drop_first.new.self c.index_mut-chain.ensures.value c.drop_first.ensures.rows c.self.invariant.2,
@@ -46,7 +46,7 @@ invariant_of-self g c =
         let held = (c.self.invariant.4 some).0 in omega (arith, len, capacity, held),
         let fits = (c.self.invariant.4 some).1 in omega (arith, fits),
       ),
-      same_free c.self.inside.index.all c.self.inside.chains.items c.in-Some-pop_front.next.place c.drop_first.new.self c.self.inside.free.items c.self.invariant.5,
+      same_free c.self.inside.index.all c.self.inside.chains.items c.in-Some-pop_front.next.slot c.drop_first.new.self c.self.inside.free.items c.self.invariant.5,
     )
 
 pub returns-clause-left : goal.returns-clause-left

@@ -1,9 +1,9 @@
 use Rattle.std.proofs.Common.{ap, ◌∙◌}
-use Rattle.version_map.specs.Whole.{values_in}
+use Rattle.version_map.specs.Consistent.{values_in}
 use Rattle.version_map.proofs.Lists.{collection_is}
 use Rattle.version_map.proofs.map.VersionMap.list_at.Goals as goal
 
 pub returns : goal.returns
 returns g c =
-    c.in_ok-values_at.ensures ∙ ap (λ cs. values_in c.args.number cs c.in_ok-places.places.items) c.deref.ensures.value ∙ ap (values_in c.args.number c.self.inside.chains.items) c.in_ok-places.ensures
+    c.in_ok-values_at.ensures ∙ ap (λ cs. values_in c.args.number cs c.in_ok-slots.slots.items) c.deref.ensures.value ∙ ap (values_in c.args.number c.self.inside.chains.items) c.in_ok-slots.ensures
     ∙ collection_is c.args.number c.self.inside.index.all c.self.inside.chains.items _ c.args.kind c.args.namespace.now (ap (λ v. v.rows) c.self.view_is)
