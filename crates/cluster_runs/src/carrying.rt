@@ -3,7 +3,7 @@ ghost use Rattle.std.specs.Prelude.{◌≡◌, ℕ, suc, length, IfOk, IfErr, On
 ghost use Rattle.cluster_runs.specs.Faults.{IsShort};
 ghost use Rattle.cluster_runs.specs.Leading.{Halts, Leads, after_step};
 ghost use Rattle.cluster_runs.specs.Shown.{Follows, HaveCallers, KeepsCallers};
-ghost use Rattle.cluster_runs.specs.Turns.{Course, carried, carried_in, ends_with, nothing, reply_of, run_of, step_by};
+ghost use Rattle.cluster_runs.specs.Turns.{Course, carried, carried_in, ends_with, reply_of, run_of, step_by};
 
 use crate::cluster::Cluster;
 use crate::fault::ClusterFault;

@@ -1,4 +1,4 @@
-ghost use Rattle.std.specs.Prelude.{◌≡◌, ◌<◌, ◌&&◌, ◌++◌, ◌∷◌, [], ℕ, true, List, length, IfOk, IfErr, IfSome, OnErr, OnOk, IsErrOf, Some};
+ghost use Rattle.std.specs.Prelude.{◌≡◌, ◌<◌, ◌&&◌, ◌++◌, ◌∷◌, [], List, length, IfOk, IfErr, IfSome, OnErr, OnOk, IsErrOf, Some};
 ghost use Rattle.interleavings.specs.declared.event.Event.{Event};
 ghost use Rattle.interleavings.specs.declared.event.Event.TheVariants as event;
 ghost use Rattle.interleavings.specs.World.{Size};

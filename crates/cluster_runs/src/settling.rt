@@ -1,5 +1,5 @@
 // Controllers make rounds, and a kubelet turns, one after another.
-ghost use Rattle.std.specs.Prelude.{◌≡◌, ◌<◌, ◌∷◌, ℕ, suc, length, map, IfErr, IfOk, OnErr, OnOk, if◌then◌else◌};
+ghost use Rattle.std.specs.Prelude.{◌≡◌, ◌<◌, length, IfErr, IfOk, OnErr, OnOk};
 ghost use Rattle.std.specs.List.{range_with_len};
 ghost use Rattle.objects.specs.declared.kind.Kind.TheVariants.{Pod};
 ghost use Rattle.requests.specs.declared.request.Request.TheVariants as request;
@@ -7,7 +7,7 @@ ghost use Rattle.cluster_runs.specs.Faults.{IsShort};
 ghost use Rattle.cluster_runs.specs.Leading.{Halts, Leads, Peeks};
 ghost use Rattle.cluster_runs.specs.Shown.{Follows, HaveCallers, KeepsCallers, Stay};
 ghost use Rattle.cluster_runs.specs.declared.fault.ClusterFault.TheVariants.{Memory as OutOfMemory};
-ghost use Rattle.cluster_runs.specs.Turns.{asked, asked_all, asked_as, begins, ends_with, kubelet_turn, nothing, round, round_in, rounds_of, settled, settled_as, settled_once, tended, tended_all, tends};
+ghost use Rattle.cluster_runs.specs.Turns.{asked, asked_all, asked_as, begins, ends_with, kubelet_turn, nothing, round, rounds_of, settled, settled_once, tended, tends};
 
 use crate::cluster::Cluster;
 use crate::fault::ClusterFault;

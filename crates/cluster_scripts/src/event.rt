@@ -1,6 +1,6 @@
 // The turn that a line of a script is.
-ghost use Rattle.std.specs.Prelude.{◌≡◌, codes};
-ghost use Rattle.cluster_scripts.specs.Events.{bare_event_in, crash_in, event_by, next_in, outside_in, run_in, settle_in, store_step_in, turn_by, turn_in, turn_of};
+ghost use Rattle.std.specs.Prelude.{◌≡◌};
+ghost use Rattle.cluster_scripts.specs.Events.{bare_event_in, crash_in, next_in, outside_in, run_in, settle_in, store_step_in, turn_in, turn_of};
 ghost use Rattle.replay_lines.specs.Events.{Reads};
 
 use cluster_runs::ClusterEvent;

@@ -1,5 +1,5 @@
 //! Why a run over a whole input has no output, and its exit status.
-ghost use Rattle.std.specs.Prelude.{◌≡◌, ◌≢◌, ◌<◌, ◌⊎◌, None, false, true, IfSome};
+ghost use Rattle.std.specs.Prelude.{◌≡◌, ◌≢◌, ◌<◌, ◌⊎◌, None, false, true};
 ghost use Rattle.commands.specs.Clustering.{cluster_refusal};
 ghost use Rattle.commands.specs.Halts.{IsNamed, Tells, halt_of, is_read, name_of};
 ghost use Rattle.commands.specs.Planning.{plan_refusal, read_refusal};

@@ -1,5 +1,5 @@
 //! Exit statuses, and what goes with each.
-ghost use Rattle.std.specs.Prelude.{◌≡◌, ◌≢◌, ◌<◌, ◌⊎◌, ◌++◌, ◌∷◌, [], codes, IfNone, OnSome, false};
+ghost use Rattle.std.specs.Prelude.{◌≡◌, ◌≢◌, ◌<◌, ◌⊎◌, IfNone, OnSome, false};
 ghost use Rattle.plain.specs.Streams.{Puts};
 ghost use Rattle.commands.specs.Halts.{Tells, refusal_text};
 

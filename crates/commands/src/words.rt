@@ -1,7 +1,7 @@
 //! What the words of the command line ask for.
 ghost use Rattle.std.specs.Prelude.{◌≡◌, ◌≤◌, [], codes, map, unwrap_or, IfOk};
 ghost use Rattle.clap.specs.Words.{FailsBy, app_of, first_of, found_of, one_of, rows_of, subcommand_rows_of};
-ghost use Rattle.commands.specs.Grammar.{IsCapacityBy, IsDigitsBy, cluster_app, faults_of, plan_app, race_app, replay_app, rows_under, serve_app, stsctl_app};
+ghost use Rattle.commands.specs.Grammar.{IsCapacityBy, IsDigitsBy, cluster_app, faults_of, plan_app, replay_app, rows_under, serve_app, stsctl_app};
 ghost use Rattle.commands.specs.Asked.{IsAsked, IsOther, IsScripted, IsServing};
 
 use crate::form::{Form, form_in, picture_arg};

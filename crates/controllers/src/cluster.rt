@@ -1,5 +1,5 @@
 // Controllers over the interleaved store, event by event.
-ghost use Rattle.std.specs.Prelude.{◌≡◌, ◌≤◌, ◌<◌, ◌⊎◌, length, map, IfOk, IsErrOf};
+ghost use Rattle.std.specs.Prelude.{◌≡◌, ◌≤◌, ◌<◌, length, map, IfOk, IsErrOf};
 ghost use Rattle.std.specs.List.{AllByRecursion};
 ghost use Rattle.plain_store.specs.Reached.{most_revisions};
 ghost use Rattle.rounds.specs.Phase.{reading_set};

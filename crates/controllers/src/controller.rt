@@ -1,8 +1,8 @@
-ghost use Rattle.std.specs.Prelude.{◌≡◌, ◌≤◌, ◌<◌, ℕ, Bool, true, false, length, IfOk, OnOk, OnErr, None, option_map};
+ghost use Rattle.std.specs.Prelude.{◌≡◌, ◌≤◌, ◌<◌, true, false, length, IfOk, None, option_map};
 ghost use Rattle.objects.specs.Key.{key_parts};
 ghost use Rattle.objects.specs.Names.{is_dns_label};
 ghost use Rattle.objects.specs.declared.kind.Kind.TheVariants as kinds;
-ghost use Rattle.rounds.specs.Phase.{asks, reading_set, takes};
+ghost use Rattle.rounds.specs.Phase.{reading_set};
 
 use crate::progress::Progress;
 use objects::{Key, Kind, Memory, Text};

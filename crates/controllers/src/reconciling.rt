@@ -1,5 +1,3 @@
-ghost use Rattle.std.specs.Prelude.{◌≡◌};
-
 use crate::controller::Controller;
 use objects::Memory;
 use requests::{Reply, Request};

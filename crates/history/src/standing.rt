@@ -1,5 +1,5 @@
 // Where callers stand between two events.
-ghost use Rattle.std.specs.Prelude.{◌≡◌, ◌<◌, ℕ, List, length};
+ghost use Rattle.std.specs.Prelude.{◌≡◌, ◌<◌, List, length};
 ghost use Rattle.plain_store.specs.Route.{route};
 ghost use Rattle.history.specs.Replayed.{Stands, phase_at};
 ghost use Rattle.history.specs.Standing.{asked, one_shard, standing_in, standing_of};

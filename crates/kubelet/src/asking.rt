@@ -1,5 +1,5 @@
 // A kubelet: it takes marked pods away, and makes the others ready.
-ghost use Rattle.std.specs.Prelude.{◌≡◌, ◌++◌, ◌∷◌, [], ◌<◌, ◌^◌, decimal, IfOk, OnOk, Some, None, option_to_list};
+ghost use Rattle.std.specs.Prelude.{◌≡◌, ◌++◌, ◌<◌, ◌^◌, decimal, IfOk, OnOk, Some, None, option_to_list};
 ghost use Rattle.serde_json.specs.Data.{array, item, no_items};
 ghost use Rattle.objects.specs.Tree.{data_of};
 ghost use Rattle.objects.specs.Uid.{uid_text};

@@ -1,6 +1,6 @@
 // The five kinds of atomic step, a function each. Beside them only the cutting and joining of seats touches a word, by a
 // load of the frontier whose value is not used.
-ghost use Rattle.std.specs.Prelude.{◌≡◌, ◌+◌, ◌<◌, ◌≤◌, [], Some, None, IsSome, false};
+ghost use Rattle.std.specs.Prelude.{◌≡◌, ◌+◌, ◌<◌, ◌≤◌, Some, None, IsSome, false};
 ghost use Rattle.line.specs.Seat.{IsOf};
 ghost use Rattle.line.specs.View.{filled_in, tried};
 ghost use Rattle.line.specs.NotedSteps.{Matches, Observes, IsNamed, MayDraw, DrawsNoted};

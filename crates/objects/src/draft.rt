@@ -1,13 +1,13 @@
 // An object from its members, one part after another.
-ghost use Rattle.std.specs.Prelude.{◌≡◌, ◌<◌, ◌^◌, option_map, option_and_then, codes, Some, Ok, IfOk, true};
-ghost use Rattle.serde_json.specs.Data.{Members as DataMembers, object, string, put};
-ghost use Rattle.serde_json.specs.Find.{get_member, as_object};
-ghost use Rattle.trees.specs.Tree.{data_of, members_of};
+ghost use Rattle.std.specs.Prelude.{◌≡◌, ◌<◌, ◌^◌, option_map, codes, Some, Ok, IfOk, true};
+ghost use Rattle.serde_json.specs.Data.{Members as DataMembers, object};
+ghost use Rattle.serde_json.specs.Find.{get_member};
+ghost use Rattle.trees.specs.Tree.{data_of};
 ghost use Rattle.objects.specs.Steps.{Gives, guarded};
 ghost use Rattle.objects.specs.Kind.{api_version};
 ghost use Rattle.objects.specs.MetadataShape.{metadata_fits};
-ghost use Rattle.objects.specs.Object.{is_missing_or, without_held, SaysKind};
-ghost use Rattle.objects.specs.Reading.{kind_in, namespace_in, key_of, key_in, optional_text, unless_empty, generation_of, draft_meta, draft_meta_in, draft_parts, draft_in};
+ghost use Rattle.objects.specs.Object.{is_missing_or, SaysKind};
+ghost use Rattle.objects.specs.Reading.{kind_in, namespace_in, key_of, optional_text, unless_empty, generation_of, draft_meta, draft_meta_in, draft_parts, draft_in};
 ghost use Rattle.objects.specs.declared.fault.ReadError.TheVariants.{UnknownKind};
 
 use crate::body::body_of;

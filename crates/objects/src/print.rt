@@ -5,7 +5,7 @@ ghost use Rattle.json.specs.Tree.{json_tokens, members_tokens};
 ghost use Rattle.serde_json.specs.Data.{Data, Members as DataMembers, object as map, string, number as number_data, unsigned, depth, put};
 ghost use Rattle.serde_json.specs.Find.{get_member};
 ghost use Rattle.serde_json.specs.Written.{outline, members_outline};
-ghost use Rattle.trees.specs.Tree.{data_of, members_of, AreAscending};
+ghost use Rattle.trees.specs.Tree.{members_of, AreAscending};
 ghost use Rattle.objects.specs.Object.{is_held, has_held, KeepsRules};
 ghost use Rattle.objects.specs.Key.{is_key};
 ghost use Rattle.objects.specs.Meta.{IsMeta};

@@ -1,4 +1,3 @@
-ghost use Rattle.std.specs.Prelude.{◌≡◌};
 ghost use Rattle.objects.specs.Steps.{Gives};
 ghost use Rattle.trees.specs.Tree.{data_of};
 ghost use Rattle.objects.specs.Reading.{reading, draft_of, key_in, collection_in};

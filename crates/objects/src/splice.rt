@@ -8,7 +8,7 @@ use crate::printed::{IndexedText, Printer, short_offsets};
 use crate::seams::Seams;
 use json::Writer;
 use simdutf8::basic::from_utf8;
-use std::alloc::{AllocError, Global};
+use std::alloc::AllocError;
 use trees::{Memory, Tree, write_tree};
 
 /// The text with another resource version and another end, from its status on, if it has seams.

@@ -1,4 +1,4 @@
-ghost use Rattle.std.specs.Prelude.{◌≡◌, ◌<◌, ◌≤◌, ◌-◌, ◌^◌, ◌↔◌, ◌⊎◌, ◌++◌, ◌∷◌, [], ℕ, List, length, string_bytes, IfErr, IfOk, IsErrOf, OnOk};
+ghost use Rattle.std.specs.Prelude.{◌≡◌, ◌<◌, ◌≤◌, ◌-◌, ◌^◌, ◌↔◌, ◌⊎◌, ◌++◌, ◌∷◌, [], List, length, string_bytes, IfErr, IfOk, IsErrOf, OnOk};
 ghost use Rattle.plain_store.specs.Reached.{most_revisions};
 ghost use Rattle.history.specs.After.{IsAfter, taken};
 ghost use Rattle.history.specs.Named.{callers, named};

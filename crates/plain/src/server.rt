@@ -1,9 +1,8 @@
-ghost use Rattle.std.specs.Prelude.{◌≡◌, ◌+◌, ◌<◌, ◌≤◌, ◌^◌, ◌++◌, [], length, IfOk, IfSome, IfNone, OnSome, OnOk, OnErr, IsErrOf, ◌↔◌, Some};
-ghost use Rattle.plain_store.specs.Store.{opening};
+ghost use Rattle.std.specs.Prelude.{◌≡◌, ◌+◌, ◌<◌, ◌≤◌, ◌^◌, ◌++◌, [], length, IfOk, IfSome, OnOk, OnErr, IsErrOf, ◌↔◌, Some};
 ghost use Rattle.plain.specs.Lines.{ended_lines, lines};
 ghost use Rattle.plain.specs.Served.{served, served_so_far, answers};
-ghost use Rattle.plain.specs.Splits.{NoFeed, LeadsTo};
-ghost use Rattle.plain.specs.Streams.{Takes, Puts, PutsPart, ServesEnded, ServesPart};
+ghost use Rattle.plain.specs.Splits.{NoFeed};
+ghost use Rattle.plain.specs.Streams.{Puts, PutsPart, ServesEnded, ServesPart};
 ghost use Rattle.plain.specs.Serving.{Answered};
 ghost use Rattle.plain.specs.Faults.{CountsReads, CountsWrites, IsWriteOrMemory, IsInRange};
 ghost use Rattle.plain_store.specs.Reached.{most_revisions};

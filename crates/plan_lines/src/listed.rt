@@ -1,5 +1,5 @@
 // The objects of an input, as a plan takes them.
-ghost use Rattle.std.specs.Prelude.{◌≡◌, ◌&&◌, ◌++◌, ◌∷◌, [], bytes_eq, find, option_map, IfOk, OnOk};
+ghost use Rattle.std.specs.Prelude.{◌≡◌, ◌&&◌, find, option_map, OnOk};
 ghost use Rattle.objects.specs.Reading.{reading};
 ghost use Rattle.objects.specs.Steps.{Gives};
 ghost use Rattle.plain.specs.Lines.{lines};

@@ -1,5 +1,5 @@
 // The plan of a set, as requests.
-ghost use Rattle.std.specs.Prelude.{◌≡◌, ◌≤◌};
+ghost use Rattle.std.specs.Prelude.{◌≤◌};
 ghost use Rattle.set_views.specs.Set.{set_parts};
 ghost use Rattle.set_views.specs.Steps.{Gives};
 ghost use Rattle.sets.specs.PlanOfLists.{plan_of_lists};

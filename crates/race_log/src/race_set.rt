@@ -1,5 +1,5 @@
 // The set that a race is about.
-ghost use Rattle.std.specs.Prelude.{◌≡◌, IfOk, codes, false, true};
+ghost use Rattle.std.specs.Prelude.{◌≡◌, IfOk, codes};
 ghost use Rattle.serde_json.specs.Data.{no_members, put};
 ghost use Rattle.objects.specs.Tree.{data_of};
 ghost use Rattle.objects.specs.declared.kind.Kind.TheVariants.{StatefulSet};

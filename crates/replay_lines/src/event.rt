@@ -1,5 +1,5 @@
 // The event that a line of a script is.
-ghost use Rattle.std.specs.Prelude.{◌≡◌, codes};
+ghost use Rattle.std.specs.Prelude.{◌≡◌};
 ghost use Rattle.objects.specs.Tree.{data_of};
 ghost use Rattle.plain.specs.Requests.{request_in as plain_request_in};
 ghost use Rattle.replay_lines.specs.Events.{Reads, call_in, event_in, event_of, read_fault, request_fault, request_in, unless_refused};

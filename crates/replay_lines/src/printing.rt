@@ -8,7 +8,7 @@ ghost use Rattle.replay_lines.specs.Printing.{numbers, order_data, reply_data_at
 use history::{Item, Run};
 use json::Writer;
 use objects::Memory;
-use plain::{Reply, end_line, write_reply, write_integer_member};
+use plain::{Reply, end_line, write_integer_member, write_reply};
 use std::alloc::{AllocError, Global};
 
 /// The lines of a run: `{"at":P,"caller":N,"reply":R}` for each reply, P its place and R as a reply line of `serve`, and

@@ -1,5 +1,5 @@
 // What the verdicts turn on: the preconditions of a request, and whether it would change anything.
-ghost use Rattle.std.specs.Prelude.{◌≡◌, List, ℕ, Option, is_some, option_map, decimal};
+ghost use Rattle.std.specs.Prelude.{◌≡◌, Option, is_some, option_map, decimal};
 ghost use Rattle.std.specs.Option.{option_copied};
 ghost use Rattle.requests.specs.Verdict.{changes_data, conflicts, conflicts_with, differs, graceful, has_status, same_member, nonempty};
 ghost use Rattle.objects.specs.Uid.{uid_text};

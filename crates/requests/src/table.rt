@@ -1,6 +1,6 @@
 // The table of verdicts, in the order of its cases.
 // What is still held at a way out goes by `drop`: that is proved once for a type, and not for each of its parts again.
-ghost use Rattle.std.specs.Prelude.{◌≡◌, true, IfOk, option_map};
+ghost use Rattle.std.specs.Prelude.{◌≡◌, true, IfOk};
 ghost use Rattle.std.specs.Option.{option_copied};
 ghost use Rattle.requests.specs.Verdict.{is_write, on_create, on_delete, on_status, on_update, unless_same, verdict};
 ghost use Rattle.requests.specs.Judgments.{verdict_of};

@@ -1,4 +1,4 @@
-ghost use Rattle.std.specs.Prelude.{◌≡◌, ℕ, ◌+◌, ◌-◌, ◌≤◌, ◌<◌, [], true, length, take, Some, None, IsSome, All, IfOk, OnErr};
+ghost use Rattle.std.specs.Prelude.{◌≡◌, ℕ, ◌+◌, ◌-◌, ◌≤◌, ◌<◌, [], true, length, take, Some, None, IsSome, IfOk, OnErr};
 ghost use mathlib.Core.List.{IsPrefix};
 ghost use Rattle.std.specs.Option.{option_copied};
 ghost use Rattle.objects.specs.declared.key.Key.{Key};
@@ -8,7 +8,6 @@ ghost use Rattle.requests.specs.Verdict.{is_write};
 ghost use Rattle.requests.specs.declared.request.Request.TheVariants.{Get};
 ghost use Rattle.plain_store.specs.Store.{collection, found, step};
 ghost use Rattle.store.specs.Parts.{part_of};
-ghost use Rattle.versions.specs.Records.{newest};
 ghost use Rattle.versions.specs.Shard.{opening, raised};
 ghost use Rattle.store.specs.History.{store_after};
 ghost use Rattle.store.specs.Rule.{AgreesWith};

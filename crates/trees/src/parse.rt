@@ -19,7 +19,7 @@ use crate::spares::Spares;
 use crate::text::Text;
 use crate::tree::{Items, Members, Tree};
 use json::{Reader, Scratch, Token};
-use std::alloc::{AllocError, Global};
+use std::alloc::Global;
 use std::collections::BTreeMap;
 
 /// In a map of fewer members a key goes to its place by steps over the others.

@@ -1,7 +1,6 @@
 // Work on the entries of a map: where a key stands, and entries copied or taken.
-ghost use Rattle.std.specs.Prelude.{◌≡◌, ◌<◌, length, IfOk, IfErr, OnOk, OnErr, option_map, Some};
-ghost use Rattle.serde_json.specs.Data.{object, put};
-ghost use Rattle.serde_json.specs.Find.{get_member};
+ghost use Rattle.std.specs.Prelude.{◌≡◌, ◌<◌, IfOk, IfErr, OnOk, OnErr, Some};
+ghost use Rattle.serde_json.specs.Data.{put};
 ghost use Rattle.trees.specs.Tree.{data_of, members_of, AreAscending};
 ghost use Rattle.trees.specs.Positions.{IsAt, IsGap, goes_last};
 ghost use Rattle.trees.specs.Members.{without_member};

@@ -1,7 +1,6 @@
 // Whether two trees are the same JSON value.
 ghost use Rattle.std.specs.Prelude.{◌≡◌, ◌&&◌, bytes_eq, true, false};
 ghost use Rattle.serde_json.specs.Data.{Data};
-ghost use Rattle.serde_json.specs.Find.{of_integer};
 ghost use Rattle.serde_json.specs.Written.{has_float};
 ghost use Rattle.trees.specs.Tree.{data_of, items_of, members_of};
 ghost use Rattle.trees.specs.Same.{same_data, same_items, same_members};

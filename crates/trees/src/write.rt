@@ -1,10 +1,7 @@
 // Trees as JSON tokens, with no copy.
-ghost use Rattle.std.specs.Prelude.{◌≡◌, ◌++◌, ◌∷◌, [], Some, IfOk, OnOk};
-ghost use Rattle.json.specs.Token.{number as number_token};
+ghost use Rattle.std.specs.Prelude.{◌≡◌, ◌++◌, IfOk, OnOk};
 ghost use Rattle.json.specs.Tree.{json_tokens, items_tokens, members_tokens};
-ghost use Rattle.serde_json.specs.Find.{of_integer};
-ghost use Rattle.serde_json.specs.Read.{number_of};
-ghost use Rattle.serde_json.specs.Written.{compact_text, number_text, outline, items_outline, members_outline};
+ghost use Rattle.serde_json.specs.Written.{compact_text, outline, items_outline, members_outline};
 ghost use Rattle.trees.specs.Tree.{data_of, items_of, members_of};
 ghost use Rattle.trees.specs.Canonical.{IsCanonical, AreCanonicalItems, AreCanonicalMembers};
 

@@ -1,5 +1,5 @@
 // The names of a kind in a namespace.
-ghost use Rattle.std.specs.Prelude.{◌≡◌, ◌==◌, ◌∷◌, [], ℕ, length, List, Some, None, bytes_eq, cond, IfOk, OnOk, OnErr};
+ghost use Rattle.std.specs.Prelude.{◌≡◌, ◌==◌, [], ℕ, length, List, Some, None, bytes_eq, cond, IfOk, OnOk, OnErr};
 ghost use Rattle.std.specs.BTreeMap.{IsOrdered, values};
 ghost use Rattle.std.specs.Option.{option_or};
 ghost use Rattle.version_map.specs.Named.{at_name, at_text, AreValues, slot_at_text};

@@ -4,7 +4,7 @@ ghost use Rattle.json.specs.Token.{begin_array, key, string};
 ghost use Rattle.json.specs.Tree.{json_tokens, items_tokens};
 ghost use Rattle.serde_json.specs.Written.{outline, items_outline};
 ghost use Rattle.plain.specs.Replies.{printed_items, reply_data, with_items, with_object, with_reason, with_revision};
-ghost use Rattle.requests.specs.Reasons.{reason_code, reason_name};
+ghost use Rattle.requests.specs.Reasons.{reason_code};
 
 use crate::lines::members::{write_integer_member, write_object_member, write_text_member};
 use json::Writer;

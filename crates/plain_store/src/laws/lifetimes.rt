@@ -1,5 +1,5 @@
 //! Laws of the plain store about names and UIDs over time: how long an object lives, and what it keeps as it lives.
-ghost use Rattle.std.specs.Prelude.{◌≡◌, ◌≢◌, ◌≤◌, ℕ, List, Option, None};
+ghost use Rattle.std.specs.Prelude.{◌≡◌, ◌≢◌, ◌≤◌, ℕ, List, None};
 ghost use Rattle.objects.specs.declared.key.Key.{Key};
 ghost use Rattle.objects.specs.declared.object.Object.{Object};
 ghost use Rattle.requests.specs.declared.request.Request.{Request};
