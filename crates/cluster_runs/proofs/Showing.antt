@@ -41,7 +41,6 @@ use Rattle.cluster_runs.proofs.Standing.{goes_on, idle_stays, others_stay, deliv
 step_more : (z : Size) (events : List Event) (e : Event) (n : ℕ) → (after z opening (events ++ e ∷ [])).phase n ≡ (step z (after z opening events) e).phase n
 step_more z events e n = ap (λ (w : World). w.phase n) (after_more z events opening e)
 
-pub follows_on : (e : Event) (old new : Program) → Follows old → Hands e old new → Follows new
 unfolding HasTaken
 follows_on e old new taken hands = (taken.0, subst (λ l. IsAfter taken.0 l new.replay) (sym hands.events) (hands.taken taken.0 old.events.items taken.1))
 
@@ -90,9 +89,6 @@ used_named k e n is there = named_used e n k.used is there
 
 pub if_used : (z : Size) (count : ℕ) (k : Cluster) (e : Event) (program : Program) (b : Bool) → b ≡ true → IsCluster z count (hand k e) program → IsCluster z count (hand_if b k e) program
 if_used z count k e program b is shows = subst (λ b. IsCluster z count (hand_if b k e) program) (sym is) shows
-
-pub if_unused : (z : Size) (count : ℕ) (k : Cluster) (e : Event) (program : Program) (b : Bool) → b ≡ false → IsCluster z count k program → IsCluster z count (hand_if b k e) program
-if_unused z count k e program b is shows = subst (λ b. IsCluster z count (hand_if b k e) program) (sym is) shows
 
 pub hand_used : (b : Bool) (k : Cluster) (e : Event) → (hand_if b k e).used ≡ k.used
 hand_used true k e = refl

@@ -15,12 +15,6 @@ use Rattle.interleavings.specs.World.{Phase, Reading, Size, World}
 use Rattle.interleavings.proofs.Basics.{Compared, same, other, compare, eq_self}
 use Rattle.history.proofs.Mirrors.{floor_raised, mirrors_raised}
 
--- one shard more is compacted
-pub compacted_next : (n i : ℕ) (old xs : List Shard) (before after : Shard) → i < length xs → before ≡ shard_at xs i → IsCompacted n before after → AreCompacted n i old xs → AreCompacted n (i + 1) old (set xs i after)
-compacted_next n i old xs before after lt at is done = record {
-  count = length-set xs i after ∙ done.count;
-  each = λ s below. each s below (compare s i);
-  others = λ s from. get_or-set_other xs i s after versions.opening (λ e. omega arith) ∙ done.others s (omega arith);
 }
   where
     own : shard_at (set xs i after) i ≡ after

@@ -153,15 +153,6 @@ numbered_list number kind namespace exact numbered = by (compare exact 0)
     by (same e b) = inl e
     by (other ne b) = inr (numbered kind namespace exact (ap (λ t. cond t (lists kind namespace) (lists_at kind namespace exact)) b))
 
--- what is read is a get or a list, at its number
-pub reads_numbered : (m : Machine) (c n : ℕ) (r : Request) (left : ℕ) → Stands m → reading_in (phase_at m.callers c) ≡ Some (n, r, left) → (IsNumbered n r) × (((k : Key) → route r ≡ writes k → ⊥) × (m.compacted ≤ n))
-reads_numbered m c n r left st e =
-    let w : World = st.1.0 in
-    let sh : Shows st.0 w st.1.1.0 m = st.1.1.1.0 in
-    let facts : Facts st.0 w = st.1.1.1.1 in
-    let x = reads_at (phase_at m.callers c) (w.phase c) n r left e (sh.phases c) in
-    (λ kind namespace number is. facts.numbered c n x.0 r x.1.0 x.1.1.0 x.1.1.1.0 kind namespace number is, ((facts.past c n x.0 r x.1.0 x.1.1.0 x.1.1.1.0).1, subst (IsUnread m.compacted) x.1.1.1.0 (sh.unread c)))
-
 compaction_route : (to : ℕ) → route (request.Compact to) ≡ compacts to
 unfolding route
 compaction_route to = refl

@@ -30,15 +30,6 @@ routed_at kind namespace exact apart = by (compare exact 0)
     by (same e b) = absurd (apart e)
     by (other ne b) = ap (λ c. cond c (lists kind namespace) (lists_at kind namespace exact)) b
 
--- a list that is read at a number is one of now, or one at that number
-pub list_numbered : {z : Size} {w : World} → Facts z w → (c n p : ℕ) (kind : Kind) (namespace : List ℕ) (exact : ℕ) (parts : List ℕ) (found : Objects)
-    → w.phase c ≡ Reading n p (request.List kind namespace exact) parts found → (exact ≡ 0) ⊎ (exact ≡ n)
-list_numbered facts c n p kind namespace exact parts found is = by (compare exact 0)
-  where
-    by : Compared exact 0 → (exact ≡ 0) ⊎ (exact ≡ n)
-    by (same e b) = inl e
-    by (other ne b) = inr (facts.numbered c n p (request.List kind namespace exact) parts found is kind namespace exact (routed_at kind namespace exact ne))
-
 module _ (z : Size) (log : Log) (d : ℕ) (records : ℕ → Records) (floors : ℕ → ℕ) (n : ℕ)
     (shown : (s : ℕ) → s < z.shards → Mirrors z log d s (records s) (floors s)) (from : (s : ℕ) → s < z.shards → floors s ≤ n) (filed : IsFiled log) where
   found_is : (r : Request) (kind : Kind) (namespace : List ℕ) → ((k : Key) → reads (route r) k ≡ is_of kind namespace k) → (s : ℕ) → s ≤ z.shards → found_in records n kind namespace s ≡ read_up_to z log n r s

@@ -76,13 +76,6 @@ kept_at m n st allowed =
     let from = (readable m.floor m.frontier n allowed).0 in
     omega arith
 
-pub kept_shard : (m : Machine) (s n : ℕ) → Stands m → s < length m.shards.items → m.compacted ≤ n → (shard_at m.shards.items s).floor ≤ n
-kept_shard m s n st lt kept =
-    let sh : Shows st.0 st.1.0 st.1.1.0 m = st.1.1.1.0 in
-    let count = sh.log.count in
-    let floor = sh.log.floors s (omega arith) in
-    omega arith
-
 -- ---- into the order, or parked
 pub settled_now : (m m' : Machine) (saw c place : ℕ) → saw ≤ m.frontier → m'.order.items ≡ m.order.items ++ place ∷ [] → m' ≡ record m { order = m'.order } → Settles saw c place m m'
 unfolding Settles

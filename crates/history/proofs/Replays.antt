@@ -19,14 +19,6 @@ use Rattle.interleavings.proofs.Runs.{orders_are_legal}
 use Rattle.history.proofs.Naming.{named_more}
 use Rattle.history.proofs.Reached.{run_stays, run_steps}
 
-pub on_ok_two : {A E : Type 0} (P Q R : Type 0) (r : Result A E) → (P → Q → R) → OnOk r P → OnOk r Q → OnOk r R
-on_ok_two P Q R (Ok x) f p q = f p q
-on_ok_two P Q R (Err e) f p q = tt
-
-pub if_ok_three : {A E : Type 0} (P Q : Type 0) (R S : A → Type 0) (r : Result A E) → ((x : A) → P → Q → R x → S x) → OnOk r P → OnOk r Q → IfOk r R → IfOk r S
-if_ok_three P Q R S (Ok x) f p q s = f x p q s
-if_ok_three P Q R S (Err e) f p q s = tt
-
 abbrev parts : Machine → Names → ReplayParts
 parts m n = record { machine = m; names = n }
 

@@ -25,10 +25,6 @@ PutsBefore-next old now new bytes rest later n (text, e, p) q l =
       Puts-then old now new text (take n rest) p q,
     )
 
-pub UsesRoom-none : (o : Option ℕ) → UsesRoom o 0 o
-UsesRoom-none None = tt
-UsesRoom-none (Some r) = omega arith
-
 pub UsesRoom-then : (a b c : Option ℕ) (m n : ℕ) → UsesRoom a m b → UsesRoom b n c → UsesRoom a (m + n) c
 UsesRoom-then None b c m n p q = tt
 UsesRoom-then (Some r) None c m n p q = elim p [ ]
@@ -38,9 +34,6 @@ UsesRoom-then (Some r) (Some s) (Some t) m n p q = omega arith
 -- what stands before the rest used this much of the room
 abbrev pub RoomBefore : Option ℕ → List ℕ → List ℕ → Option ℕ → Type 0
 RoomBefore old bytes rest new = (text : List ℕ) × (bytes ≡ text ++ rest) × UsesRoom old (length text) new
-
-pub RoomBefore-none : (o : Option ℕ) (bytes : List ℕ) → RoomBefore o bytes bytes o
-RoomBefore-none o bytes = ([], refl, UsesRoom-none o)
 
 pub RoomBefore-next : (old now new : Option ℕ) (bytes rest later : List ℕ) (n : ℕ) → RoomBefore old bytes rest now → UsesRoom now n new → n ≤ length rest → later ≡ take (length rest - n) (drop n rest) → RoomBefore old bytes later new
 RoomBefore-next old now new bytes rest later n (text, e, p) q fits l =
@@ -69,12 +62,6 @@ PutsPart-after a b c text bytes p (part, more, e, q) =
 pub PutsPart-none : (o : Option (List ℕ)) (bytes : List ℕ) → PutsPart o bytes o
 PutsPart-none o bytes = ([], bytes, refl, Puts-none o)
 
--- all was taken, where nothing is left
-pub Takes-all : (input consumed : List ℕ) (left : Option (List ℕ)) → Takes (Some input) consumed left → IfSome left (λ l. l ≡ []) → input ≡ consumed
-Takes-all input consumed left (rest, e, p) none =
-    let nil : rest ≡ [] = subst (λ o. IfSome o (λ l. l ≡ [])) p none in
-    e ∙ (ap (λ t. consumed ++ t) nil ∙ append-nil consumed)
-
 pub Takes-end : (input consumed : List ℕ) (left : Option (List ℕ)) → Takes (Some input) consumed left → IfSome left (λ l. l ≡ []) → left ≡ Some []
 Takes-end input consumed left (rest, e, p) none =
     let nil : rest ≡ [] = subst (λ o. IfSome o (λ l. l ≡ [])) p none in
@@ -85,13 +72,3 @@ pub Takes-nothing : (a b : Option (List ℕ)) (piece : List ℕ) → piece ≡ [
 Takes-nothing a b piece none e h =
     let r : Takes (Some []) [] b = subst (λ o. Takes o [] b) e (subst (λ t. Takes a t b) none h) in
     r.2 ∙ ap Some (sym r.1)
-
--- all was taken, where the reader comes to its end
-abbrev pub TookAll : Option (List ℕ) → List ℕ → Option (List ℕ) → Type 0
-TookAll had bytes left = IfSome had (λ input. bytes ≡ input) × IfSome had (λ _. left ≡ Some [])
-
-pub TookAll-end : (had now left : Option (List ℕ)) (bytes piece : List ℕ) → Takes had bytes now → piece ≡ [] → IfSome now (λ l. l ≡ [])
-    → Takes now piece left → TookAll had bytes left
-TookAll-end None now left bytes piece taken none ended last = (tt, tt)
-TookAll-end (Some input) now left bytes piece taken none ended last =
-    (sym (Takes-all input bytes now taken ended), Takes-nothing now left piece none (Takes-end input bytes now taken ended) last)

@@ -128,10 +128,6 @@ lines-begun : (h more : List ℕ) → 0 < length h → NoFeed h → lines (h ++ 
 lines-begun [] more l f = absurd (omega arith)
 lines-begun (b ∷ bs) more l f = lines-onto b bs more f
 
--- a point stands for itself
-pub LeadsTo-same : (p : Progress) → LeadsTo p p
-LeadsTo-same p = record { text = λ _. refl; ended = λ _. refl; count = λ _. refl }
-
 pub LeadsTo-then : (p q r : Progress) → LeadsTo p q → LeadsTo q r → LeadsTo p r
 LeadsTo-then p q r f g = record { text = λ more. f.text more ∙ g.text more; ended = λ more. f.ended more ∙ g.ended more; count = λ more. f.count more ∙ g.count more }
 

@@ -41,10 +41,6 @@ pub record LeadsTo (p q : Progress) : Type 0 where
   pub ended : (more : List ℕ) → ended_with p more ≡ ended_with q more
   pub count : (more : List ℕ) → count_with p more ≡ count_with q more
 
--- bytes that come
-abbrev pub with_bytes : Progress → List ℕ → Progress
-with_bytes p bytes = record p { waiting = p.waiting ++ bytes }
-
 -- after these bytes there is the reply to one line
 abbrev pub EndsInReply : List ℕ → List ℕ → Type 0
 EndsInReply first text = (s : Store) × (line : List ℕ) × (text ≡ first ++ ((answer s line).1 ++ 10 ∷ []))

@@ -22,12 +22,6 @@ use Rattle.race_log.specs.declared.stamp.Stamp.{Stamp}
 use Rattle.race_log.specs.Logged.{IsNoted, IsOpen, IsStamped, Noted, stamp_for}
 use Rattle.race_log.specs.Twice.{reply_at, reply_of}
 
--- nothing is noted yet
-pub none_noted : (n : Noted) → n.items ≡ [] → n.stamps ≡ [] → ((c : ℕ) → n.open_calls c ≡ None) → IsNoted n
-none_noted n items stamps waiting = record {
-  placed = λ i m. absurd (subst (Has i) items m);
-  waits = λ c p e. let k : None ≡ Some p = sym (waiting c) ∙ e in absurd cc;
-  stamped = λ s m. absurd (subst (Has s) stamps m);
 }
 
 last_call : (items : List Item) (c p : ℕ) → IsOpen items c p → IsLastCall items c p
@@ -167,9 +161,6 @@ noted_same n t h items waiting stamps = record {
 
 pub same_merely : (n t : Noted) → ∥ IsNoted n ∥₁ → t.items ≡ n.items → ((c : ℕ) → t.open_calls c ≡ n.open_calls c) → t.stamps ≡ n.stamps → ∥ IsNoted t ∥₁
 same_merely n t noted items waiting stamps = ∥∥₁_map noted (λ h. noted_same n t h items waiting stamps)
-
-pub none_merely : (n : Noted) → n.items ≡ [] → n.stamps ≡ [] → ((c : ℕ) → n.open_calls c ≡ None) → ∥ IsNoted n ∥₁
-none_merely n items stamps waiting = merely (none_noted n items stamps waiting)
 
 pub call_merely : (n t : Noted) (c : ℕ) (q : Request) → ∥ IsNoted n ∥₁ → t.items ≡ n.items ++ item.Call (length n.items) c q ∷ []
     → IsWith c (length n.items) n.open_calls t.open_calls → t.stamps ≡ n.stamps → ∥ IsNoted t ∥₁

@@ -13,27 +13,9 @@ use Rattle.store.specs.Callers.{Caller, HasRead}
 use Rattle.store.specs.Tickets.{IsReply, IsTicketOf, Ticket, after_reply}
 use Rattle.racing.specs.Answered.{IsAnswered, reads_now}
 
-no_read : (r : Request) → is_write r ≡ true → reads_now r ≡ true → ⊥
-no_read (Create d) write now = absurd cc
-no_read (Get k) write now = absurd cc
-no_read (request.List kind namespace exact) write now = absurd cc
-no_read (Update d) write now = absurd cc
-no_read (UpdateStatus d) write now = absurd cc
-no_read (Delete k uid version at) write now = absurd cc
-no_read (Compact to) write now = absurd cc
-
 no_write : (r : Request) → is_write r ≡ false → is_write r ≡ true → ⊥
 no_write r is not_so = let k : false ≡ true = sym is ∙ not_so in absurd cc
 
-pub answered_to_ticket : (shards capacity : ℕ) (t : Ticket) (reply : Reply) (c d : Caller) → IsTicketOf shards capacity t c → IsReply capacity t reply d
-    → IsAnswered capacity t.request reply t.place
-answered_to_ticket shards capacity t reply c d of is = record {
-  seen = d.seen;
-  history = is.history;
-  long = is.long;
-  accepted = λ write yes. let w = is.written yes in (w.1, w.5);
-  other = λ write no. is.answered no;
-  read = λ now. absurd (no_read t.request of.write now);
 }
 
 pub answered_to_read : (capacity : ℕ) (r : Request) (reply : Reply) (c d : Caller) → HasRead capacity c d → is_write r ≡ false

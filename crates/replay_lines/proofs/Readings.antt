@@ -22,14 +22,6 @@ pub refused : {A B : Type 0} (view : A → B) (result : Result A ScriptError) (y
     → result ≡ Err y → y ≡ e → Fails e reading → Reads view result reading
 refused view result y e reading is same h = subst (λ r. Reads view r reading) (sym (is ∙ ap Err same)) h
 
--- a value that is there, and one that is not
-pub some_then : {A B C : Type 0} (view : A → B) (result : Result A ScriptError) (o : Option C) (x : C) (f : C → Option B)
-    → Some x ≡ o → Reads view result (f x) → Reads view result (o >>= f)
-some_then view result o x f is h = subst (λ r. Reads view result (r >>= f)) is h
-
-pub none_then : {A B : Type 0} (o : Option A) (f : A → Option B) → None ≡ o → (o >>= f) ≡ None
-none_then o f is = ap (λ r. r >>= f) (sym is)
-
 pub fault_read : {A : Type 0} (e : RequestError) (reading : Result A RequestError) → Refuses e reading → Fails (request_fault e) (unless_refused reading)
 fault_read (request.Read read.NotJson) reading h = ap unless_refused h
 fault_read (request.Read read.NotWhole) reading h = ap unless_refused h

@@ -190,6 +190,3 @@ last_key k (e ∷ es) r is = by (last_key k es r) (last_of k es) refl (eq_by_cmp
     by rest (Some q) at b tie h = rest (at ∙ h)
     by rest None at true tie h = ap (λ (q : Record). eq_by_cmp key_cmp k q.1.key) (sym (same_Some e r h)) ∙ tie
     by rest None at false tie h = absurd (none-some r h)
-
-pub last_there : (k : Key) (rs : Records) (r : Record) → last_of k (entries rs) ≡ Some r → get rs r.0 ≡ Some r.1
-last_there k rs r is = get-entries rs r.0 ∙ last_found k (entries rs) (in_order rs) r is
