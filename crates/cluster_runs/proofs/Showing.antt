@@ -29,7 +29,7 @@ use Rattle.cluster_runs.specs.declared.event.ClusterEvent.{ClusterEvent}
 use Rattle.cluster_runs.specs.declared.event.ClusterEvent.TheVariants.{Next, Outside, Step, Crash}
 use Rattle.cluster_runs.specs.Cluster.{Cluster, controller_at, controller_by, hand, hand_if, happens, hears, is_idle, is_nobody, is_used, lowest_unused, reply_in, run, start, delivered, with_crash, with_next, with_outside, with_step, with_used}
 use Rattle.cluster_runs.specs.Callers.{AreCallers, owner}
-use Rattle.cluster_runs.specs.Shown.{Becomes, Follows, Hands, Happens, HasTaken, Hears, HoldsEvents, IsCluster, Shows, Stands, Stay}
+use Rattle.cluster_runs.specs.Shown.{Becomes, Hands, Happens, HasTaken, Hears, HoldsEvents, IsCluster, Shows, Stands, Stay}
 use Rattle.cluster_runs.specs.declared.cluster.Cluster.{Cluster as Program}
 use Rattle.cluster_runs.proofs.Kept.{among, put_other, put_same}
 use Rattle.cluster_runs.proofs.Calling.{among_first, among_later, not_among}

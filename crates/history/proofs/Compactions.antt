@@ -1,30 +1,15 @@
 -- The shards are compacted to the least number that is read: what a machine shows stays.
-use Rattle.std.proofs.Common.{◌≡◌, ℕ, ◌+◌, ◌<◌, ◌≤◌, true, List, length, set, refl, sym, ap, ◌∙◌, subst, arith, nat_eq, true≢false, get_or-set_same, get_or-set_other}
-use Rattle.std.proofs.Math.ListN.{length-set}
-use Rattle.versions.specs.Shard as versions
-use Rattle.versions.specs.Shard.{Shard}
+use Rattle.std.proofs.Common.{◌≡◌, ℕ, ◌<◌, ◌≤◌, true, length, refl, sym, ap, ◌∙◌, subst, arith, nat_eq, true≢false}
 use Rattle.history.specs.declared.machine.Machine.{Machine}
 use Rattle.history.specs.declared.phase.Phase.{Phase as CodePhase}
 use Rattle.history.specs.declared.phase.Phase.TheVariants as code
 use Rattle.history.specs.Begun.{IsLeastOf}
-use Rattle.history.specs.Mirrors.{IsCompacted}
 use Rattle.interleavings.specs.Order.{Arrangement}
 use Rattle.history.specs.Replayed.{AreCompacted, IsShown, IsUnread, Shows, Thins, phase_at, reads_at, shard_at}
 use Rattle.interleavings.specs.Spared.{IsLeastRead, IsSpared}
 use Rattle.interleavings.specs.World.{Phase, Reading, Size, World}
 use Rattle.interleavings.proofs.Basics.{Compared, same, other, compare, eq_self}
 use Rattle.history.proofs.Mirrors.{floor_raised, mirrors_raised}
-
-}
-  where
-    own : shard_at (set xs i after) i ≡ after
-    own = get_or-set_same xs i after versions.opening lt
-
-    each : (s : ℕ) → s < i + 1 → Compared s i → IsCompacted n (shard_at old s) (shard_at (set xs i after) s)
-    each s below (same e b) =
-        subst (λ j. IsCompacted n (shard_at old j) (shard_at (set xs i after) j)) (sym e)
-        (subst (λ x. IsCompacted n (shard_at old i) x) (sym own) (subst (λ x. IsCompacted n x after) (at ∙ done.others i (omega arith)) is))
-    each s below (other ne b) = subst (λ x. IsCompacted n (shard_at old s) x) (sym (get_or-set_other xs i s after versions.opening ne)) (done.each s (omega arith))
 
 -- what is up to the number of each code phase that reads, is up to that of its phase
 unread_shown : (low : ℕ) (p : CodePhase) (ph : Phase) → IsShown p ph → ((n : ℕ) → reads_at n p ≡ true → low ≤ n) → IsUnread low ph

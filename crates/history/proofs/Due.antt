@@ -25,7 +25,7 @@ use Rattle.interleavings.specs.Log.{state_at}
 use Rattle.interleavings.specs.Order.{Arrangement, moved}
 use Rattle.interleavings.specs.Step.{with_reply, with_reply_if, only, replied}
 use Rattle.interleavings.specs.World.{Phase, Idle, Waiting, Reading, Size, World, shard}
-use Rattle.history.specs.Replayed.{Answers, Does, IsDue, IsNumbered, IsShown, IsDelivered, IsUnread, Shows, Stands, Tells, compaction_at, is_replying, phase_at, reading_in, records_of, shard_at, waiting_in}
+use Rattle.history.specs.Replayed.{Answers, Does, IsDue, IsNumbered, IsShown, IsDelivered, Shows, Stands, Tells, compaction_at, is_replying, phase_at, reading_in, records_of, shard_at, waiting_in}
 use Rattle.interleavings.proofs.Basics.{Compared, same, other, compare, Least, atmost, above, least, changed-same}
 use Rattle.history.specs.Mirrors.{found_in}
 use Rattle.history.proofs.ListAnswers.{list_answer}

@@ -10,11 +10,10 @@ use Rattle.plain_store.specs.Route.{lists, lists_at, route, writes}
 use Rattle.plain_store.specs.Store.{Objects, collection, is_of, step}
 use Rattle.versions.specs.Records as versions
 use Rattle.versions.specs.Records.{Records}
-use Rattle.interleavings.specs.Facts.{Facts}
 use Rattle.interleavings.specs.Log.{IsFiled, Log, state_at}
 use Rattle.history.specs.Mirrors.{Mirrors, found_in, read_up_to, with_objects}
 use Rattle.interleavings.specs.Step.{only, reads}
-use Rattle.interleavings.specs.World.{Reading, Size, World}
+use Rattle.interleavings.specs.World.{Size}
 use Rattle.interleavings.proofs.Basics.{Compared, same, other, compare}
 use Rattle.history.proofs.MirrorReads.{list_at_reply, list_reply, listed, none_unwanted, answer_of_all_parts}
 

@@ -14,7 +14,7 @@ use Rattle.interleavings.specs.Facts.{Facts}
 use Rattle.interleavings.specs.Order.{Arrangement, last_or_parked, with_last}
 use Rattle.interleavings.specs.Step.{begun, with_reply}
 use Rattle.interleavings.specs.World.{Phase, Idle, Called, Holding, Waiting, Reading, Size, World, changed}
-use Rattle.history.specs.Replayed.{Begins, Enters, Holds, IsShown, Keeps, Settles, Shows, Stands, Stays, Tells, Waits, begun_phase, drops, is_called, is_dropped, is_replying, is_undecided, lot_at, named_phase, phase_at, shard_at, staying, writing_of}
+use Rattle.history.specs.Replayed.{Begins, Enters, Holds, IsShown, Keeps, Settles, Shows, Stands, Stays, Tells, Waits, begun_phase, drops, is_called, is_dropped, is_replying, is_undecided, lot_at, named_phase, phase_at, staying, writing_of}
 use Rattle.history.specs.declared.phase.Writing.{Writing as CodeWriting}
 use Rattle.interleavings.proofs.Basics.{Least, atmost, above, least}
 use Rattle.history.proofs.Showing.{shows_entered, shows_holder, shows_parked}

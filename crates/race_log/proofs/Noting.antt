@@ -1,7 +1,6 @@
 -- A log that goes on by one more call or reply.
 use Rattle.std.proofs.Common.{◌≡◌, ◌≢◌, ℕ, zero, suc, ◌+◌, ◌<◌, ◌≤◌, ◌⊎◌, List, [], ◌∷◌, ◌++◌, length, Option, Some, None, refl, sym, ap, ◌∙◌, subst, inl, inr, arith, length-append}
 use mathlib.Core.Logic.{∥∥₁_map}
-use Rattle.std.proofs.lemmas.Grind.{merely}
 use Rattle.std.specs.List.{slice_get}
 use Rattle.std.specs.Prelude.{true, Result, Ok, Err, OnErr}
 use Rattle.std.specs.Result.{is_err}
@@ -21,8 +20,6 @@ use Rattle.order_check.specs.Lookup.{IsWith, IsWithout}
 use Rattle.race_log.specs.declared.stamp.Stamp.{Stamp}
 use Rattle.race_log.specs.Logged.{IsNoted, IsOpen, IsStamped, Noted, stamp_for}
 use Rattle.race_log.specs.Twice.{reply_at, reply_of}
-
-}
 
 last_call : (items : List Item) (c p : ℕ) → IsOpen items c p → IsLastCall items c p
 last_call items c p h = record { request = h.request; called = h.called; last = h.last; no_reply = h.no_reply }

@@ -6,17 +6,14 @@ use Rattle.plain_store.specs.Store.{step}
 use Rattle.requests.specs.declared.reply.Reply.{Reply}
 use Rattle.requests.specs.declared.request.Request.{Request}
 use Rattle.requests.specs.declared.request.Request.TheVariants as request
-use Rattle.requests.specs.declared.request.Request.TheVariants.{Create, Get, Update, UpdateStatus, Delete, Compact}
 use Rattle.requests.specs.Verdict.{is_write}
 use Rattle.store.specs.History.{IsHistory, store_after}
 use Rattle.store.specs.Callers.{Caller, HasRead}
-use Rattle.store.specs.Tickets.{IsReply, IsTicketOf, Ticket, after_reply}
+use Rattle.store.specs.Tickets.{Ticket, after_reply}
 use Rattle.racing.specs.Answered.{IsAnswered, reads_now}
 
 no_write : (r : Request) → is_write r ≡ false → is_write r ≡ true → ⊥
 no_write r is not_so = let k : false ≡ true = sym is ∙ not_so in absurd cc
-
-}
 
 pub answered_to_read : (capacity : ℕ) (r : Request) (reply : Reply) (c d : Caller) → HasRead capacity c d → is_write r ≡ false
     → (reads_now r ≡ true → reply ≡ (step (store_after capacity d.seen) r).1) → IsAnswered capacity r reply (length d.seen)

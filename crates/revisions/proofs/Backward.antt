@@ -1,7 +1,6 @@
 -- A search from the last view to the first.
-use Rattle.std.proofs.Common.{◌≡◌, List, [], ◌∷◌, ◌++◌, Bool, true, false, cond, Some, reverse, find, ap, ◌∙◌}
+use Rattle.std.proofs.Common.{◌≡◌, List, [], ◌∷◌, ◌++◌, reverse, ap, ◌∙◌}
 use Rattle.std.proofs.lemmas.List.{map-append, reverse-append}
-use Rattle.objects.specs.declared.object.Object.{Object}
 use Rattle.revisions.specs.declared.view.RevisionView.{RevisionView}
 use Rattle.revisions.specs.Plan.{objects_of}
 
