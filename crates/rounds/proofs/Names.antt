@@ -70,11 +70,11 @@ told_create key e o es is tie =
 
 -- what lives after some events
 living : (current : Option Object) (xs ys : List Event) → AreLives current (xs ++ ys) → (now : Option Object) × AreLives now ys
-living current [] ys incarnations = (current, lives)
-living current (begins o ∷ xs) ys incarnations = living (Some o) xs ys lives.1
-living current (changes o ∷ xs) ys incarnations = living (Some o) xs ys lives.1
-living current (lasts o ∷ xs) ys incarnations = living current xs ys lives.1
-living current (ends o ∷ xs) ys incarnations = living None xs ys lives.1
+living current [] ys lives = (current, lives)
+living current (begins o ∷ xs) ys lives = living (Some o) xs ys lives.1
+living current (changes o ∷ xs) ys lives = living (Some o) xs ys lives.1
+living current (lasts o ∷ xs) ys lives = living current xs ys lives.1
+living current (ends o ∷ xs) ys lives = living None xs ys lives.1
 
 record IsEnd (uid : ℕ) (xs : List Event) : Type 0 where
   removed : Object
@@ -86,11 +86,11 @@ later_end uid x xs end = record { removed = end.removed; among = inr end.among; 
 
 -- before the next one of the name begins, this one ends
 ended : (o : Object) (uid : ℕ) (xs ys : List Event) (p : Object) → o.meta.uid ≡ uid → AreLives (Some o) (xs ++ begins p ∷ ys) → IsEnd uid xs
-ended o uid [] ys p is incarnations = absurd (none-some o (sym lives.0))
-ended o uid (begins q ∷ xs) ys p is incarnations = absurd (none-some o (sym lives.0))
-ended o uid (changes q ∷ xs) ys p is incarnations = later_end uid (changes q) xs (ended q uid xs ys p (sym (same_Some _ _ lives.0) ∙ is) lives.1)
-ended o uid (lasts q ∷ xs) ys p is incarnations = later_end uid (lasts q) xs (ended o uid xs ys p is lives.1)
-ended o uid (ends q ∷ xs) ys p is incarnations = record { removed = q; among = inl refl; uid_is = sym (same_Some _ _ lives.0) ∙ is }
+ended o uid [] ys p is lives = absurd (none-some o (sym lives.0))
+ended o uid (begins q ∷ xs) ys p is lives = absurd (none-some o (sym lives.0))
+ended o uid (changes q ∷ xs) ys p is lives = later_end uid (changes q) xs (ended q uid xs ys p (sym (same_Some _ _ lives.0) ∙ is) lives.1)
+ended o uid (lasts q ∷ xs) ys p is lives = later_end uid (lasts q) xs (ended o uid xs ys p is lives.1)
+ended o uid (ends q ∷ xs) ys p is lives = record { removed = q; among = inl refl; uid_is = sym (same_Some _ _ lives.0) ∙ is }
 
 -- ---- removals
 
@@ -169,7 +169,7 @@ names_freed capacity rs before between later x y o p is first second same =
     (told_create o.key y p later (created two.0 y p two.1 second) (subst (λ k. eq_by_cmp key_cmp o.key k ≡ true) same (itself o.key))) in
     let all = told-append o.key before (x ∷ (between ++ (y ∷ later))) ∙ ap (λ l. told o.key before ++ l)
     (told_create o.key x o (between ++ (y ∷ later)) (created one.0 x o one.1 first) (itself o.key) ∙ ap (λ l. begins o ∷ l) rest) in
-    let incarnations = subst (AreLives None) (ap (events_of o.key) is ∙ sym (told_is o.key (before ++ (x ∷ (between ++ (y ∷ later))))) ∙ all) (lives_in_run capacity rs o.key) in
+    let lives = subst (AreLives None) (ap (events_of o.key) is ∙ sym (told_is o.key (before ++ (x ∷ (between ++ (y ∷ later))))) ∙ all) (lives_in_run capacity rs o.key) in
     let now = living None (told o.key before) (begins o ∷ (told o.key between ++ (begins p ∷ told o.key later))) lives in
     let end = ended o o.meta.uid (told o.key between) (told o.key later) p refl now.1.1 in
     found_removal o end.removed between end.uid_is end.among
