@@ -29,7 +29,7 @@ use Rattle.cluster_runs.specs.declared.event.ClusterEvent.{ClusterEvent}
 use Rattle.cluster_runs.specs.declared.event.ClusterEvent.TheVariants.{Next, Outside, Step, Crash}
 use Rattle.cluster_runs.specs.Cluster.{Cluster, controller_at, controller_by, hand, hand_if, happens, hears, is_idle, is_nobody, is_used, lowest_unused, reply_in, run, start, delivered, with_crash, with_next, with_outside, with_step, with_used}
 use Rattle.cluster_runs.specs.Callers.{AreCallers, owner}
-use Rattle.cluster_runs.specs.Shown.{Becomes, Hands, Happens, HasTaken, Hears, HoldsEvents, IsCluster, Shows, Stands, Stay}
+use Rattle.cluster_runs.specs.Shown.{Becomes, Hands, Happens, Hears, HoldsEvents, IsCluster, Shows, Stands, Stay}
 use Rattle.cluster_runs.specs.declared.cluster.Cluster.{Cluster as Program}
 use Rattle.cluster_runs.proofs.Kept.{among, put_other, put_same}
 use Rattle.cluster_runs.proofs.Calling.{among_first, among_later, not_among}
@@ -40,9 +40,6 @@ use Rattle.cluster_runs.proofs.Standing.{goes_on, idle_stays, others_stay, deliv
 
 step_more : (z : Size) (events : List Event) (e : Event) (n : ℕ) → (after z opening (events ++ e ∷ [])).phase n ≡ (step z (after z opening events) e).phase n
 step_more z events e n = ap (λ (w : World). w.phase n) (after_more z events opening e)
-
-unfolding HasTaken
-follows_on e old new taken hands = (taken.0, subst (λ l. IsAfter taken.0 l new.replay) (sym hands.events) (hands.taken taken.0 old.events.items taken.1))
 
 module _ (z : Size) (events : List Event) (used : List ℕ) (items : List Event) (replay : Replay) (holds : HoldsEvents z events used items replay) where
   events_more : (e : Event) (old new : Program) → old.events.items ≡ items → old.replay ≡ replay → Hands e old new → IfSome (named_by e) (λ n. among used n ≡ true)

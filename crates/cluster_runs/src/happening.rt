@@ -288,7 +288,8 @@ impl Cluster {
         ensures callers { self.new.callers ≡ self.old.callers }
         ensures follows { OnOk result (Follows self.new) }
         ensures hands { OnOk result (Hands event self.old self.new) }
-        ensures delivered { IfOk result (λ delivered. (size : Size) (events : List Event) → IsAfter size events self.old.replay → IsReplyTo size events event delivered) }
+        ensures delivered { IfOk result (λ delivered. (size : Size) (events : List Event)
+            → IsAfter size events self.old.replay → IsReplyTo size events event delivered) }
         ensures too_many { IsErrOf result ClusterFault.TooManyCallers → (size : Size) (events : List Event)
             → IsAfter size events self.old.replay → 4096 < callers (events ++ event ∷ []) }
         ensures reasons { IfErr result IsShort }
