@@ -118,8 +118,8 @@ fn lists_pods(request: &Request) -> bool {
 
 fn is_healthy(pod: &PodView<'_>, set: &str, ordinal: u32) -> bool {
     let ready = matches!(pod.readiness, Readiness::Ready) && !pod.terminating;
-    match pod.place {
-        Some((found, place)) => ready && found == set && place == ordinal,
+    match pod.split_name {
+        Some((found, index)) => ready && found == set && index == ordinal,
         None => false,
     }
 }
@@ -135,7 +135,7 @@ fn has_healthy(pods: &[Object], set: &str, ordinal: u32) -> bool {
 
 /// Whether each ordinal of the set below that of the pod has a healthy pod.
 fn is_in_turn(pods: &[Object], pod: &Object) -> bool {
-    let Some((set, ordinal)) = read_pod(pod).place else {
+    let Some((set, ordinal)) = read_pod(pod).split_name else {
         return false;
     };
     for lower in 0..ordinal {
