@@ -3,23 +3,13 @@
 /// What can be measured.
 #[derive(Clone, Copy, PartialEq, Eq)]
 pub(crate) enum Load {
-    Plan,
-    Replay,
-    Collector,
     Shard,
     Line,
     Store,
 }
 
 /// All loads, in the order in which they are measured.
-pub(crate) const LOADS: [Load; 6] = [
-    Load::Plan,
-    Load::Replay,
-    Load::Collector,
-    Load::Shard,
-    Load::Line,
-    Load::Store,
-];
+pub(crate) const LOADS: [Load; 3] = [Load::Shard, Load::Line, Load::Store];
 
 /// How many writes and how many reads the threads over a store make in all.
 #[derive(Clone, Copy)]
@@ -32,8 +22,8 @@ pub(crate) struct Counts {
 pub(crate) struct Asked {
     /// The load that is asked for, where it is not all of them.
     load: Option<Load>,
-    /// How many events a replay is to have, where the words say it.
-    pub(crate) events: Option<usize>,
+    /// How many pushes and how many readings a shard is to have, where the words say it.
+    pub(crate) pushes: Option<u64>,
     /// How much the threads over a store are to do, where the words say it.
     pub(crate) counts: Option<Counts>,
 }
@@ -50,9 +40,6 @@ impl Asked {
 /// The load of that name.
 fn named(word: &str) -> Option<Load> {
     match word {
-        "plan" => Some(Load::Plan),
-        "replay" => Some(Load::Replay),
-        "collector" => Some(Load::Collector),
         "shard" => Some(Load::Shard),
         "line" => Some(Load::Line),
         "store" => Some(Load::Store),
@@ -62,12 +49,12 @@ fn named(word: &str) -> Option<Load> {
 
 /// What the words after the program's name ask for, if they ask for anything that can be measured.
 pub(crate) fn read_words(words: &[String]) -> Option<Asked> {
-    let (load, events, counts) = match words {
+    let (load, pushes, counts) = match words {
         [] => (None, None, None),
         [load] => (Some(named(load.as_str())?), None, None),
-        [load, events] if load.as_str() == "replay" => {
-            let events = events.as_str().parse::<usize>().ok()?;
-            (Some(Load::Replay), Some(events), None)
+        [load, pushes] if load.as_str() == "shard" => {
+            let pushes = pushes.as_str().parse::<u64>().ok()?;
+            (Some(Load::Shard), Some(pushes), None)
         }
         [load, writes, reads] if load.as_str() == "store" => {
             let writes = writes.as_str().parse::<u64>().ok()?;
@@ -78,7 +65,7 @@ pub(crate) fn read_words(words: &[String]) -> Option<Asked> {
     };
     Some(Asked {
         load,
-        events,
+        pushes,
         counts,
     })
 }

@@ -1,5 +1,4 @@
 // How many numbers a second threads draw and fill, and how often they raise the frontier, at 1, 2, 4 and 8 threads.
-// `bench/line_plain.rs` does the same over plain `AtomicU64` words, and over plain words behind a `Mutex`.
 ghost use Rattle.std.specs.Prelude.{◌≡◌, All, IfOk, None};
 ghost use Rattle.line.specs.Seat.{caller_seat, new_caller_seat, new_shard_seat, shard_seat};
 

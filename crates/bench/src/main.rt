@@ -1,15 +1,12 @@
-//! How long loads take: of plans, of replays, of collections of claims, of a shard, of the line and of the running store. The
-//! first word says which load; with no word all of them are measured.
+//! How long those loads take that no word of the program shows: of a shard, of the line and of the running store. The first
+//! word says which load; with no word all of them are measured. `checks/bench` measures the program; `bench/line_plain.rs`
+//! is the yardstick of the line, in plain Rust.
 //!
 //! Standard output has what was counted, which is the same on each run; the times go to standard error.
 #![tactic(auto)]
 
 mod asked;
-mod collections;
 mod lines;
-mod plans;
-mod reading;
-mod replays;
 mod shards;
 mod stores;
 mod timing;
@@ -25,9 +22,7 @@ const BAD_WORDS: u8 = 2;
 fn main(rt: HostRuntime) -> Result<ExitCode> {
     let words: Vec<String> = env::args(&rt)?.skip(1).collect(rt.alloc())?;
     let Some(asked) = read_words(words.as_slice()) else {
-        eprintln!(rt;
-            "usage: bench [plan | replay [EVENTS] | collector | shard | line | store [WRITES READS]]"
-        )?;
+        eprintln!(rt; "usage: bench [shard [PUSHES] | line | store [WRITES READS]]")?;
         return Ok(ExitCode::from(BAD_WORDS));
     };
     for load in LOADS {
@@ -35,10 +30,7 @@ fn main(rt: HostRuntime) -> Result<ExitCode> {
             continue;
         }
         match load {
-            Load::Plan => plans::measure(&rt)?,
-            Load::Replay => replays::measure(&rt, asked.events)?,
-            Load::Collector => collections::measure(&rt)?,
-            Load::Shard => shards::measure(&rt)?,
+            Load::Shard => shards::measure(&rt, asked.pushes)?,
             Load::Line => lines::measure(&rt, rt.alloc())?,
             Load::Store => stores::measure(&rt, rt.alloc(), asked.counts)?,
         }

@@ -1,5 +1,5 @@
-// How long one shard takes for a million pushes, with a compaction after each and with none, and for a million readings of
-// one key with many versions.
+// How long one shard takes for many pushes, with a compaction after each and with none, and for as many readings of one key
+// with a tenth as many versions.
 //
 // A compaction is to cost what it drops, and not a walk over all keys; the first load keeps 1,000 records, the second all
 // of them. A reading is to halve the records of its key, and not to go through them. All objects share one body, so that
@@ -7,11 +7,10 @@
 ghost use Rattle.std.specs.Prelude.{◌+◌};
 ghost use Rattle.versions.specs.Records.{IsAbove};
 
-use crate::reading::object;
 use crate::timing::report;
 use anyhow::Result;
-use objects::{Key, Kind, Memory, Object};
-use plain::Version;
+use objects::{Key, Kind, Memory, Object, read_object};
+use requests::Version;
 use std::alloc::Global;
 use std::time::Instant;
 use versions::Shard;
@@ -19,15 +18,15 @@ use versions::Shard;
 const OBJECT: &str =
     r#"{"kind":"Pod","metadata":{"labels":{"app":"web"},"name":"web-0"},"spec":{"containers":[{"image":"web:1","name":"web"}],"nodeName":"node-1"}}"#;
 
-const PUSHES: u64 = 1_000_000;
+/// How many pushes and how many readings there are where the words do not say it.
+const COUNT: u64 = 100_000;
 
 const KEYS: u64 = 1_000;
 
-const VERSIONS: u64 = 100_000;
+/// There are so many readings for each version.
+const READ_AGAIN: u64 = 10;
 
-const READINGS: u64 = 1_000_000;
-
-/// A step from one reading to the next, which comes to all numbers in turn as it has no factor in common with how many
+/// A step from one reading to the next, which comes to all numbers in turn where it has no factor in common with how many
 /// there are.
 const STEP: u64 = 61_803;
 
@@ -128,26 +127,28 @@ fn found(shard: &Shard, key: &Key, versions: u64, readings: u64) -> u64 {
 }
 
 /// Measures the pushes, with a compaction after each or with none.
-fn pushes(rt: &HostRuntime, object: &Object, load: &str, compacts: bool) -> Result<()> {
+fn pushes(rt: &HostRuntime, object: &Object, load: &str, count: u64, compacts: bool) -> Result<()> {
     let start = Instant::now(rt)?;
-    let records = records_after(rt.alloc(), object, PUSHES, KEYS, compacts)?;
+    let records = records_after(rt.alloc(), object, count, KEYS, compacts)?;
     let elapsed = start.elapsed(rt)?;
     println!(rt; "records after {load}: {records}")?;
-    report(rt, load, PUSHES, elapsed)
+    report(rt, load, count, elapsed)
 }
 
 /// Measures the readings.
-fn readings(rt: &HostRuntime, object: &Object) -> Result<()> {
+fn readings(rt: &HostRuntime, object: &Object, count: u64) -> Result<()> {
     let start = Instant::now(rt)?;
-    let found = found_in(rt.alloc(), object, VERSIONS, READINGS)?;
+    let found = found_in(rt.alloc(), object, count / READ_AGAIN, count)?;
     let elapsed = start.elapsed(rt)?;
     println!(rt; "objects found: {found}")?;
-    report(rt, "readings", READINGS, elapsed)
+    report(rt, "readings", count, elapsed)
 }
 
-pub(crate) fn measure(rt: &HostRuntime) -> Result<()> {
-    let object = object(rt.alloc(), OBJECT)?;
-    pushes(rt, &object, "pushes with compactions", true)?;
-    pushes(rt, &object, "pushes without", false)?;
-    readings(rt, &object)
+pub(crate) fn measure(rt: &HostRuntime, asked: Option<u64>) -> Result<()> {
+    let count = asked.unwrap_or(COUNT);
+    let draft = read_object(rt.alloc(), OBJECT.as_bytes())?;
+    let object = draft.object;
+    pushes(rt, &object, "pushes with compactions", count, true)?;
+    pushes(rt, &object, "pushes without", count, false)?;
+    readings(rt, &object, count)
 }
