@@ -1,5 +1,5 @@
-/// What is done at chosen points of a run, as a test that holds a thread there. It takes no handle, so it can't wait for a
-/// lock.
+/// What is done at chosen points of a run, as a test that holds a thread there. It is handed no handle to wait with. One that
+/// keeps a handle of its own and calls its own store from `between` blocks a shard for good.
 pub trait Gate {
     /// Called by a write between the draw of this number and its fill, under the lock of its shard.
     fn between(&self, number: u64);

@@ -2,7 +2,7 @@
 use crate::asking::{Asked, request_of};
 use race_log::{Log, RaceSpec, judged};
 use racing::{SharedStore, answered};
-use requests::Request;
+use requests::{Reason, Reply, Request};
 use std::alloc::Global;
 use std::process::Abort;
 use std::sync::{Mutex, Wait};
@@ -11,8 +11,8 @@ use std::thread;
 use std::thread::Threads;
 use store::NoGate;
 
-/// So few that the store is full before the end.
-pub(crate) const CAPACITY: u64 = 4_000;
+/// So few that the store is full before the end, which the last create shows.
+pub(crate) const CAPACITY: u64 = 1_000;
 
 const THREADS: usize = 8;
 
@@ -124,7 +124,20 @@ fn assert_legal<R: Abort>(rt: &R, alloc: Global, log: Log) -> Result<(), Fail> {
     Ok(())
 }
 
-/// Eight threads ask by chance; what they were told is legal.
+/// Whether a create of a free name is refused since no number is left.
+fn is_full<S: SharedStore, R: Wait>(rt: &R, alloc: Global, store: &S) -> Option<bool> {
+    let mut caller = store.caller(rt).ok()?;
+    let request = request_of(
+        alloc,
+        Asked::Create(r#"{"kind":"Pod","metadata":{"name":"z"}}"#),
+    )?;
+    let (reply, _) = answered(rt, store, &NoGate, &mut caller, request).ok()?;
+    let is_full = matches!(reply, Reply::Refused(Reason::StoreFull));
+    drop(reply);
+    Some(is_full)
+}
+
+/// Eight threads ask by chance until the store is full; what they were told is legal.
 pub(crate) fn assert_replies_are_legal<S: SharedStore + Sync, R: Threads + Wait + Abort + Sync>(
     rt: &R,
     alloc: Global,
@@ -145,5 +158,9 @@ where
     for (index, is_done) in done.iter().enumerate() {
         assert!(rt; *is_done, "the thread {index}");
     }
+    assert!(rt;
+        is_full(rt, alloc, store) == Some(true),
+        "the store is full"
+    );
     assert_legal(rt, alloc, log.into_inner())
 }
