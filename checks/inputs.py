@@ -14,6 +14,7 @@ LABELS = 2_000  # of a claim template, and of a selector
 LABELLED = 150  # pods that have such a claim
 VOLUMES = 10_000  # of a pod, and as many claim templates
 HEALTHY = 1_000  # pods, each with one of its claims
+PIECE = 2_000  # lists of a text of 10,000 bytes, in one piece of the input; then a twentieth of them
 TRIES = 1_024  # names that a new revision may get, of two hexadecimal digits
 PODS = 64  # that callers of a replay write, get and list
 SHARDS = 64  # of its store
@@ -66,6 +67,10 @@ def forgotten(lists_first, count=NAMES):
 
 def creations(count):
     return "".join(created(f"x{number:06}") for number in range(count))
+
+
+def lists_of_a_text(count):
+    return created("x", "t" * 10_000) + '{"do":"list","kind":"Pod"}\n' * count
 
 
 def come_and_go(keys):
