@@ -1,27 +1,14 @@
-//! What crate `plain` answers, call by call: what no line shows, devices that fail, allocation failures, limits, and slow bodies
-//! beside fast ones. What a line shows is a transcript in `examples/serve`. Tests are a crate of their own, so that a library
-//! is proved once, and they reach only what it makes public.
+//! What crate `plain` answers, call by call, where no line shows it: a store that is known as an `Api` alone, streams that fail,
+//! and refused allocations. What a line shows is a transcript in `examples/serve`, a long run a row of `checks/limits`, and
+//! `checks/model` has a slow store beside this one. Tests are a crate of their own, so that a library is proved once, and they
+//! reach only what it makes public.
 #![tactic(auto)]
 
 #[cfg(test)]
 mod allocation_failures;
 #[cfg(test)]
-mod asserts;
+mod calls;
 #[cfg(test)]
-mod beside;
-#[cfg(test)]
-mod judged_texts;
-#[cfg(test)]
-mod limits;
-#[cfg(test)]
-mod pieces;
-#[cfg(test)]
-mod replies;
-#[cfg(test)]
-mod request_values;
-#[cfg(test)]
-mod stored_texts;
+mod story;
 #[cfg(test)]
 mod streams;
-#[cfg(test)]
-mod values;

@@ -1,9 +1,7 @@
-//! Serving from readers and to writers of each kind, those that fail among them.
-use crate::asserts::{assert_answers, assert_ends};
-use plain::{BufferSink, ReadSource, ServeFault, Sink, SliceSource, WriteSink, serve, write_all};
+//! Serving from a reader that fails in the middle, and to a writer that takes little at a time, and then nothing.
+use plain::{BufferSink, InputFault, ReadSource, ServeFault, Sink, SliceSource, read_all, serve};
 use std::alloc::{AllocError, Global};
 use std::io::{self, Read};
-use std::process::Abort;
 use std::test::Fail;
 
 const NO_VERB: &[u8] = b"{\"code\":400,\"reason\":\"NoVerb\"}\n";
@@ -39,111 +37,46 @@ impl Sink for Slow {
     }
 }
 
-/// Asserts whether the bytes are written, and which are written so far.
-fn assert_writes(rt: &impl Abort, sink: &mut Slow, bytes: &[u8], is_well: bool, written: &[u8]) {
-    assert!(rt; write_all(sink, bytes).is_some() == is_well);
-    assert_eq!(rt; sink.inner.bytes(), written);
-}
-
-#[test]
-fn bytes_are_written_until_the_writer_fails(rt: HostRuntime) -> Result<(), Fail> {
-    let mut sink = Slow {
-        inner: BufferSink::with_room(rt.alloc(), 5)?,
-    };
-    assert_writes(&rt, &mut sink, b"abc", true, b"abc");
-    assert_writes(&rt, &mut sink, b"", true, b"abc");
-    assert_writes(&rt, &mut sink, b"def", false, b"abcde");
-    Ok(())
-}
-
-#[test]
-fn a_full_buffer_takes_no_bytes_but_none_of_them(rt: HostRuntime) -> Result<(), Fail> {
-    let mut sink = BufferSink::with_room(rt.alloc(), 0)?;
-    assert_eq!(rt; sink.write(b""), Some(0));
-    assert_eq!(rt; sink.write(b"a"), None);
-    Ok(())
-}
-
-/// Asserts what is answered to this text where the reader fails behind it.
-fn assert_torn(
-    rt: &impl Abort,
-    alloc: Global,
-    text: &str,
-    expected: &[u8],
-) -> Result<(), AllocError> {
+/// Whether a serving ends with `Read` where the reader fails behind this text, and answers that by then.
+fn is_torn(alloc: Global, text: &[u8], expected: &[u8]) -> Result<bool, AllocError> {
     let mut sink = BufferSink::with_room(alloc, 100)?;
-    let mut source = ReadSource::new(Torn {
-        left: text.as_bytes(),
-    });
+    let mut source = ReadSource::new(Torn { left: text });
     let ends = serve(alloc, &mut source, &mut sink, 1);
-    assert_eq!(rt; ends, Err(ServeFault::Read), "behind {text}");
-    assert_eq!(rt; sink.bytes(), expected, "behind {text}");
-    Ok(())
+    Ok(ends == Err(ServeFault::Read) && sink.bytes() == expected)
+}
+
+/// Whether a serving of that text ends so, and has written so much by then, where a writer has room for ten bytes.
+fn is_cut(
+    alloc: Global,
+    text: &[u8],
+    ends: Result<u64, ServeFault>,
+    expected: &[u8],
+) -> Result<bool, AllocError> {
+    let mut sink = Slow {
+        inner: BufferSink::with_room(alloc, 10)?,
+    };
+    let mut source = SliceSource::new(text);
+    let ended = serve(alloc, &mut source, &mut sink, 1);
+    Ok(ended == ends && sink.inner.bytes() == expected)
 }
 
 #[test]
 fn lines_that_ended_before_a_failure_are_answered(rt: HostRuntime) -> Result<(), Fail> {
-    for (text, expected) in [
-        ("{}\n", NO_VERB),
-        // A line that is cut off is not.
-        ("{}\n{}", NO_VERB),
-        ("{}", b"".as_slice()),
-        ("", b"".as_slice()),
-    ] {
-        assert_torn(&rt, rt.alloc(), text, expected)?;
-    }
+    assert!(rt; is_torn(rt.alloc(), b"{}\n", NO_VERB)?);
+    // A line that is cut off is not.
+    assert!(rt; is_torn(rt.alloc(), b"{}\n{}", NO_VERB)?);
+    assert!(rt; is_torn(rt.alloc(), b"{}", b"")?);
+    assert!(rt; is_torn(rt.alloc(), b"", b"")?);
+    let mut reader = ReadSource::new(Torn { left: b"{}\n" });
+    let is_fault = matches!(read_all(rt.alloc(), &mut reader), Err(InputFault::Read));
+    assert!(rt; is_fault);
     Ok(())
 }
 
 #[test]
 fn a_full_writer_ends_the_serving(rt: HostRuntime) -> Result<(), Fail> {
     let ends = Err(ServeFault::Write);
-    Ok(assert_answers(&rt, rt.alloc(), b"{}\n{}\n", 10, ends, b"{\"code\":40")?)
-}
-
-/// Asserts how the serving by a store of that capacity ends, and what is written by then.
-fn assert_serves_by(
-    rt: &impl Abort,
-    alloc: Global,
-    streams: (&mut SliceSource, &mut BufferSink),
-    capacity: u64,
-    ends: Result<u64, ServeFault>,
-    expected: &[u8],
-) {
-    let (source, sink) = streams;
-    assert_ends(rt, alloc, source, sink, capacity, ends);
-    assert_eq!(rt; sink.bytes(), expected, "of capacity {capacity}");
-}
-
-#[test]
-fn a_capacity_out_of_range_is_refused(rt: HostRuntime) -> Result<(), Fail> {
-    let mut sink = BufferSink::with_room(rt.alloc(), 100)?;
-    let mut source = SliceSource::new(b"{}\n");
-    let refused = Err(ServeFault::BadCapacity);
-    for (capacity, ends, expected) in [
-        (0, refused, b"".as_slice()),
-        (1_048_577, refused, b"".as_slice()),
-        (1_048_576, Ok(1), NO_VERB),
-    ] {
-        assert_serves_by(
-            &rt,
-            rt.alloc(),
-            (&mut source, &mut sink),
-            capacity,
-            ends,
-            expected,
-        );
-    }
-    Ok(())
-}
-
-#[test]
-fn readers_and_writers_of_std_serve(rt: HostRuntime) -> Result<(), Fail> {
-    let input: &[u8] = b"{}\n";
-    let mut given = Vec::new(rt.alloc());
-    let mut source = ReadSource::new(input);
-    let mut sink = WriteSink::new(&mut given);
-    assert_ends(&rt, rt.alloc(), &mut source, &mut sink, 1, Ok(1));
-    assert_eq!(rt; given.as_slice(), NO_VERB);
+    assert!(rt; is_cut(rt.alloc(), b"{}\n{}\n", ends, b"{\"code\":40")?);
+    assert!(rt; is_cut(rt.alloc(), b"", Ok(0), b"")?);
     Ok(())
 }
