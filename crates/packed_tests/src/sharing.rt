@@ -1,4 +1,5 @@
 //! Which base an object is packed beside, and how many bytes that takes.
+use crate::asserts::assert_so;
 use crate::packing::packed;
 use objects::ReadError;
 use packed::{Packed, Packer};
@@ -11,12 +12,15 @@ const DB_0: &str =
 const WEB_0: &str =
     r#"{"kind":"Pod","metadata":{"annotations":{"note":"what the shop shows by day and by night"},"generation":1,"name":"web-0","namespace":"default","resourceVersion":"2","uid":"00000000-0000-4000-8000-000000000002"},"spec":{"containers":[{"image":"web:1","name":"web"}],"hostname":"front"}}"#;
 
+const LONG_0: &str =
+    r#"{"kind":"Pod","metadata":{"annotations":{"note":"abcdefghijabcdefghijabcdefghijabcdefghijabcdefghijabcdefghijabcdefghijabcdefghijabcdefghijabcdefghijabcdefghijabcdefghijabcdefghijabcdefghijabcdefghijabcdefghijabcdefghijabcdefghijabcdefghijabcdefghijabcdefghijabcdefghijabcdefghijabcdefghij"},"generation":1,"name":"long-0","namespace":"default","resourceVersion":"8","uid":"00000000-0000-4000-8000-000000000008"},"spec":{"image":"registry/database:1.2.3"}}"#;
+
 /// A text, that of its base, and how many bytes the object takes.
 type Row = (&'static str, &'static str, usize);
 
-/// Objects of two sets in turn. The first of a set takes its own text. Of the others a delta has a piece for each number that
+/// Objects of three sets in turn. The first of a set takes its own text. Of the others a delta has a piece for each number that
 /// differs, of three bytes and the digit that it adds, and a piece of three bytes for the rest.
-static IN_TURN: [Row; 6] = [
+static IN_TURN: [Row; 8] = [
     (DB_0, DB_0, 198),
     (WEB_0, WEB_0, 285),
     (
@@ -39,6 +43,14 @@ static IN_TURN: [Row; 6] = [
         r#"{"kind":"Pod","metadata":{"annotations":{"note":"what the shop shows by day and by night"},"generation":1,"name":"web-2","namespace":"default","resourceVersion":"6","uid":"00000000-0000-4000-8000-000000000006"},"spec":{"containers":[{"image":"web:12","name":"web"}],"hostname":"front"}}"#,
         WEB_0,
         4 * 4 + 3,
+    ),
+    (LONG_0, LONG_0, 456),
+    // A delta too long for the value itself. A piece copies the first 255 bytes, and the last one adds an image of 72 bytes
+    // and the three behind it, which are too few to be looked for.
+    (
+        r#"{"kind":"Pod","metadata":{"annotations":{"note":"abcdefghijabcdefghijabcdefghijabcdefghijabcdefghijabcdefghijabcdefghijabcdefghijabcdefghijabcdefghijabcdefghijabcdefghijabcdefghijabcdefghijabcdefghijabcdefghijabcdefghijabcdefghijabcdefghijabcdefghijabcdefghijabcdefghijabcdefghijabcdefghij"},"generation":1,"name":"long-1","namespace":"default","resourceVersion":"9","uid":"00000000-0000-4000-8000-000000000009"},"spec":{"image":"0123456789abcdefghijklmnopqrstuvwxyz0123456789abcdefghijklmnopqrstuvwxyz"}}"#,
+        LONG_0,
+        3 + 3 * 4 + 3 + 72 + 3,
     ),
 ];
 
@@ -64,13 +76,14 @@ fn in_turn(alloc: Global, packer: &mut Packer) -> Result<Vec<Packed>, ReadError>
 }
 
 #[test]
-fn objects_of_two_sets_find_the_bases_of_their_own(rt: HostRuntime) -> Result<(), Fail> {
+fn objects_find_the_bases_of_their_sets(rt: HostRuntime) -> Result<(), Fail> {
     let mut packer = Packer::new(rt.alloc());
     let objects = in_turn(rt.alloc(), &mut packer)?;
     for (object, row) in objects.iter().zip(IN_TURN.iter()) {
-        assert!(rt; is_kept(object, row), "of {}", row.0);
-        // Three objects of the set, and the packer.
-        assert!(rt; object.sharers() == 4, "of {}", row.0);
+        assert_so(&rt, is_kept(object, row), row.0);
+        // The objects of the set, three or two, and the packer.
+        let sharers = if row.1 == LONG_0 { 3 } else { 4 };
+        assert_so(&rt, object.sharers() == sharers, row.0);
     }
     Ok(())
 }
@@ -78,14 +91,10 @@ fn objects_of_two_sets_find_the_bases_of_their_own(rt: HostRuntime) -> Result<()
 #[test]
 fn a_later_version_takes_the_base_of_the_one_before(rt: HostRuntime) -> Result<(), Fail> {
     let first = packed(rt.alloc(), &mut Packer::new(rt.alloc()), DB_0, None)?;
-    let next = packed(
-        rt.alloc(),
-        &mut Packer::new(rt.alloc()),
-        DB_0_LATER,
-        Some(&first),
-    )?;
+    let mut other = Packer::new(rt.alloc());
+    let next = packed(rt.alloc(), &mut other, DB_0_LATER, Some(&first))?;
     assert!(rt; is_kept(&next, &(DB_0_LATER, DB_0, 4 + 3)));
-    // Both packers are gone.
+    // The first packer is gone, and the other one has another base or none.
     assert!(rt; next.sharers() == 2);
     Ok(())
 }
