@@ -112,7 +112,8 @@ fn has_length(alloc: Global, base: &Made, text: &Made, length: usize) -> Result<
     let is_made = write_delta(&base, &text, length, &mut delta)?;
     let mut shorter = Vec::new(alloc);
     let is_shorter = write_delta(&base, &text, length.saturating_sub(1), &mut shorter)?;
-    Ok(is_made && !is_shorter && delta.len() == length && encodes(alloc, &base, &delta, &text)?)
+    let is_encoded = encodes(alloc, &base, &delta, &text)?;
+    Ok(is_made && !is_shorter && is_encoded && delta.len() == length)
 }
 
 #[test]

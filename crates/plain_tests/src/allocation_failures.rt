@@ -12,7 +12,7 @@ fn serves_or_stops(alloc: Global, lines: &str, replies: &str) -> Result<bool, Al
     let mut reader = SliceSource::new(lines.as_bytes());
     let mut writer = BufferSink::with_room(alloc, replies.len())?;
     match serve(alloc, &mut reader, &mut writer, 100) {
-        Ok(count) => Ok(count == 22 && writer.bytes() == replies.as_bytes()),
+        Ok(count) => Ok(count == 24 && writer.bytes() == replies.as_bytes()),
         Err(fault) => {
             Ok(fault == ServeFault::Memory && replies.as_bytes().starts_with(writer.bytes()))
         }
