@@ -1,0 +1,142 @@
+"""Scripts of controllers, by docs/REFERENCE.md and docs/CLUSTERS.md. What a controller asks is read from the program; that it goes
+round as it is drawn, and that the store keeps its promises, is looked at in the printed order."""
+import json
+
+from interleaved import Interleaved
+from judging import Fault, check_replies, places_of, said_by, taken_in, word_of
+from store_of_maps import WRITES, key_of
+
+
+class Cluster:
+    """The world of a script of controllers, whose requests are those that the program says at their places."""
+
+    def __init__(self, size, said, places):
+        self.world = Interleaved(size["shards"], size["capacity"], places)
+        self.callers = list(range(len(size["sets"])))
+        self.owners = {caller: caller for caller in self.callers}
+        self.asked = {line["at"]: line for line in said if "request" in line}
+
+    def take(self, line):
+        event, caller = line["event"], line.get("caller")
+        if "controller" in line and line["controller"] >= len(self.callers):
+            return
+        if event == "next":
+            self.next(line["controller"])
+        elif event == "run":
+            self.world.run(self.callers[line["controller"]])
+        elif "controller" in line:
+            self.crash(line["controller"])
+        elif event == "outside" and self.owners.get(caller) is None:
+            self.owners[caller] = None
+            self.world.call(caller, line["request"])
+        elif event == "raise" or event != "outside" and caller in self.owners and (event != "crash" or caller not in self.callers):
+            self.world.step(event, caller)
+
+    def next(self, controller):
+        caller = self.callers[controller]
+        if caller in self.world.phases:
+            return
+        asked = self.asked.pop(self.world.count, {})
+        if (asked.get("caller"), asked.get("controller")) != (caller, controller):
+            raise Fault(f"controller {controller} does not ask as caller {caller} at {self.world.count}")
+        self.world.call(caller, asked["request"])
+
+    def crash(self, controller):
+        self.world.step("crash", self.callers[controller])
+        caller = next(number for number in range(len(self.owners) + 1) if number not in self.owners)
+        self.callers[controller], self.owners[caller] = caller, controller
+
+
+WRITTEN = ("Updated", "Unchanged")
+ACCEPTED = {"create": ("Created",), "update": WRITTEN, "status": WRITTEN, "delete": ("Removed", "Marked", "Unchanged")}
+# What a controller asks next: at 0 its set, at 1 to 8 a list of these kinds, but at 4 the writes of its plan come first, and at
+# 9 deletes of claims, or its set again.
+SET, POD, REVISION, CLAIM = "StatefulSet", "Pod", "ControllerRevision", "PersistentVolumeClaim"
+LISTS = ("", REVISION, POD, CLAIM, CLAIM, SET, POD, REVISION, CLAIM, "")
+PLAN, COLLECTION = 4, 9
+
+
+class Round:
+    """Where a controller stands in its round, and what it was listed there."""
+
+    def __init__(self):
+        self.begin(0, False)
+
+    def begin(self, at, plans):
+        self.at, self.plans, self.heard, self.pods = at, plans, set(), {}
+
+    def hears(self, request, reply):
+        verb, word = request["do"], word_of(reply)
+        kind = request.get("kind") or request["object"]["kind"]
+        if (verb, kind) == ("get", SET) and self.at in (0, COLLECTION):
+            self.begin(1 if word == "Found" else PLAN, word == "Found")
+        elif verb == "list" and kind == LISTS[self.at]:
+            self.at += 1
+            self.heard |= {held["metadata"]["uid"] for held in reply["items"]}
+            if kind == POD:
+                self.pods = {key_of({"object": held}): held for held in reply["items"]}
+        elif verb in WRITES and self.at == PLAN and self.plans:
+            self.at = PLAN if word in ACCEPTED[verb] else 0
+        elif (verb, kind, self.at) != ("delete", CLAIM, COLLECTION):
+            raise Fault(f"a controller asks {verb} {kind} where it stands at {self.at} of its round")
+
+
+def is_healthy(pod):
+    status = pod.get("status", {})
+    ready = any((one.get("type"), one.get("status")) == ("Ready", "True") for one in status.get("conditions", []))
+    return ready and status.get("phase") == "Running" and "deletionTimestamp" not in pod["metadata"]
+
+
+def check_create(key, round, lives):
+    """What a controller creates has a free name, and of a pod each lower one is healthy in its last list."""
+    if key in lives:
+        raise Fault(f"{key} lives twice")
+    if round and key[0] == POD:
+        name, ordinal = key[2].rsplit("-", 1)
+        lower = [round.pods.get((POD, key[1], f"{name}-{number}")) for number in range(int(ordinal))]
+        if key in round.pods or not all(pod and is_healthy(pod) for pod in lower):
+            raise Fault(f"{key} is created out of turn")
+
+
+def check_taken(held, round, objects):
+    """What a controller marks or removes was listed to it; and no owner of a claim that it removes lives."""
+    if held["metadata"]["uid"] not in round.heard:
+        raise Fault(f"a controller takes {held['metadata']['name']}, which was not listed to it")
+    owners = {owner["uid"] for owner in held["metadata"].get("ownerReferences", [])}
+    here = {other["metadata"]["uid"] for key, other in objects.items() if key[1] == held["metadata"]["namespace"]}
+    if held["kind"] == CLAIM and owners & here:
+        raise Fault(f"claim {held['metadata']['name']} is removed beside an owner")
+
+
+def check_promises(cluster, order, capacity):
+    """Each round goes as it is drawn, and the store keeps its promises in that order."""
+    rounds, lives = {caller: Round() for caller, owner in cluster.owners.items() if owner is not None}, {}
+    for caller, request, reply, objects in taken_in(cluster.world, order, capacity):
+        round, word = rounds.get(caller), word_of(reply)
+        if word == "Created":
+            check_create(key_of(request), round, lives)
+            lives[key_of(request)] = reply["object"]["metadata"]["uid"]
+        elif word in ("Marked", "Removed"):
+            if lives.get(key_of(request)) != reply["object"]["metadata"]["uid"]:
+                raise Fault(f"{key_of(request)} is removed by another UID")
+            if round:
+                check_taken(reply["object"], round, objects)
+            if word == "Removed":
+                del lives[key_of(request)]
+        if round:
+            round.hears(request, reply)
+        yield ("controller " if round else "") + f"{request['do']} {word} {request.get('kind') or request['object']['kind']}"
+
+
+def run_cluster(program, lines):
+    """Runs a script of controllers: what is said, and in short what a plain store takes in the printed order."""
+    said = [json.loads(line) for line in said_by(program, ["cluster"], lines)]
+    requests = [line["request"] for line in [*lines, *said] if "request" in line]
+    keys = {key_of(request) for request in requests if request["do"] not in ("list", "compact")}
+    cluster = Cluster(lines[0], said, places_of(program, lines[0]["shards"], keys))
+    for line in lines[1:]:
+        cluster.take(line)
+    if cluster.asked:
+        raise Fault(f"a request at {min(cluster.asked)} that no line calls for")
+    check_replies(cluster.world, said)
+    return said, list(check_promises(cluster, said[-1]["order"], lines[0]["capacity"]))
