@@ -1,193 +1,162 @@
-//! Controllers, a kubelet and an operator in random turns.
-use crate::checks::{first_fault, removed};
-use crate::sample::Step::{Ask, Crash, Line};
-use crate::sample::{Step, taken_of};
-use controllers::Taken;
-use objects::Kind;
-use std::alloc::{AllocError, Global};
-use std::process::Abort;
-use std::test::Fail;
+//! What happens to one controller, turn by turn. Where an allocation is refused, the controller is asked once more.
+use crate::sample::{Asked, controller, is_asked, request_of, store};
+use controllers::Controller;
+use objects::{Memory, Object};
+use plain::{Plain, Reason, Reply, Request};
+use sets::PlanError;
+use std::alloc::Global;
 
-const MAKE: &str =
-    r#"{"do":"create","object":{"kind":"StatefulSet","metadata":{"name":"web"},"spec":{"replicas":3,"template":{}}}}"#;
-
-static STEPS: [Step; 32] = [
-    Line(MAKE),
-    Line(
-        r#"{"do":"status","object":{"kind":"Pod","metadata":{"name":"web-0"},"status":{"conditions":[{"status":"True","type":"Ready"}],"phase":"Running"}}}"#,
-    ),
-    Line(
-        r#"{"do":"status","object":{"kind":"Pod","metadata":{"name":"web-1"},"status":{"conditions":[{"status":"True","type":"Ready"}],"phase":"Running"}}}"#,
-    ),
-    Line(
-        r#"{"do":"status","object":{"kind":"Pod","metadata":{"name":"web-2"},"status":{"conditions":[{"status":"True","type":"Ready"}],"phase":"Running"}}}"#,
-    ),
-    Line(
-        r#"{"do":"status","object":{"kind":"Pod","metadata":{"name":"web-0"},"status":{"phase":"Failed"}}}"#,
-    ),
-    Line(r#"{"do":"delete","kind":"Pod","name":"web-0"}"#),
-    Line(r#"{"do":"delete","kind":"Pod","name":"web-1"}"#),
-    Line(r#"{"do":"delete","kind":"Pod","name":"web-2"}"#),
-    Line(
-        r#"{"do":"update","object":{"kind":"StatefulSet","metadata":{"name":"web"},"spec":{"replicas":3,"template":{}}}}"#,
-    ),
-    Line(
-        r#"{"do":"update","object":{"kind":"StatefulSet","metadata":{"name":"web"},"spec":{"replicas":1,"template":{}}}}"#,
-    ),
-    Line(
-        r#"{"do":"update","object":{"kind":"StatefulSet","metadata":{"name":"web"},"spec":{"replicas":3,"template":{"metadata":{"labels":{"a":"b"}}}}}}"#,
-    ),
-    Line(r#"{"do":"delete","kind":"StatefulSet","name":"web"}"#),
-    Crash(0),
-    Crash(1),
-    Ask(0, 4),
-    Ask(1, 4),
-    Ask(2, 4),
-    Ask(0, 1),
-    Ask(1, 1),
-    Ask(2, 1),
-    Ask(0, 5),
-    Ask(1, 5),
-    Ask(2, 5),
-    Ask(0, 2),
-    Ask(1, 2),
-    Ask(2, 2),
-    Ask(0, 10),
-    Ask(1, 10),
-    Ask(2, 10),
-    Ask(0, 3),
-    Ask(1, 3),
-    Ask(2, 3),
-];
-
-/// The sets `db` and `web-db` call the claims of their pods by the same names, and retain them or own them.
-static CLAIMED: [Step; 32] = [
-    Line(
-        r#"{"do":"create","object":{"kind":"StatefulSet","metadata":{"name":"db"},"spec":{"persistentVolumeClaimRetentionPolicy":{"whenDeleted":"Delete"},"replicas":2,"template":{},"volumeClaimTemplates":[{"metadata":{"name":"data-web"}}]}}}"#,
-    ),
-    Line(
-        r#"{"do":"create","object":{"kind":"StatefulSet","metadata":{"name":"web-db"},"spec":{"persistentVolumeClaimRetentionPolicy":{"whenDeleted":"Delete","whenScaled":"Delete"},"replicas":2,"template":{},"volumeClaimTemplates":[{"metadata":{"name":"data"}}]}}}"#,
-    ),
-    Line(
-        r#"{"do":"update","object":{"kind":"StatefulSet","metadata":{"name":"db"},"spec":{"replicas":2,"template":{},"volumeClaimTemplates":[{"metadata":{"name":"data-web"}}]}}}"#,
-    ),
-    Line(
-        r#"{"do":"update","object":{"kind":"StatefulSet","metadata":{"name":"web-db"},"spec":{"persistentVolumeClaimRetentionPolicy":{"whenDeleted":"Delete","whenScaled":"Delete"},"replicas":1,"template":{},"volumeClaimTemplates":[{"metadata":{"name":"data"}}]}}}"#,
-    ),
-    Line(
-        r#"{"do":"status","object":{"kind":"Pod","metadata":{"name":"db-0"},"status":{"conditions":[{"status":"True","type":"Ready"}],"phase":"Running"}}}"#,
-    ),
-    Line(
-        r#"{"do":"status","object":{"kind":"Pod","metadata":{"name":"db-1"},"status":{"conditions":[{"status":"True","type":"Ready"}],"phase":"Running"}}}"#,
-    ),
-    Line(
-        r#"{"do":"status","object":{"kind":"Pod","metadata":{"name":"web-db-0"},"status":{"conditions":[{"status":"True","type":"Ready"}],"phase":"Running"}}}"#,
-    ),
-    Line(
-        r#"{"do":"status","object":{"kind":"Pod","metadata":{"name":"web-db-1"},"status":{"conditions":[{"status":"True","type":"Ready"}],"phase":"Running"}}}"#,
-    ),
-    Line(r#"{"do":"delete","kind":"Pod","name":"db-0"}"#),
-    Line(r#"{"do":"delete","kind":"Pod","name":"db-1"}"#),
-    Line(r#"{"do":"delete","kind":"Pod","name":"web-db-0"}"#),
-    Line(r#"{"do":"delete","kind":"Pod","name":"web-db-1"}"#),
-    Line(r#"{"do":"delete","kind":"StatefulSet","name":"db"}"#),
-    Line(r#"{"do":"delete","kind":"StatefulSet","name":"web-db"}"#),
-    Crash(0),
-    Crash(1),
-    Ask(0, 4),
-    Ask(1, 4),
-    Ask(2, 4),
-    Ask(0, 1),
-    Ask(1, 1),
-    Ask(2, 1),
-    Ask(0, 5),
-    Ask(1, 5),
-    Ask(2, 5),
-    Ask(0, 2),
-    Ask(1, 2),
-    Ask(2, 2),
-    Ask(0, 10),
-    Ask(1, 10),
-    Ask(2, 10),
-    Ask(0, 3),
-];
-
-/// The next number of a sequence (a linear congruential generator).
-fn next_number(number: u64) -> u64 {
-    number
-        .wrapping_mul(6_364_136_223_846_793_005)
-        .wrapping_add(1_442_695_040_888_963_407)
+/// What happens to the controller of the set `web`.
+pub(crate) enum Turn {
+    /// Its next request is this one.
+    Next(Asked),
+    /// It asks these, and the store answers.
+    Asks(&'static [Asked]),
+    /// The store answers so many of its requests.
+    Goes(u8),
+    /// It is told that nothing is there, or of a compaction, or that what it asked to delete is removed, is marked, or stays as
+    /// it is.
+    Told(&'static str),
+    Crash,
+    /// Somebody else asks the request of this line.
+    Line(&'static str),
+    /// Its last plan was refused as this; or it was not, `none`.
+    Refused(&'static str),
 }
 
-/// These steps in random turns, after the first one.
-fn random_steps(
-    alloc: Global,
-    choices: &[Step; 32],
-    seed: u64,
-    count: usize,
-) -> Result<Vec<Step>, AllocError> {
-    let mut steps = Vec::new(alloc);
-    steps.push(choices[0])?;
-    let mut number = seed;
-    for _ in 0..count {
-        number = next_number(number);
-        let place = (number >> 33) as usize % choices.len();
-        steps.push(choices[place])?;
-    }
-    Ok(steps)
-}
-
-/// What a new store takes from controllers of these sets in 200 random turns.
-fn taken_at_random(
-    alloc: Global,
-    names: &[&'static str],
-    choices: &[Step; 32],
-    seed: u64,
-) -> Result<Vec<Taken>, Fail> {
-    let steps = random_steps(alloc, choices, seed, 200)?;
-    let taken = taken_of(alloc, names, steps.as_slice());
-    drop(steps);
-    Ok(taken?)
-}
-
-fn assert_kept(rt: &impl Abort, seed: u64, taken: &[Taken]) {
-    assert!(rt; taken.len() > 200);
-    if let Some(fault) = first_fault(taken) {
-        assert!(rt; false, "seed {seed}: {fault}");
-    }
-}
-
-#[test]
-fn random_clusters_keep_the_promises(rt: HostRuntime) -> Result<(), Fail> {
-    for seed in 1..9u64 {
-        let taken = taken_at_random(rt.alloc(), &["web", "web", "web"], &STEPS, seed)?;
-        assert_kept(&rt, seed, taken.as_slice());
-        drop(taken);
-    }
-    Ok(())
-}
-
-/// Whether a controller collected a claim.
-fn has_collected(taken: &[Taken]) -> bool {
-    for entry in taken {
-        if let Some(object) = removed(entry) {
-            if entry.0.is_some() && object.key.kind == Kind::PersistentVolumeClaim {
-                return true;
+/// The next request. Where memory was short a second call has it, and a reply between them, which would end the round, is not
+/// waited for.
+fn next_at_last(web: &mut Controller) -> Option<Request> {
+    match web.next() {
+        Ok(request) => Some(request),
+        Err(Memory) => {
+            if web.take(&Reply::Compacted { revision: 1 }).is_err() {
+                return None;
             }
+            web.next().ok()
         }
     }
-    false
 }
 
-#[test]
-fn random_owners_of_shared_claims_keep_the_promises(rt: HostRuntime) -> Result<(), Fail> {
-    let mut collected = false;
-    for seed in 1..9u64 {
-        let taken = taken_at_random(rt.alloc(), &["db", "web-db", "db"], &CLAIMED, seed)?;
-        assert_kept(&rt, seed, taken.as_slice());
-        collected = collected || has_collected(taken.as_slice());
-        drop(taken);
+fn takes_at_last(web: &mut Controller, reply: Reply) -> bool {
+    let is_taken = web.take(&reply).is_ok() || web.take(&reply).is_ok();
+    drop(reply);
+    is_taken
+}
+
+fn is_next(web: &mut Controller, wanted: &Asked) -> bool {
+    let Some(request) = next_at_last(web) else {
+        return false;
+    };
+    let is_so = is_asked(&request, wanted);
+    drop(request);
+    is_so
+}
+
+fn goes_on(plain: &mut Plain, web: &mut Controller) -> Result<bool, Memory> {
+    let Some(request) = next_at_last(web) else {
+        return Ok(false);
+    };
+    let reply = plain.take(request)?;
+    Ok(takes_at_last(web, reply))
+}
+
+fn goes(plain: &mut Plain, web: &mut Controller, times: u8) -> Result<bool, Memory> {
+    for _ in 0..times {
+        if !goes_on(plain, web)? {
+            return Ok(false);
+        }
     }
-    assert!(rt; collected);
-    Ok(())
+    Ok(true)
+}
+
+fn asks(plain: &mut Plain, web: &mut Controller, wanted: &[Asked]) -> Result<bool, Memory> {
+    for asked in wanted {
+        if !is_next(web, asked) || !goes_on(plain, web)? {
+            return Ok(false);
+        }
+    }
+    Ok(true)
+}
+
+/// What a delete is answered with here.
+fn pod(alloc: Global) -> Result<Object, Memory> {
+    let line = r#"{"do":"create","object":{"kind":"Pod","metadata":{"name":"web-0"}}}"#;
+    match request_of(alloc, line)? {
+        Request::Create(draft) => Ok(draft.object),
+        _ => Err(Memory),
+    }
+}
+
+fn reply(alloc: Global, word: &str) -> Result<Reply, Memory> {
+    Ok(match word {
+        "NotFound" => Reply::Refused(Reason::NotFound),
+        "Removed" => Reply::Removed(pod(alloc)?),
+        "Marked" => Reply::Marked(pod(alloc)?),
+        "Unchanged" => Reply::Unchanged(pod(alloc)?),
+        _ => Reply::Compacted { revision: 1 },
+    })
+}
+
+fn refusal_name(web: &Controller) -> &'static str {
+    match web.last_refusal() {
+        None => "none",
+        Some(PlanError::BadSpec) => "BadSpec",
+        Some(PlanError::OrdinalTooLarge) => "OrdinalTooLarge",
+        Some(_) => "another",
+    }
+}
+
+fn takes_line(alloc: Global, plain: &mut Plain, line: &str) -> Result<bool, Memory> {
+    drop(plain.take(request_of(alloc, line)?)?);
+    Ok(true)
+}
+
+fn happens(
+    alloc: Global,
+    plain: &mut Plain,
+    web: &mut Controller,
+    turn: &Turn,
+) -> Result<bool, Memory> {
+    match turn {
+        Turn::Next(wanted) => Ok(is_next(web, wanted)),
+        Turn::Asks(wanted) => asks(plain, web, wanted),
+        Turn::Goes(times) => goes(plain, web, *times),
+        Turn::Told(word) => Ok(takes_at_last(web, reply(alloc, word)?)),
+        Turn::Crash => {
+            web.crash();
+            Ok(true)
+        }
+        Turn::Line(line) => takes_line(alloc, plain, line),
+        Turn::Refused(wanted) => Ok(refusal_name(web) == *wanted),
+    }
+}
+
+fn all_happen(
+    alloc: Global,
+    plain: &mut Plain,
+    web: &mut Controller,
+    turns: &[Turn],
+) -> Result<bool, Memory> {
+    for turn in turns {
+        if !happens(alloc, plain, web, turn)? {
+            return Ok(false);
+        }
+    }
+    Ok(true)
+}
+
+fn happen_over(alloc: Global, plain: &mut Plain, turns: &[Turn]) -> Result<bool, Memory> {
+    let mut web = controller(alloc)?;
+    let are_so = all_happen(alloc, plain, &mut web, turns);
+    drop(web);
+    are_so
+}
+
+/// Whether the turns go as they say, with a new controller and a new store.
+pub(crate) fn happen(alloc: Global, turns: &[Turn]) -> Result<bool, Memory> {
+    let mut plain = store(alloc)?;
+    let are_so = happen_over(alloc, &mut plain, turns);
+    drop(plain);
+    are_so
 }
