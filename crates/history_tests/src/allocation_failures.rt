@@ -1,171 +1,103 @@
-//! Allocation failures. `rt try --test --fail-alloc N` refuses the Nth allocation of each test. From 1 on, up to an N that no
-//! test of this file comes to, it has to pass: one call may want memory, and the same call after it is ample.
-
-use crate::replays::{CRASHES, STRANGE_STEPS};
-use crate::runs::{Case, events_of};
-use crate::traces::{EARLY_CONFLICT, trace};
-use history::{Event, Item, Replay, ReplayError, Run, Trace, check_order, replay};
+//! Allocation failures. `checks/allocations` refuses each allocation of each test in turn, and each has to pass: one call may
+//! want memory, and the same call after it is ample. A test says nothing where what it needs itself is refused.
+use crate::orders::{EARLY_CONFLICT, trace};
+use crate::steps::{events, is_right};
+use history::{Event, Replay, ReplayError, check_order, replay};
 use objects::Memory;
 use std::alloc::Global;
-use std::process::Abort;
-use std::test::Fail;
-
-/// Whether the order is found legal; else memory ran out.
-fn is_ample(alloc: Global, trace: &Trace) -> bool {
-    match check_order(alloc, trace, &[0, 16, 6, 9, 13]) {
-        Ok(legal) => legal,
-        Err(Memory) => false,
-    }
-}
 
 #[test]
-fn an_allocation_failure_is_answered(rt: HostRuntime) -> Result<(), Fail> {
+fn an_order_is_checked_after_an_allocation_failure(rt: HostRuntime) {
     let Ok(trace) = trace(rt.alloc(), 100, EARLY_CONFLICT.as_slice()) else {
-        return Ok(());
+        return;
     };
-    let first = is_ample(rt.alloc(), &trace);
-    let second = is_ample(rt.alloc(), &trace);
+    let order = [0, 16, 6, 9, 13];
+    let first = check_order(rt.alloc(), &trace, &order);
+    let second = check_order(rt.alloc(), &trace, &order);
     drop(trace);
-    assert!(rt; first || second);
-    Ok(())
+    assert!(rt; first.is_ok() || second.is_ok());
+    assert!(rt; first.unwrap_or(true) && second.unwrap_or(true));
 }
 
-/// A run of the events, or none where memory ran out.
-fn ample(rt: &impl Abort, alloc: Global, events: &[Event]) -> Option<Run> {
+/// Whether the run of the events is right; or memory ran out.
+fn replays(alloc: Global, events: &[Event]) -> Result<bool, Memory> {
     match replay(alloc, 2, 100, events) {
-        Ok(run) => Some(run),
-        Err(error) => {
-            assert_eq!(rt; error, ReplayError::Memory);
-            None
+        Ok(run) => {
+            let is_so = is_right(&run);
+            drop(run);
+            Ok(is_so)
         }
+        Err(ReplayError::Memory) => Err(Memory),
+        Err(_) => Ok(false),
     }
-}
-
-fn is_same_item(left: &Item, right: &Item) -> bool {
-    match left {
-        Item::Call {
-            place,
-            caller,
-            request: _,
-        } => {
-            matches!(right, Item::Call { place: p, caller: c, request: _ } if *p == *place && *c == *caller)
-        }
-        Item::Reply {
-            place,
-            caller,
-            reply,
-        } => {
-            matches!(right, Item::Reply { place: p, caller: c, reply: r } if *p == *place && *c == *caller && reply.is_same(r))
-        }
-    }
-}
-
-fn assert_same(rt: &impl Abort, left: &Run, right: &Run, name: &str) {
-    assert_eq!(rt; left.order.as_slice(), right.order.as_slice(), "of {name}");
-    assert_eq!(rt;
-        left.trace.items.len(),
-        right.trace.items.len(),
-        "of {name}"
-    );
-    let items = left.trace.items.iter().zip(right.trace.items.iter());
-    for (i, (left, right)) in items.enumerate() {
-        assert!(rt; is_same_item(left, right), "item {i} of {name}");
-    }
-}
-
-/// Asserts that of two runs one is ample, and that two which are ample are the same.
-fn assert_ample(rt: &impl Abort, first: &Option<Run>, second: &Option<Run>, name: &str) {
-    assert!(rt; first.is_some() || second.is_some(), "of {name}");
-    if let (Some(first), Some(second)) = (first, second) {
-        assert_same(rt, first, second, name);
-    }
-}
-
-/// Asserts it of two runs of the events.
-fn assert_replayed(rt: &impl Abort, alloc: Global, events: &[Event], name: &str) {
-    let first = ample(rt, alloc, events);
-    let second = ample(rt, alloc, events);
-    assert_ample(rt, &first, &second, name);
-    drop(first);
-    drop(second);
-}
-
-fn cases() -> [&'static Case; 2] {
-    [&CRASHES, &STRANGE_STEPS]
 }
 
 #[test]
-fn a_replay_that_is_refused_an_allocation_ends(rt: HostRuntime) {
-    for case in cases() {
-        if let Ok(events) = events_of(rt.alloc(), case.steps) {
-            assert_replayed(&rt, rt.alloc(), events.as_slice(), case.name);
-            drop(events);
-        }
-    }
+fn a_replay_ends_at_an_allocation_failure(rt: HostRuntime) {
+    let Ok(events) = events(rt.alloc()) else {
+        return;
+    };
+    let first = replays(rt.alloc(), events.as_slice());
+    let second = replays(rt.alloc(), events.as_slice());
+    drop(events);
+    assert!(rt; first.is_ok() || second.is_ok());
+    assert!(rt; first.unwrap_or(true) && second.unwrap_or(true));
 }
 
-/// How many events a run has taken, and which of the callers from 0 to 3 are idle.
-type Shown = (u64, [bool; 4]);
-
-fn shown(replay: &Replay) -> Shown {
+/// How many events a run has taken, and which of the callers from 1 to 5 are idle.
+fn shown(replay: &Replay) -> (u64, [bool; 5]) {
     let idle = [
-        replay.idle(0),
         replay.idle(1),
         replay.idle(2),
         replay.idle(3),
+        replay.idle(4),
+        replay.idle(5),
     ];
     (replay.events(), idle)
 }
 
-/// Takes an event. Where an allocation is refused all is as it was, and the event is taken once more.
-fn take(rt: &impl Abort, replay: &mut Replay, event: &Event) {
-    assert!(rt; replay.events() < u64::MAX);
-    let before = shown(replay);
+/// Whether the event is taken.
+fn takes(replay: &mut Replay, event: &Event) -> bool {
+    if replay.events() >= u64::MAX {
+        return false;
+    }
     match replay.step(event) {
-        Ok(told) => drop(told),
-        Err(error) => {
-            assert_eq!(rt; error, ReplayError::Memory);
-            take_again(rt, replay, event, before);
+        Ok(told) => {
+            drop(told);
+            true
+        }
+        Err(_) => false,
+    }
+}
+
+/// Whether the events are taken, one by one. Where an allocation is refused all is as it was, and the event is taken once more.
+fn takes_all(replay: &mut Replay, events: &[Event]) -> bool {
+    for event in events {
+        let before = shown(replay);
+        if !takes(replay, event) && (shown(replay) != before || !takes(replay, event)) {
+            return false;
         }
     }
+    true
 }
 
-/// Takes an event that was refused an allocation, and that has changed nothing.
-fn take_again(rt: &impl Abort, replay: &mut Replay, event: &Event, before: Shown) {
-    assert!(rt; replay.events() < u64::MAX);
-    assert_eq!(rt; shown(replay), before);
-    match replay.step(event) {
-        Ok(told) => drop(told),
-        Err(_) => assert!(rt; false, "two allocations were refused"),
-    }
-}
-
-/// The run of the events taken one by one, or none where memory ran out before the first.
-fn stepped(rt: &impl Abort, alloc: Global, events: &[Event]) -> Option<Run> {
+fn steps(alloc: Global, events: &[Event]) -> bool {
     let Ok(mut replay) = Replay::new(alloc, 2, 100) else {
-        return None;
+        return true;
     };
-    for event in events {
-        take(rt, &mut replay, event);
-    }
-    Some(replay.finish())
-}
-
-/// Asserts that the events taken one by one come to the run of all at once, where neither is refused an allocation as it begins.
-fn assert_stepped(rt: &impl Abort, alloc: Global, events: &[Event], name: &str) {
-    let stepped = stepped(rt, alloc, events);
-    let whole = ample(rt, alloc, events);
-    assert_ample(rt, &stepped, &whole, name);
-    drop(stepped);
-    drop(whole);
+    let are_taken = takes_all(&mut replay, events);
+    let run = replay.finish();
+    let is_so = are_taken && is_right(&run);
+    drop(run);
+    is_so
 }
 
 #[test]
 fn a_step_that_is_refused_an_allocation_changes_nothing(rt: HostRuntime) {
-    for case in cases() {
-        if let Ok(events) = events_of(rt.alloc(), case.steps) {
-            assert_stepped(&rt, rt.alloc(), events.as_slice(), case.name);
-            drop(events);
-        }
-    }
+    let Ok(events) = events(rt.alloc()) else {
+        return;
+    };
+    let is_so = steps(rt.alloc(), events.as_slice());
+    drop(events);
+    assert!(rt; is_so);
 }

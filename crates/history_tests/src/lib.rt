@@ -1,26 +1,11 @@
-//! What the check of an order answers, by traces that were worked out by hand. Tests are a crate of their own, so that a
-//! library is proved once, and they reach only what it makes public.
+//! What only a call shows of replays and of orders: orders that no replay makes, traces that are no history, and what is left
+//! after a refused allocation. Runs over lines are in `examples/replay` and `checks/races`. Tests are a crate of their own, so
+//! that a library is proved once, and they reach only what it makes public.
 #![tactic(auto)]
 
 #[cfg(test)]
 mod allocation_failures;
 #[cfg(test)]
-mod beside;
+mod orders;
 #[cfg(test)]
-mod chance;
-#[cfg(test)]
-mod crashes;
-#[cfg(test)]
-mod legal_orders;
-#[cfg(test)]
-mod limits;
-#[cfg(test)]
-mod replays;
-#[cfg(test)]
-mod runs;
-#[cfg(test)]
-mod slow;
-#[cfg(test)]
-mod strangers;
-#[cfg(test)]
-mod traces;
+mod steps;
