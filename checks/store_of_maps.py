@@ -1,4 +1,8 @@
-"""A plain store of maps, by docs/REFERENCE.md: what each request comes to, as the members of its reply line."""
+"""A slow store that keeps every map that there ever was, written from docs/REFERENCE.md alone: what each request comes to, as
+the members of its reply line. checks/model asks it what `serve` has to answer, checks/races what an order of requests gives.
+"""
+import json
+
 CODES = {"NotFound": 404, "AlreadyExists": 409, "Conflict": 409, "Invalid": 422, "StoreFull": 507, "Expired": 410, "TooLarge": 504}
 WRITES = ("create", "update", "status", "delete")
 
@@ -11,6 +15,16 @@ def answered(result, held):
     return {"code": 201 if result == "Created" else 200, "object": held, "result": result}
 
 
+def text_of(value):
+    """The compact text of a JSON value, keys in order; two values are the same where their texts are."""
+    return json.dumps(value, ensure_ascii=False, separators=(",", ":"), sort_keys=True)
+
+
+def same_member(name, left, right):
+    """Whether both have the same value there, or neither has one."""
+    return text_of([left[name]] if name in left else []) == text_of([right[name]] if name in right else [])
+
+
 def uid_of(number):
     return f"00000000-0000-4000-8000-{number:012x}"
 
@@ -19,33 +33,33 @@ def key_of(request):
     """The kind, the namespace and the name that a request names."""
     named = request.get("object", request)
     meta = named.get("metadata", named)
-    return named["kind"], meta.get("namespace", "default"), meta["name"]
+    return named["kind"], meta.get("namespace") or "default", meta["name"]
 
 
 def with_meta(held, **members):
     """The same object with these members of its metadata; one that is None is taken away."""
-    meta = {**held["metadata"], **members}
-    return {**held, "metadata": {name: value for name, value in meta.items() if value is not None}}
+    others = {name: value for name, value in held["metadata"].items() if name not in members}
+    return {**held, "metadata": {**others, **{name: value for name, value in members.items() if value is not None}}}
 
 
-def with_status(held, status):
-    """The same object with that status, or with none."""
+def with_status(held, other):
+    """The same object with the status of another, or with none."""
     rest = {name: value for name, value in held.items() if name != "status"}
-    return rest if status is None else {**rest, "status": status}
+    return {**rest, "status": other["status"]} if "status" in other else rest
 
 
 def made(request):
     """What a create makes, before its number is drawn."""
     given = request["object"]
-    body = given if given["kind"] == "ControllerRevision" else with_status(given, None)
+    body = given if given["kind"] == "ControllerRevision" else with_status(given, {})
     return with_meta(body, namespace=key_of(request)[1], deletionTimestamp=None, generation=1)
 
 
 def replaced(current, given):
     """What an update makes of an object, before its number is drawn."""
-    body = given if given["kind"] == "ControllerRevision" else with_status(given, current.get("status"))
+    body = given if given["kind"] == "ControllerRevision" else with_status(given, current)
     kept = {name: current["metadata"].get(name) for name in ("deletionTimestamp", "namespace", "resourceVersion", "uid")}
-    rises = current.get("spec") != given.get("spec")
+    rises = not same_member("spec", current, given)
     return with_meta(body, generation=current["metadata"]["generation"] + rises, **kept)
 
 
@@ -74,10 +88,10 @@ def verdict(request, current):
         if "deletionTimestamp" in current["metadata"]:
             return answered("Unchanged", current), None
         return None, ("Marked", with_meta(current, deletionTimestamp=request["at"]))
-    if verb == "update" and kind == "ControllerRevision" and current.get("data") != given.get("data"):
+    if verb == "update" and kind == "ControllerRevision" and not same_member("data", current, given):
         return refused("Invalid"), None
-    new = replaced(current, given) if verb == "update" else with_status(current, given.get("status"))
-    return (answered("Unchanged", current), None) if new == current else (None, ("Updated", new))
+    new = replaced(current, given) if verb == "update" else with_status(current, given)
+    return (answered("Unchanged", current), None) if text_of(new) == text_of(current) else (None, ("Updated", new))
 
 
 def drawn(change, number):
@@ -91,7 +105,7 @@ def drawn(change, number):
 
 def listed(request, objects, number):
     """The reply to a list over what was there at that number."""
-    wanted = request["kind"], request.get("namespace", "default")
+    wanted = request["kind"], request.get("namespace") or "default"
     items = [objects[key] for key in sorted(objects) if key[:2] == wanted]
     return {"code": 200, "items": items, "resourceVersion": str(number), "result": "Listed"}
 
