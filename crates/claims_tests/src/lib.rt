@@ -1,8 +1,0 @@
-//! What crate `claims` answers, by values that were worked out by hand. Tests are a crate of their own, so that a library is
-//! proved once, and they reach only what it makes public.
-#![tactic(auto)]
-
-#[cfg(test)]
-mod changes;
-#[cfg(test)]
-mod sample;
