@@ -67,7 +67,7 @@ fn grammar<'a>(alloc: Global) -> Result<Command<'a>, AllocError>
 {
     Command::new(alloc, "stsctl")
         .bin_name("stsctl")?
-        .version("0.2.0")
+        .version("0.3.0 (rattle-kit-13f logic dac8208d650f15bf)")
         .about(
             "A plain in-memory store of Kubernetes objects, replays of racing callers, plans of StatefulSets, and clusters and races of their controllers",
         )
