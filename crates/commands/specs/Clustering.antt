@@ -1,8 +1,7 @@
 -- What a run of the program that was asked to run a cluster has done, where the devices tell.
-use Rattle.std.specs.Prelude.{◌≡◌, ◌⊎◌, ◌≤◌, ◌<◌, ℕ, List, [], length, Option, Some, None, codes}
+use Rattle.std.specs.Prelude.{◌≡◌, ◌⊎◌, ℕ, List, [], length, Option, Some, None, codes}
 use Rattle.std.specs.Option.{IfSome}
 use Rattle.plain.specs.Streams.{Puts}
-use Rattle.plain_store.specs.Reached.{most_revisions}
 use Rattle.cluster_runs.specs.Cluster.{Cluster}
 use Rattle.cluster_runs.specs.declared.event.ClusterEvent.{ClusterEvent}
 use Rattle.cluster_runs.specs.Ran.{IsClusterRun, cluster_after, owner_in}
@@ -18,6 +17,7 @@ use Rattle.clap.specs.Words.{Text}
 use Rattle.pictures.specs.Picture.{picture_text}
 use Rattle.commands.specs.Forms.{IsFormBy}
 use Rattle.commands.specs.Grammar.{flag_text}
+use Rattle.commands.specs.Replaying.{IsSizeRefusal}
 use Rattle.commands.specs.Roles.{role_by}
 use Rattle.commands.specs.declared.form.Form.{Form}
 use Rattle.commands.specs.declared.form.Form.TheVariants.{Lines, Picture}
@@ -59,12 +59,9 @@ ClustersAs form had left before after = IfSome had (λ input. (left ≡ Some [])
 abbrev pub Clusters : List Text → Option (List ℕ) → Option (List ℕ) → Option (List ℕ) → Option (List ℕ) → Type 0
 Clusters words had left before after = (form : Form) × IsFormBy (flag_text (codes "cluster") words) form × ClustersAs form had left before after
 
--- The run of the script is refused by this name: the shards or the capacity are out of range, or more than 4,096 callers are used.
+-- the run of the script is refused as that of a replay, by the callers that are used
 abbrev pub IsClusterRunRefusal : ClusterScript → (name : List ℕ) → Type 0
-IsClusterRunRefusal script name = ((1 ≤ script.spec.shards → 64 < script.spec.shards) × (name ≡ codes "BadShards"))
-    ⊎ (((1 ≤ script.spec.shards) × (script.spec.shards ≤ 64) × (1 ≤ script.spec.capacity → most_revisions < script.spec.capacity)
-    × (name ≡ codes "BadCapacity"))
-    ⊎ ((4096 < length (cluster_by script).used) × (name ≡ codes "TooManyCallers")))
+IsClusterRunRefusal script name = IsSizeRefusal script.spec.shards script.spec.capacity (length (cluster_by script).used) name
 
 -- the name of the refusal of a run; want of memory is none
 abbrev pub cluster_refusal : ClusterFault → Option (List ℕ)

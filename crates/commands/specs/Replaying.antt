@@ -44,12 +44,16 @@ ReplaysAs form had left before after = IfSome had (λ input. (left ≡ Some [])
 abbrev pub Replays : List Text → Option (List ℕ) → Option (List ℕ) → Option (List ℕ) → Option (List ℕ) → Type 0
 Replays words had left before after = (form : Form) × IsFormBy (flag_text (codes "replay") words) form × ReplaysAs form had left before after
 
--- The run of the script's events is refused by this name: the shards or the capacity are out of range, or the events name
+-- A run of this size is refused by this name. The first that fits: the shards are out of range, then the capacity, then there are
 -- too many callers.
+abbrev pub IsSizeRefusal : (shards capacity callers : ℕ) → (name : List ℕ) → Type 0
+IsSizeRefusal shards capacity callers name = ((1 ≤ shards → 64 < shards) × (name ≡ codes "BadShards"))
+    ⊎ (((1 ≤ shards) × (shards ≤ 64) × (1 ≤ capacity → most_revisions < capacity) × (name ≡ codes "BadCapacity"))
+    ⊎ ((1 ≤ shards) × (shards ≤ 64) × (1 ≤ capacity) × (capacity ≤ most_revisions) × (4096 < callers) × (name ≡ codes "TooManyCallers")))
+
+-- the run of the script's events is refused so, by the callers that they name
 abbrev pub IsRunRefusal : Size × List Event → (name : List ℕ) → Type 0
-IsRunRefusal script name = ((1 ≤ script.0.shards → 64 < script.0.shards) × (name ≡ codes "BadShards"))
-    ⊎ (((1 ≤ script.0.shards) × (script.0.shards ≤ 64) × (1 ≤ script.0.capacity → most_revisions < script.0.capacity) × (name ≡ codes "BadCapacity"))
-    ⊎ ((4096 < callers script.1) × (name ≡ codes "TooManyCallers")))
+IsRunRefusal script name = IsSizeRefusal script.0.shards script.0.capacity (callers script.1) name
 
 -- the name of the refusal of a run; want of memory is none
 abbrev pub run_refusal : ReplayError → Option (List ℕ)
