@@ -3,12 +3,12 @@ use Rattle.std.proofs.Common.{◌≡◌, Bool, true, false, ◌||◌, List, [], 
 use Rattle.std.proofs.Math.Bool.{true-or, or-true}
 use Rattle.std.specs.List.{list_any}
 use Rattle.clap.specs.Kinds.{HasKind, IsAmong, Kinds}
-use Rattle.clap.specs.Words.{App, Text, fault_of, is_simple_and_free, kind_of}
+use Rattle.clap.specs.Words.{App, Text, fault_of, is_simple_and_free, kind_of, subcommand_of}
 use Rattle.clap.specs.declared.error.Error.{Error}
 use Rattle.clap.specs.declared.error.kind.ErrorKind.{ErrorKind}
 use Rattle.clap.specs.declared.error.kind.ErrorKind.TheVariants.{OutOfMemory}
 use Rattle.clap.proofs.OnLiterals.{clap_on_literals}
-use Rattle.commands.specs.Grammar.{faults_of, stsctl_app}
+use Rattle.commands.specs.Grammar.{NoWork, Word, asked, faults_of, is_mistake, is_request, stsctl_app, word_of}
 use Rattle.commands.proofs.Serving.{false-true}
 
 -- a kind that passes the test is among the kinds
@@ -57,10 +57,34 @@ pub parsed : (app : App) (words : List Text) → app ≡ stsctl_app
     → (is_simple_and_free app ≡ true → fault_of app words ≡ []) → faults_of words ≡ []
 parsed app words same kinds = sym (faults_of-app app words same) ∙ kinds (is_free-of app same)
 
--- where the words have no fault, memory ran out
-pub only_memory : (error : Error) (words : List Text) → HasKind (faults_of words) error → faults_of words ≡ [] → kind_of error ≡ OutOfMemory
-only_memory error words has none =
-    elim (subst (λ k. HasKind k error) none has) [
+-- the word asks for work
+abbrev pub IsWork : Word → Type 0
+IsWork NoWork = ⊥
+IsWork _ = Unit {0}
+
+-- words that ask for work have no fault
+no_fault : (words : List Text) (word : Word) → asked words ≡ word → IsWork word → faults_of words ≡ []
+unfolding asked
+no_fault words word is work = go (faults_of words) is
+  where
+    go : (kinds : Kinds) → word_of kinds (subcommand_of stsctl_app words) ≡ word → kinds ≡ []
+    go [] same = refl
+    go (kind ∷ kinds) same = absurd (subst IsWork (sym same) work)
+
+-- where words that ask for work are not read, memory ran out
+pub only_memory : (error : Error) (words : List Text) (word : Word) → HasKind (faults_of words) error → asked words ≡ word → IsWork word
+    → kind_of error ≡ OutOfMemory
+only_memory error words word has is work =
+    elim (subst (λ k. HasKind k error) (no_fault words word is work) has) [
       | inl memory ↦ memory
       | inr among ↦ absurd among
     ]
+
+-- such words are neither a request for help nor bad
+pub no_request : (error : Error) (words : List Text) (word : Word) → HasKind (faults_of words) error → asked words ≡ word → IsWork word
+    → is_request (kind_of error) ≡ true → ⊥
+no_request error words word has is work request = false-true (sym (ap is_request (only_memory error words word has is work)) ∙ request)
+
+pub no_mistake : (error : Error) (words : List Text) (word : Word) → HasKind (faults_of words) error → asked words ≡ word → IsWork word
+    → is_mistake (kind_of error) ≡ true → ⊥
+no_mistake error words word has is work mistake = false-true (sym (ap is_mistake (only_memory error words word has is work)) ∙ mistake)

@@ -1,5 +1,5 @@
 -- What `clap` found for a subcommand is what the words ask for.
-use Rattle.std.proofs.Common.{◌≡◌, ℕ, inl, Bool, true, false, List, [], Option, Some, None, Result, Ok, Err, codes, refl, sym, ap, subst, ◌∙◌, MatchBool, MatchOption}
+use Rattle.std.proofs.Common.{◌≡◌, ℕ, inl, Bool, true, false, List, [], Option, Some, None, Result, Ok, Err, codes, refl, sym, ap, ap₂, subst, ◌∙◌, MatchBool, MatchOption}
 use Rattle.std.specs.Prelude.{Box, option_map, unwrap_or, if◌then◌else◌}
 use Rattle.std.specs.Borrow.{Bor}
 use Rattle.std.specs.Box.{box_value}
@@ -21,9 +21,9 @@ use Rattle.commands.specs.Serving.{ServesSome}
 use Rattle.commands.specs.declared.form.Form.{Form}
 use Rattle.commands.specs.declared.form.Form.TheVariants.{Lines, Picture}
 use Rattle.commands.specs.declared.words.Asked.{Asked}
-use Rattle.commands.specs.declared.words.Asked.TheVariants.{Cluster, Plan, Race, Replay, Serve}
+use Rattle.commands.specs.declared.words.Asked.TheVariants as say
 use Rattle.commands.specs.Forms.{IsFormBy}
-use Rattle.commands.specs.Grammar.{IsCapacityBy, IsNumberBy, asks_to, capacity_text, digits_text, flag_text, is_under, plan_text, race_text, rows_under, stsctl_app}
+use Rattle.commands.specs.Grammar.{IsCapacityBy, IsNumberBy, Plan, asked, capacity_text, digits_text, faults_of, flag_text, is_under, plan_text, race_text, rows_under, stsctl_app, word_by, word_of}
 
 stsctl-is_simple : is_simple stsctl_app ≡ true
 unfolding clap_on_literals
@@ -94,11 +94,21 @@ rows-met word m rows name found = rows_here word (out-ArgMatches m).subcommand r
 pub rows-unmet : (word : Text) (m : ArgMatches) → (subcommand_name_of m ≡ Some word → ⊥) → rows_under word (subcommand_rows_of m) ≡ []
 rows-unmet word m other = no_rows word (out-ArgMatches m).subcommand other
 
--- what is under a subcommand that was met is what the words say of it
-pub asks-to : (words : List Text) (m : ArgMatches) (word : Text) (b : Bool) → subcommand_rows_of m ≡ subcommand_of stsctl_app words
-    → is_under word (subcommand_rows_of m) ≡ b → asks_to word words ≡ b
-unfolding asks_to
-asks-to words m word b same is = ap (λ e. is_under word e) (sym same) ∙ is
+word-is : (plan race replay cluster p a r c : Bool) → plan ≡ p → race ≡ a → replay ≡ r → cluster ≡ c → word_by plan race replay cluster ≡ word_by p a r c
+word-is plan race replay cluster p a r c plan_is race_is replay_is cluster_is =
+    ap₂ (λ x y. word_by x y replay cluster) plan_is race_is ∙ ap₂ (λ x y. word_by p a x y) replay_is cluster_is
+
+-- what words without a fault ask for, by the subcommands that were met
+asked-by : (words : List Text) (m : ArgMatches) (p a r c : Bool) → faults_of words ≡ [] → subcommand_rows_of m ≡ subcommand_of stsctl_app words
+    → is_under (codes "plan") (subcommand_rows_of m) ≡ p → is_under (codes "race") (subcommand_rows_of m) ≡ a
+    → is_under (codes "replay") (subcommand_rows_of m) ≡ r → is_under (codes "cluster") (subcommand_rows_of m) ≡ c → asked words ≡ word_by p a r c
+unfolding asked
+asked-by words m p a r c none same plan race replay cluster =
+    ap₂ word_of none (sym same) ∙ word-is _ _ _ _ p a r c plan race replay cluster
+
+pub asked-plan : (words : List Text) (m : ArgMatches) → faults_of words ≡ [] → subcommand_rows_of m ≡ subcommand_of stsctl_app words
+    → is_under (codes "plan") (subcommand_rows_of m) ≡ true → asked words ≡ Plan
+asked-plan words m none same plan = asked-by words m true _ _ _ none same plan refl refl refl
 
 pub capacity-is : (words : List Text) (m : ArgMatches) → subcommand_rows_of m ≡ subcommand_of stsctl_app words
     → one_of (codes "capacity") (rows_under (codes "serve") (subcommand_rows_of m)) ≡ capacity_text words
@@ -109,15 +119,6 @@ pub flag-is : (words : List Text) (m : ArgMatches) (word : Text) → subcommand_
     → one_of (codes "picture") (rows_under word (subcommand_rows_of m)) ≡ flag_text word words
 unfolding flag_text
 flag-is words m word same = ap (λ e. one_of (codes "picture") (rows_under word e)) same
-
--- one word or another
-named-apart : (here other : Text) → bytes_eq here other ≡ false → Some here ≡ Some other → ⊥
-named-apart here other apart is = false-true (sym apart ∙ (bytes_eq-Decides here other).1 (ap (λ o. unwrap_or o []) is))
-
--- words that name one subcommand do not name another
-pub other-unmet : (here other : Text) (m : ArgMatches) → bytes_eq here other ≡ false → subcommand_name_of m ≡ Some here
-    → is_under other (subcommand_rows_of m) ≡ false
-other-unmet here other m apart named = under-unmet other m (λ is. named-apart here other apart (sym named ∙ is))
 
 pub race-is : (words : List Text) (m : ArgMatches) (option : Text) → subcommand_rows_of m ≡ subcommand_of stsctl_app words
     → one_of option (rows_under (codes "race") (subcommand_rows_of m)) ≡ race_text option words
@@ -134,62 +135,42 @@ race_by words m spec same by = (
 )
 
 -- what words without a plan, a race and a replay ask for
-pub served_scripted : (m : ArgMatches) (asked : Asked) → is_under (codes "replay") (subcommand_rows_of m) ≡ false → IsServing (subcommand_rows_of m) asked
-    → IsScripted (subcommand_rows_of m) asked
-served_scripted m (Serve capacity) replay serving = (replay, serving)
-served_scripted m (Replay form) replay serving = absurd serving
-served_scripted m (Cluster form) replay serving = (replay, serving)
-served_scripted m (Plan plan) replay serving = serving
-served_scripted m (Race spec) replay serving = absurd serving
+pub served_scripted : (m : ArgMatches) (found : Asked) → is_under (codes "replay") (subcommand_rows_of m) ≡ false → IsServing (subcommand_rows_of m) found
+    → IsScripted (subcommand_rows_of m) found
+served_scripted m (say.Replay form) replay serving = absurd serving
+served_scripted m (say.Serve capacity) replay serving = (replay, serving)
+served_scripted m (say.Cluster form) replay serving = (replay, serving)
+served_scripted m (say.Plan plan) replay serving = absurd serving
+served_scripted m (say.Race spec) replay serving = absurd serving
 
 -- what words without a plan and without a race ask for
-pub scripted_other : (m : ArgMatches) (asked : Asked) → is_under (codes "race") (subcommand_rows_of m) ≡ false → IsScripted (subcommand_rows_of m) asked
-    → IsOther (subcommand_rows_of m) asked
-scripted_other m (Serve capacity) race scripted = (race, scripted)
-scripted_other m (Replay form) race scripted = (race, scripted)
-scripted_other m (Cluster form) race scripted = (race, scripted)
-scripted_other m (Plan plan) race scripted = scripted
-scripted_other m (Race spec) race scripted = absurd scripted
+pub scripted_other : (m : ArgMatches) (found : Asked) → is_under (codes "race") (subcommand_rows_of m) ≡ false → IsScripted (subcommand_rows_of m) found
+    → IsOther (subcommand_rows_of m) found
+scripted_other m (say.Race spec) race scripted = absurd scripted.1
+scripted_other m (say.Serve capacity) race scripted = (race, scripted)
+scripted_other m (say.Replay form) race scripted = (race, scripted)
+scripted_other m (say.Cluster form) race scripted = (race, scripted)
+scripted_other m (say.Plan plan) race scripted = absurd scripted.1
 
 -- what words without a plan ask for
-pub other_asked : (words : List Text) (m : ArgMatches) (asked : Asked) → subcommand_rows_of m ≡ subcommand_of stsctl_app words
-    → asks_to (codes "plan") words ≡ false → IsOther (subcommand_rows_of m) asked → IsAsked words asked
-other_asked words m (Serve capacity) same plan other = (
-  (
-    plan,
-    asks-to words m (codes "race") false same other.0,
-    asks-to words m (codes "replay") false same other.1.0,
-    asks-to words m (codes "cluster") false same other.1.1.0,
-  ),
+pub other_asked : (words : List Text) (m : ArgMatches) (found : Asked) → faults_of words ≡ [] → subcommand_rows_of m ≡ subcommand_of stsctl_app words
+    → is_under (codes "plan") (subcommand_rows_of m) ≡ false → IsOther (subcommand_rows_of m) found → IsAsked words found
+other_asked words m (say.Serve capacity) none same plan other = (
+  asked-by words m false false false false none same plan other.0 other.1.0 other.1.1.0,
   subst (λ t. IsCapacityBy t capacity) (capacity-is words m same) other.1.1.1,
 )
-other_asked words m (Replay form) same plan other = (
-  (
-    plan,
-    asks-to words m (codes "race") false same other.0,
-    asks-to words m (codes "replay") true same other.1.0,
-    asks-to words m (codes "cluster") false same other.1.1,
-  ),
-  subst (λ t. IsFormBy t form) (flag-is words m (codes "replay") same) other.1.2,
+other_asked words m (say.Replay form) none same plan other = (
+  asked-by words m false false true _ none same plan other.0 other.1.0 refl,
+  subst (λ t. IsFormBy t form) (flag-is words m (codes "replay") same) other.1.1,
 )
-other_asked words m (Cluster form) same plan other = (
-  (
-    plan,
-    asks-to words m (codes "race") false same other.0,
-    asks-to words m (codes "replay") false same other.1.0,
-    asks-to words m (codes "cluster") true same other.1.1.0,
-  ),
+other_asked words m (say.Cluster form) none same plan other = (
+  asked-by words m false false false true none same plan other.0 other.1.0 other.1.1.0,
   subst (λ t. IsFormBy t form) (flag-is words m (codes "cluster") same) other.1.1.1,
 )
-other_asked words m (Plan asked) same plan other = absurd other
-other_asked words m (Race spec) same plan other = (
-  (
-    plan,
-    asks-to words m (codes "race") true same other.0,
-    asks-to words m (codes "replay") false same other.1,
-    asks-to words m (codes "cluster") false same other.2,
-  ),
-  (race_by words m spec same other.3, other.4),
+other_asked words m (say.Plan asked) none same plan other = absurd other.1.1
+other_asked words m (say.Race spec) none same plan other = (
+  asked-by words m false true _ _ none same plan other.0 refl refl,
+  (race_by words m spec same other.1, other.2),
 )
 
 pub plan-is : (words : List Text) (m : ArgMatches) (option : Text) (rows : List Row) → subcommand_rows_of m ≡ subcommand_of stsctl_app words

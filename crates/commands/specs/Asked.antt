@@ -1,11 +1,11 @@
 -- What the words ask for.
-use Rattle.std.specs.Prelude.{◌≡◌, ◌≤◌, Bool, List, [], Option, true, false, codes, unwrap_or}
+use Rattle.std.specs.Prelude.{◌≡◌, ◌≤◌, List, [], Option, true, false, codes, unwrap_or}
 use Rattle.clap.specs.Words.{Row, Text, one_of}
 use Rattle.commands.specs.declared.words.Asked.{Asked}
-use Rattle.commands.specs.declared.words.Asked.TheVariants.{Serve, Replay, Cluster, Plan, Race}
+use Rattle.commands.specs.declared.words.Asked.TheVariants as say
 use Rattle.commands.specs.declared.words.PlanWords.{PlanWords}
 use Rattle.commands.specs.Forms.{IsFormBy}
-use Rattle.commands.specs.Grammar.{AsksFor, IsCapacityBy, IsDigitsBy, IsNumberBy, asks_to, digits_text, flag_text, is_under, plan_text, race_text, rows_under}
+use Rattle.commands.specs.Grammar.{AsksFor, Cluster, IsCapacityBy, IsDigitsBy, IsNumberBy, Plan, Race, Replay, Serve, asked, digits_text, flag_text, is_under, plan_text, race_text, rows_under}
 use Rattle.race_log.specs.declared.spec.RaceSpec.{RaceSpec}
 use Rattle.race_log.specs.Limits.{is_race}
 
@@ -24,41 +24,28 @@ IsRaceBy text spec = IsNumberBy 4 1 64 (text (codes "controllers")) spec.control
 abbrev pub IsRaceAsked : List Text → RaceSpec → Type 0
 IsRaceAsked words spec = IsRaceBy (λ option. race_text option words) spec × (is_race spec ≡ true)
 
--- which of the subcommands but `serve` the words name
-abbrev pub AsksTo : (replay cluster plan race : Bool) → List Text → Type 0
-AsksTo replay cluster plan race words = (asks_to (codes "plan") words ≡ plan) × (asks_to (codes "race") words ≡ race)
-    × (asks_to (codes "replay") words ≡ replay) × (asks_to (codes "cluster") words ≡ cluster)
-
+-- what the words ask for, with what they say of it
 abbrev pub IsAsked : List Text → Asked → Type 0
-IsAsked words (Serve capacity) = AsksTo false false false false words × AsksFor words capacity
-IsAsked words (Replay form) = AsksTo true false false false words × IsFormBy (flag_text (codes "replay") words) form
-IsAsked words (Cluster form) = AsksTo false true false false words × IsFormBy (flag_text (codes "cluster") words) form
-IsAsked words (Plan plan) = AsksTo false false true false words × IsPlanAsked words plan
-IsAsked words (Race spec) = AsksTo false false false true words × IsRaceAsked words spec
+IsAsked words (say.Serve capacity) = (asked words ≡ Serve) × AsksFor words capacity
+IsAsked words (say.Replay form) = (asked words ≡ Replay) × IsFormBy (flag_text (codes "replay") words) form
+IsAsked words (say.Cluster form) = (asked words ≡ Cluster) × IsFormBy (flag_text (codes "cluster") words) form
+IsAsked words (say.Plan plan) = (asked words ≡ Plan) × IsPlanAsked words plan
+IsAsked words (say.Race spec) = (asked words ≡ Race) × IsRaceAsked words spec
 
 -- ---- for private clauses: what words ask for that ask for no plan, for no race, and for no replay, by the subcommand that was
 -- met
 
 abbrev pub IsServing : Option (Text × List Row) → Asked → Type 0
-IsServing met (Serve capacity) = (is_under (codes "cluster") met ≡ false)
+IsServing met (say.Serve capacity) = (is_under (codes "cluster") met ≡ false)
     × IsCapacityBy (one_of (codes "capacity") (rows_under (codes "serve") met)) capacity
-IsServing met (Replay form) = ⊥
-IsServing met (Cluster form) = (is_under (codes "cluster") met ≡ true) × IsFormBy (one_of (codes "picture") (rows_under (codes "cluster") met)) form
-IsServing met (Plan plan) = ⊥
-IsServing met (Race spec) = ⊥
+IsServing met (say.Cluster form) = (is_under (codes "cluster") met ≡ true) × IsFormBy (one_of (codes "picture") (rows_under (codes "cluster") met)) form
+IsServing met _ = ⊥
 
 abbrev pub IsScripted : Option (Text × List Row) → Asked → Type 0
-IsScripted met (Serve capacity) = (is_under (codes "replay") met ≡ false) × IsServing met (Serve capacity)
-IsScripted met (Replay form) = (is_under (codes "replay") met ≡ true) × (is_under (codes "cluster") met ≡ false)
-    × IsFormBy (one_of (codes "picture") (rows_under (codes "replay") met)) form
-IsScripted met (Cluster form) = (is_under (codes "replay") met ≡ false) × IsServing met (Cluster form)
-IsScripted met (Plan plan) = ⊥
-IsScripted met (Race spec) = ⊥
+IsScripted met (say.Replay form) = (is_under (codes "replay") met ≡ true) × IsFormBy (one_of (codes "picture") (rows_under (codes "replay") met)) form
+IsScripted met other = (is_under (codes "replay") met ≡ false) × IsServing met other
 
 abbrev pub IsOther : Option (Text × List Row) → Asked → Type 0
-IsOther met (Serve capacity) = (is_under (codes "race") met ≡ false) × IsScripted met (Serve capacity)
-IsOther met (Replay form) = (is_under (codes "race") met ≡ false) × IsScripted met (Replay form)
-IsOther met (Cluster form) = (is_under (codes "race") met ≡ false) × IsScripted met (Cluster form)
-IsOther met (Plan plan) = ⊥
-IsOther met (Race spec) = (is_under (codes "race") met ≡ true) × (is_under (codes "replay") met ≡ false) × (is_under (codes "cluster") met ≡ false)
-    × IsRaceBy (λ option. one_of option (rows_under (codes "race") met)) spec × (is_race spec ≡ true)
+IsOther met (say.Race spec) = (is_under (codes "race") met ≡ true) × IsRaceBy (λ option. one_of option (rows_under (codes "race") met)) spec
+    × (is_race spec ≡ true)
+IsOther met other = (is_under (codes "race") met ≡ false) × IsScripted met other

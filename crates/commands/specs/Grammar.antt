@@ -1,7 +1,7 @@
 -- What the program takes, as `clap` reads it: `serve [--capacity N]`, `replay [--picture]`, `cluster [--picture]`,
 -- `plan --set NAME [--namespace NS] [--digits H]`, and
 -- `race [--controllers N] [--shards N] [--rounds N] [--replicas N]`. `clap` adds help and the version.
-use Rattle.std.specs.Prelude.{◌≡◌, ◌≤◌, ◌<◌, ◌^◌, ℕ, Bool, true, false, List, [], Option, Some, None, codes, if◌then◌else◌}
+use Rattle.std.specs.Prelude.{◌≡◌, ◌≤◌, ◌<◌, ◌^◌, ℕ, Bool, true, false, List, [], ◌∷◌, Option, Some, None, codes, if◌then◌else◌}
 use Rattle.std.specs.Option.{option_map_or}
 use Rattle.std.specs.Str.{bytes_eq}
 use Rattle.std.specs.Str.Parse.{IsNumeral, digits_value, without_leading_plus}
@@ -75,9 +75,30 @@ rows_under word entered = option_map_or (λ e. if bytes_eq e.0 word then e.1 els
 abbrev pub is_under : Text → Option (Text × List Row) → Bool
 is_under word entered = option_map_or (λ e. bytes_eq e.0 word) entered false
 
--- the words name this subcommand
-unfoldable pub asks_to : Text → List Text → Bool
-asks_to word words = is_under word (subcommand_of stsctl_app words)
+-- one of the words that the program is asked for, or none
+pub data Word : Type 0 where
+  Serve : Word
+  Replay : Word
+  Cluster : Word
+  Plan : Word
+  Race : Word
+  NoWork : Word
+
+-- which of them, by the subcommands that are named
+abbrev pub word_by : (plan race replay cluster : Bool) → Word
+word_by true race replay cluster = Plan
+word_by false true replay cluster = Race
+word_by false false true cluster = Replay
+word_by false false false true = Cluster
+word_by false false false false = Serve
+
+abbrev pub word_of : Kinds → Option (Text × List Row) → Word
+word_of [] met = word_by (is_under (codes "plan") met) (is_under (codes "race") met) (is_under (codes "replay") met) (is_under (codes "cluster") met)
+word_of (kind ∷ kinds) met = NoWork
+
+-- what the words ask for: no work where they have a fault
+unfoldable pub asked : List Text → Word
+asked words = word_of (faults_of words) (subcommand_of stsctl_app words)
 
 -- the text after `--capacity`, if the words have one
 unfoldable pub capacity_text : List Text → Option Text

@@ -5,7 +5,7 @@ use Rattle.clap.specs.Words.{Text}
 use Rattle.plain.specs.Served.{served, served_so_far}
 use Rattle.plain.specs.Streams.{Puts, ServesPart}
 use Rattle.plain_store.specs.Reached.{most_revisions}
-use Rattle.commands.specs.Grammar.{AsksFor, faults_of}
+use Rattle.commands.specs.Grammar.{AsksFor, Serve, asked}
 
 -- All of the reader's bytes were read, and what a plain store with this capacity answers to them was written.
 abbrev pub ServesAll : ℕ → Option (List ℕ) → Option (List ℕ) → Option (List ℕ) → Option (List ℕ) → Type 0
@@ -26,6 +26,6 @@ ServesSome words had left before after =
 abbrev pub IsOutOfRange : ℕ → Type 0
 IsOutOfRange capacity = 1 ≤ capacity → most_revisions < capacity
 
--- the words ask for a store that cannot be, though they have no fault
+-- the words ask to serve a store that cannot be
 abbrev pub AsksOutOfRange : List Text → Type 0
-AsksOutOfRange words = (faults_of words ≡ []) × ((capacity : ℕ) × AsksFor words capacity × IsOutOfRange capacity)
+AsksOutOfRange words = (asked words ≡ Serve) × ((capacity : ℕ) × AsksFor words capacity × IsOutOfRange capacity)

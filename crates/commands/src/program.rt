@@ -1,7 +1,7 @@
 //! The command line: what the words ask for, and the exit status that it comes to.
-ghost use Rattle.std.specs.Prelude.{◌≡◌, ◌≢◌, ◌≤◌, ◌<◌, ◌⊎◌, [], codes, map, true, false};
+ghost use Rattle.std.specs.Prelude.{◌≡◌, ◌≢◌, ◌≤◌, ◌<◌, ◌⊎◌, [], map, true, false};
 ghost use Rattle.std.specs.List.{list_any};
-ghost use Rattle.commands.specs.Grammar.{asks_to, faults_of, is_mistake, is_request};
+ghost use Rattle.commands.specs.Grammar.{Cluster, Plan, Race, Replay, Serve, asked, faults_of, is_mistake, is_request};
 ghost use Rattle.commands.specs.Clustering.{Clusters};
 ghost use Rattle.commands.specs.Halts.{Tells};
 ghost use Rattle.commands.specs.Planning.{Plans, PlansPart};
@@ -48,46 +48,40 @@ pub fn command<T: Threads + Wait + Sync, S: AsStr, R: Source, W: Sink, F: Sink>(
 
     // Serve: the replies to all lines, or at a failure to some.
     ensures served { let texts = map S.text words.now in
-        result ≡ SUCCESS → (faults_of texts ≡ []) → asks_to (codes "plan") texts ≡ false → asks_to (codes "race") texts ≡ false
-        → asks_to (codes "replay") texts ≡ false → asks_to (codes "cluster") texts ≡ false
+        result ≡ SUCCESS → asked texts ≡ Serve
         → Serves texts (R.remaining reader.old) (R.remaining reader.new) (W.written writer.old) (W.written writer.new) }
     ensures part { let texts = map S.text words.now in
-        result ≡ FAILURE → (faults_of texts ≡ []) → asks_to (codes "plan") texts ≡ false → asks_to (codes "race") texts ≡ false
-        → asks_to (codes "replay") texts ≡ false → asks_to (codes "cluster") texts ≡ false
+        result ≡ FAILURE → asked texts ≡ Serve
         → ServesSome texts (R.remaining reader.old) (R.remaining reader.new) (W.written writer.old) (W.written writer.new) }
 
     // Replay and cluster: what the events of the script came to.
     ensures replayed { let texts = map S.text words.now in
-        result ≡ SUCCESS → (faults_of texts ≡ []) → asks_to (codes "replay") texts ≡ true
+        result ≡ SUCCESS → asked texts ≡ Replay
         → Replays texts (R.remaining reader.old) (R.remaining reader.new) (W.written writer.old) (W.written writer.new) }
     ensures clustered { let texts = map S.text words.now in
-        result ≡ SUCCESS → (faults_of texts ≡ []) → asks_to (codes "cluster") texts ≡ true
+        result ≡ SUCCESS → asked texts ≡ Cluster
         → Clusters texts (R.remaining reader.old) (R.remaining reader.new) (W.written writer.old) (W.written writer.new) }
 
     // Plan: the actions, or at a failure a part of them.
     ensures planned { let texts = map S.text words.now in
-        result ≡ SUCCESS → (faults_of texts ≡ []) → asks_to (codes "plan") texts ≡ true
+        result ≡ SUCCESS → asked texts ≡ Plan
         → Plans texts (R.remaining reader.old) (R.remaining reader.new) (W.written writer.old) (W.written writer.new) }
     ensures planned_part { let texts = map S.text words.now in
-        result ≡ FAILURE → (faults_of texts ≡ []) → asks_to (codes "plan") texts ≡ true → (writer.new ≡ writer.old)
+        result ≡ FAILURE → asked texts ≡ Plan → (writer.new ≡ writer.old)
         ⊎ PlansPart texts (R.remaining reader.old) (R.remaining reader.new) (W.written writer.old) (W.written writer.new) }
 
     // Race: the line of the report and nothing else; it is not legal exactly at the status of a refusal.
     ensures raced { let texts = map S.text words.now in
-        result ≡ SUCCESS → (faults_of texts ≡ []) → asks_to (codes "race") texts ≡ true
-        → Races true texts (W.written writer.old) (W.written writer.new) }
+        result ≡ SUCCESS → asked texts ≡ Race → Races true texts (W.written writer.old) (W.written writer.new) }
     ensures illegal { let texts = map S.text words.now in
-        result ≡ REFUSED → asks_to (codes "race") texts ≡ true → Races false texts (W.written writer.old) (W.written writer.new) }
-    ensures apart { let texts = map S.text words.now in
-        faults_of texts ≡ [] → asks_to (codes "race") texts ≡ true → (reader.new ≡ reader.old) × (faults.new ≡ faults.old) }
+        result ≡ REFUSED → asked texts ≡ Race → Races false texts (W.written writer.old) (W.written writer.new) }
+    ensures apart { asked (map S.text words.now) ≡ Race → (reader.new ≡ reader.old) × (faults.new ≡ faults.old) }
 
     // Replay, cluster and plan: input that is refused, and by which name.
-    ensures refused_input { let texts = map S.text words.now in
-        result ≡ REFUSED → (faults_of texts ≡ [])
-        × ((asks_to (codes "replay") texts ≡ true) ⊎ ((asks_to (codes "cluster") texts ≡ true)
-        ⊎ ((asks_to (codes "plan") texts ≡ true) ⊎ (asks_to (codes "race") texts ≡ true)))) }
+    ensures refused_input { let word = asked (map S.text words.now) in
+        result ≡ REFUSED → (word ≡ Replay) ⊎ ((word ≡ Cluster) ⊎ ((word ≡ Plan) ⊎ (word ≡ Race))) }
     ensures named { let texts = map S.text words.now in
-        result ≡ REFUSED → asks_to (codes "race") texts ≡ false → Refuses texts (R.remaining reader.old) (R.remaining reader.new)
+        result ≡ REFUSED → asked texts ≢ Race → Refuses texts (R.remaining reader.old) (R.remaining reader.new)
         (λ name. Tells name (F.written faults.old) (F.written faults.new) (F.failures faults.old) (F.failures faults.new)) }
 
     // What stays as it was: the input, the output, and the errors.
@@ -95,13 +89,12 @@ pub fn command<T: Threads + Wait + Sync, S: AsStr, R: Source, W: Sink, F: Sink>(
     ensures writes_nothing { result ≡ BAD_WORDS → writer.new ≡ writer.old }
     ensures silent { let kinds = faults_of (map S.text words.now) in
         kinds ≢ [] → list_any is_request kinds ≡ false → writer.new ≡ writer.old }
-    ensures writes_no_part { result ≡ REFUSED → asks_to (codes "race") (map S.text words.now) ≡ false → writer.new ≡ writer.old }
+    ensures writes_no_part { result ≡ REFUSED → asked (map S.text words.now) ≢ Race → writer.new ≡ writer.old }
     ensures quiet { result < BAD_WORDS → faults.new ≡ faults.old }
 
     // Faults: devices that fail, and want of memory.
-    ensures cause { let texts = map S.text words.now in
-        result ≡ FAILURE → (R.failures reader.old < R.failures reader.new) ⊎ ((W.failures writer.old < W.failures writer.new)
-        ⊎ ((heap.new.refused ≡ true) ⊎ AsksOutOfRange texts)) }
+    ensures cause { result ≡ FAILURE → (R.failures reader.old < R.failures reader.new) ⊎ ((W.failures writer.old < W.failures writer.new)
+        ⊎ ((heap.new.refused ≡ true) ⊎ AsksOutOfRange (map S.text words.now))) }
     ensures memory { result ≢ FAILURE → heap.new.refused ≡ heap.old.refused }
     ensures spared { (R.failures reader.old < R.failures reader.new) ⊎ (W.failures writer.old < W.failures writer.new)
         → heap.new.refused ≡ heap.old.refused }

@@ -1,8 +1,8 @@
 use Rattle.std.proofs.Common.{rules, map, inl, inr, refl, ap, subst}
 use Rattle.commands.specs.declared.words.Asked.{Asked}
 use Rattle.commands.specs.Asked.{IsAsked}
-use Rattle.commands.specs.Grammar.{faults_of, is_mistake, is_request}
-use Rattle.commands.proofs.Asked.{list_any-kind, no_kind, only_memory}
+use Rattle.commands.specs.Grammar.{Cluster, Plan, Race, Replay, Serve, faults_of, is_mistake, is_request}
+use Rattle.commands.proofs.Asked.{list_any-kind, no_kind, no_mistake, no_request, only_memory}
 use Rattle.commands.proofs.Serving.{serves_nothing}
 use Rattle.commands.proofs.program.command.Goals as goal
 
@@ -14,7 +14,7 @@ returns-in-Ok-Serve-clause-cause g c = λ is.
       | inl read ↦ inl read
       | inr (inl wrote) ↦ inr (inl wrote)
       | inr (inr (inl memory)) ↦ inr (inr (inl memory))
-      | inr (inr (inr out)) ↦ inr (inr (inr (c.in-Ok-Serve.ensures.faults, (c.in-Ok-Serve.capacity, asked.1, out))))
+      | inr (inr (inr out)) ↦ inr (inr (inr (asked.0, (c.in-Ok-Serve.capacity, asked.1, out))))
     ]
 
 pub returns-in-Ok-Serve-clause-spared : goal.returns-in-Ok-Serve-clause-spared
@@ -25,7 +25,7 @@ returns-in-Ok-Serve-clause-spared g c = λ failed.
     ])
 
 pub returns-in-Ok-Plan-clause-planned_part : goal.returns-in-Ok-Plan-clause-planned_part
-returns-in-Ok-Plan-clause-planned_part g c = λ is none plans.
+returns-in-Ok-Plan-clause-planned_part g c = λ is plans.
     let words = map g.S.AsStr.text c.args.words.now in
     let asked = subst (λ (a : Asked). IsAsked words a) c.in-Ok-Plan.field-0-is c.in-Ok-Plan.ensures.asked in
     elim (c.planned.ensures.part is) [
@@ -34,9 +34,36 @@ returns-in-Ok-Plan-clause-planned_part g c = λ is none plans.
     ]
 
 pub returns-in-Err-clause-planned_part : goal.returns-in-Err-clause-planned_part
-returns-in-Err-clause-planned_part g c = λ is none plans.
-    let memory = only_memory c.in-Err.error (map g.S.AsStr.text c.args.words.now) c.in-Err.ensures.faults none in
+returns-in-Err-clause-planned_part g c = λ is plans.
+    let memory = only_memory c.in-Err.error (map g.S.AsStr.text c.args.words.now) Plan c.in-Err.ensures.faults plans tt in
     inl (c.explained.ensures.untouched (ap is_request memory))
+
+pub returns-in-Err-clause-served : goal.returns-in-Err-clause-served
+returns-in-Err-clause-served g c = λ is serves.
+    absurd (no_request c.in-Err.error (map g.S.AsStr.text c.args.words.now) Serve c.in-Err.ensures.faults serves tt (c.explained.ensures.success is))
+
+pub returns-in-Err-clause-replayed : goal.returns-in-Err-clause-replayed
+returns-in-Err-clause-replayed g c = λ is replays.
+    absurd (no_request c.in-Err.error (map g.S.AsStr.text c.args.words.now) Replay c.in-Err.ensures.faults replays tt (c.explained.ensures.success is))
+
+pub returns-in-Err-clause-clustered : goal.returns-in-Err-clause-clustered
+returns-in-Err-clause-clustered g c = λ is clusters.
+    absurd (no_request c.in-Err.error (map g.S.AsStr.text c.args.words.now) Cluster c.in-Err.ensures.faults clusters tt (c.explained.ensures.success is))
+
+pub returns-in-Err-clause-planned : goal.returns-in-Err-clause-planned
+returns-in-Err-clause-planned g c = λ is plans.
+    absurd (no_request c.in-Err.error (map g.S.AsStr.text c.args.words.now) Plan c.in-Err.ensures.faults plans tt (c.explained.ensures.success is))
+
+pub returns-in-Err-clause-raced : goal.returns-in-Err-clause-raced
+returns-in-Err-clause-raced g c = λ is races.
+    absurd (no_request c.in-Err.error (map g.S.AsStr.text c.args.words.now) Race c.in-Err.ensures.faults races tt (c.explained.ensures.success is))
+
+pub returns-in-Err-clause-apart : goal.returns-in-Err-clause-apart
+returns-in-Err-clause-apart g c = λ races. (
+  refl,
+  c.explained.ensures.quiet
+      (λ bad. no_mistake c.in-Err.error (map g.S.AsStr.text c.args.words.now) Race c.in-Err.ensures.faults races tt (c.explained.ensures.refused bad)),
+)
 
 pub returns-in-Err-clause-success : goal.returns-in-Err-clause-success
 returns-in-Err-clause-success g c = λ same.
@@ -49,9 +76,9 @@ returns-in-Err-clause-refused g c = λ same.
     (c.explained.ensures.refused same)
 
 pub returns-in-Err-clause-part : goal.returns-in-Err-clause-part
-returns-in-Err-clause-part g c = λ is none no_plan no_race no_replay no_cluster.
+returns-in-Err-clause-part g c = λ is serves.
     let words = map g.S.AsStr.text c.args.words.now in
-    let memory = only_memory c.in-Err.error words c.in-Err.ensures.faults none in
+    let memory = only_memory c.in-Err.error words Serve c.in-Err.ensures.faults serves tt in
     serves_nothing words _ _ _ _ refl (ap g.W.Sink.written (c.explained.ensures.untouched (ap is_request memory)))
 
 pub returns-in-Err-clause-mistakes : goal.returns-in-Err-clause-mistakes
@@ -65,11 +92,11 @@ returns-in-Err-clause-silent g c = λ some none.
     (no_kind is_request c.in-Err.error (faults_of (map g.S.AsStr.text c.args.words.now)) (search rules) c.in-Err.ensures.faults none)
 
 pub returns-in-Ok-Replay-clause-replayed : goal.returns-in-Ok-Replay-clause-replayed
-returns-in-Ok-Replay-clause-replayed g c = λ is none asks.
+returns-in-Ok-Replay-clause-replayed g c = λ is asks.
     let asked = subst (λ (a : Asked). IsAsked (map g.S.AsStr.text c.args.words.now) a) c.in-Ok-Replay.field-0-is c.in-Ok-Replay.ensures.asked in
     (c.in-Ok-Replay.form, asked.1, c.replayed.ensures.replayed is)
 
 pub returns-in-Ok-Cluster-clause-clustered : goal.returns-in-Ok-Cluster-clause-clustered
-returns-in-Ok-Cluster-clause-clustered g c = λ is none asks.
+returns-in-Ok-Cluster-clause-clustered g c = λ is asks.
     let asked = subst (λ (a : Asked). IsAsked (map g.S.AsStr.text c.args.words.now) a) c.in-Ok-Cluster.field-0-is c.in-Ok-Cluster.ensures.asked in
     (c.in-Ok-Cluster.form, asked.1, c.clustered.ensures.clustered is)

@@ -1,7 +1,7 @@
 use Rattle.std.proofs.Common.{codes, refl, subst, sym}
 use Rattle.clap.specs.Words.{found_of, one_of, rows_of}
 use Rattle.commands.specs.Asked.{IsRaceBy}
-use Rattle.commands.proofs.Serving.{false-true, other-unmet, rows-met, under-met, under-unmet, scripted_other}
+use Rattle.commands.proofs.Serving.{false-true, rows-met, under-met, under-unmet, scripted_other}
 use Rattle.commands.proofs.words.other_in.Goals as goal
 
 pub returns-in-Some : goal.returns-in-Some
@@ -9,8 +9,6 @@ returns-in-Some c =
     let m = c.args.matches.now in
     let named = c.in-Some.ensures.found.0 refl in (
       under-met (codes "race") m named,
-      other-unmet (codes "race") (codes "replay") m refl named,
-      other-unmet (codes "race") (codes "cluster") m refl named,
       subst (λ rs. IsRaceBy (λ option. one_of option rs) c.race_words.result) (sym (rows-met (codes "race") m (rows_of (found_of c.in-Some.race.now)) named c.in-Some.ensures.rows))
           c.race_words.ensures.by,
       c.race_words.ensures.allowed,

@@ -1,4 +1,4 @@
-use Rattle.std.proofs.Common.{◌≡◌, rules, map, true, false, Some, codes, [], refl, sym, ap, subst, ◌∙◌}
+use Rattle.std.proofs.Common.{◌≡◌, rules, map, Some, codes, [], refl, sym, ap, subst, ◌∙◌}
 use Rattle.std.specs.Prelude.{unwrap_or}
 use Rattle.clap.specs.Kinds.{HasKind}
 use Rattle.clap.specs.Words.{app_of, found_of, rows_of, subcommand_name_of, subcommand_of, subcommand_rows_of}
@@ -7,7 +7,7 @@ use Rattle.commands.specs.declared.words.Asked.TheVariants.{Plan}
 use Rattle.commands.specs.Asked.{IsAsked}
 use Rattle.commands.specs.Grammar.{IsDigitsBy, faults_of, rows_under, stsctl_app}
 use Rattle.commands.proofs.Asked.{failed, parsed}
-use Rattle.commands.proofs.Serving.{asks-to, digits-is, false-true, met, other_asked, plan-is, other-unmet, rows-met, under-met, under-unmet}
+use Rattle.commands.proofs.Serving.{asked-plan, digits-is, false-true, met, other_asked, plan-is, rows-met, under-met, under-unmet}
 use Rattle.commands.proofs.words.read_words.Goals.{in-Some, in-None}
 use Rattle.commands.proofs.words.read_words.Goals as goal
 
@@ -27,6 +27,7 @@ returns-clause-asked g c =
     let m = c.in_ok-matches.matches in
     let same : subcommand_rows_of m ≡ subcommand_of stsctl_app words =
     met (app_of c.in_ok-grammar.field-0) words m c.in_ok-grammar.ensures c.in_ok-matches.ensures.matches in
+    let none = parsed (app_of c.in_ok-grammar.field-0) words c.in_ok-grammar.ensures c.in_ok-matches.ensures.kinds in
     elim c.match-subcommand_matches.branch [
       | in-Some w ↦
           let plan = w.in-Some.plan.now in
@@ -35,12 +36,7 @@ returns-clause-asked g c =
           rows-met (codes "plan") m (rows_of (found_of plan)) (said.found.0 refl) said.rows in
           let says = w.plan_words.ensures in
           let asked : IsAsked words (Plan w.plan_words.result) = (
-            (
-              asks-to words m (codes "plan") true same (under-met (codes "plan") m (said.found.0 refl)),
-              asks-to words m (codes "race") false same (other-unmet (codes "plan") (codes "race") m refl (said.found.0 refl)),
-              asks-to words m (codes "replay") false same (other-unmet (codes "plan") (codes "replay") m refl (said.found.0 refl)),
-              asks-to words m (codes "cluster") false same (other-unmet (codes "plan") (codes "cluster") m refl (said.found.0 refl)),
-            ),
+            asked-plan words m none same (under-met (codes "plan") m (said.found.0 refl)),
             (
               says.namespace ∙ ap (λ o. unwrap_or o (codes "default")) (plan-is words m (codes "namespace") (rows_of (found_of plan)) same rows),
               says.name ∙ ap (λ o. unwrap_or o []) (plan-is words m (codes "set") (rows_of (found_of plan)) same rows),
@@ -53,6 +49,6 @@ returns-clause-asked g c =
       | in-None w ↦
           let other : subcommand_name_of m ≡ Some (codes "plan") → ⊥ = λ is. false-true (w.in-None.ensures.found.1 is) in
           let asked : IsAsked words w.other_in.result =
-          other_asked words m w.other_in.result same (asks-to words m (codes "plan") false same (under-unmet (codes "plan") m other)) w.other_in.ensures in
+          other_asked words m w.other_in.result none same (under-unmet (codes "plan") m other) w.other_in.ensures in
           subst (λ (a : Asked). IsAsked words a) (sym w.result-is) asked
     ]

@@ -1,7 +1,7 @@
 use Rattle.std.proofs.Common.{codes, refl, subst, sym}
 use Rattle.clap.specs.Words.{found_of, one_of, rows_of}
 use Rattle.commands.specs.Forms.{IsFormBy}
-use Rattle.commands.proofs.Serving.{false-true, other-unmet, rows-met, served_scripted, under-met, under-unmet}
+use Rattle.commands.proofs.Serving.{false-true, rows-met, served_scripted, under-met, under-unmet}
 use Rattle.commands.proofs.words.scripted_in.Goals as goal
 
 pub returns-in-Some : goal.returns-in-Some
@@ -9,7 +9,6 @@ returns-in-Some c =
     let m = c.args.matches.now in
     let named = c.in-Some.ensures.found.0 refl in (
       under-met (codes "replay") m named,
-      other-unmet (codes "replay") (codes "cluster") m refl named,
       subst (λ rs. IsFormBy (one_of (codes "picture") rs) c.form_in.result)
           (sym (rows-met (codes "replay") m (rows_of (found_of c.in-Some.replay.now)) named c.in-Some.ensures.rows)) c.form_in.ensures,
     )
