@@ -1,21 +1,14 @@
 -- What was made of a script of controllers that was read, and written or refused.
 use Rattle.std.proofs.Common.{◌≡◌, ℕ, List, [], Option, Some, None, inl, inr, refl, sym, subst}
 use Rattle.std.specs.Option.{IfSome}
-use Rattle.plain.specs.Streams.{Puts}
 use Rattle.replay_lines.specs.Events.{Fails}
 use Rattle.replay_lines.specs.declared.fault.ScriptError.{ScriptError}
 use Rattle.replay_lines.specs.declared.fault.ScriptError.TheVariants.{BadScript, Memory}
 use Rattle.cluster_scripts.specs.Scripts.{cluster_script_of, parts_of}
 use Rattle.cluster_scripts.specs.declared.script.ClusterScript.{ClusterScript}
-use Rattle.commands.specs.Clustering.{ClustersAs, IsClusterRefusal, IsClusterRefusedBy, IsClusterRunRefusal, IsClusterTextOf}
+use Rattle.commands.specs.Clustering.{IsClusterRefusal, IsClusterRefusedBy, IsClusterRunRefusal, IsClusterTextOf}
 use Rattle.commands.specs.Replaying.{script_refusal}
 use Rattle.commands.specs.declared.form.Form.{Form}
-
-pub clusters : (form : Form) (had left before after : Option (List ℕ)) (text shown : List ℕ)
-    → IfSome had (λ input. (left ≡ Some []) × IsClusterTextOf form input text) → Puts before shown after → shown ≡ text
-    → ClustersAs form had left before after
-clusters form None left before after text shown ran puts same = tt
-clusters form (Some input) left before after text shown ran puts same = (ran.0, (text, ran.1, subst (λ t. Puts before t after) same puts))
 
 -- what is made of the bytes that were read is made of the input
 pub clustered_input : (form : Form) (had left : Option (List ℕ)) (bytes text : List ℕ) → IfSome had (λ i. bytes ≡ i) → IfSome had (λ _. left ≡ Some [])

@@ -5,23 +5,22 @@ use Rattle.std.specs.Prelude.{IfErr, Result, Ok, Err}
 use Rattle.std.specs.Result.{IsErrAnd}
 use Rattle.plain.specs.declared.devices.input.InputFault.{InputFault}
 use Rattle.plain.specs.declared.devices.input.InputFault.TheVariants as input
-use Rattle.plain.specs.Streams.{Puts}
 use Rattle.replay_lines.specs.Events.{Fails}
 use Rattle.replay_lines.specs.Scripts.{script_of}
 use Rattle.replay_lines.specs.declared.fault.ScriptError.{ScriptError}
 use Rattle.replay_lines.specs.declared.fault.ScriptError.TheVariants.{BadScript, Memory}
+use Rattle.commands.specs.Forms.{WritesBy}
 use Rattle.commands.specs.Halts.{IsNamed, halt_of, name_of}
-use Rattle.commands.specs.Replaying.{IsRefusedBy, IsReplayRefusal, IsReplayText, IsRunRefusal, ReplaysAs, script_refusal}
-use Rattle.commands.specs.declared.form.Form.{Form}
+use Rattle.commands.specs.Replaying.{IsRefusedBy, IsReplayRefusal, IsRunRefusal, script_refusal}
 use Rattle.interleavings.specs.World.{Size}
 use Rattle.interleavings.specs.declared.event.Event.{Event}
 
-pub replays : (form : Form) (had left before after : Option (List ℕ)) (text shown : List ℕ)
-    → IfSome had (λ input. (left ≡ Some []) × IsReplayText form input text) → Puts before shown after → shown ≡ text
-    → ReplaysAs form had left before after
-replays form None left before after text shown replayed puts same = tt
-replays form (Some input) left before after text shown replayed puts same =
-    (replayed.0, (text, replayed.1, subst (λ t. Puts before t after) same puts))
+-- what was made of the input was written as it is shown, all of it or a beginning
+pub writes_by : (puts : Option (List ℕ) → List ℕ → Option (List ℕ) → Type 0) (IsText : List ℕ → List ℕ → Type 0)
+    (had left before after : Option (List ℕ)) (text shown : List ℕ) → IfSome had (λ input. (left ≡ Some []) × IsText input text) → puts before shown after
+    → shown ≡ text → WritesBy puts IsText had left before after
+writes_by puts IsText None left before after text shown made put same = tt
+writes_by puts IsText (Some input) left before after text shown made put same = (made.0, (text, made.1, subst (λ t. puts before t after) same put))
 
 -- a text that is no script is refused by that name
 pub refused_script : (error : ScriptError) (name : Option (List ℕ)) (input : List ℕ) → name ≡ script_refusal error → Fails error (script_of input)

@@ -1,7 +1,6 @@
 -- What a run of the program that was asked to run a cluster has done, where the devices tell.
 use Rattle.std.specs.Prelude.{◌≡◌, ◌⊎◌, ℕ, List, [], length, Option, Some, None, codes}
 use Rattle.std.specs.Option.{IfSome}
-use Rattle.plain.specs.Streams.{Puts}
 use Rattle.cluster_runs.specs.Cluster.{Cluster}
 use Rattle.cluster_runs.specs.declared.event.ClusterEvent.{ClusterEvent}
 use Rattle.cluster_runs.specs.Ran.{IsClusterRun, cluster_after, owner_in}
@@ -15,7 +14,7 @@ use Rattle.cluster_scripts.specs.Scripts.{cluster_script_of, parts_of}
 use Rattle.cluster_scripts.specs.declared.script.ClusterScript.{ClusterScript}
 use Rattle.clap.specs.Words.{Text}
 use Rattle.pictures.specs.Picture.{picture_text}
-use Rattle.commands.specs.Forms.{IsFormBy}
+use Rattle.commands.specs.Forms.{IsFormBy, WritesBy}
 use Rattle.commands.specs.Grammar.{flag_text}
 use Rattle.commands.specs.Replaying.{IsSizeRefusal}
 use Rattle.commands.specs.Roles.{role_by}
@@ -50,14 +49,10 @@ IsClusterShown Picture script text = IsClusterPicture script text
 abbrev pub IsClusterTextOf : Form → (input text : List ℕ) → Type 0
 IsClusterTextOf form input text = (script : ClusterScript) × (cluster_script_of input ≡ Some (parts_of script)) × IsClusterShown form script text
 
--- All of the reader's bytes were read, and that text was written.
-abbrev pub ClustersAs : Form → Option (List ℕ) → Option (List ℕ) → Option (List ℕ) → Option (List ℕ) → Type 0
-ClustersAs form had left before after = IfSome had (λ input. (left ≡ Some [])
-    × ((text : List ℕ) × IsClusterTextOf form input text × Puts before text after))
-
--- the same in the form that the words ask for
-abbrev pub Clusters : List Text → Option (List ℕ) → Option (List ℕ) → Option (List ℕ) → Option (List ℕ) → Type 0
-Clusters words had left before after = (form : Form) × IsFormBy (flag_text (codes "cluster") words) form × ClustersAs form had left before after
+-- That text was written, in the form that the words ask for.
+abbrev pub Clusters : (puts : Option (List ℕ) → List ℕ → Option (List ℕ) → Type 0) → List Text → (had left before after : Option (List ℕ)) → Type 0
+Clusters puts words had left before after =
+    (form : Form) × IsFormBy (flag_text (codes "cluster") words) form × WritesBy puts (IsClusterTextOf form) had left before after
 
 -- the run of the script is refused as that of a replay, by the callers that are used
 abbrev pub IsClusterRunRefusal : ClusterScript → (name : List ℕ) → Type 0

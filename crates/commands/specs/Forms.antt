@@ -1,5 +1,6 @@
--- What is printed of a run.
-use Rattle.std.specs.Prelude.{◌≡◌, Option, Some, None, codes}
+-- What is printed of a run, and how much of it.
+use Rattle.std.specs.Prelude.{◌≡◌, ℕ, List, [], Option, Some, None, codes}
+use Rattle.std.specs.Option.{IfSome}
 use Rattle.clap.specs.Words.{Text}
 use Rattle.commands.specs.declared.form.Form.{Form}
 use Rattle.commands.specs.declared.form.Form.TheVariants.{Lines, Picture}
@@ -8,3 +9,9 @@ use Rattle.commands.specs.declared.form.Form.TheVariants.{Lines, Picture}
 abbrev pub IsFormBy : Option Text → Form → Type 0
 IsFormBy None form = form ≡ Lines
 IsFormBy (Some text) form = (text ≡ codes "true" → form ≡ Picture) × (text ≡ codes "false" → form ≡ Lines)
+
+-- All of the reader's bytes were read, and of such a text of the input was written all, by `Puts`, or a beginning, by `PutsPart`.
+abbrev pub WritesBy : (puts : Option (List ℕ) → List ℕ → Option (List ℕ) → Type 0) → (IsText : (input text : List ℕ) → Type 0)
+    → (had left before after : Option (List ℕ)) → Type 0
+WritesBy puts IsText had left before after =
+    IfSome had (λ input. (left ≡ Some []) × ((text : List ℕ) × IsText input text × puts before text after))

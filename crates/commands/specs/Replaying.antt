@@ -1,7 +1,6 @@
 -- What a run of the program that was asked to replay has done, where the devices tell.
 use Rattle.std.specs.Prelude.{◌≡◌, ◌⊎◌, ◌≤◌, ◌<◌, ℕ, List, [], Option, Some, None, codes}
 use Rattle.std.specs.Option.{IfSome}
-use Rattle.plain.specs.Streams.{Puts}
 use Rattle.plain_store.specs.Reached.{most_revisions}
 use Rattle.history.specs.After.{IsRunOf}
 use Rattle.history.specs.Named.{callers}
@@ -16,7 +15,7 @@ use Rattle.replay_lines.specs.declared.fault.ScriptError.{ScriptError}
 use Rattle.clap.specs.Words.{Text}
 use Rattle.pictures.specs.Heading.{no_role}
 use Rattle.pictures.specs.Picture.{picture_text}
-use Rattle.commands.specs.Forms.{IsFormBy}
+use Rattle.commands.specs.Forms.{IsFormBy, WritesBy}
 use Rattle.commands.specs.Grammar.{flag_text}
 use Rattle.commands.specs.declared.form.Form.{Form}
 use Rattle.commands.specs.declared.form.Form.TheVariants.{Lines, Picture}
@@ -35,14 +34,10 @@ IsShownText Picture script text = text ≡ picture_text script.0 no_role script.
 abbrev pub IsReplayText : Form → (input text : List ℕ) → Type 0
 IsReplayText form input text = (script : Size × List Event) × (script_of input ≡ Some script) × IsShownText form script text
 
--- All of the reader's bytes were read, and that text was written.
-abbrev pub ReplaysAs : Form → Option (List ℕ) → Option (List ℕ) → Option (List ℕ) → Option (List ℕ) → Type 0
-ReplaysAs form had left before after = IfSome had (λ input. (left ≡ Some [])
-    × ((text : List ℕ) × IsReplayText form input text × Puts before text after))
-
--- the same in the form that the words ask for: the replies of the run and its order, or its picture
-abbrev pub Replays : List Text → Option (List ℕ) → Option (List ℕ) → Option (List ℕ) → Option (List ℕ) → Type 0
-Replays words had left before after = (form : Form) × IsFormBy (flag_text (codes "replay") words) form × ReplaysAs form had left before after
+-- That text was written, in the form that the words ask for: the replies of the run and its order, or its picture.
+abbrev pub Replays : (puts : Option (List ℕ) → List ℕ → Option (List ℕ) → Type 0) → List Text → (had left before after : Option (List ℕ)) → Type 0
+Replays puts words had left before after =
+    (form : Form) × IsFormBy (flag_text (codes "replay") words) form × WritesBy puts (IsReplayText form) had left before after
 
 -- A run of this size is refused by this name. The first that fits: the shards are out of range, then the capacity, then there are
 -- too many callers.

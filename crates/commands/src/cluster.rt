@@ -1,6 +1,8 @@
 //! `stsctl cluster`.
 ghost use Rattle.std.specs.Prelude.{◌≡◌, ◌≢◌, ◌<◌, ◌⊎◌, ℕ, List, [], true, false, IfOk, IfErr, IfSome, Some};
-ghost use Rattle.commands.specs.Clustering.{ClustersAs, IsClusterPicture, IsClusterRefusal, IsClusterRefusedBy, IsClusterRunRefusal, IsClusterShown, IsClusterText, IsClusterTextOf};
+ghost use Rattle.commands.specs.Clustering.{IsClusterPicture, IsClusterRefusal, IsClusterRefusedBy, IsClusterRunRefusal, IsClusterShown, IsClusterText, IsClusterTextOf};
+ghost use Rattle.plain.specs.Streams.{Puts, PutsPart};
+ghost use Rattle.commands.specs.Forms.{WritesBy};
 ghost use Rattle.commands.specs.Halts.{CountsReads, Tells, is_read, name_of};
 
 use crate::cluster_roles::ClusterRoles;
@@ -23,7 +25,9 @@ pub(crate) fn clustered<R: Source, W: Sink, F: Sink>(
     faults: &mut F,
 ) -> u8
     ensures status { (result < BAD_WORDS) ⊎ (result ≡ REFUSED) }
-    ensures clustered { result ≡ SUCCESS → ClustersAs form (R.remaining reader.old) (R.remaining reader.new)
+    ensures clustered { result ≡ SUCCESS → WritesBy Puts (IsClusterTextOf form) (R.remaining reader.old) (R.remaining reader.new)
+        (W.written writer.old) (W.written writer.new) }
+    ensures part { result ≡ FAILURE → (writer.new ≡ writer.old) ⊎ WritesBy PutsPart (IsClusterTextOf form) (R.remaining reader.old) (R.remaining reader.new)
         (W.written writer.old) (W.written writer.new) }
     ensures named { result ≡ REFUSED → (name : List ℕ)
         × (Tells name (F.written faults.old) (F.written faults.new) (F.failures faults.old) (F.failures faults.new))

@@ -1,11 +1,12 @@
 //! The command line: what the words ask for, and the exit status that it comes to.
 ghost use Rattle.std.specs.Prelude.{◌≡◌, ◌≢◌, ◌≤◌, ◌<◌, ◌⊎◌, [], map, true, false};
 ghost use Rattle.std.specs.List.{list_any};
+ghost use Rattle.plain.specs.Streams.{Puts, PutsPart};
 ghost use Rattle.commands.specs.Grammar.{Cluster, Plan, Race, Replay, Serve, asked, faults_of, is_mistake, is_request};
 ghost use Rattle.commands.specs.Clustering.{Clusters};
 ghost use Rattle.commands.specs.Halts.{Tells};
 ghost use Rattle.commands.specs.Planning.{Plans, PlansPart};
-ghost use Rattle.commands.specs.Racing.{Races};
+ghost use Rattle.commands.specs.Racing.{Races, RacesPart};
 ghost use Rattle.commands.specs.Refusing.{Refuses};
 ghost use Rattle.commands.specs.Replaying.{Replays};
 ghost use Rattle.commands.specs.Serving.{AsksOutOfRange, Serves, ServesSome};
@@ -54,13 +55,19 @@ pub fn command<T: Threads + Wait + Sync, S: AsStr, R: Source, W: Sink, F: Sink>(
         result ≡ FAILURE → asked texts ≡ Serve
         → ServesSome texts (R.remaining reader.old) (R.remaining reader.new) (W.written writer.old) (W.written writer.new) }
 
-    // Replay and cluster: what the events of the script came to.
+    // Replay and cluster: what the events of the script came to, or at a failure a part of it.
     ensures replayed { let texts = map S.text words.now in
         result ≡ SUCCESS → asked texts ≡ Replay
-        → Replays texts (R.remaining reader.old) (R.remaining reader.new) (W.written writer.old) (W.written writer.new) }
+        → Replays Puts texts (R.remaining reader.old) (R.remaining reader.new) (W.written writer.old) (W.written writer.new) }
+    ensures replayed_part { let texts = map S.text words.now in
+        result ≡ FAILURE → asked texts ≡ Replay → (writer.new ≡ writer.old)
+        ⊎ Replays PutsPart texts (R.remaining reader.old) (R.remaining reader.new) (W.written writer.old) (W.written writer.new) }
     ensures clustered { let texts = map S.text words.now in
         result ≡ SUCCESS → asked texts ≡ Cluster
-        → Clusters texts (R.remaining reader.old) (R.remaining reader.new) (W.written writer.old) (W.written writer.new) }
+        → Clusters Puts texts (R.remaining reader.old) (R.remaining reader.new) (W.written writer.old) (W.written writer.new) }
+    ensures clustered_part { let texts = map S.text words.now in
+        result ≡ FAILURE → asked texts ≡ Cluster → (writer.new ≡ writer.old)
+        ⊎ Clusters PutsPart texts (R.remaining reader.old) (R.remaining reader.new) (W.written writer.old) (W.written writer.new) }
 
     // Plan: the actions, or at a failure a part of them.
     ensures planned { let texts = map S.text words.now in
@@ -70,11 +77,14 @@ pub fn command<T: Threads + Wait + Sync, S: AsStr, R: Source, W: Sink, F: Sink>(
         result ≡ FAILURE → asked texts ≡ Plan → (writer.new ≡ writer.old)
         ⊎ PlansPart texts (R.remaining reader.old) (R.remaining reader.new) (W.written writer.old) (W.written writer.new) }
 
-    // Race: the line of the report and nothing else; it is not legal exactly at the status of a refusal.
+    // Race: the line of the report and nothing else, or at a failure a part of it; it is not legal exactly at the status of a
+    // refusal.
     ensures raced { let texts = map S.text words.now in
         result ≡ SUCCESS → asked texts ≡ Race → Races true texts (W.written writer.old) (W.written writer.new) }
     ensures illegal { let texts = map S.text words.now in
         result ≡ REFUSED → asked texts ≡ Race → Races false texts (W.written writer.old) (W.written writer.new) }
+    ensures raced_part { let texts = map S.text words.now in
+        result ≡ FAILURE → asked texts ≡ Race → (writer.new ≡ writer.old) ⊎ RacesPart texts (W.written writer.old) (W.written writer.new) }
     ensures apart { asked (map S.text words.now) ≡ Race → (reader.new ≡ reader.old) × (faults.new ≡ faults.old) }
 
     // Replay, cluster and plan: input that is refused, and by which name.

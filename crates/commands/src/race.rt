@@ -2,8 +2,8 @@
 ghost use Rattle.std.specs.Prelude.{◌≡◌, ◌≢◌, ◌<◌, ◌⊎◌, true, false};
 ghost use Rattle.race_log.specs.Limits.{is_race};
 ghost use Rattle.race_log.specs.Report.{report_text};
-ghost use Rattle.plain.specs.Streams.{Puts};
-ghost use Rattle.commands.specs.Racing.{Reports};
+ghost use Rattle.plain.specs.Streams.{Puts, PutsPart};
+ghost use Rattle.commands.specs.Racing.{Reports, ReportsPart};
 
 use crate::status::{BAD_WORDS, FAILURE, Heap, REFUSED, SUCCESS, shown};
 use plain::Sink;
@@ -24,6 +24,7 @@ pub(crate) fn raced<T: Threads + Wait + Sync, W: Sink>(
     ensures status { (result < BAD_WORDS) ⊎ (result ≡ REFUSED) }
     ensures legal { result ≡ SUCCESS → Reports true spec.now (W.written writer.old) (W.written writer.new) }
     ensures illegal { result ≡ REFUSED → Reports false spec.now (W.written writer.old) (W.written writer.new) }
+    ensures part { result ≡ FAILURE → (writer.new ≡ writer.old) ⊎ ReportsPart spec.now (W.written writer.old) (W.written writer.new) }
     ensures cause { result ≡ FAILURE → (W.failures writer.old < W.failures writer.new) ⊎ (heap.new.refused ≡ true) }
     ensures memory { result ≢ FAILURE → heap.new.refused ≡ heap.old.refused }
     ensures spared { W.failures writer.old < W.failures writer.new → heap.new.refused ≡ heap.old.refused }
@@ -44,6 +45,7 @@ fn reported<W: Sink>(heap: &mut Heap, report: &RaceReport, writer: &mut W) -> u8
     ensures status { (result < BAD_WORDS) ⊎ (result ≡ REFUSED) }
     ensures legal { result ≡ SUCCESS → (report.now.legal ≡ true) × Puts (W.written writer.old) (report_text report.now) (W.written writer.new) }
     ensures illegal { result ≡ REFUSED → (report.now.legal ≡ false) × Puts (W.written writer.old) (report_text report.now) (W.written writer.new) }
+    ensures part { (writer.new ≡ writer.old) ⊎ PutsPart (W.written writer.old) (report_text report.now) (W.written writer.new) }
     ensures cause { result ≡ FAILURE → (W.failures writer.old < W.failures writer.new) ⊎ (heap.new.refused ≡ true) }
     ensures memory { result ≢ FAILURE → heap.new.refused ≡ heap.old.refused }
     ensures spared { W.failures writer.old < W.failures writer.new → heap.new.refused ≡ heap.old.refused }

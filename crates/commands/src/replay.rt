@@ -1,10 +1,12 @@
 //! `stsctl replay`.
 ghost use Rattle.std.specs.Prelude.{◌≡◌, ◌≢◌, ◌<◌, ◌⊎◌, ℕ, List, [], true, false, IfOk, IfErr, IfSome, Some};
 ghost use Rattle.replay_lines.specs.Scripts.{parts_of};
+ghost use Rattle.plain.specs.Streams.{Puts, PutsPart};
+ghost use Rattle.commands.specs.Forms.{WritesBy};
 ghost use Rattle.commands.specs.Halts.{CountsReads, Tells, is_read, name_of};
 ghost use Rattle.pictures.specs.Heading.{no_role};
 ghost use Rattle.pictures.specs.Picture.{picture_text};
-ghost use Rattle.commands.specs.Replaying.{IsRefusedBy, IsReplayRefusal, IsReplayText, IsRunRefusal, IsRunText, IsShownText, ReplaysAs};
+ghost use Rattle.commands.specs.Replaying.{IsRefusedBy, IsReplayRefusal, IsReplayText, IsRunRefusal, IsRunText, IsShownText};
 
 use crate::form::Form;
 use crate::halt::{Halt, halted};
@@ -24,7 +26,9 @@ pub(crate) fn replayed<R: Source, W: Sink, F: Sink>(
     faults: &mut F,
 ) -> u8
     ensures status { (result < BAD_WORDS) ⊎ (result ≡ REFUSED) }
-    ensures replayed { result ≡ SUCCESS → ReplaysAs form (R.remaining reader.old) (R.remaining reader.new)
+    ensures replayed { result ≡ SUCCESS → WritesBy Puts (IsReplayText form) (R.remaining reader.old) (R.remaining reader.new)
+        (W.written writer.old) (W.written writer.new) }
+    ensures part { result ≡ FAILURE → (writer.new ≡ writer.old) ⊎ WritesBy PutsPart (IsReplayText form) (R.remaining reader.old) (R.remaining reader.new)
         (W.written writer.old) (W.written writer.new) }
     ensures named { result ≡ REFUSED → (name : List ℕ)
         × (Tells name (F.written faults.old) (F.written faults.new) (F.failures faults.old) (F.failures faults.new))

@@ -1,6 +1,6 @@
 //! Exit statuses, and what goes with each.
 ghost use Rattle.std.specs.Prelude.{◌≡◌, ◌≢◌, ◌<◌, ◌⊎◌, IfNone, OnSome, false};
-ghost use Rattle.plain.specs.Streams.{Puts};
+ghost use Rattle.plain.specs.Streams.{Puts, PutsPart};
 ghost use Rattle.commands.specs.Halts.{Tells, refusal_text};
 
 use plain::{Sink, write_all};
@@ -42,6 +42,7 @@ impl Heap {
 pub(crate) fn shown<W: Sink>(writer: &mut W, text: &[u8]) -> u8
     ensures status { result < BAD_WORDS }
     ensures all { result ≡ SUCCESS → Puts (W.written writer.old) text.now (W.written writer.new) }
+    ensures part { PutsPart (W.written writer.old) text.now (W.written writer.new) }
     ensures failed { result ≢ SUCCESS → W.failures writer.old < W.failures writer.new }
 {
     match write_all(writer, text) {

@@ -1,15 +1,24 @@
 use Rattle.std.proofs.Common.{inl, inr, refl}
 use Rattle.commands.proofs.Halted.{read-fails, spared-unwritten}
-use Rattle.commands.proofs.Clustered.{clusters}
-use Rattle.commands.proofs.Replayed.{named_and}
+use Rattle.commands.proofs.Replayed.{named_and, writes_by}
 use Rattle.commands.specs.Halts.{Tells, name_of}
-use Rattle.commands.specs.Clustering.{IsClusterRefusedBy}
+use Rattle.plain.specs.Streams.{Puts, PutsPart}
+use Rattle.commands.specs.Clustering.{IsClusterTextOf, IsClusterRefusedBy}
 use Rattle.commands.proofs.cluster.clustered.Goals as goal
 
 pub returns-in-Ok-clause-clustered : goal.returns-in-Ok-clause-clustered
 returns-in-Ok-clause-clustered g c = λ is.
-    clusters c.args.form (g.R.Source.remaining c.args.reader.now) (g.R.Source.remaining c.cluster_of_input.new.reader) (g.W.Sink.written c.args.writer.now)
+    writes_by Puts (IsClusterTextOf c.args.form) (g.R.Source.remaining c.args.reader.now) (g.R.Source.remaining c.cluster_of_input.new.reader) (g.W.Sink.written c.args.writer.now)
     (g.W.Sink.written c.shown.new.writer) c.in-Ok.text.items c.as_slice.result.now c.in-Ok.ensures.clustered (c.shown.ensures.all is) c.as_slice.ensures.value
+
+pub returns-in-Ok-clause-part : goal.returns-in-Ok-clause-part
+returns-in-Ok-clause-part g c = λ is.
+    inr (writes_by PutsPart (IsClusterTextOf c.args.form) (g.R.Source.remaining c.args.reader.now) (g.R.Source.remaining c.cluster_of_input.new.reader)
+    (g.W.Sink.written c.args.writer.now) (g.W.Sink.written c.shown.new.writer) c.in-Ok.text.items c.as_slice.result.now c.in-Ok.ensures.clustered c.shown.ensures.part
+    c.as_slice.ensures.value)
+
+pub returns-in-Err-clause-part : goal.returns-in-Err-clause-part
+returns-in-Err-clause-part g c = λ is. inl refl
 
 pub returns-in-Err-clause-named : goal.returns-in-Err-clause-named
 returns-in-Err-clause-named g c = λ is.

@@ -100,3 +100,42 @@ pub returns-in-Ok-Cluster-clause-clustered : goal.returns-in-Ok-Cluster-clause-c
 returns-in-Ok-Cluster-clause-clustered g c = λ is asks.
     let asked = subst (λ (a : Asked). IsAsked (map g.S.AsStr.text c.args.words.now) a) c.in-Ok-Cluster.field-0-is c.in-Ok-Cluster.ensures.asked in
     (c.in-Ok-Cluster.form, asked.1, c.clustered.ensures.clustered is)
+
+pub returns-in-Ok-Replay-clause-replayed_part : goal.returns-in-Ok-Replay-clause-replayed_part
+returns-in-Ok-Replay-clause-replayed_part g c = λ is asks.
+    let asked = subst (λ (a : Asked). IsAsked (map g.S.AsStr.text c.args.words.now) a) c.in-Ok-Replay.field-0-is c.in-Ok-Replay.ensures.asked in
+    elim (c.replayed.ensures.part is) [
+      | inl same ↦ inl same
+      | inr part ↦ inr (c.in-Ok-Replay.form, asked.1, part)
+    ]
+
+pub returns-in-Err-clause-replayed_part : goal.returns-in-Err-clause-replayed_part
+returns-in-Err-clause-replayed_part g c = λ is asks.
+    let memory = only_memory c.in-Err.error (map g.S.AsStr.text c.args.words.now) Replay c.in-Err.ensures.faults asks tt in
+    inl (c.explained.ensures.untouched (ap is_request memory))
+
+pub returns-in-Ok-Cluster-clause-clustered_part : goal.returns-in-Ok-Cluster-clause-clustered_part
+returns-in-Ok-Cluster-clause-clustered_part g c = λ is asks.
+    let asked = subst (λ (a : Asked). IsAsked (map g.S.AsStr.text c.args.words.now) a) c.in-Ok-Cluster.field-0-is c.in-Ok-Cluster.ensures.asked in
+    elim (c.clustered.ensures.part is) [
+      | inl same ↦ inl same
+      | inr part ↦ inr (c.in-Ok-Cluster.form, asked.1, part)
+    ]
+
+pub returns-in-Err-clause-clustered_part : goal.returns-in-Err-clause-clustered_part
+returns-in-Err-clause-clustered_part g c = λ is asks.
+    let memory = only_memory c.in-Err.error (map g.S.AsStr.text c.args.words.now) Cluster c.in-Err.ensures.faults asks tt in
+    inl (c.explained.ensures.untouched (ap is_request memory))
+
+pub returns-in-Ok-Race-clause-raced_part : goal.returns-in-Ok-Race-clause-raced_part
+returns-in-Ok-Race-clause-raced_part g c = λ is asks.
+    let asked = subst (λ (a : Asked). IsAsked (map g.S.AsStr.text c.args.words.now) a) c.in-Ok-Race.field-0-is c.in-Ok-Race.ensures.asked in
+    elim (c.raced.ensures.part is) [
+      | inl same ↦ inl same
+      | inr part ↦ inr (c.in-Ok-Race.spec, asked.1, part)
+    ]
+
+pub returns-in-Err-clause-raced_part : goal.returns-in-Err-clause-raced_part
+returns-in-Err-clause-raced_part g c = λ is asks.
+    let memory = only_memory c.in-Err.error (map g.S.AsStr.text c.args.words.now) Race c.in-Err.ensures.faults asks tt in
+    inl (c.explained.ensures.untouched (ap is_request memory))

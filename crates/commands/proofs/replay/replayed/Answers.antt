@@ -1,14 +1,24 @@
 use Rattle.std.proofs.Common.{inl, inr, refl}
 use Rattle.commands.proofs.Halted.{read-fails, spared-unwritten}
-use Rattle.commands.proofs.Replayed.{replays, named_and}
+use Rattle.commands.proofs.Replayed.{named_and, writes_by}
 use Rattle.commands.specs.Halts.{Tells, name_of}
-use Rattle.commands.specs.Replaying.{IsRefusedBy}
+use Rattle.plain.specs.Streams.{Puts, PutsPart}
+use Rattle.commands.specs.Replaying.{IsReplayText, IsRefusedBy}
 use Rattle.commands.proofs.replay.replayed.Goals as goal
 
 pub returns-in-Ok-clause-replayed : goal.returns-in-Ok-clause-replayed
 returns-in-Ok-clause-replayed g c = λ is.
-    replays c.args.form (g.R.Source.remaining c.args.reader.now) (g.R.Source.remaining c.replay_of_input.new.reader) (g.W.Sink.written c.args.writer.now)
+    writes_by Puts (IsReplayText c.args.form) (g.R.Source.remaining c.args.reader.now) (g.R.Source.remaining c.replay_of_input.new.reader) (g.W.Sink.written c.args.writer.now)
     (g.W.Sink.written c.shown.new.writer) c.in-Ok.text.items c.as_slice.result.now c.in-Ok.ensures.replayed (c.shown.ensures.all is) c.as_slice.ensures.value
+
+pub returns-in-Ok-clause-part : goal.returns-in-Ok-clause-part
+returns-in-Ok-clause-part g c = λ is.
+    inr (writes_by PutsPart (IsReplayText c.args.form) (g.R.Source.remaining c.args.reader.now) (g.R.Source.remaining c.replay_of_input.new.reader)
+    (g.W.Sink.written c.args.writer.now) (g.W.Sink.written c.shown.new.writer) c.in-Ok.text.items c.as_slice.result.now c.in-Ok.ensures.replayed c.shown.ensures.part
+    c.as_slice.ensures.value)
+
+pub returns-in-Err-clause-part : goal.returns-in-Err-clause-part
+returns-in-Err-clause-part g c = λ is. inl refl
 
 pub returns-in-Err-clause-named : goal.returns-in-Err-clause-named
 returns-in-Err-clause-named g c = λ is.
