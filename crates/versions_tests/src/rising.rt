@@ -29,10 +29,6 @@ impl Rising {
         &self.shard
     }
 
-    pub(crate) fn last(&self) -> u64 {
-        self.last
-    }
-
     /// Pushes what the key is from the number on, which has to be above those of all records.
     pub(crate) fn push(
         &mut self,
