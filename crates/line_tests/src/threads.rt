@@ -1,16 +1,16 @@
-// Eight threads, each with a shard's seat.
+// Lines that are used up by threads, each with a shard's seat.
 ghost use Rattle.std.specs.Prelude.{◌≡◌, None, All};
 ghost use Rattle.line.specs.Seat.{new_shard_seat, shard_seat};
 
 use crate::blank::{Ends, Line, ShardSeat};
 use crate::numbers::{numbers_of, raised, sorted};
 use std::alloc::Global;
-use std::process::Abort;
 use std::test::Fail;
 use std::thread;
 use std::thread::Threads;
 
-const CAPACITY: u64 = 1000;
+/// One more than any line has numbers.
+const TRIES: usize = 1_048_577;
 
 /// What each seat drew and filled, in a thread of its own, until all numbers were drawn.
 fn drawn_in_threads<R: Threads + Sync>(
@@ -26,23 +26,41 @@ fn drawn_in_threads<R: Threads + Sync>(
         shards,
         &|seat: ShardSeat| -> Option<Vec<u64>>
             requires { (shard_seat seat ≡ new_shard_seat line.now.name) × (seat.view.caller ≡ None) }
-        { numbers_of(alloc, line, seat, 2000) },
+        { numbers_of(alloc, line, seat, TRIES) },
     )
     .ok()
 }
 
-#[test]
-fn eight_threads_draw_each_number_once(rt: HostRuntime) -> Result<(), Fail> {
+/// Whether the shards of a line draw each of its numbers once, and one caller then raises the frontier over all of them.
+fn is_used_up<R: Threads + Sync>(
+    rt: &R,
+    alloc: Global,
+    capacity: u64,
+    shards: usize,
+) -> Result<bool, Fail> {
     let Ends {
         line,
         shards,
         mut caller,
-    } = Line::new(rt.alloc(), CAPACITY, 8)?;
-    let lists = drawn_in_threads(&rt, rt.alloc(), &line, shards).ok_or("no memory")?;
-    let numbers = sorted(rt.alloc(), lists)?;
-    assert!(rt; numbers.iter().copied().eq(1..=CAPACITY));
-    assert_eq!(rt; raised(&line, &mut caller, CAPACITY), CAPACITY);
+    } = Line::new(alloc, capacity, shards)?;
+    let lists = drawn_in_threads(rt, alloc, &line, shards).ok_or("no memory")?;
+    let numbers = sorted(alloc, lists)?;
+    let is_each_drawn = numbers.iter().copied().eq(1..=capacity);
+    let frontier = raised(&line, &mut caller, capacity);
     let closed = line.close();
-    assert_eq!(rt; (closed.drawn, closed.frontier), (CAPACITY, CAPACITY));
+    Ok(
+        is_each_drawn
+            && frontier == capacity
+            && closed.drawn == capacity
+            && closed.frontier == capacity,
+    )
+}
+
+#[test]
+fn threads_use_lines_up(rt: HostRuntime) -> Result<(), Fail> {
+    // eight threads, and the least and the greatest line
+    assert!(rt; is_used_up(&rt, rt.alloc(), 1000, 8)?);
+    assert!(rt; is_used_up(&rt, rt.alloc(), 1, 64)?);
+    assert!(rt; is_used_up(&rt, rt.alloc(), 1_048_576, 1)?);
     Ok(())
 }
