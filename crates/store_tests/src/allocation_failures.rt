@@ -2,7 +2,7 @@
 //! test of this file comes to, it has to pass: one call may want memory, and the same call after it is ample.
 ghost use Rattle.std.specs.Prelude.{IfSome};
 
-use crate::asking::{Asked, create, reply_text};
+use crate::asking::{has_reply, write_of};
 use crate::scenes::{Scene, assert_on};
 use racing::SharedStore;
 use requests::Reply;
@@ -12,9 +12,16 @@ use std::sync::Wait;
 use std::test::Fail;
 use store::NoGate;
 
-static A: &str = r#"{"kind":"Pod","metadata":{"name":"a"}}"#;
-
-static B: &str = r#"{"kind":"Pod","metadata":{"name":"b"}}"#;
+static CREATES: [(&str, u64); 2] = [
+    (
+        r#"{"do":"create","object":{"kind":"Pod","metadata":{"name":"a"}}}"#,
+        1,
+    ),
+    (
+        r#"{"do":"create","object":{"kind":"Pod","metadata":{"name":"b"}}}"#,
+        2,
+    ),
+];
 
 /// The ticket of the create of a pod, or none where memory ran out.
 fn handed<S: SharedStore, R: Wait>(
@@ -22,11 +29,11 @@ fn handed<S: SharedStore, R: Wait>(
     alloc: Global,
     store: &S,
     caller: &mut S::Caller,
-    object: &str,
+    line: &str,
 ) -> Option<S::Ticket>
     ensures { IfSome result (λ t. S.is_of t caller.new) }
 {
-    let request = create(alloc, object)?;
+    let request = write_of(alloc, line)?;
     store.submit(rt, caller, request, &NoGate).ok()
 }
 
@@ -36,13 +43,13 @@ fn handed_again<S: SharedStore, R: Wait>(
     alloc: Global,
     store: &S,
     caller: &mut S::Caller,
-    object: &str,
+    line: &str,
 ) -> Option<S::Ticket>
     ensures { IfSome result (λ t. S.is_of t caller.new) }
 {
-    match handed(rt, alloc, store, caller, object) {
+    match handed(rt, alloc, store, caller, line) {
         Some(ticket) => Some(ticket),
-        None => handed(rt, alloc, store, caller, object),
+        None => handed(rt, alloc, store, caller, line),
     }
 }
 
@@ -75,9 +82,9 @@ fn created<S: SharedStore, R: Wait>(
     alloc: Global,
     store: &S,
     caller: &mut S::Caller,
-    object: &str,
+    line: &str,
 ) -> Option<(u64, u64)> {
-    let ticket = handed_again(rt, alloc, store, caller, object)?;
+    let ticket = handed_again(rt, alloc, store, caller, line)?;
     let place = store.place(&ticket);
     let reply = reply_in_two_tries(store, caller, ticket)?;
     let revision = created_revision(&reply);
@@ -86,35 +93,33 @@ fn created<S: SharedStore, R: Wait>(
 }
 
 /// A read that memory was refused changes nothing, so that the next one is answered.
-fn assert_read<S: SharedStore, R: Wait + Abort>(
+fn is_read<S: SharedStore, R: Wait>(
     rt: &R,
     alloc: Global,
     store: &S,
     caller: &mut S::Caller,
-    asked: Asked,
+    line: &str,
     expected: &str,
-) -> Result<(), Fail> {
-    let text = match reply_text(rt, alloc, store, caller, asked) {
-        Some(text) => Some(text),
-        None => reply_text(rt, alloc, store, caller, asked),
+) -> bool {
+    let is_so = match has_reply(rt, alloc, store, caller, line, expected) {
+        Some(is_so) => Some(is_so),
+        None => has_reply(rt, alloc, store, caller, line, expected),
     };
-    let text = text.ok_or("no reply")?;
-    assert_eq!(rt; text.as_str(), expected);
-    Ok(())
+    is_so == Some(true)
 }
 
-static READS: [(Asked, &str); 3] = [
+static READS: [(&str, &str); 3] = [
     (
-        Asked::Get("a"),
-        r#"Found {"kind":"Pod","metadata":{"generation":1,"name":"a","namespace":"default","resourceVersion":"1","uid":"00000000-0000-4000-8000-000000000001"}}"#,
+        r#"{"do":"get","kind":"Pod","name":"a"}"#,
+        r#"{"code":200,"object":{"kind":"Pod","metadata":{"generation":1,"name":"a","namespace":"default","resourceVersion":"1","uid":"00000000-0000-4000-8000-000000000001"}},"result":"Found"}"#,
     ),
     (
-        Asked::List,
-        r#"Listed at 2: {"kind":"Pod","metadata":{"generation":1,"name":"a","namespace":"default","resourceVersion":"1","uid":"00000000-0000-4000-8000-000000000001"}}: {"kind":"Pod","metadata":{"generation":1,"name":"b","namespace":"default","resourceVersion":"2","uid":"00000000-0000-4000-8000-000000000002"}}"#,
+        r#"{"do":"list","kind":"Pod"}"#,
+        r#"{"code":200,"items":[{"kind":"Pod","metadata":{"generation":1,"name":"a","namespace":"default","resourceVersion":"1","uid":"00000000-0000-4000-8000-000000000001"}},{"kind":"Pod","metadata":{"generation":1,"name":"b","namespace":"default","resourceVersion":"2","uid":"00000000-0000-4000-8000-000000000002"}}],"resourceVersion":"2","result":"Listed"}"#,
     ),
     (
-        Asked::ListAt(1),
-        r#"Listed at 1: {"kind":"Pod","metadata":{"generation":1,"name":"a","namespace":"default","resourceVersion":"1","uid":"00000000-0000-4000-8000-000000000001"}}"#,
+        r#"{"do":"list","kind":"Pod","resourceVersion":"1"}"#,
+        r#"{"code":200,"items":[{"kind":"Pod","metadata":{"generation":1,"name":"a","namespace":"default","resourceVersion":"1","uid":"00000000-0000-4000-8000-000000000001"}}],"resourceVersion":"1","result":"Listed"}"#,
     ),
 ];
 
@@ -126,16 +131,13 @@ pub(crate) fn assert_ample<S: SharedStore, R: Wait + Abort>(
 ) -> Result<(), Fail> {
     let mut caller = store.caller(rt)?;
     // a create that memory was refused has drawn no number, so that the next one has it
-    for (object, expected) in [(A, 1), (B, 2)] {
-        let created = created(rt, alloc, store, &mut caller, object);
-        assert_eq!(rt;
-            created,
-            Some((expected, expected)),
-            "the place and version of {object}"
-        );
+    for (line, number) in CREATES.iter() {
+        let created = created(rt, alloc, store, &mut caller, *line);
+        assert!(rt; created == Some((*number, *number)), "of {line}");
     }
-    for (asked, expected) in READS.iter() {
-        assert_read(rt, alloc, store, &mut caller, *asked, *expected)?;
+    for (line, expected) in READS.iter() {
+        let is_so = is_read(rt, alloc, store, &mut caller, *line, *expected);
+        assert!(rt; is_so, "of {line}");
     }
     Ok(())
 }

@@ -1,5 +1,5 @@
 // Eight threads at once, whose log is judged.
-use crate::asking::{Asked, request_of};
+use crate::asking::request_of;
 use race_log::{Log, RaceSpec, judged};
 use racing::{SharedStore, answered};
 use requests::{Reason, Reply, Request};
@@ -21,38 +21,38 @@ const REQUESTS: u64 = 1_000;
 
 /// What is asked by chance: of 32 requests ten are creates, nine updates, five deletes, four gets and three lists, and one
 /// is a compaction.
-static ASKED: [Asked; 31] = [
-    Asked::Create(r#"{"kind":"Pod","metadata":{"name":"a"}}"#),
-    Asked::Create(r#"{"kind":"Pod","metadata":{"name":"b"}}"#),
-    Asked::Create(r#"{"kind":"Pod","metadata":{"name":"c"}}"#),
-    Asked::Create(r#"{"kind":"Pod","metadata":{"name":"d"}}"#),
-    Asked::Create(r#"{"kind":"Pod","metadata":{"name":"e"}}"#),
-    Asked::Create(r#"{"kind":"Pod","metadata":{"name":"f"}}"#),
-    Asked::Create(r#"{"kind":"Pod","metadata":{"name":"g"}}"#),
-    Asked::Create(r#"{"kind":"Pod","metadata":{"name":"h"}}"#),
-    Asked::Create(r#"{"kind":"Pod","metadata":{"name":"a"},"spec":{"x":1}}"#),
-    Asked::Create(r#"{"kind":"Pod","metadata":{"name":"b"},"spec":{"x":1}}"#),
-    Asked::Update(r#"{"kind":"Pod","metadata":{"name":"a"},"spec":{"x":1}}"#),
-    Asked::Update(r#"{"kind":"Pod","metadata":{"name":"a"},"spec":{"x":2}}"#),
-    Asked::Update(r#"{"kind":"Pod","metadata":{"name":"b"},"spec":{"x":1}}"#),
-    Asked::Update(r#"{"kind":"Pod","metadata":{"name":"c"},"spec":{"x":2}}"#),
-    Asked::Update(r#"{"kind":"Pod","metadata":{"name":"d"},"spec":{"x":2}}"#),
-    Asked::Update(r#"{"kind":"Pod","metadata":{"name":"e"},"spec":{"x":2}}"#),
-    Asked::Update(r#"{"kind":"Pod","metadata":{"labels":{"x":"y"},"name":"a"}}"#),
-    Asked::Update(r#"{"kind":"Pod","metadata":{"name":"a","resourceVersion":"7"}}"#),
-    Asked::Update(r#"{"kind":"Pod","metadata":{"name":"b","resourceVersion":"8"}}"#),
-    Asked::Remove("a"),
-    Asked::Remove("b"),
-    Asked::Remove("c"),
-    Asked::Remove("h"),
-    Asked::Mark("d"),
-    Asked::Get("a"),
-    Asked::Get("b"),
-    Asked::Get("c"),
-    Asked::Get("h"),
-    Asked::List,
-    Asked::List,
-    Asked::List,
+static ASKED: [&str; 31] = [
+    r#"{"do":"create","object":{"kind":"Pod","metadata":{"name":"a"}}}"#,
+    r#"{"do":"create","object":{"kind":"Pod","metadata":{"name":"b"}}}"#,
+    r#"{"do":"create","object":{"kind":"Pod","metadata":{"name":"c"}}}"#,
+    r#"{"do":"create","object":{"kind":"Pod","metadata":{"name":"d"}}}"#,
+    r#"{"do":"create","object":{"kind":"Pod","metadata":{"name":"e"}}}"#,
+    r#"{"do":"create","object":{"kind":"Pod","metadata":{"name":"f"}}}"#,
+    r#"{"do":"create","object":{"kind":"Pod","metadata":{"name":"g"}}}"#,
+    r#"{"do":"create","object":{"kind":"Pod","metadata":{"name":"h"}}}"#,
+    r#"{"do":"create","object":{"kind":"Pod","metadata":{"name":"a"},"spec":{"x":1}}}"#,
+    r#"{"do":"create","object":{"kind":"Pod","metadata":{"name":"b"},"spec":{"x":1}}}"#,
+    r#"{"do":"update","object":{"kind":"Pod","metadata":{"name":"a"},"spec":{"x":1}}}"#,
+    r#"{"do":"update","object":{"kind":"Pod","metadata":{"name":"a"},"spec":{"x":2}}}"#,
+    r#"{"do":"update","object":{"kind":"Pod","metadata":{"name":"b"},"spec":{"x":1}}}"#,
+    r#"{"do":"update","object":{"kind":"Pod","metadata":{"name":"c"},"spec":{"x":2}}}"#,
+    r#"{"do":"update","object":{"kind":"Pod","metadata":{"name":"d"},"spec":{"x":2}}}"#,
+    r#"{"do":"update","object":{"kind":"Pod","metadata":{"name":"e"},"spec":{"x":2}}}"#,
+    r#"{"do":"update","object":{"kind":"Pod","metadata":{"labels":{"x":"y"},"name":"a"}}}"#,
+    r#"{"do":"update","object":{"kind":"Pod","metadata":{"name":"a","resourceVersion":"7"}}}"#,
+    r#"{"do":"update","object":{"kind":"Pod","metadata":{"name":"b","resourceVersion":"8"}}}"#,
+    r#"{"do":"delete","kind":"Pod","name":"a"}"#,
+    r#"{"do":"delete","kind":"Pod","name":"b"}"#,
+    r#"{"do":"delete","kind":"Pod","name":"c"}"#,
+    r#"{"do":"delete","kind":"Pod","name":"h"}"#,
+    r#"{"do":"delete","kind":"Pod","name":"d","at":"2024-01-01T00:00:00Z"}"#,
+    r#"{"do":"get","kind":"Pod","name":"a"}"#,
+    r#"{"do":"get","kind":"Pod","name":"b"}"#,
+    r#"{"do":"get","kind":"Pod","name":"c"}"#,
+    r#"{"do":"get","kind":"Pod","name":"h"}"#,
+    r#"{"do":"list","kind":"Pod"}"#,
+    r#"{"do":"list","kind":"Pod"}"#,
+    r#"{"do":"list","kind":"Pod"}"#,
 ];
 
 /// The next number that looks like chance, by the multiplier and the increment of Knuth's MMIX.
@@ -76,9 +76,9 @@ fn ask<S: SharedStore, R: Wait>(
     caller: &mut S::Caller,
     log: &Mutex<Log>,
     name: u64,
-    asked: Asked,
+    line: &str,
 ) -> Option<()> {
-    let request = request_of(alloc, asked)?;
+    let request = request_of(alloc, line)?;
     if note_call(rt, log, name, &request).is_none() {
         drop(request);
         return None;
@@ -100,7 +100,7 @@ fn work<S: SharedStore, R: Wait>(
     for _ in 0..REQUESTS {
         state = rolled(state);
         match ASKED.get((state >> 33) as usize % 32) {
-            Some(asked) => ask(rt, alloc, store, &mut caller, log, name, *asked)?,
+            Some(line) => ask(rt, alloc, store, &mut caller, log, name, *line)?,
             None => {
                 let seen = store.seen(&caller);
                 drop(store.compact(rt, &mut caller, seen));
@@ -124,13 +124,12 @@ fn assert_legal<R: Abort>(rt: &R, alloc: Global, log: Log) -> Result<(), Fail> {
     Ok(())
 }
 
+const FREE: &str = r#"{"do":"create","object":{"kind":"Pod","metadata":{"name":"z"}}}"#;
+
 /// Whether a create of a free name is refused since no number is left.
 fn is_full<S: SharedStore, R: Wait>(rt: &R, alloc: Global, store: &S) -> Option<bool> {
     let mut caller = store.caller(rt).ok()?;
-    let request = request_of(
-        alloc,
-        Asked::Create(r#"{"kind":"Pod","metadata":{"name":"z"}}"#),
-    )?;
+    let request = request_of(alloc, FREE)?;
     let (reply, _) = answered(rt, store, &NoGate, &mut caller, request).ok()?;
     let is_full = matches!(reply, Reply::Refused(Reason::StoreFull));
     drop(reply);

@@ -1,11 +1,13 @@
 // Two callers that meet.
-use crate::asking::{Asked, assert_reply, create};
+use crate::asking::{assert_reply, request_of};
 use racing::{SharedStore, answered};
 use std::alloc::Global;
 use std::process::Abort;
 use std::sync::Wait;
 use std::test::Fail;
 use store::{Caller, Naming, NoGate, Sharding, Store};
+
+const CREATE: &str = r#"{"do":"create","object":{"kind":"Pod","metadata":{"name":"a"}}}"#;
 
 /// The place of the create of a, or 0 where memory ran out.
 fn place_of_a<S: SharedStore, R: Wait>(
@@ -14,7 +16,7 @@ fn place_of_a<S: SharedStore, R: Wait>(
     store: &S,
     caller: &mut S::Caller,
 ) -> u64 {
-    let Some(request) = create(alloc, r#"{"kind":"Pod","metadata":{"name":"a"}}"#) else {
+    let Some(request) = request_of(alloc, CREATE) else {
         return 0;
     };
     match answered(rt, store, &NoGate, caller, request) {
@@ -45,32 +47,36 @@ fn meet_after_a_create<H: Sharding, N: Naming, R: Wait + Abort>(
 }
 
 /// Whose turn it is: the second caller's, or else the first's.
-static TURNS: [(bool, Asked, &str); 6] = [
+static TURNS: [(bool, &str, &str); 6] = [
     (
         true,
-        Asked::Get("a"),
-        r#"Found {"kind":"Pod","metadata":{"generation":1,"name":"a","namespace":"default","resourceVersion":"1","uid":"00000000-0000-4000-8000-000000000001"}}"#,
+        r#"{"do":"get","kind":"Pod","name":"a"}"#,
+        r#"{"code":200,"object":{"kind":"Pod","metadata":{"generation":1,"name":"a","namespace":"default","resourceVersion":"1","uid":"00000000-0000-4000-8000-000000000001"}},"result":"Found"}"#,
     ),
     (
         true,
-        Asked::Update(r#"{"kind":"Pod","metadata":{"labels":{"x":"y"},"name":"a"}}"#),
-        r#"Updated {"kind":"Pod","metadata":{"generation":1,"labels":{"x":"y"},"name":"a","namespace":"default","resourceVersion":"2","uid":"00000000-0000-4000-8000-000000000001"}}"#,
-    ),
-    (true, Asked::Compact(2), "Compacted 2"),
-    (
-        false,
-        Asked::Update(r#"{"kind":"Pod","metadata":{"name":"a","resourceVersion":"1"}}"#),
-        "Conflict",
+        r#"{"do":"update","object":{"kind":"Pod","metadata":{"labels":{"x":"y"},"name":"a"}}}"#,
+        r#"{"code":200,"object":{"kind":"Pod","metadata":{"generation":1,"labels":{"x":"y"},"name":"a","namespace":"default","resourceVersion":"2","uid":"00000000-0000-4000-8000-000000000001"}},"result":"Updated"}"#,
     ),
     (
         true,
-        Asked::Create(r#"{"kind":"Pod","metadata":{"name":"b"}}"#),
-        r#"Created {"kind":"Pod","metadata":{"generation":1,"name":"b","namespace":"default","resourceVersion":"3","uid":"00000000-0000-4000-8000-000000000003"}}"#,
+        r#"{"do":"compact","resourceVersion":"2"}"#,
+        r#"{"code":200,"resourceVersion":"2","result":"Compacted"}"#,
     ),
     (
         false,
-        Asked::Create(r#"{"kind":"Pod","metadata":{"name":"d"}}"#),
-        "StoreFull",
+        r#"{"do":"update","object":{"kind":"Pod","metadata":{"name":"a","resourceVersion":"1"}}}"#,
+        r#"{"code":409,"reason":"Conflict"}"#,
+    ),
+    (
+        true,
+        r#"{"do":"create","object":{"kind":"Pod","metadata":{"name":"b"}}}"#,
+        r#"{"code":201,"object":{"kind":"Pod","metadata":{"generation":1,"name":"b","namespace":"default","resourceVersion":"3","uid":"00000000-0000-4000-8000-000000000003"}},"result":"Created"}"#,
+    ),
+    (
+        false,
+        r#"{"do":"create","object":{"kind":"Pod","metadata":{"name":"d"}}}"#,
+        r#"{"code":507,"reason":"StoreFull"}"#,
     ),
 ];
 
@@ -81,15 +87,14 @@ fn assert_turns<S: SharedStore, R: Wait + Abort>(
     store: &S,
     first: &mut S::Caller,
     second: &mut S::Caller,
-) -> Result<(), Fail> {
-    for (row, (of_second, asked, expected)) in TURNS.iter().enumerate() {
+) {
+    for (of_second, line, expected) in TURNS.iter() {
         if *of_second {
-            assert_reply(rt, alloc, store, second, row, *asked, *expected)?;
+            assert_reply(rt, alloc, store, second, *line, *expected);
         } else {
-            assert_reply(rt, alloc, store, first, row, *asked, *expected)?;
+            assert_reply(rt, alloc, store, first, *line, *expected);
         }
     }
-    Ok(())
 }
 
 /// What one caller has seen, another has seen after they met.
@@ -101,5 +106,6 @@ pub(crate) fn assert_meeting<H: Sharding, N: Naming, R: Wait + Abort>(
     let mut first = store.caller(rt)?;
     let mut second = store.caller(rt)?;
     meet_after_a_create(rt, alloc, store, &mut first, &mut second);
-    assert_turns(rt, alloc, store, &mut first, &mut second)
+    assert_turns(rt, alloc, store, &mut first, &mut second);
+    Ok(())
 }

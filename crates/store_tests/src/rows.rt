@@ -1,113 +1,98 @@
-// Rows of requests, whose replies were worked out by hand.
-use crate::asking::Asked;
+// What one caller is answered, in lines that were worked out by hand, and each scene on a store of its own.
 use crate::crowds::CAPACITY;
 use crate::scenes::{Scene, assert_on};
 use std::test::Fail;
 
-pub(crate) static ONE_POD: [(Asked, &str); 4] = [
+/// A pod is made, read, changed at its version and read again; the past is listed, compacted away and denied; then the store is
+/// full, and lists its pods in the order of their names.
+pub(crate) static ROWS: [(&str, &str); 20] = [
     (
-        Asked::Create(r#"{"kind":"Pod","metadata":{"name":"web-0"}}"#),
-        r#"Created {"kind":"Pod","metadata":{"generation":1,"name":"web-0","namespace":"default","resourceVersion":"1","uid":"00000000-0000-4000-8000-000000000001"}}"#,
+        r#"{"do":"list","kind":"Pod"}"#,
+        r#"{"code":200,"items":[],"resourceVersion":"0","result":"Listed"}"#,
     ),
     (
-        Asked::Get("web-0"),
-        r#"Found {"kind":"Pod","metadata":{"generation":1,"name":"web-0","namespace":"default","resourceVersion":"1","uid":"00000000-0000-4000-8000-000000000001"}}"#,
+        r#"{"do":"create","object":{"kind":"Pod","metadata":{"name":"web-0"}}}"#,
+        r#"{"code":201,"object":{"kind":"Pod","metadata":{"generation":1,"name":"web-0","namespace":"default","resourceVersion":"1","uid":"00000000-0000-4000-8000-000000000001"}},"result":"Created"}"#,
     ),
     (
-        Asked::Update(
-            r#"{"kind":"Pod","metadata":{"labels":{"a":"b"},"name":"web-0","resourceVersion":"1"}}"#,
-        ),
-        r#"Updated {"kind":"Pod","metadata":{"generation":1,"labels":{"a":"b"},"name":"web-0","namespace":"default","resourceVersion":"2","uid":"00000000-0000-4000-8000-000000000001"}}"#,
+        r#"{"do":"get","kind":"Pod","name":"web-0"}"#,
+        r#"{"code":200,"object":{"kind":"Pod","metadata":{"generation":1,"name":"web-0","namespace":"default","resourceVersion":"1","uid":"00000000-0000-4000-8000-000000000001"}},"result":"Found"}"#,
     ),
     (
-        Asked::Get("web-0"),
-        r#"Found {"kind":"Pod","metadata":{"generation":1,"labels":{"a":"b"},"name":"web-0","namespace":"default","resourceVersion":"2","uid":"00000000-0000-4000-8000-000000000001"}}"#,
-    ),
-];
-
-/// A create, a get, an update at the version of the create, and the get again.
-#[test]
-fn one_shard_serves_a_pod(rt: HostRuntime) -> Result<(), Fail> {
-    assert_on(&rt, rt.alloc(), 100, 1, Scene::OnePod)
-}
-
-#[test]
-fn eight_shards_serve_a_pod(rt: HostRuntime) -> Result<(), Fail> {
-    assert_on(&rt, rt.alloc(), 100, 8, Scene::OnePod)
-}
-
-#[test]
-fn sixty_four_shards_serve_a_pod(rt: HostRuntime) -> Result<(), Fail> {
-    assert_on(&rt, rt.alloc(), 100, 64, Scene::OnePod)
-}
-
-pub(crate) static PAST: [(Asked, &str); 9] = [
-    (
-        Asked::Create(r#"{"kind":"Pod","metadata":{"name":"a"}}"#),
-        r#"Created {"kind":"Pod","metadata":{"generation":1,"name":"a","namespace":"default","resourceVersion":"1","uid":"00000000-0000-4000-8000-000000000001"}}"#,
+        r#"{"do":"update","object":{"kind":"Pod","metadata":{"labels":{"a":"b"},"name":"web-0","resourceVersion":"1"}}}"#,
+        r#"{"code":200,"object":{"kind":"Pod","metadata":{"generation":1,"labels":{"a":"b"},"name":"web-0","namespace":"default","resourceVersion":"2","uid":"00000000-0000-4000-8000-000000000001"}},"result":"Updated"}"#,
     ),
     (
-        Asked::Update(r#"{"kind":"Pod","metadata":{"labels":{"a":"b"},"name":"a"}}"#),
-        r#"Updated {"kind":"Pod","metadata":{"generation":1,"labels":{"a":"b"},"name":"a","namespace":"default","resourceVersion":"2","uid":"00000000-0000-4000-8000-000000000001"}}"#,
+        r#"{"do":"get","kind":"Pod","name":"web-0"}"#,
+        r#"{"code":200,"object":{"kind":"Pod","metadata":{"generation":1,"labels":{"a":"b"},"name":"web-0","namespace":"default","resourceVersion":"2","uid":"00000000-0000-4000-8000-000000000001"}},"result":"Found"}"#,
     ),
     (
-        Asked::ListAt(1),
-        r#"Listed at 1: {"kind":"Pod","metadata":{"generation":1,"name":"a","namespace":"default","resourceVersion":"1","uid":"00000000-0000-4000-8000-000000000001"}}"#,
-    ),
-    (Asked::ListAt(3), "TooLarge"),
-    (Asked::Compact(2), "Compacted 2"),
-    (Asked::ListAt(1), "Expired"),
-    (
-        Asked::ListAt(2),
-        r#"Listed at 2: {"kind":"Pod","metadata":{"generation":1,"labels":{"a":"b"},"name":"a","namespace":"default","resourceVersion":"2","uid":"00000000-0000-4000-8000-000000000001"}}"#,
-    ),
-    (Asked::Compact(1), "Expired"),
-    (Asked::Compact(2), "Compacted 2"),
-];
-
-/// Lists of the past, and compactions.
-#[test]
-fn the_past_is_read_until_it_is_given_up(rt: HostRuntime) -> Result<(), Fail> {
-    assert_on(&rt, rt.alloc(), 100, 2, Scene::Past)
-}
-
-pub(crate) static FULL: [(Asked, &str); 10] = [
-    (Asked::List, "Listed at 0"),
-    (
-        Asked::Create(r#"{"kind":"Pod","metadata":{"name":"b"}}"#),
-        r#"Created {"kind":"Pod","metadata":{"generation":1,"name":"b","namespace":"default","resourceVersion":"1","uid":"00000000-0000-4000-8000-000000000001"}}"#,
+        r#"{"do":"list","kind":"Pod","resourceVersion":"1"}"#,
+        r#"{"code":200,"items":[{"kind":"Pod","metadata":{"generation":1,"name":"web-0","namespace":"default","resourceVersion":"1","uid":"00000000-0000-4000-8000-000000000001"}}],"resourceVersion":"1","result":"Listed"}"#,
     ),
     (
-        Asked::Create(r#"{"kind":"Pod","metadata":{"name":"a"}}"#),
-        r#"Created {"kind":"Pod","metadata":{"generation":1,"name":"a","namespace":"default","resourceVersion":"2","uid":"00000000-0000-4000-8000-000000000002"}}"#,
+        r#"{"do":"list","kind":"Pod","resourceVersion":"3"}"#,
+        r#"{"code":504,"reason":"TooLarge"}"#,
     ),
     (
-        Asked::Create(r#"{"kind":"Pod","metadata":{"name":"b"}}"#),
-        "AlreadyExists",
+        r#"{"do":"compact","resourceVersion":"2"}"#,
+        r#"{"code":200,"resourceVersion":"2","result":"Compacted"}"#,
     ),
     (
-        Asked::Create(r#"{"kind":"Pod","metadata":{"name":"c"}}"#),
-        "StoreFull",
+        r#"{"do":"list","kind":"Pod","resourceVersion":"1"}"#,
+        r#"{"code":410,"reason":"Expired"}"#,
     ),
     (
-        Asked::Update(
-            r#"{"kind":"Pod","metadata":{"labels":{"a":"b"},"name":"a","resourceVersion":"1"}}"#,
-        ),
-        "Conflict",
+        r#"{"do":"list","kind":"Pod","resourceVersion":"2"}"#,
+        r#"{"code":200,"items":[{"kind":"Pod","metadata":{"generation":1,"labels":{"a":"b"},"name":"web-0","namespace":"default","resourceVersion":"2","uid":"00000000-0000-4000-8000-000000000001"}}],"resourceVersion":"2","result":"Listed"}"#,
     ),
-    (Asked::Remove("c"), "NotFound"),
-    (Asked::Mark("a"), "StoreFull"),
-    (Asked::Get("c"), "NotFound"),
     (
-        Asked::List,
-        r#"Listed at 2: {"kind":"Pod","metadata":{"generation":1,"name":"a","namespace":"default","resourceVersion":"2","uid":"00000000-0000-4000-8000-000000000002"}}: {"kind":"Pod","metadata":{"generation":1,"name":"b","namespace":"default","resourceVersion":"1","uid":"00000000-0000-4000-8000-000000000001"}}"#,
+        r#"{"do":"compact","resourceVersion":"1"}"#,
+        r#"{"code":410,"reason":"Expired"}"#,
+    ),
+    (
+        r#"{"do":"compact","resourceVersion":"2"}"#,
+        r#"{"code":200,"resourceVersion":"2","result":"Compacted"}"#,
+    ),
+    (
+        r#"{"do":"create","object":{"kind":"Pod","metadata":{"name":"a"}}}"#,
+        r#"{"code":201,"object":{"kind":"Pod","metadata":{"generation":1,"name":"a","namespace":"default","resourceVersion":"3","uid":"00000000-0000-4000-8000-000000000003"}},"result":"Created"}"#,
+    ),
+    (
+        r#"{"do":"create","object":{"kind":"Pod","metadata":{"name":"a"}}}"#,
+        r#"{"code":409,"reason":"AlreadyExists"}"#,
+    ),
+    (
+        r#"{"do":"create","object":{"kind":"Pod","metadata":{"name":"c"}}}"#,
+        r#"{"code":507,"reason":"StoreFull"}"#,
+    ),
+    (
+        r#"{"do":"update","object":{"kind":"Pod","metadata":{"labels":{"a":"b"},"name":"web-0","resourceVersion":"1"}}}"#,
+        r#"{"code":409,"reason":"Conflict"}"#,
+    ),
+    (
+        r#"{"do":"delete","kind":"Pod","name":"c"}"#,
+        r#"{"code":404,"reason":"NotFound"}"#,
+    ),
+    (
+        r#"{"do":"delete","kind":"Pod","name":"web-0","at":"2024-01-01T00:00:00Z"}"#,
+        r#"{"code":507,"reason":"StoreFull"}"#,
+    ),
+    (
+        r#"{"do":"get","kind":"Pod","name":"c"}"#,
+        r#"{"code":404,"reason":"NotFound"}"#,
+    ),
+    (
+        r#"{"do":"list","kind":"Pod"}"#,
+        r#"{"code":200,"items":[{"kind":"Pod","metadata":{"generation":1,"name":"a","namespace":"default","resourceVersion":"3","uid":"00000000-0000-4000-8000-000000000003"}},{"kind":"Pod","metadata":{"generation":1,"labels":{"a":"b"},"name":"web-0","namespace":"default","resourceVersion":"2","uid":"00000000-0000-4000-8000-000000000001"}}],"resourceVersion":"3","result":"Listed"}"#,
     ),
 ];
 
-/// Refusals, what is left as it is, a full store, and a list over two shards in the order of the names.
 #[test]
-fn a_full_store_refuses_writes(rt: HostRuntime) -> Result<(), Fail> {
-    assert_on(&rt, rt.alloc(), 2, 2, Scene::Full)
+fn stores_of_few_and_of_many_shards_answer(rt: HostRuntime) -> Result<(), Fail> {
+    assert_on(&rt, rt.alloc(), 3, 1, Scene::Rows)?;
+    assert_on(&rt, rt.alloc(), 3, 2, Scene::Rows)?;
+    assert_on(&rt, rt.alloc(), 3, 64, Scene::Rows)
 }
 
 /// What one caller has seen, another has seen after they met. Two callers over two shards, up to a full store.

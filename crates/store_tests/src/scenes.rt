@@ -10,7 +10,7 @@ use crate::callers::assert_callers;
 use crate::crowds::assert_replies_are_legal;
 use crate::gates::assert_steps;
 use crate::meeting::assert_meeting;
-use crate::rows::{FULL, ONE_POD, PAST};
+use crate::rows::ROWS;
 use line::{Ends, Line, LineError};
 use std::alloc::Global;
 use std::marker::Brand;
@@ -22,9 +22,7 @@ use store::{ByShards, Naming, Sharding, Store, StoreError, Writing};
 
 #[derive(Clone, Copy, PartialEq)]
 pub(crate) enum Scene {
-    OnePod,
-    Past,
-    Full,
+    Rows,
     Meeting,
     Callers,
     Gate,
@@ -39,9 +37,7 @@ fn assert_scene<
     R: Threads + Wait + Abort + Sync,
 >(rt: &R, alloc: Global, store: &Store<H, N>, scene: Scene) -> Result<(), Fail> {
     match scene {
-        Scene::OnePod => assert_rows(rt, alloc, store, ONE_POD.as_slice()),
-        Scene::Past => assert_rows(rt, alloc, store, PAST.as_slice()),
-        Scene::Full => assert_rows(rt, alloc, store, FULL.as_slice()),
+        Scene::Rows => assert_rows(rt, alloc, store, ROWS.as_slice()),
         Scene::Meeting => assert_meeting(rt, alloc, store),
         Scene::Callers => assert_callers(rt, store),
         Scene::Gate => assert_steps(rt, alloc, store),
