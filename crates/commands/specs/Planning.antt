@@ -7,7 +7,6 @@ use Rattle.objects.specs.declared.fault.ReadError.TheVariants as read
 use Rattle.objects.specs.declared.object.Object.{Object}
 use Rattle.plain.specs.Lines.{lines}
 use Rattle.plain.specs.Replies.{read_error_name}
-use Rattle.plain.specs.Streams.{Puts, PutsPart}
 use Rattle.plain.specs.ValueLines.{text_lines}
 use Rattle.set_views.specs.declared.fault.PlanError.{PlanError}
 use Rattle.set_views.specs.declared.fault.PlanError.TheVariants as errors
@@ -20,6 +19,7 @@ use Rattle.plan_lines.specs.Objects.{Lists, is_named, nothing, read_from}
 use Rattle.plan_lines.specs.Refusals.{plan_error_name}
 use Rattle.commands.specs.declared.words.PlanWords.{PlanWords}
 use Rattle.commands.specs.Asked.{IsPlanAsked}
+use Rattle.commands.specs.Forms.{WritesBy}
 
 -- a plan of the set that is asked for, which is the first of its namespace and name among the objects
 abbrev pub IsPlanOver : PlanWords → Lists → Plan → Type 0
@@ -34,22 +34,13 @@ actions_of plan = text_lines (map action_data plan.actions.items)
 abbrev pub IsPlanOf : PlanWords → List ℕ → Plan → Type 0
 IsPlanOf asked input plan = (lists : Lists) × (read_from nothing (lines input) ≡ Ok lists) × IsPlanOver asked lists plan
 
--- All of the reader's bytes were read, and the actions of the plan that was asked for were written.
-abbrev pub PlansBy : PlanWords → Option (List ℕ) → Option (List ℕ) → Option (List ℕ) → Option (List ℕ) → Type 0
-PlansBy asked had left before after = IfSome had (λ input. (left ≡ Some [])
-    × ((plan : Plan) × IsPlanOf asked input plan × Puts before (actions_of plan) after))
+-- the lines of its actions
+abbrev pub IsPlanText : PlanWords → (input text : List ℕ) → Type 0
+IsPlanText asked input text = (plan : Plan) × IsPlanOf asked input plan × (text ≡ actions_of plan)
 
--- the same where a beginning of these lines was written
-abbrev pub PlansPartBy : PlanWords → Option (List ℕ) → Option (List ℕ) → Option (List ℕ) → Option (List ℕ) → Type 0
-PlansPartBy asked had left before after = IfSome had (λ input. (left ≡ Some [])
-    × ((plan : Plan) × IsPlanOf asked input plan × PutsPart before (actions_of plan) after))
-
--- the same by what the words say
-abbrev pub Plans : List Text → Option (List ℕ) → Option (List ℕ) → Option (List ℕ) → Option (List ℕ) → Type 0
-Plans words had left before after = (asked : PlanWords) × IsPlanAsked words asked × PlansBy asked had left before after
-
-abbrev pub PlansPart : List Text → Option (List ℕ) → Option (List ℕ) → Option (List ℕ) → Option (List ℕ) → Type 0
-PlansPart words had left before after = (asked : PlanWords) × IsPlanAsked words asked × PlansPartBy asked had left before after
+-- Such lines were written, of the plan that the words ask for.
+abbrev pub Plans : (puts : Option (List ℕ) → List ℕ → Option (List ℕ) → Type 0) → List Text → (had left before after : Option (List ℕ)) → Type 0
+Plans puts words had left before after = (asked : PlanWords) × IsPlanAsked words asked × WritesBy puts (IsPlanText asked) had left before after
 
 -- the name of the refusal of a line; want of memory is none
 abbrev pub read_refusal : ReadError → Option (List ℕ)

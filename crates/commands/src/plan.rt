@@ -4,8 +4,9 @@ ghost use Rattle.plan_lines.specs.Objects.{lists_of};
 ghost use Rattle.set_views.specs.Set.{set_parts};
 ghost use Rattle.sets.specs.Plan.{IsPlan};
 ghost use Rattle.plain.specs.Streams.{Puts, PutsPart};
+ghost use Rattle.commands.specs.Forms.{WritesBy};
 ghost use Rattle.commands.specs.Halts.{CountsReads, Tells, is_read, name_of};
-ghost use Rattle.commands.specs.Planning.{IsPlanOf, IsPlanOfSetRefused, IsPlanOver, IsPlanRefusal, IsPlanRefusedBy, IsRefusedOver, PlansBy, PlansPartBy, actions_of};
+ghost use Rattle.commands.specs.Planning.{IsPlanOf, IsPlanOfSetRefused, IsPlanOver, IsPlanRefusal, IsPlanRefusedBy, IsPlanText, IsRefusedOver, actions_of};
 
 use crate::halt::{Halt, halted};
 use crate::status::{BAD_WORDS, FAILURE, Heap, REFUSED, SUCCESS};
@@ -26,9 +27,9 @@ pub(crate) fn planned<R: Source, W: Sink, F: Sink>(
     requires some { 1 ≤ asked.now.digits }
     requires most { asked.now.digits ≤ 64 }
     ensures status { (result < BAD_WORDS) ⊎ (result ≡ REFUSED) }
-    ensures planned { result ≡ SUCCESS → PlansBy asked.now (R.remaining reader.old) (R.remaining reader.new)
+    ensures planned { result ≡ SUCCESS → WritesBy Puts (IsPlanText asked.now) (R.remaining reader.old) (R.remaining reader.new)
         (W.written writer.old) (W.written writer.new) }
-    ensures part { result ≡ FAILURE → (writer.new ≡ writer.old) ⊎ PlansPartBy asked.now (R.remaining reader.old) (R.remaining reader.new)
+    ensures part { result ≡ FAILURE → (writer.new ≡ writer.old) ⊎ WritesBy PutsPart (IsPlanText asked.now) (R.remaining reader.old) (R.remaining reader.new)
         (W.written writer.old) (W.written writer.new) }
     ensures named { result ≡ REFUSED → (name : List ℕ)
         × (Tells name (F.written faults.old) (F.written faults.new) (F.failures faults.old) (F.failures faults.new))

@@ -5,7 +5,7 @@ ghost use Rattle.plain.specs.Streams.{Puts, PutsPart};
 ghost use Rattle.commands.specs.Grammar.{Cluster, Plan, Race, Replay, Serve, asked, faults_of, is_mistake, is_request};
 ghost use Rattle.commands.specs.Clustering.{Clusters};
 ghost use Rattle.commands.specs.Halts.{Tells};
-ghost use Rattle.commands.specs.Planning.{Plans, PlansPart};
+ghost use Rattle.commands.specs.Planning.{Plans};
 ghost use Rattle.commands.specs.Racing.{Races, RacesPart};
 ghost use Rattle.commands.specs.Refusing.{Refuses};
 ghost use Rattle.commands.specs.Replaying.{Replays};
@@ -72,10 +72,10 @@ pub fn command<T: Threads + Wait + Sync, S: AsStr, R: Source, W: Sink, F: Sink>(
     // Plan: the actions, or at a failure a part of them.
     ensures planned { let texts = map S.text words.now in
         result ≡ SUCCESS → asked texts ≡ Plan
-        → Plans texts (R.remaining reader.old) (R.remaining reader.new) (W.written writer.old) (W.written writer.new) }
+        → Plans Puts texts (R.remaining reader.old) (R.remaining reader.new) (W.written writer.old) (W.written writer.new) }
     ensures planned_part { let texts = map S.text words.now in
         result ≡ FAILURE → asked texts ≡ Plan → (writer.new ≡ writer.old)
-        ⊎ PlansPart texts (R.remaining reader.old) (R.remaining reader.new) (W.written writer.old) (W.written writer.new) }
+        ⊎ Plans PutsPart texts (R.remaining reader.old) (R.remaining reader.new) (W.written writer.old) (W.written writer.new) }
 
     // Race: the line of the report and nothing else, or at a failure a part of it; it is not legal exactly at the status of a
     // refusal.

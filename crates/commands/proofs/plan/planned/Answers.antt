@@ -1,6 +1,7 @@
 use Rattle.std.proofs.Common.{inl, inr}
 use Rattle.commands.proofs.Halted.{read-fails, spared-read, spared-unwritten}
-use Rattle.commands.proofs.Planned.{plans, plans-part}
+use Rattle.plain.specs.Streams.{Puts, PutsPart}
+use Rattle.commands.proofs.Planned.{plans}
 use Rattle.commands.proofs.Replayed.{named_and}
 use Rattle.commands.specs.Halts.{Tells, name_of}
 use Rattle.commands.specs.Planning.{IsPlanRefusedBy}
@@ -8,12 +9,12 @@ use Rattle.commands.proofs.plan.planned.Goals as goal
 
 pub returns-in-Ok-clause-planned : goal.returns-in-Ok-clause-planned
 returns-in-Ok-clause-planned g c = λ is.
-    plans c.args.asked.now (g.R.Source.remaining c.args.reader.now) (g.R.Source.remaining c.plan_of_input.new.reader) (g.W.Sink.written c.args.writer.now)
+    plans Puts c.args.asked.now (g.R.Source.remaining c.args.reader.now) (g.R.Source.remaining c.plan_of_input.new.reader) (g.W.Sink.written c.args.writer.now)
     (g.W.Sink.written c.printed.new.writer) c.in-Ok.plan c.in-Ok.ensures.planned (c.printed.ensures.all is)
 
 pub returns-in-Ok-clause-part : goal.returns-in-Ok-clause-part
 returns-in-Ok-clause-part g c = λ is.
-    inr (plans-part c.args.asked.now (g.R.Source.remaining c.args.reader.now) (g.R.Source.remaining c.plan_of_input.new.reader)
+    inr (plans PutsPart c.args.asked.now (g.R.Source.remaining c.args.reader.now) (g.R.Source.remaining c.plan_of_input.new.reader)
     (g.W.Sink.written c.args.writer.now) (g.W.Sink.written c.printed.new.writer) c.in-Ok.plan c.in-Ok.ensures.planned c.printed.ensures.part)
 
 pub returns-in-Ok-clause-spared : goal.returns-in-Ok-clause-spared
