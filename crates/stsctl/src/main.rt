@@ -7,15 +7,29 @@ use plain::{ReadSource, WriteSink};
 use std::process::ExitCode;
 use std::{env, io};
 
+/// The exit status where the words ask for nothing that the program does.
+const BAD_WORDS: u8 = 2;
+
 /// The words of the command line, the program's name first.
 fn command_words(rt: &HostRuntime) -> io::Result<Vec<String>> {
     Ok(env::args(rt)?.collect(rt.alloc())?)
 }
 
+/// The exit status where the words cannot be read: memory ran out, or one of them is not UTF-8, which standard error then says.
+fn unread_words(rt: &HostRuntime, error: &io::Error) -> ExitCode {
+    if error.kind() != io::ErrorKind::InvalidData {
+        return ExitCode::FAILURE;
+    }
+    // The status already says that they are bad, so nothing is lost where this fails.
+    let _ = eprintln!(rt; "error: a word of the command line is not UTF-8");
+    ExitCode::from(BAD_WORDS)
+}
+
 /// The whole program over the standard streams, none of which is buffered here.
 fn main(rt: HostRuntime) -> ExitCode {
-    let Ok(words) = command_words(&rt) else {
-        return ExitCode::FAILURE;
+    let words = match command_words(&rt) {
+        Ok(words) => words,
+        Err(error) => return unread_words(&rt, &error),
     };
     let mut reader = ReadSource::new(rt.stdin());
     let mut writer = WriteSink::new(rt.stdout());
