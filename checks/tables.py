@@ -2,6 +2,7 @@
 
 What is too long to lie in a file is shown by checks/limits.
 """
+import contextlib
 import json
 import re
 import subprocess
@@ -90,5 +91,18 @@ def status_faults(program):
             yield f"docs/REFERENCE.md: stsctl {words} does not say {line}"
 
 
+def form_faults():
+    """The lines that are told by their members, of which a word in capitals is any value."""
+    seen = []
+    for line in {line for example in SHOWN for text in (example.stdin, example.said[1]) for line in text.splitlines()}:
+        with contextlib.suppress(ValueError):
+            json.loads(line, object_hook=seen.append)
+    for form in re.findall(r'`(\{"[^`]+\})`', PAGE.split("\n| Reason | Meaning")[0]):
+        told = json.loads(re.sub(r"(?<=[:\[,])([A-Z]+|\.\.)(?=[,\]}])", "null", form))
+        texts = [name for name, value in told.items() if isinstance(value, (str, int))]
+        if not any(told.keys() == one.keys() and all(told[name] == one[name] for name in texts) for one in seen):
+            yield f"docs/REFERENCE.md: {form} is in no example"
+
+
 def faults(program):
-    return [*answer_faults(program), *refusal_faults(), *option_faults(), *status_faults(program)]
+    return [*answer_faults(program), *refusal_faults(), *option_faults(), *status_faults(program), *form_faults()]
