@@ -70,9 +70,22 @@ fn goes(plain: &mut Plain, web: &mut Controller, times: u8) -> Result<bool, Memo
     Ok(true)
 }
 
+/// It is asked once: a second `next` that is refused memory would leave the request open, and the reply between would end the round.
+fn asks_next(plain: &mut Plain, web: &mut Controller, wanted: &Asked) -> Result<bool, Memory> {
+    let Some(request) = next_at_last(web) else {
+        return Ok(false);
+    };
+    if !is_asked(&request, wanted) {
+        drop(request);
+        return Ok(false);
+    }
+    let reply = plain.take(request)?;
+    Ok(takes_at_last(web, reply))
+}
+
 fn asks(plain: &mut Plain, web: &mut Controller, wanted: &[Asked]) -> Result<bool, Memory> {
     for asked in wanted {
-        if !is_next(web, asked) || !goes_on(plain, web)? {
+        if !asks_next(plain, web, asked)? {
             return Ok(false);
         }
     }
