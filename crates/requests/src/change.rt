@@ -1,5 +1,5 @@
 ghost use Rattle.std.specs.Prelude.{◌≡◌, ◌≤◌, ◌<◌, ◌^◌, IfOk};
-ghost use Rattle.requests.specs.Change.{accepted, stamp, version_of};
+ghost use Rattle.requests.specs.Change.{accepted, change_object, stamp, version_of};
 ghost use Rattle.requests.specs.ChangeKinds.{change_by, stored_by};
 
 use crate::change_kind::ChangeKind;
@@ -51,6 +51,13 @@ impl Change {
                 Err(error)
             }
         }
+    }
+
+    /// The key of the object.
+    pub fn key(&self) -> &Key
+        ensures { result.now ≡ (change_object self.now).key }
+    {
+        &self.key
     }
 
     /// The change at the number that it draws: what to store, and the reply. A creation has the number as its UID too

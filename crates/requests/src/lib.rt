@@ -23,6 +23,6 @@ pub use listing::Listing;
 pub use preconditions::{has_status, is_graceful};
 pub use reply::{Reason, Reply};
 pub use request::Request;
-pub use table::{decide, judge};
+pub use table::{decide, decide_whole, judge};
 pub use verdict::{Judgment, Verdict};
 pub use version::Version;

@@ -23,7 +23,15 @@ pub fn decide(current: Option<&Object>, request: &Request) -> Result<Verdict, Me
     requires { is_write request.now ≡ true }
     ensures { IfOk result (λ decided. decided ≡ verdict request.now (option_copied current.entry)) }
 {
-    Ok(match judge(current, request.clone()?)? {
+    decide_whole(current, request.clone()?)
+}
+
+/// As `decide`, but the request is used up, so that what it holds is moved into the change and not copied.
+pub fn decide_whole(current: Option<&Object>, request: Request) -> Result<Verdict, Memory>
+    requires { is_write request ≡ true }
+    ensures { IfOk result (λ decided. decided ≡ verdict request (option_copied current.entry)) }
+{
+    Ok(match judge(current, request)? {
         Judgment::Refuse(reason) => Verdict::Refuse(reason),
         Judgment::Same(object) => Verdict::Same(object),
         Judgment::Write(kind, object) => Verdict::Write(Change::of(kind, object)?),
