@@ -33,7 +33,8 @@ def owned(web, kind, name, **members):
 
 
 def delete_of(held, **members):
-    return {"do": "delete", "kind": held["kind"], "namespace": "default", "name": name_of(held), "uid": held["metadata"]["uid"], **members}
+    named = {"kind": held["kind"], "name": name_of(held), "namespace": "default", "uid": held["metadata"]["uid"]}
+    return {"do": "delete", **named, **members}
 
 
 def revision_write(web, revisions, data):
@@ -60,7 +61,7 @@ def creation(web, ordinal, revision):
 
 
 def pod_step(web, pods, update):
-    """What is done with one pod: a list of at most one request, empty where a pod is waited for. None if all is as it should be."""
+    """What is done with one pod: its request, or none where a pod is waited for. None if all is as it should be."""
     count = web["spec"]["replicas"]
     for ordinal in range(count):
         pod = pods.get(ordinal)
