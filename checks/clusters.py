@@ -81,10 +81,18 @@ class Round:
             raise Fault(f"a controller asks {verb} {kind} where it stands at {self.at} of its round")
 
 
-def is_healthy(pod):
+def is_ready(pod):
     status = pod.get("status", {})
     ready = any((one.get("type"), one.get("status")) == ("Ready", "True") for one in status.get("conditions", []))
-    return ready and status.get("phase") == "Running" and "deletionTimestamp" not in pod["metadata"]
+    return ready and status.get("phase") == "Running"
+
+
+def is_marked(pod):
+    return "deletionTimestamp" in pod["metadata"]
+
+
+def is_healthy(pod):
+    return is_ready(pod) and not is_marked(pod)
 
 
 def check_create(key, round, lives):

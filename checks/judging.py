@@ -2,7 +2,7 @@
 import json
 import subprocess
 
-from store_of_maps import Store
+from store_of_maps import Store, text_of
 
 
 class Fault(Exception):
@@ -59,6 +59,6 @@ def taken_in(world, order, capacity):
         if at < latest:
             raise Fault(f"request {call} stands behind one that was called after its reply")
         before, reply = store.objects, store.take(request)
-        if wanted and reply != wanted:
-            raise Fault(f"request {call} is answered {json.dumps(wanted)}, and in the order {json.dumps(reply)}")
+        if wanted and text_of(reply) != text_of(wanted):
+            raise Fault(f"request {call} is answered {text_of(wanted)}, and in the order {text_of(reply)}")
         yield caller, request, reply, before
