@@ -11,7 +11,7 @@ TURNS = 64  # of the kubelet, for each round
 def set_of(replicas, template):
     kind, namespace, name = WEB
     spec = {"replicas": replicas, "template": template}
-    return {"kind": kind, "metadata": {"name": name, "namespace": namespace}, "spec": spec}
+    return {"apiVersion": "apps/v1", "kind": kind, "metadata": {"name": name, "namespace": namespace}, "spec": spec}
 
 
 def list_of(kind):
@@ -58,5 +58,5 @@ def operator(replicas, rounds):
         release, step = divmod(turn, 4)
         template = {"metadata": {"labels": {"release": str(release + (step > 0))}}}
         web = set_of(replicas if step == 3 else replicas + 1, template)
-        pod = {"kind": POD, "metadata": {"name": "web-0", "namespace": "default"}, "status": {"phase": "Failed"}}
+        pod = {"apiVersion": "v1", "kind": POD, "metadata": {"name": "web-0", "namespace": "default"}, "status": {"phase": "Failed"}}
         yield {"do": "status", "object": pod} if step == 2 else {"do": "update", "object": web}
