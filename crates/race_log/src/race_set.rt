@@ -4,7 +4,7 @@ ghost use Rattle.serde_json.specs.Data.{no_members, put};
 ghost use Rattle.objects.specs.Tree.{data_of};
 ghost use Rattle.objects.specs.declared.kind.Kind.TheVariants.{StatefulSet};
 ghost use Rattle.objects.specs.Key.{key_parts};
-ghost use Rattle.race_log.specs.RaceSet.{creates_set, set_namespace, set_name, set_spec};
+ghost use Rattle.race_log.specs.RaceSet.{creates_set, set_draft, set_namespace, set_name, set_spec};
 
 use objects::{Draft, Key, Kind, Members, Memory, Object, Text, Tree};
 use requests::Request;
@@ -29,34 +29,39 @@ fn key(alloc: Global) -> Result<Key, AllocError>
     })
 }
 
-fn spec(alloc: Global, replicas: u64) -> Result<Tree, AllocError>
-    ensures { IfOk result (λ spec. data_of spec ≡ set_spec replicas) }
+fn spec(alloc: Global, replicas: u64, template: Members) -> Result<Tree, AllocError>
+    ensures { IfOk result (λ spec. data_of spec ≡ set_spec replicas template) }
 {
-    let template = Members::none(alloc)?;
     let counted = Members::none(alloc)?.with_number("replicas", replicas)?;
     let whole = counted.with("template", Some(Tree::Map(template)))?;
     Ok(Tree::Map(whole))
 }
 
 /// The members of the set.
-fn members(alloc: Global, replicas: u64) -> Result<Members, AllocError>
-    ensures { IfOk result (λ members. members ≡ put (codes "spec") (set_spec replicas) no_members) }
+fn members(alloc: Global, replicas: u64, template: Members) -> Result<Members, AllocError>
+    ensures { IfOk result (λ members. members ≡ put (codes "spec") (set_spec replicas template) no_members) }
 {
-    let spec = spec(alloc, replicas)?;
+    let spec = spec(alloc, replicas, template)?;
     Members::none(alloc)?.with("spec", Some(spec))
 }
 
-/// The create of the set: `web` in `default`, with an empty template and no claims, whose pods come in order.
+/// The set `web` in `default`, with that many pods and that template, no claims, whose pods come in order.
 #[tactic(auto, unfolding(objects::specs::MetadataShape::metadata_fits))]
-pub fn set_creation(alloc: Global, replicas: u64) -> Result<Request, Memory>
-    ensures { IfOk result (λ request. request ≡ creates_set replicas) }
+pub(crate) fn set_draft(alloc: Global, replicas: u64, template: Members) -> Result<Draft, AllocError>
+    ensures { IfOk result (λ draft. draft ≡ set_draft replicas template) }
 {
-    let key = key(alloc)?;
-    let members = members(alloc, replicas)?;
-    let object = Object::of(alloc, key, Members::none(alloc)?, members)?;
-    Ok(Request::Create(Draft {
+    let members = members(alloc, replicas, template)?;
+    let object = Object::of(alloc, key(alloc)?, Members::none(alloc)?, members)?;
+    Ok(Draft {
         object,
         uid: None,
         version: None,
-    }))
+    })
+}
+
+/// The create of the set, with an empty template.
+pub fn set_creation(alloc: Global, replicas: u64) -> Result<Request, Memory>
+    ensures { IfOk result (λ request. request ≡ creates_set replicas) }
+{
+    Ok(Request::Create(set_draft(alloc, replicas, Members::none(alloc)?)?))
 }

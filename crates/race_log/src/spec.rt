@@ -1,5 +1,6 @@
 ghost use Rattle.std.specs.Prelude.{◌≡◌};
-ghost use Rattle.race_log.specs.Limits.{is_race};
+ghost use Rattle.race_log.specs.Limits.{is_race, race_capacity};
+ghost use Rattle.race_log.specs.declared.spec.TheConstants.{CAPACITY};
 
 use objects::Memory;
 use std::alloc::{AllocError, AllocFailed};
@@ -8,7 +9,12 @@ use thiserror::Error;
 /// How many revisions the store of a race may draw.
 pub const CAPACITY: u64 = 65_536;
 
-/// How large a race is.
+/// So many revisions they are.
+pub fn capacity_is_known()
+    ensures { CAPACITY ≡ race_capacity }
+{}
+
+/// How large a race is, and whether somebody else takes part.
 #[derive(Clone, Copy, Debug, PartialEq, Eq)]
 pub struct RaceSpec {
     /// How many controllers race, from 1 to 64.
@@ -19,6 +25,8 @@ pub struct RaceSpec {
     pub rounds: u64,
     /// How many pods the set asks for, at most 64.
     pub replicas: u64,
+    /// Whether an operator changes the set meanwhile.
+    pub operator: bool,
 }
 
 /// Why there is no report.
