@@ -6,7 +6,12 @@ import random
 
 NAMES = 10_000  # that are created and removed, and as many lists
 QUOTES = 50_000  # in a text of a line, each before so many letters
-APART = 18
+LETTERS = 18
+SHORTER = 1_000  # pods of one set, each shorter than the one before
+TURNS = 300  # in which two pods change
+PARTED = 400  # versions of a pod, one with a part and one without
+APART = 100  # versions of a pod, whose members have other names in each
+SETS = 64  # of as many pods each
 LINES = 4_000  # that ask for memory; then four times as many
 WIDE = 60_000  # bytes of a text whose object is not read back
 WIDE_LINES = 100
@@ -20,6 +25,8 @@ PODS = 64  # that callers of a replay write, get and list
 SHARDS = 64  # of its store
 OPERATOR = 4_000  # the caller who is no controller of a cluster
 CRASHES = 5  # of controllers, after each line of the operator
+OWNED = 1_500  # claims, and as many owners
+LOOKS = 5  # of a controller at them
 RAISE = '{"event":"raise"}\n'
 STEPS = {  # of a request, between its call and its reply
     "write": ["check", "reserve", "publish"], "get": ["read", "part"], "list": ["read", *["part"] * SHARDS], "compact": ["compact"],
@@ -40,8 +47,49 @@ def updated(text):
 
 def unlike(mark):
     """Updates of one object, back and forth between two texts that have nothing alike, and in which that mark often stands."""
-    first, second = ((mark + letter * APART) * QUOTES for letter in "ab")
+    first, second = ((mark + letter * LETTERS) * QUOTES for letter in "ab")
     return created("x", first) + (updated(second) + updated(first)) * 3
+
+
+def version(number, name, members):
+    """A line that creates a pod, where the number is 0, or else updates it."""
+    do, meta = "update" if number else "create", f'"kind":"Pod","metadata":{{"name":"{name}"}}'
+    return f'{{"do":"{do}","object":{{{meta},"spec":{{{members}}}}}}}\n'
+
+
+def shorter():
+    """Pods of one set, each shorter than the one before, down to a quarter of the first."""
+    return "".join(created(f"db-{number}", "t" * (8 * SHORTER - 6 * number)) for number in range(SHORTER))
+
+
+def two_in_turn():
+    """Two pods, by their names of one set, that have nothing alike and change in turn."""
+    kinds = [("db-0", "a" * 8_000), ("db-1", "b" * 8_000)]
+    turns = itertools.product(range(TURNS), kinds)
+    return "".join(version(turn, name, f'"number":{turn},"text":"{text}"') for turn, (name, text) in turns)
+
+
+def parted():
+    """A pod that has, in turn, five members of some length or two short ones before a long text."""
+    five, two = "".join(f'"a{each}":"{"x" * 700}",' for each in range(5)), '"b0":"x","b1":"x",'
+    rest = f'"text":"{"t" * 8_000}"'
+    return "".join(version(turn, "x", f'"a":{turn},{two if turn % 2 else five}{rest}') for turn in range(PARTED))
+
+
+def apart():
+    """A pod that gets other members at each change, 200 of them, before a long text."""
+
+    def members(turn):
+        letter = chr(ord("a") + turn % 20)
+        return "".join(f'"{letter}{each:04}":"x",' for each in range(200))
+
+    return "".join(version(turn, "x", f'{members(turn)}"text":"{"t" * 40_000}"') for turn in range(APART))
+
+
+def sets_in_turn():
+    """Pods of sets that have nothing alike, one of each set and then the next."""
+    pods = itertools.product(range(SETS), range(SETS))
+    return "".join(created(f"set{each:02}-{number}", f"{each:02}" * 500) for number, each in pods)
 
 
 def removed(lists_first):
@@ -366,6 +414,14 @@ def race_of(controllers, replicas):
     yield from settled(0, "web:2", "update", controllers, replicas + 4)
 
 
+def claimed(number, uids, namespace="default"):
+    """A line that creates a claim with these owners."""
+    owners = [{"uid": each} for each in uids]
+    metadata = {"name": f"data-{number}", "namespace": namespace, "ownerReferences": owners}
+    claim = {"kind": "PersistentVolumeClaim", "metadata": metadata}
+    return json.dumps({"do": "create", "object": claim}, separators=(",", ":"))
+
+
 def orphaned(claims):
     """So many claims with three owners each, of which one in ten has none that is there, and a controller who makes a round
     and deletes those."""
@@ -375,8 +431,18 @@ def orphaned(claims):
         yield from outside(created(f"x{number}"), OPERATOR)
     first = {number: 3 * place + 1 for place, number in enumerate(owned)}
     for number in range(claims):
-        owners = [{"uid": uid(first[number] + each) if number in first else "gone"} for each in range(3)]
-        metadata = {"name": f"data-{number}", "ownerReferences": owners}
-        claim = {"kind": "PersistentVolumeClaim", "metadata": metadata}
-        yield from outside(json.dumps({"do": "create", "object": claim}, separators=(",", ":")), OPERATOR)
+        uids = [uid(first[number] + each) if number in first else "gone" for each in range(3)]
+        yield from outside(claimed(number, uids), OPERATOR)
     yield from turns(1, 6 + claims // 10)
+
+
+def owned(claims_are_near):
+    """As many claims as owners, one each, and a controller that looks again and again which claims go, and finds none. Or the
+    claims are in another namespace."""
+    yield '{"capacity":1048576,"sets":[{"name":"web"}],"shards":1}\n'
+    for number in range(OWNED):
+        yield from outside(created(f"x{number}"), OPERATOR)
+    namespace = "default" if claims_are_near else "another"
+    for number in range(OWNED):
+        yield from outside(claimed(number, [uid(number + 1)], namespace), OPERATOR)
+    yield from turns(1, 6 * LOOKS)
