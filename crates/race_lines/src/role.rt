@@ -1,0 +1,31 @@
+// Who asks in a race.
+ghost use Rattle.std.specs.Prelude.{◌≡◌};
+ghost use Rattle.race_lines.specs.History.{role_of};
+
+use race_log::RaceSpec;
+
+/// Who a caller of a race is.
+#[derive(Clone, Copy, Drop)]
+pub(crate) enum Role {
+    Controller,
+    Kubelet,
+    Operator,
+    /// The one that creates the set, or nobody of the race.
+    Other,
+}
+
+/// Racers are told apart by numbers: first come the controllers', then the kubelet's, then that of the caller that creates
+/// the set, and the operator's.
+pub(crate) fn role_of(spec: &RaceSpec, caller: u64) -> Role
+    ensures { result ≡ role_of spec.now caller }
+{
+    if caller < spec.controllers {
+        Role::Controller
+    } else if caller == spec.controllers {
+        Role::Kubelet
+    } else if spec.operator && caller - spec.controllers == 2 {
+        Role::Operator
+    } else {
+        Role::Other
+    }
+}
