@@ -1,10 +1,10 @@
-// A kubelet: it takes marked pods away, and makes the others ready.
+// A kubelet: it takes marked pods away, and makes the others ready. In a turn it leaves those that have ended.
 ghost use Rattle.std.specs.Prelude.{◌≡◌, ◌++◌, ◌<◌, ◌^◌, decimal, IfOk, OnOk, Some, None, option_to_list};
 ghost use Rattle.serde_json.specs.Data.{array, item, no_items};
 ghost use Rattle.objects.specs.Tree.{data_of};
 ghost use Rattle.objects.specs.Uid.{uid_text};
 ghost use Rattle.requests.specs.declared.request.Request.TheVariants.{Delete, UpdateStatus};
-ghost use Rattle.kubelet.specs.Kubelet.{is_ready, kubelet_asks, kubelet_asks_all, made_ready, ready_condition, ready_status, unless_zero};
+ghost use Rattle.kubelet.specs.Kubelet.{has_ended, is_left, is_ready, kubelet_asks, kubelet_asks_all, made_ready, ready_condition, ready_status, turn_asks, turn_asks_all, unless_zero};
 
 use objects::{Draft, Items, Members, Memory, Object, Text, Tree, uid_text};
 use requests::Request;
@@ -128,13 +128,52 @@ fn put_asked(alloc: Global, pod: &Object, asked: &mut Vec<Request>) -> Result<()
     Ok(())
 }
 
-/// What the kubelet asks of these pods, one after another.
+fn has_ended(readiness: Readiness) -> bool
+    ensures { result ≡ has_ended readiness }
+{
+    matches!(readiness, Readiness::Failed)
+}
+
+fn is_left(pod: &Object) -> bool
+    ensures { result ≡ is_left pod.now }
+{
+    let view = read_pod(pod);
+    !view.terminating && has_ended(view.readiness)
+}
+
+/// Adds what the kubelet asks of a pod in a turn.
+fn put_asked_in_turn(
+    alloc: Global,
+    pod: &Object,
+    asked: &mut Vec<Request>,
+) -> Result<(), Memory>
+    ensures { OnOk result (asked.new.items ≡ asked.old.items ++ turn_asks pod.now) }
+{
+    if is_left(pod) {
+        return Ok(());
+    }
+    put_asked(alloc, pod, asked)
+}
+
+/// What the kubelet of a race asks of these pods, one after another.
 pub fn kubelet_requests(alloc: Global, pods: &[Object]) -> Result<Vec<Request>, Memory>
     ensures { IfOk result (λ asked. asked.items ≡ kubelet_asks_all pods.now) }
 {
     let mut asked = Vec::new(alloc);
     for pod in pods {
         put_asked(alloc, pod, &mut asked)?;
+    }
+    Ok(asked)
+}
+
+/// What the kubelet of a script asks in a turn: the same, but nothing of a pod that has ended and is not marked. Kubernetes runs
+/// no such pod again: its phase, `Failed` or `Succeeded`, is final, and a controller deletes the pod and makes it again.
+pub fn turn_requests(alloc: Global, pods: &[Object]) -> Result<Vec<Request>, Memory>
+    ensures { IfOk result (λ asked. asked.items ≡ turn_asks_all pods.now) }
+{
+    let mut asked = Vec::new(alloc);
+    for pod in pods {
+        put_asked_in_turn(alloc, pod, &mut asked)?;
     }
     Ok(asked)
 }

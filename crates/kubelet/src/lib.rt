@@ -3,4 +3,4 @@
 
 mod asking;
 
-pub use asking::kubelet_requests;
+pub use asking::{kubelet_requests, turn_requests};
