@@ -13,16 +13,20 @@ use Rattle.rounds.specs.Reconciler.{Reconciler}
 use Rattle.cluster_runs.specs.declared.event.ClusterEvent.{ClusterEvent}
 use Rattle.cluster_runs.specs.declared.event.ClusterEvent.TheVariants.{Step}
 use Rattle.cluster_runs.specs.Cluster.{Cluster, happens, run}
-use Rattle.cluster_runs.specs.Leading.{Claim, Comes, Halts, HasCome, IsShownAs, Leads, StandsStill}
+use Rattle.cluster_runs.specs.Leading.{Claim, Comes, FillsUp, Halts, HasCome, IsShownAs, Leads, StandsStill}
 use Rattle.cluster_runs.specs.Shown.{Exceeds, Happens, Shows, Stay, Tells}
 use Rattle.cluster_runs.specs.Turns.{Course, carried, carried_in, ends_with, event_and, followed_by, most_steps, nothing, reply_to, run_of, step_and}
 use Rattle.cluster_runs.specs.declared.cluster.Cluster.{Cluster as Program}
 use Rattle.cluster_runs.specs.declared.fault.ClusterFault.{ClusterFault}
 use Rattle.cluster_runs.specs.declared.fault.ClusterFault.TheVariants.{TooManyCallers}
-use Rattle.cluster_runs.proofs.Showing.{present_at, run-append, run_grows, shown_stand, still_stand}
+use Rattle.cluster_runs.proofs.Showing.{present_at, run-append, shown_stand, still_stand}
 
 abbrev Outcome : Type 0
 Outcome = List ClusterEvent × Option Reply
+
+fills_on : (z : Size) (n : ℕ) (reconcilers : ℕ → Reconciler) (k : Cluster) (es fs : List ClusterEvent) → FillsUp z n reconcilers k es → FillsUp z n reconcilers k (es ++ fs)
+fills_on z n reconcilers k [] fs fills = let few = fills.few in let many = fills.many in absurd (omega (arith, few, many))
+fills_on z n reconcilers k (e ∷ es) fs fills = record { few = fills.few; many = fills.many }
 
 module _ {X : Type 0} (reconciler : X → Reconciler) (phase : X → Phase) (is_waiting : X → Bool) where
   pub self_leads : (a : Course) (old : Program) (before : List X) → Leads reconciler phase is_waiting a a old old before before
@@ -83,11 +87,7 @@ module _ {X : Type 0} (reconciler : X → Reconciler) (phase : X → Phase) (is_
       delivered_is = refl;
       holds = (
         still_stand reconciler phase before now reconcilers k.phases stay (shown_stand reconciler phase is_waiting z reconcilers k old before shows),
-        λ is.
-            let many = exceeds is z reconcilers k shows in
-            let v = happens z (length before) reconcilers k e in
-            let more = run_grows z (length before) reconcilers v (next z (length before) reconcilers v).0 in
-            omega (arith, many, more),
+        λ is. record { few = shows.0.1.few; many = exceeds is z reconcilers k shows },
       );
     },
   )
@@ -112,7 +112,10 @@ module _ {X : Type 0} (reconciler : X → Reconciler) (phase : X → Phase) (is_
       done = [];
       whole_is = refl;
       delivered_is = refl;
-      holds = (still_stand reconciler phase before now reconcilers k.phases stay (shown_stand reconciler phase is_waiting z reconcilers k old before shows), λ is. exceeds is z reconcilers k shows);
+      holds = (
+        still_stand reconciler phase before now reconcilers k.phases stay (shown_stand reconciler phase is_waiting z reconcilers k old before shows),
+        λ is. record { few = shows.0.1.few; many = exceeds is z reconcilers k shows },
+      );
     },
   )
 
@@ -170,14 +173,7 @@ module _ {X : Type 0} (reconciler : X → Reconciler) (phase : X → Phase) (is_
           delivered_is = ap (λ l. (next r z n reconcilers (run z n reconcilers k l)).1) one.whole_is
               ∙ ap (λ o. (next o z n reconcilers (run z n reconcilers k (one.done ++ left.0))).1) one.delivered_is
               ∙ ap (λ w. (then w).1) both;
-          holds = (
-            one.holds.0,
-            λ is.
-                let many = one.holds.1 is in
-                let more = run_grows z n reconcilers (run z n reconcilers v left.0) (then (run z n reconcilers v left.0)).0 in
-                let same = ap (λ (w : Cluster). length w.used) (run-append z n reconcilers v left.0 (then (run z n reconcilers v left.0)).0) in
-                omega (arith, many, more, same),
-          );
+          holds = (one.holds.0, λ is. fills_on z n reconcilers v left.0 (then (run z n reconcilers v left.0)).0 (one.holds.1 is));
         },
   )
 

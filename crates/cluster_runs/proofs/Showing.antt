@@ -1,11 +1,12 @@
 -- The program's state shows the cluster after each event.
-use Rattle.std.proofs.Common.{◌≡◌, ◌≢◌, ◌==◌, ◌&&◌, ◌<◌, ◌≤◌, ◌+◌, take, ℕ, zero, suc, Bool, true, false, cond, List, [], ◌∷◌, ◌++◌, drop, length, map, Option, Some, None, refl, sym, ap, subst, ◌∙◌, arith, get_or, lt-ltb}
-use Rattle.std.specs.Prelude.{slice_get, slice_set, slice_index_or, IfSome, nat_lt, is_some, option_map, Result, Ok, Err, OnErr, OnOk}
+use Rattle.std.proofs.Common.{◌≡◌, ◌≢◌, ◌⊎◌, inl, inr, ◌==◌, ◌&&◌, ◌<◌, ◌≤◌, ◌+◌, take, ℕ, zero, suc, Bool, true, false, cond, List, [], ◌∷◌, ◌++◌, drop, length, map, Option, Some, None, refl, sym, ap, subst, ◌∙◌, arith, get_or, lt-ltb}
+use Rattle.std.specs.Prelude.{slice_get, slice_set, slice_index_or, IfSome, nat_lt, is_some, option_map, Result, Ok, Err, IfErr, IsErrOf, OnErr, OnOk}
 use Rattle.history.proofs.Pieces.{get_any, on_ok_by}
 use Rattle.std.specs.List.{AllByRecursion}
 use Rattle.std.proofs.lemmas.Bool.{false≢true}
 use Rattle.std.proofs.Math.Seq.{drop-append_seam}
 use Rattle.std.proofs.lemmas.List.{length-set, take-append-drop, take_more}
+use Rattle.std.proofs.lemmas.List.FromFn.{length-range_with_len}
 use Rattle.std.proofs.lemmas.Option.{none-some, same_Some, slice_get-map}
 use Rattle.requests.specs.declared.request.Request.{Request}
 use Rattle.requests.specs.declared.reply.Reply.{Reply}
@@ -30,7 +31,11 @@ use Rattle.cluster_runs.specs.declared.event.ClusterEvent.TheVariants.{Next, Out
 use Rattle.cluster_runs.specs.Cluster.{Cluster, controller_at, controller_by, hand, hand_if, happens, hears, is_idle, is_nobody, is_used, lowest_unused, reply_in, run, start, delivered, with_crash, with_next, with_outside, with_step, with_used}
 use Rattle.cluster_runs.specs.Callers.{AreCallers, owner}
 use Rattle.cluster_runs.specs.Shown.{Becomes, Hands, Happens, Hears, HoldsEvents, IsCluster, Shows, Stands, Stay}
+use Rattle.cluster_runs.specs.Faults.{IsShort}
+use Rattle.cluster_runs.specs.declared.callers.Callers.{Callers}
 use Rattle.cluster_runs.specs.declared.cluster.Cluster.{Cluster as Program}
+use Rattle.cluster_runs.specs.declared.fault.ClusterFault.{ClusterFault}
+use Rattle.cluster_runs.specs.declared.fault.ClusterFault.TheVariants.{BadCapacity, BadShards}
 use Rattle.cluster_runs.proofs.Kept.{among, put_other, put_same}
 use Rattle.cluster_runs.proofs.Calling.{among_first, among_later, not_among}
 use Rattle.cluster_runs.proofs.Naming.{all_more, all_named, few_callers}
@@ -212,6 +217,21 @@ still_stand {X} reconciler phase before now reconcilers phases stay stand c = by
 pub at_err : {D E : Type 0} (r : Result D E) (P : Type 0) → P → OnErr r P
 at_err (Ok d) P holds = tt
 at_err (Err e) P holds = holds
+
+-- a run that has begun has a size, and no more controllers than callers
+not_shards : IsShort BadShards → ⊥
+not_shards (inl is) = cc
+not_shards (inr is) = cc
+
+not_capacity : IsShort BadCapacity → ⊥
+not_capacity (inl is) = cc
+not_capacity (inr is) = cc
+
+pub has_begun : {D : Type 0} (r : Result D ClusterFault) (count : ℕ) (callers : Callers) → IfErr r IsShort → AreCallers count (start count) callers
+    → IsErrOf r BadShards ⊎ (IsErrOf r BadCapacity ⊎ (4096 < count)) → ⊥
+has_begun r count callers short are (inl bad) = not_shards (subst (λ r. IfErr r IsShort) bad short)
+has_begun r count callers short are (inr (inl bad)) = not_capacity (subst (λ r. IfErr r IsShort) bad short)
+has_begun r count callers short are (inr (inr many)) = let few = are.few in let all = length-range_with_len 0 count in omega (arith, few, all, many)
 
 -- two controllers are two callers
 apart_by : (count : ℕ) (k : Cluster) (program : Program) → AreCallers count k program.callers → (c d : ℕ) → c < count → d < count → d ≢ c → k.callers d ≢ k.callers c

@@ -1,14 +1,15 @@
 -- A run over turns.
-use Rattle.std.proofs.Common.{◌≡◌, ◌<◌, ℕ, Bool, List, length, take, sym, ap, ◌∙◌, subst}
-use Rattle.std.proofs.Math.Seq.{take-append_seam}
-use Rattle.std.proofs.lemmas.List.{append-nil}
+use Rattle.std.proofs.Common.{◌≡◌, ◌<◌, ◌≤◌, ◌+◌, ◌++◌, ◌∷◌, [], ℕ, Bool, List, length, take, sym, ap, ◌∙◌, subst, arith}
+use Rattle.std.proofs.Math.Seq.{take-append-add, take-append_seam}
+use Rattle.std.proofs.lemmas.List.{append-nil, length-append}
 use Rattle.interleavings.specs.World.{Size}
 use Rattle.rounds.specs.Phase.{Phase}
 use Rattle.rounds.specs.Reconciler.{Reconciler}
 use Rattle.rounds.specs.World.{StandAt}
+use Rattle.cluster_runs.specs.declared.event.ClusterEvent.{ClusterEvent}
 use Rattle.cluster_runs.specs.Cluster.{Cluster, run, start}
-use Rattle.cluster_runs.specs.Leading.{Halts, Leads}
-use Rattle.cluster_runs.specs.Ran.{cluster_after}
+use Rattle.cluster_runs.specs.Leading.{FillsUp, Halts, Leads}
+use Rattle.cluster_runs.specs.Ran.{IsTooMany, StopsAt, cluster_after}
 use Rattle.cluster_runs.specs.Shown.{Shows}
 use Rattle.cluster_runs.specs.Turns.{course_of_all, events_of_turns, nothing}
 use Rattle.cluster_runs.specs.declared.cluster.Cluster.{Cluster as Program}
@@ -16,6 +17,11 @@ use Rattle.cluster_runs.specs.declared.fault.ClusterFault.{ClusterFault}
 use Rattle.cluster_runs.specs.declared.fault.ClusterFault.TheVariants.{TooManyCallers}
 use Rattle.cluster_runs.specs.declared.turn.Turn.{Turn}
 use Rattle.cluster_runs.proofs.Showing.{run-append}
+
+-- there is an event that fills up
+past : (z : Size) (n : ℕ) (reconcilers : ℕ → Reconciler) (k : Cluster) (es fs : List ClusterEvent) → FillsUp z n reconcilers k fs → length es < length (es ++ fs)
+past z n reconcilers k es [] fills = let few = fills.few in let many = fills.many in absurd (omega (arith, few, many))
+past z n reconcilers k es (f ∷ fs) fills = let all = length-append es (f ∷ fs) in omega (arith, all)
 
 module _ {X : Type 0} (reconciler : X → Reconciler) (phase : X → Phase) (is_waiting : X → Bool) (z : Size) (reconcilers : ℕ → Reconciler) (namespaces : List (List ℕ)) (turns : List Turn)
     (old : Program) (before now : List X) (shows : Shows reconciler phase is_waiting z reconcilers (start (length before)) old before) where
@@ -28,7 +34,8 @@ module _ {X : Type 0} (reconciler : X → Reconciler) (phase : X → Phase) (is_
 
   pub goes_stops : (fault : ClusterFault) → Halts reconciler phase is_waiting fault (course_of_all namespaces turns) old before now
       → ((m : ℕ) × StandAt reconciler phase now reconcilers (cluster_after z (length before) reconcilers (take m (events_of_turns z (length before) reconcilers namespaces turns))).phases)
-      × (fault ≡ TooManyCallers → 4096 < length (cluster_after z (length before) reconcilers (events_of_turns z (length before) reconcilers namespaces turns)).used)
+      × (fault ≡ TooManyCallers → (m : ℕ) × StopsAt reconciler phase z (length before) reconcilers (events_of_turns z (length before) reconcilers namespaces turns) now m
+      × IsTooMany z (length before) reconcilers (events_of_turns z (length before) reconcilers namespaces turns) m)
   unfolding events_of_turns
   goes_stops fault halts =
       let n = length before in
@@ -36,8 +43,19 @@ module _ {X : Type 0} (reconciler : X → Reconciler) (phase : X → Phase) (is_
       let v = run z n reconcilers (start n) come.done in
       let left = (halts.0 z n reconcilers v).0 in
       let all = (course_of_all namespaces turns z n reconcilers (start n)).0 in
-      let first : take (length come.done) all ≡ come.done = ap (take (length come.done)) come.whole_is ∙ take-append_seam come.done left in
-      let whole : run z n reconcilers (start n) all ≡ run z n reconcilers v left = ap (run z n reconcilers (start n)) come.whole_is ∙ run-append z n reconcilers (start n) come.done left in (
-        (length come.done, subst (λ l. StandAt reconciler phase now reconcilers (run z n reconcilers (start n) l).phases) (sym first) come.holds.0),
-        λ many. subst (λ (w : Cluster). 4096 < length w.used) (sym whole) (come.holds.1 many),
+      let m = length come.done in
+      let first : take m all ≡ come.done = ap (take m) come.whole_is ∙ take-append_seam come.done left in
+      let next : take (m + 1) all ≡ come.done ++ take 1 left = ap (take (m + 1)) come.whole_is ∙ take-append-add come.done left 1 in
+      let stand = subst (λ l. StandAt reconciler phase now reconcilers (run z n reconcilers (start n) l).phases) (sym first) come.holds.0 in (
+        (m, stand),
+        λ is.
+            let fills = come.holds.1 is in (
+              m,
+              record { there = subst (λ l. m < length l) (sym come.whole_is) (past z n reconcilers v come.done left fills); stand = stand },
+              record {
+                few = subst (λ l. length (run z n reconcilers (start n) l).used ≤ 4096) (sym first) fills.few;
+                many = subst (λ l. 4096 < length (run z n reconcilers (start n) l).used) (sym next)
+                    (subst (λ (w : Cluster). 4096 < length w.used) (sym (run-append z n reconcilers (start n) come.done (take 1 left))) fills.many);
+              },
+            ),
       )

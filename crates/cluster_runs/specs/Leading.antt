@@ -1,5 +1,5 @@
 -- How the program goes along a course.
-use Rattle.std.specs.Prelude.{◌≡◌, ◌<◌, ◌++◌, ℕ, Bool, List, length}
+use Rattle.std.specs.Prelude.{◌≡◌, ◌<◌, ◌≤◌, ◌++◌, ℕ, Bool, List, length, take}
 use Rattle.interleavings.specs.World.{Size}
 use Rattle.rounds.specs.Phase.{Phase}
 use Rattle.rounds.specs.Reconciler.{Reconciler}
@@ -25,9 +25,13 @@ pub record HasCome (claim : Claim) (z : Size) (count : ℕ) (reconcilers : ℕ �
   pub delivered_is : (whole z count reconcilers k).1 ≡ (left z count reconcilers (run z count reconcilers k done)).1
   pub holds : claim z count reconcilers (run z count reconcilers k done)
 
--- more callers are used than there may be
+-- the first of the events brings more callers than there may be
+pub record FillsUp (z : Size) (count : ℕ) (reconcilers : ℕ → Reconciler) (k : Cluster) (events : List ClusterEvent) : Type 0 where
+  pub few : length k.used ≤ 4096
+  pub many : 4096 < length (run z count reconcilers k (take 1 events)).used
+
 abbrev pub Overruns : ClusterFault → Course → Claim
-Overruns fault left z count reconcilers k = fault ≡ TooManyCallers → 4096 < length (run z count reconcilers k (left z count reconcilers k).0).used
+Overruns fault left z count reconcilers k = fault ≡ TooManyCallers → FillsUp z count reconcilers k (left z count reconcilers k).0
 
 module _ {X : Type 0} (reconciler : X → Reconciler) (phase : X → Phase) (is_waiting : X → Bool) where
   abbrev pub Comes : Claim → (whole left : Course) → Program → List X → Type 0

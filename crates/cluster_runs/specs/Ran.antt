@@ -1,11 +1,13 @@
 -- What is answered of a cluster's run.
-use Rattle.std.specs.Prelude.{◌≡◌, ◌≤◌, ℕ, List, length, Option, option_and_then, option_map}
+use Rattle.std.specs.Prelude.{◌≡◌, ◌≤◌, ◌<◌, ◌+◌, ℕ, List, length, take, Option, option_and_then, option_map}
 use Rattle.std.specs.BTreeMap.{BTreeMap, get}
 use Rattle.std.specs.Ordering.{nat_cmp}
 use Rattle.interleavings.specs.World.{Size}
 use Rattle.history.specs.After.{IsRunOf}
+use Rattle.rounds.specs.Phase.{Phase}
 use Rattle.rounds.specs.Reconciler.{Reconciler}
 use Rattle.rounds.specs.Transcript.{Incarnation}
+use Rattle.rounds.specs.World.{StandAt}
 use Rattle.cluster_runs.specs.declared.event.ClusterEvent.{ClusterEvent}
 use Rattle.cluster_runs.specs.Cluster.{Cluster, run, start}
 use Rattle.cluster_runs.specs.declared.run.ClusterRun.{ClusterRun}
@@ -29,3 +31,13 @@ pub record IsClusterRun (z : Size) (count : ℕ) (reconcilers : ℕ → Reconcil
   pub run_is : IsRunOf z (cluster_after z count reconcilers events).events found.run
   pub owned : (n : ℕ) → owner_in found.owners n ≡ owner (cluster_after z count reconcilers events).incarnations n
   pub few : length (cluster_after z count reconcilers events).used ≤ 4096
+
+-- The run stopped at an event: the controllers stand where those before it left them.
+pub record StopsAt {X : Type 0} (reconciler : X → Reconciler) (phase : X → Phase) (z : Size) (count : ℕ) (reconcilers : ℕ → Reconciler) (events : List ClusterEvent) (xs : List X) (at : ℕ) : Type 0 where
+  pub there : at < length events
+  pub stand : StandAt reconciler phase xs reconcilers (cluster_after z count reconcilers (take at events)).phases
+
+-- That event brings more callers than there may be.
+pub record IsTooMany (z : Size) (count : ℕ) (reconcilers : ℕ → Reconciler) (events : List ClusterEvent) (at : ℕ) : Type 0 where
+  pub few : length (cluster_after z count reconcilers (take at events)).used ≤ 4096
+  pub many : 4096 < length (cluster_after z count reconcilers (take (at + 1) events)).used

@@ -11,7 +11,7 @@ use Rattle.interleavings.specs.declared.event.Event.TheVariants as event
 use Rattle.interleavings.specs.Trace.{after}
 use Rattle.interleavings.specs.World.{Size, opening}
 use Rattle.history.specs.NextStep.{next_step}
-use Rattle.kubelet.specs.Kubelet.{kubelet_asks_all}
+use Rattle.kubelet.specs.Kubelet.{turn_asks_all}
 use Rattle.rounds.specs.Phase.{asks}
 use Rattle.rounds.specs.Reconciler.{Reconciler}
 use Rattle.cluster_runs.specs.declared.event.ClusterEvent.{ClusterEvent}
@@ -121,7 +121,7 @@ asked_all n (r ∷ rs) = followed_by (asked_as n r) (λ delivered. asked_all n r
 
 -- what it asks after a list
 abbrev pub tends : Option Reply → List Request
-tends (Some (reply.Listed pods at)) = kubelet_asks_all pods
+tends (Some (reply.Listed pods at)) = turn_asks_all pods
 tends delivered = []
 
 abbrev pub tended : (caller : ℕ) → (namespace : List ℕ) → Course

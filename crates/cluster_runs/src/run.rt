@@ -1,4 +1,4 @@
-ghost use Rattle.std.specs.Prelude.{◌≡◌, ◌<◌, ◌≤◌, ◌↔◌, ℕ, length, take, IfOk, IsErrOf, OnErr, OnOk};
+ghost use Rattle.std.specs.Prelude.{◌≡◌, ◌⊎◌, ◌<◌, ◌≤◌, ◌↔◌, ℕ, length, IfOk, IsErrOf, OnErr, OnOk};
 ghost use Rattle.std.specs.List.{AllByRecursion};
 ghost use Rattle.plain_store.specs.Reached.{most_revisions};
 ghost use Rattle.rounds.specs.Phase.{reading_set};
@@ -6,7 +6,7 @@ ghost use Rattle.rounds.specs.Reconciler.{Reconciler};
 ghost use Rattle.rounds.specs.Sound.{IsSound};
 ghost use Rattle.rounds.specs.World.{AreMadeOf, StandAt};
 ghost use Rattle.cluster_runs.specs.Ordered.{OrderKeepsPromises};
-ghost use Rattle.cluster_runs.specs.Ran.{IsClusterRun, cluster_after};
+ghost use Rattle.cluster_runs.specs.Ran.{IsClusterRun, IsTooMany, StopsAt, cluster_after};
 
 use crate::callers::Callers;
 use crate::cluster::Cluster;
@@ -37,8 +37,9 @@ pub struct ClusterRun {
 /// of that round; and when a controller's delete removes a claim, no object of its namespace has the UID of an owner of it,
 /// and none ever will.
 ///
-/// Each controller keeps its reconciler, and stands where the events left it; at a fault, where those before the one that
-/// failed left it. So each of them can crash, and another run follow.
+/// Each controller keeps its reconciler, and stands where the events left it. At a fault it stands where those before the one
+/// that failed left it: with too many callers that is the event that brings the 4,097th. A fault that comes before the first
+/// event leaves the controllers as they were. So each of them can crash, and another run follow.
 pub fn run_cluster<C: ControlLoop>(
     alloc: Global,
     shards: usize,
@@ -57,9 +58,16 @@ pub fn run_cluster<C: ControlLoop>(
     ensures stand { OnOk result ((reconcilers : ℕ → Reconciler) → AreMadeOf C.reconciler controllers.old reconcilers
         → StandAt C.reconciler C.phase controllers.new reconcilers
         (cluster_after (record { capacity = capacity; shards = shards }) (length controllers.old) reconcilers events.now).phases) }
+    ensures unbegun { IsErrOf result ClusterFault.BadShards ⊎ (IsErrOf result ClusterFault.BadCapacity ⊎ (4096 < length controllers.old))
+        → controllers.new ≡ controllers.old }
     ensures stopped { OnErr result ((reconcilers : ℕ → Reconciler) → AreMadeOf C.reconciler controllers.old reconcilers
-        → (n : ℕ) × StandAt C.reconciler C.phase controllers.new reconcilers
-        (cluster_after (record { capacity = capacity; shards = shards }) (length controllers.old) reconcilers (take n events.now)).phases) }
+        → (controllers.new ≡ controllers.old) ⊎ ((n : ℕ) × StopsAt C.reconciler C.phase
+        (record { capacity = capacity; shards = shards }) (length controllers.old) reconcilers events.now controllers.new n)) }
+    ensures filled { IsErrOf result ClusterFault.TooManyCallers → length controllers.old ≤ 4096
+        → (reconcilers : ℕ → Reconciler) → AreMadeOf C.reconciler controllers.old reconcilers
+        → (n : ℕ) × StopsAt C.reconciler C.phase
+        (record { capacity = capacity; shards = shards }) (length controllers.old) reconcilers events.now controllers.new n
+        × IsTooMany (record { capacity = capacity; shards = shards }) (length controllers.old) reconcilers events.now n }
     ensures bad_shards { IsErrOf result ClusterFault.BadShards ↔ (1 ≤ shards → 64 < shards) }
     ensures bad_capacity { IsErrOf result ClusterFault.BadCapacity ↔ ((1 ≤ shards) × (shards ≤ 64) × (1 ≤ capacity → most_revisions < capacity)) }
     ensures too_many { IsErrOf result ClusterFault.TooManyCallers → (reconcilers : ℕ → Reconciler) → AreMadeOf C.reconciler controllers.old reconcilers

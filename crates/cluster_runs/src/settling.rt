@@ -11,7 +11,7 @@ ghost use Rattle.cluster_runs.specs.Turns.{asked, asked_all, asked_as, begins, e
 
 use crate::cluster::Cluster;
 use crate::fault::ClusterFault;
-use kubelet::kubelet_requests;
+use kubelet::turn_requests;
 use objects::{Kind, Memory, Text};
 use requests::{Reply, Request};
 use rounds::ControlLoop;
@@ -48,7 +48,7 @@ fn requests_after(alloc: Global, delivered: &Option<Reply>) -> Result<Vec<Reques
                 objects,
                 revision: _,
             },
-        ) => kubelet_requests(alloc, objects.as_slice()),
+        ) => turn_requests(alloc, objects.as_slice()),
         _ => Ok(Vec::new(alloc)),
     }
 }

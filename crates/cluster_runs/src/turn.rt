@@ -12,7 +12,7 @@ pub enum Turn {
     /// So many times, each controller makes a round, in the order of the numbers, and then a kubelet makes a turn. A controller
     /// calls its next request, which is carried to its reply, again and again, until the next one would be the read of its set,
     /// or until a reply does not come. The kubelet is the lowest caller that was not used as the turn begins. It lists the pods
-    /// of each namespace, and asks for these what `kubelet::kubelet_requests` says, each carried to its reply; where a reply
+    /// of each namespace, and asks for these what `kubelet::turn_requests` says, each carried to its reply; where a reply
     /// does not come, its turn ends, and the next one begins with what is still open.
     Settle { rounds: u64 },
 }

@@ -1,4 +1,4 @@
-ghost use Rattle.std.specs.Prelude.{◌≡◌, ◌<◌, ◌≤◌, ◌↔◌, ℕ, length, take, IfErr, IfOk, IsErrOf, OnErr, OnOk};
+ghost use Rattle.std.specs.Prelude.{◌≡◌, ◌⊎◌, ◌<◌, ◌≤◌, ◌↔◌, ℕ, length, take, IfErr, IfOk, IsErrOf, OnErr, OnOk};
 ghost use Rattle.std.specs.List.{AllByRecursion};
 ghost use Rattle.plain_store.specs.Reached.{most_revisions};
 ghost use Rattle.rounds.specs.Phase.{reading_set};
@@ -8,7 +8,7 @@ ghost use Rattle.rounds.specs.World.{AreMadeOf, StandAt};
 ghost use Rattle.cluster_runs.specs.Ordered.{OrderKeepsPromises};
 ghost use Rattle.cluster_runs.specs.Faults.{IsShort};
 ghost use Rattle.cluster_runs.specs.Leading.{Halts, Leads};
-ghost use Rattle.cluster_runs.specs.Ran.{IsClusterRun, cluster_after};
+ghost use Rattle.cluster_runs.specs.Ran.{IsClusterRun, IsTooMany, StopsAt, cluster_after};
 ghost use Rattle.cluster_runs.specs.Shown.{Follows, HaveCallers, KeepsCallers};
 ghost use Rattle.cluster_runs.specs.Turns.{course_of, course_of_all, ends_with, events_of_turns, nothing};
 
@@ -26,7 +26,7 @@ use std::alloc::Global;
 
 /// Lets the events happen that the turns stand for, one after another: each turn finds the cluster as the ones before left it.
 /// The namespaces are those whose pods a kubelet tends.
-/// All else is as of `run_cluster` over these events.
+/// All else is as of `run_cluster` over these events, but that memory may also run out between two events, or after the last.
 pub fn run_turns<C: ControlLoop>(
     alloc: Global,
     shards: usize,
@@ -50,10 +50,19 @@ pub fn run_turns<C: ControlLoop>(
         → StandAt C.reconciler C.phase controllers.new reconcilers
         (cluster_after (record { capacity = capacity; shards = shards }) (length controllers.old) reconcilers
         (events_of_turns (record { capacity = capacity; shards = shards }) (length controllers.old) reconcilers namespaces.now turns.now)).phases) }
+    ensures unbegun { IsErrOf result ClusterFault.BadShards ⊎ (IsErrOf result ClusterFault.BadCapacity ⊎ (4096 < length controllers.old))
+        → controllers.new ≡ controllers.old }
     ensures stopped { OnErr result ((reconcilers : ℕ → Reconciler) → AreMadeOf C.reconciler controllers.old reconcilers
         → (n : ℕ) × StandAt C.reconciler C.phase controllers.new reconcilers
         (cluster_after (record { capacity = capacity; shards = shards }) (length controllers.old) reconcilers
         (take n (events_of_turns (record { capacity = capacity; shards = shards }) (length controllers.old) reconcilers namespaces.now turns.now))).phases) }
+    ensures filled { IsErrOf result ClusterFault.TooManyCallers → length controllers.old ≤ 4096
+        → (reconcilers : ℕ → Reconciler) → AreMadeOf C.reconciler controllers.old reconcilers
+        → (n : ℕ) × StopsAt C.reconciler C.phase
+        (record { capacity = capacity; shards = shards }) (length controllers.old) reconcilers
+        (events_of_turns (record { capacity = capacity; shards = shards }) (length controllers.old) reconcilers namespaces.now turns.now) controllers.new n
+        × IsTooMany (record { capacity = capacity; shards = shards }) (length controllers.old) reconcilers
+        (events_of_turns (record { capacity = capacity; shards = shards }) (length controllers.old) reconcilers namespaces.now turns.now) n }
     ensures bad_shards { IsErrOf result ClusterFault.BadShards ↔ (1 ≤ shards → 64 < shards) }
     ensures bad_capacity { IsErrOf result ClusterFault.BadCapacity ↔ ((1 ≤ shards) × (shards ≤ 64) × (1 ≤ capacity → most_revisions < capacity)) }
     ensures too_many { IsErrOf result ClusterFault.TooManyCallers → (reconcilers : ℕ → Reconciler) → AreMadeOf C.reconciler controllers.old reconcilers

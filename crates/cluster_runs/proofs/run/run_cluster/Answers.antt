@@ -1,4 +1,4 @@
-use Rattle.std.proofs.Common.{◌+◌, ◌∙◌, ap, arith, length, refl, rules, subst, sym, take}
+use Rattle.std.proofs.Common.{◌+◌, ◌<◌, ◌∙◌, Bool, List, inl, inr, ℕ, ap, arith, length, refl, rules, subst, sym, take}
 use Rattle.std.specs.Prelude.{IsErrOf, Ok, slice_index_or}
 use Rattle.std.proofs.lemmas.List.{take_all}
 use Rattle.std.proofs.lemmas.List.FromFn.{length-range_with_len}
@@ -7,11 +7,15 @@ use Rattle.interleavings.specs.World.{Size}
 use Rattle.plain_store.specs.Reached.{most_revisions}
 use Rattle.history.specs.After.{IsAfter}
 use Rattle.history.specs.declared.replay_error.ReplayError.TheVariants.{BadCapacity, BadShards}
+use Rattle.cluster_runs.specs.declared.cluster.Cluster.{Cluster as Program}
+use Rattle.cluster_runs.specs.declared.event.ClusterEvent.{ClusterEvent}
 use Rattle.cluster_runs.specs.Cluster.{Cluster, happens, run, start}
-use Rattle.rounds.proofs.Showing.{fresh_stand}
-use Rattle.cluster_runs.specs.Shown.{HasTaken, Shows}
+use Rattle.cluster_runs.specs.Ran.{StopsAt}
+use Rattle.rounds.specs.Phase.{Phase}
+use Rattle.rounds.specs.Reconciler.{Reconciler}
+use Rattle.cluster_runs.specs.Shown.{HasTaken, Shows, Stay}
 use Rattle.cluster_runs.proofs.Calling.{owned_by}
-use Rattle.cluster_runs.proofs.Showing.{at_err, run_more, shown_stand, start_shows, still_stand, used_grow, within}
+use Rattle.cluster_runs.proofs.Showing.{at_err, has_begun, run_more, shown_stand, start_shows, still_stand, used_grow, within}
 use Rattle.cluster_runs.proofs.run.run_cluster.Goals as goal
 
 pub returns-in_err-callers-clause-too_many : goal.returns-in_err-callers-clause-too_many
@@ -24,24 +28,56 @@ returns-in_err-callers-clause-too_many g c = λ failed reconcilers made.
     omega (arith, many, less, all)
 
 pub returns-in_err-replay-clause-stopped : goal.returns-in_err-replay-clause-stopped
-returns-in_err-replay-clause-stopped g c =
-    at_err c.from_residual.result _ (λ reconcilers made. (0, fresh_stand g.C.ControlLoop.reconciler g.C.ControlLoop.phase reconcilers c.args.controllers.now c.requires made))
+returns-in_err-replay-clause-stopped g c = at_err c.from_residual.result _ (λ reconcilers made. inl refl)
 
 pub returns-in_err-callers-clause-stopped : goal.returns-in_err-callers-clause-stopped
-returns-in_err-callers-clause-stopped g c =
-    at_err c.from_residual-in_err-callers.result _ (λ reconcilers made. (0, fresh_stand g.C.ControlLoop.reconciler g.C.ControlLoop.phase reconcilers c.args.controllers.now c.requires made))
+returns-in_err-callers-clause-stopped g c = at_err c.from_residual-in_err-callers.result _ (λ reconcilers made. inl refl)
+
+pub returns-in_err-callers-clause-filled : goal.returns-in_err-callers-clause-filled
+returns-in_err-callers-clause-filled g c = λ failed few reconcilers made.
+    let many = c.in_err-callers.ensures.too_many (search (rules, failed)) in
+    absurd (omega (arith, many, few))
+
+stands : {X : Type 0} (reconciler : X → Reconciler) (phase : X → Phase) (is_waiting : X → Bool) (z : Size) (reconcilers : ℕ → Reconciler) (n : ℕ) (events : List ClusterEvent) (at : ℕ)
+    (program : Program) (before now : List X) → at < length events → Stay reconciler phase before now
+    → Shows reconciler phase is_waiting z reconcilers (run z n reconcilers (start n) (take at events)) program before → StopsAt reconciler phase z n reconcilers events now at
+stands reconciler phase is_waiting z reconcilers n events at program before now there stay shows =
+    let k = run z n reconcilers (start n) (take at events) in
+    record { there = there; stand = still_stand reconciler phase before now reconcilers k.phases stay (shown_stand reconciler phase is_waiting z reconcilers k program before shows) }
 
 pub returns-in_err-happen-clause-stopped : goal.returns-in_err-happen-clause-stopped
 returns-in_err-happen-clause-stopped g c =
-    at_err c.from_residual-in_err-happen.result _ (λ reconcilers made.
+    at_err c.from_residual-in_err-happen.result _ (λ reconcilers made. inr (
+      c.loop-event.event-index,
+      stands g.C.ControlLoop.reconciler g.C.ControlLoop.phase g.C.ControlLoop.is_waiting (record { capacity = c.args.capacity; shards = c.args.shards }) reconcilers
+          (length c.args.controllers.now) c.args.events.now c.loop-event.event-index c.loop-event.cluster c.loop-event.controllers c.happen.new.controllers
+          c.loop-event-test.true c.in_err-happen.ensures.stays (c.loop-event.invariant.3 reconcilers made),
+    ))
+
+pub returns-in_err-happen-clause-filled : goal.returns-in_err-happen-clause-filled
+returns-in_err-happen-clause-filled g c = λ failed few reconcilers made.
     let z : Size = record { capacity = c.args.capacity; shards = c.args.shards } in
     let count = length c.args.controllers.now in
+    let es = c.args.events.now in
     let i = c.loop-event.event-index in
-    let k = run z count reconcilers (start count) (take i c.args.events.now) in (
+    let k = run z count reconcilers (start count) (take i es) in
+    let shows = c.loop-event.invariant.3 reconcilers made in
+    let many = c.in_err-happen.ensures.too_many (search (rules, failed)) z reconcilers k shows in
+    let next = ap (happens z (length c.loop-event.controllers) reconcilers k) c.event-item.is
+    ∙ ap (λ n. happens z n reconcilers k (slice_index_or es i c.event-item.result)) c.loop-event.invariant.0
+    ∙ run_more z count reconcilers (start count) es i c.event-item.result c.loop-event-test.true in (
       i,
-      still_stand g.C.ControlLoop.reconciler g.C.ControlLoop.phase c.loop-event.controllers c.happen.new.controllers reconcilers k.phases c.in_err-happen.ensures.stays
-          (shown_stand g.C.ControlLoop.reconciler g.C.ControlLoop.phase g.C.ControlLoop.is_waiting z reconcilers k c.loop-event.cluster c.loop-event.controllers (c.loop-event.invariant.3 reconcilers made)),
-    ))
+      stands g.C.ControlLoop.reconciler g.C.ControlLoop.phase g.C.ControlLoop.is_waiting z reconcilers count es i c.loop-event.cluster c.loop-event.controllers c.happen.new.controllers
+          c.loop-event-test.true c.in_err-happen.ensures.stays shows,
+      record { few = shows.0.1.few; many = subst (λ (v : Cluster). 4096 < length v.used) next many },
+    )
+
+pub returns-in_err-happen-clause-unbegun : goal.returns-in_err-happen-clause-unbegun
+returns-in_err-happen-clause-unbegun g c = λ refused.
+    absurd (has_begun c.from_residual-in_err-happen.result (length c.args.controllers.now) c.in_ok-callers.callers (search rules) c.in_ok-callers.ensures.callers refused)
+
+pub returns-clause-unbegun : goal.returns-clause-unbegun
+returns-clause-unbegun g c = λ refused. absurd (has_begun (Ok _) (length c.args.controllers.now) c.in_ok-callers.callers tt c.in_ok-callers.ensures.callers refused)
 
 pub loop-event-init : goal.loop-event-init
 unfolding HasTaken

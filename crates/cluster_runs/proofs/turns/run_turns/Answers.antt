@@ -1,4 +1,4 @@
-use Rattle.std.proofs.Common.{arith, length, rules, subst, sym}
+use Rattle.std.proofs.Common.{◌+◌, arith, length, rules, subst, sym}
 use Rattle.std.specs.Prelude.{IsErrOf, Ok}
 use Rattle.std.proofs.lemmas.List.FromFn.{length-range_with_len}
 use Rattle.interleavings.specs.Linearization.{IsLegal}
@@ -12,7 +12,7 @@ use Rattle.cluster_runs.specs.Ran.{cluster_after}
 use Rattle.cluster_runs.specs.Shown.{HasTaken}
 use Rattle.cluster_runs.specs.Turns.{events_of_turns}
 use Rattle.cluster_runs.proofs.Calling.{owned_by}
-use Rattle.cluster_runs.proofs.Showing.{at_err, shown_stand, start_shows, used_grow, within}
+use Rattle.cluster_runs.proofs.Showing.{at_err, has_begun, shown_stand, start_shows, used_grow, within}
 use Rattle.cluster_runs.proofs.Turning.{goes_all, goes_stops}
 use Rattle.cluster_runs.proofs.turns.run_turns.Goals as goal
 
@@ -47,10 +47,31 @@ returns-in_err-go-clause-stopped g c =
     let z : Size = record { capacity = c.args.capacity; shards = c.args.shards } in
     (goes_stops g.C.ControlLoop.reconciler g.C.ControlLoop.phase g.C.ControlLoop.is_waiting z reconcilers c.args.namespaces.now c.args.turns.now (record { replay = c.in_ok-replay.replay; callers = c.in_ok-callers.callers; events = c.new-2.result }) c.args.controllers.now c.go.new.controllers (start_shows g.C.ControlLoop.reconciler g.C.ControlLoop.phase g.C.ControlLoop.is_waiting z reconcilers (record { replay = c.in_ok-replay.replay; callers = c.in_ok-callers.callers; events = c.new-2.result }) c.args.controllers.now c.requires made c.in_ok-replay.ensures.opened c.new-2.ensures.items c.in_ok-callers.ensures.callers) c.in_err-go.field-0.0 c.in_err-go.ensures.halts).0)
 
+pub returns-in_err-go-clause-filled : goal.returns-in_err-go-clause-filled
+returns-in_err-go-clause-filled g c = λ failed few reconcilers made.
+    let z : Size = record { capacity = c.args.capacity; shards = c.args.shards } in
+    (goes_stops g.C.ControlLoop.reconciler g.C.ControlLoop.phase g.C.ControlLoop.is_waiting z reconcilers c.args.namespaces.now c.args.turns.now (record { replay = c.in_ok-replay.replay; callers = c.in_ok-callers.callers; events = c.new-2.result }) c.args.controllers.now c.go.new.controllers (start_shows g.C.ControlLoop.reconciler g.C.ControlLoop.phase g.C.ControlLoop.is_waiting z reconcilers (record { replay = c.in_ok-replay.replay; callers = c.in_ok-callers.callers; events = c.new-2.result }) c.args.controllers.now c.requires made c.in_ok-replay.ensures.opened c.new-2.ensures.items c.in_ok-callers.ensures.callers) c.in_err-go.field-0.0 c.in_err-go.ensures.halts).1 (search (rules, failed))
+
 pub returns-in_err-go-clause-too_many : goal.returns-in_err-go-clause-too_many
 returns-in_err-go-clause-too_many g c = λ failed reconcilers made.
     let z : Size = record { capacity = c.args.capacity; shards = c.args.shards } in
-    (goes_stops g.C.ControlLoop.reconciler g.C.ControlLoop.phase g.C.ControlLoop.is_waiting z reconcilers c.args.namespaces.now c.args.turns.now (record { replay = c.in_ok-replay.replay; callers = c.in_ok-callers.callers; events = c.new-2.result }) c.args.controllers.now c.go.new.controllers (start_shows g.C.ControlLoop.reconciler g.C.ControlLoop.phase g.C.ControlLoop.is_waiting z reconcilers (record { replay = c.in_ok-replay.replay; callers = c.in_ok-callers.callers; events = c.new-2.result }) c.args.controllers.now c.requires made c.in_ok-replay.ensures.opened c.new-2.ensures.items c.in_ok-callers.ensures.callers) c.in_err-go.field-0.0 c.in_err-go.ensures.halts).1 (search (rules, failed))
+    let count = length c.args.controllers.now in
+    let full = (goes_stops g.C.ControlLoop.reconciler g.C.ControlLoop.phase g.C.ControlLoop.is_waiting z reconcilers c.args.namespaces.now c.args.turns.now (record { replay = c.in_ok-replay.replay; callers = c.in_ok-callers.callers; events = c.new-2.result }) c.args.controllers.now c.go.new.controllers (start_shows g.C.ControlLoop.reconciler g.C.ControlLoop.phase g.C.ControlLoop.is_waiting z reconcilers (record { replay = c.in_ok-replay.replay; callers = c.in_ok-callers.callers; events = c.new-2.result }) c.args.controllers.now c.requires made c.in_ok-replay.ensures.opened c.new-2.ensures.items c.in_ok-callers.ensures.callers) c.in_err-go.field-0.0 c.in_err-go.ensures.halts).1 (search (rules, failed)) in
+    let many = full.2.many in
+    let less = used_grow z count reconcilers (start count) (events_of_turns z count reconcilers c.args.namespaces.now c.args.turns.now) (full.0 + 1) in
+    omega (arith, many, less)
+
+pub returns-in_err-callers-clause-filled : goal.returns-in_err-callers-clause-filled
+returns-in_err-callers-clause-filled g c = λ failed few reconcilers made.
+    let many = c.in_err-callers.ensures.too_many (search (rules, failed)) in
+    absurd (omega (arith, many, few))
+
+pub returns-in_err-go-clause-unbegun : goal.returns-in_err-go-clause-unbegun
+returns-in_err-go-clause-unbegun g c = λ refused.
+    absurd (has_begun c.from_residual-in_err-go.result (length c.args.controllers.now) c.in_ok-callers.callers (search rules) c.in_ok-callers.ensures.callers refused)
+
+pub returns-clause-unbegun : goal.returns-clause-unbegun
+returns-clause-unbegun g c = λ refused. absurd (has_begun (Ok _) (length c.args.controllers.now) c.in_ok-callers.callers tt c.in_ok-callers.ensures.callers refused)
 
 pub returns-clause-run : goal.returns-clause-run
 returns-clause-run g c = λ reconcilers made.
