@@ -142,11 +142,7 @@ fn is_left(pod: &Object) -> bool
 }
 
 /// Adds what the kubelet asks of a pod in a turn.
-fn put_asked_in_turn(
-    alloc: Global,
-    pod: &Object,
-    asked: &mut Vec<Request>,
-) -> Result<(), Memory>
+fn put_asked_in_turn(alloc: Global, pod: &Object, asked: &mut Vec<Request>) -> Result<(), Memory>
     ensures { OnOk result (asked.new.items ≡ asked.old.items ++ turn_asks pod.now) }
 {
     if is_left(pod) {
