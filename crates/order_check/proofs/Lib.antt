@@ -1,3 +1,4 @@
 pub mod Followed
 pub mod Paired
 pub mod ReplyMarks
+pub mod SameObjects

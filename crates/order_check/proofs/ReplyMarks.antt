@@ -21,3 +21,7 @@ answered_by items answer index latest recorded reply is answer_fits only same h 
 
 pub none_answered : (items : List Item) (answer : Option ℕ) (index latest : ℕ) (reply : Reply) → answer ≡ Some index → ((r : Reply) → IsAnswered items (Some index) latest r → None ≡ Some r) → IsTrue false ↔ IsAnswered items answer latest reply
 none_answered items answer index latest reply is none = (λ y. absurd (false≢true y), λ t. let e = none reply (subst (λ a. IsAnswered items a latest reply) is t) in absurd cc)
+
+-- with no reply in the trace, any is the answer
+pub unasked : (items : List Item) (answer : Option ℕ) (latest : ℕ) (reply : Reply) → answer ≡ None → (same : Bool) → (IsTrue same ↔ Unit {0}) → IsTrue same ↔ IsAnswered items answer latest reply
+unasked items answer latest reply none same h = subst (λ a. IsTrue same ↔ IsAnswered items a latest reply) (sym none) h

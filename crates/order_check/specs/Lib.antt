@@ -3,3 +3,4 @@ pub mod Lookup
 -- ---- what only proofs use
 pub mod Following
 pub mod Pairing
+pub mod Recorded

@@ -7,11 +7,10 @@ ghost use Rattle.interleavings.specs.Linearization.{IsHistory, IsLegal};
 ghost use Rattle.order_check.specs.Pairing.{AreFound};
 
 use crate::pairs::Pairs;
-use crate::same::Comparer;
+use crate::tree_store::Trees;
 use crate::walk::Walk;
 use interleavings::{Item, Trace};
-use objects::Memory;
-use plain_store::{Plain, PlainError};
+use objects::{Memory, Printer};
 use std::alloc::Global;
 
 /// Whether the order, by the places of the calls, explains the trace: a yes means that the trace is a history, and that
@@ -27,14 +26,14 @@ pub fn check_order(alloc: Global, trace: &Trace, order: &[u64]) -> Result<bool, 
     ensures complete { 1 ≤ trace.now.capacity → trace.now.capacity ≤ most_revisions
         → IfOk result (λ yes. IsHistory trace.now.items.items → IsLegal trace.now.capacity trace.now.items.items order.now → IsTrue yes) }
 {
-    match Plain::new(alloc, trace.capacity) {
-        Ok(store) => explains(alloc, store, trace.items.as_slice(), order),
-        Err(PlainError::BadCapacity) => Ok(false),
+    match Trees::new(alloc, trace.capacity) {
+        Some(store) => explains(alloc, store, trace.items.as_slice(), order),
+        None => Ok(false),
     }
 }
 
 /// As `check_order`, by a store that is not used yet.
-fn explains(alloc: Global, store: Plain, items: &[Item], order: &[u64]) -> Result<bool, Memory>
+fn explains(alloc: Global, store: Trees, items: &[Item], order: &[u64]) -> Result<bool, Memory>
     ensures history { IfOk result (λ yes. IsTrue yes → IsHistory items.now) }
     ensures legal { (capacity : ℕ) → store ≡ opening capacity → IfOk result (λ yes. IsTrue yes → IsLegal capacity items.now order.now) }
     ensures complete { (capacity : ℕ) → store ≡ opening capacity
@@ -55,7 +54,7 @@ fn explains(alloc: Global, store: Plain, items: &[Item], order: &[u64]) -> Resul
 /// Whether the order is a legal one, by the calls and replies of a history.
 fn follows(
     alloc: Global,
-    store: Plain,
+    store: Trees,
     pairs: Pairs,
     items: &[Item],
     order: &[u64],
@@ -76,7 +75,7 @@ fn follows(
         answers,
         store,
         latest: 0,
-        comparer: Comparer::new(alloc),
+        printer: Printer::new(alloc),
     };
     let answer = walk.follow(items, order);
     drop(walk);

@@ -5,6 +5,7 @@
 mod check;
 mod pairs;
 mod same;
+mod tree_store;
 mod walk;
 
 pub use check::check_order;

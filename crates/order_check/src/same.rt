@@ -1,133 +1,162 @@
-// Whether a reply is the one that a store gives, found by the texts of the objects: a text that the store keeps need not be
-// read.
-ghost use Rattle.std.specs.Prelude.{◌≡◌, ◌↔◌, IfOk, IsTrue, length, map};
-ghost use Rattle.plain_store.specs.PrintedReplies.{reply_printed, reply_stored};
+// Whether a reply is the one that a store gives. Objects are compared by their trees, which copies nothing.
+ghost use Rattle.std.specs.Prelude.{◌≡◌, ◌↔◌, true, IfOk, IsTrue, length, map};
+ghost use Rattle.std.specs.Option.{option_copied};
+ghost use Rattle.plain_store.specs.PrintedReplies.{is_to_write};
+ghost use Rattle.plain_store.specs.Store.{Store, compacted_to, found};
+ghost use Rattle.requests.specs.declared.reply.Reply.TheVariants.{Listed, Refused as RefusedReply};
+ghost use Rattle.requests.specs.Same.{same_meta, same_object, same_time};
+ghost use Rattle.order_check.specs.Recorded.{Fits};
 
-use objects::{Memory, Object, Printed, Printer, TreeReader};
-use packed::Packed;
-use plain_store::{PrintedReply, StoredReply};
-use requests::Reply;
-use std::alloc::Global;
+use objects::{Memory, Meta, Object, Printed, Printer, Text};
+use requests::{Reason, Reply};
 
-/// Compares replies with those of a store, in memory that it keeps from one to the next.
-#[derive(Drop)]
-pub(crate) struct Comparer {
-    reader: TreeReader,
-    printer: Printer,
+/// Whether the reply to a write is the recorded one, if there is one.
+pub(crate) fn is_written(
+    printer: &mut Printer,
+    recorded: Option<&Reply>,
+    written: &Reply,
+) -> Result<bool, Memory>
+    requires { is_to_write written.now ≡ true }
+    ensures { IfOk result (λ yes. IsTrue yes ↔ Fits (option_copied recorded.entry) written.now) }
+{
+    match recorded {
+        Some(recorded) => is_reply(printer, recorded, written),
+        None => Ok(true),
+    }
 }
 
-impl Comparer {
-    pub(crate) fn new(alloc: Global) -> Comparer {
-        Comparer {
-            reader: TreeReader::new(alloc),
-            printer: Printer::new(alloc),
+fn is_reply(printer: &mut Printer, recorded: &Reply, written: &Reply) -> Result<bool, Memory>
+    requires { is_to_write written.now ≡ true }
+    ensures { IfOk result (λ yes. IsTrue yes ↔ (recorded.now ≡ written.now)) }
+{
+    match written {
+        Reply::Created(stored) => match recorded {
+            Reply::Created(object) => is_object(printer, object, stored),
+            _ => Ok(false),
+        },
+        Reply::Updated(stored) => match recorded {
+            Reply::Updated(object) => is_object(printer, object, stored),
+            _ => Ok(false),
+        },
+        Reply::Unchanged(stored) => match recorded {
+            Reply::Unchanged(object) => is_object(printer, object, stored),
+            _ => Ok(false),
+        },
+        Reply::Marked(stored) => match recorded {
+            Reply::Marked(object) => is_object(printer, object, stored),
+            _ => Ok(false),
+        },
+        Reply::Removed(stored) => match recorded {
+            Reply::Removed(object) => is_object(printer, object, stored),
+            _ => Ok(false),
+        },
+        Reply::Refused(reason) => Ok(is_refused(recorded, *reason)),
+        Reply::Found(_)
+        | Reply::Listed {
+            objects: _,
+            revision: _,
         }
+        | Reply::Compacted { revision: _ } => unreachable!(),
     }
+}
 
-    /// Whether the reply is the one to a request that is no write.
-    pub(crate) fn is_stored(
-        &mut self,
-        recorded: &Reply,
-        stored: &StoredReply<'_>,
-    ) -> Result<bool, Memory>
-        ensures { IfOk result (λ yes. IsTrue yes ↔ (recorded.now ≡ reply_stored stored.now)) }
-    {
-        match stored {
-            StoredReply::Found(packed) => match recorded {
-                Reply::Found(object) => self.is_packed(object, packed),
-                _ => Ok(false),
-            },
-            StoredReply::Listed { objects, revision } => match recorded {
-                Reply::Listed {
-                    objects: listed,
-                    revision: read_at,
-                } => self.is_list(listed.as_slice(), *read_at, objects.as_slice(), *revision),
-                _ => Ok(false),
-            },
-            StoredReply::Compacted { revision } => {
-                Ok(matches!(recorded, Reply::Compacted { revision: r } if *r == *revision))
-            }
-            StoredReply::Refused(reason) => {
-                Ok(matches!(recorded, Reply::Refused(r) if *r == *reason))
-            }
-        }
+/// Whether the reply to a compaction is the recorded one, if there is one.
+pub(crate) fn is_compacted(recorded: Option<&Reply>, denial: Option<Reason>, to: u64) -> bool
+    ensures { (store : Store) → IsTrue result ↔ Fits (option_copied recorded.entry) (compacted_to store to denial).1 }
+{
+    let Some(recorded) = recorded else {
+        return true;
+    };
+    match denial {
+        Some(reason) => is_refused(recorded, reason),
+        None => matches!(recorded, Reply::Compacted { revision } if *revision == to),
     }
+}
 
-    /// Whether the reply is the one to a write.
-    pub(crate) fn is_printed(
-        &mut self,
-        recorded: &Reply,
-        printed: &PrintedReply,
-    ) -> Result<bool, Memory>
-        ensures { IfOk result (λ yes. IsTrue yes ↔ (recorded.now ≡ reply_printed printed.now)) }
-    {
-        match printed {
-            PrintedReply::Created(text) => match recorded {
-                Reply::Created(object) => self.has_text(object, text),
-                _ => Ok(false),
-            },
-            PrintedReply::Updated(text) => match recorded {
-                Reply::Updated(object) => self.has_text(object, text),
-                _ => Ok(false),
-            },
-            PrintedReply::Unchanged(text) => match recorded {
-                Reply::Unchanged(object) => self.has_text(object, text),
-                _ => Ok(false),
-            },
-            PrintedReply::Marked(text) => match recorded {
-                Reply::Marked(object) => self.has_text(object, text),
-                _ => Ok(false),
-            },
-            PrintedReply::Removed(text) => match recorded {
-                Reply::Removed(object) => self.has_text(object, text),
-                _ => Ok(false),
-            },
-            PrintedReply::Refused(reason) => {
-                Ok(matches!(recorded, Reply::Refused(r) if *r == *reason))
-            }
-        }
+/// Whether the reply is a refusal for that reason.
+pub(crate) fn is_refused(recorded: &Reply, reason: Reason) -> bool
+    ensures { IsTrue result ↔ (recorded.now ≡ RefusedReply reason) }
+{
+    matches!(recorded, Reply::Refused(other) if *other == reason)
+}
+
+/// Whether the reply is what a get of that object, or of none, is answered.
+pub(crate) fn is_found(
+    printer: &mut Printer,
+    recorded: &Reply,
+    stored: Option<&Object>,
+) -> Result<bool, Memory>
+    ensures { IfOk result (λ yes. IsTrue yes ↔ (recorded.now ≡ found (option_copied stored.entry))) }
+{
+    match stored {
+        Some(stored) => match recorded {
+            Reply::Found(object) => is_object(printer, object, stored),
+            _ => Ok(false),
+        },
+        None => Ok(is_refused(recorded, Reason::NotFound)),
     }
+}
 
-    fn is_list(
-        &mut self,
-        recorded: &[Object],
-        read_at: u64,
-        stored: &[&Packed],
-        revision: u64,
-    ) -> Result<bool, Memory>
-        ensures { IfOk result (λ yes. IsTrue yes ↔ ((read_at ≡ revision) × (recorded.now ≡ map (λ o. o.now) stored.now))) }
-    {
-        if read_at != revision || recorded.len() != stored.len() {
+/// Whether the reply is a list of those objects at that revision.
+pub(crate) fn is_listed(
+    printer: &mut Printer,
+    recorded: &Reply,
+    stored: &[&Object],
+    revision: u64,
+) -> Result<bool, Memory>
+    ensures { IfOk result (λ yes. IsTrue yes ↔ (recorded.now ≡ Listed (map (λ o. o.now) stored.now) revision)) }
+{
+    match recorded {
+        Reply::Listed {
+            objects,
+            revision: read_at,
+        } => is_list(printer, objects.as_slice(), *read_at, stored, revision),
+        _ => Ok(false),
+    }
+}
+
+fn is_list(
+    printer: &mut Printer,
+    recorded: &[Object],
+    read_at: u64,
+    stored: &[&Object],
+    revision: u64,
+) -> Result<bool, Memory>
+    ensures { IfOk result (λ yes. IsTrue yes ↔ ((read_at ≡ revision) × (recorded.now ≡ map (λ o. o.now) stored.now))) }
+{
+    if read_at != revision || recorded.len() != stored.len() {
+        return Ok(false);
+    }
+    are_objects(printer, recorded, stored)
+}
+
+fn are_objects(
+    printer: &mut Printer,
+    recorded: &[Object],
+    stored: &[&Object],
+) -> Result<bool, Memory>
+    requires { length recorded.now ≡ length stored.now }
+    ensures { IfOk result (λ yes. IsTrue yes ↔ (recorded.now ≡ map (λ o. o.now) stored.now)) }
+{
+    for i in 0..recorded.len() {
+        if !is_object(printer, &recorded[i], stored[i])? {
             return Ok(false);
         }
-        self.are_packed(recorded, stored)
     }
+    Ok(true)
+}
 
-    fn are_packed(&mut self, recorded: &[Object], stored: &[&Packed]) -> Result<bool, Memory>
-        requires { length recorded.now ≡ length stored.now }
-        ensures { IfOk result (λ yes. IsTrue yes ↔ (recorded.now ≡ map (λ o. o.now) stored.now)) }
-    {
-        for i in 0..recorded.len() {
-            if !self.is_packed(&recorded[i], stored[i])? {
-                return Ok(false);
-            }
-        }
-        Ok(true)
+/// Whether two objects are equal, found by their trees. Where those differ their texts decide: that two objects of one text
+/// always have trees that are found the same is nowhere promised.
+fn is_object(printer: &mut Printer, recorded: &Object, stored: &Object) -> Result<bool, Memory>
+    ensures { IfOk result (λ yes. IsTrue yes ↔ (recorded.now ≡ stored.now)) }
+{
+    if are_same(recorded, stored) {
+        return Ok(true);
     }
-
-    fn is_packed(&mut self, recorded: &Object, stored: &Packed) -> Result<bool, Memory>
-        ensures { IfOk result (λ yes. IsTrue yes ↔ (recorded.now ≡ stored.now)) }
-    {
-        let stored = stored.printed(&mut self.reader, &mut self.printer)?;
-        self.has_text(recorded, &stored)
-    }
-
-    fn has_text(&mut self, recorded: &Object, text: &Printed) -> Result<bool, Memory>
-        ensures { IfOk result (λ yes. IsTrue yes ↔ (recorded.now ≡ text.now)) }
-    {
-        let recorded = self.printer.print(recorded)?;
-        Ok(are_same_texts(&recorded, text))
-    }
+    let recorded = printer.print(recorded)?;
+    let stored = printer.print(stored)?;
+    Ok(are_same_texts(&recorded, &stored))
 }
 
 /// Whether two objects are equal, which they are where their texts are.
@@ -137,4 +166,39 @@ fn are_same_texts(left: &Printed, right: &Printed) -> bool
     let (left_text, _) = left.parts();
     let (right_text, _) = right.parts();
     left_text == right_text
+}
+
+/// Whether two objects say the same. Where they do, they are equal.
+#[tactic(auto, using(crate::proofs::SameObjects::objects_equal))]
+fn are_same(left: &Object, right: &Object) -> bool
+    ensures { IsTrue result → left.now ≡ right.now }
+{
+    same_object(left, right)
+}
+
+fn same_object(left: &Object, right: &Object) -> bool
+    ensures { result ≡ same_object left.now right.now }
+{
+    left.key == right.key && same_meta(&left.meta, &right.meta) && left.body.is_same(&right.body)
+}
+
+fn same_meta(left: &Meta, right: &Meta) -> bool
+    ensures { result ≡ same_meta left.now right.now }
+{
+    left.uid == right.uid
+        && left.revision == right.revision
+        && left.generation == right.generation
+        && same_time(left.deletion.as_ref(), right.deletion.as_ref())
+}
+
+fn same_time(left: Option<&Text>, right: Option<&Text>) -> bool
+    ensures { result ≡ same_time (option_copied left.entry) (option_copied right.entry) }
+{
+    match left {
+        Some(left) => match right {
+            Some(right) => left.as_str() == right.as_str(),
+            None => false,
+        },
+        None => right.is_none(),
+    }
 }

@@ -1,17 +1,15 @@
 // A walk through an order, beside one plain store.
-ghost use Rattle.std.specs.Prelude.{◌≡◌, ◌↔◌, IfOk, IfSome, IsSome, IsTrue, List, OnOk, Some};
+ghost use Rattle.std.specs.Prelude.{◌≡◌, ◌↔◌, IfOk, IfSome, IsSome, IsTrue, List, Some};
 ghost use Rattle.std.specs.List.{slice_get};
 ghost use Rattle.std.specs.Option.{option_copied};
-ghost use Rattle.plain_store.specs.PrintedReplies.{reply_printed, reply_stored};
 ghost use Rattle.plain_store.specs.Store.{step};
 ghost use Rattle.requests.specs.declared.reply.Reply.{Reply as SpecReply};
 ghost use Rattle.requests.specs.declared.request.Request.{Request as SpecRequest};
 ghost use Rattle.order_check.specs.Following.{Follows, IsCalled, IsRest, IsAnswered, MayTake, Takes, standing};
 
-use crate::same::Comparer;
+use crate::tree_store::Trees;
 use interleavings::Item;
-use objects::Memory;
-use plain_store::{Plain, PrintedReply, StoredReply};
+use objects::{Memory, Printer};
 use requests::{Reply, Request};
 use std::collections::BTreeMap;
 
@@ -22,10 +20,11 @@ pub(crate) struct Walk {
     pub calls: BTreeMap<u64, usize>,
     /// By the place of its call, the index of each reply.
     pub answers: BTreeMap<u64, usize>,
-    pub store: Plain,
+    pub store: Trees,
     /// The largest place of a call in the order so far, 0 before the first.
     pub latest: u64,
-    pub comparer: Comparer,
+    /// Prints objects whose trees differ.
+    pub printer: Printer,
 }
 
 impl Walk {
@@ -67,44 +66,15 @@ impl Walk {
         request: &Request,
     ) -> Result<bool, Memory>
         ensures answer_fits { IfOk result (λ yes. IsTrue yes ↔ IsAnswered items.now answer self.old.latest (step self.old.store request.now).1) }
-        ensures stepped { OnOk result (self.new.store ≡ (step self.old.store request.now).0) }
+        ensures stepped { IfOk result (λ yes. IsTrue yes → self.new.store ≡ (step self.old.store request.now).0) }
         ensures stays { (self.new.calls ≡ self.old.calls) × (self.new.answers ≡ self.old.answers) × (self.new.latest ≡ self.old.latest) }
     {
-        match request {
-            Request::Get(_)
-            | Request::List {
-                kind: _,
-                namespace: _,
-                exact: _,
-            } => {
-                let stored = self.store.read(request)?;
-                has_stored_reply(&mut self.comparer, items, answer, self.latest, &stored)
-            }
-            Request::Compact { to } => {
-                let stored = self.store.compact(*to);
-                has_stored_reply(&mut self.comparer, items, answer, self.latest, &stored)
-            }
-            Request::Create(_)
-            | Request::Update(_)
-            | Request::UpdateStatus(_)
-            | Request::Delete {
-                key: _,
-                uid: _,
-                version: _,
-                at: _,
-            } => {
-                let printed = self.store.write(request.clone()?)?;
-                let answer_fits = has_printed_reply(
-                    &mut self.comparer,
-                    items,
-                    answer,
-                    self.latest,
-                    &printed,
-                );
-                // Let go by name, which is proved once for the type and not at each way out.
-                drop(printed);
-                answer_fits
-            }
+        let Some(index) = answer else {
+            return self.store.take(&mut self.printer, request, None);
+        };
+        match reply_at(items, index, self.latest) {
+            Some(recorded) => self.store.take(&mut self.printer, request, Some(recorded)),
+            None => Ok(false),
         }
     }
 }
@@ -167,43 +137,5 @@ fn reply_at(items: &[Item], index: usize, latest: u64) -> Option<&Reply>
             },
         )
         | None => None,
-    }
-}
-
-/// Whether the reply to a write is the one of the item with that index, at a place that is not before the latest call.
-fn has_printed_reply(
-    comparer: &mut Comparer,
-    items: &[Item],
-    answer: Option<usize>,
-    latest: u64,
-    printed: &PrintedReply,
-) -> Result<bool, Memory>
-    ensures { IfOk result (λ yes. IsTrue yes ↔ IsAnswered items.now answer latest (reply_printed printed.now)) }
-{
-    let Some(index) = answer else {
-        return Ok(true);
-    };
-    match reply_at(items, index, latest) {
-        Some(recorded) => comparer.is_printed(recorded, printed),
-        None => Ok(false),
-    }
-}
-
-/// The same of the reply to a request that is no write.
-fn has_stored_reply(
-    comparer: &mut Comparer,
-    items: &[Item],
-    answer: Option<usize>,
-    latest: u64,
-    stored: &StoredReply<'_>,
-) -> Result<bool, Memory>
-    ensures { IfOk result (λ yes. IsTrue yes ↔ IsAnswered items.now answer latest (reply_stored stored.now)) }
-{
-    let Some(index) = answer else {
-        return Ok(true);
-    };
-    match reply_at(items, index, latest) {
-        Some(recorded) => comparer.is_stored(recorded, stored),
-        None => Ok(false),
     }
 }

@@ -23,7 +23,7 @@ returns-clause-takes c = λ yes.
         called = subst (λ m. IsCalled items m place request) c.in-Some.ensures.value c.in-Some-called_at.ensures.called;
         answer_fits = subst (λ m. IsAnswered items m old.latest (step old.store request).1) c.remove-answer.ensures.value (heard.answer_fits.0 yes);
       };
-      stepped = heard.stepped;
+      stepped = heard.stepped yes;
       calls = search rules;
       answers = search rules;
       grows = omega arith;

@@ -1,5 +1,5 @@
 use Rattle.std.proofs.Common.{◌≡◌, ◌↔◌, drop, map}
-use Rattle.order_check.proofs.same.Comparer.are_packed.Given as goal
+use Rattle.order_check.proofs.same.are_objects.Given as goal
 
 -- the objects so far are equal, so what is left tells
 abbrev pub invariant-loop-i : goal.invariant-loop-i
