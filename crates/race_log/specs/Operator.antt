@@ -24,7 +24,7 @@ changes_set replicas release = Update (set_draft replicas (template_of release))
 abbrev pub fails_pod : Request
 fails_pod = UpdateStatus (record {
   object = new_object (key_parts Pod set_namespace (codes "web-0")) no_members
-    (put (codes "status") (object (put (codes "phase") (string (codes "Failed")) no_members)) no_members);
+      (put (codes "status") (object (put (codes "phase") (string (codes "Failed")) no_members)) no_members);
   uid = None;
   version = None;
 })

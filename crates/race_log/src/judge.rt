@@ -23,7 +23,12 @@ pub struct RaceHistory {
 /// twice. Its time is within n log n, beside that of a plain store which takes the requests once.
 ///
 /// A race that is legal created no pod twice.
-pub fn judged(alloc: Global, capacity: u64, spec: &RaceSpec, log: Log) -> Result<RaceHistory, Memory>
+pub fn judged(
+    alloc: Global,
+    capacity: u64,
+    spec: &RaceSpec,
+    log: Log,
+) -> Result<RaceHistory, Memory>
     ensures history { IfOk result (IsHistoryOf capacity spec.now (noted_of log)) }
     ensures once { IfOk result (λ history. IsTrue history.report.legal → history.report.twice ≡ 0) }
 {

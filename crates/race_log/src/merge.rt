@@ -1,70 +1,155 @@
 // The log of a race, out of the parts of its callers.
+ghost use Rattle.std.specs.Prelude.{◌≡◌, ◌==◌, ◌<◌, ◌++◌, ◌∷◌, [], ℕ, false, length, List, IfOk, OnOk, if◌then◌else◌, MatchOption};
+ghost use Rattle.race_log.specs.Merge.{IsMergeOf, Event, event, asked_events, part_events, events_of};
+ghost use Rattle.race_log.specs.Waiting.{AreTurnsOf, HasHeard, Hears, Holds, left_of, said};
+
 use crate::log::Log;
 use crate::part::{Asked, Part};
 use objects::Memory;
 use requests::{Reply, Request};
 use std::alloc::Global;
+use std::collections::{BTreeMap, VecDeque};
 
-/// What stands at a place.
+/// What a caller says in one of its turns.
 #[derive(Drop)]
-enum Said {
-    Call(Request),
-    Reply(u64, Reply),
+enum Word {
+    Asks(Request),
+    /// The reply, and its number.
+    Told(u64, Reply),
 }
 
-/// A call or a reply, with its place and who asked.
+/// What callers have yet to say, each in its order.
 #[derive(Drop)]
-struct Event {
-    place: u64,
-    caller: u64,
-    said: Said,
+struct Queues {
+    by_caller: BTreeMap<u64, VecDeque<Word>>,
+    alloc: Global,
 }
 
-/// The calls and replies of a part.
-fn take_apart(events: &mut Vec<Event>, part: Part) -> Result<(), Memory> {
-    let Part { caller, asked } = part;
-    for one in asked {
+impl Queues {
+    /// Puts it behind all that the caller says.
+    fn put(&mut self, caller: u64, word: Word) -> Result<(), Memory>
+        ensures { OnOk result ((c : ℕ) → left_of c self.new ≡ left_of c self.old ++ (if caller == c then said word ∷ [] else [])) }
+    {
+        if let Some(queue) = self.by_caller.get_mut(&caller) {
+            queue.push_back(word)?;
+            return Ok(());
+        }
+        let mut queue = VecDeque::new(self.alloc);
+        queue.push_back(word)?;
+        self.by_caller.insert(caller, queue)?;
+        Ok(())
+    }
+
+    /// What the caller says next.
+    fn take(&mut self, caller: u64) -> Option<Word>
+        ensures caller { MatchOption result (left_of caller self.old ≡ []) (λ word. left_of caller self.old ≡ said word ∷ left_of caller self.new) }
+        ensures others { (c : ℕ) → (caller == c) ≡ false → left_of c self.new ≡ left_of c self.old }
+    {
+        self.by_caller.get_mut(&caller)?.pop_front()
+    }
+}
+
+/// What is to be noted: a turn for each event, its place and its caller, and what the callers say.
+#[derive(Drop)]
+struct Waiting {
+    turns: Vec<(u64, u64)>,
+    queues: Queues,
+}
+
+impl Waiting {
+    fn new(alloc: Global) -> Waiting
+        ensures { Holds result [] }
+    {
+        Waiting {
+            turns: Vec::new(alloc),
+            queues: Queues {
+                by_caller: BTreeMap::new(alloc),
+                alloc,
+            },
+        }
+    }
+
+    /// Puts an event behind the others.
+    fn put(&mut self, place: u64, caller: u64, word: Word) -> Result<(), Memory>
+        ensures { (es : List Event) → Holds self.old es → OnOk result (Holds self.new (es ++ event place caller (said word) ∷ [])) }
+    {
+        let turned = self.turns.push((place, caller));
+        self.queues.put(caller, word)?;
+        Ok(turned?)
+    }
+
+    fn put_asked(&mut self, caller: u64, asked: Asked) -> Result<(), Memory>
+        ensures { (es : List Event) → Holds self.old es → OnOk result (Holds self.new (es ++ asked_events caller asked)) }
+    {
         let Asked {
             call,
             request,
             place,
             number,
             reply,
-        } = one;
-        let called = events.push(Event {
-            place: call,
-            caller,
-            said: Said::Call(request),
-        });
-        let replied = events.push(Event {
-            place,
-            caller,
-            said: Said::Reply(number, reply),
-        });
+        } = asked;
+        let called = self.put(call, caller, Word::Asks(request));
+        let replied = self.put(place, caller, Word::Told(number, reply));
         called?;
-        replied?;
+        replied
     }
-    Ok(())
+
+    fn put_part(&mut self, part: Part) -> Result<(), Memory>
+        ensures { (es : List Event) → Holds self.old es → OnOk result (Holds self.new (es ++ part_events part)) }
+    {
+        let Part { caller, asked } = part;
+        for one in asked {
+            self.put_asked(caller, one)?;
+        }
+        Ok(())
+    }
+
+    fn of(alloc: Global, parts: Vec<Part>) -> Result<Waiting, Memory>
+        ensures { IfOk result (λ waiting. Holds waiting (events_of parts.items)) }
+    {
+        let mut waiting = Waiting::new(alloc);
+        for part in parts {
+            waiting.put_part(part)?;
+        }
+        Ok(waiting)
+    }
 }
 
-/// The log that has these parts, in the order of their places.
-pub fn merged(alloc: Global, parts: Vec<Part>) -> Result<Log, Memory> {
-    let mut events = Vec::new(alloc);
-    for part in parts {
-        take_apart(&mut events, part)?;
-    }
-    events.sort_by_key(|event| event.place)?;
-    let mut log = Log::new(alloc);
-    for event in events {
-        let Event {
-            place: _,
-            caller,
-            said,
-        } = event;
-        match said {
-            Said::Call(request) => log.call(caller, request)?,
-            Said::Reply(number, reply) => log.reply(caller, number, reply)?,
+impl Log {
+    /// Notes what the caller says next.
+    fn hear(&mut self, queues: &mut Queues, caller: u64) -> Result<(), Memory>
+        requires { 0 < length (left_of caller queues.old) }
+        ensures { OnOk result (Hears caller self.old.items.items self.new.items.items queues.old queues.new) }
+    {
+        match queues.take(caller) {
+            Some(Word::Asks(request)) => self.call(caller, request),
+            Some(Word::Told(number, reply)) => self.reply(caller, number, reply),
+            None => Ok(()),
         }
     }
+}
+
+/// The log of what the callers say in these turns.
+fn log_of(alloc: Global, queues: Queues, turns: &[(u64, u64)]) -> Result<Log, Memory>
+    requires { AreTurnsOf turns.now queues }
+    ensures { IfOk result (λ log. HasHeard log.items.items queues turns.now) }
+{
+    let mut left = queues;
+    let mut log = Log::new(alloc);
+    for (_, caller) in turns {
+        log.hear(&mut left, *caller)?;
+    }
     Ok(log)
+}
+
+/// The log that has these parts. Callers take turns by the places of the events, and what a caller says in its turn is the
+/// next that it said: so each part stands in the log in its order, whatever its places are.
+pub fn merged(alloc: Global, parts: Vec<Part>) -> Result<Log, Memory>
+    ensures merged { IfOk result (λ log. IsMergeOf parts.items log.items.items) }
+{
+    let waiting = Waiting::of(alloc, parts)?;
+    let Waiting { turns, queues } = waiting;
+    let mut order = turns;
+    order.sort()?;
+    log_of(alloc, queues, order.as_slice())
 }

@@ -47,7 +47,11 @@ fn members(alloc: Global, replicas: u64, template: Members) -> Result<Members, A
 
 /// The set `web` in `default`, with that many pods and that template, no claims, whose pods come in order.
 #[tactic(auto, unfolding(objects::specs::MetadataShape::metadata_fits))]
-pub(crate) fn set_draft(alloc: Global, replicas: u64, template: Members) -> Result<Draft, AllocError>
+pub(crate) fn set_draft(
+    alloc: Global,
+    replicas: u64,
+    template: Members,
+) -> Result<Draft, AllocError>
     ensures { IfOk result (λ draft. draft ≡ set_draft replicas template) }
 {
     let members = members(alloc, replicas, template)?;
