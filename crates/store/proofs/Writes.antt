@@ -1,5 +1,5 @@
 -- A write under a shard's lock: what it may draw, and what it leaves.
-use Rattle.std.proofs.Common.{◌≡◌, ℕ, ◌+◌, ◌-◌, ◌<◌, ◌≤◌, Bool, true, false, true≢false, cond, List, [], ◌∷◌, ◌++◌, length, Option, Some, None, IfSome, IfNone, IsSome, refl, sym, ap, ◌∙◌, subst, ⊎_elim, inl, inr, Result, OnOk, OnErr, Ok, Err, arith, length-append}
+use Rattle.std.proofs.Common.{◌≡◌, ℕ, ◌+◌, ◌-◌, ◌<◌, ◌≤◌, Bool, true, false, true≢false, cond, List, [], ◌∷◌, ◌++◌, length, Option, Some, None, IfSome, IfNone, IsSome, refl, sym, ap, ◌∙◌, subst, ⊎_elim, inl, inr, Result, OnOk, OnErr, arith, length-append}
 use Rattle.std.specs.Option.{option_or}
 use mathlib.Core.List.{IsPrefix}
 use Rattle.objects.specs.declared.key.Key.{Key}
@@ -185,21 +185,17 @@ module _ (shards capacity : ℕ) where
 
   -- ---- a whole holding of a lock by a write
 
-  pub holds_room : (r : Result (Unit {0}) Memory) (s t : Shard) (v : NotedView Writing) (request : Request) (k : Key) → key_named request ≡ Some k → Holds shards v s v
-      → OnOk r ((q : Key) → key_named request ≡ Some q → t ≡ with_room s q) → OnErr r (t ≡ s) → Holds shards v t v
-  holds_room r s t v request k named h made kept = record {
+  pub holds_room : (r : Result (Unit {0}) Memory) (s t : Shard) (v : NotedView Writing) (k : Key) → Holds shards v s v
+      → OnOk r (t ≡ with_room s k) → OnErr r (t ≡ s) → Holds shards v t v
+  holds_room r s t v k h made kept = record {
     shard = refl;
     seen = refl;
     frontier = refl;
     loads = refl;
     pending = h.pending;
-    agrees = agrees_room r s t k v.notes v.plain.filled (length v.seen) h.agrees (at_key r made) kept;
+    agrees = agrees_room r s t k v.notes v.plain.filled (length v.seen) h.agrees made kept;
     caller = h.caller;
   }
-    where
-      at_key : (r : Result (Unit {0}) Memory) → OnOk r ((q : Key) → key_named request ≡ Some q → t ≡ with_room s q) → OnOk r (t ≡ with_room s k)
-      at_key (Ok u) f = f k named
-      at_key (Err e) f = tt
 
   -- a caller c whose seat w goes into a shard's seat v, which it loads the frontier f by, works by it, and leaves
   module _ (c : Caller) (v w b y u z : NotedView Writing) (s : Shard) (f : ℕ) (same : caller_by w ≡ c) (in_ : b ≡ entered v w) (looked : y ≡ looked_noted b f y.seen) (sees : Matches (home_of shards) by_of Accepts b f y.seen) (known : IsCallerView shards w) (within : f ≤ capacity)

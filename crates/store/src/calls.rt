@@ -75,42 +75,16 @@ pub(crate) fn get<H: Sharding, N: Naming, W: Wait>(
     // A compaction may be faster. To hold the floor's lock instead would make all reads wait for compactions.
     for _ in rt.forever() {
         caller.frontier(line);
-        match read(rt, line, shard, index, caller, key) {
-            Ok(None) => {}
-            Ok(Some(reply)) => return Ok(reply),
-            Err(error) => return Err(error),
+        let mut locked = shard.lock(rt);
+        if locked.index() != index {
+            for _ in rt.forever() {}
+            unreachable!()
+        }
+        if locked.floor() <= caller.seen() {
+            return locked.get(line, caller, key);
         }
     }
     unreachable!()
-}
-
-/// The same at the frontier that the caller has seen, or nothing where the shard can't be read there any more. It does not
-/// return where the lock has another shard.
-fn read<H: Sharding, N: Naming, W: Wait>(
-    rt: &W,
-    line: &Line<Writing, ByShards<H>>,
-    shard: &Mutex<Locked<H, N>>,
-    index: u64,
-    caller: &mut Caller<H, N>,
-    key: &Key,
-) -> Result<Option<Reply>, Memory>
-    requires line { IsLine N.line N.capacity line.now }
-    requires key { shard_of key.now H.shards ≡ index }
-    ensures stays { Stays caller.old caller.new }
-    ensures reply { IfOk result (λ found. IfSome found (λ reply. reply ≡ (step (store_after N.capacity caller.new.seen) (Get key.now)).1)) }
-{
-    let mut locked = shard.lock(rt);
-    if locked.index() != index {
-        for _ in rt.forever() {}
-        unreachable!()
-    }
-    if caller.seen() < locked.floor() {
-        return Ok(None);
-    }
-    match locked.get(line, caller, key) {
-        Ok(reply) => Ok(Some(reply)),
-        Err(error) => Err(error),
-    }
 }
 
 /// What a list is answered, at one frontier, which the caller has then seen. Where a shard can't be read there any more,

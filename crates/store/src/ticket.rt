@@ -7,12 +7,13 @@ use crate::naming::{Naming, Sharding};
 use crate::store::Store;
 use requests::{Reply, Request};
 use std::marker::{Model, PhantomData};
+use std::snapshot::Snapshot;
 
 /// What stands for a write that was handed in, until its caller may know what became of it: its reply, which was made under
 /// the shard's lock, and how far the frontier has to be for it to be given. It is used with the caller that made it.
 #[derive(Drop)]
 pub struct Ticket<H: Sharding, N: Naming> {
-    pub(crate) request: Request,
+    pub(crate) request: Snapshot<Request>,
     pub(crate) since: u64,
     pub(crate) saw: u64,
     pub(crate) place: u64,
@@ -29,7 +30,7 @@ impl<H: Sharding, N: Naming> Model for Ticket<H, N> {
 
     ghost coded = { ticket_coded };
 
-    ghost view = { λ t. record { request = t.request; since = t.since; saw = t.saw; place = t.place; reply = t.reply } };
+    ghost view = { λ t. record { request = t.request.value; since = t.since; saw = t.saw; place = t.place; reply = t.reply } };
 
     ghost invariant = { λ t. ⊤ };
 }

@@ -8,7 +8,6 @@ ghost use Rattle.requests.specs.Keys.{key_named};
 ghost use Rattle.requests.specs.Verdict.{is_write, verdict};
 ghost use Rattle.requests.specs.declared.verdict.Verdict.TheVariants.{Write};
 ghost use Rattle.versions.specs.Records.{current, newest};
-ghost use Rattle.versions.specs.Shard.{with_room};
 ghost use Rattle.line.specs.Notes.{notes_up_to};
 ghost use Rattle.line.specs.NotedSteps.{MayDraw};
 ghost use Rattle.line.specs.NotedView.{drew_noted, with_plain, drew_for};
@@ -25,8 +24,9 @@ use crate::ticket::Ticket;
 use crate::writing::{ByShards, Writing};
 use line::{Drawn, Line, Noting, ShardSeat};
 use objects::Memory;
-use requests::{Change, Reason, Reply, Request, Verdict};
+use requests::{Change, Reason, Reply, Request, Verdict, decide_whole};
 use std::marker::{Brand, PhantomData};
+use std::snapshot::Snapshot;
 use versions::Shard;
 
 /// Decides the write over the newest record of its key, and carries it out.
@@ -52,17 +52,15 @@ pub(crate) fn hand_in<H: Sharding, N: Naming, G: Gate>(
     ensures wrote { IfOk result (λ t. WritesNotes seat.old.view.notes t seat.new.view.notes) }
     ensures memory { OnErr result ((seat.new.view ≡ seat.old.view) × (shard.new ≡ shard.old)) }
 {
-    let decided = decide(shard, &request);
-    let Ok((saw, verdict)) = decided else {
-        drop(request);
-        return Err(Memory);
-    };
+    // What contracts see of the request; the request itself is used up by the verdict.
+    let asked = Snapshot::of(&request);
+    let (saw, verdict) = decide(shard, request)?;
     match verdict {
         Verdict::Refuse(reason) => Ok(unwritten(
             line,
             seat,
             shard,
-            request,
+            asked,
             since,
             loaded,
             saw,
@@ -72,31 +70,31 @@ pub(crate) fn hand_in<H: Sharding, N: Naming, G: Gate>(
             line,
             seat,
             shard,
-            request,
+            asked,
             since,
             loaded,
             saw,
             Reply::Unchanged(object),
         )),
-        Verdict::Write(change) => carry_out(line, seat, shard, request, since, change, gate),
+        Verdict::Write(change) => carry_out(line, seat, shard, asked, since, change, gate),
     }
 }
 
 /// The number of the newest record of the request's key, and what the request comes to over it.
-fn decide(shard: &Shard, request: &Request) -> Result<(u64, Verdict), Memory>
-    requires { is_write request.now ≡ true }
-    ensures { IfOk result (λ d. (k : Key) → key_named request.now ≡ Some k
-        → (d.0 ≡ number_in (newest shard.now.records k)) × (d.1 ≡ verdict request.now (current shard.now.records k))) }
+fn decide(shard: &Shard, request: Request) -> Result<(u64, Verdict), Memory>
+    requires { is_write request ≡ true }
+    ensures { IfOk result (λ d. (k : Key) → key_named request ≡ Some k
+        → (d.0 ≡ number_in (newest shard.now.records k)) × (d.1 ≡ verdict request (current shard.now.records k))) }
 {
     let Some(key) = request.key() else {
         unreachable!();
     };
-    let saw = match shard.newest(key) {
-        Some((number, _)) => number,
+    let (saw, current) = match shard.newest(key) {
+        Some((number, object)) => (number, object),
         // 0 stands for no version of the key.
-        None => 0,
+        None => (0, None),
     };
-    Ok((saw, shard.verdict(request)?))
+    Ok((saw, decide_whole(current, request)?))
 }
 
 /// A write that changes nothing.
@@ -104,7 +102,7 @@ fn unwritten<H: Sharding, N: Naming>(
     line: &Line<Writing, ByShards<H>>,
     seat: &mut ShardSeat<Writing>,
     shard: &Shard,
-    request: Request,
+    request: Snapshot<Request>,
     since: u64,
     loaded: u64,
     saw: u64,
@@ -112,16 +110,16 @@ fn unwritten<H: Sharding, N: Naming>(
 ) -> Ticket<H, N>
     requires line { (seat.old.line ≡ line.now.name) × IsLine N.line N.capacity line.now }
     requires holds { Holds H.shards seat.old.view shard.now seat.old.view }
-    requires write { is_write request ≡ true }
-    requires key { (k : Key) → key_named request ≡ Some k → (seat.old.view.shard ≡ Some (shard_of k H.shards))
-        × (saw ≡ number_in (newest shard.now.records k)) × Unwritten (verdict request (current shard.now.records k)) reply }
+    requires write { is_write request.value ≡ true }
+    requires key { (k : Key) → key_named request.value ≡ Some k → (seat.old.view.shard ≡ Some (shard_of k H.shards))
+        × (saw ≡ number_in (newest shard.now.records k)) × Unwritten (verdict request.value (current shard.now.records k)) reply }
     requires seen { (loaded ≡ length seat.old.view.seen) × (since ≤ loaded) }
     ensures line { seat.new.line ≡ seat.old.line }
     ensures holds { Holds H.shards seat.old.view shard.now seat.new.view }
     ensures ticket { IsTicketOf H.shards N.capacity result (caller_by seat.new.view) }
     ensures own { WritesOwn (caller_by seat.old.view) result (caller_by seat.new.view) }
     ensures wrote { WritesNotes seat.old.view.notes result seat.new.view.notes }
-    ensures is { result ≡ record { request = request; since = since; saw = saw; place = max saw loaded; reply = Some reply } }
+    ensures is { result ≡ record { request = request.value; since = since; saw = saw; place = max saw loaded; reply = Some reply } }
 {
     // For the contract alone; it costs nothing.
     let _ = shard;
@@ -136,48 +134,35 @@ fn unwritten<H: Sharding, N: Naming>(
     }
 }
 
-/// Makes room for a record of the request's key.
-fn make_room(shard: &mut Shard, request: &Request) -> Result<(), Memory>
-    requires { is_write request.now ≡ true }
-    ensures made { OnOk result ((k : Key) → key_named request.now ≡ Some k → shard.new ≡ with_room shard.old k) }
-    ensures memory { OnErr result (shard.new ≡ shard.old) }
-{
-    let Some(key) = request.key() else {
-        unreachable!();
-    };
-    shard.make_room(key)
-}
-
 /// A write that changes something, where numbers are left.
 fn carry_out<H: Sharding, N: Naming, G: Gate>(
     line: &Line<Writing, ByShards<H>>,
     seat: &mut ShardSeat<Writing>,
     shard: &mut Shard,
-    request: Request,
+    request: Snapshot<Request>,
     since: u64,
     change: Change,
     gate: &G,
 ) -> Result<Ticket<H, N>, Memory>
     requires line { (seat.old.line ≡ line.now.name) × IsLine N.line N.capacity line.now }
     requires holds { Holds H.shards seat.old.view shard.old seat.old.view }
-    requires write { is_write request ≡ true }
-    requires key { (k : Key) → key_named request ≡ Some k
-        → (seat.old.view.shard ≡ Some (shard_of k H.shards)) × (verdict request (current shard.old.records k) ≡ Write change) }
+    requires write { is_write request.value ≡ true }
+    requires key { (k : Key) → key_named request.value ≡ Some k
+        → (seat.old.view.shard ≡ Some (shard_of k H.shards)) × (verdict request.value (current shard.old.records k) ≡ Write change) }
     requires seen { (since ≤ length seat.old.view.seen) × (length seat.old.view.seen ≤ N.capacity) }
     ensures line { seat.new.line ≡ seat.old.line }
     ensures holds { Holds H.shards seat.old.view shard.new seat.new.view }
     ensures ticket { IfOk result (λ t. IsTicketOf H.shards N.capacity t (caller_by seat.new.view)
-        × (t.request ≡ request) × (t.since ≡ since) × IsSome t.reply) }
+        × (t.request ≡ request.value) × (t.since ≡ since) × IsSome t.reply) }
     ensures own { IfOk result (λ t. WritesOwn (caller_by seat.old.view) t (caller_by seat.new.view)) }
     ensures wrote { IfOk result (λ t. WritesNotes seat.old.view.notes t seat.new.view.notes) }
     ensures memory { OnErr result ((seat.new.view ≡ seat.old.view) × (shard.new ≡ shard.old)) }
 {
     // Before the draw: a number that was drawn has to be filled, and by then nothing may want memory.
-    if make_room(shard, &request).is_err() {
-        drop(request);
+    let Ok(()) = shard.make_room(change.key()) else {
         drop(change);
         return Err(Memory);
-    }
+    };
     Ok(publish(line, seat, shard, request, since, change, gate))
 }
 
@@ -186,23 +171,23 @@ fn publish<H: Sharding, N: Naming, G: Gate>(
     line: &Line<Writing, ByShards<H>>,
     seat: &mut ShardSeat<Writing>,
     shard: &mut Shard,
-    request: Request,
+    request: Snapshot<Request>,
     since: u64,
     change: Change,
     gate: &G,
 ) -> Ticket<H, N>
     requires line { (seat.old.line ≡ line.now.name) × IsLine N.line N.capacity line.now }
     requires holds { Holds H.shards seat.old.view shard.old seat.old.view }
-    requires write { is_write request ≡ true }
-    requires key { (k : Key) → key_named request ≡ Some k → (seat.old.view.shard ≡ Some (shard_of k H.shards))
-        × (verdict request (current shard.old.records k) ≡ Write change) × (shard.old.room ≡ Some k) }
+    requires write { is_write request.value ≡ true }
+    requires key { (k : Key) → key_named request.value ≡ Some k → (seat.old.view.shard ≡ Some (shard_of k H.shards))
+        × (verdict request.value (current shard.old.records k) ≡ Write change) × (shard.old.room ≡ Some k) }
     requires seen { (since ≤ length seat.old.view.seen) × (length seat.old.view.seen ≤ N.capacity) }
     ensures line { seat.new.line ≡ seat.old.line }
     ensures holds { Holds H.shards seat.old.view shard.new seat.new.view }
     ensures ticket { IsTicketOf H.shards N.capacity result (caller_by seat.new.view) }
     ensures own { WritesOwn (caller_by seat.old.view) result (caller_by seat.new.view) }
     ensures wrote { WritesNotes seat.old.view.notes result seat.new.view.notes }
-    ensures is { (result.request ≡ request) × (result.since ≡ since) × IsSome result.reply }
+    ensures is { (result.request ≡ request.value) × (result.since ≡ since) × IsSome result.reply }
 {
     let published = push_drawn::<H, N, G>(line, seat, shard, &request, change, gate);
     line.observe(seat);
@@ -212,12 +197,12 @@ fn publish<H: Sharding, N: Naming, G: Gate>(
 /// The ticket of a write that was published at a number, with its reply, or found all numbers drawn.
 fn ticket_of<H: Sharding, N: Naming>(
     line: &Line<Writing, ByShards<H>>,
-    request: Request,
+    request: Snapshot<Request>,
     since: u64,
     published: Option<(u64, Reply)>,
 ) -> Ticket<H, N>
     requires { line.now.capacity ≡ N.capacity }
-    ensures { result ≡ ticket_by N.capacity request since published }
+    ensures { result ≡ ticket_by N.capacity request.value since published }
 {
     match published {
         Some((number, reply)) => Ticket {
@@ -244,19 +229,19 @@ fn push_drawn<H: Sharding, N: Naming, G: Gate>(
     line: &Line<Writing, ByShards<H>>,
     seat: &mut ShardSeat<Writing>,
     shard: &mut Shard,
-    request: &Request,
+    request: &Snapshot<Request>,
     change: Change,
     gate: &G,
 ) -> Option<(u64, Reply)>
     requires line { (seat.old.line ≡ line.now.name) × (line.now.capacity ≡ N.capacity) }
     requires pending { seat.old.view.plain.pending ≡ None }
-    requires note { MayDraw (home_of H.shards) by_of Accepts (Some (writing_by seat.old.view request.now change)) seat.old.view }
+    requires note { MayDraw (home_of H.shards) by_of Accepts (Some (writing_by seat.old.view request.now.value change)) seat.old.view }
     requires room { shard.old.room ≡ Some (change_object change).key }
     requires agrees { AgreesWith shard.old seat.old.view }
     requires long { length seat.old.view.seen ≡ seat.old.view.plain.seen }
     ensures line { seat.new.line ≡ seat.old.line }
     ensures agrees { AgreesWith shard.new seat.new.view }
-    ensures some { IfSome result (λ p. IsPublished seat.old.view p.0 (writing_by seat.old.view request.now change) seat.new.view
+    ensures some { IfSome result (λ p. IsPublished seat.old.view p.0 (writing_by seat.old.view request.now.value change) seat.new.view
         × (p.1 ≡ accepted change (stamp change p.0)) × (0 < p.0) × (p.0 ≤ N.capacity)
         × (notes_up_to (p.0 - 1) seat.old.view.notes ≡ seat.old.view.notes) × (seat.old.view.plain.seen < p.0)) }
     ensures none { IfNone result (seat.new.view ≡ with_plain seat.old.view (used_up seat.old.view.plain)) }
@@ -277,14 +262,14 @@ fn push_drawn<H: Sharding, N: Naming, G: Gate>(
 fn draw<H: Sharding>(
     line: &Line<Writing, ByShards<H>>,
     seat: &mut ShardSeat<Writing>,
-    request: &Request,
+    request: &Snapshot<Request>,
     change: &Change,
 ) -> Option<Drawn>
     requires line { seat.old.line ≡ line.now.name }
     requires pending { seat.old.view.plain.pending ≡ None }
-    requires note { MayDraw (home_of H.shards) by_of Accepts (Some (writing_by seat.old.view request.now change.now)) seat.old.view }
+    requires note { MayDraw (home_of H.shards) by_of Accepts (Some (writing_by seat.old.view request.now.value change.now)) seat.old.view }
     ensures line { seat.new.line ≡ seat.old.line }
-    ensures some { IfSome result (λ n. seat.new.view ≡ drew_noted seat.old.view n (writing_by seat.old.view request.now change.now)) }
+    ensures some { IfSome result (λ n. seat.new.view ≡ drew_noted seat.old.view n (writing_by seat.old.view request.now.value change.now)) }
     ensures next { IfSome result (λ n. (0 < n)
         × (n ≤ line.now.capacity) × (n ≤ 1048576) × (notes_up_to (n - 1) seat.old.view.notes ≡ seat.old.view.notes)
         × (seat.old.view.plain.seen < n) × All (λ x. x < n) seat.old.view.plain.filled) }
@@ -296,12 +281,12 @@ fn draw<H: Sharding>(
 fn draw_as<H: Sharding, J: Noting<Writing>>(
     line: &Line<Writing, ByShards<H>>,
     seat: &mut ShardSeat<Writing>,
-    request: &Request,
+    request: &Snapshot<Request>,
     change: &Change,
 ) -> Option<Drawn>
     requires line { seat.old.line ≡ line.now.name }
     requires pending { seat.old.view.plain.pending ≡ None }
-    requires picked { J.note ≡ Some (writing_by seat.old.view request.now change.now) }
+    requires picked { J.note ≡ Some (writing_by seat.old.view request.now.value change.now) }
     requires note { MayDraw (home_of H.shards) by_of Accepts J.note seat.old.view }
     ensures line { seat.new.line ≡ seat.old.line }
     ensures some { IfSome result (λ n. seat.new.view ≡ drew_for J.note seat.old.view n) }

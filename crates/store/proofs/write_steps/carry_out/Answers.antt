@@ -1,7 +1,21 @@
-use Rattle.store.proofs.Writes.{holds_room, some_key}
+use Rattle.std.proofs.Common.{◌∙◌, Ok, Some, ap, sym}
+use Rattle.requests.specs.Verdict.{verdict}
+use Rattle.versions.specs.Records.{current}
+use Rattle.versions.specs.Shard.{Shard}
+use Rattle.store.proofs.Readings.{current_is}
+use Rattle.store.proofs.Writes.{holds_room, own_key}
 use Rattle.store.proofs.write_steps.carry_out.Goals as goal
 
 pub publish-requires-clause-holds : goal.publish-requires-clause-holds
 publish-requires-clause-holds g c =
-    let k = some_key c.args.request c.requires.write in
-    holds_room g.H.Sharding.shards 0 c.make_room.result c.args.shard.now c.make_room.new.shard c.args.seat.now.view c.args.request k.0 k.1 c.requires.holds c.make_room.ensures.made c.make_room.ensures.memory
+    holds_room g.H.Sharding.shards 0 (Ok tt) c.args.shard.now c.make_room.new.self c.args.seat.now.view c.key.result.now c.requires.holds c.in-Ok.ensures.made tt
+
+pub publish-requires-clause-key : goal.publish-requires-clause-key
+publish-requires-clause-key g c = λ k named.
+    let q = c.requires.key k named in
+    let v = c.args.seat.now.view in
+    let h = c.requires.holds in
+    let made = c.in-Ok.ensures.made in
+    let judged = ap (verdict c.args.request.value) (sym (current_is c.args.shard.now.records v.notes h.agrees.latest k)) ∙ q.1 in
+    let own = own_key g.H.Sharding.shards 0 v c.args.request.value c.args.change k c.requires.write named q.0 judged in
+    (q.0, ap (λ (s : Shard). verdict c.args.request.value (current s.records k)) made ∙ q.1, ap (λ (s : Shard). s.room) made ∙ ap Some (c.key.ensures ∙ own))

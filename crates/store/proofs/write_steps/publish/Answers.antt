@@ -14,14 +14,14 @@ push_drawn-published-requires g c =
     let S = g.H.Sharding.shards in
     let v = c.args.seat.now.view in
     let h = c.requires.holds in
-    let k = some_key c.args.request c.requires.write in
+    let k = some_key c.args.request.value c.requires.write in
     let q = c.requires.key k.0 k.1 in
-    let judged = ap (verdict c.args.request) (sym (current_is c.args.shard.now.records v.notes h.agrees.latest k.0)) ∙ q.1 in
+    let judged = ap (verdict c.args.request.value) (sym (current_is c.args.shard.now.records v.notes h.agrees.latest k.0)) ∙ q.1 in
     record {
       line = (c.requires.line.0, c.requires.line.1.1);
       pending = h.pending;
-      note = may_write S 0 v c.args.request c.args.change k.0 c.requires.write k.1 q.0 judged;
-      room = q.2 ∙ ap Some (sym (own_key S 0 v c.args.request c.args.change k.0 c.requires.write k.1 q.0 judged));
+      note = may_write S 0 v c.args.request.value c.args.change k.0 c.requires.write k.1 q.0 judged;
+      room = q.2 ∙ ap Some (sym (own_key S 0 v c.args.request.value c.args.change k.0 c.requires.write k.1 q.0 judged));
       agrees = h.agrees;
       long = h.caller.long;
     }
@@ -31,8 +31,8 @@ returns-clause-holds g c =
     let S = g.H.Sharding.shards in
     let C = g.N.Naming.capacity in
     let h = c.requires.holds in
-    let pushes : Pushes S C c.args.seat.now.view c.args.request c.args.change c.push_drawn-published.result c.push_drawn-published.new.seat.view = (c.push_drawn-published.ensures.some, c.push_drawn-published.ensures.none) in
-    let keeps = pushed_keeps S C c.args.seat.now.view c.push_drawn-published.new.seat.view c.args.request c.args.change c.push_drawn-published.result pushes in
+    let pushes : Pushes S C c.args.seat.now.view c.args.request.value c.args.change c.push_drawn-published.result c.push_drawn-published.new.seat.view = (c.push_drawn-published.ensures.some, c.push_drawn-published.ensures.none) in
+    let keeps = pushed_keeps S C c.args.seat.now.view c.push_drawn-published.new.seat.view c.args.request.value c.args.change c.push_drawn-published.result pushes in
     let notes = c.observe.ensures.observed in
     let low = c.push_drawn-published.ensures.agrees.floor in
     let same = ap (λ (n : NotedView Writing). length n.seen) notes.4 in
@@ -43,7 +43,7 @@ returns-clause-holds g c =
       loads = ap (λ (n : NotedView Writing). n.plain.loads) notes.4 ∙ keeps.loads;
       pending = ap (λ (n : NotedView Writing). n.plain.pending) notes.4 ∙ keeps.pending h.pending;
       agrees = agrees_as _ _ _ _ _ _ _ c.push_drawn-published.ensures.agrees (ap (λ (n : NotedView Writing). n.notes) notes.4) (ap (λ (n : NotedView Writing). n.plain.filled) notes.4) (omega arith);
-      caller = pushed_view S C c.args.seat.now.view c.push_drawn-published.new.seat.view c.observe.new.seat.view c.args.request c.args.change c.push_drawn-published.result pushes h.caller notes;
+      caller = pushed_view S C c.args.seat.now.view c.push_drawn-published.new.seat.view c.observe.new.seat.view c.args.request.value c.args.change c.push_drawn-published.result pushes h.caller notes;
     }
 
 pub returns-clause-ticket : goal.returns-clause-ticket
@@ -52,28 +52,28 @@ returns-clause-ticket g c =
     let C = g.N.Naming.capacity in
     let v = c.args.seat.now.view in
     let h = c.requires.holds in
-    let pushes : Pushes S C v c.args.request c.args.change c.push_drawn-published.result c.push_drawn-published.new.seat.view = (c.push_drawn-published.ensures.some, c.push_drawn-published.ensures.none) in
-    let k = some_key c.args.request c.requires.write in
+    let pushes : Pushes S C v c.args.request.value c.args.change c.push_drawn-published.result c.push_drawn-published.new.seat.view = (c.push_drawn-published.ensures.some, c.push_drawn-published.ensures.none) in
+    let k = some_key c.args.request.value c.requires.write in
     let q = c.requires.key k.0 k.1 in
-    let judged = ap (verdict c.args.request) (sym (current_is c.args.shard.now.records v.notes h.agrees.latest k.0)) ∙ q.1 in
+    let judged = ap (verdict c.args.request.value) (sym (current_is c.args.shard.now.records v.notes h.agrees.latest k.0)) ∙ q.1 in
     subst (λ t. IsTicketOf S C t (caller_by c.observe.new.seat.view)) (sym c.ticket_of.ensures)
     (pushed_due S C v c.push_drawn-published.new.seat.view c.observe.new.seat.view c.observe.ensures.observed (c.observe.ensures.capacity ∙ c.requires.line.1.1)
-    c.args.request c.args.change k.0 c.args.since c.requires.write k.1 q.0 judged h.caller c.requires.seen.0 c.requires.seen.1 c.push_drawn-published.result pushes)
+    c.args.request.value c.args.change k.0 c.args.since c.requires.write k.1 q.0 judged h.caller c.requires.seen.0 c.requires.seen.1 c.push_drawn-published.result pushes)
 
 pub returns-clause-own : goal.returns-clause-own
 returns-clause-own g c =
     let S = g.H.Sharding.shards in
     let C = g.N.Naming.capacity in
     let v = c.args.seat.now.view in
-    let pushes : Pushes S C v c.args.request c.args.change c.push_drawn-published.result c.push_drawn-published.new.seat.view = (c.push_drawn-published.ensures.some, c.push_drawn-published.ensures.none) in
+    let pushes : Pushes S C v c.args.request.value c.args.change c.push_drawn-published.result c.push_drawn-published.new.seat.view = (c.push_drawn-published.ensures.some, c.push_drawn-published.ensures.none) in
     subst (λ t. WritesOwn (caller_by v) t (caller_by c.observe.new.seat.view)) (sym c.ticket_of.ensures)
-    (pushed_own S C v c.push_drawn-published.new.seat.view c.observe.new.seat.view c.observe.ensures.observed c.args.request c.args.change c.args.since c.push_drawn-published.result pushes)
+    (pushed_own S C v c.push_drawn-published.new.seat.view c.observe.new.seat.view c.observe.ensures.observed c.args.request.value c.args.change c.args.since c.push_drawn-published.result pushes)
 
 pub returns-clause-wrote : goal.returns-clause-wrote
 returns-clause-wrote g c =
     let S = g.H.Sharding.shards in
     let C = g.N.Naming.capacity in
     let v = c.args.seat.now.view in
-    let pushes : Pushes S C v c.args.request c.args.change c.push_drawn-published.result c.push_drawn-published.new.seat.view = (c.push_drawn-published.ensures.some, c.push_drawn-published.ensures.none) in
+    let pushes : Pushes S C v c.args.request.value c.args.change c.push_drawn-published.result c.push_drawn-published.new.seat.view = (c.push_drawn-published.ensures.some, c.push_drawn-published.ensures.none) in
     subst (λ t. WritesNotes v.notes t c.observe.new.seat.view.notes) (sym c.ticket_of.ensures)
-    (pushed_wrote S C v c.push_drawn-published.new.seat.view c.observe.new.seat.view.notes (ap (λ (n : NotedView Writing). n.notes) c.observe.ensures.observed.4) c.args.request c.args.change c.args.since c.push_drawn-published.result pushes)
+    (pushed_wrote S C v c.push_drawn-published.new.seat.view c.observe.new.seat.view.notes (ap (λ (n : NotedView Writing). n.notes) c.observe.ensures.observed.4) c.args.request.value c.args.change c.args.since c.push_drawn-published.result pushes)

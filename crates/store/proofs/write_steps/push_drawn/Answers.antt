@@ -25,7 +25,7 @@ returns-clause-agrees g c =
     let long = c.requires.long in
     let low = c.requires.agrees.floor in
     let old = c.args.seat.now.view in
-    let w = writing_by old c.args.request.now c.args.change in
+    let w = writing_by old c.args.request.now.value c.args.change in
     let a = agrees_pushed c.args.shard.now old.notes old.plain.filled (length old.seen) c.number-number.result c.stamp-version.result.0 w c.requires.agrees
     (subst (λ n. All (λ x. x < n) old.plain.filled) (sym number) next.5) c.stamp-version.ensures.version (omega arith) (omega arith) in
     let has : c.fill.new.seat.view.notes ≡ old.notes ++ (c.number-number.result, w) ∷ [] = ap (λ (n : NotedView _). n.notes) c.fill.ensures.filled ∙ (ap (λ (n : NotedView _). n.notes) c.in-Some.ensures.some ∙ ap (λ n. old.notes ++ (n, w) ∷ []) (sym number)) in
