@@ -4,7 +4,7 @@ pub mod Callers
 pub mod Tickets
 pub mod Rule
 pub mod Views
+pub mod Floors
 -- ---- what only proofs use
 pub mod Parts
-pub mod Floors
 pub mod Codes

@@ -214,7 +214,8 @@ impl<H: Sharding, N: Naming> Store<H, N> {
     /// Gives up what was before a revision: Compacted, or TooLarge where the number is above the frontier, else Expired
     /// where the past was given up beyond it. The floor's lock is held to the end, and each shard's in turn.
     pub fn compact<W: Wait>(&self, rt: &W, caller: &mut Caller<H, N>, number: u64) -> Reply
-        ensures { HasRead N.capacity caller.old caller.new }
+        ensures read { HasRead N.capacity caller.old caller.new }
+        ensures reply { (floor : ℕ) × (result ≡ compacted_reply (denied floor (length caller.new.seen) number) number) }
     {
         // Taken before any shard's lock, and never by a thread that holds one, so that no two wait for each other.
         let mut floor = self.floor.lock(rt);
@@ -266,7 +267,9 @@ impl<H: Sharding, N: Naming> Store<H, N> {
         namespace: &Text,
         number: u64,
     ) -> Result<Reply, Memory>
-        ensures { HasRead N.capacity caller.old caller.new }
+        ensures read { HasRead N.capacity caller.old caller.new }
+        ensures reply { IfOk result (λ reply. (floor : ℕ) × (reply
+            ≡ list_reply (denied floor (length caller.new.seen) number) N.capacity caller.new.seen kind namespace.now number)) }
     {
         // It is held while the shards are read, so that no compaction passes the number meanwhile.
         let floor = self.floor.lock(rt);
