@@ -4,6 +4,7 @@ pub mod Cuts
 pub mod Visits
 pub mod Tickets
 pub mod Writes
+pub mod Outcomes
 pub mod Entries
 pub mod Gatherings
 pub mod Parts

@@ -3,6 +3,7 @@ use Rattle.std.specs.Prelude.{◌≡◌, ◌⊎◌, ℕ, ◌+◌, ◌<◌, ◌�
 use mathlib.Core.List.{IsPrefix}
 use mathlib.Core.Option.{some}
 use lib.ListN.{get_elem?}
+use Rattle.std.specs.FinMap as finite
 use Rattle.objects.specs.declared.object.Object.{Object}
 use Rattle.requests.specs.declared.request.Request.{Request}
 use Rattle.requests.specs.declared.reply.Reply.{Reply}
@@ -10,7 +11,8 @@ use Rattle.requests.specs.declared.reply.Reply.TheVariants.{Unchanged, Refused}
 use Rattle.requests.specs.declared.reply.Reason.TheVariants.{StoreFull}
 use Rattle.requests.specs.declared.verdict.Verdict.{Verdict}
 use Rattle.requests.specs.declared.verdict.Verdict.TheVariants.{Refuse, Same, Write}
-use Rattle.requests.specs.Change.{Change}
+use Rattle.requests.specs.Change.{Change, accepted, stamp, version_of}
+use Rattle.versions.specs.Records.{Records}
 use Rattle.versions.specs.Shard.{Shard}
 use Rattle.line.specs.declared.view.Observation.{Observation}
 use Rattle.line.specs.declared.view.NotedView.{NotedView}
@@ -116,6 +118,14 @@ number_in (Some p) = p.0
 -- what a write leaves of its shard's notes: an accepted one is added, at its place; any other changes nothing
 abbrev pub WritesNotes : List (ℕ × Writing) → Ticket → List (ℕ × Writing) → Type 0
 WritesNotes old t new = (IfSome t.reply (λ r. is_accepted r ≡ false) × (new ≡ old)) ⊎ (IfSome t.reply (λ r. is_accepted r ≡ true) × ((w : Writing) × (new ≡ old ++ (t.place, w) ∷ []) × (w.request ≡ t.request)))
+
+-- What a write makes of the records of its shard, by its verdict over the newest one of its key, which has the number `newest`: its ticket, and the records afterwards. Only an accepted one adds a record, at its place.
+abbrev pub IsOutcome : (capacity : ℕ) → Records → (newest : ℕ) → Verdict → Ticket → Records → Type 0
+IsOutcome capacity old newest (Refuse reason) t new = (t.reply ≡ Some (Refused reason)) × (t.saw ≡ newest) × (new ≡ old)
+IsOutcome capacity old newest (Same o) t new = (t.reply ≡ Some (Unchanged o)) × (t.saw ≡ newest) × (new ≡ old)
+IsOutcome capacity old newest (Write c) t new =
+    ((t.reply ≡ Some (accepted c (stamp c t.place))) × (new ≡ finite.insert old t.place (version_of c t.place)))
+    ⊎ ((t.reply ≡ Some (Refused StoreFull)) × (t.saw ≡ capacity) × (new ≡ old))
 
 -- what a part of a write leaves, by a shard's seat with a caller's in it whose view was v: the shard s and the view u
 pub record Holds (shards : ℕ) (v : NotedView Writing) (s : Shard) (u : NotedView Writing) : Type 0 where

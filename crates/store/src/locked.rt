@@ -4,16 +4,17 @@ ghost use Rattle.std.specs.Option.{option_copied};
 ghost use Rattle.objects.specs.declared.key.Key.{Key};
 ghost use Rattle.objects.specs.ShardOf.{shard_of};
 ghost use Rattle.requests.specs.Keys.{key_named};
-ghost use Rattle.requests.specs.Verdict.{is_write};
+ghost use Rattle.requests.specs.Verdict.{is_write, verdict};
 ghost use Rattle.requests.specs.declared.request.Request.TheVariants.{Get};
 ghost use Rattle.plain_store.specs.Store.{collection, found, step};
 ghost use Rattle.store.specs.Parts.{part_of};
+ghost use Rattle.versions.specs.Records.{current, newest};
 ghost use Rattle.versions.specs.Shard.{opening, raised};
 ghost use Rattle.store.specs.History.{store_after};
 ghost use Rattle.store.specs.Rule.{AgreesWith};
 ghost use Rattle.store.specs.Callers.{GoesOn, IsLine};
 ghost use Rattle.store.specs.Tickets.{IsTicketOf, WritesOwn};
-ghost use Rattle.store.specs.Views.{HasObserved, Stays, WritesNotes};
+ghost use Rattle.store.specs.Views.{HasObserved, IsOutcome, Stays, WritesNotes, number_in};
 
 use crate::caller::Caller;
 use crate::gate::Gate;
@@ -193,6 +194,10 @@ impl<H: Sharding, N: Naming> Locked<H, N> {
             × (t.request ≡ request) × (t.since ≡ length caller.old.seen) × IsSome t.reply) }
         ensures own { IfOk result (λ t. WritesOwn caller.old t caller.new) }
         ensures wrote { IfOk result (λ t. WritesNotes self.old.notes t self.new.notes) }
+        ensures outcome { IfOk result (λ t. (k : Key) → key_named request ≡ Some k
+            → IsOutcome N.capacity self.old.shard.records (number_in (newest self.old.shard.records k))
+            (verdict request (current self.old.shard.records k)) t self.new.shard.records) }
+        ensures floor { self.new.shard.floor ≡ self.old.shard.floor }
         ensures memory { OnErr result ((self.new ≡ self.old) × GoesOn caller.old caller.new) }
     {
         let since = caller.seen();

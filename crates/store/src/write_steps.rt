@@ -3,11 +3,12 @@
 ghost use Rattle.std.specs.Prelude.{◌≡◌, ◌-◌, ◌≤◌, ◌<◌, max, true, length, Some, None, IsSome, All, IfOk, IfSome, IfNone, OnOk, OnErr};
 ghost use Rattle.objects.specs.declared.key.Key.{Key};
 ghost use Rattle.objects.specs.ShardOf.{shard_of};
-ghost use Rattle.requests.specs.Change.{accepted, change_object, stamp};
+ghost use Rattle.requests.specs.Change.{accepted, change_object, stamp, version_of};
 ghost use Rattle.requests.specs.Keys.{key_named};
 ghost use Rattle.requests.specs.Verdict.{is_write, verdict};
 ghost use Rattle.requests.specs.declared.verdict.Verdict.TheVariants.{Write};
 ghost use Rattle.versions.specs.Records.{current, newest};
+ghost use Rattle.versions.specs.Shard.{pushed};
 ghost use Rattle.line.specs.Notes.{notes_up_to};
 ghost use Rattle.line.specs.NotedSteps.{MayDraw};
 ghost use Rattle.line.specs.NotedView.{drew_noted, with_plain, drew_for};
@@ -16,7 +17,7 @@ ghost use Rattle.store.specs.History.{Accepts, by_of, home_of};
 ghost use Rattle.store.specs.Callers.{IsLine};
 ghost use Rattle.store.specs.Rule.{AgreesWith};
 ghost use Rattle.store.specs.Tickets.{IsTicketOf, WritesOwn};
-ghost use Rattle.store.specs.Views.{Holds, IsPublished, Unwritten, WritesNotes, caller_by, number_in, ticket_by, writing_by};
+ghost use Rattle.store.specs.Views.{Holds, IsOutcome, IsPublished, Unwritten, WritesNotes, caller_by, number_in, ticket_by, writing_by};
 
 use crate::gate::Gate;
 use crate::naming::{Naming, Sharding};
@@ -50,6 +51,10 @@ pub(crate) fn hand_in<H: Sharding, N: Naming, G: Gate>(
         × (t.request ≡ request) × (t.since ≡ since) × IsSome t.reply) }
     ensures own { IfOk result (λ t. WritesOwn (caller_by seat.old.view) t (caller_by seat.new.view)) }
     ensures wrote { IfOk result (λ t. WritesNotes seat.old.view.notes t seat.new.view.notes) }
+    ensures outcome { IfOk result (λ t. (k : Key) → key_named request ≡ Some k
+        → IsOutcome N.capacity shard.old.records (number_in (newest shard.old.records k))
+        (verdict request (current shard.old.records k)) t shard.new.records) }
+    ensures floor { shard.new.floor ≡ shard.old.floor }
     ensures memory { OnErr result ((seat.new.view ≡ seat.old.view) × (shard.new ≡ shard.old)) }
 {
     // What contracts see of the request; the request itself is used up by the verdict.
@@ -119,6 +124,9 @@ fn unwritten<H: Sharding, N: Naming>(
     ensures ticket { IsTicketOf H.shards N.capacity result (caller_by seat.new.view) }
     ensures own { WritesOwn (caller_by seat.old.view) result (caller_by seat.new.view) }
     ensures wrote { WritesNotes seat.old.view.notes result seat.new.view.notes }
+    ensures outcome { (k : Key) → key_named request.value ≡ Some k
+        → IsOutcome N.capacity shard.now.records (number_in (newest shard.now.records k))
+        (verdict request.value (current shard.now.records k)) result shard.now.records }
     ensures is { result ≡ record { request = request.value; since = since; saw = saw; place = max saw loaded; reply = Some reply } }
 {
     // For the contract alone; it costs nothing.
@@ -156,6 +164,10 @@ fn carry_out<H: Sharding, N: Naming, G: Gate>(
         × (t.request ≡ request.value) × (t.since ≡ since) × IsSome t.reply) }
     ensures own { IfOk result (λ t. WritesOwn (caller_by seat.old.view) t (caller_by seat.new.view)) }
     ensures wrote { IfOk result (λ t. WritesNotes seat.old.view.notes t seat.new.view.notes) }
+    ensures outcome { IfOk result (λ t. (k : Key) → key_named request.value ≡ Some k
+        → IsOutcome N.capacity shard.old.records (number_in (newest shard.old.records k))
+        (verdict request.value (current shard.old.records k)) t shard.new.records) }
+    ensures floor { shard.new.floor ≡ shard.old.floor }
     ensures memory { OnErr result ((seat.new.view ≡ seat.old.view) × (shard.new ≡ shard.old)) }
 {
     // Before the draw: a number that was drawn has to be filled, and by then nothing may want memory.
@@ -187,6 +199,8 @@ fn publish<H: Sharding, N: Naming, G: Gate>(
     ensures ticket { IsTicketOf H.shards N.capacity result (caller_by seat.new.view) }
     ensures own { WritesOwn (caller_by seat.old.view) result (caller_by seat.new.view) }
     ensures wrote { WritesNotes seat.old.view.notes result seat.new.view.notes }
+    ensures outcome { IsOutcome N.capacity shard.old.records 0 (Write change) result shard.new.records }
+    ensures floor { shard.new.floor ≡ shard.old.floor }
     ensures is { (result.request ≡ request.value) × (result.since ≡ since) × IsSome result.reply }
 {
     let published = push_drawn::<H, N, G>(line, seat, shard, &request, change, gate);
@@ -244,6 +258,8 @@ fn push_drawn<H: Sharding, N: Naming, G: Gate>(
     ensures some { IfSome result (λ p. IsPublished seat.old.view p.0 (writing_by seat.old.view request.now.value change) seat.new.view
         × (p.1 ≡ accepted change (stamp change p.0)) × (0 < p.0) × (p.0 ≤ N.capacity)
         × (notes_up_to (p.0 - 1) seat.old.view.notes ≡ seat.old.view.notes) × (seat.old.view.plain.seen < p.0)) }
+    ensures pushed { IfSome result (λ p. shard.new ≡ pushed shard.old p.0 (version_of change p.0)) }
+    ensures kept { IfNone result (shard.new ≡ shard.old) }
     ensures none { IfNone result (seat.new.view ≡ with_plain seat.old.view (used_up seat.old.view.plain)) }
 {
     let Some(drawn) = draw::<H>(line, seat, request, &change) else {

@@ -1,11 +1,13 @@
 use Rattle.std.proofs.Common.{◌∙◌, length, Some, ap, sym, subst, arith}
 use Rattle.requests.specs.Verdict.{verdict}
+use Rattle.requests.specs.declared.verdict.Verdict.TheVariants.{Write}
 use Rattle.line.specs.declared.view.NotedView.{NotedView}
 use Rattle.store.specs.declared.writing.Writing.{Writing}
 use Rattle.store.specs.Tickets.{IsTicketOf, WritesOwn}
-use Rattle.store.specs.Views.{WritesNotes, caller_by}
+use Rattle.store.specs.Views.{IsOutcome, WritesNotes, caller_by}
 use Rattle.store.proofs.Agreeing.{agrees_as}
 use Rattle.store.proofs.Readings.{current_is}
+use Rattle.store.proofs.Outcomes.{pushed_floor, pushed_outcome}
 use Rattle.store.proofs.Writes.{Pushes, may_write, own_key, pushed_due, pushed_keeps, pushed_own, pushed_view, pushed_wrote, some_key}
 use Rattle.store.proofs.write_steps.publish.Goals as goal
 
@@ -77,3 +79,16 @@ returns-clause-wrote g c =
     let pushes : Pushes S C v c.args.request.value c.args.change c.push_drawn-published.result c.push_drawn-published.new.seat.view = (c.push_drawn-published.ensures.some, c.push_drawn-published.ensures.none) in
     subst (λ t. WritesNotes v.notes t c.observe.new.seat.view.notes) (sym c.ticket_of.ensures)
     (pushed_wrote S C v c.push_drawn-published.new.seat.view c.observe.new.seat.view.notes (ap (λ (n : NotedView Writing). n.notes) c.observe.ensures.observed.4) c.args.request.value c.args.change c.args.since c.push_drawn-published.result pushes)
+
+pub returns-clause-outcome : goal.returns-clause-outcome
+returns-clause-outcome g c =
+    let S = g.H.Sharding.shards in
+    let C = g.N.Naming.capacity in
+    let v = c.args.seat.now.view in
+    let pushes : Pushes S C v c.args.request.value c.args.change c.push_drawn-published.result c.push_drawn-published.new.seat.view = (c.push_drawn-published.ensures.some, c.push_drawn-published.ensures.none) in
+    subst (λ t. IsOutcome C c.args.shard.now.records 0 (Write c.args.change) t c.push_drawn-published.new.shard.records) (sym c.ticket_of.ensures)
+    (pushed_outcome S C v c.push_drawn-published.new.seat.view c.args.shard.now c.push_drawn-published.new.shard c.args.request.value c.args.change c.args.since c.push_drawn-published.result pushes c.push_drawn-published.ensures.pushed c.push_drawn-published.ensures.kept)
+
+pub returns-clause-floor : goal.returns-clause-floor
+returns-clause-floor g c =
+    pushed_floor g.H.Sharding.shards g.N.Naming.capacity c.args.shard.now c.push_drawn-published.new.shard c.args.change c.push_drawn-published.result c.push_drawn-published.ensures.pushed c.push_drawn-published.ensures.kept

@@ -1,6 +1,6 @@
 use Rattle.std.proofs.Common.{◌≡◌, ◌<◌, ◌∙◌, ◌++◌, ◌∷◌, [], All, Some, length, ap, sym, subst, arith}
 use Rattle.requests.specs.declared.version.Version.{Version}
-use Rattle.versions.specs.Shard.{Shard}
+use Rattle.versions.specs.Shard.{Shard, pushed}
 use Rattle.line.specs.declared.view.NotedView.{NotedView}
 use Rattle.store.specs.Rule.{AgreesWith}
 use Rattle.store.specs.Views.{writing_by}
@@ -33,3 +33,6 @@ returns-clause-agrees g c =
     let seen : length c.fill.new.seat.view.seen ≡ length old.seen = ap (λ (n : NotedView _). length n.seen) c.fill.ensures.filled ∙ ap (λ (n : NotedView _). length n.seen) c.in-Some.ensures.some in
     subst (λ (s : Shard). AgreesWith s c.fill.new.seat.view) (sym c.push.ensures)
     (agrees_as _ _ _ _ _ _ _ a has filled (omega arith))
+
+pub returns-clause-pushed : goal.returns-clause-pushed
+returns-clause-pushed g c = c.push.ensures ∙ ap (pushed c.args.shard.now c.number-number.result) c.stamp-version.ensures.version

@@ -1,16 +1,17 @@
 use Rattle.std.proofs.Common.{ℕ, List, length, ◌∙◌, Some, refl, ap, sym, subst, arith}
 use Rattle.objects.specs.ShardOf.{shard_of}
 use Rattle.requests.specs.Verdict.{verdict}
-use Rattle.versions.specs.Records.{current}
+use Rattle.versions.specs.Records.{current, newest}
 use Rattle.line.specs.declared.view.NotedView.{NotedView}
 use Rattle.std.specs.List.{Contains}
 use Rattle.store.specs.declared.writing.Writing.{Writing}
 use Rattle.store.specs.Tickets.{IsTicketOf}
-use Rattle.store.specs.Views.{Unwritten, caller_by}
+use Rattle.store.specs.Views.{Unwritten, caller_by, number_in}
 use Rattle.store.proofs.Agreeing.{agrees_as}
 use Rattle.store.proofs.Readings.{current_is, number_is}
 use Rattle.store.proofs.Tickets.{unwritten_due}
 use Rattle.store.proofs.Visits.{noted, noted_view}
+use Rattle.store.proofs.Outcomes.{unwritten_outcome}
 use Rattle.store.proofs.Writes.{noted_own, some_key, unwritten_wrote}
 use Rattle.store.proofs.write_steps.unwritten.Goals as goal
 
@@ -63,3 +64,9 @@ returns-clause-wrote g c =
     let q = c.requires.key k.0 k.1 in
     unwritten_wrote g.H.Sharding.shards g.N.Naming.capacity _ _ (record { request = c.args.request.value; since = c.args.since; saw = c.args.saw; place = c.max.result; reply = Some c.args.reply })
     (verdict c.args.request.value (current c.args.shard.now.records k.0)) c.args.reply (ap (λ (n : NotedView Writing). n.notes) c.observe.ensures.observed.4) refl q.2
+
+pub returns-clause-outcome : goal.returns-clause-outcome
+returns-clause-outcome g c = λ k named.
+    let q = c.requires.key k named in
+    unwritten_outcome g.H.Sharding.shards g.N.Naming.capacity c.args.shard.now.records (number_in (newest c.args.shard.now.records k)) (verdict c.args.request.value (current c.args.shard.now.records k))
+    (record { request = c.args.request.value; since = c.args.since; saw = c.args.saw; place = c.max.result; reply = Some c.args.reply }) c.args.reply refl q.1 q.2

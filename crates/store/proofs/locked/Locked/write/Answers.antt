@@ -1,11 +1,15 @@
 use Rattle.std.proofs.Common.{◌≡◌, ◌∙◌, length, Some, IfOk, IsSome, refl, ap, sym, subst, arith}
+use Rattle.objects.specs.declared.key.Key.{Key}
+use Rattle.requests.specs.Keys.{key_named}
+use Rattle.requests.specs.Verdict.{verdict}
+use Rattle.versions.specs.Records.{current, newest}
 use Rattle.line.specs.declared.view.NotedView.{NotedView}
 use Rattle.line.proofs.Fronts.{prefix_length}
 use Rattle.store.specs.declared.writing.Writing.{Writing}
 use Rattle.store.specs.Callers.{Caller}
 use Rattle.store.specs.Tickets.{IsTicketOf, WritesOwn}
 use Rattle.store.specs.Rule.{Locked}
-use Rattle.store.specs.Views.{IsCaller, WritesNotes, caller_by, view_or}
+use Rattle.store.specs.Views.{IsCaller, IsOutcome, WritesNotes, caller_by, number_in, view_or}
 use Rattle.store.proofs.Agreeing.{agrees_as, left_as}
 use Rattle.store.proofs.Going.{if_ok, on_err}
 use Rattle.store.proofs.Visits.{left_caller, left_view, looked_past, looked_there, looked_view}
@@ -109,6 +113,14 @@ returns-clause-wrote g c =
     let after = ap (λ (n : NotedView Writing). n.notes) c.leave.ensures.stayed in
     subst (λ l. IfOk c.hand_in-handed.result (λ t. WritesNotes c.args.self.now.notes t l)) (sym after)
     (subst (λ l. IfOk c.hand_in-handed.result (λ t. WritesNotes l t c.hand_in-handed.new.seat.view.notes)) before c.hand_in-handed.ensures.wrote)
+
+pub returns-clause-outcome : goal.returns-clause-outcome
+returns-clause-outcome g c =
+    subst (λ (l : Locked). IfOk c.hand_in-handed.result (λ t. (k : Key) → key_named c.args.request ≡ Some k → IsOutcome g.N.Naming.capacity l.shard.records (number_in (newest l.shard.records k)) (verdict c.args.request (current l.shard.records k)) t c.hand_in-handed.new.shard.records))
+    c.self.view_is c.hand_in-handed.ensures.outcome
+
+pub returns-clause-floor : goal.returns-clause-floor
+returns-clause-floor g c = c.hand_in-handed.ensures.floor ∙ ap (λ (l : Locked). l.shard.floor) c.self.view_is
 
 pub returns-clause-memory : goal.returns-clause-memory
 returns-clause-memory g c =
