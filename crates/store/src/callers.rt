@@ -9,7 +9,7 @@ use crate::writing::{ByShards, Writing};
 use line::{CallerSeat, Line};
 use std::marker::{Model, PhantomData};
 
-/// The most callers that a store may have.
+/// The most callers that a store makes; those that were dropped count too.
 pub(crate) const MAX_CALLERS: u64 = 4096;
 
 /// How many callers were made, and the seat that the next one is cut off.

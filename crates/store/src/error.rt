@@ -5,7 +5,7 @@ use thiserror::Error;
 /// Why a store, or a caller of one, was not made.
 #[derive(Clone, Copy, Debug, PartialEq, Eq, Error)]
 pub enum StoreError {
-    /// The store has 4,096 callers already, which is as many as it may have.
+    /// The store has made 4,096 callers already, which is as many as it may. One that was dropped counts too.
     #[error("the store has too many callers")]
     TooManyCallers,
     /// An allocation was refused.

@@ -93,11 +93,12 @@ impl<H: Sharding, N: Naming> Store<H, N> {
         &self.numbers
     }
 
-    /// One more caller, which has no writes yet.
+    /// One more caller, which has no writes yet. It counts for as long as the store lives, also once it is dropped: whoever
+    /// serves clients that come and go hands callers on from one to the next.
     ///
     /// # Errors
     ///
-    /// TooManyCallers where the store has 4,096 already, and only there. A caller takes no memory.
+    /// TooManyCallers where the store has made 4,096 already, and only there. A caller takes no memory.
     pub fn caller(&self, rt: &impl Wait) -> Result<Caller<H, N>, StoreError>
         ensures { IfOk result (λ c. (c.own_notes ≡ []) × (c.observations ≡ [])) }
     {
