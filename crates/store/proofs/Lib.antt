@@ -11,5 +11,6 @@ pub mod Parts
 pub mod Newest
 pub mod Agreeing
 pub mod Going
+pub mod Holding
 pub mod Kept
 pub mod Sent

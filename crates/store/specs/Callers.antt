@@ -1,5 +1,5 @@
 -- What contracts see of a caller, and how it goes on from call to call.
-use Rattle.std.specs.Prelude.{◌≡◌, ℕ, ◌<◌, ◌≤◌, List, length}
+use Rattle.std.specs.Prelude.{◌≡◌, ℕ, zero, suc, ◌<◌, ◌≤◌, List, [], ◌∷◌, ◌++◌, length, map}
 use mathlib.Core.List.{IsPrefix}
 use Rattle.line.specs.declared.view.Observation.{Observation}
 use Rattle.line.specs.Notes.{notes_of, notes_up_to}
@@ -32,6 +32,15 @@ pub record GoesOn (c d : Caller) : Type 0 where
   pub observations : IsPrefix c.observations d.observations
   pub begins : IsPrefix c.seen d.seen
   pub loads : c.loads ≤ d.loads
+
+-- the numbers below n, from 0 on
+abbrev pub first : ℕ → List ℕ
+first zero = []
+first (suc n) = first n ++ n ∷ []
+
+-- a caller was told of the shards 0, 1, .. of n in turn, of each under its lock, and of no others
+abbrev pub HeldInTurn : ℕ → Caller → Caller → Type 0
+HeldInTurn n c d = map (λ o. o.shard) d.observations ≡ map (λ o. o.shard) c.observations ++ first n
 
 -- after a call that loaded the frontier at least once: what the caller has seen is a history, of whose writes its own are just the accepted ones with a number up to its length, each at its number
 pub record HasRead (capacity : ℕ) (c d : Caller) : Type 0 where

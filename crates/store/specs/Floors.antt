@@ -1,9 +1,9 @@
 -- What a compaction and a list of the past are answered, where the floor is held.
-use Rattle.std.specs.Prelude.{ℕ, List, take, Option, Some, None}
+use Rattle.std.specs.Prelude.{ℕ, Bool, true, false, List, take, Option, Some, None}
 use Rattle.objects.specs.declared.kind.Kind.{Kind}
 use Rattle.plain_store.specs.Store.{collection}
 use Rattle.requests.specs.declared.reply.Reply.{Reply}
-use Rattle.requests.specs.declared.reply.Reply.TheVariants.{Listed, Compacted, Refused}
+use Rattle.requests.specs.declared.reply.Reply.TheVariants.{Created, Found, Listed, Updated, Unchanged, Marked, Removed, Compacted, Refused}
 use Rattle.requests.specs.declared.reply.Reason.{Reason}
 use Rattle.store.specs.declared.writing.Writing.{Writing}
 use Rattle.store.specs.History.{store_after}
@@ -22,3 +22,14 @@ list_reply None capacity h kind namespace n = Listed (collection (store_after ca
 abbrev pub compacted_reply : Option Reason → ℕ → Reply
 compacted_reply (Some reason) n = Refused reason
 compacted_reply None n = Compacted n
+
+abbrev pub is_compacted : Reply → Bool
+is_compacted (Created o) = false
+is_compacted (Found o) = false
+is_compacted (Listed os n) = false
+is_compacted (Updated o) = false
+is_compacted (Unchanged o) = false
+is_compacted (Marked o) = false
+is_compacted (Removed o) = false
+is_compacted (Compacted n) = true
+is_compacted (Refused r) = false

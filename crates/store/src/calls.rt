@@ -1,5 +1,5 @@
 // Requests to shards behind their locks.
-ghost use Rattle.std.specs.Prelude.{◌≡◌, ◌+◌, ◌<◌, ◌≤◌, true, length, take, Some, IfOk, OnErr, IfSome, IsSome};
+ghost use Rattle.std.specs.Prelude.{◌≡◌, ℕ, List, ◌+◌, ◌<◌, ◌≤◌, true, length, take, Some, IfOk, OnErr, IfSome, IsSome};
 ghost use mathlib.Core.List.{IsPrefix};
 ghost use Rattle.objects.specs.declared.key.Key.{Key};
 ghost use Rattle.objects.specs.ShardOf.{shard_of};
@@ -13,7 +13,8 @@ ghost use Rattle.store.specs.History.{store_after};
 ghost use Rattle.store.specs.Parts.{part_of};
 ghost use Rattle.store.specs.Callers.{GoesOn, HasRead, IsLine};
 ghost use Rattle.store.specs.Tickets.{IsTicketOf, WritesOwn};
-ghost use Rattle.store.specs.Views.{Stays};
+ghost use Rattle.store.specs.Views.{HasObserved, Stays};
+ghost use Rattle.store.specs.declared.writing.Writing.{Writing};
 
 use crate::caller::Caller;
 use crate::gate::Gate;
@@ -85,6 +86,29 @@ pub(crate) fn get<H: Sharding, N: Naming, W: Wait>(
         }
     }
     unreachable!()
+}
+
+/// Raises the floor of a shard. It does not return where the lock has another shard, or one whose floor is higher.
+pub(crate) fn compact<H: Sharding, N: Naming, W: Wait>(
+    rt: &W,
+    line: &Line<Writing, ByShards<H>>,
+    shard: &Mutex<Locked<H, N>>,
+    index: usize,
+    caller: &mut Caller<H, N>,
+    number: u64,
+)
+    requires line { IsLine N.line N.capacity line.now }
+    requires number { number ≤ length caller.old.seen }
+    ensures stays { Stays caller.old caller.new }
+    ensures held { (n : ℕ) × (notes : List (ℕ × Writing)) × HasObserved H.shards N.capacity index notes caller.old n caller.new }
+{
+    let mut locked = shard.lock(rt);
+    // No run meets another shard here, nor a higher floor, since whoever raises one holds the store's. But no clause can say so.
+    if locked.index() != index as u64 || number < locked.floor() {
+        for _ in rt.forever() {}
+        unreachable!()
+    }
+    locked.compact(line, caller, number);
 }
 
 /// What a list is answered, at one frontier, which the caller has then seen. Where a shard can't be read there any more,

@@ -14,7 +14,7 @@ ghost use Rattle.store.specs.History.{store_after};
 ghost use Rattle.store.specs.Rule.{AgreesWith};
 ghost use Rattle.store.specs.Callers.{GoesOn, IsLine};
 ghost use Rattle.store.specs.Tickets.{IsTicketOf, WritesOwn};
-ghost use Rattle.store.specs.Views.{HasObserved, IsOutcome, Stays, WritesNotes, number_in};
+ghost use Rattle.store.specs.Views.{HasObserved, IsOutcome, WritesNotes, number_in};
 
 use crate::caller::Caller;
 use crate::gate::Gate;
@@ -87,7 +87,8 @@ impl<H: Sharding, N: Naming> Locked<H, N> {
         self.shard.floor()
     }
 
-    /// Raises the floor of the shard to a number that the caller has seen the frontier reach.
+    /// Raises the floor of the shard to a number that the caller has seen the frontier reach. The caller notes what the shard
+    /// has.
     pub(crate) fn compact(
         &mut self,
         line: &Line<Writing, ByShards<H>>,
@@ -95,18 +96,18 @@ impl<H: Sharding, N: Naming> Locked<H, N> {
         number: u64,
     )
         requires line { IsLine N.line N.capacity line.now }
+        requires floor { self.old.shard.floor ≤ number }
         requires seen { number ≤ length caller.old.seen }
         ensures raised { self.new ≡ record self.old { shard = raised self.old.shard number } }
-        ensures stays { Stays caller.old caller.new }
+        ensures noted { (d : ℕ) × HasObserved H.shards N.capacity self.old.index self.old.notes caller.old d caller.new }
     {
-        if number < self.shard.floor() {
-            return;
-        }
         let Some(seat) = caller.seat.take() else {
             unreachable!();
         };
         // By this visit the shard's seat knows a frontier not below the floor: a number drawn later is above it.
         let seen = line.enter(&mut self.seat, seat);
+        // So that contracts see that the lock was held.
+        line.observe(&mut self.seat);
         caller.seat = Some(line.leave(&mut self.seat, seen));
         self.shard.compact(number);
     }

@@ -10,9 +10,9 @@ ghost use Rattle.requests.specs.declared.request.Request.TheVariants as request;
 ghost use Rattle.requests.specs.declared.request.Request.TheVariants.{Get};
 ghost use Rattle.store.specs.Floors.{floor_after};
 ghost use Rattle.store.specs.History.{store_after};
-ghost use Rattle.store.specs.Floors.{compacted_reply, list_reply};
+ghost use Rattle.store.specs.Floors.{compacted_reply, is_compacted, list_reply};
 ghost use Rattle.plain_store.specs.Store.{denied};
-ghost use Rattle.store.specs.Callers.{GoesOn, HasRead, IsLine};
+ghost use Rattle.store.specs.Callers.{GoesOn, HasRead, HeldInTurn, IsLine};
 ghost use Rattle.store.specs.Tickets.{IsTicketOf, WritesOwn};
 ghost use Rattle.store.specs.Views.{Stays};
 ghost use Rattle.store.specs.declared.error.StoreError.TheVariants.{TooManyCallers};
@@ -217,6 +217,7 @@ impl<H: Sharding, N: Naming> Store<H, N> {
     pub fn compact<W: Wait>(&self, rt: &W, caller: &mut Caller<H, N>, number: u64) -> Reply
         ensures read { HasRead N.capacity caller.old caller.new }
         ensures reply { (floor : ℕ) × (result ≡ compacted_reply (denied floor (length caller.new.seen) number) number) }
+        ensures held { is_compacted result ≡ true → HeldInTurn self.now caller.old caller.new }
     {
         // Taken before any shard's lock, and never by a thread that holds one, so that no two wait for each other.
         let mut floor = self.floor.lock(rt);
@@ -234,6 +235,7 @@ impl<H: Sharding, N: Naming> Store<H, N> {
     ) -> Reply
         ensures read { HasRead N.capacity caller.old caller.new }
         ensures reply { result ≡ compacted_reply (denied floor.old (length caller.new.seen) number) number }
+        ensures held { is_compacted result ≡ true → HeldInTurn self.now caller.old caller.new }
         ensures floor { floor.new ≡ floor_after floor.old number (denied floor.old (length caller.new.seen) number) }
     {
         if let Some(reason) = floor.raise(&self.numbers, caller, number) {
@@ -245,12 +247,18 @@ impl<H: Sharding, N: Naming> Store<H, N> {
 
     fn compact_all<W: Wait>(&self, rt: &W, caller: &mut Caller<H, N>, number: u64)
         requires { number ≤ length caller.old.seen }
-        ensures { Stays caller.old caller.new }
+        ensures stays { Stays caller.old caller.new }
+        ensures held { HeldInTurn self.now caller.old caller.new }
     {
         for shard in 0..self.shards.len() {
-            self.shards[shard]
-                .lock(rt)
-                .compact(&self.numbers, caller, number);
+            calls::compact(
+                rt,
+                &self.numbers,
+                &self.shards[shard],
+                shard,
+                caller,
+                number,
+            );
         }
     }
 
