@@ -3,6 +3,7 @@ pub mod Clustered
 pub mod Grammars
 pub mod Halted
 pub mod Planned
+pub mod Raced
 pub mod Ranges
 pub mod Replayed
 pub mod Serving

@@ -15,14 +15,14 @@ use Rattle.clap.proofs.OnLiterals.{clap_on_literals}
 use Rattle.plain.specs.Served.{served_so_far}
 use Rattle.plain.specs.Streams.{PutsPart, Takes}
 use Rattle.plain.proofs.Flows.{PutsPart-none, Takes-none}
-use Rattle.race_log.specs.declared.spec.RaceSpec.{RaceSpec}
 use Rattle.commands.specs.Asked.{IsAsked, IsOther, IsRaceBy, IsScripted, IsServing}
 use Rattle.commands.specs.Serving.{ServesSome}
 use Rattle.commands.specs.declared.form.Form.{Form}
 use Rattle.commands.specs.declared.form.Form.TheVariants.{Lines, Picture}
+use Rattle.commands.specs.declared.race_words.RaceWords.{RaceWords}
 use Rattle.commands.specs.declared.words.Asked.{Asked}
 use Rattle.commands.specs.declared.words.Asked.TheVariants as say
-use Rattle.commands.specs.Forms.{IsFormBy}
+use Rattle.commands.specs.Forms.{IsFlagBy, IsFormBy}
 use Rattle.commands.specs.Grammar.{IsCapacityBy, IsNumberBy, Plan, asked, capacity_text, digits_text, faults_of, flag_text, is_under, plan_text, race_text, rows_under, stsctl_app, word_by, word_of}
 
 stsctl-is_simple : is_simple stsctl_app ≡ true
@@ -125,13 +125,15 @@ pub race-is : (words : List Text) (m : ArgMatches) (option : Text) → subcomman
 unfolding race_text
 race-is words m option same = ap (λ e. one_of option (rows_under (codes "race") e)) same
 
-race_by : (words : List Text) (m : ArgMatches) (spec : RaceSpec) → subcommand_rows_of m ≡ subcommand_of stsctl_app words
-    → IsRaceBy (λ option. one_of option (rows_under (codes "race") (subcommand_rows_of m))) spec → IsRaceBy (λ option. race_text option words) spec
-race_by words m spec same by = (
-  subst (λ t. IsNumberBy 4 1 64 t spec.controllers) (race-is words m (codes "controllers") same) by.0,
-  subst (λ t. IsNumberBy 8 1 64 t spec.shards) (race-is words m (codes "shards") same) by.1,
-  subst (λ t. IsNumberBy 16 1 1024 t spec.rounds) (race-is words m (codes "rounds") same) by.2,
-  subst (λ t. IsNumberBy 3 0 64 t spec.replicas) (race-is words m (codes "replicas") same) by.3,
+race_by : (words : List Text) (m : ArgMatches) (race : RaceWords) → subcommand_rows_of m ≡ subcommand_of stsctl_app words
+    → IsRaceBy (λ option. one_of option (rows_under (codes "race") (subcommand_rows_of m))) race → IsRaceBy (λ option. race_text option words) race
+race_by words m race same by = (
+  subst (λ t. IsNumberBy 4 1 64 t race.spec.controllers) (race-is words m (codes "controllers") same) by.0,
+  subst (λ t. IsNumberBy 8 1 64 t race.spec.shards) (race-is words m (codes "shards") same) by.1,
+  subst (λ t. IsNumberBy 16 1 1024 t race.spec.rounds) (race-is words m (codes "rounds") same) by.2,
+  subst (λ t. IsNumberBy 3 0 64 t race.spec.replicas) (race-is words m (codes "replicas") same) by.3,
+  subst (λ t. IsFlagBy t race.spec.operator) (race-is words m (codes "operator") same) by.4,
+  subst (λ t. IsFlagBy t race.history) (race-is words m (codes "history") same) by.5,
 )
 
 -- what words without a plan, a race and a replay ask for
@@ -141,12 +143,12 @@ served_scripted m (say.Replay form) replay serving = absurd serving
 served_scripted m (say.Serve capacity) replay serving = (replay, serving)
 served_scripted m (say.Cluster form) replay serving = (replay, serving)
 served_scripted m (say.Plan plan) replay serving = absurd serving
-served_scripted m (say.Race spec) replay serving = absurd serving
+served_scripted m (say.Race race) replay serving = absurd serving
 
 -- what words without a plan and without a race ask for
 pub scripted_other : (m : ArgMatches) (found : Asked) → is_under (codes "race") (subcommand_rows_of m) ≡ false → IsScripted (subcommand_rows_of m) found
     → IsOther (subcommand_rows_of m) found
-scripted_other m (say.Race spec) race scripted = absurd scripted.1
+scripted_other m (say.Race asked) race scripted = absurd scripted.1
 scripted_other m (say.Serve capacity) race scripted = (race, scripted)
 scripted_other m (say.Replay form) race scripted = (race, scripted)
 scripted_other m (say.Cluster form) race scripted = (race, scripted)
@@ -168,9 +170,9 @@ other_asked words m (say.Cluster form) none same plan other = (
   subst (λ t. IsFormBy t form) (flag-is words m (codes "cluster") same) other.1.1.1,
 )
 other_asked words m (say.Plan asked) none same plan other = absurd other.1.1
-other_asked words m (say.Race spec) none same plan other = (
+other_asked words m (say.Race race) none same plan other = (
   asked-by words m false true _ _ none same plan other.0 refl refl,
-  (race_by words m spec same other.1, other.2),
+  (race_by words m race same other.1, other.2),
 )
 
 pub plan-is : (words : List Text) (m : ArgMatches) (option : Text) (rows : List Row) → subcommand_rows_of m ≡ subcommand_of stsctl_app words
@@ -214,7 +216,12 @@ serves_nothing words had left before after same_left same_after =
 abbrev pub form_in : Bool → Form
 form_in picture = if picture then Picture else Lines
 
-pub form_by : (text : Option Text) (picture : Bool) → (text ≡ None → picture ≡ false) → (text ≡ Some (codes "true") → picture ≡ true)
-    → (text ≡ Some (codes "false") → picture ≡ false) → IsFormBy text (form_in picture)
-form_by None picture none value other = ap form_in (none refl)
-form_by (Some t) picture none value other = ((λ is. ap form_in (value (ap Some is))), (λ is. ap form_in (other (ap Some is))))
+pub form_by : (text : Option Text) (picture : Bool) → IsFlagBy text picture → IsFormBy text (form_in picture)
+form_by None picture by = ap form_in by
+form_by (Some t) picture by = ((λ is. ap form_in (by.0 is)), (λ is. ap form_in (by.1 is)))
+
+-- a flag, as `clap` has it
+pub flag_by : (text : Option Text) (given : Bool) → (text ≡ None → given ≡ false) → (text ≡ Some (codes "true") → given ≡ true)
+    → (text ≡ Some (codes "false") → given ≡ false) → IsFlagBy text given
+flag_by None given none value other = none refl
+flag_by (Some t) given none value other = ((λ is. value (ap Some is)), (λ is. other (ap Some is)))

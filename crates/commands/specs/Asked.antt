@@ -4,9 +4,9 @@ use Rattle.clap.specs.Words.{Row, Text, one_of}
 use Rattle.commands.specs.declared.words.Asked.{Asked}
 use Rattle.commands.specs.declared.words.Asked.TheVariants as say
 use Rattle.commands.specs.declared.words.PlanWords.{PlanWords}
-use Rattle.commands.specs.Forms.{IsFormBy}
+use Rattle.commands.specs.declared.race_words.RaceWords.{RaceWords}
+use Rattle.commands.specs.Forms.{IsFlagBy, IsFormBy}
 use Rattle.commands.specs.Grammar.{AsksFor, Cluster, IsCapacityBy, IsDigitsBy, IsNumberBy, Plan, Race, Replay, Serve, asked, digits_text, flag_text, is_under, plan_text, race_text, rows_under}
-use Rattle.race_log.specs.declared.spec.RaceSpec.{RaceSpec}
 use Rattle.race_log.specs.Limits.{is_race}
 
 -- what the words after `plan` say
@@ -15,14 +15,17 @@ IsPlanAsked words plan = (plan.namespace.now ≡ unwrap_or (plan_text (codes "na
     × (plan.name.now ≡ unwrap_or (plan_text (codes "set") words) []) × IsDigitsBy (digits_text words) plan.digits
     × (1 ≤ plan.digits) × (plan.digits ≤ 64)
 
--- the numbers that some texts say, each by its option
-abbrev pub IsRaceBy : (Text → Option Text) → RaceSpec → Type 0
-IsRaceBy text spec = IsNumberBy 4 1 64 (text (codes "controllers")) spec.controllers × IsNumberBy 8 1 64 (text (codes "shards")) spec.shards
-    × IsNumberBy 16 1 1024 (text (codes "rounds")) spec.rounds × IsNumberBy 3 0 64 (text (codes "replicas")) spec.replicas
+-- the numbers that some texts say, each by its option, and which flags are given
+abbrev pub IsRaceBy : (Text → Option Text) → RaceWords → Type 0
+IsRaceBy text race = IsNumberBy 4 1 64 (text (codes "controllers")) race.spec.controllers
+    × IsNumberBy 8 1 64 (text (codes "shards")) race.spec.shards
+    × IsNumberBy 16 1 1024 (text (codes "rounds")) race.spec.rounds
+    × IsNumberBy 3 0 64 (text (codes "replicas")) race.spec.replicas
+    × IsFlagBy (text (codes "operator")) race.spec.operator × IsFlagBy (text (codes "history")) race.history
 
 -- what the words after `race` say
-abbrev pub IsRaceAsked : List Text → RaceSpec → Type 0
-IsRaceAsked words spec = IsRaceBy (λ option. race_text option words) spec × (is_race spec ≡ true)
+abbrev pub IsRaceAsked : List Text → RaceWords → Type 0
+IsRaceAsked words race = IsRaceBy (λ option. race_text option words) race × (is_race race.spec ≡ true)
 
 -- what the words ask for, with what they say of it
 abbrev pub IsAsked : List Text → Asked → Type 0
@@ -30,7 +33,7 @@ IsAsked words (say.Serve capacity) = (asked words ≡ Serve) × AsksFor words ca
 IsAsked words (say.Replay form) = (asked words ≡ Replay) × IsFormBy (flag_text (codes "replay") words) form
 IsAsked words (say.Cluster form) = (asked words ≡ Cluster) × IsFormBy (flag_text (codes "cluster") words) form
 IsAsked words (say.Plan plan) = (asked words ≡ Plan) × IsPlanAsked words plan
-IsAsked words (say.Race spec) = (asked words ≡ Race) × IsRaceAsked words spec
+IsAsked words (say.Race race) = (asked words ≡ Race) × IsRaceAsked words race
 
 -- ---- for private clauses: what words ask for that ask for no plan, for no race, and for no replay, by the subcommand that was
 -- met
@@ -46,6 +49,6 @@ IsScripted met (say.Replay form) = (is_under (codes "replay") met ≡ true) × I
 IsScripted met other = (is_under (codes "replay") met ≡ false) × IsServing met other
 
 abbrev pub IsOther : Option (Text × List Row) → Asked → Type 0
-IsOther met (say.Race spec) = (is_under (codes "race") met ≡ true) × IsRaceBy (λ option. one_of option (rows_under (codes "race") met)) spec
-    × (is_race spec ≡ true)
+IsOther met (say.Race race) = (is_under (codes "race") met ≡ true) × IsRaceBy (λ option. one_of option (rows_under (codes "race") met)) race
+    × (is_race race.spec ≡ true)
 IsOther met other = (is_under (codes "race") met ≡ false) × IsScripted met other

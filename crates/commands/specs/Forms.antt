@@ -1,11 +1,16 @@
 -- What is printed of a run, and how much of it.
-use Rattle.std.specs.Prelude.{◌≡◌, ℕ, List, [], Option, Some, None, codes}
+use Rattle.std.specs.Prelude.{◌≡◌, ℕ, Bool, true, false, List, [], Option, Some, None, codes}
 use Rattle.std.specs.Option.{IfSome}
 use Rattle.clap.specs.Words.{Text}
 use Rattle.commands.specs.declared.form.Form.{Form}
 use Rattle.commands.specs.declared.form.Form.TheVariants.{Lines, Picture}
 
--- what the flag `--picture` asks for, by what `clap` has for it: `true` where it is given, else `false` or nothing
+-- whether a flag is given, by what `clap` has for it: `true` where it is, else `false` or nothing
+abbrev pub IsFlagBy : Option Text → Bool → Type 0
+IsFlagBy None given = given ≡ false
+IsFlagBy (Some text) given = (text ≡ codes "true" → given ≡ true) × (text ≡ codes "false" → given ≡ false)
+
+-- what the flag `--picture` asks for
 abbrev pub IsFormBy : Option Text → Form → Type 0
 IsFormBy None form = form ≡ Lines
 IsFormBy (Some text) form = (text ≡ codes "true" → form ≡ Picture) × (text ≡ codes "false" → form ≡ Lines)

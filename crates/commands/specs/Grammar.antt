@@ -1,6 +1,6 @@
 -- What the program takes, as `clap` reads it: `serve [--capacity N]`, `replay [--picture]`, `cluster [--picture]`,
 -- `plan --set NAME [--namespace NS] [--digits H]`, and
--- `race [--controllers N] [--shards N] [--rounds N] [--replicas N]`. `clap` adds help and the version.
+-- `race [--controllers N] [--shards N] [--rounds N] [--replicas N] [--operator] [--history]`. `clap` adds help and the version.
 use Rattle.std.specs.Prelude.{◌≡◌, ◌≤◌, ◌<◌, ◌^◌, ℕ, Bool, true, false, List, [], ◌∷◌, Option, Some, None, codes, if◌then◌else◌}
 use Rattle.std.specs.Option.{option_map_or}
 use Rattle.std.specs.Str.{bytes_eq}
@@ -24,9 +24,12 @@ capacity_rule = record (new_rule (codes "capacity")) {
 abbrev pub serve_app : App
 serve_app = with_rule (new_app (codes "serve")) capacity_rule
 
--- the flag `--picture`
+-- a flag, which is given or not
+abbrev pub flag_rule : Text → Rule
+flag_rule name = record (new_rule name) { long = Some name; action = Some SetTrue }
+
 abbrev pub picture_rule : Rule
-picture_rule = record (new_rule (codes "picture")) { long = Some (codes "picture"); action = Some SetTrue }
+picture_rule = flag_rule (codes "picture")
 
 abbrev pub replay_app : App
 replay_app = with_rule (new_app (codes "replay")) picture_rule
@@ -54,10 +57,14 @@ plan_app = with_rule (with_rule (with_rule (new_app (codes "plan")) set_rule) na
 abbrev pub option_rule : Text → ValueParser → Rule
 option_rule name parser = record (new_rule name) { long = Some name; value_names = 1; parser = Some parser }
 
-abbrev pub race_app : App
-race_app = with_rule (with_rule (with_rule (with_rule (new_app (codes "race")) (option_rule (codes "controllers") (parsers.Unsigned 1 64)))
+-- `race` with the options that say how large the race is
+abbrev pub sized_app : App
+sized_app = with_rule (with_rule (with_rule (with_rule (new_app (codes "race")) (option_rule (codes "controllers") (parsers.Unsigned 1 64)))
     (option_rule (codes "shards") (parsers.Unsigned 1 64))) (option_rule (codes "rounds") (parsers.Unsigned 1 1024)))
     (option_rule (codes "replicas") (parsers.Unsigned 0 64))
+
+abbrev pub race_app : App
+race_app = with_rule (with_rule sized_app (flag_rule (codes "operator"))) (flag_rule (codes "history"))
 
 abbrev pub stsctl_app : App
 stsctl_app = with_subcommand (with_subcommand (with_subcommand (with_subcommand (with_subcommand
@@ -140,7 +147,7 @@ IsNumberBy usual least most (Some text) n =
 abbrev pub IsDigitsBy : Option Text → ℕ → Type 0
 IsDigitsBy text digits = IsNumberBy 10 1 64 text digits
 
--- the number after this option of `race`, as text
+-- the number after this option of `race`, as text, or what `clap` has for this flag of it
 unfoldable pub race_text : Text → List Text → Option Text
 race_text option words = one_of option (rows_under (codes "race") (subcommand_of stsctl_app words))
 

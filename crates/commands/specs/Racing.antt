@@ -1,29 +1,38 @@
 -- What a run of the program that was asked for a race has done, where the devices tell.
-use Rattle.std.specs.Prelude.{◌≡◌, ℕ, Bool, List, Option, IsTrue}
+use Rattle.std.specs.Prelude.{◌≡◌, ℕ, Bool, List, [], ◌++◌, Option, IsTrue, if◌then◌else◌}
 use Rattle.clap.specs.Words.{Text}
 use Rattle.plain.specs.Streams.{Puts, PutsPart}
-use Rattle.race_log.specs.declared.report.RaceReport.{RaceReport}
-use Rattle.race_log.specs.declared.spec.RaceSpec.{RaceSpec}
+use Rattle.race_lines.specs.History.{history_text}
+use Rattle.race_log.specs.declared.judge.RaceHistory.{RaceHistory}
 use Rattle.race_log.specs.declared.spec.TheConstants.{CAPACITY}
-use Rattle.race_log.specs.Judged.{IsReportOf}
-use Rattle.race_log.specs.Logged.{Noted}
 use Rattle.race_log.specs.Report.{report_text}
+use Rattle.racing.specs.Answered.{IsAnswered}
+use Rattle.racing.specs.Parts.{IsRaceOf}
+use Rattle.commands.specs.declared.race_words.RaceWords.{RaceWords}
 use Rattle.commands.specs.Asked.{IsRaceAsked}
 
--- The line of a report was written, which is that of some log of a race of this size, and is legal or not. Where it is legal,
--- it counts no pod that was created twice.
-abbrev pub Reports : Bool → RaceSpec → Option (List ℕ) → Option (List ℕ) → Type 0
-Reports legal spec before after = (report : RaceReport) × (log : Noted) × IsReportOf CAPACITY spec log report × (report.legal ≡ legal)
-    × (IsTrue report.legal → report.twice ≡ 0) × Puts before (report_text report) after
+-- the history of a race, where that is asked for
+abbrev pub history_shown : RaceWords → RaceHistory → List ℕ
+history_shown asked race = if asked.history then history_text asked.spec race.trace.items.items race.order.items else []
+
+-- what is printed of a race: that, and the line of its report
+abbrev pub race_shown : RaceWords → RaceHistory → List ℕ
+race_shown asked race = history_shown asked race ++ report_text race.report
+
+-- What is asked for was written of some race of this size, whose report is legal or not. Where it is legal, it counts no pod that
+-- was created twice.
+abbrev pub Reports : Bool → RaceWords → Option (List ℕ) → Option (List ℕ) → Type 0
+Reports legal asked before after = (race : RaceHistory) × IsRaceOf (IsAnswered CAPACITY) CAPACITY asked.spec race × (race.report.legal ≡ legal)
+    × (IsTrue race.report.legal → race.report.twice ≡ 0) × Puts before (race_shown asked race) after
 
 -- the same of the race that the words ask for
 abbrev pub Races : Bool → List Text → Option (List ℕ) → Option (List ℕ) → Type 0
-Races legal words before after = (spec : RaceSpec) × IsRaceAsked words spec × Reports legal spec before after
+Races legal words before after = (asked : RaceWords) × IsRaceAsked words asked × Reports legal asked before after
 
--- A beginning of the line of a report was written, which is that of some log of a race of this size.
-abbrev pub ReportsPart : RaceSpec → Option (List ℕ) → Option (List ℕ) → Type 0
-ReportsPart spec before after = (report : RaceReport) × (log : Noted) × IsReportOf CAPACITY spec log report × PutsPart before (report_text report) after
+-- A beginning of what is asked for was written of some race of this size.
+abbrev pub ReportsPart : RaceWords → Option (List ℕ) → Option (List ℕ) → Type 0
+ReportsPart asked before after = (race : RaceHistory) × IsRaceOf (IsAnswered CAPACITY) CAPACITY asked.spec race × PutsPart before (race_shown asked race) after
 
 -- the same of the race that the words ask for
 abbrev pub RacesPart : List Text → Option (List ℕ) → Option (List ℕ) → Type 0
-RacesPart words before after = (spec : RaceSpec) × IsRaceAsked words spec × ReportsPart spec before after
+RacesPart words before after = (asked : RaceWords) × IsRaceAsked words asked × ReportsPart asked before after

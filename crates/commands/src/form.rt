@@ -4,7 +4,8 @@ ghost use Rattle.clap.specs.Words.{found_of, one_of, rows_of, rule_of};
 ghost use Rattle.commands.specs.Forms.{IsFormBy};
 ghost use Rattle.commands.specs.Grammar.{picture_rule};
 
-use clap::{Arg, ArgAction, ArgMatches};
+use crate::flags::{flag_arg, flag_in};
+use clap::{Arg, ArgMatches};
 use std::alloc::Global;
 
 /// What is printed of a run.
@@ -21,17 +22,18 @@ pub(crate) fn picture_arg<'a>(alloc: Global) -> Arg<'a>
     ensures rule { rule_of result ≡ picture_rule }
     ensures own { result.global ≡ false }
 {
-    Arg::new(alloc, "picture")
-        .long("picture")
-        .action(ArgAction::SetTrue)
-        .help("Print the run as a Mermaid sequence diagram instead")
+    flag_arg(
+        alloc,
+        "picture",
+        "Print the run as a Mermaid sequence diagram instead",
+    )
 }
 
 /// What the words ask to print.
 pub(crate) fn form_in(matches: &ArgMatches<'_>) -> Form
     ensures { IsFormBy (one_of (codes "picture") (rows_of (found_of matches.now))) result }
 {
-    if matches.get_flag("picture") {
+    if flag_in(matches, "picture") {
         Form::Picture
     } else {
         Form::Lines

@@ -5,6 +5,7 @@
 mod cluster;
 mod cluster_roles;
 mod explain;
+mod flags;
 mod form;
 mod halt;
 mod numbers;

@@ -77,8 +77,8 @@ pub fn command<T: Threads + Wait + Sync, S: AsStr, R: Source, W: Sink, F: Sink>(
         result ≡ FAILURE → asked texts ≡ Plan → (writer.new ≡ writer.old)
         ⊎ Plans PutsPart texts (R.remaining reader.old) (R.remaining reader.new) (W.written writer.old) (W.written writer.new) }
 
-    // Race: the line of the report and nothing else, or at a failure a part of it; it is not legal exactly at the status of a
-    // refusal.
+    // Race: the line of the report, the history before it where that is asked for, and nothing else, or at a failure a part of
+    // it; the report is not legal exactly at the status of a refusal.
     ensures raced { let texts = map S.text words.now in
         result ≡ SUCCESS → asked texts ≡ Race → Races true texts (W.written writer.old) (W.written writer.new) }
     ensures illegal { let texts = map S.text words.now in
@@ -114,7 +114,7 @@ pub fn command<T: Threads + Wait + Sync, S: AsStr, R: Source, W: Sink, F: Sink>(
         Ok(Asked::Replay(form)) => replayed(heap, form, reader, writer, faults),
         Ok(Asked::Cluster(form)) => clustered(heap, form, reader, writer, faults),
         Ok(Asked::Plan(plan)) => planned(heap, &plan, reader, writer, faults),
-        Ok(Asked::Race(spec)) => raced(rt, heap, &spec, writer),
+        Ok(Asked::Race(race)) => raced(rt, heap, &race, writer),
         Err(error) => explained(heap, &error, writer, faults),
     }
 }

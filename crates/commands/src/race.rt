@@ -1,36 +1,41 @@
 //! `stsctl race`.
-ghost use Rattle.std.specs.Prelude.{◌≡◌, ◌≢◌, ◌<◌, ◌⊎◌, true, false};
+ghost use Rattle.std.specs.Prelude.{◌≡◌, ◌≢◌, ◌<◌, ◌⊎◌, true, false, OnOk};
 ghost use Rattle.race_log.specs.Limits.{is_race};
-ghost use Rattle.race_log.specs.Report.{report_text};
 ghost use Rattle.plain.specs.Streams.{Puts, PutsPart};
-ghost use Rattle.commands.specs.Racing.{Reports, ReportsPart};
+ghost use Rattle.plan_lines.specs.Output.{CountsWrites};
+ghost use Rattle.commands.specs.Racing.{Reports, ReportsPart, history_shown, race_shown};
 
-use crate::status::{BAD_WORDS, FAILURE, Heap, REFUSED, SUCCESS, shown};
-use plain::Sink;
-use race_log::{RaceFault, RaceReport, RaceSpec, report_line};
-use racing::race;
+use crate::race_words::RaceWords;
+use crate::status::{BAD_WORDS, FAILURE, Heap, REFUSED, SUCCESS};
+use plain::{Sink, write_all};
+use plan_lines::OutputFault;
+use race_lines::write_history;
+use race_log::{RaceFault, RaceHistory, report_line};
+use racing::race_history;
+use std::alloc::Global;
 use std::sync::Wait;
 use std::thread::Threads;
 use store::NoGate;
 
-/// Lets controllers race over the running store, and writes the line of the report.
+/// Lets controllers race over the running store, and writes the line of the report, behind the history where that is asked
+/// for.
 pub(crate) fn raced<T: Threads + Wait + Sync, W: Sink>(
     rt: &T,
     heap: &mut Heap,
-    spec: &RaceSpec,
+    asked: &RaceWords,
     writer: &mut W,
 ) -> u8
-    requires { is_race spec.now ≡ true }
+    requires { is_race asked.now.spec ≡ true }
     ensures status { (result < BAD_WORDS) ⊎ (result ≡ REFUSED) }
-    ensures legal { result ≡ SUCCESS → Reports true spec.now (W.written writer.old) (W.written writer.new) }
-    ensures illegal { result ≡ REFUSED → Reports false spec.now (W.written writer.old) (W.written writer.new) }
-    ensures part { result ≡ FAILURE → (writer.new ≡ writer.old) ⊎ ReportsPart spec.now (W.written writer.old) (W.written writer.new) }
+    ensures legal { result ≡ SUCCESS → Reports true asked.now (W.written writer.old) (W.written writer.new) }
+    ensures illegal { result ≡ REFUSED → Reports false asked.now (W.written writer.old) (W.written writer.new) }
+    ensures part { result ≡ FAILURE → (writer.new ≡ writer.old) ⊎ ReportsPart asked.now (W.written writer.old) (W.written writer.new) }
     ensures cause { result ≡ FAILURE → (W.failures writer.old < W.failures writer.new) ⊎ (heap.new.refused ≡ true) }
     ensures memory { result ≢ FAILURE → heap.new.refused ≡ heap.old.refused }
     ensures spared { W.failures writer.old < W.failures writer.new → heap.new.refused ≡ heap.old.refused }
 {
-    match race(rt, heap.alloc, spec, &NoGate) {
-        Ok(report) => reported(heap, &report, writer),
+    match race_history(rt, heap.alloc, &asked.spec, &NoGate) {
+        Ok(history) => reported(heap, asked, &history, writer),
         Err(RaceFault::Memory) => {
             heap.refused = true;
             FAILURE
@@ -40,36 +45,62 @@ pub(crate) fn raced<T: Threads + Wait + Sync, W: Sink>(
     }
 }
 
-/// Writes the line of the report.
-fn reported<W: Sink>(heap: &mut Heap, report: &RaceReport, writer: &mut W) -> u8
+/// Writes what is asked for of the race. A report that is not legal is written like any other.
+fn reported<W: Sink>(
+    heap: &mut Heap,
+    asked: &RaceWords,
+    history: &RaceHistory,
+    writer: &mut W,
+) -> u8
     ensures status { (result < BAD_WORDS) ⊎ (result ≡ REFUSED) }
-    ensures legal { result ≡ SUCCESS → (report.now.legal ≡ true) × Puts (W.written writer.old) (report_text report.now) (W.written writer.new) }
-    ensures illegal { result ≡ REFUSED → (report.now.legal ≡ false) × Puts (W.written writer.old) (report_text report.now) (W.written writer.new) }
-    ensures part { (writer.new ≡ writer.old) ⊎ PutsPart (W.written writer.old) (report_text report.now) (W.written writer.new) }
+    ensures legal { result ≡ SUCCESS → (history.now.report.legal ≡ true) × Puts (W.written writer.old) (race_shown asked.now history.now) (W.written writer.new) }
+    ensures illegal { result ≡ REFUSED → (history.now.report.legal ≡ false) × Puts (W.written writer.old) (race_shown asked.now history.now) (W.written writer.new) }
+    ensures part { PutsPart (W.written writer.old) (race_shown asked.now history.now) (W.written writer.new) }
     ensures cause { result ≡ FAILURE → (W.failures writer.old < W.failures writer.new) ⊎ (heap.new.refused ≡ true) }
     ensures memory { result ≢ FAILURE → heap.new.refused ≡ heap.old.refused }
     ensures spared { W.failures writer.old < W.failures writer.new → heap.new.refused ≡ heap.old.refused }
 {
-    match report_line(heap.alloc, report) {
-        Ok(line) => status_of(report.legal, shown(writer, line.as_slice())),
-        Err(_) => {
+    match write_race(heap.alloc, asked, history, writer) {
+        Ok(()) if history.report.legal => SUCCESS,
+        Ok(()) => REFUSED,
+        Err(OutputFault::Write) => FAILURE,
+        Err(OutputFault::Memory) => {
             heap.refused = true;
             FAILURE
         }
     }
 }
 
-/// The exit status, given that of the write: a report that is not legal was written like any other.
-fn status_of(legal: bool, shown: u8) -> u8
-    requires { shown < BAD_WORDS }
-    ensures status { (result < BAD_WORDS) ⊎ (result ≡ REFUSED) }
-    ensures legal { result ≡ SUCCESS → (legal ≡ true) × (shown ≡ SUCCESS) }
-    ensures illegal { result ≡ REFUSED → (legal ≡ false) × (shown ≡ SUCCESS) }
-    ensures failed { result ≡ FAILURE → shown ≢ SUCCESS }
+/// Writes the history of the race, where it is asked for, and the line of its report behind it.
+fn write_race<W: Sink>(
+    alloc: Global,
+    asked: &RaceWords,
+    history: &RaceHistory,
+    writer: &mut W,
+) -> Result<(), OutputFault>
+    ensures all { OnOk result (Puts (W.written writer.old) (race_shown asked.now history.now) (W.written writer.new)) }
+    ensures part { PutsPart (W.written writer.old) (race_shown asked.now history.now) (W.written writer.new) }
+    ensures writes { CountsWrites result (W.failures writer.old) (W.failures writer.new) }
 {
-    if shown == SUCCESS && !legal {
-        REFUSED
-    } else {
-        shown
+    let line = report_line(alloc, &history.report)?;
+    write_calls(alloc, asked, history, writer)?;
+    write_all(writer, line.as_slice()).ok_or(OutputFault::Write)
+}
+
+/// Writes the history of the race, where it is asked for.
+fn write_calls<W: Sink>(
+    alloc: Global,
+    asked: &RaceWords,
+    history: &RaceHistory,
+    writer: &mut W,
+) -> Result<(), OutputFault>
+    ensures all { OnOk result (Puts (W.written writer.old) (history_shown asked.now history.now) (W.written writer.new)) }
+    ensures part { PutsPart (W.written writer.old) (history_shown asked.now history.now) (W.written writer.new) }
+    ensures writes { CountsWrites result (W.failures writer.old) (W.failures writer.new) }
+{
+    if !asked.history {
+        return Ok(());
     }
+    let order = history.order.as_slice();
+    write_history(alloc, &asked.spec, &history.trace, order, writer)
 }

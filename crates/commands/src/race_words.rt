@@ -2,9 +2,10 @@
 ghost use Rattle.std.specs.Prelude.{◌≡◌, true, IfOk};
 ghost use Rattle.clap.specs.Words.{app_of, found_of, one_of, rows_of};
 ghost use Rattle.commands.specs.Asked.{IsRaceBy};
-ghost use Rattle.commands.specs.Grammar.{race_app};
+ghost use Rattle.commands.specs.Grammar.{race_app, sized_app};
 ghost use Rattle.race_log.specs.Limits.{is_race};
 
+use crate::flags::{flag_arg, flag_in};
 use crate::numbers::{from_0_to_64, from_1_to_64, from_1_to_1024, number_arg, number_in};
 use clap::{ArgMatches, Command};
 use race_log::RaceSpec;
@@ -26,8 +27,32 @@ const REPLICAS: u64 = 3;
 const RACE_END: &str = r#"It prints: {"controllers":4,"legal":true,"rounds":16,"shards":8,"twice":0}
 More in docs/RUNNING.md"#;
 
+/// The race that is asked for, and whether its history is printed.
+#[derive(Clone, Copy, Drop)]
+pub(crate) struct RaceWords {
+    pub(crate) spec: RaceSpec,
+    pub(crate) history: bool,
+}
+
 pub(crate) fn race_grammar<'a>(alloc: Global) -> Result<Command<'a>, AllocError>
     ensures { IfOk result (λ c. app_of c ≡ race_app) }
+{
+    let operator = flag_arg(
+        alloc,
+        "operator",
+        "Let an operator change the set meanwhile",
+    );
+    let history = flag_arg(
+        alloc,
+        "history",
+        "Print each call, reply and the order before the report",
+    );
+    sized_grammar(alloc)?.arg(operator)?.arg(history)
+}
+
+/// The options that say how large the race is.
+fn sized_grammar<'a>(alloc: Global) -> Result<Command<'a>, AllocError>
+    ensures { IfOk result (λ c. app_of c ≡ sized_app) }
 {
     let controllers = number_arg(
         alloc,
@@ -69,14 +94,19 @@ pub(crate) fn race_grammar<'a>(alloc: Global) -> Result<Command<'a>, AllocError>
 }
 
 /// What the words after `race` say.
-pub(crate) fn race_words(matches: &ArgMatches<'_>) -> RaceSpec
+pub(crate) fn race_words(matches: &ArgMatches<'_>) -> RaceWords
     ensures by { IsRaceBy (λ option. one_of option (rows_of (found_of matches.now))) result }
-    ensures allowed { is_race result ≡ true }
+    ensures allowed { is_race result.spec ≡ true }
 {
-    RaceSpec {
+    let spec = RaceSpec {
         controllers: number_in(matches, "controllers", CONTROLLERS, 1, 64),
         shards: number_in(matches, "shards", SHARDS, 1, 64),
         rounds: number_in(matches, "rounds", ROUNDS, 1, 1_024),
         replicas: number_in(matches, "replicas", REPLICAS, 0, 64),
+        operator: flag_in(matches, "operator"),
+    };
+    RaceWords {
+        spec,
+        history: flag_in(matches, "history"),
     }
 }

@@ -6,10 +6,9 @@ ghost use Rattle.commands.specs.Asked.{IsAsked, IsOther, IsScripted, IsServing};
 
 use crate::form::{Form, form_in, picture_arg};
 use crate::numbers::{from_1_to_64, number_arg, number_in};
-use crate::race_words::{race_grammar, race_words};
+use crate::race_words::{RaceWords, race_grammar, race_words};
 use clap::{Arg, ArgMatches, Command, Error, value_parser};
 use plain::MAX_REVISIONS;
-use race_log::RaceSpec;
 use std::alloc::{AllocError, Global};
 use std::convert::AsStr;
 
@@ -57,11 +56,11 @@ pub(crate) enum Asked<'a> {
     /// To plan a set.
     Plan(PlanWords<'a>),
     /// To let controllers race.
-    Race(RaceSpec),
+    Race(RaceWords),
 }
 
 /// What the program takes: `serve [--capacity N]`, `replay [--picture]`, `cluster [--picture]`, `plan --set NAME [--namespace NS] [--digits H]`, and
-/// `race [--controllers N] [--shards N] [--rounds N] [--replicas N]`, and what `clap` adds for help and the version.
+/// `race [--controllers N] [--shards N] [--rounds N] [--replicas N] [--operator] [--history]`, and what `clap` adds for help and the version.
 fn grammar<'a>(alloc: Global) -> Result<Command<'a>, AllocError>
     ensures { IfOk result (λ c. app_of c ≡ stsctl_app) }
 {

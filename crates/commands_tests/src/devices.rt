@@ -96,3 +96,26 @@ pub(crate) fn needs_no_reason<H: Threads + Wait + Sync>(
     );
     status == expected && written.is_empty() && !heap.refused
 }
+
+/// Whether a run by these words fails where its output fills up behind this beginning, with nothing said.
+pub(crate) fn fills_up<H: Threads + Wait + Sync>(
+    rt: &H,
+    alloc: Global,
+    words: &[&str],
+    input: &str,
+    beginning: &str,
+) -> bool {
+    let mut room = [0u8; 32];
+    let size = beginning.len().min(32);
+    let mut faults = Vec::new(alloc);
+    let mut heap = Heap::new(alloc);
+    let status = command(
+        rt,
+        &mut heap,
+        words,
+        &mut ReadSource::new(input.as_bytes()),
+        &mut WriteSink::new(&mut room[..size]),
+        &mut WriteSink::new(&mut faults),
+    );
+    status == 1 && faults.is_empty() && room[..size] == *beginning.as_bytes()
+}

@@ -1,7 +1,5 @@
 //! Each word of the program over a reader that fails, an output that nobody takes, and a reason that nobody takes.
-use crate::devices::{breaks, needs_its_output, needs_no_reason};
-use commands::{Heap, command};
-use plain::{ReadSource, WriteSink};
+use crate::devices::{breaks, fills_up, needs_its_output, needs_no_reason};
 use std::process::Abort;
 
 const SERVE: [&str; 2] = ["stsctl", "serve"];
@@ -11,6 +9,16 @@ const REPLAY: [&str; 2] = ["stsctl", "replay"];
 const CLUSTER: [&str; 2] = ["stsctl", "cluster"];
 
 const PLAN: [&str; 4] = ["stsctl", "plan", "--set", "web"];
+
+const HISTORY: [&str; 7] = [
+    "stsctl",
+    "race",
+    "--controllers",
+    "1",
+    "--rounds",
+    "1",
+    "--history",
+];
 
 const SIZE: &str = r#"{"capacity":7,"shards":2}"#;
 
@@ -56,6 +64,7 @@ fn a_writer_that_fails_ends_the_run(rt: HostRuntime) {
         (CLUSTER.as_slice(), SETS),
         (PLAN.as_slice(), OBJECTS),
         (race.as_slice(), "a race"),
+        (HISTORY.as_slice(), "a race with its history"),
         (["stsctl", "--help"].as_slice(), "the help"),
     ] {
         assert_so(&rt, needs_its_output(&rt, rt.alloc(), words, input), input);
@@ -90,16 +99,15 @@ fn a_refusal_needs_no_place_for_its_reason(rt: HostRuntime) {
 /// A slice takes bytes until it is full.
 #[test]
 fn a_writer_that_fills_up_has_a_beginning(rt: HostRuntime) {
-    let mut room = [0u8; 10];
-    let mut faults = Vec::new(rt.alloc());
-    let status = command(
-        &rt,
-        &mut Heap::new(rt.alloc()),
-        &SERVE,
-        &mut ReadSource::new(CREATE.as_bytes()),
-        &mut WriteSink::new(room.as_mut_slice()),
-        &mut WriteSink::new(&mut faults),
-    );
-    assert!(rt; status == 1 && faults.is_empty());
-    assert!(rt; room.as_slice() == b"{\"code\":20".as_slice());
+    for (words, input, beginning) in [
+        (SERVE.as_slice(), CREATE, "{\"code\":20"),
+        // The set is created first, by the caller behind the controller and the kubelet.
+        (HISTORY.as_slice(), "a race", "{\"at\":0,\"caller\":2,"),
+    ] {
+        assert_so(
+            &rt,
+            fills_up(&rt, rt.alloc(), words, input, beginning),
+            input,
+        );
+    }
 }

@@ -132,7 +132,7 @@ returns-in-Ok-Race-clause-raced_part g c = λ is asks.
     let asked = subst (λ (a : Asked). IsAsked (map g.S.AsStr.text c.args.words.now) a) c.in-Ok-Race.field-0-is c.in-Ok-Race.ensures.asked in
     elim (c.raced.ensures.part is) [
       | inl same ↦ inl same
-      | inr part ↦ inr (c.in-Ok-Race.spec, asked.1, part)
+      | inr part ↦ inr (c.in-Ok-Race.race, asked.1, part)
     ]
 
 pub returns-in-Err-clause-raced_part : goal.returns-in-Err-clause-raced_part
