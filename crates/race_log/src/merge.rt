@@ -78,6 +78,7 @@ impl Waiting {
         Ok(turned?)
     }
 
+    /// Puts a call and its reply behind the others.
     fn put_asked(&mut self, caller: u64, asked: Asked) -> Result<(), Memory>
         ensures { (es : List Event) → Holds self.old es → OnOk result (Holds self.new (es ++ asked_events caller asked)) }
     {
@@ -94,6 +95,7 @@ impl Waiting {
         replied
     }
 
+    /// Puts what a part says behind the others.
     fn put_part(&mut self, part: Part) -> Result<(), Memory>
         ensures { (es : List Event) → Holds self.old es → OnOk result (Holds self.new (es ++ part_events part)) }
     {
@@ -104,6 +106,7 @@ impl Waiting {
         Ok(())
     }
 
+    /// What these parts say, one part after another.
     fn of(alloc: Global, parts: Vec<Part>) -> Result<Waiting, Memory>
         ensures { IfOk result (λ waiting. Holds waiting (events_of parts.items)) }
     {
@@ -143,7 +146,7 @@ fn log_of(alloc: Global, queues: Queues, turns: &[(u64, u64)]) -> Result<Log, Me
 }
 
 /// The log that has these parts. Callers take turns by the places of the events, and what a caller says in its turn is the
-/// next that it said: so each part stands in the log in its order, whatever its places are.
+/// next that it said: so each part stands in the log in its order, whatever its places are. The time is within n log n.
 pub fn merged(alloc: Global, parts: Vec<Part>) -> Result<Log, Memory>
     ensures merged { IfOk result (λ log. IsMergeOf parts.items log.items.items) }
 {
