@@ -30,11 +30,16 @@ pub(crate) fn write_of(alloc: Global, line: &str) -> Option<Request>
     None
 }
 
-/// Whether the reply is printed as that line.
-pub(crate) fn is_printed(alloc: Global, reply: &Reply, line: &str) -> Result<bool, AllocError> {
+/// The line of a reply.
+pub(crate) fn printed(alloc: Global, reply: &Reply) -> Result<Vec<u8>, AllocError> {
     let mut out = Writer::new(Vec::new(alloc));
     write_reply(reply, &mut out)?;
-    let text = end_line(out)?;
+    end_line(out)
+}
+
+/// Whether the reply is printed as that line.
+pub(crate) fn is_printed(alloc: Global, reply: &Reply, line: &str) -> Result<bool, AllocError> {
+    let text = printed(alloc, reply)?;
     Ok(text.as_slice().strip_suffix(b"\n") == Some(line.as_bytes()))
 }
 

@@ -1,5 +1,5 @@
 // Eight threads at once, whose log is judged.
-use crate::asking::request_of;
+use crate::asking::{printed, request_of};
 use race_log::{Log, RaceSpec, judged};
 use racing::{SharedStore, answered};
 use requests::{Reason, Reply, Request};
@@ -19,8 +19,8 @@ const THREADS: usize = 8;
 /// How many requests each thread makes.
 const REQUESTS: u64 = 1_000;
 
-/// What is asked by chance: of 32 requests ten are creates, nine updates, five deletes, four gets and three lists, and one
-/// is a compaction.
+/// What is asked by chance: of 34 requests ten are creates, nine updates, five deletes, four gets and three lists. One is a
+/// compaction and two are lists that are asked once more, none of which is noted.
 static ASKED: [&str; 31] = [
     r#"{"do":"create","object":{"kind":"Pod","metadata":{"name":"a"}}}"#,
     r#"{"do":"create","object":{"kind":"Pod","metadata":{"name":"b"}}}"#,
@@ -87,7 +87,79 @@ fn ask<S: SharedStore, R: Wait>(
     log.lock(rt).reply(name, number, reply).ok()
 }
 
-/// All requests of one thread, by a caller of its own. Compactions are to what it has seen, and are not noted.
+const EXPIRED: &str = "{\"code\":410,\"reason\":\"Expired\"}\n";
+
+const LIST: &str = r#"{"do":"list","kind":"Pod"}"#;
+
+/// The list of what there was at a number, and at 0 of what there is now.
+fn list_of(alloc: Global, number: u64) -> Option<Request> {
+    match request_of(alloc, LIST)? {
+        Request::List {
+            kind,
+            namespace,
+            ..
+        } => Some(Request::List {
+            kind,
+            namespace,
+            exact: number,
+        }),
+        other => {
+            drop(other);
+            None
+        }
+    }
+}
+
+/// The line of a list of what there was at a number, at 0 of what there is now, with the number that it is of.
+fn listed<S: SharedStore, R: Wait>(
+    rt: &R,
+    alloc: Global,
+    store: &S,
+    caller: &mut S::Caller,
+    at: u64,
+) -> Option<(Vec<u8>, u64)> {
+    let request = list_of(alloc, at)?;
+    let (reply, number) = answered(rt, store, &NoGate, caller, request).ok()?;
+    let line = printed(alloc, &reply);
+    drop(reply);
+    Some((line.ok()?, number))
+}
+
+/// Whether a list is answered once more as it was at its number, unless a compaction passed that meanwhile.
+fn is_listed_again<S: SharedStore, R: Wait>(
+    rt: &R,
+    alloc: Global,
+    store: &S,
+    caller: &mut S::Caller,
+) -> Option<bool> {
+    let (now, number) = listed(rt, alloc, store, caller, 0)?;
+    if number == 0 {
+        return Some(true);
+    }
+    let (again, _) = listed(rt, alloc, store, caller, number)?;
+    Some(again.as_slice() == now.as_slice() || again.as_slice() == EXPIRED.as_bytes())
+}
+
+/// Compacts the store to what the caller has seen, or lists what it has seen once more. Neither is noted.
+fn ask_unnoted<S: SharedStore, R: Wait>(
+    rt: &R,
+    alloc: Global,
+    store: &S,
+    caller: &mut S::Caller,
+    compacts: bool,
+) -> Option<()> {
+    if compacts {
+        let seen = store.seen(caller);
+        drop(store.compact(rt, caller, seen));
+        return Some(());
+    }
+    if is_listed_again(rt, alloc, store, caller)? {
+        return Some(());
+    }
+    None
+}
+
+/// All requests of one thread, by a caller of its own.
 fn work<S: SharedStore, R: Wait>(
     rt: &R,
     alloc: Global,
@@ -99,12 +171,10 @@ fn work<S: SharedStore, R: Wait>(
     let mut state = rolled(name.wrapping_add(1));
     for _ in 0..REQUESTS {
         state = rolled(state);
-        match ASKED.get((state >> 33) as usize % 32) {
+        let chosen = (state >> 33) as usize % 34;
+        match ASKED.get(chosen) {
             Some(line) => ask(rt, alloc, store, &mut caller, log, name, *line)?,
-            None => {
-                let seen = store.seen(&caller);
-                drop(store.compact(rt, &mut caller, seen));
-            }
+            None => ask_unnoted(rt, alloc, store, &mut caller, chosen == 31)?,
         }
     }
     Some(())
@@ -117,8 +187,9 @@ fn assert_legal<R: Abort>(rt: &R, alloc: Global, log: Log) -> Result<(), Fail> {
         shards: 8,
         rounds: REQUESTS,
         replicas: 0,
+        operator: false,
     };
-    let report = judged(alloc, CAPACITY, &size, log)?;
+    let report = judged(alloc, CAPACITY, &size, log)?.report;
     assert!(rt; report.legal, "the order is legal");
     assert_eq!(rt; report.twice, 0, "pods that were created twice");
     Ok(())

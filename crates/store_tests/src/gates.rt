@@ -1,8 +1,9 @@
-// Two threads, of which one is held between the draw of its number and its fill.
+// Three threads: one is held between the draw of its number and its fill, under its shard's lock. For that lock a compaction
+// waits, which holds the floor's.
 ghost use Rattle.std.specs.Prelude.{◌≡◌, true};
 ghost use Rattle.requests.specs.Verdict.{is_write};
 
-use crate::asking::{TURNS, is_printed, write_of};
+use crate::asking::{TURNS, has_reply, is_printed, write_of};
 use racing::SharedStore;
 use requests::{Reply, Request};
 use std::alloc::Global;
@@ -20,10 +21,18 @@ const SECOND: &str = r#"{"do":"create","object":{"kind":"Pod","metadata":{"name"
 const CREATED: &str =
     r#"{"code":201,"object":{"kind":"Pod","metadata":{"generation":1,"name":"a","namespace":"default","resourceVersion":"2","uid":"00000000-0000-4000-8000-000000000002"}},"result":"Created"}"#;
 
+const GET: &str = r#"{"do":"get","kind":"Pod","name":"a"}"#;
+
+const MISSING: &str = r#"{"code":404,"reason":"NotFound"}"#;
+
+/// How often a is read while a compaction waits: often enough for the compaction to have come to the held lock.
+const READS: u64 = 1_000;
+
 /// Steps that the threads have come to.
 #[derive(Drop)]
 struct Steps {
     drawn: AtomicU64,
+    compacts: AtomicU64,
     tried: AtomicU64,
     filled: AtomicU64,
     late: AtomicU64,
@@ -76,7 +85,24 @@ fn first<S: SharedStore, R: Wait>(
     }
 }
 
-/// Whether the create of a is answered as it should be, or none where a step came too early or too late.
+/// Whether a is answered to be missing, however often it is read.
+fn is_missing<S: SharedStore, R: Wait>(
+    rt: &R,
+    alloc: Global,
+    store: &S,
+    caller: &mut S::Caller,
+) -> bool {
+    for _ in 0..READS {
+        yield_now();
+        if has_reply(rt, alloc, store, caller, GET, MISSING) != Some(true) {
+            return false;
+        }
+    }
+    true
+}
+
+/// Whether the create of a is answered as it should be, after reads of a while the compaction waits; or none where a step
+/// came too early or too late.
 fn second<S: SharedStore, R: Wait>(
     rt: &R,
     alloc: Global,
@@ -84,11 +110,11 @@ fn second<S: SharedStore, R: Wait>(
     mut caller: S::Caller,
     steps: &Steps,
 ) -> Option<bool> {
-    let request = write_of(alloc, SECOND)?;
-    if !is_made(&steps.drawn) {
-        drop(request);
+    if !is_made(&steps.compacts) || !is_missing(rt, alloc, store, &mut caller) {
+        make(&steps.tried);
         return None;
     }
+    let request = write_of(alloc, SECOND)?;
     let reply = answered_in_steps(rt, store, &mut caller, request, steps)?;
     let is_so = is_printed(alloc, &reply, CREATED);
     drop(reply);
@@ -149,7 +175,38 @@ fn answered_in_steps<S: SharedStore, R: Wait>(
     }
 }
 
-/// A shard works while another is held, and its write waits for the number before its own.
+/// Whether a compaction to 0, which is begun while the first write is held, is answered.
+fn third<S: SharedStore, R: Wait>(rt: &R, store: &S, mut caller: S::Caller, steps: &Steps) -> bool {
+    if !is_made(&steps.drawn) {
+        return false;
+    }
+    make(&steps.compacts);
+    let reply = store.compact(rt, &mut caller, 0);
+    let is_so = matches!(reply, Reply::Compacted { revision: 0 });
+    drop(reply);
+    is_so
+}
+
+/// The two writers at once.
+fn writers<S: SharedStore + Sync, R: Threads + Wait + Sync>(
+    rt: &R,
+    alloc: Global,
+    store: &S,
+    one: S::Caller,
+    two: S::Caller,
+    steps: &Steps,
+) -> (bool, Option<bool>)
+where
+    S::Caller: Send,
+{
+    join(
+        rt,
+        || first(rt, alloc, store, one, steps),
+        || second(rt, alloc, store, two, steps),
+    )
+}
+
+/// A shard works while another is held and a compaction waits for that one, and its write waits for the number before its own.
 pub(crate) fn assert_steps<S: SharedStore + Sync, R: Threads + Wait + Abort + Sync>(
     rt: &R,
     alloc: Global,
@@ -161,20 +218,23 @@ where
 {
     let one = store.caller(rt)?;
     let two = store.caller(rt)?;
+    let three = store.caller(rt)?;
     let steps = Steps {
         drawn: AtomicU64::new(0),
+        compacts: AtomicU64::new(0),
         tried: AtomicU64::new(0),
         filled: AtomicU64::new(0),
         late: AtomicU64::new(0),
     };
     let made = &steps;
-    let (placed, answered) = join(
+    let ((placed, answered), compacted) = join(
         rt,
-        || first(rt, alloc, store, one, made),
-        || second(rt, alloc, store, two, made),
+        || writers(rt, alloc, store, one, two, made),
+        || third(rt, store, three, made),
     );
     assert!(rt; placed, "the first create is of the number 1");
     assert_eq!(rt; steps.late.load(Ordering::SeqCst), 0);
     assert!(rt; answered == Some(true), "the reply to the create of a");
+    assert!(rt; compacted, "the reply to the compaction");
     Ok(())
 }

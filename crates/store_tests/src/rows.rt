@@ -4,8 +4,8 @@ use crate::scenes::{Scene, assert_on};
 use std::test::Fail;
 
 /// A pod is made, read, changed at its version and read again; the past is listed, compacted away and denied; then the store is
-/// full, and lists its pods in the order of their names.
-pub(crate) static ROWS: [(&str, &str); 20] = [
+/// full, and lists its pods in the order of their names. No get and no refused write keeps the past from being listed.
+pub(crate) static ROWS: [(&str, &str); 21] = [
     (
         r#"{"do":"list","kind":"Pod"}"#,
         r#"{"code":200,"items":[],"resourceVersion":"0","result":"Listed"}"#,
@@ -25,6 +25,10 @@ pub(crate) static ROWS: [(&str, &str); 20] = [
     (
         r#"{"do":"get","kind":"Pod","name":"web-0"}"#,
         r#"{"code":200,"object":{"kind":"Pod","metadata":{"generation":1,"labels":{"a":"b"},"name":"web-0","namespace":"default","resourceVersion":"2","uid":"00000000-0000-4000-8000-000000000001"}},"result":"Found"}"#,
+    ),
+    (
+        r#"{"do":"create","object":{"kind":"Pod","metadata":{"name":"web-0"}}}"#,
+        r#"{"code":409,"reason":"AlreadyExists"}"#,
     ),
     (
         r#"{"do":"list","kind":"Pod","resourceVersion":"1"}"#,
