@@ -117,5 +117,5 @@ pub(crate) fn fills_up<H: Threads + Wait + Sync>(
         &mut WriteSink::new(&mut room[..size]),
         &mut WriteSink::new(&mut faults),
     );
-    status == 1 && faults.is_empty() && room[..size] == *beginning.as_bytes()
+    status == 1 && faults.is_empty() && &room[..size] == beginning.as_bytes()
 }
