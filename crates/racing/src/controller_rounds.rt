@@ -1,13 +1,17 @@
 // A controller's rounds.
-use crate::field::Field;
+ghost use Rattle.std.specs.Prelude.{◌≡◌, ◌+◌, ℕ, true, false, IfOk, OnOk};
+ghost use Rattle.rounds.specs.Phase.{asks, reading_set};
+ghost use Rattle.controllers.specs.Controller.{is_waiting, phase_of, reconciler_of};
+ghost use Rattle.racing.specs.Parts.{HasMadeRounds, IsStanding, begins, is_get, racer};
+
+use crate::field::{Field, last_reply};
 use crate::shared::SharedStore;
 use controllers::Controller;
 use objects::Memory;
-use race_log::{NAMESPACE, SET};
+use race_log::{Asked, NAMESPACE, SET};
 use requests::Request;
 use std::alloc::Global;
 use std::sync::Wait;
-use std::sync::atomic::Ordering;
 use store::Gate;
 
 /// How many hex digits of its hash the name of a revision has.
@@ -17,31 +21,69 @@ const DIGITS: usize = 10;
 const MOMENT: &str = "2024-01-01T00:00:00Z";
 
 #[tactic(auto, unfolding(objects::specs::Names::is_dns_label))]
-fn controller(alloc: Global) -> Result<Controller, Memory> {
+fn controller(alloc: Global) -> Result<Controller, Memory>
+    ensures reconciler { IfOk result (λ c. reconciler_of c ≡ racer) }
+    ensures phase { IfOk result (λ c. phase_of c ≡ reading_set) }
+{
     Controller::new(alloc, NAMESPACE, SET, DIGITS, MOMENT)
+}
+
+/// Whether it reads one object.
+fn is_get(request: &Request) -> bool
+    ensures { result ≡ is_get request.now }
+{
+    matches!(request, Request::Get(_))
+}
+
+/// Asks what the controller asks, and lets it take the reply.
+#[tactic(auto, using(crate::proofs::Standing::stands_more))]
+fn make_step<S: SharedStore, R: Wait, G: Gate>(
+    rt: &R,
+    field: &Field<'_, S, G>,
+    caller: &mut S::Caller,
+    controller: &mut Controller,
+    asked: &mut Vec<Asked>,
+    request: Request,
+) -> Result<(), Memory>
+    requires waits { is_waiting controller.old ≡ true }
+    requires request { request ≡ asks (reconciler_of controller.old) (phase_of controller.old) }
+    ensures stands { (rounds : ℕ) → IsStanding S.gave (reconciler_of controller.old) rounds (phase_of controller.old) asked.old.items
+        → OnOk result (IsStanding S.gave (reconciler_of controller.old) (rounds + begins request) (phase_of controller.new) asked.new.items) }
+    ensures same { OnOk result (reconciler_of controller.new ≡ reconciler_of controller.old) }
+{
+    field.ask(rt, caller, asked, request)?;
+    match last_reply(asked.as_slice()) {
+        Some(reply) => controller.take(reply),
+        None => Err(Memory),
+    }
 }
 
 /// One round: what the controller asks, up to the read of the set with which the next one begins.
 fn make_round<S: SharedStore, R: Wait, G: Gate>(
     rt: &R,
     field: &Field<'_, S, G>,
-    me: u64,
     caller: &mut S::Caller,
     controller: &mut Controller,
-) -> Result<(), Memory> {
-    let mut begun = false;
+    asked: &mut Vec<Asked>,
+    rounds: u64,
+) -> Result<(), Memory>
+    requires stands { IsStanding S.gave racer rounds (phase_of controller.old) asked.old.items }
+    requires begins { is_get (asks racer (phase_of controller.old)) ≡ true }
+    requires racer { reconciler_of controller.old ≡ racer }
+    ensures stands { OnOk result (IsStanding S.gave racer (rounds + 1) (phase_of controller.new) asked.new.items) }
+    ensures begins { OnOk result (is_get (asks racer (phase_of controller.new)) ≡ true) }
+    ensures racer { OnOk result (reconciler_of controller.new ≡ racer) }
+{
+    let request = controller.next()?;
+    make_step(rt, field, caller, controller, asked, request)?;
     for _ in rt.forever() {
         let request = controller.next()?;
-        if begun && matches!(request, Request::Get(_)) {
+        if is_get(&request) {
             // Let go by name, which is proved once for the type and not at each way out.
             drop(request);
             return Ok(());
         }
-        begun = true;
-        let reply = field.ask(rt, me, caller, request)?;
-        let taken = controller.take(&reply);
-        drop(reply);
-        taken?;
+        make_step(rt, field, caller, controller, asked, request)?;
     }
     unreachable!()
 }
@@ -55,19 +97,24 @@ fn compact<S: SharedStore, R: Wait>(rt: &R, store: &S, caller: &mut S::Caller) {
     }
 }
 
+#[tactic(auto, using(crate::proofs::Standing::stands_first, crate::proofs::First::begins_first))]
 fn make_rounds<S: SharedStore, R: Wait, G: Gate>(
     rt: &R,
     field: &Field<'_, S, G>,
     me: u64,
     caller: &mut S::Caller,
-) -> Result<(), Memory> {
-    let mut controller = controller(field.alloc)?;
-    for round in 1..=field.spec.rounds {
-        field.gate.round(me, round);
-        make_round(rt, field, me, caller, &mut controller)?;
+) -> Result<Vec<Asked>, Memory>
+    ensures { IfOk result (λ asked. HasMadeRounds S.gave racer field.now.course.now.spec.rounds asked.items) }
+{
+    let mut controller = controller(field.course.alloc)?;
+    let mut asked = Vec::new(field.course.alloc);
+    for round in 0..field.course.spec.rounds {
+        field.course.begin_round();
+        field.gate.round(me, round + 1);
+        make_round(rt, field, caller, &mut controller, &mut asked, round)?;
         compact(rt, field.store, caller);
     }
-    Ok(())
+    Ok(asked)
 }
 
 /// All rounds of a controller; then it has ended, also where memory ran out.
@@ -76,8 +123,10 @@ pub(crate) fn run_controller<S: SharedStore, R: Wait, G: Gate>(
     field: &Field<'_, S, G>,
     me: u64,
     mut caller: S::Caller,
-) -> Result<(), Memory> {
+) -> Result<Vec<Asked>, Memory>
+    ensures { IfOk result (λ asked. HasMadeRounds S.gave racer field.now.course.now.spec.rounds asked.items) }
+{
     let made = make_rounds(rt, field, me, &mut caller);
-    field.ended.fetch_add(1, Ordering::SeqCst);
+    field.course.end();
     made
 }

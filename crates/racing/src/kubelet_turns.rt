@@ -1,21 +1,31 @@
 // The kubelet's turns.
-use crate::field::Field;
+ghost use Rattle.std.specs.Prelude.{◌≡◌, [], ◌∷◌, List, IfOk, OnOk, codes};
+ghost use Rattle.objects.specs.Key.{key_parts};
+ghost use Rattle.requests.specs.declared.request.Request.{Request};
+ghost use Rattle.racing.specs.Parts.{HasTurned, IsTurning, asks_after, left_by, lists_pods, turns_to};
+
+use crate::field::{Field, last_reply};
 use crate::shared::SharedStore;
 use objects::{Key, Kind, Memory, Text};
-use race_log::{NAMESPACE, SET, kubelet_requests};
+use race_log::{Asked, NAMESPACE, SET, kubelet_requests};
 use requests::{Reply, Request};
 use std::alloc::Global;
 use std::sync::Wait;
-use std::thread::yield_now;
 use store::Gate;
 
 /// How many turns it makes at most, for each round of a controller.
 const TURNS: u64 = 64;
 
 /// How often it looks, at most, whether anything was written since its last turn.
-const LOOKS: u64 = 1_024;
+const LOOKS: u64 = 64;
 
-fn list_of_pods(alloc: Global) -> Result<Request, Memory> {
+/// How many microseconds it sleeps between two looks, at first and at most: each sleep is twice the last one.
+const FIRST_SLEEP: u64 = 50;
+const LONGEST_SLEEP: u64 = 3_200;
+
+fn list_of_pods(alloc: Global) -> Result<Request, Memory>
+    ensures { IfOk result (λ request. request ≡ lists_pods) }
+{
     Ok(Request::List {
         kind: Kind::Pod,
         namespace: Text::copy_of(alloc, NAMESPACE)?,
@@ -25,7 +35,9 @@ fn list_of_pods(alloc: Global) -> Result<Request, Memory> {
 }
 
 /// What it asks after a list.
-fn requests_after(alloc: Global, reply: &Reply) -> Result<Vec<Request>, Memory> {
+fn requests_after(alloc: Global, reply: &Reply) -> Result<Vec<Request>, Memory>
+    ensures { IfOk result (λ requests. requests.items ≡ asks_after reply.now) }
+{
     match reply {
         Reply::Listed {
             objects,
@@ -43,27 +55,45 @@ fn key_of_set(alloc: Global) -> Result<Key, Memory> {
     }
 }
 
+/// Lists the pods, and answers what it asks after that.
+#[tactic(auto, using(crate::proofs::Standing::turning_more))]
+fn begin_turn<S: SharedStore, R: Wait, G: Gate>(
+    rt: &R,
+    field: &Field<'_, S, G>,
+    caller: &mut S::Caller,
+    asked: &mut Vec<Asked>,
+) -> Result<Vec<Request>, Memory>
+    requires { IsTurning S.gave [] asked.old.items }
+    ensures { IfOk result (λ left. HasTurned S.gave left.items asked.new.items) }
+{
+    field.ask(rt, caller, asked, list_of_pods(field.course.alloc)?)?;
+    match last_reply(asked.as_slice()) {
+        Some(reply) => requests_after(field.course.alloc, reply),
+        None => Err(Memory),
+    }
+}
+
 /// Lists the pods, takes marked ones away, and makes the others ready. A refusal is passed over. Answers whether there was
 /// anything to do.
+#[tactic(auto, using(crate::proofs::Standing::turning_next))]
 fn make_turn<S: SharedStore, R: Wait, G: Gate>(
     rt: &R,
     field: &Field<'_, S, G>,
-    me: u64,
     caller: &mut S::Caller,
-) -> Result<bool, Memory> {
-    let reply = field.ask(rt, me, caller, list_of_pods(field.alloc)?)?;
-    let requests = requests_after(field.alloc, &reply);
-    // Let go before the `?`, by name, which is proved once for the type and not at each way out.
-    drop(reply);
-    let requests = requests?;
+    asked: &mut Vec<Asked>,
+) -> Result<bool, Memory>
+    requires { IsTurning S.gave [] asked.old.items }
+    ensures { OnOk result (HasTurned S.gave [] asked.new.items) }
+{
+    let requests = begin_turn(rt, field, caller, asked)?;
     let is_busy = !requests.is_empty();
     for request in requests {
-        drop(field.ask(rt, me, caller, request)?);
+        field.ask(rt, caller, asked, request)?;
     }
     Ok(is_busy)
 }
 
-/// Waits until something was written since the caller looked, or all controllers have ended, but for so many looks at most.
+/// Sleeps until something was written since the caller looked, or all controllers have ended, but for so many looks at most.
 /// A list before that would show what the last one showed.
 fn wait_for_news<S: SharedStore, R: Wait, G: Gate>(
     rt: &R,
@@ -72,31 +102,36 @@ fn wait_for_news<S: SharedStore, R: Wait, G: Gate>(
     key: &Key,
 ) -> Result<(), Memory> {
     let listed = field.store.seen(caller);
+    let mut micros = FIRST_SLEEP;
     for _ in 0..LOOKS {
-        yield_now();
         drop(field.store.get(rt, caller, key)?);
-        if field.has_ended() || field.store.seen(caller) != listed {
+        if field.course.has_ended() || field.store.seen(caller) != listed {
             break;
         }
+        field.course.sleep(rt, micros);
+        micros = micros.saturating_mul(2).min(LONGEST_SLEEP);
     }
     Ok(())
 }
 
-/// Turns until all controllers have ended, but 64 for each round at most.
+/// One turn, and then more of them until all controllers have ended, but 64 for each round at most.
 pub(crate) fn run_kubelet<S: SharedStore, R: Wait, G: Gate>(
     rt: &R,
     field: &Field<'_, S, G>,
-    me: u64,
     mut caller: S::Caller,
-) -> Result<(), Memory> {
-    let key = key_of_set(field.alloc)?;
-    for _ in 0..field.spec.rounds.saturating_mul(TURNS) {
-        if field.has_ended() {
+) -> Result<Vec<Asked>, Memory>
+    ensures { IfOk result (λ asked. HasTurned S.gave [] asked.items) }
+{
+    let key = key_of_set(field.course.alloc)?;
+    let mut asked = Vec::new(field.course.alloc);
+    make_turn(rt, field, &mut caller, &mut asked)?;
+    for _ in 0..field.course.spec.rounds.saturating_mul(TURNS) {
+        if field.course.has_ended() {
             break;
         }
-        if !make_turn(rt, field, me, &mut caller)? {
+        if !make_turn(rt, field, &mut caller, &mut asked)? {
             wait_for_news(rt, field, &mut caller, &key)?;
         }
     }
-    Ok(())
+    Ok(asked)
 }

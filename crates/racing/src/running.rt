@@ -2,15 +2,16 @@
 ghost use Rattle.std.specs.Prelude.{◌≡◌, ◌↔◌, ◌<◌, false, true, IfOk, IsErrOf, IsTrue, vec_len};
 ghost use Rattle.line.specs.Seat.{AreShards};
 ghost use Rattle.store.specs.Callers.{IsLine};
-ghost use Rattle.race_log.specs.Judged.{IsReportOf};
 ghost use Rattle.race_log.specs.Limits.{is_race};
-ghost use Rattle.race_log.specs.Logged.{Noted};
+ghost use Rattle.race_log.specs.declared.judge.RaceHistory.{RaceHistory};
+ghost use Rattle.racing.specs.Answered.{IsAnswered};
+ghost use Rattle.racing.specs.Parts.{IsRaceOf};
 
 use crate::shared::SharedStore;
-use crate::threads::race_over;
+use crate::judging::race_over;
 use line::{Ends, Line, LineError};
 use objects::{Key, Kind, Memory, Text};
-use race_log::{CAPACITY, RaceFault, RaceReport, RaceSpec};
+use race_log::{CAPACITY, RaceFault, RaceHistory, RaceReport, RaceSpec};
 use requests::{Reply, Request};
 use std::alloc::Global;
 use std::marker::Brand;
@@ -112,15 +113,16 @@ fn race_over_line<
     ends: Ends<Writing, ByShards<H>>,
     spec: &RaceSpec,
     gate: &G,
-) -> Result<RaceReport, RaceFault>
+) -> Result<RaceHistory, RaceFault>
     requires line { IsLine N.line N.capacity ends.line }
     requires caller { ends.caller.line ≡ N.line }
+    requires capacity { N.capacity ≡ CAPACITY }
     requires shards { AreShards N.line N.capacity ends.shards.items }
     requires some { (vec_len ends.shards ≡ H.shards) × (0 < H.shards) }
     requires allowed { is_race spec.now ≡ true }
     ensures allowed { IsErrOf result RaceFault.BadRace → ⊥ }
-    ensures report { IfOk result (λ report. (log : Noted) × IsReportOf CAPACITY spec.now log report) }
-    ensures once { IfOk result (λ report. IsTrue report.legal → report.twice ≡ 0) }
+    ensures race { IfOk result (IsRaceOf (IsAnswered CAPACITY) CAPACITY spec.now) }
+    ensures once { IfOk result (λ history. IsTrue history.report.legal → history.report.twice ≡ 0) }
 {
     match Store::<H, N>::new(alloc, ends) {
         Ok(store) => race_over(rt, alloc, &store, spec, gate),
@@ -134,12 +136,12 @@ fn race_over_shards<H: Sharding + Send + Sync, R: Threads + Wait + Sync, G: Gate
     alloc: Global,
     spec: &RaceSpec,
     gate: &G,
-) -> Result<RaceReport, RaceFault>
+) -> Result<RaceHistory, RaceFault>
     requires shards { H.shards ≡ spec.now.shards }
     requires allowed { is_race spec.now ≡ true }
     ensures allowed { IsErrOf result RaceFault.BadRace → ⊥ }
-    ensures report { IfOk result (λ report. (log : Noted) × IsReportOf CAPACITY spec.now log report) }
-    ensures once { IfOk result (λ report. IsTrue report.legal → report.twice ≡ 0) }
+    ensures race { IfOk result (IsRaceOf (IsAnswered CAPACITY) CAPACITY spec.now) }
+    ensures once { IfOk result (λ history. IsTrue history.report.legal → history.report.twice ≡ 0) }
 {
     match Line::<Writing, ByShards<H>>::new(alloc, CAPACITY, spec.shards as usize) {
         Ok(ends) => race_over_line::<H, Brand, R, G>(rt, alloc, ends, spec, gate),
@@ -149,12 +151,33 @@ fn race_over_shards<H: Sharding + Send + Sync, R: Threads + Wait + Sync, G: Gate
     }
 }
 
-/// Races over a new store, and judges the race by its log. Each controller is a thread, and the kubelet is one; all are
-/// joined. Where it is legal, no pod was created while another one of its name lived.
+/// Races over a new store, and judges the race by what its callers asked and were told: see `race_over`. Where it is legal,
+/// no pod was created while another one of its name lived.
 ///
 /// # Errors
 ///
-/// BadRace for a size out of range, and Memory.
+/// BadRace for a size out of range, and Memory, also where a thread cannot be made.
+pub fn race_history<R: Threads + Wait + Sync, G: Gate + Sync>(
+    rt: &R,
+    alloc: Global,
+    spec: &RaceSpec,
+    gate: &G,
+) -> Result<RaceHistory, RaceFault>
+    ensures refused { IsErrOf result RaceFault.BadRace ↔ (is_race spec.now ≡ false) }
+    ensures race { IfOk result (IsRaceOf (IsAnswered CAPACITY) CAPACITY spec.now) }
+    ensures once { IfOk result (λ history. IsTrue history.report.legal → history.report.twice ≡ 0) }
+{
+    if !spec.is_allowed() {
+        return Err(RaceFault::BadRace);
+    }
+    race_over_shards::<Brand, R, G>(rt, alloc, spec, gate)
+}
+
+/// As `race_history`, of which it keeps the report alone.
+///
+/// # Errors
+///
+/// As those of `race_history`.
 pub fn race<R: Threads + Wait + Sync, G: Gate + Sync>(
     rt: &R,
     alloc: Global,
@@ -162,11 +185,11 @@ pub fn race<R: Threads + Wait + Sync, G: Gate + Sync>(
     gate: &G,
 ) -> Result<RaceReport, RaceFault>
     ensures refused { IsErrOf result RaceFault.BadRace ↔ (is_race spec.now ≡ false) }
-    ensures report { IfOk result (λ report. (log : Noted) × IsReportOf CAPACITY spec.now log report) }
+    ensures race { IfOk result (λ report. (history : RaceHistory) × IsRaceOf (IsAnswered CAPACITY) CAPACITY spec.now history × (report ≡ history.report)) }
     ensures once { IfOk result (λ report. IsTrue report.legal → report.twice ≡ 0) }
 {
-    if !spec.is_allowed() {
-        return Err(RaceFault::BadRace);
-    }
-    race_over_shards::<Brand, R, G>(rt, alloc, spec, gate)
+    let history = race_history(rt, alloc, spec, gate)?;
+    let report = history.report;
+    drop(history);
+    Ok(report)
 }

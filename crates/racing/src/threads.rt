@@ -1,151 +1,208 @@
-ghost use Rattle.std.specs.Prelude.{◌≡◌, ◌↔◌, false, IfOk, IsErrOf, IsTrue};
-ghost use Rattle.race_log.specs.Judged.{IsReportOf};
-ghost use Rattle.race_log.specs.Limits.{is_race};
-ghost use Rattle.race_log.specs.Logged.{Noted};
+// The threads of a race.
+ghost use Rattle.std.specs.Prelude.{◌≡◌, ◌++◌, ◌+◌, ◌≤◌, [], IfOk, OnOk, length, map};
+ghost use Rattle.std.specs.List.{All};
+ghost use Rattle.race_log.specs.RaceSet.{creates_set};
+ghost use Rattle.racing.specs.Children.{Promises, promised_number};
+ghost use Rattle.racing.specs.Jobs.{IsJob, IsPartAt, number_of};
+ghost use Rattle.racing.specs.Parts.{AreParts, CountFrom, HasAsked, IsPartOf, caller_of, operators_in};
 
-use crate::controller_rounds::run_controller;
+use crate::course::Course;
 use crate::field::Field;
-use crate::kubelet_turns::run_kubelet;
+use crate::jobs::{Job, operators_of, racers_of, run_job};
 use crate::shared::SharedStore;
 use objects::Memory;
-use race_log::{CAPACITY, Log, RaceFault, RaceReport, RaceSpec, judged, set_creation};
-use std::alloc::Global;
-use std::sync::atomic::AtomicU64;
-use std::sync::{Mutex, Wait};
+use race_log::{Asked, Part, RaceSpec, set_creation};
+use std::sync::Wait;
 use std::thread;
-use std::thread::Threads;
+use std::thread::{Promise, PromisedHandle, Scope, Threads};
 use store::Gate;
 
-/// What one thread of a race does, under its number as a caller.
+/// That a thread comes to the part of that number.
 #[derive(Drop)]
-enum Job<C: Drop> {
-    Controller(u64, C),
-    Kubelet(u64, C),
+struct PartOf<'a, S> {
+    store: &'a S,
+    spec: RaceSpec,
+    number: u64,
 }
 
-fn run_job<S: SharedStore, R: Wait, G: Gate>(
-    rt: &R,
-    field: &Field<'_, S, G>,
-    job: Job<S::Caller>,
-) -> Result<(), Memory> {
-    match job {
-        Job::Controller(me, caller) => run_controller(rt, field, me, caller),
-        Job::Kubelet(me, caller) => run_kubelet(rt, field, me, caller),
-    }
+impl<'a, S: SharedStore> Promise<Result<Part, Memory>> for PartOf<'a, S> {
+    ghost use Rattle.std.specs.Prelude.{IfOk};
+    ghost use Rattle.racing.specs.Children.{Promises, promised_number};
+ghost use Rattle.racing.specs.Jobs.{IsPartAt};
+
+    ghost kept_by = { λ promise result. IfOk result (IsPartAt S.gave promise.spec promise.number) };
 }
 
-/// One job for each controller, from the caller 0 on, and one for the kubelet.
-fn jobs_of<S: SharedStore, R: Wait>(
-    rt: &R,
-    alloc: Global,
-    store: &S,
-    controllers: u64,
-) -> Result<Vec<Job<S::Caller>>, Memory> {
-    let mut jobs = Vec::new(alloc);
-    for number in 0..controllers {
-        jobs.push(Job::Controller(number, store.caller(rt)?))?;
+/// A thread for each job, in their order. Those that were made where one is refused wait for the start.
+fn spawn_all<'s, E, S: SharedStore + Sync, R: Threads + Wait + Sync, G: Gate + Sync>(
+    rt: &'s R,
+    scope: &'s Scope<'s, E>,
+    store: &'s S,
+    gate: &'s G,
+    course: &'s Course,
+    jobs: Vec<Job<S::Caller>>,
+) -> Result<Vec<PromisedHandle<Result<Part, Memory>, PartOf<'s, S>>>, Memory>
+where
+    S::Caller: Send,
+    S::Ticket: Send,
+    requires { All (IsJob course.now.spec) jobs.items }
+    ensures spec { IfOk result (λ children. All (Promises course.now.spec) children.items) }
+    ensures numbers { IfOk result (λ children. map promised_number children.items ≡ map number_of jobs.items) }
+{
+    let mut children = Vec::new(course.alloc);
+    for job in jobs {
+        let promise = PartOf {
+            store,
+            spec: course.spec,
+            number: job.number(),
+        };
+        let spawned = scope.spawn_with(
+            promise,
+            move || -> Result<Part, Memory>
+                requires { IsJob course.now.spec job }
+                ensures { IfOk result (IsPartAt S.gave course.entry.now.spec (number_of job)) }
+            { run_job(rt, &Field { store, gate, course }, job) },
+        );
+        let Ok(child) = spawned else {
+            return Err(Memory);
+        };
+        children.push(child)?;
     }
-    jobs.push(Job::Kubelet(controllers, store.caller(rt)?))?;
-    Ok(jobs)
+    Ok(children)
+}
+
+/// Joins the threads, and adds their parts to those that are there.
+fn join_all<S: SharedStore, R: Threads>(
+    rt: &R,
+    spec: &RaceSpec,
+    parts: &mut Vec<Part>,
+    children: Vec<PromisedHandle<Result<Part, Memory>, PartOf<'_, S>>>,
+) -> Result<(), Memory>
+    requires spec { All (Promises spec.now) children.items }
+    ensures numbers { OnOk result (map caller_of parts.new.items ≡ map caller_of parts.old.items ++ map promised_number children.entry.items) }
+    ensures each { All (IsPartOf S.gave spec.now) parts.old.items → OnOk result (All (IsPartOf S.gave spec.now) parts.new.items) }
+{
+    for child in children {
+        let part = child.join(rt)?;
+        parts.push(part)?;
+    }
+    Ok(())
+}
+
+/// The threads of a race.
+struct Children<'s, S: SharedStore> {
+    racers: Vec<PromisedHandle<Result<Part, Memory>, PartOf<'s, S>>>,
+    operators: Vec<PromisedHandle<Result<Part, Memory>, PartOf<'s, S>>>,
+}
+
+/// All threads of a race. They wait for the start.
+fn spawn_race<'s, E, S: SharedStore + Sync, R: Threads + Wait + Sync, G: Gate + Sync>(
+    rt: &'s R,
+    scope: &'s Scope<'s, E>,
+    store: &'s S,
+    gate: &'s G,
+    course: &'s Course,
+) -> Result<Children<'s, S>, Memory>
+where
+    S::Caller: Send,
+    S::Ticket: Send,
+    requires few { course.now.spec.controllers ≤ 64 }
+    ensures racers { IfOk result (λ all. All (Promises course.now.spec) all.racers.items) }
+    ensures numbers { IfOk result (λ all. CountFrom 0 (map promised_number all.racers.items)) }
+    ensures many { IfOk result (λ all. length all.racers.items ≡ course.now.spec.controllers + 1) }
+    ensures operators { IfOk result (λ all. All (Promises course.now.spec) all.operators.items) }
+    ensures operator { IfOk result (λ all. map promised_number all.operators.items ≡ operators_in course.now.spec) }
+{
+    let racers = racers_of(rt, store, course)?;
+    let operators = operators_of(rt, store, course)?;
+    Ok(Children {
+        racers: spawn_all(rt, scope, store, gate, course, racers)?,
+        operators: spawn_all(rt, scope, store, gate, course, operators)?,
+    })
+}
+
+/// What all threads come to, and between them what creating the set came to.
+fn join_race<S: SharedStore, R: Threads>(
+    rt: &R,
+    course: &Course,
+    children: Children<'_, S>,
+    creation: Vec<Asked>,
+) -> Result<Vec<Part>, Memory>
+    requires few { course.now.spec.controllers ≤ 64 }
+    requires creation { HasAsked S.gave (creates_set course.now.spec.replicas) [] creation.items }
+    requires racers { All (Promises course.now.spec) children.racers.items }
+    requires numbers { CountFrom 0 (map promised_number children.racers.items) }
+    requires many { length children.racers.items ≡ course.now.spec.controllers + 1 }
+    requires operators { All (Promises course.now.spec) children.operators.items }
+    requires operator { map promised_number children.operators.items ≡ operators_in course.now.spec }
+    ensures { IfOk result (λ parts. AreParts S.gave course.now.spec parts.items) }
+{
+    let Children { racers, operators } = children;
+    let mut parts = Vec::new(course.alloc);
+    join_all(rt, &course.spec, &mut parts, racers)?;
+    let caller = course.spec.controllers + 1;
+    parts.push(Part {
+        caller,
+        asked: creation,
+    })?;
+    join_all(rt, &course.spec, &mut parts, operators)?;
+    Ok(parts)
 }
 
 /// Creates the set, and answers once it is there.
 fn create_set<S: SharedStore, R: Wait, G: Gate>(
     rt: &R,
     field: &Field<'_, S, G>,
-    me: u64,
-) -> Result<(), Memory> {
+) -> Result<Vec<Asked>, Memory>
+    ensures { IfOk result (λ asked. HasAsked S.gave (creates_set field.now.course.now.spec.replicas) [] asked.items) }
+{
     let mut caller = field.store.caller(rt)?;
-    let creation = set_creation(field.alloc, field.spec.replicas)?;
-    drop(field.ask(rt, me, &mut caller, creation)?);
-    Ok(())
+    let creation = set_creation(field.course.alloc, field.course.spec.replicas)?;
+    let mut asked = Vec::new(field.course.alloc);
+    field.ask(rt, &mut caller, &mut asked, creation)?;
+    Ok(asked)
 }
 
-/// Runs all threads, and joins them.
-fn run_all<S: SharedStore + Sync, R: Threads + Wait + Sync, G: Gate + Sync>(
-    rt: &R,
-    field: &Field<'_, S, G>,
-) -> Result<(), Memory>
+/// Creates the set, runs all threads, and joins them. They begin once all of them are there.
+fn run_in<'s, E, S: SharedStore + Sync, R: Threads + Wait + Sync, G: Gate + Sync>(
+    rt: &'s R,
+    scope: &'s Scope<'s, E>,
+    store: &'s S,
+    gate: &'s G,
+    course: &'s Course,
+) -> Result<Vec<Part>, Memory>
 where
     S::Caller: Send,
     S::Ticket: Send,
+    requires few { course.now.spec.controllers ≤ 64 }
+    ensures { IfOk result (λ parts. AreParts S.gave course.now.spec parts.items) }
 {
-    let controllers = field.spec.controllers;
-    // Racers are told apart by numbers: first come the controllers', then the kubelet's, then this one.
-    create_set(rt, field, controllers.wrapping_add(1))?;
-    let jobs = jobs_of(rt, field.alloc, field.store, controllers)?;
-    let (store, gate, log) = (field.store, field.gate, field.log);
-    let (spec, ended, alloc) = (field.spec, field.ended, field.alloc);
-    let results = thread::map_vec(
+    let creation = create_set(rt, &Field { store, gate, course })?;
+    let children = spawn_race(rt, scope, store, gate, course);
+    // Threads wait for this word, so it is said also where one of them could not be made.
+    course.begin(children.is_ok());
+    join_race(rt, course, children?, creation)
+}
+
+/// All of a race but its judgement.
+pub(crate) fn run_all<S: SharedStore + Sync, R: Threads + Wait + Sync, G: Gate + Sync>(
+    rt: &R,
+    store: &S,
+    gate: &G,
+    course: &Course,
+) -> Result<Vec<Part>, Memory>
+where
+    S::Caller: Send,
+    S::Ticket: Send,
+    requires few { course.now.spec.controllers ≤ 64 }
+    ensures { IfOk result (λ parts. AreParts S.gave course.now.spec parts.items) }
+{
+    thread::scope(
+        thread::scope_env(),
         rt,
-        jobs,
-        &|job: Job<S::Caller>| {
-            let field = Field {
-                store,
-                gate,
-                log,
-                spec,
-                ended,
-                alloc,
-            };
-            run_job(rt, &field, job)
-        },
-    )?;
-    for result in results {
-        result?;
-    }
-    Ok(())
-}
-
-/// Runs a race over a store of 65,536 revisions that nobody has used, and judges it by its log: see `judged`. Each
-/// controller is a thread, and the kubelet is one; all are joined.
-pub fn race_over<S: SharedStore + Sync, R: Threads + Wait + Sync, G: Gate + Sync>(
-    rt: &R,
-    alloc: Global,
-    store: &S,
-    spec: &RaceSpec,
-    gate: &G,
-) -> Result<RaceReport, RaceFault>
-where
-    S::Caller: Send,
-    S::Ticket: Send,
-    ensures refused { IsErrOf result RaceFault.BadRace ↔ (is_race spec.now ≡ false) }
-    ensures report { IfOk result (λ report. (log : Noted) × IsReportOf CAPACITY spec.now log report) }
-    ensures once { IfOk result (λ report. IsTrue report.legal → report.twice ≡ 0) }
-{
-    if !spec.is_allowed() {
-        return Err(RaceFault::BadRace);
-    }
-    Ok(run_threads(rt, alloc, store, spec, gate)?)
-}
-
-/// As `race_over`, at a size that is allowed.
-fn run_threads<S: SharedStore + Sync, R: Threads + Wait + Sync, G: Gate + Sync>(
-    rt: &R,
-    alloc: Global,
-    store: &S,
-    spec: &RaceSpec,
-    gate: &G,
-) -> Result<RaceReport, Memory>
-where
-    S::Caller: Send,
-    S::Ticket: Send,
-    ensures report { IfOk result (λ report. (log : Noted) × IsReportOf CAPACITY spec.now log report) }
-    ensures once { IfOk result (λ report. IsTrue report.legal → report.twice ≡ 0) }
-{
-    let log = Mutex::new(Log::new(alloc));
-    let ended = AtomicU64::new(0);
-    let field = Field {
-        store,
-        gate,
-        log: &log,
-        spec,
-        ended: &ended,
-        alloc,
-    };
-    let run = run_all(rt, &field);
-    // It borrows the log, which is opened below.
-    drop(field);
-    run?;
-    judged(alloc, CAPACITY, spec, log.into_inner())
+        |scope| -> Result<Vec<Part>, Memory>
+            requires { course.now.spec.controllers ≤ 64 }
+            ensures { IfOk result (λ parts. AreParts S.gave course.entry.now.spec parts.items) }
+        { run_in(rt, scope, store, gate, course) },
+    )
 }

@@ -58,6 +58,7 @@ fn controllers_run_at_once(rt: HostRuntime) -> Result<(), Fail> {
         shards: 8,
         rounds: 4,
         replicas: 3,
+        operator: false,
     };
     let report = race(&rt, rt.alloc(), &spec, &gate)?;
     assert!(rt; report.legal && report.twice == 0);

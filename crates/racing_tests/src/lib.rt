@@ -3,6 +3,12 @@
 #![tactic(auto)]
 
 #[cfg(test)]
+mod counted;
+#[cfg(test)]
+mod counting;
+#[cfg(test)]
 mod gates;
+#[cfg(test)]
+mod operated;
 #[cfg(test)]
 mod races;

@@ -11,6 +11,7 @@ fn spec_of(controllers: u64, shards: u64, rounds: u64, replicas: u64) -> RaceSpe
         shards,
         rounds,
         replicas,
+        operator: false,
     }
 }
 

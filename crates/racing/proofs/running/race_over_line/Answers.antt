@@ -1,7 +1,11 @@
 use denote.Param.{param}
 use denote.Param.Send.{IsSend, sendable}
+use Rattle.std.proofs.Common.{subst, IfOk}
 use Rattle.std.proofs.Crossing.{crosses}
 use Rattle.store.proofs.Sent.{caller-send, store-sync, ticket-send}
+use Rattle.race_log.specs.declared.spec.TheConstants.{CAPACITY}
+use Rattle.racing.specs.Answered.{IsAnswered}
+use Rattle.racing.specs.Parts.{IsRaceOf}
 use Rattle.racing.proofs.running.race_over_line.Goals as goal
 
 -- threads may share the store, and its callers and tickets go with them
@@ -19,3 +23,7 @@ pub race_over-requires-sync-S : goal.race_over-requires-sync-S
 race_over-requires-sync-S g c κs within =
     let held : IsSend (param 0 g.row.H) = c.type_bounds.send-H in
     let sent : IsSend (param 1 g.row.N) = c.type_bounds.send-N in search (store-sync, sendable, crosses) depth 40
+
+-- the store has as many revisions as a race has
+pub returns-in-Ok-clause-race : goal.returns-in-Ok-clause-race
+returns-in-Ok-clause-race g c = subst (λ k. IfOk c.race_over.result (IsRaceOf (IsAnswered k) CAPACITY c.args.spec.now)) c.requires.capacity c.race_over.ensures.race

@@ -1,4 +1,4 @@
-use Rattle.racing.proofs.running.race.Given as goal
+use Rattle.racing.proofs.running.race_history.Given as goal
 
 -- as many shards as the race is to have
 abbrev pub ghosts-race_over_shards : goal.ghosts-race_over_shards

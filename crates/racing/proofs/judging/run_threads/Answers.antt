@@ -1,0 +1,19 @@
+use Rattle.std.proofs.Common.{subst}
+use Rattle.std.proofs.lemmas.Result.{IfOk-weaker}
+use Rattle.race_log.specs.Judged.{noted_of}
+use Rattle.racing.specs.Parts.{AreParts}
+use Rattle.racing.proofs.judging.run_threads.Goals as goal
+
+-- the parts of the threads, and their log
+pub returns-clause-race : goal.returns-clause-race
+returns-clause-race g c =
+    let parts = c.in_ok-parts.parts.items in
+    IfOk-weaker c.judged.result _ _
+    (λ history is. record {
+      parts = parts;
+      asked = subst (λ s. AreParts g.S.SharedStore.gave s parts) c.new-course.ensures c.in_ok-parts.ensures;
+      log = noted_of c.in_ok-log.log;
+      merged = c.in_ok-log.ensures.merged;
+      judged = is;
+    })
+    c.judged.ensures.history

@@ -1,0 +1,172 @@
+-- What the callers of a race asked and were told, each in its order.
+use Rattle.std.specs.Prelude.{◌≡◌, ◌<◌, ℕ, ◌+◌, Bool, true, false, List, [], ◌∷◌, ◌++◌, length, map, ⊤, Option, Some, None, codes, if◌then◌else◌}
+use Rattle.std.specs.List.{All}
+use Rattle.objects.specs.declared.kind.Kind.TheVariants.{StatefulSet, Pod}
+use Rattle.objects.specs.Key.{key_parts}
+use Rattle.requests.specs.declared.request.Request.{Request}
+use Rattle.requests.specs.declared.request.Request.TheVariants as request
+use Rattle.requests.specs.declared.request.Request.TheVariants.{Get}
+use Rattle.requests.specs.declared.reply.Reply.{Reply}
+use Rattle.requests.specs.declared.reply.Reply.TheVariants.{Listed}
+use Rattle.kubelet.specs.Kubelet.{kubelet_asks_all}
+use Rattle.rounds.specs.Incarnation.{Follows, phase_after}
+use Rattle.rounds.specs.Phase.{Phase, asks, reading_set}
+use Rattle.rounds.specs.Reconciler.{Reconciler}
+use Rattle.rounds.specs.Transcript.{Exchange}
+use Rattle.plan_requests.specs.Reconciler.{reconciler_with}
+use Rattle.race_log.specs.declared.part.Asked.{Asked}
+use Rattle.race_log.specs.declared.part.Part.{Part}
+use Rattle.race_log.specs.declared.spec.RaceSpec.{RaceSpec}
+use Rattle.race_log.specs.declared.judge.RaceHistory.{RaceHistory}
+use Rattle.race_log.specs.Judged.{IsHistoryOf}
+use Rattle.race_log.specs.Logged.{Noted}
+use Rattle.race_log.specs.Merge.{IsMergeOf}
+use Rattle.race_log.specs.Operator.{operator_asks}
+use Rattle.race_log.specs.RaceSet.{creates_set, set_name, set_namespace}
+
+-- what a store says of an answer: that it gave this reply to this request at this number
+abbrev pub Gives : Type 1
+Gives = Request → Reply → ℕ → Type 0
+
+abbrev pub exchanges_of : List Asked → List Exchange
+exchanges_of [] = []
+exchanges_of (a ∷ more) = (a.request, a.reply) ∷ exchanges_of more
+
+-- each reply is one that the store gave to its request
+abbrev pub AreGiven : Gives → List Asked → Type 0
+AreGiven gave [] = ⊤
+AreGiven gave (a ∷ more) = gave a.request a.reply a.number × AreGiven gave more
+
+-- the last reply, if there is one
+abbrev pub last_reply : List Asked → Option Reply
+last_reply [] = None
+last_reply (a ∷ []) = Some a.reply
+last_reply (a ∷ b ∷ more) = last_reply (b ∷ more)
+
+-- that request was asked too, and the store gave the reply to it
+pub record HasAsked (gave : Gives) (request : Request) (old new : List Asked) : Type 0 where
+  pub asked : Asked
+  pub longer : new ≡ old ++ asked ∷ []
+  pub request_is : asked.request ≡ request
+  pub given : gave asked.request asked.reply asked.number
+
+-- ---- controllers
+
+-- it reads one object: of a controller's requests the first one of each round does
+abbrev pub is_get : Request → Bool
+is_get (Get key) = true
+is_get _ = false
+
+abbrev pub begins : Request → ℕ
+begins request = if is_get request then 1 else 0
+
+-- how many rounds were begun
+abbrev pub rounds_in : List Exchange → ℕ
+rounds_in [] = 0
+rounds_in (e ∷ es) = begins e.0 + rounds_in es
+
+-- A controller that began at the read of its set has asked and been told so much, by which it stands at a phase. So many
+-- rounds are begun.
+pub record IsStanding (gave : Gives) (c : Reconciler) (rounds : ℕ) (phase : Phase) (asked : List Asked) : Type 0 where
+  pub given : AreGiven gave asked
+  pub follows : Follows c reading_set (exchanges_of asked)
+  pub many : rounds_in (exchanges_of asked) ≡ rounds
+  pub phase_is : phase_after c reading_set (exchanges_of asked) ≡ phase
+
+-- It made so many rounds, from the read of its set on, and begins the next one.
+pub record HasMadeRounds (gave : Gives) (c : Reconciler) (rounds : ℕ) (asked : List Asked) : Type 0 where
+  pub phase : Phase
+  pub stands : IsStanding gave c rounds phase asked
+  pub ended : is_get (asks c phase) ≡ true
+
+-- the controllers of a race
+abbrev pub racer : Reconciler
+racer = reconciler_with (key_parts StatefulSet set_namespace set_name) 10 (codes "2024-01-01T00:00:00Z")
+
+-- ---- the kubelet
+
+abbrev pub lists_pods : Request
+lists_pods = request.List Pod set_namespace 0
+
+abbrev pub asks_after : Reply → List Request
+asks_after (Listed objects revision) = kubelet_asks_all objects
+asks_after _ = []
+
+-- What it asks where these are left of its turn, and what is then left. Each turn begins with a list of the pods.
+abbrev pub turns_to : List Request → Request
+turns_to [] = lists_pods
+turns_to (r ∷ left) = r
+
+abbrev pub left_by : List Request → Reply → List Request
+left_by [] reply = asks_after reply
+left_by (r ∷ left) reply = left
+
+abbrev pub left_after : List Request → List Exchange → List Request
+left_after left [] = left
+left_after left (e ∷ es) = left_after (left_by left e.1) es
+
+abbrev pub Turns : List Request → List Exchange → Type 0
+Turns left [] = ⊤
+Turns left (e ∷ es) = (e.0 ≡ turns_to left) × Turns (left_by left e.1) es
+
+-- so much was asked and told, by which these requests are left of its turn
+pub record IsTurning (gave : Gives) (left : List Request) (asked : List Asked) : Type 0 where
+  pub given : AreGiven gave asked
+  pub turns : Turns [] (exchanges_of asked)
+  pub left_is : left_after [] (exchanges_of asked) ≡ left
+
+-- Some was asked too, and so at least one turn was made where nothing is left.
+pub record HasTurned (gave : Gives) (left : List Request) (asked : List Asked) : Type 0 where
+  pub turning : IsTurning gave left asked
+  pub some : 0 < length asked
+
+-- ---- the operator
+
+-- the requests of the turns from n on
+abbrev pub AsksFrom : (replicas n : ℕ) → List Asked → Type 0
+AsksFrom replicas n [] = ⊤
+AsksFrom replicas n (a ∷ more) = (a.request ≡ operator_asks replicas n) × AsksFrom replicas (n + 1) more
+
+-- it made so many turns, from the first one on
+pub record HasOperated (gave : Gives) (replicas turns : ℕ) (asked : List Asked) : Type 0 where
+  pub given : AreGiven gave asked
+  pub many : length asked ≡ turns
+  pub asks : AsksFrom replicas 0 asked
+
+-- ---- all of them
+
+-- by its number: a controller, the kubelet, the one that created the set, or the operator
+pub record IsPartOf (gave : Gives) (spec : RaceSpec) (p : Part) : Type 0 where
+  pub controller : p.caller < spec.controllers → HasMadeRounds gave racer spec.rounds p.asked.items
+  pub kubelet : p.caller ≡ spec.controllers → HasTurned gave [] p.asked.items
+  pub creator : p.caller ≡ spec.controllers + 1 → HasAsked gave (creates_set spec.replicas) [] p.asked.items
+  pub operator : p.caller ≡ spec.controllers + 2 → HasOperated gave spec.replicas spec.rounds p.asked.items
+
+abbrev pub caller_of : Part → ℕ
+caller_of p = p.caller
+
+-- n, n + 1, n + 2 ..
+abbrev pub CountFrom : ℕ → List ℕ → Type 0
+CountFrom n [] = ⊤
+CountFrom n (m ∷ more) = (m ≡ n) × CountFrom (n + 1) more
+
+-- the operator's number, where there is one
+abbrev pub operators_in : RaceSpec → List ℕ
+operators_in spec = if spec.operator then (spec.controllers + 2) ∷ [] else []
+
+-- One for each controller, one for the kubelet, one for whoever created the set, and one for the operator where there is one.
+-- Each has the number of its place, and is the part of that number.
+pub record AreParts (gave : Gives) (spec : RaceSpec) (parts : List Part) : Type 0 where
+  pub each : All (IsPartOf gave spec) parts
+  pub numbered : CountFrom 0 (map caller_of parts)
+  pub many : length parts ≡ spec.controllers + 2 + length (operators_in spec)
+
+-- ---- the race
+
+-- What the callers asked and were told is what was noted, and the history is that of what was noted.
+pub record IsRaceOf (gave : Gives) (capacity : ℕ) (spec : RaceSpec) (history : RaceHistory) : Type 0 where
+  pub parts : List Part
+  pub asked : AreParts gave spec parts
+  pub log : Noted
+  pub merged : IsMergeOf parts log.items
+  pub judged : IsHistoryOf capacity spec log history

@@ -1,0 +1,32 @@
+// The operator's turns.
+ghost use Rattle.std.specs.Prelude.{IfOk};
+ghost use Rattle.racing.specs.Parts.{HasOperated};
+
+use crate::field::Field;
+use crate::shared::SharedStore;
+use objects::Memory;
+use race_log::{Asked, operator_request};
+use std::sync::Wait;
+use store::Gate;
+
+/// As many turns as each controller makes rounds. A turn waits until the controllers together have begun as many rounds as
+/// they have by then if all go at one pace. A refusal is passed over.
+#[tactic(auto, using(crate::proofs::Operating::operated_first))]
+pub(crate) fn run_operator<S: SharedStore, R: Wait, G: Gate>(
+    rt: &R,
+    field: &Field<'_, S, G>,
+    mut caller: S::Caller,
+) -> Result<Vec<Asked>, Memory>
+    ensures { IfOk result (λ asked. HasOperated S.gave field.now.course.now.spec.replicas field.now.course.now.spec.rounds asked.items) }
+{
+    let controllers = field.course.spec.controllers;
+    let mut asked = Vec::new(field.course.alloc);
+    for turn in 0..field.course.spec.rounds {
+        field
+            .course
+            .wait_for_rounds(rt, turn.saturating_mul(controllers));
+        let request = operator_request(field.course.alloc, field.course.spec.replicas, turn)?;
+        field.ask(rt, &mut caller, &mut asked, request)?;
+    }
+    Ok(asked)
+}

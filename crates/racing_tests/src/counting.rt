@@ -1,0 +1,199 @@
+// A store that counts what it is asked.
+use interleavings::Item;
+use objects::{Key, Kind, Memory, Text};
+use racing::SharedStore;
+use requests::{Reply, Request};
+use std::sync::Wait;
+use std::sync::atomic::{AtomicU64, Ordering};
+use store::Gate;
+
+/// A store, and how often it was asked for each of these.
+pub(crate) struct Counting<'a, S> {
+    store: &'a S,
+    writes: AtomicU64,
+    lists: AtomicU64,
+    compactions: AtomicU64,
+}
+
+impl<S> Drop for Counting<'_, S> {
+    fn drop(self) {
+        let Counting {
+            store: _,
+            writes,
+            lists,
+            compactions,
+        } = self;
+        drop(writes);
+        drop(lists);
+        drop(compactions);
+    }
+}
+
+fn add_one(count: &AtomicU64) {
+    count.fetch_add(1, Ordering::SeqCst);
+}
+
+fn has_counted(count: &AtomicU64, expected: u64) -> bool {
+    count.load(Ordering::SeqCst) == expected
+}
+
+impl<'a, S> Counting<'a, S> {
+    pub(crate) fn of(store: &'a S) -> Counting<'a, S> {
+        Counting {
+            store,
+            writes: AtomicU64::new(0),
+            lists: AtomicU64::new(0),
+            compactions: AtomicU64::new(0),
+        }
+    }
+
+    /// Whether it was asked for as many compactions, and for as many writes and lists as were noted.
+    pub(crate) fn agrees(&self, items: &[Item], compactions: u64) -> bool {
+        has_counted(&self.compactions, compactions)
+            && has_counted(&self.writes, count_of(items, Wanted::Write))
+            && has_counted(&self.lists, count_of(items, Wanted::List))
+    }
+}
+
+impl<S: SharedStore> SharedStore for Counting<'_, S> {
+    type Caller = S::Caller;
+
+    type Ticket = S::Ticket;
+
+    ghost gave = { S.gave };
+
+    ghost asked = { S.asked };
+
+    ghost place_of = { S.place_of };
+
+    ghost is_of = { S.is_of };
+
+    ghost seen_by = { S.seen_by };
+
+    fn caller<R: Wait>(&self, rt: &R) -> Result<S::Caller, Memory> {
+        self.store.caller(rt)
+    }
+
+    fn submit<R: Wait, G: Gate>(
+        &self,
+        rt: &R,
+        caller: &mut S::Caller,
+        request: Request,
+        gate: &G,
+    ) -> Result<S::Ticket, Memory> {
+        add_one(&self.writes);
+        self.store.submit(rt, caller, request, gate)
+    }
+
+    fn try_reply(&self, ticket: &mut S::Ticket, caller: &mut S::Caller) -> Option<Reply> {
+        self.store.try_reply(ticket, caller)
+    }
+
+    fn place(&self, ticket: &S::Ticket) -> u64 {
+        self.store.place(ticket)
+    }
+
+    fn get<R: Wait>(&self, rt: &R, caller: &mut S::Caller, key: &Key) -> Result<Reply, Memory> {
+        self.store.get(rt, caller, key)
+    }
+
+    fn list<R: Wait>(
+        &self,
+        rt: &R,
+        caller: &mut S::Caller,
+        kind: Kind,
+        namespace: &Text,
+    ) -> Result<Reply, Memory> {
+        add_one(&self.lists);
+        self.store.list(rt, caller, kind, namespace)
+    }
+
+    fn list_at<R: Wait>(
+        &self,
+        rt: &R,
+        caller: &mut S::Caller,
+        kind: Kind,
+        namespace: &Text,
+        exact: u64,
+    ) -> Result<Reply, Memory> {
+        add_one(&self.lists);
+        self.store.list_at(rt, caller, kind, namespace, exact)
+    }
+
+    fn compact<R: Wait>(&self, rt: &R, caller: &mut S::Caller, to: u64) -> Reply {
+        add_one(&self.compactions);
+        self.store.compact(rt, caller, to)
+    }
+
+    fn seen(&self, caller: &S::Caller) -> u64 {
+        self.store.seen(caller)
+    }
+}
+
+#[derive(Clone, Copy, PartialEq)]
+enum Wanted {
+    Write,
+    List,
+}
+
+fn is_wanted(item: &Item, wanted: Wanted) -> bool {
+    match item {
+        Item::Call {
+            place: _,
+            caller: _,
+            request:
+                Request::List {
+                    kind: _,
+                    namespace: _,
+                    exact: _,
+                },
+        } => wanted == Wanted::List,
+        Item::Call {
+            place: _,
+            caller: _,
+            request,
+        } => wanted == Wanted::Write && request.is_write(),
+        Item::Reply {
+            place: _,
+            caller: _,
+            reply: _,
+        } => false,
+    }
+}
+
+/// How many there are of these.
+fn count_of(items: &[Item], wanted: Wanted) -> u64 {
+    let mut count = 0u64;
+    for item in items {
+        if is_wanted(item, wanted) {
+            count = count.wrapping_add(1);
+        }
+    }
+    count
+}
+
+fn is_by(item: &Item, asker: u64) -> bool {
+    match item {
+        Item::Call {
+            place: _,
+            caller,
+            request: _,
+        } => *caller == asker,
+        Item::Reply {
+            place: _,
+            caller,
+            reply: _,
+        } => *caller == asker,
+    }
+}
+
+/// How many calls and replies a caller has.
+pub(crate) fn count_by(items: &[Item], asker: u64) -> u64 {
+    let mut count = 0u64;
+    for item in items {
+        if is_by(item, asker) {
+            count = count.wrapping_add(1);
+        }
+    }
+    count
+}
