@@ -1,5 +1,5 @@
 -- A controller begins by reading its set.
-use Rattle.std.proofs.Common.{◌≡◌, ℕ, ◌+◌, true, false, if◌then◌else◌, refl, sym, ap, ◌∙◌, arith}
+use Rattle.std.proofs.Common.{◌≡◌, ℕ, ◌+◌, true, false, if◌then◌else◌, refl, ap, ◌∙◌, arith}
 use Rattle.requests.specs.declared.request.Request.{Request}
 use Rattle.rounds.specs.Phase.{Phase, asks, reading_set}
 use Rattle.rounds.specs.Reconciler.{Reconciler}

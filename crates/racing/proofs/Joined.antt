@@ -1,5 +1,5 @@
 -- The parts of a race, out of those that its threads come to.
-use Rattle.std.proofs.Common.{◌≡◌, ℕ, ◌+◌, List, [], ◌∷◌, ◌++◌, length, length-append, map, refl, sym, ap, ◌∙◌, subst, arith}
+use Rattle.std.proofs.Common.{◌≡◌, ℕ, ◌+◌, List, [], ◌∷◌, ◌++◌, length, length-append, map, sym, ap, ◌∙◌, subst, arith}
 use Rattle.std.specs.List.{All}
 use Rattle.race_log.specs.declared.part.Part.{Part}
 use Rattle.racing.specs.declared.threads.PartOf.{PartOf}
@@ -32,8 +32,8 @@ joined gave spec ps all p operators each count long number who is =
       each = each;
       numbered = subst (CountFrom 0) (sym callers)
           (count_end 0 (map caller_of (ps ++ p ∷ [])) spec.operator (spec.controllers + 2)
-              (count_more caller_of 0 ps p count (let l = long in let n = number in omega arith))
-              (let l = longer in let m = long_map caller_of (ps ++ p ∷ []) in omega arith));
+          (count_more caller_of 0 ps p count (let l = long in let n = number in omega arith))
+          (let l = longer in let m = long_map caller_of (ps ++ p ∷ []) in omega arith));
       many = sym (long_map caller_of all) ∙ ap length callers ∙ length-append (map caller_of (ps ++ p ∷ [])) (operators_in spec)
           ∙ ap (λ k. k + length (operators_in spec)) (long_map caller_of (ps ++ p ∷ []) ∙ longer);
     }

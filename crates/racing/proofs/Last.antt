@@ -1,5 +1,5 @@
 -- The last reply.
-use Rattle.std.proofs.Common.{◌≡◌, ℕ, ◌+◌, ◌-◌, List, [], ◌∷◌, length, slice_get, Option, Some, None, suc, refl, sym, ap, ◌∙◌, subst, arith}
+use Rattle.std.proofs.Common.{◌≡◌, ◌-◌, List, [], ◌∷◌, length, slice_get, Some, None, suc, refl, ap, subst, arith}
 use Rattle.race_log.specs.declared.part.Asked.{Asked}
 use Rattle.racing.specs.Parts.{last_reply}
 

@@ -3,7 +3,7 @@ use Rattle.std.proofs.Common.{◌≡◌, ℕ, ◌+◌, List, [], ◌∷◌, ◌+
 use Rattle.requests.specs.declared.request.Request.{Request}
 use Rattle.race_log.specs.declared.part.Asked.{Asked}
 use Rattle.race_log.specs.Operator.{operator_asks}
-use Rattle.racing.specs.Parts.{AreGiven, AsksFrom, Gives, HasAsked, HasOperated}
+use Rattle.racing.specs.Parts.{AsksFrom, Gives, HasAsked, HasOperated}
 use Rattle.racing.proofs.Standing.{given_more}
 
 asks_more : (replicas n : ℕ) (xs : List Asked) (a : Asked) → AsksFrom replicas n xs → a.request ≡ operator_asks replicas (n + length xs) → AsksFrom replicas n (xs ++ a ∷ [])
@@ -20,7 +20,7 @@ pub operated_more : (gave : Gives) (replicas n : ℕ) (r : Request) (xs ys : Lis
 operated_more gave replicas n r xs ys was is asked =
     let turn : n ≡ 0 + length xs = (let m = was.many in omega arith) in
     subst (HasOperated gave replicas (n + 1)) (sym asked.longer) (record {
-  given = given_more gave xs asked.asked was.given asked.given;
-  many = let l = length-append xs (asked.asked ∷ []) in let m = was.many in omega arith;
-  asks = asks_more replicas 0 xs asked.asked was.asks (asked.request_is ∙ is ∙ ap (operator_asks replicas) turn);
-})
+      given = given_more gave xs asked.asked was.given asked.given;
+      many = let l = length-append xs (asked.asked ∷ []) in let m = was.many in omega arith;
+      asks = asks_more replicas 0 xs asked.asked was.asks (asked.request_is ∙ is ∙ ap (operator_asks replicas) turn);
+    })

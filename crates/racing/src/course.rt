@@ -10,6 +10,7 @@ use std::time::Duration;
 
 /// What the word of the start says once all threads are there, and where one could not be made. Until then it is 0.
 const GO: u64 = 1;
+
 const GIVE_UP: u64 = 2;
 
 /// How many milliseconds a thread sleeps, at most, before it looks again whether all controllers have ended.

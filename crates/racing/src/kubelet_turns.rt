@@ -21,6 +21,7 @@ const LOOKS: u64 = 64;
 
 /// How many microseconds it sleeps between two looks, at first and at most: each sleep is twice the last one.
 const FIRST_SLEEP: u64 = 50;
+
 const LONGEST_SLEEP: u64 = 3_200;
 
 fn list_of_pods(alloc: Global) -> Result<Request, Memory>

@@ -7,8 +7,8 @@ ghost use Rattle.race_log.specs.declared.judge.RaceHistory.{RaceHistory};
 ghost use Rattle.racing.specs.Answered.{IsAnswered};
 ghost use Rattle.racing.specs.Parts.{IsRaceOf};
 
-use crate::shared::SharedStore;
 use crate::judging::race_over;
+use crate::shared::SharedStore;
 use line::{Ends, Line, LineError};
 use objects::{Key, Kind, Memory, Text};
 use race_log::{CAPACITY, RaceFault, RaceHistory, RaceReport, RaceSpec};

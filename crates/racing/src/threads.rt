@@ -28,7 +28,7 @@ struct PartOf<'a, S> {
 impl<'a, S: SharedStore> Promise<Result<Part, Memory>> for PartOf<'a, S> {
     ghost use Rattle.std.specs.Prelude.{IfOk};
     ghost use Rattle.racing.specs.Children.{Promises, promised_number};
-ghost use Rattle.racing.specs.Jobs.{IsPartAt};
+    ghost use Rattle.racing.specs.Jobs.{IsPartAt};
 
     ghost kept_by = { λ promise result. IfOk result (IsPartAt S.gave promise.spec promise.number) };
 }
@@ -61,7 +61,17 @@ where
             move || -> Result<Part, Memory>
                 requires { IsJob course.now.spec job }
                 ensures { IfOk result (IsPartAt S.gave course.entry.now.spec (number_of job)) }
-            { run_job(rt, &Field { store, gate, course }, job) },
+            {
+                run_job(
+                    rt,
+                    &Field {
+                        store,
+                        gate,
+                        course,
+                    },
+                    job,
+                )
+            },
         );
         let Ok(child) = spawned else {
             return Err(Memory);
@@ -177,7 +187,14 @@ where
     requires few { course.now.spec.controllers ≤ 64 }
     ensures { IfOk result (λ parts. AreParts S.gave course.now.spec parts.items) }
 {
-    let creation = create_set(rt, &Field { store, gate, course })?;
+    let creation = create_set(
+        rt,
+        &Field {
+            store,
+            gate,
+            course,
+        },
+    )?;
     let children = spawn_race(rt, scope, store, gate, course);
     // Threads wait for this word, so it is said also where one of them could not be made.
     course.begin(children.is_ok());

@@ -1,4 +1,4 @@
-use Rattle.std.proofs.Common.{◌≡◌, ◌+◌, true, false, sym, ap, ◌∙◌, subst}
+use Rattle.std.proofs.Common.{◌≡◌, ◌+◌, false, sym, ◌∙◌, subst}
 use Rattle.controllers.specs.Controller.{phase_of, reconciler_of}
 use Rattle.racing.specs.Parts.{IsStanding, begins, is_get, racer}
 use Rattle.racing.proofs.First.{no_begin}

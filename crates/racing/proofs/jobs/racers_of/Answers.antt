@@ -1,4 +1,4 @@
-use Rattle.std.proofs.Common.{◌≡◌, ◌+◌, ◌<◌, [], ◌∷◌, length, length-append, map, sym, ap, ◌∙◌, subst, refl, arith}
+use Rattle.std.proofs.Common.{◌+◌, [], ◌∷◌, length, length-append, map, sym, ap, ◌∙◌, subst, refl, arith}
 use Rattle.std.specs.List.{All}
 use Rattle.racing.specs.declared.jobs.Job.TheVariants.{Controller, Kubelet}
 use Rattle.racing.specs.Jobs.{IsJob, number_of}

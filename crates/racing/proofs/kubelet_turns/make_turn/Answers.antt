@@ -1,4 +1,4 @@
-use Rattle.std.proofs.Common.{◌≡◌, ◌∷◌, sym, subst, rules}
+use Rattle.std.proofs.Common.{◌≡◌, ◌∷◌, subst, rules}
 use Rattle.std.specs.Vec.Iter.{into_iter_items}
 use Rattle.racing.specs.Parts.{HasTurned}
 use Rattle.racing.proofs.Standing.{turning_next}

@@ -1,4 +1,4 @@
-use Rattle.std.proofs.Common.{◌≡◌, ◌+◌, [], ◌++◌, length, map, sym, ap, ◌∙◌, subst, refl}
+use Rattle.std.proofs.Common.{◌≡◌, ◌+◌, ◌++◌, map, sym, ap, ◌∙◌, subst, refl}
 use Rattle.std.specs.List.{All}
 use Rattle.std.proofs.lemmas.List.Elements.{All-nil}
 use Rattle.race_log.specs.declared.part.Part.{Part}
@@ -21,7 +21,7 @@ returns g c =
     let threads : All (IsPartOf gave spec) parts = c.in_ok-join_all.ensures.each (subst (All (IsPartOf gave spec)) (sym none) (All-nil (IsPartOf gave spec))) in
     joined gave spec parts c.join_all-2.new.parts.items creation (map promised_number c.args.children.operators.items)
     (c.in_ok-join_all-2.ensures.each
-        (subst (All (IsPartOf gave spec)) (sym items) (all_more (IsPartOf gave spec) parts creation threads (creator_is gave spec creation refl c.requires.creation))))
+    (subst (All (IsPartOf gave spec)) (sym items) (all_more (IsPartOf gave spec) parts creation threads (creator_is gave spec creation refl c.requires.creation))))
     (subst (CountFrom 0) (sym callers) c.requires.numbers)
     (long_as caller_of promised_number parts racers callers ∙ c.requires.many)
     refl
