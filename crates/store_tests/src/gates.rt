@@ -198,6 +198,7 @@ fn writers<S: SharedStore + Sync, R: Threads + Wait + Sync>(
 ) -> (bool, Option<bool>)
 where
     S::Caller: Send,
+    S::Ticket: Send,
 {
     join(
         rt,
