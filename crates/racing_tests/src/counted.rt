@@ -45,11 +45,11 @@ where
     Ok(agrees)
 }
 
-fn agrees_on_line<
-    H: Sharding + Send + Sync,
-    N: Naming + Send + Sync,
-    R: Threads + Wait + Sync,
->(rt: &R, alloc: Global, ends: Ends<Writing, ByShards<H>>) -> Result<bool, RaceFault>
+fn agrees_on_line<H: Sharding + Send + Sync, N: Naming + Send + Sync, R: Threads + Wait + Sync>(
+    rt: &R,
+    alloc: Global,
+    ends: Ends<Writing, ByShards<H>>,
+) -> Result<bool, RaceFault>
     requires line { IsLine N.line N.capacity ends.line }
     requires caller { ends.caller.line ≡ N.line }
     requires shards { AreShards N.line N.capacity ends.shards.items }
@@ -73,7 +73,10 @@ fn agrees_on_shards<H: Sharding + Send + Sync, R: Threads + Wait + Sync>(
     }
 }
 
-fn agrees_on_a_new_store<R: Threads + Wait + Sync>(rt: &R, alloc: Global) -> Result<bool, RaceFault> {
+fn agrees_on_a_new_store<R: Threads + Wait + Sync>(
+    rt: &R,
+    alloc: Global,
+) -> Result<bool, RaceFault> {
     agrees_on_shards::<Brand, R>(rt, alloc)
 }
 

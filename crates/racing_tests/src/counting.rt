@@ -141,12 +141,11 @@ fn is_wanted(item: &Item, wanted: Wanted) -> bool {
         Item::Call {
             place: _,
             caller: _,
-            request:
-                Request::List {
-                    kind: _,
-                    namespace: _,
-                    exact: _,
-                },
+            request: Request::List {
+                kind: _,
+                namespace: _,
+                exact: _,
+            },
         } => wanted == Wanted::List,
         Item::Call {
             place: _,

@@ -19,4 +19,3 @@ pub agrees-requires-sync-S : goal.agrees-requires-sync-S
 agrees-requires-sync-S g c κs within =
     let held : IsSend (param 0 g.row.H) = c.type_bounds.send-H in
     let sent : IsSend (param 1 g.row.N) = c.type_bounds.send-N in search (store-sync, sendable, crosses) depth 40
-
