@@ -115,7 +115,7 @@ fn wait_for_news<S: SharedStore, R: Wait, G: Gate>(
     Ok(())
 }
 
-/// One turn, and then more of them until all controllers have ended, but 64 for each round at most.
+/// One turn, and then more of them until all controllers have ended, but 64 for each round in all at most.
 pub(crate) fn run_kubelet<S: SharedStore, R: Wait, G: Gate>(
     rt: &R,
     field: &Field<'_, S, G>,
@@ -126,7 +126,7 @@ pub(crate) fn run_kubelet<S: SharedStore, R: Wait, G: Gate>(
     let key = key_of_set(field.course.alloc)?;
     let mut asked = Vec::new(field.course.alloc);
     make_turn(rt, field, &mut caller, &mut asked)?;
-    for _ in 0..field.course.spec.rounds.saturating_mul(TURNS) {
+    for _ in 1..field.course.spec.rounds.saturating_mul(TURNS) {
         if field.course.has_ended() {
             break;
         }
