@@ -1,5 +1,5 @@
 -- One more request and its reply.
-use Rattle.std.proofs.Common.{◌≡◌, ◌<◌, ℕ, ◌+◌, List, length, length-append, [], ◌∷◌, ◌++◌, Some, refl, sym, ap, ◌∙◌, subst, arith}
+use Rattle.std.proofs.Common.{◌≡◌, ℕ, ◌+◌, List, [], ◌∷◌, ◌++◌, Some, refl, sym, ap, ◌∙◌, subst, arith}
 use Rattle.requests.specs.declared.request.Request.{Request}
 use Rattle.requests.specs.declared.reply.Reply.{Reply}
 use Rattle.rounds.specs.Incarnation.{Follows, phase_after}
@@ -7,7 +7,7 @@ use Rattle.rounds.specs.Phase.{Phase, asks, reading_set, takes}
 use Rattle.rounds.specs.Reconciler.{Reconciler}
 use Rattle.rounds.specs.Transcript.{Exchange}
 use Rattle.race_log.specs.declared.part.Asked.{Asked}
-use Rattle.racing.specs.Parts.{AreGiven, Gives, HasAsked, HasTurned, IsStanding, IsTurning, Turns, begins, exchanges_of, last_reply, left_after, left_by, rounds_in, turns_to}
+use Rattle.racing.specs.Parts.{AreGiven, Gives, HasAsked, IsStanding, IsTurning, Turns, begins, begun_at, exchanges_of, last_reply, left_after, left_by, rounds_in, turns_in, turns_to}
 
 exchanges_more : (xs : List Asked) (a : Asked) → exchanges_of (xs ++ a ∷ []) ≡ exchanges_of xs ++ (a.request, a.reply) ∷ []
 exchanges_more [] a = refl
@@ -42,6 +42,10 @@ left_more : (left : List Request) (own : List Exchange) (a : Exchange) → left_
 left_more left [] a = refl
 left_more left (e ∷ own) a = left_more (left_by left e.1) own a
 
+begun_more : (left : List Request) (own : List Exchange) (a : Exchange) → turns_in left (own ++ a ∷ []) ≡ turns_in left own + begun_at (left_after left own)
+begun_more left [] a = omega arith
+begun_more left (e ∷ own) a = let h = begun_more (left_by left e.1) own a in omega arith
+
 some_is : {A : Type 0} (x y : A) → Some x ≡ Some y → x ≡ y
 some_is x y e = cc
 
@@ -74,35 +78,32 @@ stands_first gave c = record { given = tt; follows = tt; many = refl; phase_is =
 
 -- ---- the kubelet
 
-turning_with : (gave : Gives) (left : List Request) (xs : List Asked) (a : Asked) → IsTurning gave left xs
-    → a.request ≡ turns_to left → gave a.request a.reply a.number → IsTurning gave (left_by left a.reply) (xs ++ a ∷ [])
-turning_with gave left xs a turning is given = record {
+turning_with : (gave : Gives) (turns : ℕ) (left : List Request) (xs : List Asked) (a : Asked) → IsTurning gave turns left xs
+    → a.request ≡ turns_to left → gave a.request a.reply a.number → IsTurning gave (turns + begun_at left) (left_by left a.reply) (xs ++ a ∷ [])
+turning_with gave turns left xs a turning is given = record {
   given = given_more gave xs a turning.given given;
-  turns = subst (Turns []) (sym (exchanges_more xs a))
-      (turns_more [] (exchanges_of xs) (a.request, a.reply) turning.turns (is ∙ ap turns_to (sym turning.left_is)));
+  follows = subst (Turns []) (sym (exchanges_more xs a))
+      (turns_more [] (exchanges_of xs) (a.request, a.reply) turning.follows (is ∙ ap turns_to (sym turning.left_is)));
+  many = ap (turns_in []) (exchanges_more xs a) ∙ begun_more [] (exchanges_of xs) (a.request, a.reply)
+      ∙ ap (λ l. turns_in [] (exchanges_of xs) + begun_at l) turning.left_is ∙ ap (λ n. n + begun_at left) turning.many;
   left_is = ap (left_after []) (exchanges_more xs a) ∙ left_more [] (exchanges_of xs) (a.request, a.reply)
       ∙ ap (λ l. left_by l a.reply) turning.left_is;
 }
 
-some_asked : (gave : Gives) (r : Request) (xs ys : List Asked) → HasAsked gave r xs ys → 0 < length ys
-some_asked gave r xs ys asked = let l = length-append xs (asked.asked ∷ []) in let e = ap length asked.longer in omega arith
+-- a list begins one more turn
+pub turning_more : (gave : Gives) (turns : ℕ) (r : Request) (xs ys : List Asked) (reply : Reply) → IsTurning gave turns [] xs
+    → r ≡ turns_to [] → HasAsked gave r xs ys → last_reply ys ≡ Some reply → IsTurning gave (turns + 1) (left_by [] reply) ys
+turning_more gave turns r xs ys reply turning is asked last =
+    let a = asked.asked in
+    let said : a.reply ≡ reply = some_is a.reply reply (sym (last_more xs a) ∙ ap last_reply (sym asked.longer) ∙ last) in
+    subst (λ t. IsTurning gave (turns + 1) (left_by [] t) ys) said
+    (subst (λ zs. IsTurning gave (turns + 1) (left_by [] a.reply) zs) (sym asked.longer) (turning_with gave turns [] xs a turning (asked.request_is ∙ is) asked.given))
 
-pub turning_more : (gave : Gives) (left : List Request) (r : Request) (xs ys : List Asked) (reply : Reply) → IsTurning gave left xs
-    → r ≡ turns_to left → HasAsked gave r xs ys → last_reply ys ≡ Some reply → HasTurned gave (left_by left reply) ys
-turning_more gave left r xs ys reply turning is asked last = record {
-  some = some_asked gave r xs ys asked;
-  turning =
-      let a = asked.asked in
-      let said : a.reply ≡ reply = some_is a.reply reply (sym (last_more xs a) ∙ ap last_reply (sym asked.longer) ∙ last) in
-      subst (λ t. IsTurning gave (left_by left t) ys) said
-      (subst (λ zs. IsTurning gave (left_by left a.reply) zs) (sym asked.longer) (turning_with gave left xs a turning (asked.request_is ∙ is) asked.given));
-}
+pub turning_next : (gave : Gives) (turns : ℕ) (left : List Request) (r : Request) (xs ys : List Asked) → IsTurning gave turns (r ∷ left) xs → HasAsked gave r xs ys → IsTurning gave turns left ys
+turning_next gave turns left r xs ys was asked =
+    let e : turns + 0 ≡ turns = omega arith in
+    subst (λ n. IsTurning gave n left ys) e
+    (subst (λ zs. IsTurning gave (turns + 0) left zs) (sym asked.longer) (turning_with gave turns (r ∷ left) xs asked.asked was asked.request_is asked.given))
 
-pub turning_next : (gave : Gives) (left : List Request) (r : Request) (xs ys : List Asked) → HasTurned gave (r ∷ left) xs → HasAsked gave r xs ys → HasTurned gave left ys
-turning_next gave left r xs ys was asked = record {
-  some = some_asked gave r xs ys asked;
-  turning = subst (λ zs. IsTurning gave left zs) (sym asked.longer) (turning_with gave (r ∷ left) xs asked.asked was.turning asked.request_is asked.given);
-}
-
-pub turning_first : (gave : Gives) → IsTurning gave [] []
-turning_first gave = record { given = tt; turns = tt; left_is = refl }
+pub turning_first : (gave : Gives) → IsTurning gave 0 [] []
+turning_first gave = record { given = tt; follows = tt; many = refl; left_is = refl }

@@ -1,5 +1,5 @@
 -- What the callers of a race asked and were told, each in its order.
-use Rattle.std.specs.Prelude.{◌≡◌, ◌<◌, ℕ, ◌+◌, Bool, true, false, List, [], ◌∷◌, ◌++◌, length, map, ⊤, Option, Some, None, codes, if◌then◌else◌}
+use Rattle.std.specs.Prelude.{◌≡◌, ◌<◌, ◌≤◌, ℕ, ◌+◌, ◌*◌, Bool, true, false, List, [], ◌∷◌, ◌++◌, length, map, ⊤, Option, Some, None, codes, if◌then◌else◌}
 use Rattle.std.specs.List.{All}
 use Rattle.objects.specs.declared.kind.Kind.TheVariants.{StatefulSet, Pod}
 use Rattle.objects.specs.Key.{key_parts}
@@ -109,16 +109,33 @@ abbrev pub Turns : List Request → List Exchange → Type 0
 Turns left [] = ⊤
 Turns left (e ∷ es) = (e.0 ≡ turns_to left) × Turns (left_by left e.1) es
 
--- so much was asked and told, by which these requests are left of its turn
-pub record IsTurning (gave : Gives) (left : List Request) (asked : List Asked) : Type 0 where
+-- a turn begins where nothing is left of the last one
+abbrev pub begun_at : List Request → ℕ
+begun_at [] = 1
+begun_at (r ∷ left) = 0
+
+-- how many turns were begun
+abbrev pub turns_in : List Request → List Exchange → ℕ
+turns_in left [] = 0
+turns_in left (e ∷ es) = begun_at left + turns_in (left_by left e.1) es
+
+-- so much was asked and told, by which so many turns are begun, and these requests are left of the last one
+pub record IsTurning (gave : Gives) (turns : ℕ) (left : List Request) (asked : List Asked) : Type 0 where
   pub given : AreGiven gave asked
-  pub turns : Turns [] (exchanges_of asked)
+  pub follows : Turns [] (exchanges_of asked)
+  pub many : turns_in [] (exchanges_of asked) ≡ turns
   pub left_is : left_after [] (exchanges_of asked) ≡ left
 
--- Some was asked too, and so at least one turn was made where nothing is left.
-pub record HasTurned (gave : Gives) (left : List Request) (asked : List Asked) : Type 0 where
-  pub turning : IsTurning gave left asked
-  pub some : 0 < length asked
+-- how many turns it makes at most, for each round of a controller
+abbrev pub most_turns : ℕ
+most_turns = 64
+
+-- It made whole turns, at least one, and no more than there may be in a race of so many rounds.
+pub record HasTurned (gave : Gives) (rounds : ℕ) (asked : List Asked) : Type 0 where
+  pub turns : ℕ
+  pub turning : IsTurning gave turns [] asked
+  pub some : 0 < turns
+  pub few : 0 < rounds → turns ≤ rounds * most_turns
 
 -- ---- the operator
 
@@ -138,7 +155,7 @@ pub record HasOperated (gave : Gives) (replicas turns : ℕ) (asked : List Asked
 -- by its number: a controller, the kubelet, the one that created the set, or the operator
 pub record IsPartOf (gave : Gives) (spec : RaceSpec) (p : Part) : Type 0 where
   pub controller : p.caller < spec.controllers → HasMadeRounds gave racer spec.rounds p.asked.items
-  pub kubelet : p.caller ≡ spec.controllers → HasTurned gave [] p.asked.items
+  pub kubelet : p.caller ≡ spec.controllers → HasTurned gave spec.rounds p.asked.items
   pub creator : p.caller ≡ spec.controllers + 1 → HasAsked gave (creates_set spec.replicas) [] p.asked.items
   pub operator : p.caller ≡ spec.controllers + 2 → HasOperated gave spec.replicas spec.rounds p.asked.items
 

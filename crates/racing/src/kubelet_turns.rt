@@ -1,5 +1,5 @@
 // The kubelet's turns.
-ghost use Rattle.std.specs.Prelude.{◌≡◌, [], ◌∷◌, List, IfOk, OnOk, codes};
+ghost use Rattle.std.specs.Prelude.{◌≡◌, ◌+◌, [], ◌∷◌, List, IfOk, OnOk, codes};
 ghost use Rattle.objects.specs.Key.{key_parts};
 ghost use Rattle.requests.specs.declared.request.Request.{Request};
 ghost use Rattle.racing.specs.Parts.{HasTurned, IsTurning, asks_after, left_by, lists_pods, turns_to};
@@ -56,16 +56,17 @@ fn key_of_set(alloc: Global) -> Result<Key, Memory> {
     }
 }
 
-/// Lists the pods, and answers what it asks after that.
+/// Lists the pods after so many turns, and answers what it asks after that.
 #[tactic(auto, using(crate::proofs::Standing::turning_more))]
 fn begin_turn<S: SharedStore, R: Wait, G: Gate>(
     rt: &R,
     field: &Field<'_, S, G>,
     caller: &mut S::Caller,
     asked: &mut Vec<Asked>,
+    turns: u64,
 ) -> Result<Vec<Request>, Memory>
-    requires { IsTurning S.gave [] asked.old.items }
-    ensures { IfOk result (λ left. HasTurned S.gave left.items asked.new.items) }
+    requires { IsTurning S.gave turns [] asked.old.items }
+    ensures { IfOk result (λ left. IsTurning S.gave (turns + 1) left.items asked.new.items) }
 {
     field.ask(rt, caller, asked, list_of_pods(field.course.alloc)?)?;
     match last_reply(asked.as_slice()) {
@@ -74,19 +75,20 @@ fn begin_turn<S: SharedStore, R: Wait, G: Gate>(
     }
 }
 
-/// Lists the pods, takes marked ones away, and makes the others ready. A refusal is passed over. Answers whether there was
-/// anything to do.
+/// One more turn: lists the pods, takes marked ones away, and makes the others ready. A refusal is passed over. Answers whether
+/// there was anything to do.
 #[tactic(auto, using(crate::proofs::Standing::turning_next))]
 fn make_turn<S: SharedStore, R: Wait, G: Gate>(
     rt: &R,
     field: &Field<'_, S, G>,
     caller: &mut S::Caller,
     asked: &mut Vec<Asked>,
+    turns: u64,
 ) -> Result<bool, Memory>
-    requires { IsTurning S.gave [] asked.old.items }
-    ensures { OnOk result (HasTurned S.gave [] asked.new.items) }
+    requires { IsTurning S.gave turns [] asked.old.items }
+    ensures { OnOk result (IsTurning S.gave (turns + 1) [] asked.new.items) }
 {
-    let requests = begin_turn(rt, field, caller, asked)?;
+    let requests = begin_turn(rt, field, caller, asked, turns)?;
     let is_busy = !requests.is_empty();
     for request in requests {
         field.ask(rt, caller, asked, request)?;
@@ -121,16 +123,16 @@ pub(crate) fn run_kubelet<S: SharedStore, R: Wait, G: Gate>(
     field: &Field<'_, S, G>,
     mut caller: S::Caller,
 ) -> Result<Vec<Asked>, Memory>
-    ensures { IfOk result (λ asked. HasTurned S.gave [] asked.items) }
+    ensures { IfOk result (λ asked. HasTurned S.gave field.now.course.now.spec.rounds asked.items) }
 {
     let key = key_of_set(field.course.alloc)?;
     let mut asked = Vec::new(field.course.alloc);
-    make_turn(rt, field, &mut caller, &mut asked)?;
-    for _ in 1..field.course.spec.rounds.saturating_mul(TURNS) {
+    make_turn(rt, field, &mut caller, &mut asked, 0)?;
+    for turns in 1..field.course.spec.rounds.saturating_mul(TURNS) {
         if field.course.has_ended() {
-            break;
+            return Ok(asked);
         }
-        if !make_turn(rt, field, &mut caller, &mut asked)? {
+        if !make_turn(rt, field, &mut caller, &mut asked, turns)? {
             wait_for_news(rt, field, &mut caller, &key)?;
         }
     }

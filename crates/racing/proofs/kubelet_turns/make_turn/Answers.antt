@@ -1,11 +1,12 @@
-use Rattle.std.proofs.Common.{◌≡◌, ◌∷◌, subst, rules}
+use Rattle.std.proofs.Common.{◌≡◌, ◌+◌, ◌∷◌, subst, rules}
 use Rattle.std.specs.Vec.Iter.{into_iter_items}
-use Rattle.racing.specs.Parts.{HasTurned}
+use Rattle.racing.specs.Parts.{IsTurning}
 use Rattle.racing.proofs.Standing.{turning_next}
 use Rattle.racing.proofs.kubelet_turns.make_turn.Goals as goal
 
 pub loop-request-preserved : goal.loop-request-preserved
 loop-request-preserved g c =
     let gave = g.S.SharedStore.gave in
+    let turns = c.args.turns + 1 in
     let steps : into_iter_items c.loop-request.request-iterator ≡ c.in-Some.request ∷ into_iter_items c.next.new.self = search rules in
-    turning_next gave (into_iter_items c.next.new.self) c.in-Some.request _ _ (subst (λ l. HasTurned gave l c.loop-request.asked.items) steps c.loop-request.invariant) c.in_ok-ask.ensures
+    turning_next gave turns (into_iter_items c.next.new.self) c.in-Some.request _ _ (subst (λ l. IsTurning gave turns l c.loop-request.asked.items) steps c.loop-request.invariant) c.in_ok-ask.ensures

@@ -1,7 +1,8 @@
+use Rattle.std.specs.Prelude.{◌+◌}
 use Rattle.std.specs.Vec.Iter.{into_iter_items}
-use Rattle.racing.specs.Parts.{HasTurned}
+use Rattle.racing.specs.Parts.{IsTurning}
 use Rattle.racing.proofs.kubelet_turns.make_turn.Given as goal
 
 -- what is left of its turn
 abbrev pub invariant-loop-request : goal.invariant-loop-request
-invariant-loop-request g l = HasTurned g.S.SharedStore.gave (into_iter_items l.request-iterator) l.asked.items
+invariant-loop-request g l = IsTurning g.S.SharedStore.gave (l.fn.turns + 1) (into_iter_items l.request-iterator) l.asked.items

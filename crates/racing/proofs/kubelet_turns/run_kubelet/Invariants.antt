@@ -1,6 +1,6 @@
 use Rattle.std.proofs.Common.{[]}
-use Rattle.racing.specs.Parts.{HasTurned}
+use Rattle.racing.specs.Parts.{IsTurning}
 use Rattle.racing.proofs.kubelet_turns.run_kubelet.Given as goal
 
-abbrev pub invariant-loop : goal.invariant-loop
-invariant-loop g l = HasTurned g.S.SharedStore.gave [] l.asked.items
+abbrev pub invariant-loop-turns : goal.invariant-loop-turns
+invariant-loop-turns g l = IsTurning g.S.SharedStore.gave l.turns [] l.asked.items
