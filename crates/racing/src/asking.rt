@@ -21,12 +21,19 @@ fn ask_write<S: SharedStore, R: Wait, G: Gate>(
     ensures { IfOk result (λ r. S.gave request r.0 r.1) }
 {
     let mut ticket = store.submit(rt, caller, request, gate)?;
+    let mut seen = store.seen(caller);
     for _ in rt.forever() {
         if let Some(reply) = store.try_reply(&mut ticket, caller) {
             let place = store.place(&ticket);
             return Ok((reply, place));
         }
-        yield_now();
+        let now = store.seen(caller);
+        // A try that raised the frontier is made again at once: there is something to wait for only where the next number
+        // is a hole.
+        if now == seen {
+            yield_now();
+        }
+        seen = now;
     }
     unreachable!()
 }
