@@ -18,8 +18,8 @@ use Rattle.version_map.specs.Forgotten.{AreForgotten, AreFree, IsRemoval}
 use Rattle.version_map.specs.Index.{Index}
 use Rattle.version_map.specs.Named.{both}
 use Rattle.version_map.specs.Records.{rows_of}
-use Rattle.version_map.specs.Rows.{AreBelow, Chain, Row, last_state, state_to}
-use Rattle.version_map.specs.Versions.{IsAbove, Versions, count, rows_at, state_at}
+use Rattle.version_map.specs.Rows.{AreBelow, Chain, Row, state_to}
+use Rattle.version_map.specs.Versions.{IsAbove, RowsByKey, Versions, count, rows_at, state_at, value}
 use Rattle.version_map.specs.Consistent.{AreListed, HaveSlots, AreStill, Chains, IsOwned, IsConsistent, KeySlots, by_key, numbers, rows_in, rows_there, waiting}
 use Rattle.version_map.proofs.Chains.{count_written, get_rows, own_key, rows_are, same_key, some_rows, swap}
 use Rattle.version_map.proofs.Lists.{get_state}
@@ -229,14 +229,14 @@ module _ {X : Type 0} (ps : KeySlots) (cs : Chains X) (ss : List Superseding) (m
   free_forgotten free are =
       subst (λ n. AreFree (remove ps k) n (free ++ p ∷ [])) (sym (as_many cs (set cs p d) p d within_cs refl)) (free_more ps k p (length cs) there within_cs consistent.slotted.apart free are)
 
-  pub listed_forgotten : (i j : Index) → i.all ≡ ps → j.all ≡ remove ps k → ((q : Key) → q ≢ k → get j.listed q ≡ get i.listed q) → AreListed i cs → AreListed j (set cs p d)
-  listed_forgotten i j old new others listed q none = ap (λ m. last_state (rows_in m (set cs p d) q)) new ∙ by (eq_by_cmp key_cmp q k) refl
+  pub listed_forgotten : (i j : Index) → i.all ≡ ps → j.all ≡ remove ps k → ((q : Key) → q ≢ k → get j.listed q ≡ get i.listed q) → (since : ℕ) → AreListed since i cs → AreListed since j (set cs p d)
+  listed_forgotten i j old new others since listed q none n from = ap (λ m. state_to n (rows_in m (set cs p d) q)) new ∙ by (eq_by_cmp key_cmp q k) refl
     where
-      by : (b : Bool) → eq_by_cmp key_cmp q k ≡ b → last_state (rows_in (remove ps k) (set cs p d) q) ≡ None
-      by true tie = ap last_state (gone_here q tie)
+      by : (b : Bool) → eq_by_cmp key_cmp q k ≡ b → state_to n (rows_in (remove ps k) (set cs p d) q) ≡ None
+      by true tie = ap (state_to n) (gone_here q tie)
       by false other =
-          ap last_state (gone_elsewhere q other) ∙ ap (λ m. last_state (rows_in m cs q)) (sym old)
-          ∙ listed q (sym (others q (λ same. let both : true ≡ false = sym (ap (λ x. eq_by_cmp key_cmp x k) same ∙ own_key k) ∙ other in cc)) ∙ none)
+          ap (state_to n) (gone_elsewhere q other) ∙ ap (λ m. state_to n (rows_in m cs q)) (sym old)
+          ∙ listed q (sym (others q (λ same. let both : true ≡ false = sym (ap (λ x. eq_by_cmp key_cmp x k) same ∙ own_key k) ∙ other in cc)) ∙ none) n from
 
   pub forgotten_view : (v : Versions X) (floor : ℕ) → seen (by_key ps cs) floor None ≡ v → AreForgotten v (seen (by_key (remove ps k) (set cs p d)) floor None)
   forgotten_view v floor view = subst (λ u. AreForgotten u (seen (by_key (remove ps k) (set cs p d)) floor None)) view (record {
@@ -287,6 +287,11 @@ module _ {X : Type 0} where
       by : (b : Bool) → option_and_then (λ (r : Row X). r.1) (cond b (Some (removal.0, None)) None) ≡ None
       by true = refl
       by false = refl
+
+  -- so a key that has a removal and nothing else has no value, at any number
+  pub removal_value : (ps : KeySlots) (cs : Chains X) (m : RowsByKey X) (k : Key) (p : ℕ) → by_key ps cs ≡ m → get ps k ≡ Some p → IsRemoval (rows_there cs p) → (n : ℕ) → value m n k ≡ None
+  removal_value ps cs m k p is there removal n =
+      ap (λ (rs : RowsByKey X). value rs n k) (sym is) ∙ ap (state_to n) (rows_are ps cs k ∙ rows_of_key ps cs k p there) ∙ nothing_said n (rows_there cs p) removal
 
   pub forgotten_readings : (v w : Versions X) (m : ℕ) → AreForgotten v w → state_at w.rows m ≡ state_at v.rows m
   forgotten_readings v w m forgotten = same_map key_cmp_total exact_keys _ _ (λ q. get_state w.rows m q ∙ by q (forgotten.rows q) ∙ sym (get_state v.rows m q))

@@ -7,7 +7,7 @@ use Rattle.std.specs.FinMap as finite
 use Rattle.std.specs.FinMap.{entries}
 use Rattle.objects.specs.declared.key.Key.{Key}
 use Rattle.version_map.specs.declared.map.Superseding.{Superseding}
-use Rattle.version_map.specs.Rows.{Chain, Row, last_state, state_to}
+use Rattle.version_map.specs.Rows.{Chain, Row, state_to}
 use Rattle.version_map.specs.Versions.{RowsByKey, count}
 use Rattle.version_map.specs.Index.{Index}
 pub use Rattle.version_map.specs.Named.{KeySlots}
@@ -77,9 +77,9 @@ HasRoom ps cs p = IsOwned ps p × (is_roomy cs p ≡ true)
 abbrev pub IsListed : Index → ℕ → Type 0
 IsListed i p = (k : Key) × (finite.get i.all k ≡ Some p) × (finite.get i.listed k ≡ Some p)
 
--- a key that is not listed has no value
-abbrev pub AreListed : {X : Type 0} → Index → Chains X → Type 0
-AreListed i cs = (k : Key) → finite.get i.listed k ≡ None → last_state (rows_in i.all cs k) ≡ None
+-- from a number on, a key that is not listed has no value
+abbrev pub AreListed : {X : Type 0} → ℕ → Index → Chains X → Type 0
+AreListed since i cs = (k : Key) → finite.get i.listed k ≡ None → (n : ℕ) → since ≤ n → state_to n (rows_in i.all cs k) ≡ None
 
 -- each key has a slot of its own, where a chain stands, and a chain with rows has a key
 pub record HaveSlots {X : Type 0} (ps : KeySlots) (cs : Chains X) : Type 0 where

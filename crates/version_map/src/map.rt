@@ -1,4 +1,4 @@
-ghost use Rattle.std.specs.Prelude.{◌≡◌, ◌≤◌, ◌<◌, ◌+◌, ◌++◌, ◌∷◌, [], ℕ, is_some, length, option_and_then, true, false, None, Some, IsTrue, IfOk, IfSome, IsSome, OnOk, OnErr, option_map, map, if◌then◌else◌};
+ghost use Rattle.std.specs.Prelude.{◌≡◌, ◌≢◌, ◌≤◌, ◌<◌, ◌+◌, ◌++◌, ◌∷◌, [], ℕ, is_some, length, option_and_then, true, false, None, Some, IsTrue, IfOk, IfSome, IsSome, OnOk, OnErr, option_map, map, if◌then◌else◌};
 ghost use Rattle.std.specs.Option.{option_copied};
 ghost use Rattle.std.specs.VecDeque.{deque_capacity, deque_len};
 ghost use Rattle.std.specs.FinMap as finite;
@@ -50,6 +50,8 @@ pub struct VersionMap<V> {
     floor: u64,
     // The slot of the key that a push has room for.
     room: Option<usize>,
+    // From this number on no key with a tombstone has a value.
+    gone_since: u64,
     alloc: Global,
 }
 
@@ -68,7 +70,7 @@ impl<V> Model for VersionMap<V> {
 
     ghost invariant = { λ s. IsConsistent s.index.all s.chains.items s.superseding.items s.count
         × IfSome s.room (HasRoom s.index.all s.chains.items)
-        × AreListed s.index s.chains.items × IfSome s.room (IsListed s.index)
+        × AreListed s.gone_since s.index s.chains.items × IfSome s.room (IsListed s.index)
         × (IsSome s.room → (deque_len s.superseding < deque_capacity s.superseding) × (s.count + 1 < 2 ^ 64))
         × AreFree s.index.all (length s.chains.items) s.free.items };
 }
@@ -87,6 +89,7 @@ impl<V: Drop> VersionMap<V> {
             count: 0,
             floor: 0,
             room: None,
+            gone_since: 0,
             alloc,
         }
     }
@@ -108,22 +111,18 @@ impl<V: Drop> VersionMap<V> {
         self.chains[slot].at(number)
     }
 
-    /// The values of a kind in a namespace at a number, from the floor on, in byte order of their names.
+    /// The values of a kind in a namespace at a number, from the floor on, in byte order of their names. It walks over
+    /// tombstones only below the newest removal that `set_tombstone` was called for.
     pub fn list_at(&self, kind: Kind, namespace: &Text, number: u64) -> Result<Vec<&V>, Memory>
         requires { self.now.floor ≤ number }
         ensures { IfOk result (λ values. map (λ v. v.now) values.items ≡ collection (state_at self.now.rows number) kind namespace.now) }
     {
+        if self.gone_since <= number {
+            let listed = self.index.of_listed(self.alloc, kind, namespace)?;
+            return Ok(values_at(self.alloc, &self.chains, listed, number)?);
+        }
         let slots = self.index.of(self.alloc, kind, namespace)?;
         Ok(values_at(self.alloc, &self.chains, slots, number)?)
-    }
-
-    /// The same at a number that no version is above. It does not walk over tombstones.
-    pub fn list_newest(&self, kind: Kind, namespace: &Text, number: u64) -> Result<Vec<&V>, Memory>
-        requires { IsAbove self.now.rows (number + 1) }
-        ensures { IfOk result (λ values. map (λ v. v.now) values.items ≡ collection (state_at self.now.rows number) kind namespace.now) }
-    {
-        let listed = self.index.of_listed(self.alloc, kind, namespace)?;
-        Ok(values_at(self.alloc, &self.chains, listed, number)?)
     }
 
     /// Gives a key that has no value a tombstone, until room is made for it again. All readings stay. The key stays listed
@@ -131,42 +130,49 @@ impl<V: Drop> VersionMap<V> {
     pub fn set_tombstone(&mut self, key: &Key)
         ensures { self.new ≡ self.old }
     {
-        if self.has_value(key) {
+        let Some(number) = self.removed_at(key) else {
             return;
-        }
+        };
         match self.room {
             Some(_) => {}
             None => {
                 self.index.set_tombstone(self.alloc, key);
-                // Where the note finds no memory the key is not forgotten, which changes no reading.
-                let _ = self.note_removal(key);
+                self.gone_since = self.gone_since.max(number);
+                self.note_removal(key);
             }
         }
     }
 
-    /// Notes a key with a tombstone, so that it can be forgotten later with no more memory.
-    fn note_removal(&mut self, key: &Key) -> Result<(), AllocError>
+    /// From which number on the key has no value; nothing where it has one now.
+    fn removed_at(&self, key: &Key) -> Option<u64>
+        ensures { IfSome result (λ since. (n : ℕ) → since ≤ n → value self.now.rows n key.now ≡ None) }
+    {
+        match self.index.get(key) {
+            Some(slot) => self.chains[slot].removed_at(),
+            None => Some(0),
+        }
+    }
+
+    /// Notes a key that was removed, so that it can be hidden or forgotten once the floor has come up to the removal. Where
+    /// memory runs out it is not, which changes no reading.
+    pub fn note_removal(&mut self, key: &Key)
         ensures { self.new ≡ self.old }
     {
-        let Some((number, None)) = self.newest(key) else {
-            return Ok(());
-        };
+        if let Some((number, None)) = self.newest(key) {
+            let _ = self.enqueue_removal(number, key);
+        }
+    }
+
+    /// Puts a removal into the queue, with room for the slot that a forgotten key leaves.
+    fn enqueue_removal(&mut self, number: u64, key: &Key) -> Result<(), AllocError>
+        ensures { self.new ≡ self.old }
+    {
         self.removed.reserve(1)?;
         self.free.reserve(self.removed.len())?;
         self.free.reserve(1)?;
         let key = key.clone()?;
         self.removed.push_back_reserved(Removal { number, key });
         Ok(())
-    }
-
-    /// Whether the key has a value now.
-    fn has_value(&self, key: &Key) -> bool
-        ensures { result ≡ is_some (option_and_then (λ row. row.1) (newest self.now.rows key.now)) }
-    {
-        match self.newest(key) {
-            Some((_, value)) => value.is_some(),
-            None => false,
-        }
     }
 
     /// Makes room for one push of that key, instead of any room that was made before. All readings stay; where memory runs
@@ -266,21 +272,55 @@ impl<V: Drop> VersionMap<V> {
         }
     }
 
-    /// Takes the first removal of the queue, if its number is at most the floor. Answers whether it did.
+    /// Forgets the next key that was noted, if its removal is not above the floor. Answers whether it was.
     fn forget_next(&mut self) -> bool
         ensures { AreForgotten self.old self.new }
     {
-        let Some(next) = self.removed.front() else {
-            return false;
-        };
-        if self.floor < next.number {
-            return false;
-        }
-        let Some(next) = self.removed.pop_front() else {
+        let Some(next) = self.next_removal() else {
             return false;
         };
         self.forget(&next.key);
         true
+    }
+
+    /// Takes the first removal of the queue, if its number is at most the floor.
+    fn next_removal(&mut self) -> Option<Removal>
+        ensures { self.new ≡ self.old }
+    {
+        if self.floor < self.removed.front()?.number {
+            return None;
+        }
+        self.removed.pop_front()
+    }
+
+    /// Gives a tombstone to the keys that were noted and have nothing but a removal that is not above the floor, so that no
+    /// list walks over them. The key that room is made for stays listed, and so does one that finds no memory for its
+    /// tombstone. Its time is that of the noted keys that have come up to the floor, each of which is looked at once.
+    pub fn hide_removed(&mut self)
+        ensures { self.new ≡ self.old }
+    {
+        for _ in 0..self.removed.len() {
+            let Some(next) = self.next_removal() else {
+                return;
+            };
+            self.hide(&next.key);
+        }
+    }
+
+    /// Gives the key a tombstone if it has a removal and nothing else, unless room is made for its push.
+    fn hide(&mut self, key: &Key)
+        ensures { self.new ≡ self.old }
+    {
+        let Some(slot) = self.index.get(key) else {
+            return;
+        };
+        if has_room(self.room, slot) {
+            return;
+        }
+        if !self.chains[slot].is_removal() {
+            return;
+        }
+        self.index.set_tombstone(self.alloc, key);
     }
 
     /// Forgets the key if it has a removal and nothing else, unless room is made for a push.
@@ -346,6 +386,16 @@ fn version_at<V: Drop>(chains: &[Chain<V>], slot: usize, number: u64) -> Option<
     ensures { option_copied result ≡ state_to number (rows_there chains.now slot) }
 {
     chains.get(slot)?.at(number)
+}
+
+/// Whether the room for a push is in that slot.
+fn has_room(room: Option<usize>, slot: usize) -> bool
+    ensures { result ≡ false → IfSome room (λ p. p ≢ slot) }
+{
+    match room {
+        Some(room) => room == slot,
+        None => false,
+    }
 }
 
 /// Puts a version into the queue, unless it is the first of its key.

@@ -39,7 +39,7 @@ invariant_of-self g c =
     let capacity = c.pop_front.ensures.capacity in (
       consistent_dropped c.self.inside.index.all c.self.inside.chains.items c.self.inside.superseding.items c.pop_front.new.self.items c.self.inside.count c.in-Some-pop_front.next c.self.invariant.0 c.in-Some-pop_front.ensures.items c.index_mut-chain.result.now c.drop_first.new.self c.index_mut-chain.ensures.value c.drop_first.ensures.rows,
       room_dropped c.self.inside.index.all c.self.inside.chains.items c.self.inside.superseding.items c.pop_front.new.self.items c.self.inside.count c.in-Some-pop_front.next c.self.invariant.0 c.in-Some-pop_front.ensures.items c.index_mut-chain.result.now c.drop_first.new.self c.index_mut-chain.ensures.value c.drop_first.ensures.room c.self.inside.room c.self.invariant.1,
-      listed_dropped c.self.inside.index c.self.inside.chains.items c.self.inside.superseding.items c.pop_front.new.self.items c.self.inside.count c.in-Some-pop_front.next c.self.invariant.0 c.in-Some-pop_front.ensures.items
+      listed_dropped _ c.self.inside.index c.self.inside.chains.items c.self.inside.superseding.items c.pop_front.new.self.items c.self.inside.count c.in-Some-pop_front.next c.self.invariant.0 c.in-Some-pop_front.ensures.items
           c.index_mut-chain.result.now c.drop_first.new.self c.index_mut-chain.ensures.value c.drop_first.ensures.rows c.self.invariant.2,
       c.self.invariant.3,
       λ some. (

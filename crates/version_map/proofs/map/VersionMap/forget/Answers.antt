@@ -36,7 +36,7 @@ invariant_of-self-2 g c =
           (removal_there c.self.inside.index.all c.self.inside.chains.items c.args.key.now c.in-Some.slot c.index.result.now c.self.invariant.0.slotted (sym c.in-Some.ensures) c.index.ensures (c.is_removal.ensures c.if-not-is_removal.false)) c.new.ensures.rows),
       subst (λ r. IfSome r (HasRoom c.forget.new.self.all ds)) (sym none) tt,
       listed_forgotten c.self.inside.index.all c.self.inside.chains.items c.self.inside.superseding.items c.self.inside.count c.in-Some.slot c.args.key.now c.new.result c.self.invariant.0 (sym c.in-Some.ensures)
-          (removal_there c.self.inside.index.all c.self.inside.chains.items c.args.key.now c.in-Some.slot c.index.result.now c.self.invariant.0.slotted (sym c.in-Some.ensures) c.index.ensures (c.is_removal.ensures c.if-not-is_removal.false)) c.new.ensures.rows c.self.inside.index c.forget.new.self refl c.forget.ensures.all c.forget.ensures.others c.self.invariant.2,
+          (removal_there c.self.inside.index.all c.self.inside.chains.items c.args.key.now c.in-Some.slot c.index.result.now c.self.invariant.0.slotted (sym c.in-Some.ensures) c.index.ensures (c.is_removal.ensures c.if-not-is_removal.false)) c.new.ensures.rows c.self.inside.index c.forget.new.self refl c.forget.ensures.all c.forget.ensures.others _ c.self.invariant.2,
       subst (λ r. IfSome r (IsListed c.forget.new.self)) (sym none) tt,
       λ some. absurd (true≢false (sym some ∙ ap is_some none)),
       subst (AreFree c.forget.new.self.all (length ds)) (sym (c.push_back_reserved.ensures.items ∙ ap (λ xs. xs ++ c.in-Some.slot ∷ []) c.reserve.ensures.items))

@@ -9,7 +9,7 @@ invariant_of-self-in_err-slot g c =
     let capacity = c.reserve.ensures.capacity in (
       still_consistent _ _ _ _ _ _ _ c.reserve_for.ensures.still c.reserve_for.ensures.slotted c.reserve.ensures.items c.self.invariant.0,
       still_room _ _ _ _ c.self.inside.room c.reserve_for.ensures.still c.self.invariant.1,
-      listed_still _ _ _ _ c.reserve_for.ensures.still.by_key c.reserve_for.ensures.kept c.self.invariant.2,
+      listed_still _ _ _ _ _ c.reserve_for.ensures.still.by_key c.reserve_for.ensures.kept c.self.invariant.2,
       room_listed _ _ c.self.inside.room c.reserve_for.ensures.still.keys c.reserve_for.ensures.kept c.self.invariant.3,
       λ some. (let held = (c.self.invariant.4 some).0 in omega (arith, len, capacity, held), (c.self.invariant.4 some).1),
       c.reserve_for.ensures.free,
@@ -27,7 +27,7 @@ invariant_of-self-2 g c =
     let fits = c.self.ranges.1 in (
       still_consistent _ _ _ _ _ _ _ c.reserve_for.ensures.still c.reserve_for.ensures.slotted c.reserve.ensures.items c.self.invariant.0,
       ((c.args.key.now, c.in_ok-slot.ensures.room.0), c.in_ok-slot.ensures.room.1),
-      listed_still _ _ _ _ c.reserve_for.ensures.still.by_key c.reserve_for.ensures.kept c.self.invariant.2,
+      listed_still _ _ _ _ _ c.reserve_for.ensures.still.by_key c.reserve_for.ensures.kept c.self.invariant.2,
       (c.args.key.now, c.in_ok-slot.ensures.room.0, c.in_ok-slot.ensures.listed),
       λ some. (omega (arith, more), omega (arith, largest, fits)),
       c.reserve_for.ensures.free,

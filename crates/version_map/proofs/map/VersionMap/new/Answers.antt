@@ -9,7 +9,7 @@ invariant_of-result g c =
     let all = ap (λ i. i.all) c.new.ensures in (
       none_consistent _ _ _ all c.new-2.ensures.items c.new-3.ensures.items,
       tt,
-      none_listed c.new.result c.new-2.result.items c.new.ensures,
+      none_listed 0 c.new.result c.new-2.result.items c.new.ensures,
       tt,
       λ some. absurd (true≢false (sym some)),
       subst (AreFree c.new.result.all (length c.new-2.result.items)) (sym c.new-5.ensures.items) tt,

@@ -25,7 +25,7 @@ invariant_of-self g c = (
       c.self.inside.superseding.items c.enqueue.new.superseding.items c.self.inside.count _ (ap (λ v. v.rows) c.self.view_is) c.self.invariant.0 c.requires.above c.push.ensures
       (c.enqueue.ensures ∙ ap (λ b. if b then c.self.inside.superseding.items else c.self.inside.superseding.items ++ (record { number = c.args.number; slot = c.in-Some.slot }) ∷ []) c.is_empty-is_first.ensures),
   subst (λ r. IfSome r (HasRoom c.self.inside.index.all (set c.self.inside.chains.items c.in-Some.slot c.push.new.self))) (sym c.in-Some.ensures.after) tt,
-  listed_pushed c.self.inside.index c.self.inside.chains.items c.in-Some.slot c.push.new.self c.self.invariant.0.slotted
+  listed_pushed _ c.self.inside.index c.self.inside.chains.items c.in-Some.slot c.push.new.self c.self.invariant.0.slotted
       (subst (λ r. IfSome r (IsListed c.self.inside.index)) (sym c.in-Some.ensures.value) c.self.invariant.3) c.self.invariant.2,
   subst (λ r. IfSome r (IsListed c.self.inside.index)) (sym c.in-Some.ensures.after) tt,
   λ some. absurd (true≢false (sym some ∙ ap is_some c.in-Some.ensures.after)),
