@@ -117,19 +117,24 @@ impl Shard {
         self.versions.make_room(key)
     }
 
-    /// Adds a record, for whose key room was made. It takes no memory.
+    /// Adds a record, for whose key room was made. It is refused no memory.
     pub fn push(&mut self, number: u64, version: Version)
         requires room { self.old.room ≡ Some version.key }
         requires above { IsAbove self.old.records number }
         ensures { self.new ≡ pushed self.old number version }
     {
+        let is_removal = version.state.is_none();
         self.versions.push(number, version.state);
+        if is_removal {
+            // Where this finds no memory, lists walk over the key after compactions too.
+            self.versions.note_removal(&version.key);
+        }
     }
 
     /// Raises the floor to a number, and drops what is read no more: of each key's records up to it, all but the last.
     /// A number below the floor changes nothing. What each key is now stays, and so do all readings from the floor on.
-    /// It takes no memory, and its time is that of the records dropped and of those that have come up to the floor, each
-    /// of which is looked at once.
+    /// It is refused no memory, and its time is that of the records dropped and of those that have come up to the floor,
+    /// each of which is looked at once. Lists walk no more over keys that only a removal is left of.
     pub fn compact(&mut self, number: u64)
         ensures raised { self.new ≡ raised self.old number }
         ensures newest { (key : Key) → newest self.new.records key ≡ newest self.old.records key }
@@ -137,6 +142,7 @@ impl Shard {
         ensures values { (m : ℕ) (key : Key) → self.new.floor ≤ m → value self.new.records m key ≡ value self.old.records m key }
     {
         self.versions.compact(number);
+        self.versions.hide_removed();
     }
 
     /// The number from which on the shard can be read.

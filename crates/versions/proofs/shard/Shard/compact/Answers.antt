@@ -1,26 +1,33 @@
-use Rattle.std.proofs.Common.{sym, ap, ◌∙◌}
+use Rattle.std.proofs.Common.{◌≤◌, sym, ap, subst, ◌∙◌}
+use Rattle.version_map.specs.Versions as versions
 use Rattle.versions.specs.Records.{newest, state_at, value}
 use Rattle.versions.specs.Shard.{raised}
 use Rattle.versions.proofs.Held.{newest_is, raised_are, raised_is, state_is, value_is}
 use Rattle.versions.proofs.shard.Shard.compact.Goals as goal
 
 pub invariant_of-self : goal.invariant_of-self
-invariant_of-self c = raised_are c.self.inside.versions c.self.invariant c.args.number c.compact.new.self c.compact.ensures.raised
+invariant_of-self c = raised_are c.self.inside.versions c.self.invariant c.args.number c.hide_removed.new.self (c.hide_removed.ensures ∙ c.compact.ensures.raised)
 
 pub returns-clause-raised : goal.returns-clause-raised
-returns-clause-raised c = raised_is c.self.inside.versions c.self.invariant c.args.number c.compact.new.self c.compact.ensures.raised ∙ ap (λ s. raised s c.args.number) c.self.view_is
+returns-clause-raised c =
+    raised_is c.self.inside.versions c.self.invariant c.args.number c.hide_removed.new.self (c.hide_removed.ensures ∙ c.compact.ensures.raised) ∙ ap (λ s. raised s c.args.number) c.self.view_is
 
 pub returns-clause-newest : goal.returns-clause-newest
 returns-clause-newest c key =
-    newest_is c.compact.new.self.rows _ key (raised_are c.self.inside.versions c.self.invariant c.args.number c.compact.new.self c.compact.ensures.raised) ∙ c.compact.ensures.newest key
+    newest_is c.hide_removed.new.self.rows _ key (raised_are c.self.inside.versions c.self.invariant c.args.number c.hide_removed.new.self (c.hide_removed.ensures ∙ c.compact.ensures.raised))
+    ∙ ap (λ v. versions.newest v.rows key) c.hide_removed.ensures ∙ c.compact.ensures.newest key
     ∙ sym (newest_is c.self.inside.versions.rows _ key c.self.invariant) ∙ ap (λ s. newest s.records key) c.self.view_is
 
 pub returns-clause-readings : goal.returns-clause-readings
 returns-clause-readings c m from =
-    state_is c.compact.new.self.rows _ m (raised_are c.self.inside.versions c.self.invariant c.args.number c.compact.new.self c.compact.ensures.raised) ∙ c.compact.ensures.readings m from
+    let after = c.hide_removed.ensures in
+    state_is c.hide_removed.new.self.rows _ m (raised_are c.self.inside.versions c.self.invariant c.args.number c.hide_removed.new.self (after ∙ c.compact.ensures.raised))
+    ∙ ap (λ v. versions.state_at v.rows m) after ∙ c.compact.ensures.readings m (subst (λ v. v.floor ≤ m) after from)
     ∙ sym (state_is c.self.inside.versions.rows _ m c.self.invariant) ∙ ap (λ s. state_at s.records m) c.self.view_is
 
 pub returns-clause-values : goal.returns-clause-values
 returns-clause-values c m key from =
-    value_is c.compact.new.self.rows _ m key (raised_are c.self.inside.versions c.self.invariant c.args.number c.compact.new.self c.compact.ensures.raised) ∙ c.compact.ensures.values m key from
+    let after = c.hide_removed.ensures in
+    value_is c.hide_removed.new.self.rows _ m key (raised_are c.self.inside.versions c.self.invariant c.args.number c.hide_removed.new.self (after ∙ c.compact.ensures.raised))
+    ∙ ap (λ v. versions.value v.rows m key) after ∙ c.compact.ensures.values m key (subst (λ v. v.floor ≤ m) after from)
     ∙ sym (value_is c.self.inside.versions.rows _ m key c.self.invariant) ∙ ap (λ s. value s.records m key) c.self.view_is
