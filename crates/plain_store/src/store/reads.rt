@@ -85,7 +85,7 @@ impl Plain {
     fn list_now(&self, kind: Kind, namespace: &Text) -> Result<StoredReply<'_>, Memory>
         ensures { IfOk result (λ stored. reply_stored stored ≡ Listed (collection self.now.objects kind namespace.now) self.now.counter) }
     {
-        let objects = self.versions.list_newest(kind, namespace, self.counter)?;
+        let objects = self.versions.list_at(kind, namespace, self.counter)?;
         Ok(StoredReply::Listed {
             objects,
             revision: self.counter,
