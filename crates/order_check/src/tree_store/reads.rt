@@ -104,7 +104,7 @@ impl Trees {
     fn list_now(&self, kind: Kind, namespace: &Text) -> Result<Vec<&Object>, Memory>
         ensures { IfOk result (λ objects. map (λ o. o.now) objects.items ≡ collection self.now.objects kind namespace.now) }
     {
-        self.versions.list_newest(kind, namespace, self.counter)
+        self.versions.list_at(kind, namespace, self.counter)
     }
 
     /// The objects of the kind in the namespace as they were at a number that can be read.
