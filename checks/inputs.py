@@ -113,6 +113,23 @@ def forgotten(lists_first, count=NAMES):
     return "".join([created("y"), *parts])
 
 
+def whole(request, steps):
+    """A request of one caller, from its call to its reply; a write is visible at once."""
+    call = f'{{"caller":1,"event":"call","request":{request.strip()}}}\n'
+    return "".join([call, *(event(word, 1) for word in steps), RAISE if "publish" in steps else "", event("reply", 1)])
+
+
+def gone(lists_first, count=NAMES):
+    """A script of pods that are created, removed and compacted away, in front of as many lists or behind them."""
+    keys = [f'"kind":"Pod","name":"x{number}"' for number in range(count)]
+    writes = [whole(created(f"x{number}"), STEPS["write"]) for number in range(count)]
+    writes += [whole(f'{{"do":"delete",{key}}}', STEPS["write"]) for key in keys]
+    lists = [whole('{"do":"list","kind":"Pod"}', ("read", "part"))] * count
+    compaction = whole(f'{{"do":"compact","resourceVersion":"{len(writes)}"}}', STEPS["compact"])
+    parts = [*lists, *writes, compaction] if lists_first else [*writes, compaction, *lists]
+    return f'{{"capacity":{4 * count},"shards":1}}\n' + "".join(parts)
+
+
 def creations(count):
     return "".join(created(f"x{number:06}") for number in range(count))
 
