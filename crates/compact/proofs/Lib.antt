@@ -1,0 +1,13 @@
+mod Lists
+mod Lanes
+mod PlainRuns
+mod Passing
+mod Reading
+mod Entries
+mod Noting
+mod Search
+mod Last
+mod Moved
+mod Items
+mod Values
+mod Maps

@@ -1,0 +1,11 @@
+-- The maps of a line whose members are noted.
+use Rattle.std.specs.Prelude.{List, ℕ, bytes_eq, codes, if◌then◌else◌}
+use Rattle.compact.specs.declared.level.Level.{Level}
+use Rattle.compact.specs.declared.level.Level.TheVariants.{Line, Object, Metadata, Other}
+
+-- where the member of that key stands, of a value that stands there
+abbrev pub below : Level → List ℕ → Level
+below Line key = if bytes_eq key (codes "object") then Object else Other
+below Object key = if bytes_eq key (codes "metadata") then Metadata else Other
+below Metadata key = Other
+below Other key = Other

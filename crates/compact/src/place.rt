@@ -1,0 +1,67 @@
+// Where a member goes among those before it.
+ghost use Rattle.std.specs.Prelude.{◌≡◌, ◌++◌, ℕ, List, length, IfSome};
+ghost use Rattle.serde_json.specs.Data.{Data, Members};
+ghost use Rattle.json.specs.Print.{quoted, escape};
+ghost use Rattle.compact.specs.Ended.{ended_text, ended_member};
+ghost use Rattle.compact.specs.Notes.{entries_of, HavePlainKeys};
+ghost use Rattle.compact.specs.Places.{HasSlot, HasLast, HasPlace};
+
+use crate::entry::Entry;
+use std::cmp::Ordering;
+
+/// The index and the place of a member, unless one before it has its key. Most often none is above it: that is told by the
+/// last of them alone.
+#[inline(always)]
+pub(crate) fn place_of(
+    text: &[u8],
+    entries: &[Entry],
+    at: usize,
+    key: usize,
+) -> Option<(usize, usize)>
+    ensures { (ms : Members) (k : List ℕ) (d : Data) (rest : List ℕ) → text.now ≡ ended_text ms ++ (ended_member k d ++ rest) → entries_of ms ≡ entries.now → HavePlainKeys ms → escape k ≡ k → HasLast ms
+        → length (ended_text ms) ≡ at → length (quoted k) ≡ key → IfSome result (λ n. HasPlace k d ms n.0 n.1) }
+{
+    let Some((last, _before)) = entries.split_last() else {
+        return Some((0, at));
+    };
+    let new = key_at(text, at, key)?;
+    let other = key_at(text, at.checked_sub(last.size)?, last.key)?;
+    match new.cmp(other) {
+        Ordering::Less => slot_of(text, entries, at, key),
+        Ordering::Equal => None,
+        Ordering::Greater => Some((entries.len(), at)),
+    }
+}
+
+// The index of the first whose key is above that of a member, and where it begins, unless one has the same key.
+fn slot_of(text: &[u8], entries: &[Entry], at: usize, key: usize) -> Option<(usize, usize)>
+    ensures { (ms : Members) (k : List ℕ) (d : Data) (rest : List ℕ) → text.now ≡ ended_text ms ++ (ended_member k d ++ rest) → entries_of ms ≡ entries.now → HavePlainKeys ms → escape k ≡ k
+        → length (ended_text ms) ≡ at → length (quoted k) ≡ key → IfSome result (λ n. HasSlot k ms n.0 n.1) }
+{
+    let new = key_at(text, at, key)?;
+    let mut index: usize = 0;
+    let mut start: usize = 0;
+    let mut left = entries;
+    'slots: while let Some((entry, behind)) = left.split_first() {
+        let other = key_at(text, start, entry.key)?;
+        match new.cmp(other) {
+            Ordering::Less => return Some((index, start)),
+            Ordering::Equal => return None,
+            Ordering::Greater => {}
+        }
+        start = start.checked_add(entry.size)?;
+        index = index.checked_add(1)?;
+        left = behind;
+    }
+    Some((index, start))
+}
+
+/// A key without its quotes, given where it begins and how many bytes it takes with them.
+#[inline(always)]
+pub(crate) fn key_at(text: &[u8], start: usize, key: usize) -> Option<&[u8]>
+    ensures { (front : List ℕ) (k : List ℕ) (rest : List ℕ) → text.now ≡ front ++ (quoted k ++ rest) → length front ≡ start → length (quoted k) ≡ key → IfSome result (λ s. s.now ≡ escape k) }
+{
+    let from = text.get(start..)?;
+    let whole = from.get(..key)?;
+    whole.get(1..key.checked_sub(1)?)
+}

@@ -1,0 +1,81 @@
+// Texts of JSON, where they are written as a writer writes them.
+ghost use Rattle.std.specs.Prelude.{◌≡◌, ◌<◌, ◌∷◌, [], length, IfSome};
+ghost use Rattle.json.specs.Print.{escape_byte};
+ghost use Rattle.compact.specs.Begins.{EndsText, EndsPlain, EndsEscape};
+
+use crate::controls::control_rest;
+use crate::plain::plain_end;
+
+/// What stands behind the closing quote of a text, given what stands behind its first one.
+#[inline(always)]
+pub(crate) fn text_rest(text: &[u8]) -> Option<&[u8]>
+    ensures text { IfSome result (λ rest. EndsText text.now rest.now) }
+    ensures shorter { IfSome result (λ rest. length rest.now < length text.now) }
+{
+    match plain_rest(text) {
+        Some(rest) => Some(rest),
+        None => escaped_rest(text),
+    }
+}
+
+/// The same for a text with no escape.
+#[inline(always)]
+pub(crate) fn plain_rest(text: &[u8]) -> Option<&[u8]>
+    ensures plain { IfSome result (λ rest. EndsPlain text.now rest.now) }
+    ensures shorter { IfSome result (λ rest. length rest.now < length text.now) }
+{
+    let end = plain_end(text);
+    let (byte, behind) = text[end..].split_first()?;
+    if *byte == b'"' { Some(behind) } else { None }
+}
+
+// The same, a run of plain bytes and an escape at a time.
+#[inline(never)]
+fn escaped_rest(text: &[u8]) -> Option<&[u8]>
+    ensures text { IfSome result (λ rest. EndsText text.now rest.now) }
+    ensures shorter { IfSome result (λ rest. length rest.now < length text.now) }
+{
+    let mut left = text;
+    'runs: loop {
+        let end = plain_end(left);
+        let (byte, behind) = left[end..].split_first()?;
+        let byte = *byte;
+        if byte == b'"' {
+            return Some(behind);
+        }
+        if byte != b'\\' {
+            return None;
+        }
+        left = escape_rest(behind)?;
+    }
+}
+
+// What stands behind an escape, given what stands behind its backslash.
+fn escape_rest(text: &[u8]) -> Option<&[u8]>
+    ensures escape { IfSome result (λ rest. EndsEscape text.now rest.now) }
+    ensures shorter { IfSome result (λ rest. length rest.now < length text.now) }
+{
+    let (letter, rest) = text.split_first()?;
+    if *letter == b'u' {
+        return control_rest(text);
+    }
+    let _escaped = byte_escaped(*letter)?;
+    Some(rest)
+}
+
+// The byte that a short escape of this letter stands for.
+#[tactic(auto, unfolding(json::specs::Print::escape_byte))]
+fn byte_escaped(letter: u8) -> Option<u8>
+    ensures { IfSome result (λ byte. escape_byte byte ≡ 92 ∷ letter ∷ []) }
+{
+    match letter {
+        b'"' => Some(34),
+        b'\\' => Some(92),
+        b'b' => Some(8),
+        b'f' => Some(12),
+        b'n' => Some(10),
+        b'r' => Some(13),
+        b't' => Some(9),
+        _ => None,
+    }
+}
