@@ -1,5 +1,5 @@
 -- Items of a list that have been put into order go before what comes next.
-use Rattle.std.proofs.Common.{◌≡◌, ℕ, ◌+◌, ◌-◌, ◌≤◌, List, [], ◌∷◌, ◌++◌, length, true, false, Some, refl, sym, ap, ◌∙◌, append_assoc, length-append, arith}
+use Rattle.std.proofs.Common.{◌≡◌, ℕ, ◌+◌, ◌-◌, ◌≤◌, List, [], ◌∷◌, ◌++◌, length, true, Some, refl, sym, ap, ◌∙◌, append_assoc, length-append, arith}
 use borrow.Rule.Slice.PartMut.{mid_of, put_mid}
 use Rattle.std.specs.Prelude.{option_and_then, option_map}
 use Rattle.json.specs.Json.{Json, Items, no_items, item}

@@ -19,9 +19,9 @@ use Rattle.compact.specs.declared.level.Level.TheVariants.{Other}
 use Rattle.compact.specs.Levels.{below}
 use Rattle.compact.specs.Notes.{entry_of, entries_of, HavePlainKeys, Told, ToldBelow, IsNoted, with_table}
 use Rattle.compact.specs.Ordered.{AreOrderedMembers, IsOrderedMember}
-use Rattle.compact.specs.Places.{joined, HasSlot, HasLast, LastOf, HasPlace}
+use Rattle.compact.specs.Places.{joined, HasSlot, HasLast, LastOf}
 use Rattle.compact.proofs.Lists.{part_of, put_of, set_of}
-use Rattle.compact.proofs.Entries.{ended_joined, entries_joined, entries_count, plain_put, put_ended, slot_size}
+use Rattle.compact.proofs.Entries.{ended_joined, entries_joined, plain_put, put_ended, slot_size}
 use Rattle.compact.proofs.Noting.{told_put, told_with, none_told, kept_elsewhere, elsewhere}
 use Rattle.compact.proofs.Last.{has_last}
 

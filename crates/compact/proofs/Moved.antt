@@ -1,5 +1,5 @@
 -- Two parts of a text that change places.
-use Rattle.std.proofs.Common.{◌≡◌, ℕ, ◌+◌, ◌-◌, List, [], ◌++◌, length, sym, ap, ap₂, ◌∙◌, append_assoc, length-append, arith}
+use Rattle.std.proofs.Common.{◌≡◌, ℕ, ◌+◌, ◌-◌, List, ◌++◌, length, sym, ap, ap₂, ◌∙◌, append_assoc, length-append, arith}
 use borrow.Rule.Slice.PartMut.{mid_of, put_mid}
 use Rattle.compact.proofs.Lists.{part_at, put_at, none_left}
 

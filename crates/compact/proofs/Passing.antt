@@ -1,5 +1,5 @@
 -- What has been passed over: escapes, numbers, words.
-use Rattle.std.proofs.Common.{◌≡◌, ℕ, zero, suc, negsuc, ◌+◌, ◌<◌, ◌≤◌, List, [], ◌∷◌, ◌++◌, length, Bool, true, Some, take, drop, take-append-drop, refl, sym, ap, ◌∙◌, ◌^◌, append_assoc, arith}
+use Rattle.std.proofs.Common.{◌≡◌, ℕ, zero, suc, negsuc, ◌<◌, List, [], ◌∷◌, ◌++◌, length, Bool, true, Some, take, drop, take-append-drop, refl, sym, ap, ◌∙◌, ◌^◌, append_assoc, arith}
 use Rattle.std.specs.Prelude.{decimal, nat_eq, Option, None, IfSome, MatchOption}
 use Rattle.std.specs.Cmp.Lexicographic.{pointwise}
 use Rattle.std.proofs.lemmas.Slice.Eq.{bytes_eq-Decides}

@@ -1,5 +1,5 @@
 -- A run of plain bytes is written as it is.
-use Rattle.std.proofs.Common.{◌≡◌, ℕ, suc, ◌+◌, ◌-◌, ◌<◌, ◌≤◌, length, Bool, true, false, cond, List, [], ◌∷◌, ◌++◌, take, drop, take-append-drop, not, ◌==◌, ◌||◌, nat_lt, refl, sym, ap, ◌∙◌, append_assoc, arith}
+use Rattle.std.proofs.Common.{◌≡◌, ℕ, suc, ◌+◌, ◌-◌, ◌<◌, length, Bool, true, false, cond, List, [], ◌∷◌, ◌++◌, take, drop, take-append-drop, ◌==◌, refl, sym, ap, ◌∙◌, append_assoc, arith}
 use Rattle.std.proofs.lemmas.Bool.{or_parts, not-true, eqb-false, ltb-false}
 use Rattle.std.proofs.lemmas.List.{length-drop, take_all}
 use borrow.Rule.Slice.PartMut.{mid_of}

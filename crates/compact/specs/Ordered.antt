@@ -1,8 +1,5 @@
 -- A text whose members were put into byte order where they stood.
-use Rattle.std.specs.Prelude.{⊤, ◌≡◌, ◌+◌, ◌≤◌, ℕ, List, [], ◌∷◌, ◌++◌, length, false, Some}
-use Rattle.std.specs.Ordering.{nat_cmp}
-use Rattle.std.specs.declared.cmp.Ordering.TheVariants.{Greater}
-use Rattle.std.specs.Cmp.Lexicographic.{slice_cmp}
+use Rattle.std.specs.Prelude.{◌≡◌, ◌≤◌, ℕ, List, ◌∷◌, ◌++◌, length, false, Some}
 use Rattle.json.specs.Print.{quoted, escape}
 use Rattle.json.specs.Json.{Json, Items, Members}
 use Rattle.json.specs.Tree.{depth, items_depth, members_depth}
@@ -12,7 +9,6 @@ use Rattle.serde_json.specs.Read.{of_json, of_items, of_members}
 use Rattle.serde_json.specs.Written as written
 use Rattle.serde_json.specs.Written.{compact_text}
 use Rattle.compact.specs.Texts.{json_text, items_text, members_text, IsWhole, AreWholeItems, AreWholeMembers}
-use Rattle.compact.specs.Ended.{ended_text}
 
 -- The old text begins with a value, and the new one, in as many bytes, with what is printed of the value that it reads as.
 -- Of that value P is said.

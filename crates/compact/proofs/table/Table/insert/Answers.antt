@@ -1,4 +1,4 @@
-use Rattle.std.proofs.Common.{◌+◌, ◌≤◌, ◌∙◌, sym, ap, length, arith}
+use Rattle.std.proofs.Common.{◌+◌, ◌≤◌, ◌∙◌, ap, length, arith}
 use Rattle.std.proofs.lemmas.List.{length-take}
 use Rattle.compact.proofs.Lists.{inserted}
 use Rattle.compact.proofs.table.Table.insert.Goals as goal
