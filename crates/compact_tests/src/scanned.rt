@@ -1,0 +1,21 @@
+use compact::Scanner;
+use std::alloc::{AllocError, Global};
+use std::process::Abort;
+
+/// The text that a scanner leaves of a line, if it takes it.
+pub fn scanned(
+    alloc: Global,
+    scanner: &mut Scanner,
+    line: &str,
+) -> Result<Option<Vec<u8>>, AllocError> {
+    let mut text = Vec::from_slice(alloc, line.as_bytes())?;
+    if scanner.scan(&mut text) {
+        Ok(Some(text))
+    } else {
+        Ok(None)
+    }
+}
+
+pub fn assert_so(rt: &impl Abort, is_so: bool, row: &str) {
+    assert!(rt; is_so, "of {row}");
+}
