@@ -11,3 +11,4 @@ mod Moved
 mod Items
 mod Values
 mod Maps
+mod Split

@@ -1,6 +1,7 @@
 -- ---- what public clauses cite
 pub mod Notes
 pub mod Reads
+pub mod Fields
 -- ---- what only proofs use
 pub mod Levels
 pub mod Plain

@@ -4,6 +4,7 @@
 
 mod controls;
 mod entry;
+mod fields;
 mod level;
 mod moving;
 mod numbers;
@@ -17,6 +18,7 @@ mod tables;
 mod texts;
 
 pub use entry::Entry;
+pub use fields::{Field, Fields};
 pub use scanner::Scanner;
 pub use table::Table;
 pub use tables::Tables;
