@@ -1,8 +1,8 @@
 // How many writes and reads a second threads make in a running store, at 1, 2, 4 and 8 threads over 8 and over 64 shards.
 //
 // A writer has pods of its own: it creates one, updates it at the version that it has four times, and deletes it. A reader
-// gets pods by chance from a store that has them all; in a third load one read in fifty lists a namespace of a hundred. At
-// last there are as many writers as readers at once, over a store that is empty at first.
+// gets pods by chance from a store that has them all; in another load one read in fifty lists a namespace of a hundred. At
+// last there are as many writers as readers at once, over a store that is empty at first. A load's threads begin together.
 ghost use Rattle.std.specs.Prelude.{◌≡◌, ◌<◌, vec_len};
 ghost use Rattle.line.specs.Seat.{AreShards};
 ghost use Rattle.store.specs.Callers.{IsLine};
@@ -23,11 +23,12 @@ use requests::Request;
 use std::alloc::Global;
 use std::marker::Brand;
 use std::sync::Wait;
+use std::sync::atomic::{AtomicU64, Ordering};
 use std::thread;
-use std::thread::Threads;
+use std::thread::{Threads, yield_now};
 use std::time::{Clock, Duration, Instant};
 use store::{ByShards, Naming, NoGate, Sharding, Store, Writing};
-use writers::{Share, write_all};
+use writers::{Share, make_all, write_all, write_made};
 
 /// How much is done where the words do not say it.
 const COUNTS: Counts = Counts {
@@ -43,23 +44,31 @@ const LISTS: u64 = 50;
 /// Where there are lists, there are so many times fewer reads.
 const FEWER: u64 = 4;
 
-/// How many threads write and how many read in each load, and one read in how many is a list: none where that is 0.
-const CREWS: [(usize, usize, u64); 15] = [
-    (1, 0, 0),
-    (2, 0, 0),
-    (4, 0, 0),
-    (8, 0, 0),
-    (0, 1, 0),
-    (0, 2, 0),
-    (0, 4, 0),
-    (0, 8, 0),
-    (0, 1, LISTS),
-    (0, 2, LISTS),
-    (0, 4, LISTS),
-    (0, 8, LISTS),
-    (1, 1, 0),
-    (2, 2, 0),
-    (4, 4, 0),
+/// How many seconds a thread waits for the others of its load. Where one cannot be made, another does its work.
+const PATIENCE: u64 = 10;
+
+/// How many threads write and how many read in each load; one read in how many is a list: none where that is 0; and whether
+/// all requests are made before.
+const CREWS: [(usize, usize, u64, bool); 19] = [
+    (1, 0, 0, false),
+    (2, 0, 0, false),
+    (4, 0, 0, false),
+    (8, 0, 0, false),
+    (1, 0, 0, true),
+    (2, 0, 0, true),
+    (4, 0, 0, true),
+    (8, 0, 0, true),
+    (0, 1, 0, false),
+    (0, 2, 0, false),
+    (0, 4, 0, false),
+    (0, 8, 0, false),
+    (0, 1, LISTS, false),
+    (0, 2, LISTS, false),
+    (0, 4, LISTS, false),
+    (0, 8, LISTS, false),
+    (1, 1, 0, false),
+    (2, 2, 0, false),
+    (4, 4, 0, false),
 ];
 
 /// The threads of a load, over how many shards they work, and how much they do in all.
@@ -69,6 +78,8 @@ struct Crew {
     writers: usize,
     readers: usize,
     lists: u64,
+    /// Whether writers make all requests before they begin.
+    is_made: bool,
     counts: Counts,
 }
 
@@ -109,6 +120,9 @@ impl Crew {
     fn name(self, alloc: Global) -> Result<String> {
         let (shards, writers, readers) = (self.shards, self.writers, self.readers);
         let name = match (writers, readers, self.lists) {
+            (_, 0, _) if self.is_made => {
+                format!(in alloc; "{shards} shards, {writers} writers with requests made before")?
+            }
             (_, 0, _) => format!(in alloc; "{shards} shards, {writers} writers")?,
             (0, _, 0) => format!(in alloc; "{shards} shards, {readers} readers")?,
             (0, _, _) => format!(in alloc; "{shards} shards, {readers} readers with lists")?,
@@ -171,24 +185,50 @@ fn frontier<S: SharedStore, R: Wait>(rt: &R, alloc: Global, store: &S) -> Result
     Ok(store.seen(&caller))
 }
 
+/// When the threads of a load began.
+#[derive(Drop)]
+struct Start {
+    at: Instant,
+    arrived: AtomicU64,
+}
+
+/// Waits until all threads of a load are there, and answers when that was.
+fn begin<R: Clock>(rt: &R, start: &Start, crew: Crew) -> Result<Duration> {
+    start.arrived.fetch_add(1, Ordering::SeqCst);
+    for _ in 0..u64::MAX {
+        let all_there = start.arrived.load(Ordering::SeqCst) >= crew.threads() as u64;
+        if all_there || start.at.elapsed(rt)?.as_secs() >= PATIENCE {
+            break;
+        }
+        yield_now();
+    }
+    Ok(start.at.elapsed(rt)?)
+}
+
 /// What the writer of that index did.
 fn written<S: SharedStore, R: Wait + Clock>(
     rt: &R,
     alloc: Global,
     store: &S,
     crew: Crew,
-    start: Instant,
+    start: &Start,
     index: usize,
 ) -> Result<Work> {
     let mut caller = store.caller(rt)?;
     let share = crew.share(index);
-    let begun = start.elapsed(rt)?;
-    let count = write_all(rt, alloc, store, &mut caller, share)?;
+    let (begun, count) = if crew.is_made {
+        let made = make_all(alloc, share)?;
+        let begun = begin(rt, start, crew)?;
+        (begun, write_made(rt, store, &mut caller, made)?)
+    } else {
+        let begun = begin(rt, start, crew)?;
+        (begun, write_all(rt, alloc, store, &mut caller, share)?)
+    };
     Ok(Work {
         count,
         found: 0,
         begun,
-        ended: start.elapsed(rt)?,
+        ended: start.at.elapsed(rt)?,
     })
 }
 
@@ -198,18 +238,18 @@ fn read<S: SharedStore, R: Wait + Clock>(
     alloc: Global,
     store: &S,
     crew: Crew,
-    start: Instant,
+    start: &Start,
     index: usize,
 ) -> Result<Work> {
     let mut caller = store.caller(rt)?;
     let reading = crew.reading(index);
-    let begun = start.elapsed(rt)?;
+    let begun = begin(rt, start, crew)?;
     let found = read_all(rt, alloc, store, &mut caller, reading)?;
     Ok(Work {
         count: reading.reads,
         found,
         begun,
-        ended: start.elapsed(rt)?,
+        ended: start.at.elapsed(rt)?,
     })
 }
 
@@ -219,7 +259,7 @@ fn worked<S: SharedStore, R: Wait + Clock>(
     alloc: Global,
     store: &S,
     crew: Crew,
-    start: Instant,
+    start: &Start,
     index: usize,
 ) -> Result<Work> {
     if index < crew.writers {
@@ -240,12 +280,15 @@ where
     S::Caller: Send,
     S::Ticket: Send,
 {
-    let start = Instant::now(rt)?;
+    let start = Start {
+        at: Instant::now(rt)?,
+        arrived: AtomicU64::new(0),
+    };
     let results = thread::map_indices(
         rt,
         alloc,
         crew.threads(),
-        &|index: usize| { worked(rt, alloc, store, crew, start, index) },
+        &|index: usize| { worked(rt, alloc, store, crew, &start, index) },
     )?;
     let mut works = Vec::new(alloc);
     for result in results {
@@ -343,12 +386,13 @@ pub(crate) fn measure<R: Threads + Wait + Clock + Print + Eprint + Sync>(
 ) -> Result<()> {
     let counts = asked.unwrap_or(COUNTS);
     for shards in SHARDS {
-        for (writers, readers, lists) in CREWS {
+        for (writers, readers, lists, is_made) in CREWS {
             let crew = Crew {
                 shards,
                 writers,
                 readers,
                 lists,
+                is_made,
                 counts,
             };
             run_crew(rt, alloc, crew)?;

@@ -33,8 +33,13 @@ fn creation(drafts: &mut Drafts, pod: u64, label: u64) -> Result<Request, ReadEr
     Ok(Request::Create(drafts.next(pod, label)?))
 }
 
+/// An update at any revision.
+fn update(drafts: &mut Drafts, pod: u64, label: u64) -> Result<Request, ReadError> {
+    Ok(Request::Update(drafts.next(pod, label)?))
+}
+
 /// An update at that revision.
-fn update(
+fn update_at(
     alloc: Global,
     drafts: &mut Drafts,
     pod: u64,
@@ -93,7 +98,7 @@ fn write<S: SharedStore, R: Wait>(
         return Ok(0);
     };
     for count in 1..=UPDATES {
-        let updated = update(alloc, drafts, pod, label.wrapping_add(count), revision)?;
+        let updated = update_at(alloc, drafts, pod, label.wrapping_add(count), revision)?;
         let Some(next) = accepted(rt, store, caller, updated)? else {
             return Ok(count);
         };
@@ -125,4 +130,47 @@ pub(crate) fn write_all<S: SharedStore, R: Wait>(
         }
     }
     Ok(accepted)
+}
+
+/// Makes the requests for a pod.
+fn make(
+    alloc: Global,
+    drafts: &mut Drafts,
+    pod: u64,
+    label: u64,
+    requests: &mut Vec<Request>,
+) -> Result<(), ReadError> {
+    requests.push(creation(drafts, pod, label)?)?;
+    for count in 1..=UPDATES {
+        requests.push(update(drafts, pod, label.wrapping_add(count))?)?;
+    }
+    requests.push(removal(alloc, pod)?)?;
+    Ok(())
+}
+
+/// The requests that `write_all` makes, but that an update names no version.
+pub(crate) fn make_all(alloc: Global, share: Share) -> Result<Vec<Request>, ReadError> {
+    let mut drafts = Drafts::new(alloc);
+    let mut requests = Vec::new(alloc);
+    for taken in 0..share.writes.div_ceil(WRITES) {
+        make(alloc, &mut drafts, share.pod(taken), taken, &mut requests)?;
+    }
+    Ok(requests)
+}
+
+/// Writes requests that were made before, until one was not accepted. Answers how many were.
+pub(crate) fn write_made<S: SharedStore, R: Wait>(
+    rt: &R,
+    store: &S,
+    caller: &mut S::Caller,
+    requests: Vec<Request>,
+) -> Result<u64, Memory> {
+    let mut count = 0_u64;
+    for request in requests {
+        if accepted(rt, store, caller, request)?.is_none() {
+            break;
+        }
+        count = count.wrapping_add(1);
+    }
+    Ok(count)
 }
