@@ -1,5 +1,5 @@
-// Three threads: one is held between the draw of its number and its fill, under its shard's lock. For that lock a compaction
-// waits, which holds the floor's.
+// Four threads: one is held between the draw of its number and its fill, under its shard's lock. For that lock a compaction
+// waits, which holds the floor's; and for that one an exact list, which must hold none.
 ghost use Rattle.std.specs.Prelude.{◌≡◌, true};
 ghost use Rattle.requests.specs.Verdict.{is_write};
 
@@ -14,18 +14,38 @@ use std::test::Fail;
 use std::thread::{Threads, join, yield_now};
 use store::{Gate, NoGate};
 
-const FIRST: &str = r#"{"do":"create","object":{"kind":"Pod","metadata":{"name":"b"}}}"#;
+/// A line that creates a pod, and lines about a pod in the other of two shards.
+#[derive(Clone, Copy)]
+pub(crate) struct Lines {
+    held: &'static str,
+    create: &'static str,
+    created: &'static str,
+    get: &'static str,
+}
 
-const SECOND: &str = r#"{"do":"create","object":{"kind":"Pod","metadata":{"name":"a"}}}"#;
+pub(crate) const B_IS_HELD: Lines = Lines {
+    held: r#"{"do":"create","object":{"kind":"Pod","metadata":{"name":"b"}}}"#,
+    create: r#"{"do":"create","object":{"kind":"Pod","metadata":{"name":"a"}}}"#,
+    created: r#"{"code":201,"object":{"kind":"Pod","metadata":{"generation":1,"name":"a","namespace":"default","resourceVersion":"2","uid":"00000000-0000-4000-8000-000000000002"}},"result":"Created"}"#,
+    get: r#"{"do":"get","kind":"Pod","name":"a"}"#,
+};
 
-const CREATED: &str =
-    r#"{"code":201,"object":{"kind":"Pod","metadata":{"generation":1,"name":"a","namespace":"default","resourceVersion":"2","uid":"00000000-0000-4000-8000-000000000002"}},"result":"Created"}"#;
-
-const GET: &str = r#"{"do":"get","kind":"Pod","name":"a"}"#;
+pub(crate) const A_IS_HELD: Lines = Lines {
+    held: r#"{"do":"create","object":{"kind":"Pod","metadata":{"name":"a"}}}"#,
+    create: r#"{"do":"create","object":{"kind":"Pod","metadata":{"name":"b"}}}"#,
+    created: r#"{"code":201,"object":{"kind":"Pod","metadata":{"generation":1,"name":"b","namespace":"default","resourceVersion":"2","uid":"00000000-0000-4000-8000-000000000002"}},"result":"Created"}"#,
+    get: r#"{"do":"get","kind":"Pod","name":"b"}"#,
+};
 
 const MISSING: &str = r#"{"code":404,"reason":"NotFound"}"#;
 
-/// How often a is read while a compaction waits: often enough for the compaction to have come to the held lock.
+/// No write gets this number, so that a list at it is refused, by the floor's lock alone.
+const LIST: &str = r#"{"do":"list","kind":"Pod","resourceVersion":"3"}"#;
+
+const TOO_LARGE: &str = r#"{"code":504,"reason":"TooLarge"}"#;
+
+/// How often the other pod is read while a compaction waits: often enough for the compaction to have come to the held lock, and
+/// the list to that of the floor.
 const READS: u64 = 1_000;
 
 /// Steps that the threads have come to.
@@ -72,9 +92,10 @@ fn first<S: SharedStore, R: Wait>(
     alloc: Global,
     store: &S,
     mut caller: S::Caller,
+    lines: Lines,
     steps: &Steps,
 ) -> bool {
-    let Some(request) = write_of(alloc, FIRST) else {
+    let Some(request) = write_of(alloc, lines.held) else {
         return false;
     };
     let submitted = store.submit(rt, &mut caller, request, steps);
@@ -85,38 +106,40 @@ fn first<S: SharedStore, R: Wait>(
     }
 }
 
-/// Whether a is answered to be missing, however often it is read.
+/// Whether the other pod is answered to be missing, however often it is read.
 fn is_missing<S: SharedStore, R: Wait>(
     rt: &R,
     alloc: Global,
     store: &S,
     caller: &mut S::Caller,
+    lines: Lines,
 ) -> bool {
     for _ in 0..READS {
         yield_now();
-        if has_reply(rt, alloc, store, caller, GET, MISSING) != Some(true) {
+        if has_reply(rt, alloc, store, caller, lines.get, MISSING) != Some(true) {
             return false;
         }
     }
     true
 }
 
-/// Whether the create of a is answered as it should be, after reads of a while the compaction waits; or none where a step
-/// came too early or too late.
+/// Whether the create of the other pod is answered as it should be, after reads of it while the compaction waits; or none where
+/// a step came too early or too late.
 fn second<S: SharedStore, R: Wait>(
     rt: &R,
     alloc: Global,
     store: &S,
     mut caller: S::Caller,
+    lines: Lines,
     steps: &Steps,
 ) -> Option<bool> {
-    if !is_made(&steps.compacts) || !is_missing(rt, alloc, store, &mut caller) {
+    if !is_made(&steps.compacts) || !is_missing(rt, alloc, store, &mut caller, lines) {
         make(&steps.tried);
         return None;
     }
-    let request = write_of(alloc, SECOND)?;
+    let request = write_of(alloc, lines.create)?;
     let reply = answered_in_steps(rt, store, &mut caller, request, steps)?;
-    let is_so = is_printed(alloc, &reply, CREATED);
+    let is_so = is_printed(alloc, &reply, lines.created);
     drop(reply);
     is_so.ok()
 }
@@ -187,6 +210,29 @@ fn third<S: SharedStore, R: Wait>(rt: &R, store: &S, mut caller: S::Caller, step
     is_so
 }
 
+/// Whether a list above all numbers is refused, each time that it is asked until the other write is tried.
+fn fourth<S: SharedStore, R: Wait>(
+    rt: &R,
+    alloc: Global,
+    store: &S,
+    mut caller: S::Caller,
+    steps: &Steps,
+) -> bool {
+    if !is_made(&steps.compacts) {
+        return false;
+    }
+    for _ in 0..TURNS {
+        if has_reply(rt, alloc, store, &mut caller, LIST, TOO_LARGE) != Some(true) {
+            return false;
+        }
+        if steps.tried.load(Ordering::SeqCst) != 0 {
+            return true;
+        }
+        yield_now();
+    }
+    false
+}
+
 /// The two writers at once.
 fn writers<S: SharedStore + Sync, R: Threads + Wait + Sync>(
     rt: &R,
@@ -194,6 +240,7 @@ fn writers<S: SharedStore + Sync, R: Threads + Wait + Sync>(
     store: &S,
     one: S::Caller,
     two: S::Caller,
+    lines: Lines,
     steps: &Steps,
 ) -> (bool, Option<bool>)
 where
@@ -202,16 +249,38 @@ where
 {
     join(
         rt,
-        || first(rt, alloc, store, one, steps),
-        || second(rt, alloc, store, two, steps),
+        || first(rt, alloc, store, one, lines, steps),
+        || second(rt, alloc, store, two, lines, steps),
     )
 }
 
-/// A shard works while another is held and a compaction waits for that one, and its write waits for the number before its own.
+/// The compaction and the list at once.
+fn waiters<S: SharedStore + Sync, R: Threads + Wait + Sync>(
+    rt: &R,
+    alloc: Global,
+    store: &S,
+    three: S::Caller,
+    four: S::Caller,
+    steps: &Steps,
+) -> (bool, bool)
+where
+    S::Caller: Send,
+    S::Ticket: Send,
+{
+    join(
+        rt,
+        || third(rt, store, three, steps),
+        || fourth(rt, alloc, store, four, steps),
+    )
+}
+
+/// A shard works while another is held, a compaction waits for that one, and an exact list for the compaction; and its write
+/// waits for the number before its own.
 pub(crate) fn assert_steps<S: SharedStore + Sync, R: Threads + Wait + Abort + Sync>(
     rt: &R,
     alloc: Global,
     store: &S,
+    lines: Lines,
 ) -> Result<(), Fail>
 where
     S::Caller: Send,
@@ -220,6 +289,7 @@ where
     let one = store.caller(rt)?;
     let two = store.caller(rt)?;
     let three = store.caller(rt)?;
+    let four = store.caller(rt)?;
     let steps = Steps {
         drawn: AtomicU64::new(0),
         compacts: AtomicU64::new(0),
@@ -228,14 +298,15 @@ where
         late: AtomicU64::new(0),
     };
     let made = &steps;
-    let ((placed, answered), compacted) = join(
+    let ((placed, answered), (compacted, refused)) = join(
         rt,
-        || writers(rt, alloc, store, one, two, made),
-        || third(rt, store, three, made),
+        || writers(rt, alloc, store, one, two, lines, made),
+        || waiters(rt, alloc, store, three, four, made),
     );
     assert!(rt; placed, "the first create is of the number 1");
     assert_eq!(rt; steps.late.load(Ordering::SeqCst), 0);
-    assert!(rt; answered == Some(true), "the reply to the create of a");
+    assert!(rt; answered == Some(true), "the reply to the other create");
     assert!(rt; compacted, "the reply to the compaction");
+    assert!(rt; refused, "the replies to the list");
     Ok(())
 }

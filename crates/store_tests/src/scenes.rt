@@ -8,7 +8,7 @@ use crate::allocation_failures::assert_ample;
 use crate::asking::assert_rows;
 use crate::callers::assert_callers;
 use crate::crowds::assert_replies_are_legal;
-use crate::gates::assert_steps;
+use crate::gates::{A_IS_HELD, B_IS_HELD, assert_steps};
 use crate::meeting::assert_meeting;
 use crate::rows::ROWS;
 use line::{Ends, Line, LineError};
@@ -26,6 +26,7 @@ pub(crate) enum Scene {
     Meeting,
     Callers,
     Gate,
+    OtherGate,
     Crowd,
     /// Here a store may be refused for want of memory.
     AllocationFailures,
@@ -40,7 +41,15 @@ fn assert_scene<
         Scene::Rows => assert_rows(rt, alloc, store, ROWS.as_slice()),
         Scene::Meeting => assert_meeting(rt, alloc, store),
         Scene::Callers => assert_callers(rt, store),
-        Scene::Gate => assert_steps(rt, alloc, store),
+        Scene::Gate | Scene::OtherGate => {
+            let is_first = scene == Scene::Gate;
+            assert_steps(
+                rt,
+                alloc,
+                store,
+                if is_first { B_IS_HELD } else { A_IS_HELD },
+            )
+        }
         Scene::Crowd => assert_replies_are_legal(rt, alloc, store),
         Scene::AllocationFailures => assert_ample(rt, alloc, store),
     }
