@@ -1,0 +1,7 @@
+//! Drafts of objects straight from a line that `compact` has taken: their parts are read where they are written, with no tree.
+//! Whatever is unusual is not told, and says nothing of the line.
+#![tactic(auto)]
+
+mod text;
+
+pub use text::text_of;
