@@ -2,6 +2,8 @@
 //! Whatever is unusual is not told, and says nothing of the line.
 #![tactic(auto)]
 
+mod map;
 mod text;
 
+pub use map::Map;
 pub use text::text_of;
