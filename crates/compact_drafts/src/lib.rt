@@ -3,7 +3,9 @@
 #![tactic(auto)]
 
 mod map;
+mod parts;
 mod text;
 
 pub use map::Map;
+pub use parts::{is_of_version, kind_of, namespace_of};
 pub use text::text_of;

@@ -1,0 +1,43 @@
+// The parts of a draft, each as the reading of an object has it.
+ghost use Rattle.std.specs.Prelude.{◌≡◌, IsTrue, codes, Ok, true, IfSome, option_map};
+ghost use Rattle.serde_json.specs.Data.{Members};
+ghost use Rattle.serde_json.specs.Find.{get_member};
+ghost use Rattle.objects.specs.Kind.{api_version};
+ghost use Rattle.objects.specs.Object.{is_missing_or};
+ghost use Rattle.objects.specs.Reading.{kind_in, namespace_in, optional_text};
+ghost use Rattle.objects.specs.declared.fault.ReadError.TheVariants.{BadName};
+ghost use Rattle.compact_drafts.specs.Maps.{IsMap};
+
+use crate::map::Map;
+use crate::text::text_of;
+use objects::Kind;
+
+/// The kind that the member `kind` names.
+#[tactic(auto, unfolding(objects::specs::Reading::kind_in))]
+pub fn kind_of(object: Map<'_>) -> Option<Kind>
+    ensures { (ms : Members) → IsMap object.entry.text.now object.entry.table.now ms → IfSome result (λ kind. kind_in ms ≡ Ok kind) }
+{
+    Kind::named(text_of(object.member("kind")?)?)
+}
+
+/// Whether the member `apiVersion` is missing or that of the kind.
+pub fn is_of_version(object: Map<'_>, kind: Kind) -> bool
+    ensures { (ms : Members) → IsMap object.entry.text.now object.entry.table.now ms → IsTrue result
+        → is_missing_or (api_version kind) (get_member (codes "apiVersion") ms) ≡ true }
+{
+    match object.member("apiVersion") {
+        None => true,
+        Some(value) => text_of(value) == Some(kind.api_version()),
+    }
+}
+
+/// The namespace; a missing or an empty one is `default`.
+#[tactic(auto, unfolding(objects::specs::Reading::namespace_in))]
+pub fn namespace_of<'t>(metadata: Map<'t>) -> Option<&'t str>
+    ensures { (ms : Members) → IsMap metadata.entry.text.now metadata.entry.table.now ms → IfSome result (λ namespace. namespace_in ms ≡ Ok namespace.now) }
+{
+    match metadata.optional_text("namespace")? {
+        Some(namespace) if !namespace.is_empty() => Some(namespace),
+        _ => Some("default"),
+    }
+}
