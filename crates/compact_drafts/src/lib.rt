@@ -7,5 +7,5 @@ mod parts;
 mod text;
 
 pub use map::Map;
-pub use parts::{is_of_version, kind_of, namespace_of};
+pub use parts::{is_of_version, key_of, kind_of, namespace_of};
 pub use text::text_of;

@@ -1,16 +1,17 @@
 // The parts of a draft, each as the reading of an object has it.
-ghost use Rattle.std.specs.Prelude.{◌≡◌, IsTrue, codes, Ok, true, IfSome, option_map};
+ghost use Rattle.std.specs.Prelude.{◌≡◌, IsTrue, codes, Ok, true, IfOk, IfSome, option_map};
 ghost use Rattle.serde_json.specs.Data.{Members};
 ghost use Rattle.serde_json.specs.Find.{get_member};
 ghost use Rattle.objects.specs.Kind.{api_version};
 ghost use Rattle.objects.specs.Object.{is_missing_or};
-ghost use Rattle.objects.specs.Reading.{kind_in, namespace_in, optional_text};
+ghost use Rattle.objects.specs.Reading.{key_of, kind_in, namespace_in};
 ghost use Rattle.objects.specs.declared.fault.ReadError.TheVariants.{BadName};
 ghost use Rattle.compact_drafts.specs.Maps.{IsMap};
 
 use crate::map::Map;
 use crate::text::text_of;
-use objects::Kind;
+use objects::{Key, Kind, Memory, ReadError};
+use std::alloc::Global;
 
 /// The kind that the member `kind` names.
 #[tactic(auto, unfolding(objects::specs::Reading::kind_in))]
@@ -39,5 +40,24 @@ pub fn namespace_of<'t>(metadata: Map<'t>) -> Option<&'t str>
     match metadata.optional_text("namespace")? {
         Some(namespace) if !namespace.is_empty() => Some(namespace),
         _ => Some("default"),
+    }
+}
+
+/// The name and the namespace.
+#[tactic(auto, unfolding(objects::specs::Reading::key_of))]
+pub fn key_of(alloc: Global, kind: Kind, metadata: Map<'_>) -> Result<Option<Key>, Memory>
+    ensures { (ms : Members) → IsMap metadata.entry.text.now metadata.entry.table.now ms
+        → IfOk result (λ found. IfSome found (λ key. key_of kind ms ≡ Ok key)) }
+{
+    let Some(namespace) = namespace_of(metadata) else {
+        return Ok(None);
+    };
+    let Some(name) = metadata.optional_text("name") else {
+        return Ok(None);
+    };
+    match Key::of(alloc, kind, namespace, name.unwrap_or("")) {
+        Ok(key) => Ok(Some(key)),
+        Err(ReadError::Memory) => Err(Memory),
+        Err(_) => Ok(None),
     }
 }
