@@ -15,7 +15,7 @@ use Rattle.serde_json.specs.Written.{compact_text, number_text}
 abbrev pub Differs : ℕ → List ℕ → Type 0
 Differs c s = (r : List ℕ) → s ≡ c ∷ r → ⊥
 
-abbrev IsNoDigit : ℕ → Type 0
+abbrev pub IsNoDigit : ℕ → Type 0
 IsNoDigit c = (d : ℕ) → d < 10 → 48 + d ≡ c → ⊥
 
 glyph : (n : ℕ) → digit_glyph false (n % 10) ≡ 48 + n % 10
@@ -34,7 +34,7 @@ onto_differs (suc k) c n acc other own =
     let here = digit_differs c n acc other in
     differs_by (n / 10 == 0) c _ _ here (onto_differs k c (n / 10) (digit_glyph false (n % 10) ∷ acc) other here)
 
-decimal_differs : (c n : ℕ) → IsNoDigit c → Differs c (decimal n)
+pub decimal_differs : (c n : ℕ) → IsNoDigit c → Differs c (decimal n)
 unfolding digits
 decimal_differs c n other = onto_differs 64 c n [] other (λ r e. cc)
 

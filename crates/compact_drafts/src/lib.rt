@@ -2,10 +2,12 @@
 //! Whatever is unusual is not told, and says nothing of the line.
 #![tactic(auto)]
 
+mod generation;
 mod map;
 mod parts;
 mod text;
 
+pub use generation::generation_of;
 pub use map::Map;
 pub use parts::{is_of_version, key_of, kind_of, namespace_of};
 pub use text::text_of;
