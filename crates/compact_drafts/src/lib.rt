@@ -4,10 +4,12 @@
 
 mod generation;
 mod map;
+mod meta;
 mod parts;
 mod text;
 
 pub use generation::generation_of;
 pub use map::Map;
+pub use meta::{CompactMeta, meta_of};
 pub use parts::{is_of_version, key_of, kind_of, namespace_of};
 pub use text::text_of;
