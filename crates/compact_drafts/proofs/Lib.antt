@@ -1,3 +1,4 @@
 mod Texts
 mod Generations
 mod Metas
+mod Cursors

@@ -1,2 +1,4 @@
 -- ---- what public clauses cite
 pub mod Maps
+-- ---- what only proofs use
+pub mod Cursors

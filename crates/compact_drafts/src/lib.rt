@@ -2,6 +2,7 @@
 //! Whatever is unusual is not told, and says nothing of the line.
 #![tactic(auto)]
 
+mod cursor;
 mod generation;
 mod map;
 mod meta;

@@ -1,0 +1,13 @@
+-- What has been passed over of a text.
+use Rattle.std.specs.Prelude.{◌≡◌, ℕ, List, ◌∷◌}
+use Rattle.serde_json.specs.Data.{Data, string}
+
+-- the text does not begin with that byte
+abbrev pub BeginsNot : ℕ → List ℕ → Type 0
+BeginsNot c s = (r : List ℕ) → s ≡ c ∷ r → ⊥
+
+-- the value is a text, and what was found is what stands behind it
+pub record IsTextBefore (d : Data) (rest found : List ℕ) : Type 0 where
+  pub said : List ℕ
+  pub is : d ≡ string said
+  pub rest_is : found ≡ rest
