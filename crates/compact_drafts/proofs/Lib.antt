@@ -2,3 +2,4 @@ mod Texts
 mod Generations
 mod Metas
 mod Cursors
+mod LabelTexts

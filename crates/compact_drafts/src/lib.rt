@@ -4,12 +4,14 @@
 
 mod cursor;
 mod generation;
+mod labels;
 mod map;
 mod meta;
 mod parts;
 mod text;
 
 pub use generation::generation_of;
+pub use labels::labels_fit;
 pub use map::Map;
 pub use meta::{CompactMeta, meta_of};
 pub use parts::{is_of_version, key_of, kind_of, namespace_of};
