@@ -90,3 +90,10 @@ found_by (Some d) text is fit = fit d cc
 pub labels_found : (ms : Members) (text : List ℕ) (b : Bool) → Some text ≡ option_map compact_text (get_member (codes "labels") ms) → ((d : Data) → text ≡ compact_text d → b ≡ true → labels_fit (Some d) ≡ true) → b ≡ true
     → labels_fit (get_member (codes "labels") ms) ≡ true
 labels_found ms text b is fit holds = found_by (get_member (codes "labels") ms) text is (λ d e. fit d e holds)
+
+pub map_found : (found : Option Data) (text rest : List ℕ) → Some text ≡ option_map compact_text found → text ≡ 123 ∷ rest → (os : Members) × (found ≡ Some (object os)) × (text ≡ compact_text (object os))
+map_found None text rest is brace = absurd cc
+map_found (Some d) text rest is brace =
+    let same : text ≡ compact_text d = cc in
+    let m = map_begun d rest (sym same ∙ brace) in
+    (m.0, ap Some m.1, same ∙ ap compact_text m.1)

@@ -1,8 +1,9 @@
 // A map as it is written.
-ghost use Rattle.std.specs.Prelude.{◌≡◌, Ok, IfSome, option_map};
-ghost use Rattle.serde_json.specs.Data.{Members};
+ghost use Rattle.std.specs.Prelude.{◌≡◌, Ok, Some, IfSome, option_map};
+ghost use Rattle.serde_json.specs.Data.{Members, object};
 ghost use Rattle.serde_json.specs.Find.{get_member};
 ghost use Rattle.serde_json.specs.Written.{compact_text};
+ghost use Rattle.compact.specs.Notes.{AreEntries};
 ghost use Rattle.objects.specs.Reading.{optional_text};
 ghost use Rattle.objects.specs.declared.fault.ReadError.{ReadError};
 ghost use Rattle.compact_drafts.specs.Maps.{IsMap};
@@ -35,5 +36,16 @@ impl<'t> Map<'t> {
             None => Some(None),
             Some(value) => Some(Some(text_of(value)?)),
         }
+    }
+
+    /// The member of that name, if it is a map; its table is given.
+    pub(crate) fn map_member(self, name: &str, table: &'t Table) -> Option<Map<'t>>
+        ensures { (ms : Members) → IsMap self.entry.text.now self.entry.table.now ms
+            → ((os : Members) → get_member name.now ms ≡ Some (object os) → AreEntries table.now os)
+            → IfSome result (λ m. (os : Members) × (get_member name.now ms ≡ Some (object os)) × IsMap m.text.now m.table.now os) }
+    {
+        let text = self.member(name)?;
+        let _members = text.strip_prefix(b"{")?;
+        Some(Map { text, table })
     }
 }
