@@ -7,6 +7,7 @@ mod generation;
 mod labels;
 mod map;
 mod meta;
+mod owners;
 mod parts;
 mod text;
 
@@ -14,5 +15,6 @@ pub use generation::generation_of;
 pub use labels::labels_fit;
 pub use map::Map;
 pub use meta::{CompactMeta, meta_of};
+pub use owners::owners_fit;
 pub use parts::{is_of_version, key_of, kind_of, namespace_of};
 pub use text::text_of;
