@@ -3,3 +3,4 @@ mod Generations
 mod Metas
 mod Cursors
 mod LabelTexts
+mod Drafting

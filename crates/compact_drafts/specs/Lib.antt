@@ -1,4 +1,5 @@
 -- ---- what public clauses cite
 pub mod Maps
+pub mod Drafts
 -- ---- what only proofs use
 pub mod Cursors

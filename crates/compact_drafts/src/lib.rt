@@ -3,6 +3,7 @@
 #![tactic(auto)]
 
 mod cursor;
+mod draft;
 mod generation;
 mod labels;
 mod map;
@@ -11,6 +12,7 @@ mod owners;
 mod parts;
 mod text;
 
+pub use draft::CompactDraft;
 pub use generation::generation_of;
 pub use labels::labels_fit;
 pub use map::Map;
