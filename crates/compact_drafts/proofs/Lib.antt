@@ -4,3 +4,4 @@ mod Metas
 mod Cursors
 mod LabelTexts
 mod Drafting
+pub mod Readings
