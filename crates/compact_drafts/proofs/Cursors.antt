@@ -1,11 +1,13 @@
 -- A text is passed over byte by byte, up to its closing quote.
-use Rattle.std.proofs.Common.{◌≡◌, ℕ, List, [], ◌∷◌, ◌++◌, Bool, true, false, cond, nat_lt, ◌/◌, ◌%◌, refl, sym, ap, ◌∙◌, append_assoc, arith}
+use Rattle.std.proofs.Common.{codes, ap₂, ◌≡◌, ℕ, List, [], ◌∷◌, ◌++◌, Bool, true, false, cond, nat_lt, ◌/◌, ◌%◌, refl, sym, ap, ◌∙◌, append_assoc, arith}
+use Rattle.std.specs.Prelude.{⊤}
+use Rattle.std.proofs.lemmas.List.{append_cancel_left}
 use Rattle.std.specs.Char.{digit_char}
 use Rattle.json.specs.Print.{escape, escape_byte, escape_letter, quoted}
-use Rattle.serde_json.specs.Data.{Data}
-use Rattle.serde_json.specs.Written.{compact_text}
-use Rattle.compact_drafts.specs.Cursors.{BeginsNot, IsTextBefore}
-use Rattle.compact_drafts.proofs.Texts.{text_begun}
+use Rattle.serde_json.specs.Data.{Num, Data, null, boolean, number, string, array, object}
+use Rattle.serde_json.specs.Written.{compact_text, number_text}
+use Rattle.compact_drafts.specs.Cursors.{BeginsNot, EndsValue, IsTextBefore}
+use Rattle.compact_drafts.proofs.Texts.{append_differs, number_differs, text_begun}
 
 -- a text and its closing quote come before the rest
 pub record Inside (left rest : List ℕ) : Type 0 where
@@ -64,3 +66,76 @@ text_before behind value found rest r d other is colon quote ends =
     let value_is = behind_is 58 58 value _ (sym colon ∙ is) in
     let said = text_begun d rest r other (sym value_is ∙ quote) in
     record { said = said.0; is = said.1; rest_is = ends said.0 rest (value_is ∙ ap (λ e. compact_text e ++ rest) said.1) }
+
+-- ---- truths and texts
+
+no_true_number : (n : Num) → BeginsNot 116 (number_text n)
+no_true_number n = number_differs 116 n (λ d small e. omega (arith, small, e)) (λ e. cc)
+
+no_false_number : (n : Num) → BeginsNot 102 (number_text n)
+no_false_number n = number_differs 102 n (λ d small e. omega (arith, small, e)) (λ e. cc)
+
+true_begun : (d : Data) (rest r : List ℕ) → BeginsNot 116 rest → compact_text d ++ rest ≡ 116 ∷ r → d ≡ boolean true
+true_begun null rest r other is = absurd (omega (arith, first_is 110 116 _ r is))
+true_begun (boolean true) rest r other is = refl
+true_begun (boolean false) rest r other is = absurd (omega (arith, first_is 102 116 _ r is))
+true_begun (number n) rest r other is = absurd (append_differs 116 (number_text n) rest (no_true_number n) other r is)
+true_begun (string s) rest r other is = absurd (omega (arith, first_is 34 116 _ r is))
+true_begun (array ds) rest r other is = absurd (omega (arith, first_is 91 116 _ r is))
+true_begun (object ms) rest r other is = absurd (omega (arith, first_is 123 116 _ r is))
+
+false_begun : (d : Data) (rest r : List ℕ) → BeginsNot 102 rest → compact_text d ++ rest ≡ 102 ∷ r → d ≡ boolean false
+false_begun null rest r other is = absurd (omega (arith, first_is 110 102 _ r is))
+false_begun (boolean true) rest r other is = absurd (omega (arith, first_is 116 102 _ r is))
+false_begun (boolean false) rest r other is = refl
+false_begun (number n) rest r other is = absurd (append_differs 102 (number_text n) rest (no_false_number n) other r is)
+false_begun (string s) rest r other is = absurd (omega (arith, first_is 34 102 _ r is))
+false_begun (array ds) rest r other is = absurd (omega (arith, first_is 91 102 _ r is))
+false_begun (object ms) rest r other is = absurd (omega (arith, first_is 123 102 _ r is))
+
+ends_quote : (rest : List ℕ) → EndsValue rest → BeginsNot 34 rest
+ends_quote rest ends = ends 34 (λ e. omega (arith, e)) (λ e. omega (arith, e)) (λ e. omega (arith, e))
+
+ends_true : (rest : List ℕ) → EndsValue rest → BeginsNot 116 rest
+ends_true rest ends = ends 116 (λ e. omega (arith, e)) (λ e. omega (arith, e)) (λ e. omega (arith, e))
+
+ends_false : (rest : List ℕ) → EndsValue rest → BeginsNot 102 rest
+ends_false rest ends = ends 102 (λ e. omega (arith, e)) (λ e. omega (arith, e)) (λ e. omega (arith, e))
+
+text_there_by : (d : Data) (rest text : List ℕ) → ((s : List ℕ) × (d ≡ string s)) → text ≡ compact_text d ++ rest → (s : List ℕ) × (d ≡ string s) × (text ≡ quoted s ++ rest)
+text_there_by d rest text said is = (said.0, said.1, is ∙ ap (λ e. compact_text e ++ rest) said.1)
+
+pub text_there : (d : Data) (rest r text : List ℕ) → EndsValue rest → text ≡ compact_text d ++ rest → text ≡ 34 ∷ r → (s : List ℕ) × (d ≡ string s) × (text ≡ quoted s ++ rest)
+text_there d rest r text ends is quote = text_there_by d rest text (text_begun d rest r (ends_quote rest ends) (sym is ∙ quote)) is
+
+pub behind_quoted : (text found rest r : List ℕ) (d : Data) → EndsValue rest → text ≡ compact_text d ++ rest → text ≡ 34 ∷ r → ((s rest : List ℕ) → text ≡ quoted s ++ rest → found ≡ rest) → found ≡ rest
+behind_quoted text found rest r d ends is quote goes = let said = text_there d rest r text ends is quote in goes said.0 rest said.2
+
+pub behind_true : (text found rest : List ℕ) (d : Data) → EndsValue rest → text ≡ compact_text d ++ rest → text ≡ codes "true" ++ found → found ≡ rest
+behind_true text found rest d ends is word =
+    let truth = true_begun d rest _ (ends_true rest ends) (sym is ∙ word) in
+    append_cancel_left (codes "true") found rest (sym word ∙ is ∙ ap (λ e. compact_text e ++ rest) truth)
+
+pub behind_false : (text found rest : List ℕ) (d : Data) → EndsValue rest → text ≡ compact_text d ++ rest → text ≡ codes "false" ++ found → found ≡ rest
+behind_false text found rest d ends is word =
+    let truth = false_begun d rest _ (ends_false rest ends) (sym is ∙ word) in
+    append_cancel_left (codes "false") found rest (sym word ∙ is ∙ ap (λ e. compact_text e ++ rest) truth)
+
+pub colon_passed : (behind value tail : List ℕ) → behind ≡ 58 ∷ tail → behind ≡ 58 ∷ value → value ≡ tail
+colon_passed behind value tail is colon = behind_is 58 58 value tail (sym colon ∙ is)
+
+-- ---- which key it is
+
+abbrev pub HasNoEscape : List ℕ → Type 0
+HasNoEscape [] = ⊤
+HasNoEscape (x ∷ s) = (x ≡ 34 → ⊥) × (x ≡ 92 → ⊥) × HasNoEscape s
+
+pub same_key : (p k a b : List ℕ) → HasNoEscape p → escape k ++ 34 ∷ a ≡ p ++ 34 ∷ b → k ≡ p
+same_key [] [] a b plain is = refl
+same_key [] (x ∷ k) a b plain is =
+    absurd (by_escape ⊥ x (λ t e. (let same = first_is 92 34 _ b (sym (opened (escape_byte x) (escape k) (34 ∷ a) (92 ∷ t) e) ∙ is) in omega (arith, same)))
+    (λ e. quote_escaped x (first_is x 34 _ b (sym (opened (escape_byte x) (escape k) (34 ∷ a) (x ∷ []) e) ∙ is)) e))
+same_key (y ∷ p) [] a b plain is = absurd (plain.0 (sym (first_is 34 y a _ is)))
+same_key (y ∷ p) (x ∷ k) a b plain is =
+    by_escape (x ∷ k ≡ y ∷ p) x (λ t e. absurd (plain.1 (sym (first_is 92 y _ _ (sym (opened (escape_byte x) (escape k) (34 ∷ a) (92 ∷ t) e) ∙ is)))))
+    (λ e. (let whole = sym (opened (escape_byte x) (escape k) (34 ∷ a) (x ∷ []) e) ∙ is in ap₂ (λ z s. z ∷ s) (first_is x y _ _ whole) (same_key p k a b plain.2 (behind_is x y _ _ whole))))

@@ -66,7 +66,7 @@ plain_bytes (x ∷ s) none =
 no_number : (n : Num) → BeginsNot 34 (number_text n)
 no_number n = number_differs 34 n (λ d small e. omega (arith, small, e)) (λ e. cc)
 
-append_differs : (c : ℕ) (s t : List ℕ) → BeginsNot c s → BeginsNot c t → BeginsNot c (s ++ t)
+pub append_differs : (c : ℕ) (s t : List ℕ) → BeginsNot c s → BeginsNot c t → BeginsNot c (s ++ t)
 append_differs c [] t one other = other
 append_differs c (x ∷ s) t one other = λ r e. one s (let first : x ≡ c = cc in ap (λ y. y ∷ s) first)
 

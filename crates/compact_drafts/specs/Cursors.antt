@@ -11,3 +11,7 @@ pub record IsTextBefore (d : Data) (rest found : List ℕ) : Type 0 where
   pub said : List ℕ
   pub is : d ≡ string said
   pub rest_is : found ≡ rest
+
+-- the text does not go on with a value: it begins with no byte but what may stand behind one
+abbrev pub EndsValue : List ℕ → Type 0
+EndsValue rest = (c : ℕ) → (c ≡ 44 → ⊥) → (c ≡ 93 → ⊥) → (c ≡ 125 → ⊥) → BeginsNot c rest
