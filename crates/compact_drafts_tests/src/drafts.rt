@@ -6,7 +6,7 @@ use std::alloc::Global;
 use std::process::Abort;
 
 // What a row shows, and a line whose object is a pod `web-0`.
-const TOLD: [(&str, &str); 5] = [
+const TOLD: [(&str, &str); 6] = [
     (
         "no more than is needed",
         "{\"do\":\"create\",\"object\":{\"kind\":\"Pod\",\"metadata\":{\"name\":\"web-0\"}}}",
@@ -20,6 +20,10 @@ const TOLD: [(&str, &str); 5] = [
         "{\"object\":{\"kind\":\"Pod\",\"metadata\":{\"name\":\"web-0\",\"labels\":{\"role\":\"x\",\"app\":\"web\"}}}}",
     ),
     (
+        "an owner",
+        "{\"object\":{\"kind\":\"Pod\",\"metadata\":{\"name\":\"web-0\",\"ownerReferences\":[{\"apiVersion\":\"apps/v1\",\"kind\":\"StatefulSet\",\"name\":\"web\",\"uid\":\"u\",\"controller\":true,\"blockOwnerDeletion\":false}]}}}",
+    ),
+    (
         "no labels",
         "{\"object\":{\"kind\":\"Pod\",\"metadata\":{\"name\":\"web-0\",\"labels\":{}}}}",
     ),
@@ -30,7 +34,7 @@ const TOLD: [(&str, &str); 5] = [
 ];
 
 // What a row shows, and a line.
-const NOT_TOLD: [(&str, &str); 9] = [
+const NOT_TOLD: [(&str, &str); 10] = [
     ("no object", "{\"do\":\"create\"}"),
     ("no map", "{\"object\":[]}"),
     ("no metadata", "{\"object\":{\"kind\":\"Pod\"}}"),
@@ -49,6 +53,10 @@ const NOT_TOLD: [(&str, &str); 9] = [
     (
         "a label that is no text",
         "{\"object\":{\"kind\":\"Pod\",\"metadata\":{\"labels\":{\"a\":1},\"name\":\"web-0\"}}}",
+    ),
+    (
+        "an owner with no UID",
+        "{\"object\":{\"kind\":\"Pod\",\"metadata\":{\"name\":\"web-0\",\"ownerReferences\":[{\"name\":\"web\"}]}}}",
     ),
     (
         "an object that is being deleted",
@@ -101,7 +109,7 @@ fn what_is_unusual_is_not_told(rt: HostRuntime) -> Result<(), Memory> {
 #[test]
 fn the_parts_of_an_object_are_at_hand(rt: HostRuntime) -> Result<(), Memory> {
     let mut scanner = Scanner::new(rt.alloc());
-    let mut text = Vec::from_slice(rt.alloc(), TOLD[4].1.as_bytes())?;
+    let mut text = Vec::from_slice(rt.alloc(), TOLD[5].1.as_bytes())?;
     assert_so(&rt, scanner.scan(&mut text), "the line");
     let Some(draft) = CompactDraft::of(rt.alloc(), &text, scanner.tables())? else {
         assert_so(&rt, false, "the draft");
