@@ -16,7 +16,8 @@ TOP = os.path.dirname(os.path.dirname(os.path.realpath(__file__)))
 EXAMPLES = f"{TOP}/examples"
 # The folders, and the words of an example there that has none of its own.
 FOLDERS = {
-    "serve": ["serve"], "replay": ["replay"], "cluster": ["cluster"], "plan": ["plan", "--set", "web"], "race": ["race"], "words": ["serve"],
+    "serve": ["serve"], "replay": ["replay"], "cluster": ["cluster"], "outcomes": ["outcomes"], "plan": ["plan", "--set", "web"],
+    "race": ["race"], "words": ["serve"],
 }
 DEFAULT_INPUT = b"serve/first-run"
 
