@@ -1,5 +1,6 @@
 pub mod Asked
 pub mod Clustered
+pub mod Found
 pub mod Grammars
 pub mod Halted
 pub mod Planned

@@ -15,7 +15,7 @@ use Rattle.clap.proofs.OnLiterals.{clap_on_literals}
 use Rattle.plain.specs.Served.{served_so_far}
 use Rattle.plain.specs.Streams.{PutsPart, Takes}
 use Rattle.plain.proofs.Flows.{PutsPart-none, Takes-none}
-use Rattle.commands.specs.Asked.{IsAsked, IsOther, IsRaceBy, IsScripted, IsServing}
+use Rattle.commands.specs.Asked.{IsAsked, IsFinding, IsOther, IsRaceBy, IsScripted, IsServing}
 use Rattle.commands.specs.Serving.{ServesSome}
 use Rattle.commands.specs.declared.form.Form.{Form}
 use Rattle.commands.specs.declared.form.Form.TheVariants.{Lines, Picture}
@@ -23,7 +23,7 @@ use Rattle.commands.specs.declared.race_words.RaceWords.{RaceWords}
 use Rattle.commands.specs.declared.words.Asked.{Asked}
 use Rattle.commands.specs.declared.words.Asked.TheVariants as say
 use Rattle.commands.specs.Forms.{IsFlagBy, IsFormBy}
-use Rattle.commands.specs.Grammar.{IsCapacityBy, IsNumberBy, Plan, asked, capacity_text, digits_text, faults_of, flag_text, is_under, plan_text, race_text, rows_under, stsctl_app, word_by, word_of}
+use Rattle.commands.specs.Grammar.{IsCapacityBy, IsChoiceBy, IsNumberBy, Plan, asked, capacity_text, choice_text, digits_text, faults_of, flag_text, is_under, plan_text, race_text, rows_under, stsctl_app, word_by, word_of}
 
 stsctl-is_simple : is_simple stsctl_app ≡ true
 unfolding clap_on_literals
@@ -94,21 +94,24 @@ rows-met word m rows name found = rows_here word (out-ArgMatches m).subcommand r
 pub rows-unmet : (word : Text) (m : ArgMatches) → (subcommand_name_of m ≡ Some word → ⊥) → rows_under word (subcommand_rows_of m) ≡ []
 rows-unmet word m other = no_rows word (out-ArgMatches m).subcommand other
 
-word-is : (plan race replay cluster p a r c : Bool) → plan ≡ p → race ≡ a → replay ≡ r → cluster ≡ c → word_by plan race replay cluster ≡ word_by p a r c
-word-is plan race replay cluster p a r c plan_is race_is replay_is cluster_is =
-    ap₂ (λ x y. word_by x y replay cluster) plan_is race_is ∙ ap₂ (λ x y. word_by p a x y) replay_is cluster_is
+word-is : (plan race replay cluster outcomes p a r c o : Bool) → plan ≡ p → race ≡ a → replay ≡ r → cluster ≡ c → outcomes ≡ o
+    → word_by plan race replay cluster outcomes ≡ word_by p a r c o
+word-is plan race replay cluster outcomes p a r c o plan_is race_is replay_is cluster_is outcomes_is =
+    ap₂ (λ x y. word_by x y replay cluster outcomes) plan_is race_is ∙ ap₂ (λ x y. word_by p a x y outcomes) replay_is cluster_is
+    ∙ ap (word_by p a r c) outcomes_is
 
 -- what words without a fault ask for, by the subcommands that were met
-asked-by : (words : List Text) (m : ArgMatches) (p a r c : Bool) → faults_of words ≡ [] → subcommand_rows_of m ≡ subcommand_of stsctl_app words
+asked-by : (words : List Text) (m : ArgMatches) (p a r c o : Bool) → faults_of words ≡ [] → subcommand_rows_of m ≡ subcommand_of stsctl_app words
     → is_under (codes "plan") (subcommand_rows_of m) ≡ p → is_under (codes "race") (subcommand_rows_of m) ≡ a
-    → is_under (codes "replay") (subcommand_rows_of m) ≡ r → is_under (codes "cluster") (subcommand_rows_of m) ≡ c → asked words ≡ word_by p a r c
+    → is_under (codes "replay") (subcommand_rows_of m) ≡ r → is_under (codes "cluster") (subcommand_rows_of m) ≡ c
+    → is_under (codes "outcomes") (subcommand_rows_of m) ≡ o → asked words ≡ word_by p a r c o
 unfolding asked
-asked-by words m p a r c none same plan race replay cluster =
-    ap₂ word_of none (sym same) ∙ word-is _ _ _ _ p a r c plan race replay cluster
+asked-by words m p a r c o none same plan race replay cluster outcomes =
+    ap₂ word_of none (sym same) ∙ word-is _ _ _ _ _ p a r c o plan race replay cluster outcomes
 
 pub asked-plan : (words : List Text) (m : ArgMatches) → faults_of words ≡ [] → subcommand_rows_of m ≡ subcommand_of stsctl_app words
     → is_under (codes "plan") (subcommand_rows_of m) ≡ true → asked words ≡ Plan
-asked-plan words m none same plan = asked-by words m true _ _ _ none same plan refl refl refl
+asked-plan words m none same plan = asked-by words m true _ _ _ _ none same plan refl refl refl refl
 
 pub capacity-is : (words : List Text) (m : ArgMatches) → subcommand_rows_of m ≡ subcommand_of stsctl_app words
     → one_of (codes "capacity") (rows_under (codes "serve") (subcommand_rows_of m)) ≡ capacity_text words
@@ -136,42 +139,63 @@ race_by words m race same by = (
   subst (λ t. IsFlagBy t race.history) (race-is words m (codes "history") same) by.5,
 )
 
+pub choice-is : (words : List Text) (m : ArgMatches) → subcommand_rows_of m ≡ subcommand_of stsctl_app words
+    → one_of (codes "script") (rows_under (codes "outcomes") (subcommand_rows_of m)) ≡ choice_text words
+unfolding choice_text
+choice-is words m same = ap (λ e. one_of (codes "script") (rows_under (codes "outcomes") e)) same
+
+-- what words without a plan, a race, a replay and a cluster ask for
+pub found_serving : (m : ArgMatches) (found : Asked) → is_under (codes "cluster") (subcommand_rows_of m) ≡ false → IsFinding (subcommand_rows_of m) found
+    → IsServing (subcommand_rows_of m) found
+found_serving m (say.Cluster form) cluster finding = absurd finding
+found_serving m (say.Serve capacity) cluster finding = (cluster, finding)
+found_serving m (say.Outcomes choice) cluster finding = (cluster, finding)
+found_serving m (say.Replay form) cluster finding = absurd finding
+found_serving m (say.Plan plan) cluster finding = absurd finding
+found_serving m (say.Race race) cluster finding = absurd finding
+
 -- what words without a plan, a race and a replay ask for
 pub served_scripted : (m : ArgMatches) (found : Asked) → is_under (codes "replay") (subcommand_rows_of m) ≡ false → IsServing (subcommand_rows_of m) found
     → IsScripted (subcommand_rows_of m) found
-served_scripted m (say.Replay form) replay serving = absurd serving
+served_scripted m (say.Replay form) replay serving = absurd serving.1
 served_scripted m (say.Serve capacity) replay serving = (replay, serving)
 served_scripted m (say.Cluster form) replay serving = (replay, serving)
-served_scripted m (say.Plan plan) replay serving = absurd serving
-served_scripted m (say.Race race) replay serving = absurd serving
+served_scripted m (say.Outcomes choice) replay serving = (replay, serving)
+served_scripted m (say.Plan plan) replay serving = absurd serving.1
+served_scripted m (say.Race race) replay serving = absurd serving.1
 
 -- what words without a plan and without a race ask for
 pub scripted_other : (m : ArgMatches) (found : Asked) → is_under (codes "race") (subcommand_rows_of m) ≡ false → IsScripted (subcommand_rows_of m) found
     → IsOther (subcommand_rows_of m) found
-scripted_other m (say.Race asked) race scripted = absurd scripted.1
+scripted_other m (say.Race asked) race scripted = absurd scripted.1.1
 scripted_other m (say.Serve capacity) race scripted = (race, scripted)
 scripted_other m (say.Replay form) race scripted = (race, scripted)
 scripted_other m (say.Cluster form) race scripted = (race, scripted)
-scripted_other m (say.Plan plan) race scripted = absurd scripted.1
+scripted_other m (say.Outcomes choice) race scripted = (race, scripted)
+scripted_other m (say.Plan plan) race scripted = absurd scripted.1.1
 
 -- what words without a plan ask for
 pub other_asked : (words : List Text) (m : ArgMatches) (found : Asked) → faults_of words ≡ [] → subcommand_rows_of m ≡ subcommand_of stsctl_app words
     → is_under (codes "plan") (subcommand_rows_of m) ≡ false → IsOther (subcommand_rows_of m) found → IsAsked words found
 other_asked words m (say.Serve capacity) none same plan other = (
-  asked-by words m false false false false none same plan other.0 other.1.0 other.1.1.0,
-  subst (λ t. IsCapacityBy t capacity) (capacity-is words m same) other.1.1.1,
+  asked-by words m false false false false false none same plan other.0 other.1.0 other.1.1.0 other.1.1.1.0,
+  subst (λ t. IsCapacityBy t capacity) (capacity-is words m same) other.1.1.1.1,
+)
+other_asked words m (say.Outcomes choice) none same plan other = (
+  asked-by words m false false false false true none same plan other.0 other.1.0 other.1.1.0 other.1.1.1.0,
+  subst (λ t. IsChoiceBy t choice) (choice-is words m same) other.1.1.1.1,
 )
 other_asked words m (say.Replay form) none same plan other = (
-  asked-by words m false false true _ none same plan other.0 other.1.0 refl,
+  asked-by words m false false true _ _ none same plan other.0 other.1.0 refl refl,
   subst (λ t. IsFormBy t form) (flag-is words m (codes "replay") same) other.1.1,
 )
 other_asked words m (say.Cluster form) none same plan other = (
-  asked-by words m false false false true none same plan other.0 other.1.0 other.1.1.0,
+  asked-by words m false false false true _ none same plan other.0 other.1.0 other.1.1.0 refl,
   subst (λ t. IsFormBy t form) (flag-is words m (codes "cluster") same) other.1.1.1,
 )
-other_asked words m (say.Plan asked) none same plan other = absurd other.1.1
+other_asked words m (say.Plan asked) none same plan other = absurd other.1.1.1
 other_asked words m (say.Race race) none same plan other = (
-  asked-by words m false true _ _ none same plan other.0 refl refl,
+  asked-by words m false true _ _ _ none same plan other.0 refl refl refl,
   (race_by words m race same other.1, other.2),
 )
 
@@ -196,6 +220,15 @@ pub read : {E : Type 0} (gives : Text → Result ℕ E → Type 0) (text : Optio
 read gives None given capacity parses none some is = is ∙ ap (λ g. unwrap_or g 1048576) (none refl)
 read gives (Some t) (Some n) capacity parses none some is = λ numeral low. is ∙ (parses t (Ok n) (some t refl)).1
 read gives (Some t) None capacity parses none some is = λ numeral low.
+    let failed = some t refl in absurd (parses t (Err failed.0) failed.1 (numeral, low))
+
+-- the number of an outcome that was read, or none
+pub read_choice : {E : Type 0} (gives : Text → Result ℕ E → Type 0) (text : Option Text) (given : Option ℕ)
+    → ((t : Text) (r : Result ℕ E) → gives t r → ParsesUnsigned 64 10 t r) → (text ≡ None → given ≡ None)
+    → ((t : Text) → text ≡ Some t → ReadsOne gives t given) → IsChoiceBy text given
+read_choice gives None given parses none some = none refl
+read_choice gives (Some t) (Some n) parses none some = λ numeral low. ap Some (parses t (Ok n) (some t refl)).1
+read_choice gives (Some t) None parses none some = λ numeral low.
     let failed = some t refl in absurd (parses t (Err failed.0) failed.1 (numeral, low))
 
 asked-some : (text : Option Text) → (capacity : ℕ) × IsCapacityBy text capacity

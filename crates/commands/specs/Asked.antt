@@ -6,7 +6,7 @@ use Rattle.commands.specs.declared.words.Asked.TheVariants as say
 use Rattle.commands.specs.declared.words.PlanWords.{PlanWords}
 use Rattle.commands.specs.declared.race_words.RaceWords.{RaceWords}
 use Rattle.commands.specs.Forms.{IsFlagBy, IsFormBy}
-use Rattle.commands.specs.Grammar.{AsksFor, Cluster, IsCapacityBy, IsDigitsBy, IsNumberBy, Plan, Race, Replay, Serve, asked, digits_text, flag_text, is_under, plan_text, race_text, rows_under}
+use Rattle.commands.specs.Grammar.{AsksFor, Cluster, IsCapacityBy, IsChoiceBy, IsDigitsBy, IsNumberBy, Outcomes, Plan, Race, Replay, Serve, asked, choice_text, digits_text, flag_text, is_under, plan_text, race_text, rows_under}
 use Rattle.race_log.specs.Limits.{is_race}
 
 -- what the words after `plan` say
@@ -34,15 +34,21 @@ IsAsked words (say.Replay form) = (asked words ≡ Replay) × IsFormBy (flag_tex
 IsAsked words (say.Cluster form) = (asked words ≡ Cluster) × IsFormBy (flag_text (codes "cluster") words) form
 IsAsked words (say.Plan plan) = (asked words ≡ Plan) × IsPlanAsked words plan
 IsAsked words (say.Race race) = (asked words ≡ Race) × IsRaceAsked words race
+IsAsked words (say.Outcomes choice) = (asked words ≡ Outcomes) × IsChoiceBy (choice_text words) choice
 
--- ---- for private clauses: what words ask for that ask for no plan, for no race, and for no replay, by the subcommand that was
--- met
+-- ---- for private clauses: what words ask for that ask for no plan, for no race, for no replay, and for no cluster, by the
+-- subcommand that was met
+
+abbrev pub IsFinding : Option (Text × List Row) → Asked → Type 0
+IsFinding met (say.Outcomes choice) = (is_under (codes "outcomes") met ≡ true)
+    × IsChoiceBy (one_of (codes "script") (rows_under (codes "outcomes") met)) choice
+IsFinding met (say.Serve capacity) = (is_under (codes "outcomes") met ≡ false)
+    × IsCapacityBy (one_of (codes "capacity") (rows_under (codes "serve") met)) capacity
+IsFinding met _ = ⊥
 
 abbrev pub IsServing : Option (Text × List Row) → Asked → Type 0
-IsServing met (say.Serve capacity) = (is_under (codes "cluster") met ≡ false)
-    × IsCapacityBy (one_of (codes "capacity") (rows_under (codes "serve") met)) capacity
 IsServing met (say.Cluster form) = (is_under (codes "cluster") met ≡ true) × IsFormBy (one_of (codes "picture") (rows_under (codes "cluster") met)) form
-IsServing met _ = ⊥
+IsServing met other = (is_under (codes "cluster") met ≡ false) × IsFinding met other
 
 abbrev pub IsScripted : Option (Text × List Row) → Asked → Type 0
 IsScripted met (say.Replay form) = (is_under (codes "replay") met ≡ true) × IsFormBy (one_of (codes "picture") (rows_under (codes "replay") met)) form

@@ -1,6 +1,7 @@
 -- What the program takes, as `clap` reads it: `serve [--capacity N]`, `replay [--picture]`, `cluster [--picture]`,
--- `plan --set NAME [--namespace NS] [--digits H]`, and
--- `race [--controllers N] [--shards N] [--rounds N] [--replicas N] [--operator] [--history]`. `clap` adds help and the version.
+-- `plan --set NAME [--namespace NS] [--digits H]`,
+-- `race [--controllers N] [--shards N] [--rounds N] [--replicas N] [--operator] [--history]`, and `outcomes [--script K]`. `clap`
+-- adds help and the version.
 use Rattle.std.specs.Prelude.{◌≡◌, ◌≤◌, ◌<◌, ◌^◌, ℕ, Bool, true, false, List, [], ◌∷◌, Option, Some, None, codes, if◌then◌else◌}
 use Rattle.std.specs.Option.{option_map_or}
 use Rattle.std.specs.Str.{bytes_eq}
@@ -66,10 +67,13 @@ sized_app = with_rule (with_rule (with_rule (with_rule (new_app (codes "race")) 
 abbrev pub race_app : App
 race_app = with_rule (with_rule sized_app (flag_rule (codes "operator"))) (flag_rule (codes "history"))
 
+abbrev pub outcomes_app : App
+outcomes_app = with_rule (new_app (codes "outcomes")) (option_rule (codes "script") (parsers.Unsigned 1 20000))
+
 abbrev pub stsctl_app : App
-stsctl_app = with_subcommand (with_subcommand (with_subcommand (with_subcommand (with_subcommand
+stsctl_app = with_subcommand (with_subcommand (with_subcommand (with_subcommand (with_subcommand (with_subcommand
     (record (new_app (codes "stsctl")) { top = record (new_shape (codes "stsctl")) { has_version = true; subcommand_required = true } })
-    serve_app.top) replay_app.top) cluster_app.top) plan_app.top) race_app.top
+    serve_app.top) replay_app.top) cluster_app.top) plan_app.top) race_app.top) outcomes_app.top
 
 -- why the words, the program's name first, ask for nothing that the program does: nothing where they do ask for it
 unfoldable pub faults_of : List Text → Kinds
@@ -89,18 +93,22 @@ pub data Word : Type 0 where
   Cluster : Word
   Plan : Word
   Race : Word
+  Outcomes : Word
   NoWork : Word
 
 -- which of them, by the subcommands that are named
-abbrev pub word_by : (plan race replay cluster : Bool) → Word
-word_by true race replay cluster = Plan
-word_by false true replay cluster = Race
-word_by false false true cluster = Replay
-word_by false false false true = Cluster
-word_by false false false false = Serve
+abbrev pub word_by : (plan race replay cluster outcomes : Bool) → Word
+word_by true race replay cluster outcomes = Plan
+word_by false true replay cluster outcomes = Race
+word_by false false true cluster outcomes = Replay
+word_by false false false true outcomes = Cluster
+word_by false false false false true = Outcomes
+word_by false false false false false = Serve
 
 abbrev pub word_of : Kinds → Option (Text × List Row) → Word
-word_of [] met = word_by (is_under (codes "plan") met) (is_under (codes "race") met) (is_under (codes "replay") met) (is_under (codes "cluster") met)
+word_of [] met =
+    word_by (is_under (codes "plan") met) (is_under (codes "race") met) (is_under (codes "replay") met) (is_under (codes "cluster") met)
+    (is_under (codes "outcomes") met)
 word_of (kind ∷ kinds) met = NoWork
 
 -- what the words ask for: no work where they have a fault
@@ -150,6 +158,18 @@ IsDigitsBy text digits = IsNumberBy 10 1 64 text digits
 -- the number after this option of `race`, as text, or what `clap` has for this flag of it
 unfoldable pub race_text : Text → List Text → Option Text
 race_text option words = one_of option (rows_under (codes "race") (subcommand_of stsctl_app words))
+
+-- the number after `--script` of `outcomes`, as text
+unfoldable pub choice_text : List Text → Option Text
+choice_text words = one_of (codes "script") (rows_under (codes "outcomes") (subcommand_of stsctl_app words))
+
+-- The outcome whose script is asked for is the one of the number that the text says in decimal digits; without a text none is. Where
+-- the text is no such number, the words have a fault.
+abbrev pub IsChoiceBy : Option Text → Option ℕ → Type 0
+IsChoiceBy None choice = choice ≡ None
+IsChoiceBy (Some text) choice =
+    IsNumeral 10 (without_leading_plus text) → digits_value 10 (without_leading_plus text) < 2 ^ 64
+    → choice ≡ Some (digits_value 10 (without_leading_plus text))
 
 -- the words ask for help or for the version
 abbrev pub is_request : ErrorKind → Bool

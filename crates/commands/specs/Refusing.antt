@@ -3,14 +3,16 @@ use Rattle.std.specs.Prelude.{◌≡◌, ℕ, List, Option}
 use Rattle.clap.specs.Words.{Text}
 use Rattle.commands.specs.declared.words.PlanWords.{PlanWords}
 use Rattle.commands.specs.Asked.{IsPlanAsked}
+use Rattle.commands.specs.Finding.{IsOutcomesRefusedBy}
 use Rattle.commands.specs.Clustering.{IsClusterRefusedBy}
-use Rattle.commands.specs.Grammar.{Cluster, Plan, Replay, asked}
+use Rattle.commands.specs.Grammar.{Cluster, IsChoiceBy, Outcomes, Plan, Replay, asked, choice_text}
 use Rattle.commands.specs.Planning.{IsPlanRefusedBy}
 use Rattle.commands.specs.Replaying.{IsRefusedBy}
 
--- A refusal by some name was reported, and by that name the script of a replay or a cluster is refused, or the plan that the words ask
--- for.
+-- A refusal by some name was reported, and by that name the script of a replay or a cluster is refused, or the plan or the outcomes
+-- that the words ask for.
 abbrev pub Refuses : List Text → Option (List ℕ) → Option (List ℕ) → (reported : List ℕ → Type 0) → Type 0
 Refuses words had left reported = (name : List ℕ) × reported name × (asked words ≡ Replay → IsRefusedBy had left name)
     × (asked words ≡ Cluster → IsClusterRefusedBy had left name)
     × (asked words ≡ Plan → (plan : PlanWords) × IsPlanAsked words plan × IsPlanRefusedBy plan had left name)
+    × (asked words ≡ Outcomes → (choice : Option ℕ) × IsChoiceBy (choice_text words) choice × IsOutcomesRefusedBy choice had left name)

@@ -1,6 +1,7 @@
 //! Why a run over a whole input has no output, and its exit status.
 ghost use Rattle.std.specs.Prelude.{◌≡◌, ◌≢◌, ◌<◌, ◌⊎◌, None, false, true};
 ghost use Rattle.commands.specs.Clustering.{cluster_refusal};
+ghost use Rattle.commands.specs.Finding.{finding_refusal, scripting_refusal};
 ghost use Rattle.commands.specs.Halts.{IsNamed, Tells, halt_of, is_read, name_of};
 ghost use Rattle.commands.specs.Planning.{plan_refusal, read_refusal};
 ghost use Rattle.commands.specs.Replaying.{run_refusal, script_refusal};
@@ -9,6 +10,8 @@ use crate::status::{BAD_WORDS, FAILURE, Heap, REFUSED, SUCCESS, refused};
 use controllers::ClusterFault;
 use history::ReplayError;
 use objects::{Memory, ReadError};
+use outcome_lines::ScriptingError;
+use outcomes::OutcomesError;
 use plain::{InputFault, RequestError, Sink};
 use plan_lines::plan_error_name;
 use replay_lines::ScriptError;
@@ -108,6 +111,29 @@ impl From<ClusterFault> for Halt {
             ClusterFault::BadShards => Halt::Refused("BadShards"),
             ClusterFault::BadCapacity => Halt::Refused("BadCapacity"),
             ClusterFault::TooManyCallers => Halt::Refused("TooManyCallers"),
+        }
+    }
+}
+
+impl From<OutcomesError> for Halt {
+    ghost from_gives = { λ error halt. (is_read halt ≡ false) × (name_of halt ≡ finding_refusal error) };
+
+    fn from(error: OutcomesError) -> Halt {
+        match error {
+            OutcomesError::Memory => Halt::Memory,
+            OutcomesError::BadCapacity => Halt::Refused("BadCapacity"),
+            OutcomesError::TooManyOutcomes => Halt::Refused("TooManyOutcomes"),
+        }
+    }
+}
+
+impl From<ScriptingError> for Halt {
+    ghost from_gives = { λ error halt. (is_read halt ≡ false) × (name_of halt ≡ scripting_refusal error) };
+
+    fn from(error: ScriptingError) -> Halt {
+        match error {
+            ScriptingError::Memory => Halt::Memory,
+            ScriptingError::NoScript => Halt::Refused("NoScript"),
         }
     }
 }

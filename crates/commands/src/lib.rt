@@ -5,6 +5,7 @@
 mod cluster;
 mod cluster_roles;
 mod explain;
+mod finding;
 mod flags;
 mod form;
 mod halt;

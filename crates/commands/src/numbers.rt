@@ -22,6 +22,13 @@ pub(crate) fn from_1_to_1024<'a>() -> ValueParser<'a>
     value_parser!(u64).range(1..=1_024)
 }
 
+/// Takes a number from 1 to 20,000.
+pub(crate) fn from_1_to_20000<'a>() -> ValueParser<'a>
+    ensures { result ≡ parsers.Unsigned 1 20000 }
+{
+    value_parser!(u64).range(1..=20_000)
+}
+
 /// Takes a number from 0 to 64.
 pub(crate) fn from_0_to_64<'a>() -> ValueParser<'a>
     ensures { result ≡ parsers.Unsigned 0 64 }

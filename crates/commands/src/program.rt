@@ -2,8 +2,9 @@
 ghost use Rattle.std.specs.Prelude.{◌≡◌, ◌≢◌, ◌≤◌, ◌<◌, ◌⊎◌, [], map, true, false};
 ghost use Rattle.std.specs.List.{list_any};
 ghost use Rattle.plain.specs.Streams.{Puts, PutsPart};
-ghost use Rattle.commands.specs.Grammar.{Cluster, Plan, Race, Replay, Serve, asked, faults_of, is_mistake, is_request};
+ghost use Rattle.commands.specs.Grammar.{Cluster, Outcomes, Plan, Race, Replay, Serve, asked, faults_of, is_mistake, is_request};
 ghost use Rattle.commands.specs.Clustering.{Clusters};
+ghost use Rattle.commands.specs.Finding.{Finds};
 ghost use Rattle.commands.specs.Halts.{Tells};
 ghost use Rattle.commands.specs.Planning.{Plans};
 ghost use Rattle.commands.specs.Racing.{Races, RacesPart};
@@ -13,6 +14,7 @@ ghost use Rattle.commands.specs.Serving.{AsksOutOfRange, Serves, ServesSome};
 
 use crate::cluster::clustered;
 use crate::explain::explained;
+use crate::finding::found;
 use crate::plan::planned;
 use crate::race::raced;
 use crate::replay::replayed;
@@ -27,7 +29,7 @@ use std::thread::Threads;
 /// The whole program: does what the words ask for, the program's name first, and answers the exit status. It is 0 on
 /// success and for help and the version, which go to `writer`; 1, with nothing more said, where reading or writing fails
 /// or memory runs out; 2 where the words are bad, for which the reason goes to `faults`; and 3 where the script of a
-/// replay or a cluster or the input of a plan is refused, the name of the refusal going to `faults` and nothing to `writer`, or where
+/// replay or a cluster, a litmus test or the input of a plan is refused, the name of the refusal going to `faults` and nothing to `writer`, or where
 /// the report of a race, which `writer` has then, is not legal. Only a race starts threads and waits.
 pub fn command<T: Threads + Wait + Sync, S: AsStr, R: Source, W: Sink, F: Sink>(
     rt: &T,
@@ -77,6 +79,14 @@ pub fn command<T: Threads + Wait + Sync, S: AsStr, R: Source, W: Sink, F: Sink>(
         result ≡ FAILURE → asked texts ≡ Plan → (writer.new ≡ writer.old)
         ⊎ Plans PutsPart texts (R.remaining reader.old) (R.remaining reader.new) (W.written writer.old) (W.written writer.new) }
 
+    // Outcomes: all that callers can be told, or the script that shows one, or at a failure a part of it.
+    ensures found { let texts = map S.text words.now in
+        result ≡ SUCCESS → asked texts ≡ Outcomes
+        → Finds Puts texts (R.remaining reader.old) (R.remaining reader.new) (W.written writer.old) (W.written writer.new) }
+    ensures found_part { let texts = map S.text words.now in
+        result ≡ FAILURE → asked texts ≡ Outcomes → (writer.new ≡ writer.old)
+        ⊎ Finds PutsPart texts (R.remaining reader.old) (R.remaining reader.new) (W.written writer.old) (W.written writer.new) }
+
     // Race: the line of the report, the history before it where that is asked for, and nothing else, or at a failure a part of
     // it; the report is not legal exactly at the status of a refusal.
     ensures raced { let texts = map S.text words.now in
@@ -87,9 +97,9 @@ pub fn command<T: Threads + Wait + Sync, S: AsStr, R: Source, W: Sink, F: Sink>(
         result ≡ FAILURE → asked texts ≡ Race → (writer.new ≡ writer.old) ⊎ RacesPart texts (W.written writer.old) (W.written writer.new) }
     ensures apart { asked (map S.text words.now) ≡ Race → (reader.new ≡ reader.old) × (faults.new ≡ faults.old) }
 
-    // Replay, cluster and plan: input that is refused, and by which name.
+    // Replay, cluster, plan and outcomes: input that is refused, and by which name.
     ensures refused_input { let word = asked (map S.text words.now) in
-        result ≡ REFUSED → (word ≡ Replay) ⊎ ((word ≡ Cluster) ⊎ ((word ≡ Plan) ⊎ (word ≡ Race))) }
+        result ≡ REFUSED → (word ≡ Replay) ⊎ ((word ≡ Cluster) ⊎ ((word ≡ Plan) ⊎ ((word ≡ Race) ⊎ (word ≡ Outcomes)))) }
     ensures named { let texts = map S.text words.now in
         result ≡ REFUSED → asked texts ≢ Race → Refuses texts (R.remaining reader.old) (R.remaining reader.new)
         (λ name. Tells name (F.written faults.old) (F.written faults.new) (F.failures faults.old) (F.failures faults.new)) }
@@ -115,6 +125,7 @@ pub fn command<T: Threads + Wait + Sync, S: AsStr, R: Source, W: Sink, F: Sink>(
         Ok(Asked::Cluster(form)) => clustered(heap, form, reader, writer, faults),
         Ok(Asked::Plan(plan)) => planned(heap, &plan, reader, writer, faults),
         Ok(Asked::Race(race)) => raced(rt, heap, &race, writer),
+        Ok(Asked::Outcomes(choice)) => found(heap, choice, reader, writer, faults),
         Err(error) => explained(heap, &error, writer, faults),
     }
 }

@@ -1,11 +1,11 @@
 //! What the words of the command line ask for.
 ghost use Rattle.std.specs.Prelude.{◌≡◌, ◌≤◌, [], codes, map, unwrap_or, IfOk};
 ghost use Rattle.clap.specs.Words.{FailsBy, app_of, first_of, found_of, one_of, rows_of, subcommand_rows_of};
-ghost use Rattle.commands.specs.Grammar.{IsCapacityBy, IsDigitsBy, cluster_app, faults_of, plan_app, replay_app, rows_under, serve_app, stsctl_app};
-ghost use Rattle.commands.specs.Asked.{IsAsked, IsOther, IsScripted, IsServing};
+ghost use Rattle.commands.specs.Grammar.{IsCapacityBy, IsChoiceBy, IsDigitsBy, cluster_app, faults_of, outcomes_app, plan_app, replay_app, rows_under, serve_app, stsctl_app};
+ghost use Rattle.commands.specs.Asked.{IsAsked, IsFinding, IsOther, IsScripted, IsServing};
 
 use crate::form::{Form, form_in, picture_arg};
-use crate::numbers::{from_1_to_64, number_arg, number_in};
+use crate::numbers::{from_1_to_64, from_1_to_20000, number_arg, number_in};
 use crate::race_words::{RaceWords, race_grammar, race_words};
 use clap::{Arg, ArgMatches, Command, Error, value_parser};
 use plain::MAX_REVISIONS;
@@ -35,6 +35,13 @@ const PLAN_END: &str =
     r#"An input line: {"kind":"StatefulSet","metadata":{"name":"web","uid":"00000000-0000-4000-8000-000000000001"},"spec":{"replicas":3,"template":{}}}
 More in docs/PLANS.md"#;
 
+/// The end of the help on `outcomes`: a whole input.
+const OUTCOMES_END: &str = r#"Whole input, of two callers who race for a name:
+{"capacity":100}
+{"caller":1,"request":{"do":"create","object":{"kind":"Pod","metadata":{"name":"a"}}}}
+{"caller":2,"request":{"do":"create","object":{"kind":"Pod","metadata":{"name":"a"}}}}
+Either is told Created, and the other AlreadyExists. More in docs/LITMUS.md"#;
+
 /// What is to be planned: the set of this namespace and name, and how many hex digits of its hash the name of a new
 /// revision gets.
 #[derive(Clone, Copy, Drop)]
@@ -57,10 +64,13 @@ pub(crate) enum Asked<'a> {
     Plan(PlanWords<'a>),
     /// To let controllers race.
     Race(RaceWords),
+    /// To find what racing callers can be told, or the script that shows the outcome of that number, from 1.
+    Outcomes(Option<u64>),
 }
 
-/// What the program takes: `serve [--capacity N]`, `replay [--picture]`, `cluster [--picture]`, `plan --set NAME [--namespace NS] [--digits H]`, and
-/// `race [--controllers N] [--shards N] [--rounds N] [--replicas N] [--operator] [--history]`, and what `clap` adds for help and the version.
+/// What the program takes: `serve [--capacity N]`, `replay [--picture]`, `cluster [--picture]`, `plan --set NAME [--namespace NS] [--digits H]`,
+/// `race [--controllers N] [--shards N] [--rounds N] [--replicas N] [--operator] [--history]`, and `outcomes [--script K]`, and what `clap` adds
+/// for help and the version.
 fn grammar<'a>(alloc: Global) -> Result<Command<'a>, AllocError>
     ensures { IfOk result (λ c. app_of c ≡ stsctl_app) }
 {
@@ -68,14 +78,15 @@ fn grammar<'a>(alloc: Global) -> Result<Command<'a>, AllocError>
         .bin_name("stsctl")?
         .version("0.3.0 (rattle-kit-13f logic dac8208d650f15bf)")
         .about(
-            "A plain in-memory store of Kubernetes objects, replays of racing callers, plans of StatefulSets, and clusters and races of their controllers",
+            "A plain in-memory store of Kubernetes objects, replays of racing callers and all that they can be told, plans of StatefulSets, and clusters and races of their controllers",
         )
         .subcommand_required(true)
         .subcommand(serve_grammar(alloc)?)?
         .subcommand(replay_grammar(alloc)?)?
         .subcommand(cluster_grammar(alloc)?)?
         .subcommand(plan_grammar(alloc)?)?
-        .subcommand(race_grammar(alloc)?)
+        .subcommand(race_grammar(alloc)?)?
+        .subcommand(outcomes_grammar(alloc)?)
 }
 
 fn serve_grammar<'a>(alloc: Global) -> Result<Command<'a>, AllocError>
@@ -112,6 +123,22 @@ fn cluster_grammar<'a>(alloc: Global) -> Result<Command<'a>, AllocError>
         )
         .after_help(CLUSTER_END)
         .arg(picture_arg(alloc))
+}
+
+fn outcomes_grammar<'a>(alloc: Global) -> Result<Command<'a>, AllocError>
+    ensures { IfOk result (λ c. app_of c ≡ outcomes_app) }
+{
+    let script = number_arg(
+        alloc,
+        "script",
+        "K",
+        from_1_to_20000(),
+        "Print a script of `replay` that shows the outcome of line K, from 1 to 20000",
+    );
+    Command::new(alloc, "outcomes")
+        .about("Prints all that the callers of the litmus test on standard input can be told")
+        .after_help(OUTCOMES_END)
+        .arg(script)
 }
 
 fn plan_grammar<'a>(alloc: Global) -> Result<Command<'a>, AllocError>
@@ -179,8 +206,25 @@ fn serving_in<'a>(matches: &ArgMatches<'_>) -> Asked<'a>
 {
     match matches.subcommand_matches("cluster") {
         Some(cluster) => Asked::Cluster(form_in(cluster)),
+        None => finding_in(matches),
+    }
+}
+
+/// What words ask for that ask for no plan, no race, no replay and no cluster.
+fn finding_in<'a>(matches: &ArgMatches<'_>) -> Asked<'a>
+    ensures { IsFinding (subcommand_rows_of matches.now) result }
+{
+    match matches.subcommand_matches("outcomes") {
+        Some(outcomes) => Asked::Outcomes(choice_in(outcomes)),
         None => Asked::Serve(capacity_in(matches)),
     }
+}
+
+/// The number after `--script`.
+fn choice_in(matches: &ArgMatches<'_>) -> Option<u64>
+    ensures { IsChoiceBy (one_of (codes "script") (rows_of (found_of matches.now))) result }
+{
+    matches.get_one::<u64>("script")
 }
 
 /// The capacity of the store that is to be served.

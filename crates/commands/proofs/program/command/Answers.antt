@@ -1,7 +1,7 @@
 use Rattle.std.proofs.Common.{rules, map, inl, inr, refl, ap, subst}
 use Rattle.commands.specs.declared.words.Asked.{Asked}
 use Rattle.commands.specs.Asked.{IsAsked}
-use Rattle.commands.specs.Grammar.{Cluster, Plan, Race, Replay, Serve, faults_of, is_mistake, is_request}
+use Rattle.commands.specs.Grammar.{Cluster, Outcomes, Plan, Race, Replay, Serve, faults_of, is_mistake, is_request}
 use Rattle.commands.proofs.Asked.{list_any-kind, no_kind, no_mistake, no_request, only_memory}
 use Rattle.commands.proofs.Serving.{serves_nothing}
 use Rattle.commands.proofs.program.command.Goals as goal
@@ -125,6 +125,28 @@ returns-in-Ok-Cluster-clause-clustered_part g c = λ is asks.
 pub returns-in-Err-clause-clustered_part : goal.returns-in-Err-clause-clustered_part
 returns-in-Err-clause-clustered_part g c = λ is asks.
     let memory = only_memory c.in-Err.error (map g.S.AsStr.text c.args.words.now) Cluster c.in-Err.ensures.faults asks tt in
+    inl (c.explained.ensures.untouched (ap is_request memory))
+
+pub returns-in-Ok-Outcomes-clause-found : goal.returns-in-Ok-Outcomes-clause-found
+returns-in-Ok-Outcomes-clause-found g c = λ is asks.
+    let asked = subst (λ (a : Asked). IsAsked (map g.S.AsStr.text c.args.words.now) a) c.in-Ok-Outcomes.field-0-is c.in-Ok-Outcomes.ensures.asked in
+    (c.in-Ok-Outcomes.choice, asked.1, c.found.ensures.found is)
+
+pub returns-in-Err-clause-found : goal.returns-in-Err-clause-found
+returns-in-Err-clause-found g c = λ is asks.
+    absurd (no_request c.in-Err.error (map g.S.AsStr.text c.args.words.now) Outcomes c.in-Err.ensures.faults asks tt (c.explained.ensures.success is))
+
+pub returns-in-Ok-Outcomes-clause-found_part : goal.returns-in-Ok-Outcomes-clause-found_part
+returns-in-Ok-Outcomes-clause-found_part g c = λ is asks.
+    let asked = subst (λ (a : Asked). IsAsked (map g.S.AsStr.text c.args.words.now) a) c.in-Ok-Outcomes.field-0-is c.in-Ok-Outcomes.ensures.asked in
+    elim (c.found.ensures.part is) [
+      | inl same ↦ inl same
+      | inr part ↦ inr (c.in-Ok-Outcomes.choice, asked.1, part)
+    ]
+
+pub returns-in-Err-clause-found_part : goal.returns-in-Err-clause-found_part
+returns-in-Err-clause-found_part g c = λ is asks.
+    let memory = only_memory c.in-Err.error (map g.S.AsStr.text c.args.words.now) Outcomes c.in-Err.ensures.faults asks tt in
     inl (c.explained.ensures.untouched (ap is_request memory))
 
 pub returns-in-Ok-Race-clause-raced_part : goal.returns-in-Ok-Race-clause-raced_part

@@ -2,7 +2,7 @@ use Rattle.std.proofs.Common.{◌≡◌, ◌∙◌, ap, ap₂, refl, true, codes
 use Rattle.std.proofs.lemmas.Result.{IfOk-weaker}
 use Rattle.clap.specs.Words.{App, app_of, new_app, with_subcommand}
 use Rattle.clap.specs.Simple.{app_of_fields}
-use Rattle.commands.specs.Grammar.{cluster_app, plan_app, race_app, replay_app, serve_app}
+use Rattle.commands.specs.Grammar.{cluster_app, outcomes_app, plan_app, race_app, replay_app, serve_app}
 use Rattle.commands.proofs.Grammars.{no_globals}
 use Rattle.commands.proofs.words.grammar.Goals as goal
 
@@ -15,6 +15,7 @@ returns c =
     let cluster_is = c.in_ok-cluster_grammar.ensures in
     let plan_is = c.in_ok-plan_grammar.ensures in
     let race_is = c.in_ok-race_grammar.ensures in
+    let outcomes_is = c.in_ok-outcomes_grammar.ensures in
     let top_is : app_of c.subcommand_required.result ≡ required (versioned (new_app (codes "stsctl"))) =
     ap app_of_fields c.subcommand_required.ensures ∙ ap (λ f. required (app_of_fields f)) c.about.ensures
     ∙ ap (λ f. required (app_of_fields f)) c.version.ensures ∙ ap (λ f. required (versioned (app_of_fields f))) c.in_ok-bin_name.ensures.0
@@ -31,5 +32,9 @@ returns c =
     : app_of c.in_ok-subcommand-4.field-0
     ≡ with_subcommand (with_subcommand (with_subcommand (with_subcommand (required (versioned (new_app (codes "stsctl")))) serve_app.top) replay_app.top) cluster_app.top) plan_app.top =
     c.in_ok-subcommand-4.ensures.shape (no_globals _ plan_app plan_is refl) ∙ ap₂ with_subcommand three_is (ap (λ (a : App). a.top) plan_is) in
-    IfOk-weaker c.subcommand-5.result _ _
-    (λ r h. h.shape (no_globals _ race_app race_is refl) ∙ ap₂ with_subcommand four_is (ap (λ (a : App). a.top) race_is)) c.subcommand-5.ensures
+    let five_is
+    : app_of c.in_ok-subcommand-5.field-0
+    ≡ with_subcommand (with_subcommand (with_subcommand (with_subcommand (with_subcommand (required (versioned (new_app (codes "stsctl")))) serve_app.top) replay_app.top) cluster_app.top) plan_app.top) race_app.top =
+    c.in_ok-subcommand-5.ensures.shape (no_globals _ race_app race_is refl) ∙ ap₂ with_subcommand four_is (ap (λ (a : App). a.top) race_is) in
+    IfOk-weaker c.subcommand-6.result _ _
+    (λ r h. h.shape (no_globals _ outcomes_app outcomes_is refl) ∙ ap₂ with_subcommand five_is (ap (λ (a : App). a.top) outcomes_is)) c.subcommand-6.ensures

@@ -1,7 +1,7 @@
 use Rattle.std.proofs.Common.{codes, refl, subst, sym}
 use Rattle.clap.specs.Words.{found_of, one_of, rows_of}
 use Rattle.commands.specs.Forms.{IsFormBy}
-use Rattle.commands.proofs.Serving.{false-true, rows-met, under-met, under-unmet}
+use Rattle.commands.proofs.Serving.{false-true, found_serving, rows-met, under-met, under-unmet}
 use Rattle.commands.proofs.words.serving_in.Goals as goal
 
 pub returns-in-Some : goal.returns-in-Some
@@ -14,4 +14,6 @@ returns-in-Some c =
     )
 
 pub returns-in-None : goal.returns-in-None
-returns-in-None c = (under-unmet (codes "cluster") c.args.matches.now (λ is. false-true (c.in-None.ensures.found.1 is)), c.capacity_in.ensures)
+returns-in-None c =
+    found_serving c.args.matches.now c.finding_in.result
+    (under-unmet (codes "cluster") c.args.matches.now (λ is. false-true (c.in-None.ensures.found.1 is))) c.finding_in.ensures

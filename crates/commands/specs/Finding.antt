@@ -1,0 +1,87 @@
+-- What a run of the program that was asked for outcomes has done, where the devices tell.
+use Rattle.std.specs.Prelude.{◌≡◌, ◌≢◌, ◌⊎◌, ◌≤◌, ◌<◌, ℕ, zero, suc, List, [], Option, Some, None, codes, map}
+use Rattle.std.specs.List.{All, AllPairs, Contains, slice_get}
+use Rattle.std.specs.Option.{IfSome}
+use Rattle.clap.specs.Words.{Text}
+use Rattle.outcome_lines.specs.Litmus.{litmus_of, parts_of}
+use Rattle.outcome_lines.specs.Printing.{outcomes_text}
+use Rattle.outcome_lines.specs.Scripting.{ShowsOutcome}
+use Rattle.outcome_lines.specs.declared.fault.ScriptingError.{ScriptingError}
+use Rattle.outcome_lines.specs.declared.fault.ScriptingError.TheVariants as scripting
+use Rattle.outcomes.specs.Found.{AreFor, IsOutcome, told}
+use Rattle.outcomes.specs.Outcomes.{IsExplained}
+use Rattle.outcomes.specs.declared.litmus.Litmus.{Litmus}
+use Rattle.outcomes.specs.declared.outcome.Outcome.{Outcome}
+use Rattle.outcomes.specs.declared.outcome.OutcomesError.{OutcomesError}
+use Rattle.outcomes.specs.declared.outcome.OutcomesError.TheVariants as finding
+use Rattle.plain_store.specs.Reached.{most_revisions}
+use Rattle.requests.specs.declared.reply.Reply.{Reply}
+use Rattle.commands.specs.Forms.{WritesBy}
+use Rattle.commands.specs.Grammar.{IsChoiceBy, choice_text}
+
+-- what callers are told in each
+abbrev pub told_in : List Outcome → List (List (Option Reply))
+told_in found = map (λ o. o.replies.items) found
+
+-- Each is an outcome, with an order that explains it; whatever some order explains is there; and none is there twice.
+pub record AreOutcomes (litmus : Litmus) (found : List Outcome) : Type 0 where
+  pub each : All (IsOutcome litmus) found
+  pub all : (replies : List (Option Reply)) → AreFor litmus.asks.items replies
+      → IsExplained litmus.capacity litmus.beginning.items (told litmus.asks.items replies) → Contains (told_in found) replies
+  pub once : AllPairs (λ x y. x ≢ y) (told_in found)
+
+-- the outcome of that number, from 1
+abbrev pub outcome_of : (number : ℕ) → List Outcome → Option Outcome
+outcome_of zero found = None
+outcome_of (suc index) found = slice_get found index
+
+-- the lines of all, or a script that shows the one that is chosen
+abbrev pub IsChosenText : (choice : Option ℕ) → Litmus → List Outcome → (text : List ℕ) → Type 0
+IsChosenText None litmus found text = text ≡ outcomes_text litmus found
+IsChosenText (Some number) litmus found text = (o : Outcome) × (outcome_of number found ≡ Some o) × ShowsOutcome litmus o.replies.items text
+
+abbrev pub IsFoundText : (choice : Option ℕ) → Litmus → (text : List ℕ) → Type 0
+IsFoundText choice litmus text = (found : List Outcome) × AreOutcomes litmus found × IsChosenText choice litmus found text
+
+-- the same of the litmus test that the input is
+abbrev pub IsOutcomesText : (choice : Option ℕ) → (input text : List ℕ) → Type 0
+IsOutcomesText choice input text = (litmus : Litmus) × (litmus_of input ≡ Some (parts_of litmus)) × IsFoundText choice litmus text
+
+-- That text was written: all outcomes, or the script that the words ask for.
+abbrev pub Finds : (puts : Option (List ℕ) → List ℕ → Option (List ℕ) → Type 0) → List Text → (had left before after : Option (List ℕ)) → Type 0
+Finds puts words had left before after =
+    (choice : Option ℕ) × IsChoiceBy (choice_text words) choice × WritesBy puts (IsOutcomesText choice) had left before after
+
+-- ---- refusals
+
+-- there is no outcome of that number, or no script of it was found
+abbrev pub IsChoiceRefusal : (choice : Option ℕ) → List Outcome → (name : List ℕ) → Type 0
+IsChoiceRefusal None found name = ⊥
+IsChoiceRefusal (Some number) found name = ((outcome_of number found ≡ None) × (name ≡ codes "NoSuchOutcome")) ⊎ (name ≡ codes "NoScript")
+
+abbrev pub IsBadCapacity : ℕ → Type 0
+IsBadCapacity capacity = 1 ≤ capacity → most_revisions < capacity
+
+-- Nothing is said of when there are too many.
+abbrev pub IsFindingRefusal : (choice : Option ℕ) → Litmus → (name : List ℕ) → Type 0
+IsFindingRefusal choice litmus name = (IsBadCapacity litmus.capacity × (name ≡ codes "BadCapacity"))
+    ⊎ ((name ≡ codes "TooManyOutcomes") ⊎ ((found : List Outcome) × AreOutcomes litmus found × IsChoiceRefusal choice found name))
+
+-- The input is refused as BadScript exactly where it is no litmus test.
+abbrev pub IsOutcomesRefusal : (choice : Option ℕ) → (input name : List ℕ) → Type 0
+IsOutcomesRefusal choice input name = ((litmus_of input ≡ None) × (name ≡ codes "BadScript"))
+    ⊎ ((litmus : Litmus) × (litmus_of input ≡ Some (parts_of litmus)) × IsFindingRefusal choice litmus name)
+
+-- All of the reader's bytes were read, and are refused by this name.
+abbrev pub IsOutcomesRefusedBy : (choice : Option ℕ) → Option (List ℕ) → Option (List ℕ) → List ℕ → Type 0
+IsOutcomesRefusedBy choice had left name = IfSome had (λ input. (left ≡ Some []) × IsOutcomesRefusal choice input name)
+
+-- the name of a refusal; want of memory is none
+abbrev pub finding_refusal : OutcomesError → Option (List ℕ)
+finding_refusal finding.BadCapacity = Some (codes "BadCapacity")
+finding_refusal finding.TooManyOutcomes = Some (codes "TooManyOutcomes")
+finding_refusal finding.Memory = None
+
+abbrev pub scripting_refusal : ScriptingError → Option (List ℕ)
+scripting_refusal scripting.NoScript = Some (codes "NoScript")
+scripting_refusal scripting.Memory = None

@@ -1,0 +1,7 @@
+-- ---- what public clauses cite
+pub mod Litmus
+pub mod Printing
+pub mod Scripting
+-- ---- what only private clauses cite
+pub mod Same
+pub mod Shown

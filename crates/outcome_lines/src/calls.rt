@@ -1,0 +1,119 @@
+// What callers ask, one request after another: in a run, and in a litmus test.
+ghost use Rattle.std.specs.Prelude.{◌≡◌, ◌<◌, ◌∷◌, [], List, length, IfNone, IfSome};
+ghost use Rattle.std.specs.Option.{option_copied};
+ghost use Rattle.interleavings.specs.declared.trace.Item.{Item as SpecItem};
+ghost use Rattle.outcomes.specs.Found.{told};
+ghost use Rattle.outcomes.specs.Outcomes.{exchanges_by, reply_to};
+
+use history::Item;
+use outcomes::Ask;
+use plain::{Reply, Request};
+
+/// A request of a caller in a run, the reply to it, if there is one, and what comes behind its call.
+#[derive(Clone, Copy, Drop)]
+pub(crate) struct Called<'a> {
+    pub(crate) request: &'a Request,
+    pub(crate) reply: Option<&'a Reply>,
+    pub(crate) behind: &'a [Item],
+}
+
+/// The first request of the caller.
+pub(crate) fn first_call<'a>(caller: u64, items: &'a [Item]) -> Option<Called<'a>>
+    ensures none { IfNone result (exchanges_by caller items.now ≡ []) }
+    ensures some { IfSome result (λ called. exchanges_by caller items.now
+        ≡ record { request = called.request.now; reply = option_copied called.reply } ∷ exchanges_by caller called.behind.now) }
+    ensures shorter { IfSome result (λ called. length called.behind.now < length items.now) }
+{
+    let mut rest = items;
+    'items: while let Some((item, behind)) = rest.split_first() {
+        if let Some(request) = call_by(caller, item) {
+            return Some(Called {
+                request,
+                reply: reply_to(caller, behind),
+                behind,
+            });
+        }
+        rest = behind;
+    }
+    None
+}
+
+/// The request that the item is, if it is a call of the caller.
+#[tactic(auto, using(crate::proofs::Telling::call_own, crate::proofs::Telling::call_other))]
+fn call_by(caller: u64, item: &Item) -> Option<&Request>
+    ensures none { IfNone result ((behind : List SpecItem) → exchanges_by caller (item.now ∷ behind) ≡ exchanges_by caller behind) }
+    ensures some { IfSome result (λ request. (behind : List SpecItem) → exchanges_by caller (item.now ∷ behind)
+        ≡ record { request = request.now; reply = reply_to caller behind } ∷ exchanges_by caller behind) }
+{
+    match item {
+        Item::Call {
+            place: _,
+            caller: by,
+            request,
+        } if *by == caller => Some(request),
+        _ => None,
+    }
+}
+
+/// The next reply to the caller, unless it calls again before.
+fn reply_to(caller: u64, items: &[Item]) -> Option<&Reply>
+    ensures { option_copied result ≡ reply_to caller items.now }
+{
+    let mut rest = items;
+    'items: while let Some((item, behind)) = rest.split_first() {
+        match item {
+            Item::Call {
+                place: _,
+                caller: by,
+                request: _,
+            } if *by == caller => return None,
+            Item::Reply {
+                place: _,
+                caller: to,
+                reply,
+            } if *to == caller => return Some(reply),
+            _ => {}
+        }
+        rest = behind;
+    }
+    None
+}
+
+/// A request that a caller of a litmus test makes, the reply that it is told, and the asks and replies behind.
+#[derive(Clone, Copy, Drop)]
+pub(crate) struct Asked<'a> {
+    pub(crate) request: &'a Request,
+    pub(crate) reply: Option<&'a Reply>,
+    pub(crate) asks: &'a [Ask],
+    pub(crate) replies: &'a [Option<Reply>],
+}
+
+/// The first ask of the caller that has its reply.
+pub(crate) fn first_ask<'a>(
+    caller: u64,
+    asks: &'a [Ask],
+    replies: &'a [Option<Reply>],
+) -> Option<Asked<'a>>
+    ensures none { IfNone result (told asks.now replies.now caller ≡ []) }
+    ensures some { IfSome result (λ asked. told asks.now replies.now caller
+        ≡ record { request = asked.request.now; reply = option_copied asked.reply } ∷ told asked.asks.now asked.replies.now caller) }
+{
+    let mut asks_left = asks;
+    let mut replies_left = replies;
+    'asks: while let Some((ask, asks_behind)) = asks_left.split_first() {
+        let Some((reply, replies_behind)) = replies_left.split_first() else {
+            return None;
+        };
+        if ask.caller == caller {
+            return Some(Asked {
+                request: &ask.request,
+                reply: reply.as_ref(),
+                asks: asks_behind,
+                replies: replies_behind,
+            });
+        }
+        asks_left = asks_behind;
+        replies_left = replies_behind;
+    }
+    None
+}

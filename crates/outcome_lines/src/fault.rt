@@ -1,0 +1,59 @@
+ghost use Rattle.std.specs.Prelude.{◌≡◌};
+ghost use Rattle.outcome_lines.specs.declared.fault.ScriptingError.TheVariants.{Memory as OutOfMemory};
+ghost use Rattle.outcome_lines.specs.Scripting.{replay_fault, script_fault};
+
+use history::ReplayError;
+use replay_lines::ScriptError;
+use std::alloc::{AllocError, AllocFailed};
+use thiserror::Error;
+
+/// Why no script of an outcome is made.
+#[derive(Clone, Copy, Debug, PartialEq, Eq, Error)]
+pub enum ScriptingError {
+    /// None was found that shows it, as where a line of it would be too long to be read.
+    #[error("no script was found that shows the outcome")]
+    NoScript,
+    /// An allocation was refused.
+    #[error("out of memory")]
+    Memory,
+}
+
+impl From<AllocError> for ScriptingError {
+    ghost from_gives = { λ _ e. e ≡ OutOfMemory };
+
+    fn from(_error: AllocError) -> ScriptingError {
+        ScriptingError::Memory
+    }
+}
+
+impl<T: Drop> From<AllocFailed<T>> for ScriptingError {
+    ghost from_gives = { λ _ e. e ≡ OutOfMemory };
+
+    fn from(_error: AllocFailed<T>) -> ScriptingError {
+        ScriptingError::Memory
+    }
+}
+
+impl From<ScriptError> for ScriptingError {
+    ghost from_gives = { λ error e. e ≡ script_fault error };
+
+    fn from(error: ScriptError) -> ScriptingError {
+        match error {
+            ScriptError::BadScript => ScriptingError::NoScript,
+            ScriptError::Memory => ScriptingError::Memory,
+        }
+    }
+}
+
+impl From<ReplayError> for ScriptingError {
+    ghost from_gives = { λ error e. e ≡ replay_fault error };
+
+    fn from(error: ReplayError) -> ScriptingError {
+        match error {
+            ReplayError::BadShards | ReplayError::BadCapacity | ReplayError::TooManyCallers => {
+                ScriptingError::NoScript
+            }
+            ReplayError::Memory => ScriptingError::Memory,
+        }
+    }
+}

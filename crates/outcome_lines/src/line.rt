@@ -1,0 +1,81 @@
+// What a line of a litmus test is, behind the first.
+ghost use Rattle.std.specs.Prelude.{◌≡◌};
+ghost use Rattle.outcome_lines.specs.Litmus.{before_in, crash_in, line_in, line_of, race_in};
+ghost use Rattle.replay_lines.specs.Events.{Reads};
+
+use objects::{Members, Tree, TreeReader};
+use outcomes::Ask;
+use plain::Request;
+use replay_lines::{ScriptError, count_in, read_members, request_in};
+use std::alloc::Global;
+
+/// A request, before anybody races or of a caller that races.
+#[derive(Drop)]
+pub(crate) enum Line {
+    Before(Request),
+    Race(Ask),
+}
+
+/// The request that a line is.
+#[tactic(auto, using(replay_lines::proofs::Readings::fails_bind), unfolding(crate::specs::Litmus::line_of))]
+pub(crate) fn read_line(
+    alloc: Global,
+    reader: &mut TreeReader,
+    line: &[u8],
+) -> Result<Line, ScriptError>
+    ensures { Reads (λ said. said) result (line_of line.now) }
+{
+    let members = read_members(reader, line)?;
+    line_in(alloc, members)
+}
+
+fn line_in(alloc: Global, members: Members) -> Result<Line, ScriptError>
+    ensures { Reads (λ said. said) result (line_in members) }
+{
+    let Some(crashes) = crash_in(&members) else {
+        return Err(ScriptError::BadScript);
+    };
+    if members.get("caller").is_some() {
+        race_in(alloc, members, crashes)
+    } else {
+        before_in(alloc, members, crashes)
+    }
+}
+
+/// Whether the caller crashes within the request; nothing says that it does not.
+fn crash_in(members: &Members) -> Option<bool>
+    ensures { result ≡ crash_in members.now }
+{
+    match members.get("crash") {
+        None => Some(false),
+        Some(Tree::Truth(crashes)) => Some(*crashes),
+        Some(_) => None,
+    }
+}
+
+#[tactic(auto, using(replay_lines::proofs::Readings::fails_bind))]
+fn race_in(alloc: Global, members: Members, crashes: bool) -> Result<Line, ScriptError>
+    ensures { Reads (λ said. said) result (race_in members crashes) }
+{
+    let Some(caller) = count_in(&members, "caller") else {
+        return Err(ScriptError::BadScript);
+    };
+    let request = request_in(alloc, members)?;
+    Ok(Line::Race(Ask {
+        caller,
+        request,
+        crashes,
+    }))
+}
+
+// Nobody crashes within a request of the beginning.
+#[tactic(auto, using(replay_lines::proofs::Readings::fails_bind))]
+fn before_in(alloc: Global, members: Members, crashes: bool) -> Result<Line, ScriptError>
+    ensures { Reads (λ said. said) result (before_in members crashes) }
+{
+    if crashes {
+        return Err(ScriptError::BadScript);
+    }
+    let request = request_in(alloc, members)?;
+    Ok(Line::Before(request))
+}

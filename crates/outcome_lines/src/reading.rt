@@ -1,0 +1,117 @@
+ghost use Rattle.std.specs.Prelude.{◌≡◌};
+ghost use Rattle.plain.specs.Lines.{lines};
+ghost use Rattle.outcome_lines.specs.Litmus.{crashed, litmus_of, opened, parts_of, with_before, with_line, with_lines};
+ghost use Rattle.outcome_lines.specs.declared.line.Line.TheVariants.{Race};
+ghost use Rattle.replay_lines.specs.Events.{Reads};
+
+use crate::line::{Line, read_line};
+use objects::TreeReader;
+use outcomes::{Ask, Litmus};
+use plain::{Request, split_line};
+use replay_lines::{ScriptError, count_in, read_members};
+use std::alloc::Global;
+
+/// The litmus test that a text is. Its first line is `{"capacity":C}`. Then come lines `{"request":L}`, requests that are taken
+/// in turn before anybody races, L as a request line of `serve`; and then lines `{"caller":N,"request":L}`, what the callers ask,
+/// each its own in this order. With `"crash":true` the caller crashes within the request, which is its last one. Other members
+/// are passed over, and of members of one name the last counts. C and N are whole numbers below 2^64; none is bounded here.
+///
+/// # Errors
+///
+/// `BadScript` where a line is none of these, also one that is cut off or empty, or where there is no line.
+#[tactic(auto, using(replay_lines::proofs::Readings::fails_bind), unfolding(crate::specs::Litmus::litmus_of))]
+pub fn read_litmus(alloc: Global, text: &[u8]) -> Result<Litmus, ScriptError>
+    ensures { Reads parts_of result (litmus_of text.now) }
+{
+    let Some(cut) = split_line(text) else {
+        return Err(ScriptError::BadScript);
+    };
+    let (first, rest) = cut;
+    let mut reader = TreeReader::new(alloc);
+    let opened = read_opening(alloc, &mut reader, first)?;
+    read_lines(alloc, &mut reader, rest, opened)
+}
+
+/// The litmus test of the first line alone.
+#[tactic(auto, using(replay_lines::proofs::Readings::fails_bind))]
+fn read_opening(alloc: Global, reader: &mut TreeReader, line: &[u8]) -> Result<Litmus, ScriptError>
+    ensures { Reads parts_of result (opened line.now) }
+{
+    let members = read_members(reader, line)?;
+    let Some(capacity) = count_in(&members, "capacity") else {
+        return Err(ScriptError::BadScript);
+    };
+    Ok(Litmus {
+        capacity,
+        beginning: Vec::new(alloc),
+        asks: Vec::new(alloc),
+    })
+}
+
+/// The litmus test with the lines of the text.
+#[tactic(auto, using(replay_lines::proofs::Readings::fails_bind))]
+fn read_lines(
+    alloc: Global,
+    reader: &mut TreeReader,
+    text: &[u8],
+    opened: Litmus,
+) -> Result<Litmus, ScriptError>
+    ensures { Reads parts_of result (with_lines (parts_of opened) (lines text.now)) }
+{
+    let mut litmus = opened;
+    let mut rest = text;
+    'lines: while let Some(cut) = split_line(rest) {
+        let (line, after) = cut;
+        let said = read_line(alloc, reader, line)?;
+        litmus = with_line(litmus, said)?;
+        rest = after;
+    }
+    Ok(litmus)
+}
+
+fn with_line(litmus: Litmus, line: Line) -> Result<Litmus, ScriptError>
+    ensures { Reads parts_of result (with_line (parts_of litmus) line) }
+{
+    match line {
+        Line::Before(request) => with_before(litmus, request),
+        Line::Race(ask) => with_race(litmus, ask),
+    }
+}
+
+/// The litmus test with one more request of the beginning.
+fn with_before(litmus: Litmus, request: Request) -> Result<Litmus, ScriptError>
+    ensures { Reads parts_of result (with_before litmus.asks.items (parts_of litmus) request) }
+{
+    let mut longer = litmus;
+    if longer.asks.is_empty() {
+        longer.beginning.push(request)?;
+        Ok(longer)
+    } else {
+        // They go by `drop`: that is proved once for a type.
+        drop(request);
+        drop(longer);
+        Err(ScriptError::BadScript)
+    }
+}
+
+/// The litmus test with one more ask.
+fn with_race(litmus: Litmus, ask: Ask) -> Result<Litmus, ScriptError>
+    ensures { Reads parts_of result (with_line (parts_of litmus) (Race ask)) }
+{
+    let mut longer = litmus;
+    if has_crashed(longer.asks.as_slice(), ask.caller) {
+        drop(ask);
+        drop(longer);
+        Err(ScriptError::BadScript)
+    } else {
+        longer.asks.push(ask)?;
+        Ok(longer)
+    }
+}
+
+/// Whether the caller crashes within one of these.
+fn has_crashed(asks: &[Ask], caller: u64) -> bool
+    ensures { result ≡ crashed asks.now caller }
+{
+    asks.iter().any(|ask| ask.crashes && ask.caller == caller)
+}

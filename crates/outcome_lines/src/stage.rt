@@ -1,0 +1,154 @@
+// The events of a run in which requests are carried to their replies, one after another.
+use crate::fault::ScriptingError;
+use history::{Event, Replay, Standing};
+use outcomes::{Ask, Litmus, Outcome};
+use plain::Request;
+use std::alloc::Global;
+
+/// More steps than any request takes over one shard.
+const MOST_STEPS: u32 = 16;
+
+/// A run of so many events is given up.
+const MOST_EVENTS: u64 = 1_000_000_000;
+
+/// A run over one shard, and its events.
+#[derive(Drop)]
+struct Stage {
+    replay: Replay,
+    events: Vec<Event>,
+}
+
+/// The lowest caller that none of the asks names.
+pub(crate) fn unused_caller(asks: &[Ask]) -> u64 {
+    let mut caller: u64 = 0;
+    for _ in 0..asks.len() {
+        if is_named(asks, caller) {
+            caller = caller.saturating_add(1);
+        }
+    }
+    caller
+}
+
+fn is_named(asks: &[Ask], caller: u64) -> bool {
+    asks.iter().any(|ask| ask.caller == caller)
+}
+
+/// The events of a run over one shard in which the beginner asks the beginning, and then the others ask in the order of the
+/// outcome: each request is carried to its reply before the next one is called. Who crashes does so once its request is taken
+/// or, where the order leaves it out, as it has called it.
+pub(crate) fn staged(
+    alloc: Global,
+    litmus: &Litmus,
+    outcome: &Outcome,
+    beginner: u64,
+) -> Result<Vec<Event>, ScriptingError> {
+    let mut stage = Stage {
+        replay: Replay::new(alloc, 1, litmus.capacity)?,
+        events: Vec::new(alloc),
+    };
+    stage.begin(beginner, litmus.beginning.as_slice())?;
+    stage.go_on(litmus.asks.as_slice(), outcome.order.as_slice())?;
+    stage.end(litmus.asks.as_slice(), outcome.order.as_slice())?;
+    let Stage { replay, events } = stage;
+    drop(replay);
+    Ok(events)
+}
+
+impl Stage {
+    fn begin(&mut self, beginner: u64, beginning: &[Request]) -> Result<(), ScriptingError> {
+        for request in beginning {
+            self.call(beginner, request)?;
+            self.carry(beginner)?;
+        }
+        Ok(())
+    }
+
+    fn go_on(&mut self, asks: &[Ask], order: &[usize]) -> Result<(), ScriptingError> {
+        for index in order {
+            let Some(ask) = asks.get(*index) else {
+                return Err(ScriptingError::NoScript);
+            };
+            self.call(ask.caller, &ask.request)?;
+            if ask.crashes {
+                self.carry_to_crash(ask.caller)?;
+            } else {
+                self.carry(ask.caller)?;
+            }
+        }
+        Ok(())
+    }
+
+    fn end(&mut self, asks: &[Ask], order: &[usize]) -> Result<(), ScriptingError> {
+        for i in 0..asks.len() {
+            let ask = &asks[i];
+            if !order.contains(&i) {
+                self.call(ask.caller, &ask.request)?;
+                self.happen(Event::Crash(ask.caller))?;
+            }
+        }
+        Ok(())
+    }
+
+    fn call(&mut self, caller: u64, request: &Request) -> Result<(), ScriptingError> {
+        self.happen(Event::Call(caller, request.clone()?))
+    }
+
+    fn happen(&mut self, event: Event) -> Result<(), ScriptingError> {
+        if MOST_EVENTS <= self.replay.events() {
+            return Err(ScriptingError::NoScript);
+        }
+        drop(self.replay.step(&event)?);
+        self.events.push(event)?;
+        Ok(())
+    }
+
+    /// Carries the caller's request to its reply.
+    fn carry(&mut self, caller: u64) -> Result<(), ScriptingError> {
+        for _ in 0..MOST_STEPS {
+            let Some(event) = self.replay.next_step(caller) else {
+                return Ok(());
+            };
+            self.happen(event)?;
+        }
+        Ok(())
+    }
+
+    /// Carries the caller's request until it is taken, and lets the caller crash. What it left is published.
+    fn carry_to_crash(&mut self, caller: u64) -> Result<(), ScriptingError> {
+        for _ in 0..MOST_STEPS {
+            if is_taken(self.replay.standing(caller)) {
+                break;
+            }
+            let Some(event) = self.replay.next_step(caller) else {
+                break;
+            };
+            self.happen(event)?;
+        }
+        self.happen(Event::Crash(caller))?;
+        if let Standing::Left {
+            number: _,
+            shard: _,
+        } = self.replay.standing(caller)
+        {
+            self.happen(Event::Publish(caller))?;
+            self.happen(Event::Raise)?;
+        }
+        Ok(())
+    }
+}
+
+/// Whether the caller's request is taken, whatever becomes of the caller.
+fn is_taken(standing: Standing) -> bool {
+    matches!(
+        standing,
+        Standing::Drawn {
+            number: _,
+            shard: _
+        } | Standing::Waiting { saw: _ }
+            | Standing::Reading {
+                number: _,
+                shard: _,
+                left: _
+            }
+    )
+}
