@@ -23,7 +23,7 @@ use Rattle.commands.specs.declared.race_words.RaceWords.{RaceWords}
 use Rattle.commands.specs.declared.words.Asked.{Asked}
 use Rattle.commands.specs.declared.words.Asked.TheVariants as say
 use Rattle.commands.specs.Forms.{IsFlagBy, IsFormBy}
-use Rattle.commands.specs.Grammar.{IsCapacityBy, IsChoiceBy, IsNumberBy, Plan, asked, capacity_text, choice_text, digits_text, faults_of, flag_text, is_under, plan_text, race_text, rows_under, stsctl_app, word_by, word_of}
+use Rattle.commands.specs.Grammar.{IsCapacityBy, IsChoiceBy, IsNumberBy, Plan, asked, brief_text, capacity_text, choice_text, digits_text, faults_of, flag_text, is_under, plan_text, race_text, rows_under, stsctl_app, word_by, word_of}
 
 stsctl-is_simple : is_simple stsctl_app ≡ true
 unfolding clap_on_literals
@@ -208,6 +208,11 @@ pub digits-is : (words : List Text) (m : ArgMatches) (rows : List Row) → subco
     → rows_under (codes "plan") (subcommand_rows_of m) ≡ rows → one_of (codes "digits") rows ≡ digits_text words
 unfolding digits_text
 digits-is words m rows same is = ap (one_of (codes "digits")) (sym is) ∙ ap (λ e. one_of (codes "digits") (rows_under (codes "plan") e)) same
+
+pub brief-is : (words : List Text) (m : ArgMatches) (rows : List Row) → subcommand_rows_of m ≡ subcommand_of stsctl_app words
+    → rows_under (codes "plan") (subcommand_rows_of m) ≡ rows → one_of (codes "brief") rows ≡ brief_text words
+unfolding brief_text
+brief-is words m rows same is = ap (one_of (codes "brief")) (sym is) ∙ ap (λ e. one_of (codes "brief") (rows_under (codes "plan") e)) same
 
 pub now_or : (o : Option (Bor Text)) (d : Bor Text) → (unwrap_or o d).now ≡ unwrap_or (option_map (λ s. s.now) o) d.now
 now_or None d = refl

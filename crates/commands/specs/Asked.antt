@@ -6,14 +6,14 @@ use Rattle.commands.specs.declared.words.Asked.TheVariants as say
 use Rattle.commands.specs.declared.words.PlanWords.{PlanWords}
 use Rattle.commands.specs.declared.race_words.RaceWords.{RaceWords}
 use Rattle.commands.specs.Forms.{IsFlagBy, IsFormBy}
-use Rattle.commands.specs.Grammar.{AsksFor, Cluster, IsCapacityBy, IsChoiceBy, IsDigitsBy, IsNumberBy, Outcomes, Plan, Race, Replay, Serve, asked, choice_text, digits_text, flag_text, is_under, plan_text, race_text, rows_under}
+use Rattle.commands.specs.Grammar.{AsksFor, Cluster, IsCapacityBy, IsChoiceBy, IsDigitsBy, IsNumberBy, Outcomes, Plan, Race, Replay, Serve, asked, brief_text, choice_text, digits_text, flag_text, is_under, plan_text, race_text, rows_under}
 use Rattle.race_log.specs.Limits.{is_race}
 
 -- what the words after `plan` say
 abbrev pub IsPlanAsked : List Text → PlanWords → Type 0
 IsPlanAsked words plan = (plan.namespace.now ≡ unwrap_or (plan_text (codes "namespace") words) (codes "default"))
     × (plan.name.now ≡ unwrap_or (plan_text (codes "set") words) []) × IsDigitsBy (digits_text words) plan.digits
-    × (1 ≤ plan.digits) × (plan.digits ≤ 64)
+    × (1 ≤ plan.digits) × (plan.digits ≤ 64) × IsFlagBy (brief_text words) plan.brief
 
 -- the numbers that some texts say, each by its option, and which flags are given
 abbrev pub IsRaceBy : (Text → Option Text) → RaceWords → Type 0

@@ -1,5 +1,5 @@
 -- What the program takes, as `clap` reads it: `serve [--capacity N]`, `replay [--picture]`, `cluster [--picture]`,
--- `plan --set NAME [--namespace NS] [--digits H]`,
+-- `plan --set NAME [--namespace NS] [--digits H] [--brief]`,
 -- `race [--controllers N] [--shards N] [--rounds N] [--replicas N] [--operator] [--history]`, and `outcomes [--script K]`. `clap`
 -- adds help and the version.
 use Rattle.std.specs.Prelude.{◌≡◌, ◌≤◌, ◌<◌, ◌^◌, ℕ, Bool, true, false, List, [], ◌∷◌, Option, Some, None, codes, if◌then◌else◌}
@@ -51,8 +51,11 @@ digits_rule = record (new_rule (codes "digits")) {
   parser = Some (parsers.Unsigned 1 64);
 }
 
+abbrev pub brief_rule : Rule
+brief_rule = flag_rule (codes "brief")
+
 abbrev pub plan_app : App
-plan_app = with_rule (with_rule (with_rule (new_app (codes "plan")) set_rule) namespace_rule) digits_rule
+plan_app = with_rule (with_rule (with_rule (with_rule (new_app (codes "plan")) set_rule) namespace_rule) digits_rule) brief_rule
 
 -- an option of `race`, whose value is what the parser takes
 abbrev pub option_rule : Text → ValueParser → Rule
@@ -130,6 +133,10 @@ plan_text option words = first_of option (rows_under (codes "plan") (subcommand_
 -- the number after `--digits`, as text
 unfoldable pub digits_text : List Text → Option Text
 digits_text words = one_of (codes "digits") (rows_under (codes "plan") (subcommand_of stsctl_app words))
+
+-- what `clap` has for the flag `--brief`
+unfoldable pub brief_text : List Text → Option Text
+brief_text words = one_of (codes "brief") (rows_under (codes "plan") (subcommand_of stsctl_app words))
 
 -- The store has room for as many revisions as the text says in decimal digits, or else for as many as there may be. Where
 -- the text is no such number, the words have a fault.

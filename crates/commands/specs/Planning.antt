@@ -1,5 +1,5 @@
 -- What a run of the program that was asked to plan has done, where the devices tell.
-use Rattle.std.specs.Prelude.{◌≡◌, ◌⊎◌, ℕ, List, [], Option, None, Some, Ok, Err, codes, find, map}
+use Rattle.std.specs.Prelude.{◌≡◌, ◌⊎◌, ℕ, Bool, true, false, List, [], Option, None, Some, Ok, Err, codes, find}
 use Rattle.std.specs.Option.{IfSome}
 use Rattle.clap.specs.Words.{Text}
 use Rattle.objects.specs.declared.fault.ReadError.{ReadError}
@@ -7,14 +7,15 @@ use Rattle.objects.specs.declared.fault.ReadError.TheVariants as read
 use Rattle.objects.specs.declared.object.Object.{Object}
 use Rattle.plain.specs.Lines.{lines}
 use Rattle.plain.specs.Replies.{read_error_name}
-use Rattle.plain.specs.ValueLines.{text_lines}
 use Rattle.set_views.specs.declared.fault.PlanError.{PlanError}
 use Rattle.set_views.specs.declared.fault.PlanError.TheVariants as errors
 use Rattle.set_views.specs.Set.{SetParts}
 use Rattle.set_views.specs.SetReading.{set_of}
 use Rattle.sets.specs.declared.action.Plan.{Plan}
 use Rattle.sets.specs.Plan.{IsPlan}
-use Rattle.plan_lines.specs.Actions.{action_data}
+use Rattle.plan_lines.specs.declared.format.Format.{Format}
+use Rattle.plan_lines.specs.declared.format.Format.TheVariants.{Brief, Json}
+use Rattle.plan_lines.specs.Formats.{actions_text}
 use Rattle.plan_lines.specs.Objects.{Lists, is_named, nothing, read_from}
 use Rattle.plan_lines.specs.Refusals.{plan_error_name}
 use Rattle.commands.specs.declared.words.PlanWords.{PlanWords}
@@ -26,19 +27,24 @@ abbrev pub IsPlanOver : PlanWords → Lists → Plan → Type 0
 IsPlanOver asked lists plan = (object : Object) × (find (is_named asked.namespace.now asked.name.now) lists.sets ≡ Some object)
     × ((set : SetParts) × (set_of object ≡ Ok set) × IsPlan set lists.pods lists.claims lists.revisions asked.digits (Ok plan))
 
--- the lines of a plan's actions
-abbrev pub actions_of : Plan → List ℕ
-actions_of plan = text_lines (map action_data plan.actions.items)
+-- how its actions are written: in words where that is asked for
+abbrev pub format_by : (brief : Bool) → Format
+format_by true = Brief
+format_by false = Json
+
+-- the lines of its actions
+abbrev pub actions_of : PlanWords → Plan → List ℕ
+actions_of asked plan = actions_text (format_by asked.brief) plan.actions.items
 
 -- such a plan, where each line of the input is an object
 abbrev pub IsPlanOf : PlanWords → List ℕ → Plan → Type 0
 IsPlanOf asked input plan = (lists : Lists) × (read_from nothing (lines input) ≡ Ok lists) × IsPlanOver asked lists plan
 
--- the lines of its actions
+-- the text of such a plan
 abbrev pub IsPlanText : PlanWords → (input text : List ℕ) → Type 0
-IsPlanText asked input text = (plan : Plan) × IsPlanOf asked input plan × (text ≡ actions_of plan)
+IsPlanText asked input text = (plan : Plan) × IsPlanOf asked input plan × (text ≡ actions_of asked plan)
 
--- Such lines were written, of the plan that the words ask for.
+-- Such a text was written, of the plan that the words ask for.
 abbrev pub Plans : (puts : Option (List ℕ) → List ℕ → Option (List ℕ) → Type 0) → List Text → (had left before after : Option (List ℕ)) → Type 0
 Plans puts words had left before after = (asked : PlanWords) × IsPlanAsked words asked × WritesBy puts (IsPlanText asked) had left before after
 

@@ -6,13 +6,13 @@ ghost use Rattle.sets.specs.Plan.{IsPlan};
 ghost use Rattle.plain.specs.Streams.{Puts, PutsPart};
 ghost use Rattle.commands.specs.Forms.{WritesBy};
 ghost use Rattle.commands.specs.Halts.{CountsReads, Tells, is_read, name_of};
-ghost use Rattle.commands.specs.Planning.{IsPlanOf, IsPlanOfSetRefused, IsPlanOver, IsPlanRefusal, IsPlanRefusedBy, IsPlanText, IsRefusedOver, actions_of};
+ghost use Rattle.commands.specs.Planning.{IsPlanOf, IsPlanOfSetRefused, IsPlanOver, IsPlanRefusal, IsPlanRefusedBy, IsPlanText, IsRefusedOver, actions_of, format_by};
 
 use crate::halt::{Halt, halted};
 use crate::status::{BAD_WORDS, FAILURE, Heap, REFUSED, SUCCESS};
 use crate::words::PlanWords;
 use plain::{Sink, Source, read_all};
-use plan_lines::{Listed, OutputFault, named_set, read_objects, write_actions};
+use plan_lines::{Format, Listed, OutputFault, named_set, read_objects, write_actions};
 use sets::{Plan, Set, read_set};
 use std::alloc::Global;
 
@@ -43,21 +43,22 @@ pub(crate) fn planned<R: Source, W: Sink, F: Sink>(
     ensures silent { result ≡ REFUSED → writer.new ≡ writer.old }
 {
     match plan_of_input(heap.alloc, asked, reader) {
-        Ok(plan) => printed(heap, &plan, writer),
+        Ok(plan) => printed(heap, asked, &plan, writer),
         Err(halt) => halted(heap, halt, faults),
     }
 }
 
 /// Writes the actions of the plan.
-fn printed<W: Sink>(heap: &mut Heap, plan: &Plan, writer: &mut W) -> u8
+fn printed<W: Sink>(heap: &mut Heap, asked: &PlanWords<'_>, plan: &Plan, writer: &mut W) -> u8
     ensures status { result < BAD_WORDS }
-    ensures all { result ≡ SUCCESS → Puts (W.written writer.old) (actions_of plan.now) (W.written writer.new) }
-    ensures part { PutsPart (W.written writer.old) (actions_of plan.now) (W.written writer.new) }
+    ensures all { result ≡ SUCCESS → Puts (W.written writer.old) (actions_of asked.now plan.now) (W.written writer.new) }
+    ensures part { PutsPart (W.written writer.old) (actions_of asked.now plan.now) (W.written writer.new) }
     ensures cause { result ≡ FAILURE → (W.failures writer.old < W.failures writer.new) ⊎ (heap.new.refused ≡ true) }
     ensures memory { result ≢ FAILURE → heap.new.refused ≡ heap.old.refused }
     ensures spared { W.failures writer.old < W.failures writer.new → heap.new.refused ≡ heap.old.refused }
 {
-    match write_actions(heap.alloc, plan.actions.as_slice(), writer) {
+    let format = format_by(asked.brief);
+    match write_actions(heap.alloc, format, plan.actions.as_slice(), writer) {
         Ok(()) => SUCCESS,
         Err(OutputFault::Write) => FAILURE,
         Err(OutputFault::Memory) => {
@@ -65,6 +66,13 @@ fn printed<W: Sink>(heap: &mut Heap, plan: &Plan, writer: &mut W) -> u8
             FAILURE
         }
     }
+}
+
+/// How the actions are written.
+fn format_by(brief: bool) -> Format
+    ensures { result ≡ format_by brief }
+{
+    if brief { Format::Brief } else { Format::Json }
 }
 
 /// The plan, given all that the reader has.

@@ -3,7 +3,9 @@ ghost use Rattle.std.specs.Prelude.{◌≡◌, ◌≤◌, [], codes, map, unwrap
 ghost use Rattle.clap.specs.Words.{FailsBy, app_of, first_of, found_of, one_of, rows_of, subcommand_rows_of};
 ghost use Rattle.commands.specs.Grammar.{IsCapacityBy, IsChoiceBy, IsDigitsBy, cluster_app, faults_of, outcomes_app, plan_app, replay_app, rows_under, serve_app, stsctl_app};
 ghost use Rattle.commands.specs.Asked.{IsAsked, IsFinding, IsOther, IsScripted, IsServing};
+ghost use Rattle.commands.specs.Forms.{IsFlagBy};
 
+use crate::flags::{flag_arg, flag_in};
 use crate::form::{Form, form_in, picture_arg};
 use crate::numbers::{from_1_to_64, from_1_to_20000, number_arg, number_in};
 use crate::race_words::{RaceWords, race_grammar, race_words};
@@ -42,13 +44,14 @@ const OUTCOMES_END: &str = r#"Whole input, of two callers who race for a name:
 {"caller":2,"request":{"do":"create","object":{"kind":"Pod","metadata":{"name":"a"}}}}
 Either is told Created, and the other AlreadyExists. More in docs/LITMUS.md"#;
 
-/// What is to be planned: the set of this namespace and name, and how many hex digits of its hash the name of a new
-/// revision gets.
+/// What is to be planned: the set of this namespace and name, how many hex digits of its hash the name of a new revision
+/// gets, and whether the actions are written in words.
 #[derive(Clone, Copy, Drop)]
 pub(crate) struct PlanWords<'a> {
     pub(crate) namespace: &'a str,
     pub(crate) name: &'a str,
     pub(crate) digits: usize,
+    pub(crate) brief: bool,
 }
 
 /// What the words ask for.
@@ -68,7 +71,7 @@ pub(crate) enum Asked<'a> {
     Outcomes(Option<u64>),
 }
 
-/// What the program takes: `serve [--capacity N]`, `replay [--picture]`, `cluster [--picture]`, `plan --set NAME [--namespace NS] [--digits H]`,
+/// What the program takes: `serve [--capacity N]`, `replay [--picture]`, `cluster [--picture]`, `plan --set NAME [--namespace NS] [--digits H] [--brief]`,
 /// `race [--controllers N] [--shards N] [--rounds N] [--replicas N] [--operator] [--history]`, and `outcomes [--script K]`, and what `clap` adds
 /// for help and the version.
 fn grammar<'a>(alloc: Global) -> Result<Command<'a>, AllocError>
@@ -160,12 +163,18 @@ fn plan_grammar<'a>(alloc: Global) -> Result<Command<'a>, AllocError>
         from_1_to_64(),
         "How many hex digits of its hash the name of a new revision gets, from 1 to 64 [default: 10]",
     );
+    let brief = flag_arg(
+        alloc,
+        "brief",
+        "Print each action in words instead, as `Create Pod web-0`",
+    );
     Command::new(alloc, "plan")
         .about("Prints the actions that the objects on standard input call for, each on a line")
         .after_help(PLAN_END)
         .arg(set)?
         .arg(namespace)?
-        .arg(digits)
+        .arg(digits)?
+        .arg(brief)
 }
 
 /// What the words ask for. An `Err` is also a call for help or for the version.
@@ -245,10 +254,12 @@ fn plan_words<'a>(matches: &ArgMatches<'a>) -> PlanWords<'a>
     ensures digits { IsDigitsBy (one_of (codes "digits") (rows_of (found_of matches.now))) result.digits }
     ensures some { 1 ≤ result.digits }
     ensures most { result.digits ≤ 64 }
+    ensures brief { IsFlagBy (one_of (codes "brief") (rows_of (found_of matches.now))) result.brief }
 {
     PlanWords {
         namespace: matches.get_str("namespace").unwrap_or("default"),
         name: matches.get_str("set").unwrap_or(""),
         digits: number_in(matches, "digits", DIGITS, 1, MAX_DIGITS) as usize,
+        brief: flag_in(matches, "brief"),
     }
 }

@@ -1,28 +1,36 @@
 -- The lines of actions, one after another, and how much of them was written.
-use Rattle.std.proofs.Common.{◌≡◌, ℕ, ◌+◌, ◌<◌, List, [], ◌∷◌, ◌++◌, map, length, get_or, drop, Option, sym, ap, ◌∙◌, append_assoc, append-nil, subst}
+use Rattle.std.proofs.Common.{◌≡◌, refl, ℕ, ◌+◌, ◌<◌, List, [], ◌∷◌, ◌++◌, map, length, get_or, drop, Option, sym, ap, ◌∙◌, append_assoc, append-nil, subst}
 use Rattle.serde_json.specs.Written.{compact_text}
 use Rattle.plain.specs.Streams.{PutsPart}
 use Rattle.plain.specs.ValueLines.{text_lines}
 use Rattle.plain.proofs.Flows.{PutsPart-after, Puts-then}
 use Rattle.sets.specs.declared.action.Action.{Action}
+use Rattle.plan_lines.specs.declared.format.Format.{Format}
+use Rattle.plan_lines.specs.declared.format.Format.TheVariants.{Json, Brief}
 use Rattle.plan_lines.specs.Actions.{action_data}
+use Rattle.plan_lines.specs.Brief.{brief_line, brief_text}
+use Rattle.plan_lines.specs.Formats.{action_text, actions_text}
 use Rattle.plan_lines.specs.Output.{PutsBut}
 use Rattle.plan_lines.proofs.Finding.{at_drop}
 
--- the lines from an action on are its line and those behind it
-lines_from : (actions : List Action) (at : ℕ) (a : Action) → at < length actions → a ≡ get_or actions at a
-    → text_lines (map action_data (drop at actions)) ≡ (compact_text (action_data a) ++ 10 ∷ []) ++ text_lines (map action_data (drop (at + 1) actions))
-lines_from actions at a inside is =
-    ap (λ rest. text_lines (map action_data rest)) (at_drop actions at a inside is)
-    ∙ sym (append_assoc (compact_text (action_data a)) (10 ∷ []) (text_lines (map action_data (drop (at + 1) actions))))
+-- the lines are that of the first action and those behind it
+first_line : (format : Format) (a : Action) (actions : List Action)
+    → actions_text format (a ∷ actions) ≡ (action_text format a ++ 10 ∷ []) ++ actions_text format actions
+first_line Json a actions = sym (append_assoc (compact_text (action_data a)) (10 ∷ []) (text_lines (map action_data actions)))
+first_line Brief a actions = sym (append_assoc (brief_line a) (10 ∷ []) (brief_text actions))
+
+-- no action has no line
+pub no-lines : (format : Format) → actions_text format [] ≡ []
+no-lines Json = refl
+no-lines Brief = refl
 
 -- the lines that wait and those from an action on
-waiting_from : (waiting : List ℕ) (actions : List Action) (at : ℕ) (a : Action) → at < length actions → a ≡ get_or actions at a
-    → waiting ++ text_lines (map action_data (drop at actions))
-    ≡ (waiting ++ (compact_text (action_data a) ++ 10 ∷ [])) ++ text_lines (map action_data (drop (at + 1) actions))
-waiting_from waiting actions at a inside is =
-    ap (λ t. waiting ++ t) (lines_from actions at a inside is)
-    ∙ sym (append_assoc waiting (compact_text (action_data a) ++ 10 ∷ []) (text_lines (map action_data (drop (at + 1) actions))))
+waiting_from : (format : Format) (waiting : List ℕ) (actions : List Action) (at : ℕ) (a : Action) → at < length actions → a ≡ get_or actions at a
+    → waiting ++ actions_text format (drop at actions)
+    ≡ (waiting ++ (action_text format a ++ 10 ∷ [])) ++ actions_text format (drop (at + 1) actions)
+waiting_from format waiting actions at a inside is =
+    ap (λ t. waiting ++ t) (ap (actions_text format) (at_drop actions at a inside is) ∙ first_line format a (drop (at + 1) actions))
+    ∙ sym (append_assoc waiting (action_text format a ++ 10 ∷ []) (actions_text format (drop (at + 1) actions)))
 
 -- more of the bytes was put
 PutsBut-then : (old now new : Option (List ℕ)) (bytes rest some left more : List ℕ) → PutsBut old bytes rest now → rest ≡ some ++ more
@@ -44,18 +52,18 @@ PutsBut-part old now new bytes rest some more (put, e, p) cut (part, left, f, q)
 )
 
 -- the line of an action was put behind what waits, and some of it all was written
-pub line-put : (old now new : Option (List ℕ)) (all waiting left : List ℕ) (actions : List Action) (at : ℕ) (a : Action)
-    → at < length actions → a ≡ get_or actions at a → PutsBut old all (waiting ++ text_lines (map action_data (drop at actions))) now
-    → PutsBut now (waiting ++ (compact_text (action_data a) ++ 10 ∷ [])) left new
-    → PutsBut old all (left ++ text_lines (map action_data (drop (at + 1) actions))) new
-line-put old now new all waiting left actions at a inside is so_far next =
-    PutsBut-then old now new all _ _ left (text_lines (map action_data (drop (at + 1) actions))) so_far (waiting_from waiting actions at a inside is) next
+pub line-put : (format : Format) (old now new : Option (List ℕ)) (all waiting left : List ℕ) (actions : List Action) (at : ℕ) (a : Action)
+    → at < length actions → a ≡ get_or actions at a → PutsBut old all (waiting ++ actions_text format (drop at actions)) now
+    → PutsBut now (waiting ++ (action_text format a ++ 10 ∷ [])) left new
+    → PutsBut old all (left ++ actions_text format (drop (at + 1) actions)) new
+line-put format old now new all waiting left actions at a inside is so_far next =
+    PutsBut-then old now new all _ _ left (actions_text format (drop (at + 1) actions)) so_far (waiting_from format waiting actions at a inside is) next
 
-pub line-part : (old now new : Option (List ℕ)) (all waiting : List ℕ) (actions : List Action) (at : ℕ) (a : Action)
-    → at < length actions → a ≡ get_or actions at a → PutsBut old all (waiting ++ text_lines (map action_data (drop at actions))) now
-    → PutsPart now (waiting ++ (compact_text (action_data a) ++ 10 ∷ [])) new → PutsPart old all new
-line-part old now new all waiting actions at a inside is so_far next =
-    PutsBut-part old now new all _ _ (text_lines (map action_data (drop (at + 1) actions))) so_far (waiting_from waiting actions at a inside is) next
+pub line-part : (format : Format) (old now new : Option (List ℕ)) (all waiting : List ℕ) (actions : List Action) (at : ℕ) (a : Action)
+    → at < length actions → a ≡ get_or actions at a → PutsBut old all (waiting ++ actions_text format (drop at actions)) now
+    → PutsPart now (waiting ++ (action_text format a ++ 10 ∷ [])) new → PutsPart old all new
+line-part format old now new all waiting actions at a inside is so_far next =
+    PutsBut-part old now new all _ _ (actions_text format (drop (at + 1) actions)) so_far (waiting_from format waiting actions at a inside is) next
 
 -- nothing is behind what waits
 pub last-part : (old now new : Option (List ℕ)) (all rest waiting shown : List ℕ) → PutsBut old all rest now → rest ≡ waiting ++ [] → shown ≡ waiting

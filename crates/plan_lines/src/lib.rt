@@ -2,10 +2,13 @@
 #![tactic(auto)]
 
 mod action_line;
+mod brief;
+mod format;
 mod listed;
 mod output;
 mod refusal;
 
+pub use format::Format;
 pub use listed::{Listed, named_set, read_objects};
 pub use output::{OutputFault, write_actions};
 pub use refusal::plan_error_name;

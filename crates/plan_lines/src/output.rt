@@ -1,13 +1,11 @@
 // The output of a plan: the lines of its actions, written as they are printed.
-ghost use Rattle.std.specs.Prelude.{◌≡◌, ◌++◌, ◌∷◌, [], map, IfOk, OnErr, OnOk};
-ghost use Rattle.serde_json.specs.Written.{compact_text};
+ghost use Rattle.std.specs.Prelude.{◌≡◌, ◌++◌, ◌∷◌, [], IfOk, OnErr, OnOk};
 ghost use Rattle.plain.specs.Streams.{Puts, PutsPart};
-ghost use Rattle.plain.specs.ValueLines.{text_lines};
-ghost use Rattle.plan_lines.specs.Actions.{action_data};
+ghost use Rattle.plan_lines.specs.Formats.{action_text, actions_text};
 ghost use Rattle.plan_lines.specs.Output.{CountsWrites, PutsBut};
 ghost use Rattle.plan_lines.specs.declared.output.OutputFault.TheVariants.{Memory as OutOfMemory};
 
-use crate::action_line::put_action;
+use crate::format::{Format, put_formatted};
 use objects::Memory;
 use plain::{Sink, write_all};
 use sets::Action;
@@ -44,7 +42,7 @@ impl From<AllocError> for OutputFault {
     }
 }
 
-/// Writes the actions, one a line and in order:
+/// Writes the actions, one a line and in order. Brief says each in words, as `Create Pod web-0`. Json says:
 ///
 /// - `{"do":A,"object":O}` for CreateClaim, CreatePod, UpdateClaim, WriteRevision and WriteStatus;
 /// - `{"do":"DeletePod","name":N,"uid":U}`;
@@ -59,16 +57,17 @@ impl From<AllocError> for OutputFault {
 /// Where the writer failed or memory ran out, what was written is a beginning of the lines.
 pub fn write_actions<W: Sink>(
     alloc: Global,
+    format: Format,
     actions: &[Action],
     writer: &mut W,
 ) -> Result<(), OutputFault>
-    ensures all { OnOk result (Puts (W.written writer.old) (text_lines (map action_data actions.now)) (W.written writer.new)) }
-    ensures part { PutsPart (W.written writer.old) (text_lines (map action_data actions.now)) (W.written writer.new) }
+    ensures all { OnOk result (Puts (W.written writer.old) (actions_text format actions.now) (W.written writer.new)) }
+    ensures part { PutsPart (W.written writer.old) (actions_text format actions.now) (W.written writer.new) }
     ensures writes { CountsWrites result (W.failures writer.old) (W.failures writer.new) }
 {
     let mut lines = Vec::new(alloc);
     for action in actions {
-        lines = put_line(alloc, action, lines, writer)?;
+        lines = put_line(alloc, format, action, lines, writer)?;
     }
     write_all(writer, lines.as_slice()).ok_or(OutputFault::Write)
 }
@@ -76,17 +75,18 @@ pub fn write_actions<W: Sink>(
 /// Puts the line of the action behind those that wait, and writes them all where they are enough. Answers what waits still.
 fn put_line<W: Sink>(
     alloc: Global,
+    format: Format,
     action: &Action,
     waiting: Vec<u8>,
     writer: &mut W,
 ) -> Result<Vec<u8>, OutputFault>
-    ensures put { IfOk result (λ left. PutsBut (W.written writer.old) (waiting.items ++ (compact_text (action_data action.now) ++ 10 ∷ []))
+    ensures put { IfOk result (λ left. PutsBut (W.written writer.old) (waiting.items ++ (action_text format action.now ++ 10 ∷ []))
         left.items (W.written writer.new)) }
-    ensures part { OnErr result (PutsPart (W.written writer.old) (waiting.items ++ (compact_text (action_data action.now) ++ 10 ∷ []))
+    ensures part { OnErr result (PutsPart (W.written writer.old) (waiting.items ++ (action_text format action.now ++ 10 ∷ []))
         (W.written writer.new)) }
     ensures writes { CountsWrites result (W.failures writer.old) (W.failures writer.new) }
 {
-    let mut lines = put_action(alloc, action, waiting)?;
+    let mut lines = put_formatted(alloc, format, action, waiting)?;
     if ENOUGH <= lines.len() {
         write_all(writer, lines.as_slice()).ok_or(OutputFault::Write)?;
         lines.clear();

@@ -24,4 +24,7 @@ returns c =
     c.in_ok-arg.ensures.shape (search (rules, set_helped, set_required, set_valued, set_long, set_new)) ∙ ap₂ with_rule top_is set_is in
     let two_is : app_of c.in_ok-arg-2.field-0 ≡ with_rule (with_rule (new_app (codes "plan")) set_rule) namespace_rule =
     c.in_ok-arg-2.ensures.shape (search (rules, helped, valued, long, new)) ∙ ap₂ with_rule one_is namespace_is in
-    IfOk-weaker c.arg-3.result _ _ (λ r h. h.shape c.number_arg-digits.ensures.own ∙ ap₂ with_rule two_is digits_is) c.arg-3.ensures
+    let three_is : app_of c.in_ok-arg-3.field-0 ≡ with_rule (with_rule (with_rule (new_app (codes "plan")) set_rule) namespace_rule) digits_rule =
+    c.in_ok-arg-3.ensures.shape c.number_arg-digits.ensures.own ∙ ap₂ with_rule two_is digits_is in
+    let brief = c.flag_arg-brief.ensures in
+    IfOk-weaker c.arg-4.result _ _ (λ r h. h.shape brief.own ∙ ap₂ with_rule three_is brief.rule) c.arg-4.ensures

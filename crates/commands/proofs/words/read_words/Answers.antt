@@ -5,9 +5,10 @@ use Rattle.clap.specs.Words.{app_of, found_of, rows_of, subcommand_name_of, subc
 use Rattle.commands.specs.declared.words.Asked.{Asked}
 use Rattle.commands.specs.declared.words.Asked.TheVariants.{Plan}
 use Rattle.commands.specs.Asked.{IsAsked}
+use Rattle.commands.specs.Forms.{IsFlagBy}
 use Rattle.commands.specs.Grammar.{IsDigitsBy, faults_of, rows_under, stsctl_app}
 use Rattle.commands.proofs.Asked.{failed, parsed}
-use Rattle.commands.proofs.Serving.{asked-plan, digits-is, false-true, met, other_asked, plan-is, rows-met, under-met, under-unmet}
+use Rattle.commands.proofs.Serving.{asked-plan, brief-is, digits-is, false-true, met, other_asked, plan-is, rows-met, under-met, under-unmet}
 use Rattle.commands.proofs.words.read_words.Goals.{in-Some, in-None}
 use Rattle.commands.proofs.words.read_words.Goals as goal
 
@@ -43,6 +44,7 @@ returns-clause-asked g c =
               subst (λ t. IsDigitsBy t w.plan_words.result.digits) (digits-is words m (rows_of (found_of plan)) same rows) says.digits,
               says.some,
               says.most,
+              subst (λ t. IsFlagBy t w.plan_words.result.brief) (brief-is words m (rows_of (found_of plan)) same rows) says.brief,
             ),
           ) in
           subst (λ (a : Asked). IsAsked words a) (sym w.result-is) asked

@@ -1,6 +1,5 @@
-use Rattle.std.proofs.Common.{◌≡◌, ◌++◌, map, drop}
-use Rattle.plain.specs.ValueLines.{text_lines}
-use Rattle.plan_lines.specs.Actions.{action_data}
+use Rattle.std.proofs.Common.{◌≡◌, ◌++◌, drop}
+use Rattle.plan_lines.specs.Formats.{actions_text}
 use Rattle.plan_lines.specs.Output.{PutsBut}
 use Rattle.plan_lines.proofs.output.write_actions.Given as goal
 
@@ -8,7 +7,7 @@ use Rattle.plan_lines.proofs.output.write_actions.Given as goal
 abbrev pub invariant-loop-action : goal.invariant-loop-action
 invariant-loop-action g l = record {
   put :
-      PutsBut (g.W.Sink.written l.fn.writer) (text_lines (map action_data l.actions))
-      (l.lines.items ++ text_lines (map action_data (drop l.action-index l.actions))) (g.W.Sink.written l.writer);
+      PutsBut (g.W.Sink.written l.fn.writer) (actions_text l.format l.actions)
+      (l.lines.items ++ actions_text l.format (drop l.action-index l.actions)) (g.W.Sink.written l.writer);
   writes : g.W.Sink.failures l.writer ≡ g.W.Sink.failures l.fn.writer;
 }
