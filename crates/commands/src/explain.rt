@@ -22,6 +22,15 @@ fn is_mistake(kind: ErrorKind) -> bool
     !is_request(kind) && kind != ErrorKind::OutOfMemory
 }
 
+/// What is said behind a mistake: of a word too many, which is often the name of a file, where input comes from.
+fn tip(kind: ErrorKind) -> &'static str {
+    if kind == ErrorKind::UnknownArgument {
+        "Input comes on standard input: stsctl replay < FILE\n"
+    } else {
+        ""
+    }
+}
+
 /// Says why nothing is done: help and the version on `writer`, a mistake in the words on `faults`.
 pub(crate) fn explained<W: Sink, F: Sink>(
     heap: &mut Heap,
@@ -40,7 +49,8 @@ pub(crate) fn explained<W: Sink, F: Sink>(
     ensures untouched { is_request (kind_of error.now) ≡ false → writer.new ≡ writer.old }
 {
     let kind = error.kind();
-    match format!(in heap.alloc; "{error}") {
+    let tip = tip(kind);
+    match format!(in heap.alloc; "{error}{tip}") {
         Ok(text) if is_request(kind) => shown(writer, text.as_bytes()),
         Ok(text) if is_mistake(kind) => report_bad_words(faults, text.as_bytes()),
         _ => {
