@@ -1,0 +1,4 @@
+mod Merging
+mod HeldTexts
+mod Maps
+mod Drafts

@@ -1,0 +1,4 @@
+-- ---- what public clauses cite
+pub mod Texts
+-- ---- what only proofs use
+pub mod Merging
