@@ -2,3 +2,5 @@ mod Merging
 mod HeldTexts
 mod Maps
 mod Drafts
+mod Lines
+mod Braces

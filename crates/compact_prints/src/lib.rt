@@ -3,9 +3,11 @@
 #![tactic(auto)]
 
 mod held;
+mod line;
 mod merge;
 mod metadata;
 mod part;
 mod print;
 
+pub use line::draft_of_line;
 pub use print::printed;

@@ -1,7 +1,6 @@
 // Lines, and the texts of their objects as the store would keep them.
 use compact::Scanner;
-use compact_drafts::CompactDraft;
-use compact_prints::printed;
+use compact_prints::{draft_of_line, printed};
 use objects::{Memory, Meta};
 use std::alloc::Global;
 use std::process::Abort;
@@ -34,7 +33,7 @@ fn text_of(
     if !scanner.scan(&mut text) {
         return Ok(None);
     }
-    match CompactDraft::of(alloc, &text, scanner.tables())? {
+    match draft_of_line(alloc, &text, scanner.tables())? {
         Some(draft) => printed(alloc, &draft, meta, status),
         None => Ok(None),
     }
