@@ -1,0 +1,6 @@
+mod Merging
+mod HeldTexts
+mod Maps
+mod Drafts
+mod Lines
+mod Braces

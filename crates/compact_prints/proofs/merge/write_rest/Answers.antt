@@ -1,0 +1,14 @@
+use Rattle.compact_prints.proofs.Merging.{above_none, all_written, going_on}
+use Rattle.compact_prints.proofs.merge.write_rest.Goals as goal
+
+pub members-preserved : goal.members-preserved
+members-preserved c = record {
+  going = λ ms ascending is are.
+      let g = c.members.invariant.going ms ascending is are in
+      going_on _ _ _ _ _ _ _ _ _ _ _ _ g (c.in-Some.ensures.first g.rest g.left_is g.entries_are) (above_none _) c.in_ok-write_other.ensures;
+}
+
+pub returns : goal.returns
+returns c ms ascending is are =
+    let g = c.members.invariant.going ms ascending is are in
+    all_written _ _ _ _ _ _ _ g (c.in_default.ensures.first g.rest g.left_is g.entries_are) c.in_ok-push.ensures.items

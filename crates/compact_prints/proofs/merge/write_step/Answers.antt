@@ -1,0 +1,5 @@
+use Rattle.compact_prints.proofs.Merging.{step_written}
+use Rattle.compact_prints.proofs.merge.write_step.Goals as goal
+
+pub returns : goal.returns
+returns c ms ascending is are = step_written _ _ _ _ _ _ _ _ _ (c.in_ok-rest.ensures ms ascending is are) c.in_ok-write_held.ensures

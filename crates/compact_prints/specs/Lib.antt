@@ -1,0 +1,5 @@
+-- ---- what public clauses cite
+pub mod Texts
+pub mod Lines
+-- ---- what only proofs use
+pub mod Merging

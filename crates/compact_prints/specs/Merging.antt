@@ -1,0 +1,73 @@
+-- The members of a map that are written beside those that the store sets.
+use Rattle.std.specs.Prelude.{◌≡◌, ℕ, List, [], ◌∷◌, ◌++◌, Bool, true, ◌||◌, bytes_eq, codes, cond, decimal, Option, Some, None, option_map}
+use Rattle.json.specs.Print.{quoted}
+use Rattle.serde_json.specs.Data.{Data, number, string, unsigned, Members, no_members, member}
+use Rattle.serde_json.specs.Written.{compact_text, members_text}
+use Rattle.trees.specs.Tree.{AreAscending, ComesBefore}
+use Rattle.compact.specs.Fields.{IsLeft}
+use Rattle.compact.specs.Notes.{AreEntries}
+use Rattle.compact.specs.declared.entry.Entry.{Entry}
+use Rattle.objects.specs.Key.{KeyParts}
+use Rattle.objects.specs.Merged.{IsBelowAll, puts}
+use Rattle.objects.specs.Meta.{MetaParts}
+use Rattle.objects.specs.Object.{is_held}
+use Rattle.objects.specs.Text.{unless_zero}
+use Rattle.objects.specs.Uid.{uid_text}
+use Rattle.compact_prints.specs.declared.held.Held.{Held}
+use Rattle.compact_prints.specs.declared.held.Held.TheVariants.{Integer, Text}
+use Rattle.compact_prints.specs.declared.part.Part.{Part}
+use Rattle.compact_prints.specs.declared.part.Part.TheVariants.{Metadata, Object}
+
+-- the store sets the member of that key
+abbrev pub is_set : Part → List ℕ → Bool
+is_set Object k = bytes_eq (codes "metadata") k || bytes_eq (codes "status") k
+is_set Metadata k = is_held k
+
+-- the members that the store does not set
+abbrev pub without : Part → Members → Members
+without part no_members = no_members
+without part (member k d ms) = cond (is_set part k) (without part ms) (member k d (without part ms))
+
+abbrev pub held_data : Held → Data
+held_data (Text s) = string s.now
+held_data (Integer n) = number (unsigned n)
+
+-- what the store sets in the metadata
+abbrev pub held_of : KeyParts → MetaParts → List (List ℕ × Option Data)
+held_of key meta =
+    (codes "deletionTimestamp", option_map string meta.deletion) ∷ (codes "generation", unless_zero meta.generation (number (unsigned meta.generation)))
+    ∷ (codes "name", Some (string key.name)) ∷ (codes "namespace", Some (string key.namespace))
+    ∷ (codes "resourceVersion", unless_zero meta.revision (string (decimal meta.revision))) ∷ (codes "uid", unless_zero meta.uid (string (uid_text meta.uid))) ∷ []
+
+-- a member as it is written, with a comma before it
+abbrev pub field_text : List ℕ → List ℕ → List ℕ
+field_text k v = 44 ∷ 34 ∷ (k ++ 34 ∷ 58 ∷ v)
+
+-- the same, of one that the store does not set
+abbrev pub other_text : Part → List ℕ → List ℕ → List ℕ
+other_text part k v = cond (is_set part k) [] (field_text k v)
+
+abbrev pub some_text : List ℕ → Option Data → List ℕ
+some_text k None = []
+some_text k (Some d) = 44 ∷ (quoted k ++ 58 ∷ compact_text d)
+
+-- the members, with these that are set, each with a comma before it, and the closing brace
+abbrev pub rest_text : Part → List (List ℕ × Option Data) → Members → List ℕ
+rest_text part hs ms = members_text true (puts hs (without part ms))
+
+-- These members are left, with others written: with whatever is set from that key on, all is written.
+pub record WritesBelow (part : Part) (k : List ℕ) (ms : Members) (left : List ℕ) (entries : List Entry) (old new : List ℕ) : Type 0 where
+  pub rest : Members
+  pub left_is : IsLeft rest left
+  pub entries_are : AreEntries entries rest
+  pub ascending : AreAscending rest
+  pub before : ComesBefore k (without part rest)
+  pub written : (hs : List (List ℕ × Option Data)) (v : Option Data) → IsBelowAll k hs → old ++ rest_text part ((k, v) ∷ hs) ms ≡ new ++ rest_text part ((k, v) ∷ hs) rest
+
+-- The same, with the member of that key: with whatever is set behind it, all is written.
+pub record WritesStep (part : Part) (k : List ℕ) (v : Option Data) (ms : Members) (left : List ℕ) (entries : List Entry) (old new : List ℕ) : Type 0 where
+  pub rest : Members
+  pub left_is : IsLeft rest left
+  pub entries_are : AreEntries entries rest
+  pub ascending : AreAscending rest
+  pub written : (hs : List (List ℕ × Option Data)) → IsBelowAll k hs → old ++ rest_text part ((k, v) ∷ hs) ms ≡ new ++ rest_text part hs rest

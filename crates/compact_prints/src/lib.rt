@@ -1,0 +1,13 @@
+//! Texts of objects straight from a line that `compact` has taken: the members that the store sets are merged into the bytes
+//! of the line, with no tree.
+#![tactic(auto)]
+
+mod held;
+mod line;
+mod merge;
+mod metadata;
+mod part;
+mod print;
+
+pub use line::draft_of_line;
+pub use print::printed;
