@@ -80,6 +80,14 @@ def option_faults():
             yield f"docs/REFERENCE.md: stsctl {word}: the numbers {numbers[0]} are told, and {numbers[1]} are in its help"
 
 
+def help_faults():
+    """The input that the help on a word shows: some example is answered over it."""
+    for word in re.findall(r"\n  (\w+)  ", said_to("--help")[1].decode()):
+        lines = [line for line in said_to(f"{word} --help")[1].splitlines() if line.startswith(b"{")]
+        if lines and not any(one.stdin.splitlines() == lines and one.asked[0][0] == word and one.said[0] == 0 for one in SHOWN):
+            yield f"examples/words: no example has the input that the help on {word} shows"
+
+
 def status_faults(program):
     """The exit statuses, of which a run that cannot write has one, and what is said to words that are named whole."""
     with open("/dev/full", "w") as full:
@@ -105,4 +113,4 @@ def form_faults():
 
 
 def faults(program):
-    return [*answer_faults(program), *refusal_faults(), *option_faults(), *status_faults(program), *form_faults()]
+    return [*answer_faults(program), *refusal_faults(), *option_faults(), *help_faults(), *status_faults(program), *form_faults()]

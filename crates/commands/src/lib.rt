@@ -9,6 +9,7 @@ mod finding;
 mod flags;
 mod form;
 mod halt;
+mod help;
 mod numbers;
 mod plan;
 mod program;

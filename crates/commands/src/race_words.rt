@@ -6,6 +6,7 @@ ghost use Rattle.commands.specs.Grammar.{race_app, sized_app};
 ghost use Rattle.race_log.specs.Limits.{is_race};
 
 use crate::flags::{flag_arg, flag_in};
+use crate::help::RACE_END;
 use crate::numbers::{from_0_to_64, from_1_to_64, from_1_to_1024, number_arg, number_in};
 use clap::{ArgMatches, Command};
 use race_log::RaceSpec;
@@ -22,10 +23,6 @@ const ROUNDS: u64 = 16;
 
 /// How many pods the set asks for, where the words say no number.
 const REPLICAS: u64 = 3;
-
-/// The end of the help on `race`.
-const RACE_END: &str = r#"It prints: {"controllers":4,"legal":true,"rounds":16,"shards":8,"twice":0}
-More in docs/RUNNING.md"#;
 
 /// The race that is asked for, and whether its history is printed.
 #[derive(Clone, Copy, Drop)]

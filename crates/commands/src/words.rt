@@ -7,6 +7,7 @@ ghost use Rattle.commands.specs.Forms.{IsFlagBy};
 
 use crate::flags::{flag_arg, flag_in};
 use crate::form::{Form, form_in, picture_arg};
+use crate::help::{CLUSTER_END, OUTCOMES_END, PLAN_END, REPLAY_END, SERVE_END};
 use crate::numbers::{from_1_to_64, from_1_to_20000, number_arg, number_in};
 use crate::race_words::{RaceWords, race_grammar, race_words};
 use clap::{Arg, ArgMatches, Command, Error, value_parser};
@@ -19,30 +20,6 @@ const DIGITS: u64 = 10;
 
 /// The most hex digits that a hash has.
 const MAX_DIGITS: u64 = 64;
-
-/// The end of the help on `serve`.
-const SERVE_END: &str = r#"An input line: {"do":"get","kind":"Pod","name":"web-0"}
-More in docs/REFERENCE.md"#;
-
-/// The end of the help on `replay`.
-const REPLAY_END: &str = r#"An input line: {"caller":1,"event":"check"}
-More in docs/INTERLEAVINGS.md"#;
-
-/// The end of the help on `cluster`.
-const CLUSTER_END: &str = r#"An input line: {"controller":0,"event":"next"}
-More in docs/CLUSTERS.md"#;
-
-/// The end of the help on `plan`.
-const PLAN_END: &str =
-    r#"An input line: {"kind":"StatefulSet","metadata":{"name":"web","uid":"00000000-0000-4000-8000-000000000001"},"spec":{"replicas":3,"template":{}}}
-More in docs/PLANS.md"#;
-
-/// The end of the help on `outcomes`: a whole input.
-const OUTCOMES_END: &str = r#"Whole input, of two callers who race for a name:
-{"capacity":100}
-{"caller":1,"request":{"do":"create","object":{"kind":"Pod","metadata":{"name":"a"}}}}
-{"caller":2,"request":{"do":"create","object":{"kind":"Pod","metadata":{"name":"a"}}}}
-Either is told Created, and the other AlreadyExists. More in docs/LITMUS.md"#;
 
 /// What is to be planned: the set of this namespace and name, how many hex digits of its hash the name of a new revision
 /// gets, and whether the actions are written in words.

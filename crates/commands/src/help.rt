@@ -1,0 +1,124 @@
+//! The end of the help on each word: an input that is whole, and the exit statuses.
+
+/// Of `serve`: a line of each verb.
+pub(crate) const SERVE_END: &str =
+    r#"Input lines, one of each verb; a write is {"do":..,"object":..}:
+{"do":"create","object":{"kind":"Pod","metadata":{"name":"web-0"}}}
+{"do":"get","kind":"Pod","name":"web-0"}
+{"do":"list","kind":"Pod"}
+{"do":"update","object":{"kind":"Pod","metadata":{"labels":{"app":"web"},"name":"web-0"}}}
+{"do":"status","object":{"kind":"Pod","metadata":{"name":"web-0"},"status":{"phase":"Running"}}}
+{"do":"delete","kind":"Pod","name":"web-0"}
+{"do":"compact","resourceVersion":"4"}
+
+Exit status:
+  0  all was answered
+  1  reading or writing failed, or memory ran out
+  2  an unknown command line
+
+More in docs/REFERENCE.md"#;
+
+/// Of `replay`: a script, and the events.
+pub(crate) const REPLAY_END: &str =
+    r#"Whole script, of a caller who creates a pod; from a file as `stsctl replay < FILE`:
+{"capacity":10,"shards":2}
+{"caller":1,"event":"call","request":{"do":"create","object":{"kind":"Pod","metadata":{"name":"a"}}}}
+{"caller":1,"event":"check"}
+{"caller":1,"event":"reserve"}
+{"caller":1,"event":"publish"}
+{"event":"raise"}
+{"caller":1,"event":"reply"}
+
+Events of a caller:
+  call     calls a request, which is a line of `serve`
+  check    a write is judged; if it is accepted it holds its shard
+  reserve  the write draws the next number
+  publish  the write goes into its shard
+  read     a get or a list begins
+  readat   a list at a version begins
+  part     the next shard of a read answers
+  compact  a compaction sets the floor
+  reply    the reply is given
+  crash    the caller is gone
+Of nobody:
+  raise    the frontier goes up by one, so that the next write can be read
+
+Exit status:
+  0  all was answered
+  1  reading or writing failed, or memory ran out
+  2  an unknown command line
+  3  the script is refused; standard error says `refused: NAME`
+
+More in docs/INTERLEAVINGS.md"#;
+
+/// Of `cluster`: a script, and the events.
+pub(crate) const CLUSTER_END: &str =
+    r#"Whole script, of a new set whose two pods come up; from a file as `stsctl cluster < FILE`:
+{"capacity":100,"sets":[{"name":"web"}],"shards":2}
+{"caller":9,"event":"outside","request":{"do":"create","object":{"kind":"StatefulSet","metadata":{"name":"web","namespace":"default"},"spec":{"replicas":2,"template":{}}}}}
+{"caller":9,"event":"check"}
+{"caller":9,"event":"reserve"}
+{"caller":9,"event":"publish"}
+{"event":"raise"}
+{"caller":9,"event":"reply"}
+{"event":"settle","rounds":5}
+{"event":"settle","rounds":1}
+
+Events of a controller:
+  next     it calls what it asks next
+  run      the steps that carry this to its reply
+  crash    it forgets its round, and begins anew as another caller
+Of all controllers:
+  settle   so many rounds of each; after all have made one, a kubelet makes a turn
+Of a caller:
+  outside  anybody else calls a request, which is a line of `serve`
+The steps of callers, and `raise`, are those of `stsctl replay --help`
+
+Exit status:
+  0  all was answered
+  1  reading or writing failed, or memory ran out
+  2  an unknown command line
+  3  the script is refused; standard error says `refused: NAME`
+
+More in docs/CLUSTERS.md"#;
+
+/// Of `plan`: a set.
+pub(crate) const PLAN_END: &str =
+    r#"Whole input, of a set that is new; from a file as `stsctl plan --set web < FILE`:
+{"kind":"StatefulSet","metadata":{"name":"web","uid":"00000000-0000-4000-8000-000000000001"},"spec":{"replicas":3,"template":{}}}
+
+Exit status:
+  0  all was answered
+  1  reading or writing failed, or memory ran out
+  2  an unknown command line
+  3  the plan is refused; standard error says `refused: NAME`
+
+More in docs/PLANS.md"#;
+
+/// Of `outcomes`: a litmus test.
+pub(crate) const OUTCOMES_END: &str =
+    r#"Whole input, of two callers who race for a name; from a file as `stsctl outcomes < FILE`:
+{"capacity":100}
+{"caller":1,"request":{"do":"create","object":{"kind":"Pod","metadata":{"name":"a"}}}}
+{"caller":2,"request":{"do":"create","object":{"kind":"Pod","metadata":{"name":"a"}}}}
+Either is told Created, and the other AlreadyExists
+
+Exit status:
+  0  all was answered
+  1  reading or writing failed, or memory ran out
+  2  an unknown command line
+  3  the litmus test is refused; standard error says `refused: NAME`
+
+More in docs/LITMUS.md"#;
+
+/// Of `race`: the line that it prints.
+pub(crate) const RACE_END: &str =
+    r#"It prints: {"controllers":4,"legal":true,"rounds":16,"shards":8,"twice":0}
+
+Exit status:
+  0  all was answered
+  1  writing failed, memory ran out, or a thread could not be made
+  2  an unknown command line
+  3  the race is not legal, which would be a bug
+
+More in docs/RUNNING.md"#;
