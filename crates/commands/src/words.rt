@@ -4,7 +4,7 @@ ghost use Rattle.clap.specs.Words.{FailsBy, app_of, first_of, found_of, one_of, 
 ghost use Rattle.commands.specs.Grammar.{IsCapacityBy, IsChoiceBy, IsDigitsBy, cluster_app, faults_of, outcomes_app, plan_app, replay_app, rows_under, serve_app, stsctl_app};
 ghost use Rattle.commands.specs.Asked.{IsAsked, IsFinding, IsOther, IsScripted, IsServing};
 
-use crate::form::{Form, form_in, picture_arg};
+use crate::form::{Form, form_in, picture_arg, writes_arg};
 use crate::numbers::{from_1_to_64, from_1_to_20000, number_arg, number_in};
 use crate::race_words::{RaceWords, race_grammar, race_words};
 use clap::{Arg, ArgMatches, Command, Error, value_parser};
@@ -68,8 +68,8 @@ pub(crate) enum Asked<'a> {
     Outcomes(Option<u64>),
 }
 
-/// What the program takes: `serve [--capacity N]`, `replay [--picture]`, `cluster [--picture]`, `plan --set NAME [--namespace NS] [--digits H]`,
-/// `race [--controllers N] [--shards N] [--rounds N] [--replicas N] [--operator] [--history]`, and `outcomes [--script K]`, and what `clap` adds
+/// What the program takes: `serve [--capacity N]`, `replay [--picture] [--writes]`, `cluster [--picture] [--writes]`,
+/// `plan --set NAME [--namespace NS] [--digits H]`, `race [--controllers N] [--shards N] [--rounds N] [--replicas N] [--operator] [--history]`, and `outcomes [--script K]`, and what `clap` adds
 /// for help and the version.
 fn grammar<'a>(alloc: Global) -> Result<Command<'a>, AllocError>
     ensures { IfOk result (λ c. app_of c ≡ stsctl_app) }
@@ -111,7 +111,8 @@ fn replay_grammar<'a>(alloc: Global) -> Result<Command<'a>, AllocError>
             "Runs the events of the script on standard input, and prints their replies and a legal order",
         )
         .after_help(REPLAY_END)
-        .arg(picture_arg(alloc))
+        .arg(picture_arg(alloc))?
+        .arg(writes_arg(alloc))
 }
 
 fn cluster_grammar<'a>(alloc: Global) -> Result<Command<'a>, AllocError>
@@ -122,7 +123,8 @@ fn cluster_grammar<'a>(alloc: Global) -> Result<Command<'a>, AllocError>
             "Runs the controllers of the script on standard input, and prints what they ask, all replies and a legal order",
         )
         .after_help(CLUSTER_END)
-        .arg(picture_arg(alloc))
+        .arg(picture_arg(alloc))?
+        .arg(writes_arg(alloc))
 }
 
 fn outcomes_grammar<'a>(alloc: Global) -> Result<Command<'a>, AllocError>
