@@ -17,8 +17,6 @@ use Rattle.plain.specs.Streams.{PutsPart, Takes}
 use Rattle.plain.proofs.Flows.{PutsPart-none, Takes-none}
 use Rattle.commands.specs.Asked.{IsAsked, IsFinding, IsOther, IsRaceBy, IsScripted, IsServing}
 use Rattle.commands.specs.Serving.{ServesSome}
-use Rattle.commands.specs.declared.form.Form.{Form}
-use Rattle.commands.specs.declared.form.Form.TheVariants.{Lines, Picture}
 use Rattle.commands.specs.declared.race_words.RaceWords.{RaceWords}
 use Rattle.commands.specs.declared.words.Asked.{Asked}
 use Rattle.commands.specs.declared.words.Asked.TheVariants as say
@@ -118,10 +116,10 @@ pub capacity-is : (words : List Text) (m : ArgMatches) → subcommand_rows_of m 
 unfolding capacity_text
 capacity-is words m same = ap (λ e. one_of (codes "capacity") (rows_under (codes "serve") e)) same
 
-pub flag-is : (words : List Text) (m : ArgMatches) (word : Text) → subcommand_rows_of m ≡ subcommand_of stsctl_app words
-    → one_of (codes "picture") (rows_under word (subcommand_rows_of m)) ≡ flag_text word words
+pub flag-is : (words : List Text) (m : ArgMatches) (word flag : Text) → subcommand_rows_of m ≡ subcommand_of stsctl_app words
+    → one_of flag (rows_under word (subcommand_rows_of m)) ≡ flag_text word flag words
 unfolding flag_text
-flag-is words m word same = ap (λ e. one_of (codes "picture") (rows_under word e)) same
+flag-is words m word flag same = ap (λ e. one_of flag (rows_under word e)) same
 
 pub race-is : (words : List Text) (m : ArgMatches) (option : Text) → subcommand_rows_of m ≡ subcommand_of stsctl_app words
     → one_of option (rows_under (codes "race") (subcommand_rows_of m)) ≡ race_text option words
@@ -187,11 +185,11 @@ other_asked words m (say.Outcomes choice) none same plan other = (
 )
 other_asked words m (say.Replay form) none same plan other = (
   asked-by words m false false true _ _ none same plan other.0 other.1.0 refl refl,
-  subst (λ t. IsFormBy t form) (flag-is words m (codes "replay") same) other.1.1,
+  subst (λ t. IsFormBy t form) (λ i flag. flag-is words m (codes "replay") flag same i) other.1.1,
 )
 other_asked words m (say.Cluster form) none same plan other = (
   asked-by words m false false false true _ none same plan other.0 other.1.0 other.1.1.0 refl,
-  subst (λ t. IsFormBy t form) (flag-is words m (codes "cluster") same) other.1.1.1,
+  subst (λ t. IsFormBy t form) (λ i flag. flag-is words m (codes "cluster") flag same i) other.1.1.1,
 )
 other_asked words m (say.Plan asked) none same plan other = absurd other.1.1.1
 other_asked words m (say.Race race) none same plan other = (
@@ -249,14 +247,6 @@ serves_nothing words had left before after same_left same_after =
       asked.1,
       ([], subst (λ o. Takes had [] o) (sym same_left) (Takes-none had), inl (subst (λ o. PutsPart before text o) (sym same_after) (PutsPart-none before text))),
     )
-
--- what is printed, as `clap` has the flag
-abbrev pub form_in : Bool → Form
-form_in picture = if picture then Picture else Lines
-
-pub form_by : (text : Option Text) (picture : Bool) → IsFlagBy text picture → IsFormBy text (form_in picture)
-form_by None picture by = ap form_in by
-form_by (Some t) picture by = ((λ is. ap form_in (by.0 is)), (λ is. ap form_in (by.1 is)))
 
 -- a flag, as `clap` has it
 pub flag_by : (text : Option Text) (given : Bool) → (text ≡ None → given ≡ false) → (text ≡ Some (codes "true") → given ≡ true)

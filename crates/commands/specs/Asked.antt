@@ -30,8 +30,8 @@ IsRaceAsked words race = IsRaceBy (λ option. race_text option words) race × (i
 -- what the words ask for, with what they say of it
 abbrev pub IsAsked : List Text → Asked → Type 0
 IsAsked words (say.Serve capacity) = (asked words ≡ Serve) × AsksFor words capacity
-IsAsked words (say.Replay form) = (asked words ≡ Replay) × IsFormBy (flag_text (codes "replay") words) form
-IsAsked words (say.Cluster form) = (asked words ≡ Cluster) × IsFormBy (flag_text (codes "cluster") words) form
+IsAsked words (say.Replay form) = (asked words ≡ Replay) × IsFormBy (λ flag. flag_text (codes "replay") flag words) form
+IsAsked words (say.Cluster form) = (asked words ≡ Cluster) × IsFormBy (λ flag. flag_text (codes "cluster") flag words) form
 IsAsked words (say.Plan plan) = (asked words ≡ Plan) × IsPlanAsked words plan
 IsAsked words (say.Race race) = (asked words ≡ Race) × IsRaceAsked words race
 IsAsked words (say.Outcomes choice) = (asked words ≡ Outcomes) × IsChoiceBy (choice_text words) choice
@@ -47,11 +47,11 @@ IsFinding met (say.Serve capacity) = (is_under (codes "outcomes") met ≡ false)
 IsFinding met _ = ⊥
 
 abbrev pub IsServing : Option (Text × List Row) → Asked → Type 0
-IsServing met (say.Cluster form) = (is_under (codes "cluster") met ≡ true) × IsFormBy (one_of (codes "picture") (rows_under (codes "cluster") met)) form
+IsServing met (say.Cluster form) = (is_under (codes "cluster") met ≡ true) × IsFormBy (λ flag. one_of flag (rows_under (codes "cluster") met)) form
 IsServing met other = (is_under (codes "cluster") met ≡ false) × IsFinding met other
 
 abbrev pub IsScripted : Option (Text × List Row) → Asked → Type 0
-IsScripted met (say.Replay form) = (is_under (codes "replay") met ≡ true) × IsFormBy (one_of (codes "picture") (rows_under (codes "replay") met)) form
+IsScripted met (say.Replay form) = (is_under (codes "replay") met ≡ true) × IsFormBy (λ flag. one_of flag (rows_under (codes "replay") met)) form
 IsScripted met other = (is_under (codes "replay") met ≡ false) × IsServing met other
 
 abbrev pub IsOther : Option (Text × List Row) → Asked → Type 0

@@ -14,12 +14,13 @@ use Rattle.cluster_scripts.specs.Scripts.{cluster_script_of, parts_of}
 use Rattle.cluster_scripts.specs.declared.script.ClusterScript.{ClusterScript}
 use Rattle.clap.specs.Words.{Text}
 use Rattle.pictures.specs.Picture.{picture_text}
+use Rattle.stories.specs.Story.{story_text}
 use Rattle.commands.specs.Forms.{IsFormBy, WritesBy}
 use Rattle.commands.specs.Grammar.{flag_text}
 use Rattle.commands.specs.Replaying.{IsSizeRefusal}
 use Rattle.commands.specs.Roles.{role_by}
 use Rattle.commands.specs.declared.form.Form.{Form}
-use Rattle.commands.specs.declared.form.Form.TheVariants.{Lines, Picture}
+use Rattle.commands.specs.declared.form.Form.TheVariants.{Lines, Picture, Writes}
 
 -- the events that its turns stand for
 abbrev pub events_by : ClusterScript → List ClusterEvent
@@ -41,9 +42,16 @@ IsClusterPicture script text = (found : ClusterRun)
     × IsClusterRun (size_of script.spec) (length script.spec.sets.items) (reconciler_named script.spec.sets.items) (events_by script) found
     × (text ≡ picture_text (size_of script.spec) (λ n. role_by script.spec.sets.items (owner_in found.owners n)) found.events.items)
 
+-- the writes of that run, in which callers are called so too
+abbrev pub IsClusterStory : ClusterScript → List ℕ → Type 0
+IsClusterStory script text = (found : ClusterRun)
+    × IsClusterRun (size_of script.spec) (length script.spec.sets.items) (reconciler_named script.spec.sets.items) (events_by script) found
+    × (text ≡ story_text (λ n. role_by script.spec.sets.items (owner_in found.owners n)) found.run.trace.items.items)
+
 abbrev pub IsClusterShown : Form → ClusterScript → List ℕ → Type 0
 IsClusterShown Lines script text = IsClusterText script text
 IsClusterShown Picture script text = IsClusterPicture script text
+IsClusterShown Writes script text = IsClusterStory script text
 
 -- the same of a script that the input is
 abbrev pub IsClusterTextOf : Form → (input text : List ℕ) → Type 0
@@ -52,7 +60,7 @@ IsClusterTextOf form input text = (script : ClusterScript) × (cluster_script_of
 -- That text was written, in the form that the words ask for.
 abbrev pub Clusters : (puts : Option (List ℕ) → List ℕ → Option (List ℕ) → Type 0) → List Text → (had left before after : Option (List ℕ)) → Type 0
 Clusters puts words had left before after =
-    (form : Form) × IsFormBy (flag_text (codes "cluster") words) form × WritesBy puts (IsClusterTextOf form) had left before after
+    (form : Form) × IsFormBy (λ flag. flag_text (codes "cluster") flag words) form × WritesBy puts (IsClusterTextOf form) had left before after
 
 -- the run of the script is refused as that of a replay, by the callers that are used
 abbrev pub IsClusterRunRefusal : ClusterScript → (name : List ℕ) → Type 0

@@ -3,17 +3,23 @@ use Rattle.std.specs.Prelude.{◌≡◌, ℕ, Bool, true, false, List, [], Optio
 use Rattle.std.specs.Option.{IfSome}
 use Rattle.clap.specs.Words.{Text}
 use Rattle.commands.specs.declared.form.Form.{Form}
-use Rattle.commands.specs.declared.form.Form.TheVariants.{Lines, Picture}
+use Rattle.commands.specs.declared.form.Form.TheVariants.{Lines, Picture, Writes}
 
 -- whether a flag is given, by what `clap` has for it: `true` where it is, else `false` or nothing
 abbrev pub IsFlagBy : Option Text → Bool → Type 0
 IsFlagBy None given = given ≡ false
 IsFlagBy (Some text) given = (text ≡ codes "true" → given ≡ true) × (text ≡ codes "false" → given ≡ false)
 
--- what the flag `--picture` asks for
-abbrev pub IsFormBy : Option Text → Form → Type 0
-IsFormBy None form = form ≡ Lines
-IsFormBy (Some text) form = (text ≡ codes "true" → form ≡ Picture) × (text ≡ codes "false" → form ≡ Lines)
+-- what is printed where these flags are given: the picture where both are
+abbrev pub form_of : (picture writes : Bool) → Form
+form_of true writes = Picture
+form_of false true = Writes
+form_of false false = Lines
+
+-- what the flags `--picture` and `--writes` ask for, by what `clap` has for each
+abbrev pub IsFormBy : (text : Text → Option Text) → Form → Type 0
+IsFormBy text form = (picture : Bool) × ((writes : Bool)
+    × (IsFlagBy (text (codes "picture")) picture × IsFlagBy (text (codes "writes")) writes × (form ≡ form_of picture writes)))
 
 -- All of the reader's bytes were read, and of such a text of the input was written all, by `Puts`, or a beginning, by `PutsPart`.
 abbrev pub WritesBy : (puts : Option (List ℕ) → List ℕ → Option (List ℕ) → Type 0) → (IsText : (input text : List ℕ) → Type 0)

@@ -1,5 +1,5 @@
--- What the program takes, as `clap` reads it: `serve [--capacity N]`, `replay [--picture]`, `cluster [--picture]`,
--- `plan --set NAME [--namespace NS] [--digits H] [--brief]`,
+-- What the program takes, as `clap` reads it: `serve [--capacity N]`, `replay [--picture] [--writes]`,
+-- `cluster [--picture] [--writes]`, `plan --set NAME [--namespace NS] [--digits H] [--brief]`,
 -- `race [--controllers N] [--shards N] [--rounds N] [--replicas N] [--operator] [--history]`, and `outcomes [--script K]`. `clap`
 -- adds help and the version.
 use Rattle.std.specs.Prelude.{◌≡◌, ◌≤◌, ◌<◌, ◌^◌, ℕ, Bool, true, false, List, [], ◌∷◌, Option, Some, None, codes, if◌then◌else◌}
@@ -32,11 +32,14 @@ flag_rule name = record (new_rule name) { long = Some name; action = Some SetTru
 abbrev pub picture_rule : Rule
 picture_rule = flag_rule (codes "picture")
 
+abbrev pub writes_rule : Rule
+writes_rule = flag_rule (codes "writes")
+
 abbrev pub replay_app : App
-replay_app = with_rule (new_app (codes "replay")) picture_rule
+replay_app = with_rule (with_rule (new_app (codes "replay")) picture_rule) writes_rule
 
 abbrev pub cluster_app : App
-cluster_app = with_rule (new_app (codes "cluster")) picture_rule
+cluster_app = with_rule (with_rule (new_app (codes "cluster")) picture_rule) writes_rule
 
 abbrev pub set_rule : Rule
 set_rule = record (new_rule (codes "set")) { long = Some (codes "set"); value_names = 1; required = true }
@@ -122,9 +125,9 @@ asked words = word_of (faults_of words) (subcommand_of stsctl_app words)
 unfoldable pub capacity_text : List Text → Option Text
 capacity_text words = one_of (codes "capacity") (rows_under (codes "serve") (subcommand_of stsctl_app words))
 
--- what `clap` has for the flag `--picture` of this subcommand
-unfoldable pub flag_text : Text → List Text → Option Text
-flag_text word words = one_of (codes "picture") (rows_under word (subcommand_of stsctl_app words))
+-- what `clap` has for this flag of this subcommand, of `replay` and `cluster`
+unfoldable pub flag_text : (word flag : Text) → List Text → Option Text
+flag_text word flag words = one_of flag (rows_under word (subcommand_of stsctl_app words))
 
 -- the text after this option of `plan`, if the words have one
 unfoldable pub plan_text : Text → List Text → Option Text

@@ -15,29 +15,35 @@ use Rattle.replay_lines.specs.declared.fault.ScriptError.{ScriptError}
 use Rattle.clap.specs.Words.{Text}
 use Rattle.pictures.specs.Heading.{no_role}
 use Rattle.pictures.specs.Picture.{picture_text}
+use Rattle.stories.specs.Story.{story_text}
 use Rattle.commands.specs.Forms.{IsFormBy, WritesBy}
 use Rattle.commands.specs.Grammar.{flag_text}
 use Rattle.commands.specs.declared.form.Form.{Form}
-use Rattle.commands.specs.declared.form.Form.TheVariants.{Lines, Picture}
+use Rattle.commands.specs.declared.form.Form.TheVariants.{Lines, Picture, Writes}
 use Rattle.replay_lines.specs.declared.fault.ScriptError.TheVariants.{BadScript, Memory}
 
 -- the replies of the run of these events, and its order
 abbrev pub IsRunText : Size × List Event → List ℕ → Type 0
 IsRunText script text = (run : Run) × IsRunOf script.0 script.1 run × (text ≡ run_text run.trace.items.items run.order.items)
 
--- that text, or the picture of the run
+-- the writes of the run of these events, told by its calls and replies
+abbrev pub IsStoryText : Size × List Event → List ℕ → Type 0
+IsStoryText script text = (run : Run) × IsRunOf script.0 script.1 run × (text ≡ story_text no_role run.trace.items.items)
+
+-- the text of a run in this form
 abbrev pub IsShownText : Form → Size × List Event → List ℕ → Type 0
 IsShownText Lines script text = IsRunText script text
 IsShownText Picture script text = text ≡ picture_text script.0 no_role script.1
+IsShownText Writes script text = IsStoryText script text
 
 -- the same of the script that the input is
 abbrev pub IsReplayText : Form → (input text : List ℕ) → Type 0
 IsReplayText form input text = (script : Size × List Event) × (script_of input ≡ Some script) × IsShownText form script text
 
--- That text was written, in the form that the words ask for: the replies of the run and its order, or its picture.
+-- That text was written, in the form that the words ask for: the replies of the run and its order, its picture, or its writes.
 abbrev pub Replays : (puts : Option (List ℕ) → List ℕ → Option (List ℕ) → Type 0) → List Text → (had left before after : Option (List ℕ)) → Type 0
 Replays puts words had left before after =
-    (form : Form) × IsFormBy (flag_text (codes "replay") words) form × WritesBy puts (IsReplayText form) had left before after
+    (form : Form) × IsFormBy (λ flag. flag_text (codes "replay") flag words) form × WritesBy puts (IsReplayText form) had left before after
 
 -- A run of this size is refused by this name. The first that fits: the shards are out of range, then the capacity, then there are
 -- too many callers.

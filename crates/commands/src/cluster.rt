@@ -1,6 +1,6 @@
 //! `stsctl cluster`.
 ghost use Rattle.std.specs.Prelude.{◌≡◌, ◌≢◌, ◌<◌, ◌⊎◌, ℕ, List, [], true, false, IfOk, IfErr, IfSome, Some};
-ghost use Rattle.commands.specs.Clustering.{IsClusterPicture, IsClusterRefusal, IsClusterRefusedBy, IsClusterRunRefusal, IsClusterShown, IsClusterText, IsClusterTextOf};
+ghost use Rattle.commands.specs.Clustering.{IsClusterPicture, IsClusterRefusal, IsClusterRefusedBy, IsClusterRunRefusal, IsClusterShown, IsClusterStory, IsClusterText, IsClusterTextOf};
 ghost use Rattle.plain.specs.Streams.{Puts, PutsPart};
 ghost use Rattle.commands.specs.Forms.{WritesBy};
 ghost use Rattle.commands.specs.Halts.{CountsReads, Tells, is_read, name_of};
@@ -14,9 +14,10 @@ use controllers::run_turns;
 use pictures::picture;
 use plain::{Sink, Source, read_all};
 use std::alloc::Global;
+use stories::story;
 
 /// Runs the controllers of the script that the reader has, by its turns, and writes what they ask, the replies and the order,
-/// or a picture of the run.
+/// a picture of the run, or its writes.
 pub(crate) fn clustered<R: Source, W: Sink, F: Sink>(
     heap: &mut Heap,
     form: Form,
@@ -76,6 +77,7 @@ fn cluster_in_form(alloc: Global, form: Form, script: &ClusterScript) -> Result<
     match form {
         Form::Lines => cluster_of_script(alloc, script),
         Form::Picture => picture_of_cluster(alloc, script),
+        Form::Writes => story_of_cluster(alloc, script),
     }
 }
 
@@ -87,6 +89,23 @@ fn cluster_of_script(alloc: Global, script: &ClusterScript) -> Result<Vec<u8>, H
 {
     let found = run_turns(alloc, &script.spec, script.turns.as_slice())?;
     let text = cluster_text(alloc, &found);
+    // Let go by name, which is proved once for the type and not at each way out.
+    drop(found);
+    Ok(text?)
+}
+
+/// The writes of the run, given the script.
+fn story_of_cluster(alloc: Global, script: &ClusterScript) -> Result<Vec<u8>, Halt>
+    ensures told { IfOk result (λ text. IsClusterStory script.now text.items) }
+    ensures refused { IfErr result (λ halt. IfSome (name_of halt) (IsClusterRunRefusal script.now)) }
+    ensures read { IfErr result (λ halt. is_read halt ≡ false) }
+{
+    let found = run_turns(alloc, &script.spec, script.turns.as_slice())?;
+    let roles = ClusterRoles {
+        owners: &found.owners,
+        sets: script.spec.sets.as_slice(),
+    };
+    let text = story(alloc, found.run.trace.items.as_slice(), &roles);
     // Let go by name, which is proved once for the type and not at each way out.
     drop(found);
     Ok(text?)

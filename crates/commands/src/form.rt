@@ -1,8 +1,8 @@
 //! What is printed of a run.
-ghost use Rattle.std.specs.Prelude.{◌≡◌, codes, false};
+ghost use Rattle.std.specs.Prelude.{◌≡◌, false};
 ghost use Rattle.clap.specs.Words.{found_of, one_of, rows_of, rule_of};
 ghost use Rattle.commands.specs.Forms.{IsFormBy};
-ghost use Rattle.commands.specs.Grammar.{picture_rule};
+ghost use Rattle.commands.specs.Grammar.{picture_rule, writes_rule};
 
 use crate::flags::{flag_arg, flag_in};
 use clap::{Arg, ArgMatches};
@@ -15,6 +15,8 @@ pub(crate) enum Form {
     Lines,
     /// A picture of its events.
     Picture,
+    /// A line for each write that was answered.
+    Writes,
 }
 
 /// The flag `--picture`.
@@ -29,12 +31,28 @@ pub(crate) fn picture_arg<'a>(alloc: Global) -> Arg<'a>
     )
 }
 
+/// The flag `--writes`.
+pub(crate) fn writes_arg<'a>(alloc: Global) -> Arg<'a>
+    ensures rule { rule_of result ≡ writes_rule }
+    ensures own { result.global ≡ false }
+{
+    flag_arg(
+        alloc,
+        "writes",
+        "Print a line for each write instead: who asked, for what, and what came of it. With --picture, the picture",
+    )
+}
+
 /// What the words ask to print.
 pub(crate) fn form_in(matches: &ArgMatches<'_>) -> Form
-    ensures { IsFormBy (one_of (codes "picture") (rows_of (found_of matches.now))) result }
+    ensures { IsFormBy (λ flag. one_of flag (rows_of (found_of matches.now))) result }
 {
-    if flag_in(matches, "picture") {
+    let picture = flag_in(matches, "picture");
+    let writes = flag_in(matches, "writes");
+    if picture {
         Form::Picture
+    } else if writes {
+        Form::Writes
     } else {
         Form::Lines
     }

@@ -6,7 +6,7 @@ ghost use Rattle.commands.specs.Forms.{WritesBy};
 ghost use Rattle.commands.specs.Halts.{CountsReads, Tells, is_read, name_of};
 ghost use Rattle.pictures.specs.Heading.{no_role};
 ghost use Rattle.pictures.specs.Picture.{picture_text};
-ghost use Rattle.commands.specs.Replaying.{IsRefusedBy, IsReplayRefusal, IsReplayText, IsRunRefusal, IsRunText, IsShownText};
+ghost use Rattle.commands.specs.Replaying.{IsRefusedBy, IsReplayRefusal, IsReplayText, IsRunRefusal, IsRunText, IsShownText, IsStoryText};
 
 use crate::form::Form;
 use crate::halt::{Halt, halted};
@@ -16,8 +16,9 @@ use pictures::{Callers, picture};
 use plain::{Sink, Source, read_all};
 use replay_lines::{Script, read_script, run_text};
 use std::alloc::Global;
+use stories::story;
 
-/// Runs the events of the script that the reader has, and writes the replies and the order, or a picture of the run.
+/// Runs the events of the script that the reader has, and writes the replies and the order, a picture of the run, or its writes.
 pub(crate) fn replayed<R: Source, W: Sink, F: Sink>(
     heap: &mut Heap,
     form: Form,
@@ -77,6 +78,7 @@ fn replay_of_script(alloc: Global, form: Form, script: &Script) -> Result<Vec<u8
     match form {
         Form::Lines => lines_of_script(alloc, script),
         Form::Picture => picture_of_script(alloc, script),
+        Form::Writes => story_of_script(alloc, script),
     }
 }
 
@@ -89,6 +91,20 @@ fn lines_of_script(alloc: Global, script: &Script) -> Result<Vec<u8>, Halt>
     let shards = script.shards as usize;
     let run = replay(alloc, shards, script.capacity, script.events.as_slice())?;
     let text = run_text(alloc, &run);
+    // Let go by name, which is proved once for the type and not at each way out.
+    drop(run);
+    Ok(text?)
+}
+
+/// The writes of the run of a script.
+fn story_of_script(alloc: Global, script: &Script) -> Result<Vec<u8>, Halt>
+    ensures told { IfOk result (λ text. IsStoryText (parts_of script.now) text.items) }
+    ensures refused { IfErr result (λ halt. IfSome (name_of halt) (IsRunRefusal (parts_of script.now))) }
+    ensures read { IfErr result (λ halt. is_read halt ≡ false) }
+{
+    let shards = script.shards as usize;
+    let run = replay(alloc, shards, script.capacity, script.events.as_slice())?;
+    let text = story(alloc, run.trace.items.as_slice(), &Callers);
     // Let go by name, which is proved once for the type and not at each way out.
     drop(run);
     Ok(text?)

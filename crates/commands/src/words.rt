@@ -6,7 +6,7 @@ ghost use Rattle.commands.specs.Asked.{IsAsked, IsFinding, IsOther, IsScripted, 
 ghost use Rattle.commands.specs.Forms.{IsFlagBy};
 
 use crate::flags::{flag_arg, flag_in};
-use crate::form::{Form, form_in, picture_arg};
+use crate::form::{Form, form_in, picture_arg, writes_arg};
 use crate::help::{CLUSTER_END, OUTCOMES_END, PLAN_END, REPLAY_END, SERVE_END};
 use crate::numbers::{from_1_to_64, from_1_to_20000, number_arg, number_in};
 use crate::race_words::{RaceWords, race_grammar, race_words};
@@ -48,8 +48,8 @@ pub(crate) enum Asked<'a> {
     Outcomes(Option<u64>),
 }
 
-/// What the program takes: `serve [--capacity N]`, `replay [--picture]`, `cluster [--picture]`, `plan --set NAME [--namespace NS] [--digits H] [--brief]`,
-/// `race [--controllers N] [--shards N] [--rounds N] [--replicas N] [--operator] [--history]`, and `outcomes [--script K]`, and what `clap` adds
+/// What the program takes: `serve [--capacity N]`, `replay [--picture] [--writes]`, `cluster [--picture] [--writes]`,
+/// `plan --set NAME [--namespace NS] [--digits H] [--brief]`, `race [--controllers N] [--shards N] [--rounds N] [--replicas N] [--operator] [--history]`, and `outcomes [--script K]`, and what `clap` adds
 /// for help and the version.
 fn grammar<'a>(alloc: Global) -> Result<Command<'a>, AllocError>
     ensures { IfOk result (λ c. app_of c ≡ stsctl_app) }
@@ -91,7 +91,8 @@ fn replay_grammar<'a>(alloc: Global) -> Result<Command<'a>, AllocError>
             "Runs the events of the script on standard input, and prints their replies and a legal order",
         )
         .after_help(REPLAY_END)
-        .arg(picture_arg(alloc))
+        .arg(picture_arg(alloc))?
+        .arg(writes_arg(alloc))
 }
 
 fn cluster_grammar<'a>(alloc: Global) -> Result<Command<'a>, AllocError>
@@ -102,7 +103,8 @@ fn cluster_grammar<'a>(alloc: Global) -> Result<Command<'a>, AllocError>
             "Runs the controllers of the script on standard input, and prints what they ask, all replies and a legal order",
         )
         .after_help(CLUSTER_END)
-        .arg(picture_arg(alloc))
+        .arg(picture_arg(alloc))?
+        .arg(writes_arg(alloc))
 }
 
 fn outcomes_grammar<'a>(alloc: Global) -> Result<Command<'a>, AllocError>

@@ -13,3 +13,4 @@ mod words;
 
 pub use drawing::picture;
 pub use roles::{Callers, Roles};
+pub use words::{put_reply, put_request};

@@ -1,4 +1,4 @@
-//! What the lines of a picture say of requests and of replies.
+//! What the lines of a picture, and of other tellings of a run, say of requests and of replies.
 ghost use Rattle.std.specs.Prelude.{◌≡◌, ◌++◌, ◌∷◌, length, string_bytes, OnOk};
 ghost use Rattle.objects.specs.ShardOf.{key_text};
 ghost use Rattle.pictures.specs.Words.{count_words, list_words, object_words, reply_words, request_words};
@@ -8,7 +8,7 @@ use requests::{Listing, Reply, Request};
 use std::alloc::AllocError;
 
 /// Puts what is asked behind the text, as `create Pod/default/web-0`.
-pub(crate) fn put_request(request: &Request, out: &mut String) -> Result<(), AllocError>
+pub fn put_request(request: &Request, out: &mut String) -> Result<(), AllocError>
     ensures { OnOk result (string_bytes out.new ≡ string_bytes out.old ++ request_words request.now) }
 {
     match request {
@@ -52,7 +52,7 @@ fn put_list(kind: Kind, namespace: &str, exact: u64, out: &mut String) -> Result
 }
 
 /// Puts what is answered behind the text, as `Created, version 7`.
-pub(crate) fn put_reply(reply: &Reply, out: &mut String) -> Result<(), AllocError>
+pub fn put_reply(reply: &Reply, out: &mut String) -> Result<(), AllocError>
     ensures { OnOk result (string_bytes out.new ≡ string_bytes out.old ++ reply_words reply.now) }
 {
     match reply {

@@ -7,4 +7,5 @@ use Rattle.commands.proofs.words.cluster_grammar.Goals as goal
 pub returns : goal.returns
 returns c =
     let top_is : app_of c.after_help.result ≡ new_app (codes "cluster") = ap app_of_fields c.after_help.ensures ∙ ap app_of_fields c.about.ensures ∙ c.new.ensures.app in
-    IfOk-weaker c.arg.result _ _ (λ r h. h.shape c.picture_arg.ensures.own ∙ ap₂ with_rule top_is c.picture_arg.ensures.rule) c.arg.ensures
+    let one_is = c.in_ok-arg.ensures.shape c.picture_arg.ensures.own ∙ ap₂ with_rule top_is c.picture_arg.ensures.rule in
+    IfOk-weaker c.arg-2.result _ _ (λ r h. h.shape c.writes_arg.ensures.own ∙ ap₂ with_rule one_is c.writes_arg.ensures.rule) c.arg-2.ensures

@@ -9,7 +9,7 @@ returns-in-Some c =
     let m = c.args.matches.now in
     let named = c.in-Some.ensures.found.0 refl in (
       under-met (codes "replay") m named,
-      subst (λ rs. IsFormBy (one_of (codes "picture") rs) c.form_in.result)
+      subst (λ rs. IsFormBy (λ flag. one_of flag rs) c.form_in.result)
           (sym (rows-met (codes "replay") m (rows_of (found_of c.in-Some.replay.now)) named c.in-Some.ensures.rows)) c.form_in.ensures,
     )
 

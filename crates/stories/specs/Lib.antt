@@ -1,0 +1,3 @@
+pub mod Story
+-- Only private clauses cite these.
+pub mod Asked
