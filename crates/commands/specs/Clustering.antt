@@ -14,6 +14,7 @@ use Rattle.cluster_scripts.specs.Scripts.{cluster_script_of, parts_of}
 use Rattle.cluster_scripts.specs.declared.script.ClusterScript.{ClusterScript}
 use Rattle.clap.specs.Words.{Text}
 use Rattle.pictures.specs.Picture.{picture_text}
+use Rattle.pictures.specs.declared.shown.Shown.TheVariants.{All}
 use Rattle.commands.specs.Forms.{IsFormBy, WritesBy}
 use Rattle.commands.specs.Grammar.{flag_text}
 use Rattle.commands.specs.Replaying.{IsSizeRefusal}
@@ -39,7 +40,7 @@ IsClusterText script text = (found : ClusterRun)
 abbrev pub IsClusterPicture : ClusterScript → List ℕ → Type 0
 IsClusterPicture script text = (found : ClusterRun)
     × IsClusterRun (size_of script.spec) (length script.spec.sets.items) (reconciler_named script.spec.sets.items) (events_by script) found
-    × (text ≡ picture_text (size_of script.spec) (λ n. role_by script.spec.sets.items (owner_in found.owners n)) found.events.items)
+    × (text ≡ picture_text All (size_of script.spec) (λ n. role_by script.spec.sets.items (owner_in found.owners n)) found.events.items)
 
 abbrev pub IsClusterShown : Form → ClusterScript → List ℕ → Type 0
 IsClusterShown Lines script text = IsClusterText script text

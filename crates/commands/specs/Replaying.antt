@@ -15,6 +15,7 @@ use Rattle.replay_lines.specs.declared.fault.ScriptError.{ScriptError}
 use Rattle.clap.specs.Words.{Text}
 use Rattle.pictures.specs.Heading.{no_role}
 use Rattle.pictures.specs.Picture.{picture_text}
+use Rattle.pictures.specs.declared.shown.Shown.TheVariants.{All}
 use Rattle.commands.specs.Forms.{IsFormBy, WritesBy}
 use Rattle.commands.specs.Grammar.{flag_text}
 use Rattle.commands.specs.declared.form.Form.{Form}
@@ -28,7 +29,7 @@ IsRunText script text = (run : Run) × IsRunOf script.0 script.1 run × (text �
 -- that text, or the picture of the run
 abbrev pub IsShownText : Form → Size × List Event → List ℕ → Type 0
 IsShownText Lines script text = IsRunText script text
-IsShownText Picture script text = text ≡ picture_text script.0 no_role script.1
+IsShownText Picture script text = text ≡ picture_text All script.0 no_role script.1
 
 -- the same of the script that the input is
 abbrev pub IsReplayText : Form → (input text : List ℕ) → Type 0

@@ -11,7 +11,7 @@ use crate::halt::{Halt, halted};
 use crate::status::{BAD_WORDS, FAILURE, Heap, REFUSED, SUCCESS, shown};
 use cluster_scripts::{ClusterScript, cluster_text, read_cluster_script};
 use controllers::run_turns;
-use pictures::picture;
+use pictures::{Shown, picture};
 use plain::{Sink, Source, read_all};
 use std::alloc::Global;
 
@@ -110,6 +110,7 @@ fn picture_of_cluster(alloc: Global, script: &ClusterScript) -> Result<Vec<u8>, 
         size.capacity,
         found.events.as_slice(),
         &roles,
+        Shown::All,
     );
     // Let go by name, which is proved once for the type and not at each way out.
     drop(found);

@@ -6,13 +6,14 @@ ghost use Rattle.commands.specs.Forms.{WritesBy};
 ghost use Rattle.commands.specs.Halts.{CountsReads, Tells, is_read, name_of};
 ghost use Rattle.pictures.specs.Heading.{no_role};
 ghost use Rattle.pictures.specs.Picture.{picture_text};
+ghost use Rattle.pictures.specs.declared.shown.Shown.TheVariants.{All};
 ghost use Rattle.commands.specs.Replaying.{IsRefusedBy, IsReplayRefusal, IsReplayText, IsRunRefusal, IsRunText, IsShownText};
 
 use crate::form::Form;
 use crate::halt::{Halt, halted};
 use crate::status::{BAD_WORDS, FAILURE, Heap, REFUSED, SUCCESS, shown};
 use history::replay;
-use pictures::{Callers, picture};
+use pictures::{Callers, Shown, picture};
 use plain::{Sink, Source, read_all};
 use replay_lines::{Script, read_script, run_text};
 use std::alloc::Global;
@@ -96,11 +97,11 @@ fn lines_of_script(alloc: Global, script: &Script) -> Result<Vec<u8>, Halt>
 
 /// The picture of the run of a script.
 fn picture_of_script(alloc: Global, script: &Script) -> Result<Vec<u8>, Halt>
-    ensures pictured { IfOk result (λ text. text.items ≡ picture_text (parts_of script.now).0 no_role (parts_of script.now).1) }
+    ensures pictured { IfOk result (λ text. text.items ≡ picture_text All (parts_of script.now).0 no_role (parts_of script.now).1) }
     ensures refused { IfErr result (λ halt. IfSome (name_of halt) (IsRunRefusal (parts_of script.now))) }
     ensures read { IfErr result (λ halt. is_read halt ≡ false) }
 {
     let shards = script.shards as usize;
     let events = script.events.as_slice();
-    Ok(picture(alloc, shards, script.capacity, events, &Callers)?)
+    Ok(picture(alloc, shards, script.capacity, events, &Callers, Shown::All)?)
 }

@@ -9,7 +9,9 @@ mod lines;
 mod moment;
 mod names;
 mod roles;
+mod shown;
 mod words;
 
 pub use drawing::picture;
 pub use roles::{Callers, Roles};
+pub use shown::Shown;

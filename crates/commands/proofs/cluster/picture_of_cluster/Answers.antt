@@ -4,6 +4,7 @@ use Rattle.cluster_runs.specs.Turns.{events_of_turns}
 use Rattle.cluster_runs.specs.declared.turn.Turn.{Turn}
 use Rattle.controllers.specs.Cluster.{namespaces_of, reconciler_named, size_of}
 use Rattle.pictures.specs.Picture.{picture_text}
+use Rattle.pictures.specs.declared.shown.Shown.TheVariants.{All}
 use Rattle.commands.specs.Roles.{role_by}
 use Rattle.commands.proofs.cluster.picture_of_cluster.Goals as goal
 
@@ -17,6 +18,6 @@ returns-in-Ok-clause-pictured c =
       found,
       subst Is c.as_slice.ensures.value c.in_ok-found.ensures.run,
       c.in-Ok.ensures.picture
-          ∙ ap (λ sets. picture_text (size_of spec) (λ n. role_by sets (owner_in found.owners n)) c.as_slice-3.result.now) c.as_slice-2.ensures.value
-          ∙ ap (picture_text (size_of spec) (λ n. role_by spec.sets.items (owner_in found.owners n))) c.as_slice-3.ensures.value,
+          ∙ ap (λ sets. picture_text All (size_of spec) (λ n. role_by sets (owner_in found.owners n)) c.as_slice-3.result.now) c.as_slice-2.ensures.value
+          ∙ ap (picture_text All (size_of spec) (λ n. role_by spec.sets.items (owner_in found.owners n))) c.as_slice-3.ensures.value,
     )
