@@ -14,6 +14,7 @@ use Rattle.cluster_scripts.specs.Scripts.{cluster_script_of, parts_of}
 use Rattle.cluster_scripts.specs.declared.script.ClusterScript.{ClusterScript}
 use Rattle.clap.specs.Words.{Text}
 use Rattle.pictures.specs.Picture.{picture_text}
+use Rattle.pictures.specs.declared.shown.Shown.{Shown}
 use Rattle.stories.specs.Story.{story_text}
 use Rattle.commands.specs.Forms.{IsFormBy, WritesBy}
 use Rattle.commands.specs.Grammar.{flag_text}
@@ -37,10 +38,10 @@ IsClusterText script text = (found : ClusterRun)
     × (text ≡ cluster_text (owner_in found.owners) found.run.trace.items.items found.run.order.items)
 
 -- the picture of that run, in which a caller that is or was a controller is called by its set and its number
-abbrev pub IsClusterPicture : ClusterScript → List ℕ → Type 0
-IsClusterPicture script text = (found : ClusterRun)
+abbrev pub IsClusterPicture : Shown → ClusterScript → List ℕ → Type 0
+IsClusterPicture shown script text = (found : ClusterRun)
     × IsClusterRun (size_of script.spec) (length script.spec.sets.items) (reconciler_named script.spec.sets.items) (events_by script) found
-    × (text ≡ picture_text (size_of script.spec) (λ n. role_by script.spec.sets.items (owner_in found.owners n)) found.events.items)
+    × (text ≡ picture_text shown (size_of script.spec) (λ n. role_by script.spec.sets.items (owner_in found.owners n)) found.events.items)
 
 -- the writes of that run, in which callers are called so too
 abbrev pub IsClusterStory : ClusterScript → List ℕ → Type 0
@@ -50,7 +51,7 @@ IsClusterStory script text = (found : ClusterRun)
 
 abbrev pub IsClusterShown : Form → ClusterScript → List ℕ → Type 0
 IsClusterShown Lines script text = IsClusterText script text
-IsClusterShown Picture script text = IsClusterPicture script text
+IsClusterShown (Picture shown) script text = IsClusterPicture shown script text
 IsClusterShown Writes script text = IsClusterStory script text
 
 -- the same of a script that the input is

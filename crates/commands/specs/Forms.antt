@@ -3,6 +3,7 @@ use Rattle.std.specs.Prelude.{◌≡◌, ℕ, Bool, true, false, List, [], Optio
 use Rattle.std.specs.Option.{IfSome}
 use Rattle.clap.specs.Words.{Text}
 use Rattle.commands.specs.declared.form.Form.{Form}
+use Rattle.pictures.specs.declared.shown.Shown.TheVariants as shown
 use Rattle.commands.specs.declared.form.Form.TheVariants.{Lines, Picture, Writes}
 
 -- whether a flag is given, by what `clap` has for it: `true` where it is, else `false` or nothing
@@ -10,9 +11,10 @@ abbrev pub IsFlagBy : Option Text → Bool → Type 0
 IsFlagBy None given = given ≡ false
 IsFlagBy (Some text) given = (text ≡ codes "true" → given ≡ true) × (text ≡ codes "false" → given ≡ false)
 
--- what is printed where these flags are given: the picture where both are
+-- what is printed where these flags are given: a picture of the writes where both are
 abbrev pub form_of : (picture writes : Bool) → Form
-form_of true writes = Picture
+form_of true true = Picture shown.Writes
+form_of true false = Picture shown.All
 form_of false true = Writes
 form_of false false = Lines
 

@@ -15,6 +15,7 @@ use Rattle.replay_lines.specs.declared.fault.ScriptError.{ScriptError}
 use Rattle.clap.specs.Words.{Text}
 use Rattle.pictures.specs.Heading.{no_role}
 use Rattle.pictures.specs.Picture.{picture_text}
+use Rattle.pictures.specs.declared.shown.Shown.{Shown}
 use Rattle.stories.specs.Story.{story_text}
 use Rattle.commands.specs.Forms.{IsFormBy, WritesBy}
 use Rattle.commands.specs.Grammar.{flag_text}
@@ -33,7 +34,7 @@ IsStoryText script text = (run : Run) × IsRunOf script.0 script.1 run × (text 
 -- the text of a run in this form
 abbrev pub IsShownText : Form → Size × List Event → List ℕ → Type 0
 IsShownText Lines script text = IsRunText script text
-IsShownText Picture script text = text ≡ picture_text script.0 no_role script.1
+IsShownText (Picture shown) script text = text ≡ picture_text shown script.0 no_role script.1
 IsShownText Writes script text = IsStoryText script text
 
 -- the same of the script that the input is

@@ -11,7 +11,7 @@ use crate::halt::{Halt, halted};
 use crate::status::{BAD_WORDS, FAILURE, Heap, REFUSED, SUCCESS, shown};
 use cluster_scripts::{ClusterScript, cluster_text, read_cluster_script};
 use controllers::run_turns;
-use pictures::picture;
+use pictures::{Shown, picture};
 use plain::{Sink, Source, read_all};
 use std::alloc::Global;
 use stories::story;
@@ -76,7 +76,7 @@ fn cluster_in_form(alloc: Global, form: Form, script: &ClusterScript) -> Result<
 {
     match form {
         Form::Lines => cluster_of_script(alloc, script),
-        Form::Picture => picture_of_cluster(alloc, script),
+        Form::Picture(shown) => picture_of_cluster(alloc, shown, script),
         Form::Writes => story_of_cluster(alloc, script),
     }
 }
@@ -112,8 +112,8 @@ fn story_of_cluster(alloc: Global, script: &ClusterScript) -> Result<Vec<u8>, Ha
 }
 
 /// The picture of the run, given the script.
-fn picture_of_cluster(alloc: Global, script: &ClusterScript) -> Result<Vec<u8>, Halt>
-    ensures pictured { IfOk result (λ text. IsClusterPicture script.now text.items) }
+fn picture_of_cluster(alloc: Global, shown: Shown, script: &ClusterScript) -> Result<Vec<u8>, Halt>
+    ensures pictured { IfOk result (λ text. IsClusterPicture shown script.now text.items) }
     ensures refused { IfErr result (λ halt. IfSome (name_of halt) (IsClusterRunRefusal script.now)) }
     ensures read { IfErr result (λ halt. is_read halt ≡ false) }
 {
@@ -129,6 +129,7 @@ fn picture_of_cluster(alloc: Global, script: &ClusterScript) -> Result<Vec<u8>, 
         size.capacity,
         found.events.as_slice(),
         &roles,
+        shown,
     );
     // Let go by name, which is proved once for the type and not at each way out.
     drop(found);

@@ -6,6 +6,7 @@ ghost use Rattle.commands.specs.Grammar.{picture_rule, writes_rule};
 
 use crate::flags::{flag_arg, flag_in};
 use clap::{Arg, ArgMatches};
+use pictures::Shown;
 use std::alloc::Global;
 
 /// What is printed of a run.
@@ -13,8 +14,8 @@ use std::alloc::Global;
 pub(crate) enum Form {
     /// A line for each reply, and the order.
     Lines,
-    /// A picture of its events.
-    Picture,
+    /// A picture of its events, or of those of its writes.
+    Picture(Shown),
     /// A line for each write that was answered.
     Writes,
 }
@@ -39,7 +40,7 @@ pub(crate) fn writes_arg<'a>(alloc: Global) -> Arg<'a>
     flag_arg(
         alloc,
         "writes",
-        "Print a line for each write instead: who asked, for what, and what came of it. With --picture, the picture",
+        "Print a line for each write instead: who asked, for what, and what came of it. With --picture, a picture without reads",
     )
 }
 
@@ -49,8 +50,10 @@ pub(crate) fn form_in(matches: &ArgMatches<'_>) -> Form
 {
     let picture = flag_in(matches, "picture");
     let writes = flag_in(matches, "writes");
-    if picture {
-        Form::Picture
+    if picture && writes {
+        Form::Picture(Shown::Writes)
+    } else if picture {
+        Form::Picture(Shown::All)
     } else if writes {
         Form::Writes
     } else {

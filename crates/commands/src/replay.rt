@@ -12,7 +12,7 @@ use crate::form::Form;
 use crate::halt::{Halt, halted};
 use crate::status::{BAD_WORDS, FAILURE, Heap, REFUSED, SUCCESS, shown};
 use history::replay;
-use pictures::{Callers, picture};
+use pictures::{Callers, Shown, picture};
 use plain::{Sink, Source, read_all};
 use replay_lines::{Script, read_script, run_text};
 use std::alloc::Global;
@@ -77,7 +77,7 @@ fn replay_of_script(alloc: Global, form: Form, script: &Script) -> Result<Vec<u8
 {
     match form {
         Form::Lines => lines_of_script(alloc, script),
-        Form::Picture => picture_of_script(alloc, script),
+        Form::Picture(shown) => picture_of_script(alloc, shown, script),
         Form::Writes => story_of_script(alloc, script),
     }
 }
@@ -111,12 +111,12 @@ fn story_of_script(alloc: Global, script: &Script) -> Result<Vec<u8>, Halt>
 }
 
 /// The picture of the run of a script.
-fn picture_of_script(alloc: Global, script: &Script) -> Result<Vec<u8>, Halt>
-    ensures pictured { IfOk result (λ text. text.items ≡ picture_text (parts_of script.now).0 no_role (parts_of script.now).1) }
+fn picture_of_script(alloc: Global, shown: Shown, script: &Script) -> Result<Vec<u8>, Halt>
+    ensures pictured { IfOk result (λ text. text.items ≡ picture_text shown (parts_of script.now).0 no_role (parts_of script.now).1) }
     ensures refused { IfErr result (λ halt. IfSome (name_of halt) (IsRunRefusal (parts_of script.now))) }
     ensures read { IfErr result (λ halt. is_read halt ≡ false) }
 {
     let shards = script.shards as usize;
     let events = script.events.as_slice();
-    Ok(picture(alloc, shards, script.capacity, events, &Callers)?)
+    Ok(picture(alloc, shards, script.capacity, events, &Callers, shown)?)
 }

@@ -1,5 +1,5 @@
 -- The lines of a run, one event after another.
-use Rattle.std.proofs.Common.{◌≡◌, ℕ, suc, ◌+◌, ◌<◌, ◌≤◌, List, [], ◌∷◌, ◌++◌, length, take, get_or, drop, Option, Some, None, refl, sym, ap, ◌∙◌, append_assoc, append-nil, arith, add-one}
+use Rattle.std.proofs.Common.{◌≡◌, ℕ, suc, ◌+◌, ◌<◌, ◌≤◌, cond, List, [], ◌∷◌, ◌++◌, length, take, get_or, drop, Option, Some, None, refl, sym, ap, ◌∙◌, append_assoc, append-nil, arith, add-one}
 use Rattle.std.proofs.Math.Seq.{drop-append_seam, take-suc}
 use Rattle.requests.specs.declared.reply.Reply.{Reply}
 use Rattle.interleavings.specs.declared.event.Event.{Event}
@@ -9,26 +9,33 @@ use Rattle.interleavings.specs.Trace.{after, trace}
 use Rattle.interleavings.specs.World.{Size, World, opening}
 use Rattle.interleavings.proofs.Facts.{facts_after}
 use Rattle.history.specs.After.{IsAfter, IsReplyTo, ReplayParts}
+use Rattle.history.specs.Named.{with_named}
 use Rattle.history.specs.Replayed.{named_by, delivered_at}
 use Rattle.history.proofs.Reached.{after_more}
 use Rattle.plain_store.specs.Reached.{most_revisions}
 use Rattle.pictures.specs.declared.moment.Moment.{Moment}
 use Rattle.pictures.specs.Lines.{reply_line}
-use Rattle.pictures.specs.Picture.{event_lines, lines_between, lines_of, moment_of, reply_in, delivered}
+use Rattle.pictures.specs.Picture.{lines_between, lines_of, moment_of, reply_in, delivered, shown_lines}
+use Rattle.pictures.specs.Shown.{shows, writer_by, writers}
+use Rattle.pictures.specs.declared.shown.Shown.{Shown}
 
 -- the events up to one are those before it, and it
 pub taken_more : (i : ℕ) (es : List Event) (e : Event) → i < length es → e ≡ get_or es i e → take (i + 1) es ≡ take i es ++ e ∷ []
 taken_more i es e inside is = rw add-one (take-suc es i e inside ∙ ap (λ x. take i es ++ x ∷ []) (sym is))
 
-pub lines_more : (z : Size) (es : List Event) (place : ℕ) (w : World) (e : Event)
-    → lines_of z place w (es ++ e ∷ []) ≡ lines_of z place w es ++ lines_between z (place + length es) e (after z w es) (step z (after z w es) e)
-lines_more z [] place w e =
-    append-nil (lines_between z place e w (step z w e)) ∙ ap (λ p. lines_between z p e w (step z w e)) (omega arith)
-lines_more z (x ∷ es) place w e =
-    let first = lines_between z place x w (step z w x) in
-    ap (λ l. first ++ l) (lines_more z es (suc place) (step z w x) e)
-    ∙ sym (append_assoc first (lines_of z (suc place) (step z w x) es) _)
-    ∙ ap (λ p. (first ++ lines_of z (suc place) (step z w x) es) ++ lines_between z p e (after z (step z w x) es) (step z (after z (step z w x) es) e)) (omega arith)
+pub writers_more : (es : List Event) (names : List ℕ) (e : Event) → writers names (es ++ e ∷ []) ≡ with_named (writers names es) (writer_by e)
+writers_more [] names e = refl
+writers_more (x ∷ es) names e = writers_more es (with_named names (writer_by x)) e
+
+pub lines_more : (shown : Shown) (z : Size) (es : List Event) (place : ℕ) (w : World) (e : Event)
+    → lines_of shown z place w (es ++ e ∷ []) ≡ lines_of shown z place w es ++ lines_between shown z (place + length es) e (after z w es) (step z (after z w es) e)
+lines_more shown z [] place w e =
+    append-nil (lines_between shown z place e w (step z w e)) ∙ ap (λ p. lines_between shown z p e w (step z w e)) (omega arith)
+lines_more shown z (x ∷ es) place w e =
+    let first = lines_between shown z place x w (step z w x) in
+    ap (λ l. first ++ l) (lines_more shown z es (suc place) (step z w x) e)
+    ∙ sym (append_assoc first (lines_of shown z (suc place) (step z w x) es) _)
+    ∙ ap (λ p. (first ++ lines_of shown z (suc place) (step z w x) es) ++ lines_between shown z p e (after z (step z w x) es) (step z (after z (step z w x) es) e)) (omega arith)
 
 -- what the caller of a Reply gets is what the event adds to the trace
 delivered_is : (z : Size) (events : List Event) (c : ℕ) (reply : Option Reply) → IsReplyTo z events (event.Reply c) reply
@@ -41,19 +48,20 @@ delivered_is z events c reply is =
     by None = ap reply_in (drop-append_seam (trace z events) [])
     by (Some r) = ap reply_in (drop-append_seam (trace z events) (delivered_at (length events) c (Some r)))
 
-pub lines_delivered : (z : Size) (events : List Event) (e : Event) (reply : Option Reply) (shards place : ℕ) (before now : Moment) → IsReplyTo z events e reply
-    → event_lines shards place e before now reply ≡ event_lines shards place e before now (delivered (after z opening events) (step z (after z opening events) e))
-lines_delivered z events (event.Reply c) reply shards place before now is = ap (reply_line place c) (sym (delivered_is z events c reply is))
-lines_delivered z events (event.Call c r) reply shards place before now is = refl
-lines_delivered z events (event.Check c) reply shards place before now is = refl
-lines_delivered z events (event.Reserve c) reply shards place before now is = refl
-lines_delivered z events (event.Publish c) reply shards place before now is = refl
-lines_delivered z events event.Raise reply shards place before now is = refl
-lines_delivered z events (event.Read c) reply shards place before now is = refl
-lines_delivered z events (event.ReadAt c) reply shards place before now is = refl
-lines_delivered z events (event.Compact c) reply shards place before now is = refl
-lines_delivered z events (event.Part c) reply shards place before now is = refl
-lines_delivered z events (event.Crash c) reply shards place before now is = refl
+pub lines_delivered : (shown : Shown) (z : Size) (events : List Event) (e : Event) (reply : Option Reply) (shards place : ℕ) (before now : Moment) → IsReplyTo z events e reply
+    → shown_lines shown shards place e before now reply ≡ shown_lines shown shards place e before now (delivered (after z opening events) (step z (after z opening events) e))
+lines_delivered shown z events (event.Reply c) reply shards place before now is =
+    ap (λ r. cond (shows shown (event.Reply c) before.standing r) (reply_line place c r) []) (sym (delivered_is z events c reply is))
+lines_delivered shown z events (event.Call c r) reply shards place before now is = refl
+lines_delivered shown z events (event.Check c) reply shards place before now is = refl
+lines_delivered shown z events (event.Reserve c) reply shards place before now is = refl
+lines_delivered shown z events (event.Publish c) reply shards place before now is = refl
+lines_delivered shown z events event.Raise reply shards place before now is = refl
+lines_delivered shown z events (event.Read c) reply shards place before now is = refl
+lines_delivered shown z events (event.ReadAt c) reply shards place before now is = refl
+lines_delivered shown z events (event.Compact c) reply shards place before now is = refl
+lines_delivered shown z events (event.Part c) reply shards place before now is = refl
+lines_delivered shown z events (event.Crash c) reply shards place before now is = refl
 
 -- the frontier of a replay is not above the most numbers that there are
 pub frontier_small : (z : Size) (events : List Event) (replay : ReplayParts) → IsAfter z events replay → (after z opening events).frontier ≤ most_revisions
@@ -67,28 +75,28 @@ frontier_small z events replay is =
     omega (arith, within, room, small)
 
 -- what was put for an event are its lines between two worlds
-pub step_lines : (z : Size) (events : List Event) (e : Event) (shards place : ℕ) (caller : Option ℕ) (before now : Moment) (reply : Option Reply) (old new : List ℕ)
+pub step_lines : (shown : Shown) (z : Size) (events : List Event) (e : Event) (shards place : ℕ) (caller : Option ℕ) (before now : Moment) (reply : Option Reply) (old new : List ℕ)
     → z.shards ≡ shards → place ≡ length events → caller ≡ named_by e → before ≡ moment_of z (after z opening events) caller
-    → now ≡ moment_of z (after z opening (events ++ e ∷ [])) caller → IsReplyTo z events e reply → new ≡ old ++ event_lines shards place e before now reply
-    → new ≡ old ++ lines_between z (length events) e (after z opening events) (step z (after z opening events) e)
-step_lines z events e shards place caller before now reply old new many at who before_is now_is is put =
+    → now ≡ moment_of z (after z opening (events ++ e ∷ [])) caller → IsReplyTo z events e reply → new ≡ old ++ shown_lines shown shards place e before now reply
+    → new ≡ old ++ lines_between shown z (length events) e (after z opening events) (step z (after z opening events) e)
+step_lines shown z events e shards place caller before now reply old new many at who before_is now_is is put =
     let w : World = after z opening events in
-    put ∙ ap (λ n. old ++ event_lines n place e before now reply) (sym many)
-    ∙ ap (λ n. old ++ event_lines z.shards n e before now reply) at
-    ∙ ap (λ m. old ++ event_lines z.shards (length events) e m now reply) (before_is ∙ ap (moment_of z w) who)
-    ∙ ap (λ m. old ++ event_lines z.shards (length events) e (moment_of z w (named_by e)) m reply)
+    put ∙ ap (λ n. old ++ shown_lines shown n place e before now reply) (sym many)
+    ∙ ap (λ n. old ++ shown_lines shown z.shards n e before now reply) at
+    ∙ ap (λ m. old ++ shown_lines shown z.shards (length events) e m now reply) (before_is ∙ ap (moment_of z w) who)
+    ∙ ap (λ m. old ++ shown_lines shown z.shards (length events) e (moment_of z w (named_by e)) m reply)
     (now_is ∙ ap (λ v. moment_of z v caller) (after_more z events opening e) ∙ ap (moment_of z (step z w e)) who)
-    ∙ ap (λ t. old ++ t) (lines_delivered z events e reply z.shards (length events) (moment_of z w (named_by e)) (moment_of z (step z w e) (named_by e)) is)
+    ∙ ap (λ t. old ++ t) (lines_delivered shown z events e reply z.shards (length events) (moment_of z w (named_by e)) (moment_of z (step z w e) (named_by e)) is)
 
 -- the text of one event more
-pub text_next : (z : Size) (i : ℕ) (es : List Event) (e : Event) (head text new : List ℕ) → i < length es → e ≡ get_or es i e
-    → text ≡ head ++ lines_of z 0 opening (take i es)
-    → new ≡ text ++ lines_between z (length (take i es)) e (after z opening (take i es)) (step z (after z opening (take i es)) e)
-    → new ≡ head ++ lines_of z 0 opening (take (i + 1) es)
-text_next z i es e head text new inside is so_far next =
+pub text_next : (shown : Shown) (z : Size) (i : ℕ) (es : List Event) (e : Event) (head text new : List ℕ) → i < length es → e ≡ get_or es i e
+    → text ≡ head ++ lines_of shown z 0 opening (take i es)
+    → new ≡ text ++ lines_between shown z (length (take i es)) e (after z opening (take i es)) (step z (after z opening (take i es)) e)
+    → new ≡ head ++ lines_of shown z 0 opening (take (i + 1) es)
+text_next shown z i es e head text new inside is so_far next =
     let done = take i es in
-    let line : ℕ → List ℕ = λ p. lines_between z p e (after z opening done) (step z (after z opening done) e) in
-    next ∙ ap (λ t. t ++ line (length done)) so_far ∙ append_assoc head (lines_of z 0 opening done) (line (length done))
-    ∙ ap (λ p. head ++ (lines_of z 0 opening done ++ line p)) (omega arith)
-    ∙ ap (λ t. head ++ t) (sym (lines_more z done 0 opening e))
-    ∙ ap (λ xs. head ++ lines_of z 0 opening xs) (sym (taken_more i es e inside is))
+    let line : ℕ → List ℕ = λ p. lines_between shown z p e (after z opening done) (step z (after z opening done) e) in
+    next ∙ ap (λ t. t ++ line (length done)) so_far ∙ append_assoc head (lines_of shown z 0 opening done) (line (length done))
+    ∙ ap (λ p. head ++ (lines_of shown z 0 opening done ++ line p)) (omega arith)
+    ∙ ap (λ t. head ++ t) (sym (lines_more shown z done 0 opening e))
+    ∙ ap (λ xs. head ++ lines_of shown z 0 opening xs) (sym (taken_more i es e inside is))

@@ -1,4 +1,5 @@
 pub mod Words
 pub mod Lines
 pub mod Heading
+pub mod Shown
 pub mod Picture

@@ -1,5 +1,5 @@
 -- The picture of a run: a Mermaid `sequenceDiagram` of its events.
-use Rattle.std.specs.Prelude.{ℕ, suc, List, [], ◌∷◌, ◌++◌, drop, length, Option, Some, None}
+use Rattle.std.specs.Prelude.{ℕ, suc, cond, List, [], ◌∷◌, ◌++◌, drop, length, Option, Some, None}
 use Rattle.requests.specs.declared.reply.Reply.{Reply}
 use Rattle.interleavings.specs.declared.event.Event.{Event}
 use Rattle.interleavings.specs.declared.event.Event.TheVariants as event
@@ -7,7 +7,6 @@ use Rattle.interleavings.specs.declared.trace.Item.{Item}
 use Rattle.interleavings.specs.declared.trace.Item.TheVariants as item
 use Rattle.interleavings.specs.Step.{step}
 use Rattle.interleavings.specs.World.{Size, World, opening}
-use Rattle.history.specs.Named.{named}
 use Rattle.history.specs.NextStep.{can_rise}
 use Rattle.history.specs.Replayed.{named_by}
 use Rattle.history.specs.Standing.{standing_of}
@@ -15,7 +14,9 @@ use Rattle.history.specs.declared.standing.Standing.{Standing}
 use Rattle.history.specs.declared.standing.Standing.TheVariants as standing
 use Rattle.pictures.specs.Heading.{heading}
 use Rattle.pictures.specs.Lines.{call_line, check_line, compact_line, crash_line, part_line, publish_lines, raise_line, read_at_line, read_line, reply_line, reserve_line}
+use Rattle.pictures.specs.Shown.{shown_callers, shows}
 use Rattle.pictures.specs.declared.moment.Moment.{Moment}
+use Rattle.pictures.specs.declared.shown.Shown.{Shown}
 
 -- ---- what lines tell of the world before an event, and after it
 abbrev pub standing_by : Size → World → Option ℕ → Standing
@@ -48,14 +49,20 @@ event_lines shards place (event.Part c) before after delivered = part_line shard
 event_lines shards place (event.Reply c) before after delivered = reply_line place c delivered
 event_lines shards place (event.Crash c) before after delivered = crash_line place c before.standing
 
-abbrev pub lines_between : Size → (place : ℕ) → Event → (before after : World) → List ℕ
-lines_between z place e before after = event_lines z.shards place e (moment_of z before (named_by e)) (moment_of z after (named_by e)) (delivered before after)
+-- those of the picture: none of an event that is not shown
+abbrev pub shown_lines : Shown → (shards place : ℕ) → Event → (before after : Moment) → (delivered : Option Reply) → List ℕ
+shown_lines shown shards place e before after delivered =
+    cond (shows shown e before.standing delivered) (event_lines shards place e before after delivered) []
+
+abbrev pub lines_between : Shown → Size → (place : ℕ) → Event → (before after : World) → List ℕ
+lines_between shown z place e before after =
+    shown_lines shown z.shards place e (moment_of z before (named_by e)) (moment_of z after (named_by e)) (delivered before after)
 
 -- ---- the lines of a run
 -- the first event has this place
-abbrev pub lines_of : Size → (place : ℕ) → World → List Event → List ℕ
-lines_of z place w [] = []
-lines_of z place w (e ∷ es) = lines_between z place e w (step z w e) ++ lines_of z (suc place) (step z w e) es
+abbrev pub lines_of : Shown → Size → (place : ℕ) → World → List Event → List ℕ
+lines_of shown z place w [] = []
+lines_of shown z place w (e ∷ es) = lines_between shown z place e w (step z w e) ++ lines_of shown z (suc place) (step z w e) es
 
-abbrev pub picture_text : Size → (role : ℕ → List ℕ) → List Event → List ℕ
-picture_text z role events = heading z.shards role (named [] events) ++ lines_of z 0 opening events
+abbrev pub picture_text : Shown → Size → (role : ℕ → List ℕ) → List Event → List ℕ
+picture_text shown z role events = heading z.shards role (shown_callers shown events) ++ lines_of shown z 0 opening events

@@ -1,7 +1,8 @@
 -- What the lines of a picture say of requests and of replies.
-use Rattle.std.specs.Prelude.{ℕ, List, ◌++◌, codes, decimal, length, if◌then◌else◌, ◌==◌}
+use Rattle.std.specs.Prelude.{ℕ, List, [], ◌++◌, Option, Some, None, codes, decimal, length, if◌then◌else◌, ◌==◌}
 use Rattle.objects.specs.Kind.{kind_name}
 use Rattle.objects.specs.ShardOf.{key_text}
+use Rattle.objects.specs.Uid.{version_number}
 use Rattle.objects.specs.declared.kind.Kind.{Kind}
 use Rattle.objects.specs.declared.object.Object.{Object}
 use Rattle.requests.specs.declared.request.Request.{Request}
@@ -15,13 +16,21 @@ abbrev pub list_words : Kind → (namespace : List ℕ) → (exact : ℕ) → Li
 list_words kind namespace exact =
     codes "list " ++ kind_name kind ++ codes "/" ++ namespace ++ (if exact == 0 then codes "" else codes " at " ++ decimal exact)
 
+-- The version that a write asks for. A text that no version has, whose number is 0, is not repeated: it may hold anything.
+abbrev pub number_words : ℕ → List ℕ
+number_words number = if number == 0 then codes " at an unknown version" else codes " at " ++ decimal number
+
+abbrev pub version_words : Option (List ℕ) → List ℕ
+version_words None = []
+version_words (Some text) = number_words (version_number text)
+
 abbrev pub request_words : Request → List ℕ
 request_words (request.Create d) = codes "create " ++ key_text d.object.key
 request_words (request.Get k) = codes "get " ++ key_text k
 request_words (request.List kind namespace exact) = list_words kind namespace exact
-request_words (request.Update d) = codes "update " ++ key_text d.object.key
-request_words (request.UpdateStatus d) = codes "status " ++ key_text d.object.key
-request_words (request.Delete k uid version at) = codes "delete " ++ key_text k
+request_words (request.Update d) = (codes "update " ++ key_text d.object.key) ++ version_words d.version
+request_words (request.UpdateStatus d) = (codes "status " ++ key_text d.object.key) ++ version_words d.version
+request_words (request.Delete k uid version at) = (codes "delete " ++ key_text k) ++ version_words version
 request_words (request.Compact to) = codes "compact to " ++ decimal to
 
 -- `Created, version 7`

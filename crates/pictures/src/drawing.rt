@@ -1,13 +1,14 @@
 ghost use Rattle.std.specs.Prelude.{◌≡◌, ◌<◌, ◌≤◌, ◌-◌, ◌^◌, ◌↔◌, ◌⊎◌, ◌++◌, ◌∷◌, [], List, length, string_bytes, IfErr, IfOk, IsErrOf, OnOk};
 ghost use Rattle.plain_store.specs.Reached.{most_revisions};
 ghost use Rattle.history.specs.After.{IsAfter, taken};
-ghost use Rattle.history.specs.Named.{callers, named};
+ghost use Rattle.history.specs.Named.{callers};
 ghost use Rattle.interleavings.specs.declared.event.Event.{Event};
 ghost use Rattle.interleavings.specs.Step.{step};
 ghost use Rattle.interleavings.specs.Trace.{after};
 ghost use Rattle.interleavings.specs.World.{Size, opening};
-ghost use Rattle.pictures.specs.Picture.{event_lines, lines_between, picture_text};
+ghost use Rattle.pictures.specs.Picture.{event_lines, lines_between, picture_text, shown_lines};
 ghost use Rattle.pictures.specs.Heading.{heading};
+ghost use Rattle.pictures.specs.Shown.{shown_callers};
 
 use crate::heading::put_heading;
 use crate::lines::{
@@ -15,8 +16,9 @@ use crate::lines::{
     put_read, put_read_at, put_reserve,
 };
 use crate::moment::{Moment, look};
-use crate::names::{named, named_by};
+use crate::names::{named_by, shown_callers};
 use crate::roles::Roles;
+use crate::shown::{Shown, shows};
 use history::{Replay, ReplayError};
 use interleavings::Event;
 use requests::Reply;
@@ -24,7 +26,7 @@ use std::alloc::{AllocError, Global};
 
 /// The run of these events from the opening world, as a Mermaid `sequenceDiagram`: who takes part, and for each event that is
 /// enabled a line with its place. A publication above a number that is not filled yet has a second line, which names that
-/// number.
+/// number. Of writes alone, other events have no line, and callers that neither call for a write nor crash take no part.
 ///
 /// # Errors
 ///
@@ -36,17 +38,18 @@ pub fn picture<R: Roles>(
     capacity: u64,
     events: &[Event],
     roles: &R,
+    shown: Shown,
 ) -> Result<Vec<u8>, ReplayError>
-    ensures picture { IfOk result (λ text. text.items ≡ picture_text (record { capacity = capacity; shards = shards }) (R.role roles.now) events.now) }
+    ensures picture { IfOk result (λ text. text.items ≡ picture_text shown (record { capacity = capacity; shards = shards }) (R.role roles.now) events.now) }
     ensures few { OnOk result (callers events.now ≤ 4096) }
     ensures bad_shards { IsErrOf result ReplayError.BadShards ↔ (1 ≤ shards → 64 < shards) }
     ensures bad_capacity { IsErrOf result ReplayError.BadCapacity ↔ ((1 ≤ shards) × (shards ≤ 64) × (1 ≤ capacity → most_revisions < capacity)) }
     ensures too_many { IsErrOf result ReplayError.TooManyCallers → 4096 < callers events.now }
 {
     let mut replay = Replay::new(alloc, shards, capacity)?;
-    let mut text = begin_picture(alloc, shards, events, roles)?;
+    let mut text = begin_picture(alloc, shards, events, roles, shown)?;
     for event in events {
-        put_step(shards, &mut replay, event, &mut text)?;
+        put_step(shown, shards, &mut replay, event, &mut text)?;
     }
     Ok(text.into_bytes())
 }
@@ -57,10 +60,11 @@ fn begin_picture<R: Roles>(
     shards: usize,
     events: &[Event],
     roles: &R,
+    shown: Shown,
 ) -> Result<String, AllocError>
-    ensures { IfOk result (λ text. string_bytes text ≡ heading shards (R.role roles.now) (named [] events.now)) }
+    ensures { IfOk result (λ text. string_bytes text ≡ heading shards (R.role roles.now) (shown_callers shown events.now)) }
 {
-    let callers = named(alloc, events)?;
+    let callers = shown_callers(alloc, shown, events)?;
     let mut text = String::new(alloc);
     put_heading(shards, &callers, roles, &mut text)?;
     Ok(text)
@@ -68,6 +72,7 @@ fn begin_picture<R: Roles>(
 
 /// Takes one event, and puts its lines behind the text.
 fn put_step(
+    shown: Shown,
     shards: usize,
     replay: &mut Replay,
     event: &Event,
@@ -77,7 +82,7 @@ fn put_step(
     ensures done { (size : Size) (events : List Event) → IsAfter size events replay.old → OnOk result (IsAfter size (events ++ event.now ∷ []) replay.new) }
     ensures put { (size : Size) (events : List Event) → IsAfter size events replay.old → size.shards ≡ shards
         → OnOk result (string_bytes out.new ≡ string_bytes out.old
-        ++ lines_between size (length events) event.now (after size opening events) (step size (after size opening events) event.now)) }
+        ++ lines_between shown size (length events) event.now (after size opening events) (step size (after size opening events) event.now)) }
     ensures reasons { IfErr result (λ reason. (reason ≡ ReplayError.TooManyCallers) ⊎ (reason ≡ ReplayError.Memory)) }
     ensures too_many { (size : Size) (events : List Event) → IsAfter size events replay.old
         → IsErrOf result ReplayError.TooManyCallers → 4096 < callers (events ++ event.now ∷ []) }
@@ -87,10 +92,30 @@ fn put_step(
     let before = look(replay, caller);
     let delivered = replay.step(event)?;
     let after = look(replay, caller);
-    let put = put_event(shards, place, event, before, after, &delivered, out);
+    let put = put_shown(shown, shards, place, event, before, after, &delivered, out);
     // Let go by name, which is proved once for the type and not at each way out.
     drop(delivered);
     Ok(put?)
+}
+
+/// Puts the lines of an event behind the text, if it is shown.
+fn put_shown(
+    shown: Shown,
+    shards: usize,
+    place: u64,
+    event: &Event,
+    before: Moment,
+    after: Moment,
+    delivered: &Option<Reply>,
+    out: &mut String,
+) -> Result<(), AllocError>
+    requires { after.frontier < 2 ^ 64 - 1 }
+    ensures { OnOk result (string_bytes out.new ≡ string_bytes out.old ++ shown_lines shown shards place event.now before after delivered.now) }
+{
+    if !shows(shown, event, before.standing, delivered) {
+        return Ok(());
+    }
+    put_event(shards, place, event, before, after, delivered, out)
 }
 
 /// Puts the lines of an event behind the text, by the moment before it and the one after it, and by the reply that its caller gets.

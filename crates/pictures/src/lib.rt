@@ -9,8 +9,10 @@ mod lines;
 mod moment;
 mod names;
 mod roles;
+mod shown;
 mod words;
 
 pub use drawing::picture;
 pub use roles::{Callers, Roles};
+pub use shown::Shown;
 pub use words::{put_reply, put_request};

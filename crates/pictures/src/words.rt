@@ -1,13 +1,13 @@
 //! What the lines of a picture, and of other tellings of a run, say of requests and of replies.
 ghost use Rattle.std.specs.Prelude.{◌≡◌, ◌++◌, ◌∷◌, length, string_bytes, OnOk};
 ghost use Rattle.objects.specs.ShardOf.{key_text};
-ghost use Rattle.pictures.specs.Words.{count_words, list_words, object_words, reply_words, request_words};
+ghost use Rattle.pictures.specs.Words.{count_words, list_words, number_words, object_words, reply_words, request_words, version_words};
 
-use objects::{Key, Kind, Object};
+use objects::{Key, Kind, Object, Text, version_number};
 use requests::{Listing, Reply, Request};
 use std::alloc::AllocError;
 
-/// Puts what is asked behind the text, as `create Pod/default/web-0`.
+/// Puts what is asked behind the text, as `create Pod/default/web-0`, or `update Pod/default/web-0 at 7`.
 pub fn put_request(request: &Request, out: &mut String) -> Result<(), AllocError>
     ensures { OnOk result (string_bytes out.new ≡ string_bytes out.old ++ request_words request.now) }
 {
@@ -19,14 +19,16 @@ pub fn put_request(request: &Request, out: &mut String) -> Result<(), AllocError
             namespace,
             exact,
         } => put_list(*kind, namespace.as_str(), *exact, out),
-        Request::Update(draft) => put_verb("update", &draft.object.key, out),
-        Request::UpdateStatus(draft) => put_verb("status", &draft.object.key, out),
+        Request::Update(draft) => put_verb_at("update", &draft.object.key, &draft.version, out),
+        Request::UpdateStatus(draft) => {
+            put_verb_at("status", &draft.object.key, &draft.version, out)
+        }
         Request::Delete {
             key,
             uid: _,
-            version: _,
+            version,
             at: _,
-        } => put_verb("delete", key, out),
+        } => put_verb_at("delete", key, version, out),
         Request::Compact { to } => write!(out, "compact to {to}"),
     }
 }
@@ -38,6 +40,38 @@ fn put_verb(verb: &str, key: &Key, out: &mut String) -> Result<(), AllocError>
     let namespace = key.namespace.as_str();
     let name = key.name.as_str();
     write!(out, "{verb} {kind}/{namespace}/{name}")
+}
+
+fn put_verb_at(
+    verb: &str,
+    key: &Key,
+    version: &Option<Text>,
+    out: &mut String,
+) -> Result<(), AllocError>
+    ensures { OnOk result (string_bytes out.new ≡ string_bytes out.old ++ ((verb.now ++ 32 ∷ key_text key.now) ++ version_words version.now)) }
+{
+    put_verb(verb, key, out)?;
+    put_version(version, out)
+}
+
+/// Puts the version that is asked for behind the text.
+fn put_version(version: &Option<Text>, out: &mut String) -> Result<(), AllocError>
+    ensures { OnOk result (string_bytes out.new ≡ string_bytes out.old ++ version_words version.now) }
+{
+    match version {
+        Some(version) => put_number(version_number(version.as_str()), out),
+        None => Ok(()),
+    }
+}
+
+fn put_number(number: u64, out: &mut String) -> Result<(), AllocError>
+    ensures { OnOk result (string_bytes out.new ≡ string_bytes out.old ++ number_words number) }
+{
+    // A text that no version has counts as 0.
+    if number == 0 {
+        return out.push_str(" at an unknown version");
+    }
+    write!(out, " at {number}")
 }
 
 fn put_list(kind: Kind, namespace: &str, exact: u64, out: &mut String) -> Result<(), AllocError>

@@ -17,6 +17,6 @@ returns-in-Ok-clause-pictured c =
       found,
       subst Is c.as_slice.ensures.value c.in_ok-found.ensures.run,
       c.in-Ok.ensures.picture
-          ∙ ap (λ sets. picture_text (size_of spec) (λ n. role_by sets (owner_in found.owners n)) c.as_slice-3.result.now) c.as_slice-2.ensures.value
-          ∙ ap (picture_text (size_of spec) (λ n. role_by spec.sets.items (owner_in found.owners n))) c.as_slice-3.ensures.value,
+          ∙ ap (λ sets. picture_text c.args.shown (size_of spec) (λ n. role_by sets (owner_in found.owners n)) c.as_slice-3.result.now) c.as_slice-2.ensures.value
+          ∙ ap (picture_text c.args.shown (size_of spec) (λ n. role_by spec.sets.items (owner_in found.owners n))) c.as_slice-3.ensures.value,
     )

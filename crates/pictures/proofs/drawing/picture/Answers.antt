@@ -1,11 +1,12 @@
-use Rattle.std.proofs.Common.{rules, List, [], refl, ◌∙◌, ap, arith, length, subst, sym, take}
+use Rattle.std.proofs.Common.{rules, List, refl, ◌∙◌, ap, arith, length, subst, sym, take}
 use Rattle.std.proofs.lemmas.List.{length-take-le, take_all}
 use Rattle.history.specs.After.{IsAfter, taken}
-use Rattle.history.specs.Named.{callers, named}
+use Rattle.history.specs.Named.{callers}
 use Rattle.history.proofs.Naming.{callers_next}
 use Rattle.interleavings.specs.declared.event.Event.{Event}
 use Rattle.interleavings.specs.World.{Size}
 use Rattle.pictures.specs.Heading.{heading}
+use Rattle.pictures.specs.Shown.{shown_callers}
 use Rattle.pictures.proofs.Runs.{taken_more, text_next}
 use Rattle.pictures.proofs.drawing.picture.Goals as goal
 
@@ -36,7 +37,7 @@ loop-event-preserved g c =
     record {
       after = subst (λ (xs : List Event). IsAfter z xs c.put_step.new.replay) (sym (taken_more i es e c.loop-event-test.true c.event-item.is)) (c.in_ok-put_step.ensures.done z (take i es) so_far.after);
       lines =
-          text_next z i es e (heading c.args.shards (g.R.Roles.role c.args.roles.now) (named [] es)) _ _ c.loop-event-test.true c.event-item.is so_far.lines
+          text_next c.args.shown z i es e (heading c.args.shards (g.R.Roles.role c.args.roles.now) (shown_callers c.args.shown es)) _ _ c.loop-event-test.true c.event-item.is so_far.lines
           (c.in_ok-put_step.ensures.put z (take i es) so_far.after refl);
     }
 

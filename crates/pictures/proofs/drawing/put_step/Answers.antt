@@ -3,8 +3,8 @@ use Rattle.pictures.specs.declared.moment.Moment.{Moment}
 use Rattle.pictures.proofs.Runs.{frontier_small, step_lines}
 use Rattle.pictures.proofs.drawing.put_step.Goals as goal
 
-pub put_event-put-requires : goal.put_event-put-requires
-put_event-put-requires c =
+pub put_shown-put-requires : goal.put_shown-put-requires
+put_shown-put-requires c =
     let reached = c.step.ensures.reached in
     let events = reached.events ++ c.args.event.now ∷ [] in
     let done = c.in_ok-delivered.ensures.done reached.size reached.events reached.after in
@@ -14,6 +14,6 @@ put_event-put-requires c =
 
 pub returns-clause-put : goal.returns-clause-put
 returns-clause-put c = λ size events is same.
-    step_lines size events c.args.event.now c.args.shards c.events-place.result c.named_by-caller.result c.look-before.result c.look-after.result c.in_ok-delivered.delivered
+    step_lines c.args.shown size events c.args.event.now c.args.shards c.events-place.result c.named_by-caller.result c.look-before.result c.look-after.result c.in_ok-delivered.delivered
     (string_bytes c.args.out.now) _ same (c.events-place.ensures.count size events is) c.named_by-caller.ensures (c.look-before.ensures size events is)
     (c.look-after.ensures size (events ++ c.args.event.now ∷ []) (c.in_ok-delivered.ensures.done size events is)) (c.in_ok-delivered.ensures.delivered size events is) c.in_ok-put.ensures

@@ -10,5 +10,5 @@ loop-event-preserved c =
     let i = c.loop-event.event-index in
     let es = c.args.events.now in
     let e = c.event-item.result in
-    c.in_ok-note.ensures ∙ ap (λ names. with_named names (named_by e)) c.loop-event.invariant ∙ sym (named_more (take i es) [] e)
+    c.in_ok-note.ensures ∙ ap (with_named c.loop-event.callers.keys) c.named_by.ensures ∙ ap (λ names. with_named names (named_by e)) c.loop-event.invariant ∙ sym (named_more (take i es) [] e)
     ∙ ap (named []) (sym (taken_more i es e c.loop-event-test.true c.event-item.is))

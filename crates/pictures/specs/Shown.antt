@@ -1,0 +1,87 @@
+-- What of a run a picture shows: all of it, or the writes alone, which are creates, updates, status requests and deletes.
+use Rattle.std.specs.Prelude.{ℕ, Bool, true, false, ◌||◌, cond, List, [], ◌∷◌, Option, Some, None}
+use Rattle.requests.specs.Verdict.{is_write}
+use Rattle.requests.specs.declared.reply.Reason.{Reason}
+use Rattle.requests.specs.declared.reply.Reason.TheVariants.{NotFound, AlreadyExists, Conflict, Invalid, StoreFull, Expired, TooLarge}
+use Rattle.requests.specs.declared.reply.Reply.{Reply}
+use Rattle.requests.specs.declared.reply.Reply.TheVariants.{Created, Found, Listed, Updated, Unchanged, Marked, Removed, Compacted, Refused}
+use Rattle.interleavings.specs.declared.event.Event.{Event}
+use Rattle.interleavings.specs.declared.event.Event.TheVariants as event
+use Rattle.history.specs.Named.{named, with_named}
+use Rattle.history.specs.declared.standing.Standing.{Standing}
+use Rattle.history.specs.declared.standing.Standing.TheVariants.{Waiting}
+use Rattle.pictures.specs.declared.shown.Shown.{Shown}
+use Rattle.pictures.specs.declared.shown.Shown.TheVariants.{All, Writes}
+
+-- whether a write can be refused for this reason: the two others are of a version that is asked for
+abbrev pub refuses_write : Reason → Bool
+refuses_write NotFound = true
+refuses_write AlreadyExists = true
+refuses_write Conflict = true
+refuses_write Invalid = true
+refuses_write StoreFull = true
+refuses_write Expired = false
+refuses_write TooLarge = false
+
+abbrev pub answers_write : Reply → Bool
+answers_write (Created o) = true
+answers_write (Found o) = false
+answers_write (Listed os revision) = false
+answers_write (Updated o) = true
+answers_write (Unchanged o) = true
+answers_write (Marked o) = true
+answers_write (Removed o) = true
+answers_write (Compacted revision) = false
+answers_write (Refused reason) = refuses_write reason
+
+-- The same, by where its caller stands before it: a get that finds nothing is refused as a write may be, but in its read.
+abbrev pub is_reply_to_write : (before : Standing) → Option Reply → Bool
+is_reply_to_write (Waiting saw) (Some reply) = answers_write reply
+is_reply_to_write _ _ = false
+
+-- whether an event is a step of a write, or a crash, by where its caller stands before it and by the reply that it gives
+abbrev pub is_of_write : Event → (before : Standing) → (delivered : Option Reply) → Bool
+is_of_write (event.Call c r) before delivered = is_write r
+is_of_write (event.Check c) before delivered = true
+is_of_write (event.Reserve c) before delivered = true
+is_of_write (event.Publish c) before delivered = true
+is_of_write event.Raise before delivered = true
+is_of_write (event.Read c) before delivered = false
+is_of_write (event.ReadAt c) before delivered = false
+is_of_write (event.Compact c) before delivered = false
+is_of_write (event.Part c) before delivered = false
+is_of_write (event.Reply c) before delivered = is_reply_to_write before delivered
+is_of_write (event.Crash c) before delivered = true
+
+abbrev pub is_all : Shown → Bool
+is_all All = true
+is_all Writes = false
+
+-- whether the lines of the event are shown
+abbrev pub shows : Shown → Event → (before : Standing) → (delivered : Option Reply) → Bool
+shows shown e before delivered = is_all shown || is_of_write e before delivered
+
+-- ---- who takes part
+-- the caller that calls for a write or crashes, if the event is that
+abbrev pub writer_by : Event → Option ℕ
+writer_by (event.Call c r) = cond (is_write r) (Some c) None
+writer_by (event.Check c) = None
+writer_by (event.Reserve c) = None
+writer_by (event.Publish c) = None
+writer_by event.Raise = None
+writer_by (event.Read c) = None
+writer_by (event.ReadAt c) = None
+writer_by (event.Compact c) = None
+writer_by (event.Part c) = None
+writer_by (event.Reply c) = None
+writer_by (event.Crash c) = Some c
+
+-- these names, and those of the callers that call for a write or crash
+abbrev pub writers : List ℕ → List Event → List ℕ
+writers names [] = names
+writers names (e ∷ es) = writers (with_named names (writer_by e)) es
+
+-- of all that is shown the callers that events name; of writes those that call for one or crash
+abbrev pub shown_callers : Shown → List Event → List ℕ
+shown_callers All es = named [] es
+shown_callers Writes es = writers [] es
