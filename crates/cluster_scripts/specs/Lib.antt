@@ -1,6 +1,7 @@
 -- ---- what public clauses cite
 pub mod Events
 pub mod Printing
+pub mod Refusals
 pub mod RequestLine
 pub mod Scripts
 pub mod Sets

@@ -1,3 +1,4 @@
 pub mod Listings
 pub mod Actions
 pub mod Finding
+pub mod Wrong

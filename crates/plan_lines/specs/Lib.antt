@@ -5,3 +5,4 @@ pub mod Formats
 pub mod Objects
 pub mod Output
 pub mod Refusals
+pub mod RefusedLines

@@ -7,6 +7,7 @@ mod fault;
 mod header;
 mod line;
 mod printing;
+mod refused;
 mod script;
 mod step;
 
@@ -15,5 +16,6 @@ pub use fault::ScriptError;
 pub use header::{Header, header_in};
 pub use line::{count_in, count_of, read_members, text_in};
 pub use printing::{put_order, put_reply, run_text};
+pub use refused::{LineTest, first_refused, refused_line};
 pub use script::{Script, read_script};
 pub use step::step_in;

@@ -47,7 +47,7 @@ pub fn read_script(alloc: Global, text: &[u8]) -> Result<Script, ScriptError>
 }
 
 #[tactic(auto, using(crate::proofs::Readings::fails_bind))]
-fn read_header(reader: &mut TreeReader, line: &[u8]) -> Result<Header, ScriptError>
+pub(crate) fn read_header(reader: &mut TreeReader, line: &[u8]) -> Result<Header, ScriptError>
     ensures { Reads size_of result (header_of line.now) }
 {
     let members = read_members(reader, line)?;
