@@ -1,6 +1,10 @@
 -- What was made of a script of controllers that was read, and written or refused.
 use Rattle.std.proofs.Common.{◌≡◌, ℕ, List, [], Option, Some, None, inl, inr, refl, sym, subst}
 use Rattle.std.specs.Option.{IfSome}
+use Rattle.std.specs.Prelude.{Bool, codes}
+use Rattle.std.proofs.Common.{ap}
+use Rattle.cluster_scripts.specs.Refusals.{refused_line_of}
+use Rattle.commands.specs.Halts.{refused_as, told_line}
 use Rattle.replay_lines.specs.Events.{Fails}
 use Rattle.replay_lines.specs.declared.fault.ScriptError.{ScriptError}
 use Rattle.replay_lines.specs.declared.fault.ScriptError.TheVariants.{BadScript, Memory}
@@ -16,21 +20,21 @@ pub clustered_input : (form : Form) (had left : Option (List ℕ)) (bytes text :
 clustered_input form None left bytes text all ends made = tt
 clustered_input form (Some i) left bytes text all ends made = (ends, subst (λ b. IsClusterTextOf form b text) all made)
 
--- a text that is no script is refused by that name
-pub refused_cluster_script : (error : ScriptError) (name : Option (List ℕ)) (input : List ℕ) → name ≡ script_refusal error
-    → Fails error (cluster_script_of input) → IfSome name (IsClusterRefusal input)
-refused_cluster_script BadScript name input is fails = subst (λ o. IfSome o (IsClusterRefusal input)) (sym is) (inl (fails, refl))
-refused_cluster_script Memory name input is fails = subst (λ o. IfSome o (IsClusterRefusal input)) (sym is) tt
+-- a text that is no script is refused by that name, for that line
+pub refused_cluster_script : (place : Bool) (name : Option (List ℕ)) (input : List ℕ) (line : Option ℕ) → name ≡ Some (refused_as line (codes "BadScript"))
+    → line ≡ told_line place (refused_line_of input) → cluster_script_of input ≡ None → IfSome name (IsClusterRefusal place input)
+refused_cluster_script place name input line is told none =
+    subst (λ o. IfSome o (IsClusterRefusal place input)) (sym is) (inl (none, ap (λ l. refused_as l (codes "BadScript")) told))
 
 -- a run that is refused is that of the script
-pub refused_cluster : (name : Option (List ℕ)) (input : List ℕ) (script : ClusterScript) → cluster_script_of input ≡ Some (parts_of script)
-    → IfSome name (IsClusterRunRefusal script) → IfSome name (IsClusterRefusal input)
-refused_cluster None input script is refused = tt
-refused_cluster (Some name) input script is refused = inr (script, is, refused)
+pub refused_cluster : (place : Bool) (name : Option (List ℕ)) (input : List ℕ) (script : ClusterScript) → cluster_script_of input ≡ Some (parts_of script)
+    → IfSome name (IsClusterRunRefusal script) → IfSome name (IsClusterRefusal place input)
+refused_cluster place None input script is refused = tt
+refused_cluster place (Some name) input script is refused = inr (script, is, refused)
 
 -- what is refused of the bytes that were read is refused of the input
-pub refused_cluster_input : (name : Option (List ℕ)) (had left : Option (List ℕ)) (bytes : List ℕ) → IfSome had (λ i. bytes ≡ i)
-    → IfSome had (λ _. left ≡ Some []) → IfSome name (IsClusterRefusal bytes) → IfSome name (IsClusterRefusedBy had left)
-refused_cluster_input None had left bytes all ends refused = tt
-refused_cluster_input (Some name) None left bytes all ends refused = tt
-refused_cluster_input (Some name) (Some i) left bytes all ends refused = (ends, subst (λ b. IsClusterRefusal b name) all refused)
+pub refused_cluster_input : (place : Bool) (name : Option (List ℕ)) (had left : Option (List ℕ)) (bytes : List ℕ) → IfSome had (λ i. bytes ≡ i)
+    → IfSome had (λ _. left ≡ Some []) → IfSome name (IsClusterRefusal place bytes) → IfSome name (IsClusterRefusedBy place had left)
+refused_cluster_input place None had left bytes all ends refused = tt
+refused_cluster_input place (Some name) None left bytes all ends refused = tt
+refused_cluster_input place (Some name) (Some i) left bytes all ends refused = (ends, subst (λ b. IsClusterRefusal place b name) all refused)

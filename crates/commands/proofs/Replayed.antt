@@ -1,6 +1,10 @@
 -- What was made of an input that was read, and written or refused.
 use Rattle.std.proofs.Common.{◌≡◌, ℕ, List, [], Option, Some, None, inl, inr, refl, sym, subst}
 use Rattle.std.specs.Option.{IfSome}
+use Rattle.std.specs.Prelude.{Bool, codes}
+use Rattle.std.proofs.Common.{ap}
+use Rattle.replay_lines.specs.Refusals.{refused_line_of}
+use Rattle.commands.specs.Halts.{refused_as, told_line}
 use Rattle.std.specs.Prelude.{IfErr, Result, Ok, Err}
 use Rattle.std.specs.Result.{IsErrAnd}
 use Rattle.plain.specs.declared.devices.input.InputFault.{InputFault}
@@ -22,17 +26,17 @@ pub writes_by : (puts : Option (List ℕ) → List ℕ → Option (List ℕ) →
 writes_by puts IsText None left before after text shown made put same = tt
 writes_by puts IsText (Some input) left before after text shown made put same = (made.0, (text, made.1, subst (λ t. puts before t after) same put))
 
--- a text that is no script is refused by that name
-pub refused_script : (error : ScriptError) (name : Option (List ℕ)) (input : List ℕ) → name ≡ script_refusal error → Fails error (script_of input)
-    → IfSome name (IsReplayRefusal input)
-refused_script BadScript name input is fails = subst (λ o. IfSome o (IsReplayRefusal input)) (sym is) (inl (fails, refl))
-refused_script Memory name input is fails = subst (λ o. IfSome o (IsReplayRefusal input)) (sym is) tt
+-- a text that is no script is refused by that name, for that line
+pub refused_script : (place : Bool) (name : Option (List ℕ)) (input : List ℕ) (line : Option ℕ) → name ≡ Some (refused_as line (codes "BadScript"))
+    → line ≡ told_line place (refused_line_of input) → script_of input ≡ None → IfSome name (IsReplayRefusal place input)
+refused_script place name input line is told none =
+    subst (λ o. IfSome o (IsReplayRefusal place input)) (sym is) (inl (none, ap (λ l. refused_as l (codes "BadScript")) told))
 
 -- a run that is refused is that of the script
-pub refused_run : (name : Option (List ℕ)) (input : List ℕ) (script : Size × List Event) → script_of input ≡ Some script → IfSome name (IsRunRefusal script)
-    → IfSome name (IsReplayRefusal input)
-refused_run None input script is refused = tt
-refused_run (Some name) input script is refused = inr (script, is, refused)
+pub refused_run : (place : Bool) (name : Option (List ℕ)) (input : List ℕ) (script : Size × List Event) → script_of input ≡ Some script → IfSome name (IsRunRefusal script)
+    → IfSome name (IsReplayRefusal place input)
+refused_run place None input script is refused = tt
+refused_run place (Some name) input script is refused = inr (script, is, refused)
 
 -- a refusal has the name that is reported
 pub named_and : (name : Option (List ℕ)) (Is Said : List ℕ → Type 0) → IsNamed name Is → IfSome name Said → (n : List ℕ) × Is n × Said n
@@ -50,8 +54,8 @@ error_has (Ok x) From Has is has = tt
 error_has (Err e) From Has is has = has e is
 
 -- what is refused of the bytes that were read is refused of the input
-pub refused_input : (name : Option (List ℕ)) (had left : Option (List ℕ)) (bytes : List ℕ) → IfSome had (λ i. bytes ≡ i) → IfSome had (λ _. left ≡ Some [])
-    → IfSome name (IsReplayRefusal bytes) → IfSome name (IsRefusedBy had left)
-refused_input None had left bytes all ends refused = tt
-refused_input (Some name) None left bytes all ends refused = tt
-refused_input (Some name) (Some i) left bytes all ends refused = (ends, subst (λ b. IsReplayRefusal b name) all refused)
+pub refused_input : (place : Bool) (name : Option (List ℕ)) (had left : Option (List ℕ)) (bytes : List ℕ) → IfSome had (λ i. bytes ≡ i) → IfSome had (λ _. left ≡ Some [])
+    → IfSome name (IsReplayRefusal place bytes) → IfSome name (IsRefusedBy place had left)
+refused_input place None had left bytes all ends refused = tt
+refused_input place (Some name) None left bytes all ends refused = tt
+refused_input place (Some name) (Some i) left bytes all ends refused = (ends, subst (λ b. IsReplayRefusal place b name) all refused)

@@ -15,13 +15,13 @@ use Rattle.clap.proofs.OnLiterals.{clap_on_literals}
 use Rattle.plain.specs.Served.{served_so_far}
 use Rattle.plain.specs.Streams.{PutsPart, Takes}
 use Rattle.plain.proofs.Flows.{PutsPart-none, Takes-none}
-use Rattle.commands.specs.Asked.{IsAsked, IsFinding, IsOther, IsRaceBy, IsScripted, IsServing}
+use Rattle.commands.specs.Asked.{IsAsked, IsFinding, IsOther, IsRaceBy, IsScriptBy, IsScripted, IsServing}
 use Rattle.commands.specs.Serving.{ServesSome}
 use Rattle.commands.specs.declared.race_words.RaceWords.{RaceWords}
 use Rattle.commands.specs.declared.words.Asked.{Asked}
 use Rattle.commands.specs.declared.words.Asked.TheVariants as say
-use Rattle.commands.specs.Forms.{IsFlagBy, IsFormBy}
-use Rattle.commands.specs.Grammar.{IsCapacityBy, IsChoiceBy, IsNumberBy, Plan, asked, brief_text, capacity_text, choice_text, digits_text, faults_of, flag_text, is_under, plan_text, race_text, rows_under, stsctl_app, word_by, word_of}
+use Rattle.commands.specs.Forms.{IsFlagBy}
+use Rattle.commands.specs.Grammar.{IsCapacityBy, IsChoiceBy, IsNumberBy, Plan, asked, capacity_text, choice_text, digits_text, faults_of, flag_text, is_under, plan_text, race_text, rows_under, stsctl_app, word_by, word_of}
 
 stsctl-is_simple : is_simple stsctl_app ≡ true
 unfolding clap_on_literals
@@ -185,11 +185,11 @@ other_asked words m (say.Outcomes choice) none same plan other = (
 )
 other_asked words m (say.Replay form) none same plan other = (
   asked-by words m false false true _ _ none same plan other.0 other.1.0 refl refl,
-  subst (λ t. IsFormBy t form) (λ i flag. flag-is words m (codes "replay") flag same i) other.1.1,
+  subst (λ t. IsScriptBy t form) (λ i flag. flag-is words m (codes "replay") flag same i) other.1.1,
 )
 other_asked words m (say.Cluster form) none same plan other = (
   asked-by words m false false false true _ none same plan other.0 other.1.0 other.1.1.0 refl,
-  subst (λ t. IsFormBy t form) (λ i flag. flag-is words m (codes "cluster") flag same i) other.1.1.1,
+  subst (λ t. IsScriptBy t form) (λ i flag. flag-is words m (codes "cluster") flag same i) other.1.1.1,
 )
 other_asked words m (say.Plan asked) none same plan other = absurd other.1.1.1
 other_asked words m (say.Race race) none same plan other = (
@@ -207,10 +207,9 @@ pub digits-is : (words : List Text) (m : ArgMatches) (rows : List Row) → subco
 unfolding digits_text
 digits-is words m rows same is = ap (one_of (codes "digits")) (sym is) ∙ ap (λ e. one_of (codes "digits") (rows_under (codes "plan") e)) same
 
-pub brief-is : (words : List Text) (m : ArgMatches) (rows : List Row) → subcommand_rows_of m ≡ subcommand_of stsctl_app words
-    → rows_under (codes "plan") (subcommand_rows_of m) ≡ rows → one_of (codes "brief") rows ≡ brief_text words
-unfolding brief_text
-brief-is words m rows same is = ap (one_of (codes "brief")) (sym is) ∙ ap (λ e. one_of (codes "brief") (rows_under (codes "plan") e)) same
+pub plan_flag-is : (words : List Text) (m : ArgMatches) (flag : Text) (rows : List Row) → subcommand_rows_of m ≡ subcommand_of stsctl_app words
+    → rows_under (codes "plan") (subcommand_rows_of m) ≡ rows → one_of flag rows ≡ flag_text (codes "plan") flag words
+plan_flag-is words m flag rows same is = ap (one_of flag) (sym is) ∙ flag-is words m (codes "plan") flag same
 
 pub now_or : (o : Option (Bor Text)) (d : Bor Text) → (unwrap_or o d).now ≡ unwrap_or (option_map (λ s. s.now) o) d.now
 now_or None d = refl

@@ -4,16 +4,22 @@ use Rattle.clap.specs.Words.{Row, Text, one_of}
 use Rattle.commands.specs.declared.words.Asked.{Asked}
 use Rattle.commands.specs.declared.words.Asked.TheVariants as say
 use Rattle.commands.specs.declared.words.PlanWords.{PlanWords}
+use Rattle.commands.specs.declared.words.ScriptWords.{ScriptWords}
 use Rattle.commands.specs.declared.race_words.RaceWords.{RaceWords}
 use Rattle.commands.specs.Forms.{IsFlagBy, IsFormBy}
-use Rattle.commands.specs.Grammar.{AsksFor, Cluster, IsCapacityBy, IsChoiceBy, IsDigitsBy, IsNumberBy, Outcomes, Plan, Race, Replay, Serve, asked, brief_text, choice_text, digits_text, flag_text, is_under, plan_text, race_text, rows_under}
+use Rattle.commands.specs.Grammar.{AsksFor, Cluster, IsCapacityBy, IsChoiceBy, IsDigitsBy, IsNumberBy, Outcomes, Plan, Race, Replay, Serve, asked, choice_text, digits_text, flag_text, is_under, plan_text, race_text, rows_under}
 use Rattle.race_log.specs.Limits.{is_race}
+
+-- what is printed of a script, and whether a refusal tells its line
+abbrev pub IsScriptBy : (text : Text → Option Text) → ScriptWords → Type 0
+IsScriptBy text script = IsFormBy text script.form × IsFlagBy (text (codes "where")) script.place
 
 -- what the words after `plan` say
 abbrev pub IsPlanAsked : List Text → PlanWords → Type 0
 IsPlanAsked words plan = (plan.namespace.now ≡ unwrap_or (plan_text (codes "namespace") words) (codes "default"))
     × (plan.name.now ≡ unwrap_or (plan_text (codes "set") words) []) × IsDigitsBy (digits_text words) plan.digits
-    × (1 ≤ plan.digits) × (plan.digits ≤ 64) × IsFlagBy (brief_text words) plan.brief
+    × (1 ≤ plan.digits) × (plan.digits ≤ 64) × IsFlagBy (flag_text (codes "plan") (codes "brief") words) plan.brief
+    × IsFlagBy (flag_text (codes "plan") (codes "where") words) plan.place
 
 -- the numbers that some texts say, each by its option, and which flags are given
 abbrev pub IsRaceBy : (Text → Option Text) → RaceWords → Type 0
@@ -30,8 +36,8 @@ IsRaceAsked words race = IsRaceBy (λ option. race_text option words) race × (i
 -- what the words ask for, with what they say of it
 abbrev pub IsAsked : List Text → Asked → Type 0
 IsAsked words (say.Serve capacity) = (asked words ≡ Serve) × AsksFor words capacity
-IsAsked words (say.Replay form) = (asked words ≡ Replay) × IsFormBy (λ flag. flag_text (codes "replay") flag words) form
-IsAsked words (say.Cluster form) = (asked words ≡ Cluster) × IsFormBy (λ flag. flag_text (codes "cluster") flag words) form
+IsAsked words (say.Replay script) = (asked words ≡ Replay) × IsScriptBy (λ flag. flag_text (codes "replay") flag words) script
+IsAsked words (say.Cluster script) = (asked words ≡ Cluster) × IsScriptBy (λ flag. flag_text (codes "cluster") flag words) script
 IsAsked words (say.Plan plan) = (asked words ≡ Plan) × IsPlanAsked words plan
 IsAsked words (say.Race race) = (asked words ≡ Race) × IsRaceAsked words race
 IsAsked words (say.Outcomes choice) = (asked words ≡ Outcomes) × IsChoiceBy (choice_text words) choice
@@ -47,11 +53,11 @@ IsFinding met (say.Serve capacity) = (is_under (codes "outcomes") met ≡ false)
 IsFinding met _ = ⊥
 
 abbrev pub IsServing : Option (Text × List Row) → Asked → Type 0
-IsServing met (say.Cluster form) = (is_under (codes "cluster") met ≡ true) × IsFormBy (λ flag. one_of flag (rows_under (codes "cluster") met)) form
+IsServing met (say.Cluster script) = (is_under (codes "cluster") met ≡ true) × IsScriptBy (λ flag. one_of flag (rows_under (codes "cluster") met)) script
 IsServing met other = (is_under (codes "cluster") met ≡ false) × IsFinding met other
 
 abbrev pub IsScripted : Option (Text × List Row) → Asked → Type 0
-IsScripted met (say.Replay form) = (is_under (codes "replay") met ≡ true) × IsFormBy (λ flag. one_of flag (rows_under (codes "replay") met)) form
+IsScripted met (say.Replay script) = (is_under (codes "replay") met ≡ true) × IsScriptBy (λ flag. one_of flag (rows_under (codes "replay") met)) script
 IsScripted met other = (is_under (codes "replay") met ≡ false) × IsServing met other
 
 abbrev pub IsOther : Option (Text × List Row) → Asked → Type 0

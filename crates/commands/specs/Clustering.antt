@@ -1,5 +1,5 @@
 -- What a run of the program that was asked to run a cluster has done, where the devices tell.
-use Rattle.std.specs.Prelude.{◌≡◌, ◌⊎◌, ℕ, List, [], length, Option, Some, None, codes}
+use Rattle.std.specs.Prelude.{◌≡◌, ◌⊎◌, Bool, ℕ, List, [], length, Option, Some, None, codes}
 use Rattle.std.specs.Option.{IfSome}
 use Rattle.cluster_runs.specs.Cluster.{Cluster}
 use Rattle.cluster_runs.specs.declared.event.ClusterEvent.{ClusterEvent}
@@ -16,6 +16,8 @@ use Rattle.clap.specs.Words.{Text}
 use Rattle.pictures.specs.Picture.{picture_text}
 use Rattle.pictures.specs.declared.shown.Shown.{Shown}
 use Rattle.stories.specs.Story.{story_text}
+use Rattle.cluster_scripts.specs.Refusals.{refused_line_of}
+use Rattle.commands.specs.Halts.{refused_as, told_line}
 use Rattle.commands.specs.Forms.{IsFormBy, WritesBy}
 use Rattle.commands.specs.Grammar.{flag_text}
 use Rattle.commands.specs.Replaying.{IsSizeRefusal}
@@ -74,11 +76,11 @@ cluster_refusal errors.BadCapacity = Some (codes "BadCapacity")
 cluster_refusal errors.TooManyCallers = Some (codes "TooManyCallers")
 cluster_refusal errors.Memory = None
 
--- The input is refused as BadScript exactly where it is no script.
-abbrev pub IsClusterRefusal : (input name : List ℕ) → Type 0
-IsClusterRefusal input name = ((cluster_script_of input ≡ None) × (name ≡ codes "BadScript"))
+-- The input is refused as BadScript exactly where it is no script, for its first line that is no line of one.
+abbrev pub IsClusterRefusal : (place : Bool) → (input name : List ℕ) → Type 0
+IsClusterRefusal place input name = ((cluster_script_of input ≡ None) × (name ≡ refused_as (told_line place (refused_line_of input)) (codes "BadScript")))
     ⊎ ((script : ClusterScript) × (cluster_script_of input ≡ Some (parts_of script)) × IsClusterRunRefusal script name)
 
 -- All of the reader's bytes were read, and are refused by this name.
-abbrev pub IsClusterRefusedBy : Option (List ℕ) → Option (List ℕ) → List ℕ → Type 0
-IsClusterRefusedBy had left name = IfSome had (λ input. (left ≡ Some []) × IsClusterRefusal input name)
+abbrev pub IsClusterRefusedBy : (place : Bool) → Option (List ℕ) → Option (List ℕ) → List ℕ → Type 0
+IsClusterRefusedBy place had left name = IfSome had (λ input. (left ≡ Some []) × IsClusterRefusal place input name)

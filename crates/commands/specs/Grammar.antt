@@ -1,5 +1,5 @@
--- What the program takes, as `clap` reads it: `serve [--capacity N]`, `replay [--picture] [--writes]`,
--- `cluster [--picture] [--writes]`, `plan --set NAME [--namespace NS] [--digits H] [--brief]`,
+-- What the program takes, as `clap` reads it: `serve [--capacity N]`, `replay [--picture] [--writes] [--where]`,
+-- `cluster [--picture] [--writes] [--where]`, `plan --set NAME [--namespace NS] [--digits H] [--brief] [--where]`,
 -- `race [--controllers N] [--shards N] [--rounds N] [--replicas N] [--operator] [--history]`, and `outcomes [--script K]`. `clap`
 -- adds help and the version.
 use Rattle.std.specs.Prelude.{◌≡◌, ◌≤◌, ◌<◌, ◌^◌, ℕ, Bool, true, false, List, [], ◌∷◌, Option, Some, None, codes, if◌then◌else◌}
@@ -36,10 +36,10 @@ abbrev pub writes_rule : Rule
 writes_rule = flag_rule (codes "writes")
 
 abbrev pub replay_app : App
-replay_app = with_rule (with_rule (new_app (codes "replay")) picture_rule) writes_rule
+replay_app = with_rule (with_rule (with_rule (new_app (codes "replay")) picture_rule) writes_rule) (flag_rule (codes "where"))
 
 abbrev pub cluster_app : App
-cluster_app = with_rule (with_rule (new_app (codes "cluster")) picture_rule) writes_rule
+cluster_app = with_rule (with_rule (with_rule (new_app (codes "cluster")) picture_rule) writes_rule) (flag_rule (codes "where"))
 
 abbrev pub set_rule : Rule
 set_rule = record (new_rule (codes "set")) { long = Some (codes "set"); value_names = 1; required = true }
@@ -58,7 +58,7 @@ abbrev pub brief_rule : Rule
 brief_rule = flag_rule (codes "brief")
 
 abbrev pub plan_app : App
-plan_app = with_rule (with_rule (with_rule (with_rule (new_app (codes "plan")) set_rule) namespace_rule) digits_rule) brief_rule
+plan_app = with_rule (with_rule (with_rule (with_rule (with_rule (new_app (codes "plan")) set_rule) namespace_rule) digits_rule) brief_rule) (flag_rule (codes "where"))
 
 -- an option of `race`, whose value is what the parser takes
 abbrev pub option_rule : Text → ValueParser → Rule
@@ -136,10 +136,6 @@ plan_text option words = first_of option (rows_under (codes "plan") (subcommand_
 -- the number after `--digits`, as text
 unfoldable pub digits_text : List Text → Option Text
 digits_text words = one_of (codes "digits") (rows_under (codes "plan") (subcommand_of stsctl_app words))
-
--- what `clap` has for the flag `--brief`
-unfoldable pub brief_text : List Text → Option Text
-brief_text words = one_of (codes "brief") (rows_under (codes "plan") (subcommand_of stsctl_app words))
 
 -- The store has room for as many revisions as the text says in decimal digits, or else for as many as there may be. Where
 -- the text is no such number, the words have a fault.

@@ -1,16 +1,17 @@
 -- Why there is no output, and what is reported of it.
-use Rattle.std.specs.Prelude.{◌≡◌, ◌<◌, ◌⊎◌, ℕ, Bool, true, false, List, [], ◌∷◌, ◌++◌, Option, Some, None, Result, Ok, Err, codes}
+use Rattle.std.specs.Prelude.{◌≡◌, ◌<◌, ◌⊎◌, ℕ, Bool, true, false, List, [], ◌∷◌, ◌++◌, Option, Some, None, Result, Ok, Err, codes, decimal}
 use Rattle.plain.specs.Streams.{Puts}
 use Rattle.plain.specs.declared.devices.input.InputFault.{InputFault}
 use Rattle.plain.specs.declared.devices.input.InputFault.TheVariants as input
 use Rattle.commands.specs.declared.halt.Halt.{Halt}
-use Rattle.commands.specs.declared.halt.Halt.TheVariants.{Read, Memory, Refused}
+use Rattle.commands.specs.declared.halt.Halt.TheVariants.{Read, Memory, Refused, RefusedAt}
 
 -- the reader failed
 abbrev pub is_read : Halt → Bool
 is_read Read = true
 is_read Memory = false
 is_read (Refused name) = false
+is_read (RefusedAt name line) = false
 
 -- the reader's failures before and after: one is counted exactly where the reader failed
 abbrev pub CountsReads : {A : Type 0} → Result A Halt → ℕ → ℕ → Type 0
@@ -18,17 +19,29 @@ CountsReads (Ok x) old new = new ≡ old
 CountsReads (Err Read) old new = old < new
 CountsReads (Err Memory) old new = new ≡ old
 CountsReads (Err (Refused name)) old new = new ≡ old
+CountsReads (Err (RefusedAt name line)) old new = new ≡ old
 
 -- what a fault of the input is
 abbrev pub halt_of : InputFault → Halt
 halt_of input.Read = Read
 halt_of input.Memory = Memory
 
--- the name by which the input is refused, if it is
+-- the line that is told of a refusal, where it is asked for
+abbrev pub told_line : (place : Bool) → Option ℕ → Option ℕ
+told_line true line = line
+told_line false line = None
+
+-- what is said of a refusal: its name, and in a line of its own the number of the line for which the input is refused, if that is told
+abbrev pub refused_as : Option ℕ → (name : List ℕ) → List ℕ
+refused_as None name = name
+refused_as (Some n) name = name ++ 10 ∷ (codes "line " ++ decimal n)
+
+-- what is said of the refusal of an input, if it is refused
 abbrev pub name_of : Halt → Option (List ℕ)
 name_of Read = None
 name_of Memory = None
 name_of (Refused name) = Some name.now
+name_of (RefusedAt name line) = Some (refused_as (Some line) name.now)
 
 -- there is a name, of which this is said
 abbrev pub IsNamed : Option (List ℕ) → (List ℕ → Type 0) → Type 0

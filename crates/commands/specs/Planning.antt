@@ -17,8 +17,10 @@ use Rattle.plan_lines.specs.declared.format.Format.{Format}
 use Rattle.plan_lines.specs.declared.format.Format.TheVariants.{Brief, Json}
 use Rattle.plan_lines.specs.Formats.{actions_text}
 use Rattle.plan_lines.specs.Objects.{Lists, is_named, nothing, read_from}
+use Rattle.plan_lines.specs.RefusedLines.{refused_line_of}
 use Rattle.plan_lines.specs.Refusals.{plan_error_name}
 use Rattle.commands.specs.declared.words.PlanWords.{PlanWords}
+use Rattle.commands.specs.Halts.{refused_as, told_line}
 use Rattle.commands.specs.Asked.{IsPlanAsked}
 use Rattle.commands.specs.Forms.{WritesBy}
 
@@ -82,9 +84,14 @@ abbrev pub IsRefusedOver : PlanWords → Lists → List ℕ → Type 0
 IsRefusedOver asked lists name = ((find (is_named asked.namespace.now asked.name.now) lists.sets ≡ None) × (name ≡ codes "NotFound"))
     ⊎ ((object : Object) × (find (is_named asked.namespace.now asked.name.now) lists.sets ≡ Some object) × IsSetRefused object lists asked.digits name)
 
--- A line of the input is no object, for the reason of this name, or its objects have no plan.
+-- A line of the input is no object, for the reason of this name, and for the first such line.
+abbrev pub IsInputRefusal : (place : Bool) → (input name : List ℕ) → Type 0
+IsInputRefusal place input name = (e : ReadError) × ((n : List ℕ) × (read_refusal e ≡ Some n) × (read_from nothing (lines input) ≡ Err e)
+    × (name ≡ refused_as (told_line place (refused_line_of input)) n))
+
+-- The input is refused so, or its objects have no plan.
 abbrev pub IsPlanRefusal : PlanWords → (input name : List ℕ) → Type 0
-IsPlanRefusal asked input name = ((e : ReadError) × (read_refusal e ≡ Some name) × (read_from nothing (lines input) ≡ Err e))
+IsPlanRefusal asked input name = IsInputRefusal asked.place input name
     ⊎ ((lists : Lists) × (read_from nothing (lines input) ≡ Ok lists) × IsRefusedOver asked lists name)
 
 -- All of the reader's bytes were read, and have no plan, for the reason of this name.

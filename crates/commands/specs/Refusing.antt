@@ -1,18 +1,19 @@
 -- What a run of the program reports of an input that is refused.
-use Rattle.std.specs.Prelude.{◌≡◌, ℕ, List, Option}
+use Rattle.std.specs.Prelude.{◌≡◌, ℕ, Bool, List, Option, codes}
 use Rattle.clap.specs.Words.{Text}
 use Rattle.commands.specs.declared.words.PlanWords.{PlanWords}
 use Rattle.commands.specs.Asked.{IsPlanAsked}
+use Rattle.commands.specs.Forms.{IsFlagBy}
 use Rattle.commands.specs.Finding.{IsOutcomesRefusedBy}
 use Rattle.commands.specs.Clustering.{IsClusterRefusedBy}
-use Rattle.commands.specs.Grammar.{Cluster, IsChoiceBy, Outcomes, Plan, Replay, asked, choice_text}
+use Rattle.commands.specs.Grammar.{Cluster, IsChoiceBy, Outcomes, Plan, Replay, asked, choice_text, flag_text}
 use Rattle.commands.specs.Planning.{IsPlanRefusedBy}
 use Rattle.commands.specs.Replaying.{IsRefusedBy}
 
 -- A refusal by some name was reported, and by that name the script of a replay or a cluster is refused, or the plan or the outcomes
--- that the words ask for.
+-- that the words ask for. What is reported tells the line where the words ask for it.
 abbrev pub Refuses : List Text → Option (List ℕ) → Option (List ℕ) → (reported : List ℕ → Type 0) → Type 0
-Refuses words had left reported = (name : List ℕ) × reported name × (asked words ≡ Replay → IsRefusedBy had left name)
-    × (asked words ≡ Cluster → IsClusterRefusedBy had left name)
+Refuses words had left reported = (name : List ℕ) × reported name × (asked words ≡ Replay → (place : Bool) × IsFlagBy (flag_text (codes "replay") (codes "where") words) place × IsRefusedBy place had left name)
+    × (asked words ≡ Cluster → (place : Bool) × IsFlagBy (flag_text (codes "cluster") (codes "where") words) place × IsClusterRefusedBy place had left name)
     × (asked words ≡ Plan → (plan : PlanWords) × IsPlanAsked words plan × IsPlanRefusedBy plan had left name)
     × (asked words ≡ Outcomes → (choice : Option ℕ) × IsChoiceBy (choice_text words) choice × IsOutcomesRefusedBy choice had left name)

@@ -1,5 +1,5 @@
 -- What a run of the program that was asked to replay has done, where the devices tell.
-use Rattle.std.specs.Prelude.{◌≡◌, ◌⊎◌, ◌≤◌, ◌<◌, ℕ, List, [], Option, Some, None, codes}
+use Rattle.std.specs.Prelude.{◌≡◌, ◌⊎◌, Bool, ◌≤◌, ◌<◌, ℕ, List, [], Option, Some, None, codes}
 use Rattle.std.specs.Option.{IfSome}
 use Rattle.plain_store.specs.Reached.{most_revisions}
 use Rattle.history.specs.After.{IsRunOf}
@@ -17,6 +17,8 @@ use Rattle.pictures.specs.Heading.{no_role}
 use Rattle.pictures.specs.Picture.{picture_text}
 use Rattle.pictures.specs.declared.shown.Shown.{Shown}
 use Rattle.stories.specs.Story.{story_text}
+use Rattle.replay_lines.specs.Refusals.{refused_line_of}
+use Rattle.commands.specs.Halts.{refused_as, told_line}
 use Rattle.commands.specs.Forms.{IsFormBy, WritesBy}
 use Rattle.commands.specs.Grammar.{flag_text}
 use Rattle.commands.specs.declared.form.Form.{Form}
@@ -64,14 +66,14 @@ run_refusal errors.BadCapacity = Some (codes "BadCapacity")
 run_refusal errors.TooManyCallers = Some (codes "TooManyCallers")
 run_refusal errors.Memory = None
 
--- The input is refused as BadScript exactly where it is no script.
-abbrev pub IsReplayRefusal : (input name : List ℕ) → Type 0
-IsReplayRefusal input name = ((script_of input ≡ None) × (name ≡ codes "BadScript"))
+-- The input is refused as BadScript exactly where it is no script, for its first line that is no line of one.
+abbrev pub IsReplayRefusal : (place : Bool) → (input name : List ℕ) → Type 0
+IsReplayRefusal place input name = ((script_of input ≡ None) × (name ≡ refused_as (told_line place (refused_line_of input)) (codes "BadScript")))
     ⊎ ((script : Size × List Event) × (script_of input ≡ Some script) × IsRunRefusal script name)
 
 -- All of the reader's bytes were read, and are refused by this name.
-abbrev pub IsRefusedBy : Option (List ℕ) → Option (List ℕ) → List ℕ → Type 0
-IsRefusedBy had left name = IfSome had (λ input. (left ≡ Some []) × IsReplayRefusal input name)
+abbrev pub IsRefusedBy : (place : Bool) → Option (List ℕ) → Option (List ℕ) → List ℕ → Type 0
+IsRefusedBy place had left name = IfSome had (λ input. (left ≡ Some []) × IsReplayRefusal place input name)
 
 -- the name of the refusal of a text that is no script
 abbrev pub script_refusal : ScriptError → Option (List ℕ)

@@ -1,12 +1,12 @@
 //! Why a run over a whole input has no output, and its exit status.
-ghost use Rattle.std.specs.Prelude.{◌≡◌, ◌≢◌, ◌<◌, ◌⊎◌, None, false, true};
+ghost use Rattle.std.specs.Prelude.{◌≡◌, ◌≢◌, ◌<◌, ◌⊎◌, None, Some, false, true};
 ghost use Rattle.commands.specs.Clustering.{cluster_refusal};
 ghost use Rattle.commands.specs.Finding.{finding_refusal, scripting_refusal};
-ghost use Rattle.commands.specs.Halts.{IsNamed, Tells, halt_of, is_read, name_of};
+ghost use Rattle.commands.specs.Halts.{IsNamed, Tells, halt_of, is_read, name_of, refused_as};
 ghost use Rattle.commands.specs.Planning.{plan_refusal, read_refusal};
 ghost use Rattle.commands.specs.Replaying.{run_refusal, script_refusal};
 
-use crate::status::{BAD_WORDS, FAILURE, Heap, REFUSED, SUCCESS, refused};
+use crate::status::{BAD_WORDS, FAILURE, Heap, REFUSED, SUCCESS, refused, refused_at};
 use controllers::ClusterFault;
 use history::ReplayError;
 use objects::{Memory, ReadError};
@@ -27,6 +27,8 @@ pub(crate) enum Halt {
     Memory,
     /// The input is refused, by this name.
     Refused(&'static str),
+    /// The same, for the line of this number.
+    RefusedAt(&'static str, u64),
 }
 
 impl From<AllocError> for Halt {
@@ -138,6 +140,17 @@ impl From<ScriptingError> for Halt {
     }
 }
 
+/// A refusal by that name, and for that line if there is one to tell.
+pub(crate) fn halt_at(name: &'static str, line: Option<u64>) -> Halt
+    ensures read { is_read result ≡ false }
+    ensures named { name_of result ≡ Some (refused_as line name.now) }
+{
+    match line {
+        Some(line) => Halt::RefusedAt(name, line),
+        None => Halt::Refused(name),
+    }
+}
+
 /// The exit status of a run that has no output. A refusal goes to `faults`.
 pub(crate) fn halted<F: Sink>(heap: &mut Heap, halt: Halt, faults: &mut F) -> u8
     ensures status { (result < BAD_WORDS) ⊎ (result ≡ REFUSED) }
@@ -156,5 +169,6 @@ pub(crate) fn halted<F: Sink>(heap: &mut Heap, halt: Halt, faults: &mut F) -> u8
             FAILURE
         }
         Halt::Refused(name) => refused(faults, name),
+        Halt::RefusedAt(name, line) => refused_at(faults, name, line),
     }
 }

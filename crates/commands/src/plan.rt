@@ -1,18 +1,24 @@
 //! `stsctl plan`.
 ghost use Rattle.std.specs.Prelude.{◌≡◌, ◌≢◌, ◌≤◌, ◌<◌, ◌⊎◌, ℕ, List, [], true, false, IfOk, IfErr, IfSome, Some, Ok};
-ghost use Rattle.plan_lines.specs.Objects.{lists_of};
+ghost use Rattle.plan_lines.specs.Objects.{lists_of, nothing, read_from};
 ghost use Rattle.set_views.specs.Set.{set_parts};
 ghost use Rattle.sets.specs.Plan.{IsPlan};
 ghost use Rattle.plain.specs.Streams.{Puts, PutsPart};
 ghost use Rattle.commands.specs.Forms.{WritesBy};
-ghost use Rattle.commands.specs.Halts.{CountsReads, Tells, is_read, name_of};
-ghost use Rattle.commands.specs.Planning.{IsPlanOf, IsPlanOfSetRefused, IsPlanOver, IsPlanRefusal, IsPlanRefusedBy, IsPlanText, IsRefusedOver, actions_of, format_by};
+ghost use Rattle.commands.specs.Halts.{CountsReads, Tells, is_read, name_of, told_line};
+ghost use Rattle.objects.specs.Steps.{Fails};
+ghost use Rattle.plain.specs.Lines.{lines};
+ghost use Rattle.plan_lines.specs.RefusedLines.{refused_line_of};
+ghost use Rattle.commands.specs.Planning.{IsInputRefusal, IsPlanOf, IsPlanOfSetRefused, IsPlanOver, IsPlanRefusal, IsPlanRefusedBy, IsPlanText, IsRefusedOver, actions_of, format_by};
 
-use crate::halt::{Halt, halted};
+use crate::halt::{Halt, halt_at, halted};
 use crate::status::{BAD_WORDS, FAILURE, Heap, REFUSED, SUCCESS};
 use crate::words::PlanWords;
-use plain::{Sink, Source, read_all};
-use plan_lines::{Format, Listed, OutputFault, named_set, read_objects, write_actions};
+use objects::{Memory, ReadError};
+use plain::{RequestError, Sink, Source, read_all};
+use plan_lines::{
+    Format, Listed, OutputFault, named_set, read_objects, refused_object_line, write_actions,
+};
 use sets::{Plan, Set, read_set};
 use std::alloc::Global;
 
@@ -100,8 +106,36 @@ fn plan_of_lines(alloc: Global, asked: &PlanWords<'_>, input: &[u8]) -> Result<P
     ensures refused { IfErr result (λ halt. IfSome (name_of halt) (IsPlanRefusal asked.now input.now)) }
     ensures read { IfErr result (λ halt. is_read halt ≡ false) }
 {
-    let listed = read_objects(alloc, input)?;
+    let listed = match read_objects(alloc, input) {
+        Ok(listed) => listed,
+        Err(error) => return Err(no_objects(alloc, asked.place, error, input)),
+    };
     plan_of_objects(alloc, asked, &listed)
+}
+
+/// Why an input of which a line is no object has no plan.
+fn no_objects(alloc: Global, place: bool, error: ReadError, input: &[u8]) -> Halt
+    ensures read { is_read result ≡ false }
+    ensures refused { Fails error (read_from nothing (lines input.now)) → IfSome (name_of result) (IsInputRefusal place input.now) }
+{
+    match error {
+        ReadError::Memory => Halt::Memory,
+        error => match line_told(alloc, place, input) {
+            Ok(line) => halt_at(RequestError::Read(error).name(), line),
+            Err(Memory) => Halt::Memory,
+        },
+    }
+}
+
+/// The line for which it is none, where that is to be told.
+fn line_told(alloc: Global, place: bool, input: &[u8]) -> Result<Option<u64>, Memory>
+    ensures { IfOk result (λ line. line ≡ told_line place (refused_line_of input.now)) }
+{
+    if place {
+        refused_object_line(alloc, input)
+    } else {
+        Ok(None)
+    }
 }
 
 /// The plan, given the objects that were listed.

@@ -121,8 +121,8 @@ pub fn command<T: Threads + Wait + Sync, S: AsStr, R: Source, W: Sink, F: Sink>(
 {
     match read_words(heap.alloc, words) {
         Ok(Asked::Serve(capacity)) => served(heap, reader, writer, capacity),
-        Ok(Asked::Replay(form)) => replayed(heap, form, reader, writer, faults),
-        Ok(Asked::Cluster(form)) => clustered(heap, form, reader, writer, faults),
+        Ok(Asked::Replay(script)) => replayed(heap, script, reader, writer, faults),
+        Ok(Asked::Cluster(script)) => clustered(heap, script, reader, writer, faults),
         Ok(Asked::Plan(plan)) => planned(heap, &plan, reader, writer, faults),
         Ok(Asked::Race(race)) => raced(rt, heap, &race, writer),
         Ok(Asked::Outcomes(choice)) => found(heap, choice, reader, writer, faults),

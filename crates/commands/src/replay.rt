@@ -1,39 +1,43 @@
 //! `stsctl replay`.
 ghost use Rattle.std.specs.Prelude.{◌≡◌, ◌≢◌, ◌<◌, ◌⊎◌, ℕ, List, [], true, false, IfOk, IfErr, IfSome, Some};
-ghost use Rattle.replay_lines.specs.Scripts.{parts_of};
+ghost use Rattle.replay_lines.specs.Scripts.{parts_of, script_of};
 ghost use Rattle.plain.specs.Streams.{Puts, PutsPart};
 ghost use Rattle.commands.specs.Forms.{WritesBy};
-ghost use Rattle.commands.specs.Halts.{CountsReads, Tells, is_read, name_of};
+ghost use Rattle.commands.specs.Halts.{CountsReads, Tells, is_read, name_of, told_line};
+ghost use Rattle.replay_lines.specs.Events.{Fails};
+ghost use Rattle.replay_lines.specs.Refusals.{refused_line_of};
 ghost use Rattle.pictures.specs.Heading.{no_role};
 ghost use Rattle.pictures.specs.Picture.{picture_text};
 ghost use Rattle.commands.specs.Replaying.{IsRefusedBy, IsReplayRefusal, IsReplayText, IsRunRefusal, IsRunText, IsShownText, IsStoryText};
 
 use crate::form::Form;
-use crate::halt::{Halt, halted};
+use crate::halt::{Halt, halt_at, halted};
 use crate::status::{BAD_WORDS, FAILURE, Heap, REFUSED, SUCCESS, shown};
+use crate::words::ScriptWords;
 use history::replay;
+use objects::Memory;
 use pictures::{Callers, Shown, picture};
 use plain::{Sink, Source, read_all};
-use replay_lines::{Script, read_script, run_text};
+use replay_lines::{Script, ScriptError, read_script, refused_line, run_text};
 use std::alloc::Global;
 use stories::story;
 
 /// Runs the events of the script that the reader has, and writes the replies and the order, a picture of the run, or its writes.
 pub(crate) fn replayed<R: Source, W: Sink, F: Sink>(
     heap: &mut Heap,
-    form: Form,
+    asked: ScriptWords,
     reader: &mut R,
     writer: &mut W,
     faults: &mut F,
 ) -> u8
     ensures status { (result < BAD_WORDS) ⊎ (result ≡ REFUSED) }
-    ensures replayed { result ≡ SUCCESS → WritesBy Puts (IsReplayText form) (R.remaining reader.old) (R.remaining reader.new)
+    ensures replayed { result ≡ SUCCESS → WritesBy Puts (IsReplayText asked.form) (R.remaining reader.old) (R.remaining reader.new)
         (W.written writer.old) (W.written writer.new) }
-    ensures part { result ≡ FAILURE → (writer.new ≡ writer.old) ⊎ WritesBy PutsPart (IsReplayText form) (R.remaining reader.old) (R.remaining reader.new)
+    ensures part { result ≡ FAILURE → (writer.new ≡ writer.old) ⊎ WritesBy PutsPart (IsReplayText asked.form) (R.remaining reader.old) (R.remaining reader.new)
         (W.written writer.old) (W.written writer.new) }
     ensures named { result ≡ REFUSED → (name : List ℕ)
         × (Tells name (F.written faults.old) (F.written faults.new) (F.failures faults.old) (F.failures faults.new))
-        × IsRefusedBy (R.remaining reader.old) (R.remaining reader.new) name }
+        × IsRefusedBy asked.place (R.remaining reader.old) (R.remaining reader.new) name }
     ensures cause { result ≡ FAILURE → (R.failures reader.old < R.failures reader.new) ⊎ ((W.failures writer.old < W.failures writer.new)
         ⊎ (heap.new.refused ≡ true)) }
     ensures memory { result ≢ FAILURE → heap.new.refused ≡ heap.old.refused }
@@ -42,31 +46,63 @@ pub(crate) fn replayed<R: Source, W: Sink, F: Sink>(
     ensures quiet { result < BAD_WORDS → faults.new ≡ faults.old }
     ensures silent { result ≡ REFUSED → writer.new ≡ writer.old }
 {
-    match replay_of_input(heap.alloc, form, reader) {
+    match replay_of_input(heap.alloc, asked, reader) {
         Ok(text) => shown(writer, text.as_slice()),
         Err(halt) => halted(heap, halt, faults),
     }
 }
 
 /// What is to be written, given all that the reader has.
-fn replay_of_input<R: Source>(alloc: Global, form: Form, reader: &mut R) -> Result<Vec<u8>, Halt>
+fn replay_of_input<R: Source>(
+    alloc: Global,
+    asked: ScriptWords,
+    reader: &mut R,
+) -> Result<Vec<u8>, Halt>
     ensures replayed { IfOk result (λ text. IfSome (R.remaining reader.old)
-        (λ input. (R.remaining reader.new ≡ Some []) × IsReplayText form input text.items)) }
-    ensures refused { IfErr result (λ halt. IfSome (name_of halt) (IsRefusedBy (R.remaining reader.old) (R.remaining reader.new))) }
+        (λ input. (R.remaining reader.new ≡ Some []) × IsReplayText asked.form input text.items)) }
+    ensures refused { IfErr result (λ halt. IfSome (name_of halt) (IsRefusedBy asked.place (R.remaining reader.old) (R.remaining reader.new))) }
     ensures reads { CountsReads result (R.failures reader.old) (R.failures reader.new) }
 {
     let input = read_all(alloc, reader)?;
-    replay_of_lines(alloc, form, input.as_slice())
+    replay_of_lines(alloc, asked, input.as_slice())
 }
 
 /// The same, given the lines of the script.
-fn replay_of_lines(alloc: Global, form: Form, input: &[u8]) -> Result<Vec<u8>, Halt>
-    ensures replayed { IfOk result (λ text. IsReplayText form input.now text.items) }
-    ensures refused { IfErr result (λ halt. IfSome (name_of halt) (IsReplayRefusal input.now)) }
+fn replay_of_lines(alloc: Global, asked: ScriptWords, input: &[u8]) -> Result<Vec<u8>, Halt>
+    ensures replayed { IfOk result (λ text. IsReplayText asked.form input.now text.items) }
+    ensures refused { IfErr result (λ halt. IfSome (name_of halt) (IsReplayRefusal asked.place input.now)) }
     ensures read { IfErr result (λ halt. is_read halt ≡ false) }
 {
-    let script = read_script(alloc, input)?;
-    replay_of_script(alloc, form, &script)
+    let script = match read_script(alloc, input) {
+        Ok(script) => script,
+        Err(error) => return Err(no_script(alloc, asked.place, error, input)),
+    };
+    replay_of_script(alloc, asked.form, &script)
+}
+
+/// Why an input that is no script has no output.
+fn no_script(alloc: Global, place: bool, error: ScriptError, input: &[u8]) -> Halt
+    ensures read { is_read result ≡ false }
+    ensures refused { Fails error (script_of input.now) → IfSome (name_of result) (IsReplayRefusal place input.now) }
+{
+    match error {
+        ScriptError::Memory => Halt::Memory,
+        ScriptError::BadScript => match line_told(alloc, place, input) {
+            Ok(line) => halt_at("BadScript", line),
+            Err(Memory) => Halt::Memory,
+        },
+    }
+}
+
+/// The line for which it is none, where that is to be told.
+fn line_told(alloc: Global, place: bool, input: &[u8]) -> Result<Option<u64>, Memory>
+    ensures { IfOk result (λ line. line ≡ told_line place (refused_line_of input.now)) }
+{
+    if place {
+        refused_line(alloc, input)
+    } else {
+        Ok(None)
+    }
 }
 
 /// The same, given the script.

@@ -1,7 +1,7 @@
 //! Exit statuses, and what goes with each.
-ghost use Rattle.std.specs.Prelude.{◌≡◌, ◌≢◌, ◌<◌, ◌⊎◌, IfNone, OnSome, false};
+ghost use Rattle.std.specs.Prelude.{◌≡◌, ◌≢◌, ◌<◌, ◌⊎◌, IfNone, OnSome, Some, false};
 ghost use Rattle.plain.specs.Streams.{Puts, PutsPart};
-ghost use Rattle.commands.specs.Halts.{Tells, refusal_text};
+ghost use Rattle.commands.specs.Halts.{Tells, refusal_text, refused_as};
 
 use plain::{Sink, write_all};
 use std::alloc::Global;
@@ -68,6 +68,36 @@ pub(crate) fn refused<F: Sink>(faults: &mut F, name: &str) -> u8
 {
     let _ = put_refusal(faults, name);
     REFUSED
+}
+
+/// The same of an input that is refused for a line, with `line N` and a line end behind it.
+pub(crate) fn refused_at<F: Sink>(faults: &mut F, name: &str, line: u64) -> u8
+    ensures status { result ≡ REFUSED }
+    ensures all { Tells (refused_as (Some line) name.now) (F.written faults.old) (F.written faults.new) (F.failures faults.old) (F.failures faults.new) }
+{
+    let _ = put_refusal_at(faults, name, line);
+    REFUSED
+}
+
+fn put_refusal_at<F: Sink>(faults: &mut F, name: &str, line: u64) -> Option<()>
+    ensures put { OnSome result (Puts (F.written faults.old) (refusal_text (refused_as (Some line) name.now)) (F.written faults.new)) }
+    ensures failed { IfNone result (F.failures faults.old < F.failures faults.new) }
+{
+    write_all(faults, b"refused: ")?;
+    put_named(faults, name, line)?;
+    write_all(faults, b"\n")
+}
+
+fn put_named<F: Sink>(faults: &mut F, name: &str, line: u64) -> Option<()>
+    ensures put { OnSome result (Puts (F.written faults.old) (refused_as (Some line) name.now) (F.written faults.new)) }
+    ensures well { OnSome result (F.failures faults.new ≡ F.failures faults.old) }
+    ensures failed { IfNone result (F.failures faults.old < F.failures faults.new) }
+{
+    let mut digits = itoa::Buffer::new();
+    let number = digits.format(line);
+    write_all(faults, name.as_bytes())?;
+    write_all(faults, b"\nline ")?;
+    write_all(faults, number.as_bytes())
 }
 
 fn put_refusal<F: Sink>(faults: &mut F, name: &str) -> Option<()>

@@ -1,8 +1,8 @@
 //! What the words of the command line ask for.
-ghost use Rattle.std.specs.Prelude.{◌≡◌, ◌≤◌, [], codes, map, unwrap_or, IfOk};
-ghost use Rattle.clap.specs.Words.{FailsBy, app_of, first_of, found_of, one_of, rows_of, subcommand_rows_of};
-ghost use Rattle.commands.specs.Grammar.{IsCapacityBy, IsChoiceBy, IsDigitsBy, cluster_app, faults_of, outcomes_app, plan_app, replay_app, rows_under, serve_app, stsctl_app};
-ghost use Rattle.commands.specs.Asked.{IsAsked, IsFinding, IsOther, IsScripted, IsServing};
+ghost use Rattle.std.specs.Prelude.{◌≡◌, ◌≤◌, [], false, codes, map, unwrap_or, IfOk};
+ghost use Rattle.clap.specs.Words.{FailsBy, app_of, first_of, found_of, one_of, rows_of, rule_of, subcommand_rows_of};
+ghost use Rattle.commands.specs.Grammar.{IsCapacityBy, IsChoiceBy, IsDigitsBy, cluster_app, faults_of, flag_rule, outcomes_app, plan_app, replay_app, rows_under, serve_app, stsctl_app};
+ghost use Rattle.commands.specs.Asked.{IsAsked, IsFinding, IsOther, IsScriptBy, IsScripted, IsServing};
 ghost use Rattle.commands.specs.Forms.{IsFlagBy};
 
 use crate::flags::{flag_arg, flag_in};
@@ -22,13 +22,21 @@ const DIGITS: u64 = 10;
 const MAX_DIGITS: u64 = 64;
 
 /// What is to be planned: the set of this namespace and name, how many hex digits of its hash the name of a new revision
-/// gets, and whether the actions are written in words.
+/// gets, whether the actions are written in words, and whether a refusal tells its line.
 #[derive(Clone, Copy, Drop)]
 pub(crate) struct PlanWords<'a> {
     pub(crate) namespace: &'a str,
     pub(crate) name: &'a str,
     pub(crate) digits: usize,
     pub(crate) brief: bool,
+    pub(crate) place: bool,
+}
+
+/// What is printed of a script, and whether a refusal tells its line.
+#[derive(Clone, Copy, Drop)]
+pub(crate) struct ScriptWords {
+    pub(crate) form: Form,
+    pub(crate) place: bool,
 }
 
 /// What the words ask for.
@@ -37,9 +45,9 @@ pub(crate) enum Asked<'a> {
     /// To answer requests from a store with room for this many revisions.
     Serve(u64),
     /// To run the events of a script.
-    Replay(Form),
+    Replay(ScriptWords),
     /// To run the controllers of a script, by its events.
-    Cluster(Form),
+    Cluster(ScriptWords),
     /// To plan a set.
     Plan(PlanWords<'a>),
     /// To let controllers race.
@@ -48,8 +56,8 @@ pub(crate) enum Asked<'a> {
     Outcomes(Option<u64>),
 }
 
-/// What the program takes: `serve [--capacity N]`, `replay [--picture] [--writes]`, `cluster [--picture] [--writes]`,
-/// `plan --set NAME [--namespace NS] [--digits H] [--brief]`, `race [--controllers N] [--shards N] [--rounds N] [--replicas N] [--operator] [--history]`, and `outcomes [--script K]`, and what `clap` adds
+/// What the program takes: `serve [--capacity N]`, `replay [--picture] [--writes] [--where]`, `cluster [--picture] [--writes] [--where]`,
+/// `plan --set NAME [--namespace NS] [--digits H] [--brief] [--where]`, `race [--controllers N] [--shards N] [--rounds N] [--replicas N] [--operator] [--history]`, and `outcomes [--script K]`, and what `clap` adds
 /// for help and the version.
 fn grammar<'a>(alloc: Global) -> Result<Command<'a>, AllocError>
     ensures { IfOk result (λ c. app_of c ≡ stsctl_app) }
@@ -92,7 +100,8 @@ fn replay_grammar<'a>(alloc: Global) -> Result<Command<'a>, AllocError>
         )
         .after_help(REPLAY_END)
         .arg(picture_arg(alloc))?
-        .arg(writes_arg(alloc))
+        .arg(writes_arg(alloc))?
+        .arg(where_arg(alloc))
 }
 
 fn cluster_grammar<'a>(alloc: Global) -> Result<Command<'a>, AllocError>
@@ -104,7 +113,8 @@ fn cluster_grammar<'a>(alloc: Global) -> Result<Command<'a>, AllocError>
         )
         .after_help(CLUSTER_END)
         .arg(picture_arg(alloc))?
-        .arg(writes_arg(alloc))
+        .arg(writes_arg(alloc))?
+        .arg(where_arg(alloc))
 }
 
 fn outcomes_grammar<'a>(alloc: Global) -> Result<Command<'a>, AllocError>
@@ -153,7 +163,8 @@ fn plan_grammar<'a>(alloc: Global) -> Result<Command<'a>, AllocError>
         .arg(set)?
         .arg(namespace)?
         .arg(digits)?
-        .arg(brief)
+        .arg(brief)?
+        .arg(where_arg(alloc))
 }
 
 /// What the words ask for. An `Err` is also a call for help or for the version.
@@ -183,7 +194,7 @@ fn scripted_in<'a>(matches: &ArgMatches<'_>) -> Asked<'a>
     ensures { IsScripted (subcommand_rows_of matches.now) result }
 {
     match matches.subcommand_matches("replay") {
-        Some(replay) => Asked::Replay(form_in(replay)),
+        Some(replay) => Asked::Replay(script_words(replay)),
         None => serving_in(matches),
     }
 }
@@ -193,7 +204,7 @@ fn serving_in<'a>(matches: &ArgMatches<'_>) -> Asked<'a>
     ensures { IsServing (subcommand_rows_of matches.now) result }
 {
     match matches.subcommand_matches("cluster") {
-        Some(cluster) => Asked::Cluster(form_in(cluster)),
+        Some(cluster) => Asked::Cluster(script_words(cluster)),
         None => finding_in(matches),
     }
 }
@@ -206,6 +217,28 @@ fn finding_in<'a>(matches: &ArgMatches<'_>) -> Asked<'a>
         Some(outcomes) => Asked::Outcomes(choice_in(outcomes)),
         None => Asked::Serve(capacity_in(matches)),
     }
+}
+
+/// What the words after `replay` or `cluster` say.
+fn script_words(matches: &ArgMatches<'_>) -> ScriptWords
+    ensures { IsScriptBy (λ flag. one_of flag (rows_of (found_of matches.now))) result }
+{
+    ScriptWords {
+        form: form_in(matches),
+        place: flag_in(matches, "where"),
+    }
+}
+
+/// The flag `--where`.
+fn where_arg<'a>(alloc: Global) -> Arg<'a>
+    ensures rule { rule_of result ≡ flag_rule (codes "where") }
+    ensures own { result.global ≡ false }
+{
+    flag_arg(
+        alloc,
+        "where",
+        "Tell the number of the line for which the input is refused, as `line 7`",
+    )
 }
 
 /// The number after `--script`.
@@ -234,11 +267,13 @@ fn plan_words<'a>(matches: &ArgMatches<'a>) -> PlanWords<'a>
     ensures some { 1 ≤ result.digits }
     ensures most { result.digits ≤ 64 }
     ensures brief { IsFlagBy (one_of (codes "brief") (rows_of (found_of matches.now))) result.brief }
+    ensures place { IsFlagBy (one_of (codes "where") (rows_of (found_of matches.now))) result.place }
 {
     PlanWords {
         namespace: matches.get_str("namespace").unwrap_or("default"),
         name: matches.get_str("set").unwrap_or(""),
         digits: number_in(matches, "digits", DIGITS, 1, MAX_DIGITS) as usize,
         brief: flag_in(matches, "brief"),
+        place: flag_in(matches, "where"),
     }
 }

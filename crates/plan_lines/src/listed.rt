@@ -69,7 +69,11 @@ pub fn read_objects(alloc: Global, text: &[u8]) -> Result<Listed, ReadError>
 
 // The object that a line is.
 #[tactic(auto, using(objects::proofs::Chains::fails_then), unfolding(objects::specs::Reading::reading))]
-pub(crate) fn read_line(alloc: Global, reader: &mut TreeReader, line: &[u8]) -> Result<Draft, ReadError>
+pub(crate) fn read_line(
+    alloc: Global,
+    reader: &mut TreeReader,
+    line: &[u8],
+) -> Result<Draft, ReadError>
     ensures { Gives (λ draft. draft) result (reading line.now) }
 {
     let tree = reader.read(line)?;

@@ -8,12 +8,12 @@ use Rattle.commands.proofs.replay.replayed.Goals as goal
 
 pub returns-in-Ok-clause-replayed : goal.returns-in-Ok-clause-replayed
 returns-in-Ok-clause-replayed g c = λ is.
-    writes_by Puts (IsReplayText c.args.form) (g.R.Source.remaining c.args.reader.now) (g.R.Source.remaining c.replay_of_input.new.reader) (g.W.Sink.written c.args.writer.now)
+    writes_by Puts (IsReplayText c.args.asked.form) (g.R.Source.remaining c.args.reader.now) (g.R.Source.remaining c.replay_of_input.new.reader) (g.W.Sink.written c.args.writer.now)
     (g.W.Sink.written c.shown.new.writer) c.in-Ok.text.items c.as_slice.result.now c.in-Ok.ensures.replayed (c.shown.ensures.all is) c.as_slice.ensures.value
 
 pub returns-in-Ok-clause-part : goal.returns-in-Ok-clause-part
 returns-in-Ok-clause-part g c = λ is.
-    inr (writes_by PutsPart (IsReplayText c.args.form) (g.R.Source.remaining c.args.reader.now) (g.R.Source.remaining c.replay_of_input.new.reader)
+    inr (writes_by PutsPart (IsReplayText c.args.asked.form) (g.R.Source.remaining c.args.reader.now) (g.R.Source.remaining c.replay_of_input.new.reader)
     (g.W.Sink.written c.args.writer.now) (g.W.Sink.written c.shown.new.writer) c.in-Ok.text.items c.as_slice.result.now c.in-Ok.ensures.replayed c.shown.ensures.part
     c.as_slice.ensures.value)
 
@@ -24,7 +24,7 @@ pub returns-in-Err-clause-named : goal.returns-in-Err-clause-named
 returns-in-Err-clause-named g c = λ is.
     named_and (name_of c.in-Err.halt)
     (λ name. Tells name (g.F.Sink.written c.args.faults.now) (g.F.Sink.written c.halted.new.faults) (g.F.Sink.failures c.args.faults.now) (g.F.Sink.failures c.halted.new.faults))
-    (IsRefusedBy (g.R.Source.remaining c.args.reader.now) (g.R.Source.remaining c.replay_of_input.new.reader)) (c.halted.ensures.named is) c.in-Err.ensures.refused
+    (IsRefusedBy c.args.asked.place (g.R.Source.remaining c.args.reader.now) (g.R.Source.remaining c.replay_of_input.new.reader)) (c.halted.ensures.named is) c.in-Err.ensures.refused
 
 pub returns-in-Ok-clause-spared : goal.returns-in-Ok-clause-spared
 returns-in-Ok-clause-spared g c = λ failed. refl

@@ -27,4 +27,5 @@ returns c =
     let three_is : app_of c.in_ok-arg-3.field-0 ≡ with_rule (with_rule (with_rule (new_app (codes "plan")) set_rule) namespace_rule) digits_rule =
     c.in_ok-arg-3.ensures.shape c.number_arg-digits.ensures.own ∙ ap₂ with_rule two_is digits_is in
     let brief = c.flag_arg-brief.ensures in
-    IfOk-weaker c.arg-4.result _ _ (λ r h. h.shape brief.own ∙ ap₂ with_rule three_is brief.rule) c.arg-4.ensures
+    let four_is = c.in_ok-arg-4.ensures.shape brief.own ∙ ap₂ with_rule three_is brief.rule in
+    IfOk-weaker c.arg-5.result _ _ (λ r h. h.shape c.where_arg.ensures.own ∙ ap₂ with_rule four_is c.where_arg.ensures.rule) c.arg-5.ensures

@@ -8,7 +8,7 @@ use Rattle.commands.specs.Asked.{IsAsked}
 use Rattle.commands.specs.Forms.{IsFlagBy}
 use Rattle.commands.specs.Grammar.{IsDigitsBy, faults_of, rows_under, stsctl_app}
 use Rattle.commands.proofs.Asked.{failed, parsed}
-use Rattle.commands.proofs.Serving.{asked-plan, brief-is, digits-is, false-true, met, other_asked, plan-is, rows-met, under-met, under-unmet}
+use Rattle.commands.proofs.Serving.{asked-plan, digits-is, false-true, met, other_asked, plan-is, plan_flag-is, rows-met, under-met, under-unmet}
 use Rattle.commands.proofs.words.read_words.Goals.{in-Some, in-None}
 use Rattle.commands.proofs.words.read_words.Goals as goal
 
@@ -44,7 +44,8 @@ returns-clause-asked g c =
               subst (λ t. IsDigitsBy t w.plan_words.result.digits) (digits-is words m (rows_of (found_of plan)) same rows) says.digits,
               says.some,
               says.most,
-              subst (λ t. IsFlagBy t w.plan_words.result.brief) (brief-is words m (rows_of (found_of plan)) same rows) says.brief,
+              subst (λ t. IsFlagBy t w.plan_words.result.brief) (plan_flag-is words m (codes "brief") (rows_of (found_of plan)) same rows) says.brief,
+              subst (λ t. IsFlagBy t w.plan_words.result.place) (plan_flag-is words m (codes "where") (rows_of (found_of plan)) same rows) says.place,
             ),
           ) in
           subst (λ (a : Asked). IsAsked words a) (sym w.result-is) asked

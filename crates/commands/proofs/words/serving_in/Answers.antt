@@ -1,6 +1,6 @@
 use Rattle.std.proofs.Common.{codes, refl, subst, sym}
 use Rattle.clap.specs.Words.{found_of, one_of, rows_of}
-use Rattle.commands.specs.Forms.{IsFormBy}
+use Rattle.commands.specs.Asked.{IsScriptBy}
 use Rattle.commands.proofs.Serving.{false-true, found_serving, rows-met, under-met, under-unmet}
 use Rattle.commands.proofs.words.serving_in.Goals as goal
 
@@ -9,8 +9,8 @@ returns-in-Some c =
     let m = c.args.matches.now in
     let named = c.in-Some.ensures.found.0 refl in (
       under-met (codes "cluster") m named,
-      subst (λ rs. IsFormBy (λ flag. one_of flag rs) c.form_in.result)
-          (sym (rows-met (codes "cluster") m (rows_of (found_of c.in-Some.cluster.now)) named c.in-Some.ensures.rows)) c.form_in.ensures,
+      subst (λ rs. IsScriptBy (λ flag. one_of flag rs) c.script_words.result)
+          (sym (rows-met (codes "cluster") m (rows_of (found_of c.in-Some.cluster.now)) named c.in-Some.ensures.rows)) c.script_words.ensures,
     )
 
 pub returns-in-None : goal.returns-in-None
