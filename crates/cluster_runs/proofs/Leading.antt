@@ -56,7 +56,7 @@ module _ {X : Type 0} (reconciler : X → Reconciler) (phase : X → Phase) (is_
       → Leads reconciler phase is_waiting a b old mid before between → Leads reconciler phase is_waiting b c mid new between now → Leads reconciler phase is_waiting a c old new before now
   leads_on a b c old mid new before between now = comes_on (IsShownAs reconciler phase is_waiting new now) a b c old mid before between
 
-  abbrev AreSame : (a b : Course) → Program → List X → Type 0
+  abbrev pub AreSame : (a b : Course) → Program → List X → Type 0
   AreSame a b old before =
       (z : Size) (reconcilers : ℕ → Reconciler) (k : Cluster) → Shows reconciler phase is_waiting z reconcilers k old before → a z (length before) reconcilers k ≡ b z (length before) reconcilers k
 

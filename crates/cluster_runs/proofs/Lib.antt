@@ -14,4 +14,5 @@ pub mod Calling
 pub mod Showing
 pub mod Leading
 pub mod Parts
+pub mod Going
 pub mod Turning

@@ -1,8 +1,8 @@
 -- Rounds of controllers and turns of a kubelet, part by part.
-use Rattle.std.proofs.Common.{◌≡◌, ◌<◌, ◌≤◌, ◌+◌, ◌-◌, ◌∷◌, [], ℕ, suc, Bool, true, false, cond, List, length, drop, Option, None, refl, sym, ap, ◌∙◌, subst, arith, get_or, add-one, drop-cons}
+use Rattle.std.proofs.Common.{◌≡◌, ◌<◌, ◌≤◌, ◌+◌, ◌-◌, ◌∷◌, [], ℕ, suc, Bool, true, false, cond, List, length, drop, Option, None, refl, sym, ap, ◌∙◌, subst, arith, get_or, add-one, drop-cons, lt-ltb}
 use Rattle.std.proofs.lemmas.List.{drop_all}
 use Rattle.std.specs.List.{range_with_len}
-use Rattle.std.specs.Prelude.{if◌then◌else◌}
+use Rattle.std.specs.Prelude.{nat_lt}
 use Rattle.requests.specs.declared.reply.Reply.{Reply}
 use Rattle.requests.specs.declared.request.Request.{Request}
 use Rattle.interleavings.specs.Trace.{after}
@@ -13,7 +13,7 @@ use Rattle.cluster_runs.specs.declared.event.ClusterEvent.TheVariants.{Outside}
 use Rattle.cluster_runs.specs.Cluster.{Cluster, is_idle}
 use Rattle.cluster_runs.specs.Leading.{Halts, Leads, Peeks}
 use Rattle.cluster_runs.specs.Shown.{Shows}
-use Rattle.cluster_runs.specs.Turns.{Course, asked, asked_as, carried, ends_with, event_and, followed_by, is_idle_at, is_within, most_requests, nothing, round, round_in, rounds_of, settled_as, settled_once}
+use Rattle.cluster_runs.specs.Turns.{Course, approach, asked, asked_as, asked_while, carried, ends_with, event_and, followed_by, if_next, if_there, is_idle_at, is_read_within, is_within, is_write, most_requests, nothing, round, rounds_of, settled_as, settled_once}
 use Rattle.cluster_runs.specs.declared.cluster.Cluster.{Cluster as Program}
 use Rattle.cluster_runs.specs.declared.fault.ClusterFault.{ClusterFault}
 use Rattle.cluster_runs.proofs.Leading.{first_halts, first_leads, halts_on, leads_on, self_leads}
@@ -21,7 +21,7 @@ use Rattle.cluster_runs.proofs.Showing.{present_at}
 
 -- ---- one part after another
 
-drop_at : {A : Type 0} (xs : List A) (i : ℕ) (x : A) → i < length xs → x ≡ get_or xs i x → drop i xs ≡ x ∷ drop (i + 1) xs
+pub drop_at : {A : Type 0} (xs : List A) (i : ℕ) (x : A) → i < length xs → x ≡ get_or xs i x → drop i xs ≡ x ∷ drop (i + 1) xs
 drop_at xs i x low is = rw add-one (drop-cons xs i x low ∙ ap (λ y. y ∷ drop (suc i) xs) (sym is))
 
 module _ {X : Type 0} (reconciler : X → Reconciler) (phase : X → Phase) (is_waiting : X → Bool) {A : Type 0} (each : List A → Course) (one : A → Course)
@@ -50,35 +50,46 @@ module _ {X : Type 0} (reconciler : X → Reconciler) (phase : X → Phase) (is_
   pub walked_all : (i : ℕ) (old new : Program) (before now : List X) → length xs ≤ i → Walked i old new before now → Leads reconciler phase is_waiting whole nothing old new before now
   walked_all i old new before now past walked = subst (λ c. Leads reconciler phase is_waiting whole c old new before now) (ap each (drop_all i xs past) ∙ none) walked
 
--- ---- a round
+-- ---- asking on
 
--- what comes after a request of it
-abbrev pub then_round : (requests controller : ℕ) → Course
-then_round requests c = λ z count reconcilers k. if is_within z reconcilers k c then round_in requests c z count reconcilers k else ([], None)
+pub asked_on : (such : Request → Bool) (requests c : ℕ) → asked_while such (suc requests) c ≡ followed_by (asked c) (λ delivered. if_next such c (asked_while such requests c) nothing)
+unfolding asked_while
+asked_on such requests c = refl
 
-pub round_on : (requests c : ℕ) → round_in (suc requests) c ≡ followed_by (asked c) (λ delivered. then_round requests c)
-unfolding round_in
-round_on requests c = refl
+pub asked_none : (such : Request → Bool) (c : ℕ) → asked_while such 0 c ≡ nothing
+unfolding asked_while
+asked_none such c = refl
 
-pub round_none : (c : ℕ) → round_in 0 c ≡ nothing
-unfolding round_in
-round_none c = refl
+pub round_is : (c : ℕ) → round c ≡ asked_while is_within most_requests c
+unfolding round
+round_is c = refl
+
+pub approach_is : (c : ℕ) → approach c ≡ if_next is_write c nothing (asked_while is_read_within most_requests c)
+unfolding approach
+approach_is c = refl
 
 module _ {X : Type 0} (reconciler : X → Reconciler) (phase : X → Phase) (is_waiting : X → Bool) where
-  pub round_begins : (c : ℕ) (old : Program) (before : List X) → Leads reconciler phase is_waiting (round c) (round_in most_requests c) old old before before
-  unfolding round
-  round_begins c old before = self_leads reconciler phase is_waiting (round c) old before
+  pub peek_leads : (such : Request → Bool) (c : ℕ) (one other : Course) (is : Bool) (program : Program) (before now : List X) → Peeks reconciler phase is_waiting such c is program before now
+      → Leads reconciler phase is_waiting (if_next such c one other) (cond is one other) program program before now
+  peek_leads such c one other true program before now peeks z reconcilers k shows =
+      let peek = peeks z reconcilers k shows in
+      let is = ap (λ b. cond b (one z (length before) reconcilers k) (other z (length before) reconcilers k)) peek.0 in
+      record { done = []; whole_is = ap (λ (o : List _ × Option Reply). o.0) is; delivered_is = ap (λ (o : List _ × Option Reply). o.1) is; holds = peek.1 }
+  peek_leads such c one other false program before now peeks z reconcilers k shows =
+      let peek = peeks z reconcilers k shows in
+      let is = ap (λ b. cond b (one z (length before) reconcilers k) (other z (length before) reconcilers k)) peek.0 in
+      record { done = []; whole_is = ap (λ (o : List _ × Option Reply). o.0) is; delivered_is = ap (λ (o : List _ × Option Reply). o.1) is; holds = peek.1 }
 
-  pub peek_leads : (requests c : ℕ) (within : Bool) (program : Program) (before now : List X) → Peeks reconciler phase is_waiting c within program before now
-      → Leads reconciler phase is_waiting (then_round requests c) (cond within (round_in requests c) nothing) program program before now
-  peek_leads requests c true program before now peeks z reconcilers k shows =
-      let peek = peeks z reconcilers k shows in
-      let is = ap (λ b. cond b (round_in requests c z (length before) reconcilers k) ([], None)) peek.0 in
-      record { done = []; whole_is = ap (λ (o : List _ × Option Reply). o.0) is; delivered_is = ap (λ (o : List _ × Option Reply). o.1) is; holds = peek.1 }
-  peek_leads requests c false program before now peeks z reconcilers k shows =
-      let peek = peeks z reconcilers k shows in
-      let is = ap (λ b. cond b (round_in requests c z (length before) reconcilers k) ([], None)) peek.0 in
-      record { done = []; whole_is = ap (λ (o : List _ × Option Reply). o.0) is; delivered_is = ap (λ (o : List _ × Option Reply). o.1) is; holds = peek.1 }
+  -- of a controller that is there, and of one that is not
+  pub is_there : (c : ℕ) (course : Course) (old : Program) (before : List X) → c < length before
+      → (z : Size) (reconcilers : ℕ → Reconciler) (k : Cluster) → Shows reconciler phase is_waiting z reconcilers k old before
+      → if_there c course z (length before) reconcilers k ≡ course z (length before) reconcilers k
+  is_there c course old before low z reconcilers k shows = ap (λ b. cond b (course z (length before) reconcilers k) ([], None)) (lt-ltb c (length before) low)
+
+  pub is_absent : (c : ℕ) (course : Course) (old : Program) (before : List X) → nat_lt c (length before) ≡ false
+      → (z : Size) (reconcilers : ℕ → Reconciler) (k : Cluster) → Shows reconciler phase is_waiting z reconcilers k old before
+      → if_there c course z (length before) reconcilers k ≡ ([], None)
+  is_absent c course old before none z reconcilers k shows = ap (λ b. cond b (course z (length before) reconcilers k) ([], None)) none
 
 -- ---- requests
 

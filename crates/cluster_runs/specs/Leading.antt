@@ -1,5 +1,6 @@
 -- How the program goes along a course.
-use Rattle.std.specs.Prelude.{◌≡◌, ◌<◌, ◌≤◌, ◌++◌, ℕ, Bool, List, length, take}
+use Rattle.std.specs.Prelude.{◌≡◌, ◌<◌, ◌≤◌, ◌++◌, ℕ, Bool, List, None, length, take}
+use Rattle.requests.specs.declared.request.Request.{Request}
 use Rattle.interleavings.specs.World.{Size}
 use Rattle.rounds.specs.Phase.{Phase}
 use Rattle.rounds.specs.Reconciler.{Reconciler}
@@ -7,12 +8,15 @@ use Rattle.rounds.specs.World.{StandAt}
 use Rattle.cluster_runs.specs.declared.event.ClusterEvent.{ClusterEvent}
 use Rattle.cluster_runs.specs.Cluster.{Cluster, run}
 use Rattle.cluster_runs.specs.Shown.{Shows}
-use Rattle.cluster_runs.specs.Turns.{Course, ends_with, is_within}
+use Rattle.cluster_runs.specs.Turns.{Course, ends_from, ends_with, is_next, is_read_within, is_within, is_write}
 use Rattle.cluster_runs.specs.declared.carrying.Advance.{Advance}
 use Rattle.cluster_runs.specs.declared.carrying.Advance.TheVariants.{On, Over}
 use Rattle.cluster_runs.specs.declared.cluster.Cluster.{Cluster as Program}
 use Rattle.cluster_runs.specs.declared.fault.ClusterFault.{ClusterFault}
 use Rattle.cluster_runs.specs.declared.fault.ClusterFault.TheVariants.{TooManyCallers}
+use Rattle.cluster_runs.specs.declared.rounding.Meant.{Meant}
+use Rattle.cluster_runs.specs.declared.rounding.Meant.TheVariants.{ReadWithin, Within, Write}
+use Rattle.cluster_runs.specs.declared.turn.Turn.{Turn}
 
 -- what is said of a cluster
 abbrev pub Claim : Type 1
@@ -52,11 +56,22 @@ module _ {X : Type 0} (reconciler : X → Reconciler) (phase : X → Phase) (is_
   abbrev pub Halts : ClusterFault → Course → Program → (before now : List X) → Type 0
   Halts fault whole old before now = (left : Course) × Comes (StandsStill fault left now) whole left old before
 
--- Whether the round of the controller goes on is known, and it stands where it stood.
+  -- where the turns come, one after another
+  abbrev pub ComesTo : (namespaces : List (List ℕ)) → List Turn → (ends : List ℕ) → Program → List X → Type 0
+  ComesTo namespaces turns ends old before = (z : Size) (reconcilers : ℕ → Reconciler) (k : Cluster) → Shows reconciler phase is_waiting z reconcilers k old before
+      → ends ≡ ends_from None namespaces turns z (length before) reconcilers k
+
+-- Whether the controller's next request is such a one is known, and it stands where it stood.
 module _ {X : Type 0} (reconciler : X → Reconciler) (phase : X → Phase) (is_waiting : X → Bool) where
-  abbrev pub Peeks : (controller : ℕ) → Bool → Program → (before now : List X) → Type 0
-  Peeks c within program before now = (z : Size) (reconcilers : ℕ → Reconciler) (k : Cluster) → Shows reconciler phase is_waiting z reconcilers k program before
-      → (is_within z reconcilers k c ≡ within) × Shows reconciler phase is_waiting z reconcilers k program now
+  abbrev pub Peeks : (such : Request → Bool) → (controller : ℕ) → Bool → Program → (before now : List X) → Type 0
+  Peeks such c is program before now = (z : Size) (reconcilers : ℕ → Reconciler) (k : Cluster) → Shows reconciler phase is_waiting z reconcilers k program before
+      → (is_next such z reconcilers k c ≡ is) × Shows reconciler phase is_waiting z reconcilers k program now
+
+-- the requests that are meant
+abbrev pub is_meant : Meant → Request → Bool
+is_meant Within = is_within
+is_meant ReadWithin = is_read_within
+is_meant Write = is_write
 
 -- what is left after a step
 abbrev pub after_step : Advance → (next : Course) → Course

@@ -1,5 +1,5 @@
 -- The events that short lines of a script stand for: each time those that come next, over the cluster as the ones before left it.
-use Rattle.std.specs.Prelude.{ℕ, zero, suc, Bool, true, false, not, ◌&&◌, nat_lt, List, [], ◌∷◌, ◌++◌, Option, Some, None, if◌then◌else◌}
+use Rattle.std.specs.Prelude.{ℕ, zero, suc, Bool, true, false, not, ◌&&◌, nat_lt, List, [], ◌∷◌, ◌++◌, length, Option, Some, None, if◌then◌else◌}
 use Rattle.std.specs.List.{range_with_len}
 use Rattle.objects.specs.declared.kind.Kind.TheVariants.{Pod}
 use Rattle.requests.specs.declared.reply.Reply.{Reply}
@@ -74,37 +74,75 @@ unfoldable pub carried : (caller : ℕ) → Course
 carried n = carried_in most_steps n
 
 -- of a controller that is there
+abbrev pub if_there : (controller : ℕ) → Course → Course
+if_there c course = λ z count reconcilers k. if nat_lt c count then course z count reconcilers k else ([], None)
+
+-- what the controller's caller has open is carried on
+abbrev pub own_carried : (controller : ℕ) → Course
+own_carried c = λ z count reconcilers k. carried (k.callers c) z count reconcilers k
+
 abbrev pub run_of : (controller : ℕ) → Course
-run_of c = λ z count reconcilers k. if nat_lt c count then carried (k.callers c) z count reconcilers k else ([], None)
+run_of c = if_there c (own_carried c)
 
 -- ---- a controller's round
 abbrev pub is_idle_at : Size → Cluster → (caller : ℕ) → Bool
 is_idle_at z k n = is_idle ((after z opening k.events).phase n)
 
--- the controller calls its next request, which is carried to its reply
+-- the controller calls its next request, which is carried to its reply; one that is still open is carried on
 abbrev pub asked : (controller : ℕ) → Course
-asked c = event_and (Next c) (λ z count reconcilers k. carried (k.callers c) z count reconcilers k)
+asked c = event_and (Next c) (own_carried c)
+
+-- it got its reply, and the request that it asks next is such a one
+abbrev pub is_next : (such : Request → Bool) → Size → (ℕ → Reconciler) → Cluster → (controller : ℕ) → Bool
+is_next such z reconcilers k c = is_idle_at z k (k.callers c) && such (asks (reconcilers c) (k.phases c))
+
+-- one course where it is so, and else another
+abbrev pub if_next : (such : Request → Bool) → (controller : ℕ) → (one other : Course) → Course
+if_next such c one other = λ z count reconcilers k. if is_next such z reconcilers k c then one z count reconcilers k else other z count reconcilers k
+
+-- it asks once, and then on while its next request is such a one
+unfoldable pub asked_while : (such : Request → Bool) → (requests controller : ℕ) → Course
+asked_while such zero c = nothing
+asked_while such (suc requests) c = followed_by (asked c) (λ delivered. if_next such c (asked_while such requests c) nothing)
+
+-- more requests no round has
+abbrev pub most_requests : ℕ
+most_requests = 4294967296
 
 -- a round begins with the read of the set
 abbrev pub begins : Request → Bool
 begins (request.Get k) = true
 begins r = false
 
--- it got its reply, and the request that it asks next does not begin a round
-abbrev pub is_within : Size → (ℕ → Reconciler) → Cluster → (controller : ℕ) → Bool
-is_within z reconcilers k c = is_idle_at z k (k.callers c) && not (begins (asks (reconcilers c) (k.phases c)))
+abbrev pub is_within : Request → Bool
+is_within r = not (begins r)
 
-unfoldable pub round_in : (requests controller : ℕ) → Course
-round_in zero c = nothing
-round_in (suc requests) c =
-    followed_by (asked c) (λ delivered z count reconcilers k. if is_within z reconcilers k c then round_in requests c z count reconcilers k else ([], None))
-
--- more requests no round has
-abbrev pub most_requests : ℕ
-most_requests = 4294967296
-
+-- up to the end of its round, or to a reply that does not come
 unfoldable pub round : (controller : ℕ) → Course
-round c = round_in most_requests c
+round c = asked_while is_within most_requests c
+
+abbrev pub round_of : (controller : ℕ) → Course
+round_of c = if_there c (round c)
+
+-- ---- approach: a controller's round up to its next write
+-- a get or a list
+abbrev pub is_read : Request → Bool
+is_read (request.Get k) = true
+is_read (request.List kind namespace exact) = true
+is_read r = false
+
+abbrev pub is_write : Request → Bool
+is_write r = not (is_read r)
+
+abbrev pub is_read_within : Request → Bool
+is_read_within r = is_within r && is_read r
+
+-- It stops before it calls a write, at the end of its round, or where a reply does not come.
+unfoldable pub approach : (controller : ℕ) → Course
+approach c = if_next is_write c nothing (asked_while is_read_within most_requests c)
+
+abbrev pub approach_of : (controller : ℕ) → Course
+approach_of c = if_there c (approach c)
 
 -- one after another
 abbrev pub rounds_of : (controllers : List ℕ) → Course
@@ -144,19 +182,48 @@ unfoldable pub settled_as : (rounds kubelet : ℕ) → (namespaces : List (List 
 settled_as zero n namespaces = nothing
 settled_as (suc rounds) n namespaces = followed_by (settled_once n namespaces) (λ delivered. settled_as rounds n namespaces)
 
-abbrev pub settled : (rounds : ℕ) → (namespaces : List (List ℕ)) → Course
-settled rounds namespaces = λ z count reconcilers k. settled_as rounds (lowest_unused k) namespaces z count reconcilers k
+-- where there is no kubelet, nothing
+abbrev pub settled : (kubelet : Option ℕ) → (rounds : ℕ) → (namespaces : List (List ℕ)) → Course
+settled None rounds namespaces = nothing
+settled (Some n) rounds namespaces = settled_as rounds n namespaces
 
 -- ---- what turns stand for
-abbrev pub course_of : (namespaces : List (List ℕ)) → Turn → Course
-course_of namespaces (turn.Event e) = event_and e nothing
-course_of namespaces (turn.Run c) = run_of c
-course_of namespaces (turn.Settle rounds) = settled rounds namespaces
+-- the caller that the kubelet is as the turn goes: the first turn that lets it go takes the lowest one that was not used, and it
+-- stays that one
+abbrev pub kubelet_first : Cluster → Turn → Option ℕ
+kubelet_first k (turn.Settle rounds) = if nat_lt 0 rounds then Some (lowest_unused k) else None
+kubelet_first k t = None
 
-abbrev pub course_of_all : (namespaces : List (List ℕ)) → List Turn → Course
-course_of_all namespaces [] = nothing
-course_of_all namespaces (t ∷ ts) = followed_by (course_of namespaces t) (λ delivered. course_of_all namespaces ts)
+abbrev pub kubelet_at : (kubelet : Option ℕ) → Cluster → Turn → Option ℕ
+kubelet_at (Some n) k t = Some n
+kubelet_at None k t = kubelet_first k t
+
+abbrev pub course_of : (kubelet : Option ℕ) → (namespaces : List (List ℕ)) → Turn → Course
+course_of kubelet namespaces (turn.Event e) = event_and e nothing
+course_of kubelet namespaces (turn.Run c) = run_of c
+course_of kubelet namespaces (turn.RunCaller n) = carried n
+course_of kubelet namespaces (turn.Ask n r) = asked_as n r
+course_of kubelet namespaces (turn.Round c) = round_of c
+course_of kubelet namespaces (turn.Approach c) = approach_of c
+course_of kubelet namespaces (turn.Settle rounds) = settled kubelet rounds namespaces
+
+abbrev pub course_of_all : (kubelet : Option ℕ) → (namespaces : List (List ℕ)) → List Turn → Course
+course_of_all kubelet namespaces [] = nothing
+course_of_all kubelet namespaces (t ∷ ts) = λ z count reconcilers k.
+    let now = kubelet_at kubelet k t in
+    followed_by (course_of now namespaces t) (λ delivered. course_of_all now namespaces ts) z count reconcilers k
 
 -- the events of a whole run, where the controllers' sets have these namespaces
 unfoldable pub events_of_turns : Size → ℕ → (ℕ → Reconciler) → (namespaces : List (List ℕ)) → List Turn → List ClusterEvent
-events_of_turns z count reconcilers namespaces turns = (course_of_all namespaces turns z count reconcilers (start count)).0
+events_of_turns z count reconcilers namespaces turns = (course_of_all None namespaces turns z count reconcilers (start count)).0
+
+-- how many events had been handed on to the store as each turn was done
+abbrev pub ends_from : (kubelet : Option ℕ) → (namespaces : List (List ℕ)) → List Turn → Size → ℕ → (ℕ → Reconciler) → Cluster → List ℕ
+ends_from kubelet namespaces [] z count reconcilers k = []
+ends_from kubelet namespaces (t ∷ ts) z count reconcilers k =
+    let now = kubelet_at kubelet k t in
+    let next = run z count reconcilers k (course_of now namespaces t z count reconcilers k).0 in
+    length next.events ∷ ends_from now namespaces ts z count reconcilers next
+
+unfoldable pub ends_of_turns : Size → ℕ → (ℕ → Reconciler) → (namespaces : List (List ℕ)) → List Turn → List ℕ
+ends_of_turns z count reconcilers namespaces turns = ends_from None namespaces turns z count reconcilers (start count)

@@ -4,8 +4,10 @@ ghost use Rattle.std.specs.Ordering.{nat_cmp};
 ghost use Rattle.cluster_runs.specs.Cluster.{Cluster, controller_at, is_used, lowest_unused, start, with_crash, with_used};
 ghost use Rattle.cluster_runs.specs.Callers.{AreCallers};
 ghost use Rattle.cluster_runs.specs.Faults.{IsShort};
+ghost use Rattle.cluster_runs.specs.Turns.{kubelet_at, kubelet_first};
 
 use crate::fault::ClusterFault;
+use crate::turn::Turn;
 use history::MAX_CALLERS;
 use std::alloc::Global;
 use std::collections::BTreeMap;
@@ -113,10 +115,34 @@ impl Callers {
         (self.unused..limit).find(|caller| !self.owners.contains_key(caller))
     }
 
+    /// The caller that the kubelet is as the turn goes: the first turn that lets it go takes the lowest one that was not used.
+    pub(crate) fn kubelet_at(&self, kubelet: Option<u64>, turn: &Turn) -> Option<u64>
+        ensures { (count : ℕ) (k : Cluster) → AreCallers count k self.now → result ≡ kubelet_at kubelet k turn.now }
+    {
+        match kubelet {
+            Some(caller) => Some(caller),
+            None => self.kubelet_first(turn),
+        }
+    }
+
+    fn kubelet_first(&self, turn: &Turn) -> Option<u64>
+        ensures { (count : ℕ) (k : Cluster) → AreCallers count k self.now → result ≡ kubelet_first k turn.now }
+    {
+        match turn {
+            Turn::Settle { rounds } => self.fresh_if(0 < *rounds),
+            _ => None,
+        }
+    }
+
+    fn fresh_if(&self, wanted: bool) -> Option<u64>
+        ensures { (count : ℕ) (k : Cluster) → AreCallers count k self.now → result ≡ (if wanted then Some (lowest_unused k) else None) }
+    {
+        if wanted { self.fresh() } else { None }
+    }
+
     /// The lowest caller that was not used. There is one: no more than the most were used.
-    pub(crate) fn fresh(&self) -> Option<u64>
-        ensures lowest { IfSome result (λ n. (count : ℕ) (k : Cluster) → AreCallers count k self.now → n ≡ lowest_unused k) }
-        ensures there { result ≡ None → (count : ℕ) (k : Cluster) → AreCallers count k self.now → ⊥ }
+    fn fresh(&self) -> Option<u64>
+        ensures { (count : ℕ) (k : Cluster) → AreCallers count k self.now → result ≡ Some (lowest_unused k) }
     {
         self.unused_below(MAX_CALLERS as u64 + 1)
     }

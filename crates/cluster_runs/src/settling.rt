@@ -1,13 +1,12 @@
-// Controllers make rounds, and a kubelet turns, one after another.
-ghost use Rattle.std.specs.Prelude.{◌≡◌, ◌<◌, length, IfErr, IfOk, OnErr, OnOk};
+// All controllers make rounds, and a kubelet makes turns.
+ghost use Rattle.std.specs.Prelude.{◌≡◌, length, IfErr, IfOk, OnOk};
 ghost use Rattle.std.specs.List.{range_with_len};
 ghost use Rattle.objects.specs.declared.kind.Kind.TheVariants.{Pod};
 ghost use Rattle.requests.specs.declared.request.Request.TheVariants as request;
 ghost use Rattle.cluster_runs.specs.Faults.{IsShort};
-ghost use Rattle.cluster_runs.specs.Leading.{Halts, Leads, Peeks};
-ghost use Rattle.cluster_runs.specs.Shown.{Follows, HaveCallers, KeepsCallers, Stay};
-ghost use Rattle.cluster_runs.specs.declared.fault.ClusterFault.TheVariants.{Memory as OutOfMemory};
-ghost use Rattle.cluster_runs.specs.Turns.{asked, asked_all, asked_as, begins, ends_with, kubelet_turn, nothing, round, rounds_of, settled, settled_once, tended, tends};
+ghost use Rattle.cluster_runs.specs.Leading.{Halts, Leads};
+ghost use Rattle.cluster_runs.specs.Shown.{Follows, HaveCallers, KeepsCallers};
+ghost use Rattle.cluster_runs.specs.Turns.{asked_all, asked_as, ends_with, kubelet_turn, nothing, rounds_of, settled, settled_as, settled_once, tended, tends};
 
 use crate::cluster::Cluster;
 use crate::fault::ClusterFault;
@@ -16,16 +15,6 @@ use objects::{Kind, Memory, Text};
 use requests::{Reply, Request};
 use rounds::ControlLoop;
 use std::alloc::Global;
-
-/// More requests no round has.
-const MOST_REQUESTS: u64 = 4_294_967_296;
-
-/// Whether a round begins with the request.
-fn begins(request: &Request) -> bool
-    ensures { result ≡ begins request.now }
-{
-    matches!(request, Request::Get(_))
-}
 
 /// The list of the pods of a namespace, as they are now.
 fn list_of_pods(alloc: Global, namespace: &Text) -> Result<Request, Memory>
@@ -54,11 +43,11 @@ fn requests_after(alloc: Global, delivered: &Option<Reply>) -> Result<Vec<Reques
 }
 
 impl Cluster {
-    /// So many times, each controller makes a round, and then the kubelet makes a turn. It is the lowest caller that was not
-    /// used before.
+    /// So many times, each controller makes a round, and then the kubelet makes a turn, if there is one.
     pub(crate) fn settle<C: ControlLoop>(
         &mut self,
         controllers: &mut [C],
+        kubelet: Option<u64>,
         namespaces: &[Text],
         rounds: u64,
     ) -> Result<(), ClusterFault>
@@ -68,14 +57,35 @@ impl Cluster {
         ensures present { KeepsCallers self.old self.new }
         ensures follows { OnOk result (Follows self.new) }
         ensures leads { OnOk result (Leads C.reconciler C.phase C.is_waiting
-            (settled rounds namespaces.now) nothing self.old self.new controllers.old controllers.new) }
+            (settled kubelet rounds namespaces.now) nothing self.old self.new controllers.old controllers.new) }
         ensures halts { IfErr result (λ fault. Halts C.reconciler C.phase C.is_waiting fault
-            (settled rounds namespaces.now) self.old controllers.old controllers.new) }
+            (settled kubelet rounds namespaces.now) self.old controllers.old controllers.new) }
         ensures reasons { IfErr result IsShort }
     {
-        let Some(kubelet) = self.callers.fresh() else {
-            return Err(ClusterFault::TooManyCallers);
-        };
+        match kubelet {
+            Some(kubelet) => self.settle_as(controllers, kubelet, namespaces, rounds),
+            None => Ok(()),
+        }
+    }
+
+    fn settle_as<C: ControlLoop>(
+        &mut self,
+        controllers: &mut [C],
+        kubelet: u64,
+        namespaces: &[Text],
+        rounds: u64,
+    ) -> Result<(), ClusterFault>
+        requires present { HaveCallers controllers.old self.old }
+        requires follows { Follows self.old }
+        ensures many { length controllers.new ≡ length controllers.old }
+        ensures present { KeepsCallers self.old self.new }
+        ensures follows { OnOk result (Follows self.new) }
+        ensures leads { OnOk result (Leads C.reconciler C.phase C.is_waiting
+            (settled_as rounds kubelet namespaces.now) nothing self.old self.new controllers.old controllers.new) }
+        ensures halts { IfErr result (λ fault. Halts C.reconciler C.phase C.is_waiting fault
+            (settled_as rounds kubelet namespaces.now) self.old controllers.old controllers.new) }
+        ensures reasons { IfErr result IsShort }
+    {
         for _ in 0..rounds {
             self.settle_once(controllers, kubelet, namespaces)?;
         }
@@ -120,78 +130,6 @@ impl Cluster {
             self.make_round(controllers, number)?;
         }
         Ok(())
-    }
-
-    /// The controller goes on until its round is over, or a reply does not come.
-    fn make_round<C: ControlLoop>(
-        &mut self,
-        controllers: &mut [C],
-        number: usize,
-    ) -> Result<(), ClusterFault>
-        requires present { HaveCallers controllers.old self.old }
-        requires follows { Follows self.old }
-        requires there { number < length controllers.old }
-        ensures many { length controllers.new ≡ length controllers.old }
-        ensures present { KeepsCallers self.old self.new }
-        ensures follows { OnOk result (Follows self.new) }
-        ensures leads { OnOk result (Leads C.reconciler C.phase C.is_waiting (round number) nothing self.old self.new controllers.old controllers.new) }
-        ensures halts { IfErr result (λ fault. Halts C.reconciler C.phase C.is_waiting fault (round number) self.old controllers.old controllers.new) }
-        ensures reasons { IfErr result IsShort }
-    {
-        for _ in 0..MOST_REQUESTS {
-            self.ask_next(controllers, number)?;
-            let within = self.is_within(controllers, number)?;
-            if !within {
-                return Ok(());
-            }
-        }
-        Ok(())
-    }
-
-    /// The controller asks its next request.
-    fn ask_next<C: ControlLoop>(
-        &mut self,
-        controllers: &mut [C],
-        number: usize,
-    ) -> Result<Option<Reply>, ClusterFault>
-        requires present { HaveCallers controllers.old self.old }
-        requires follows { Follows self.old }
-        requires there { number < length controllers.old }
-        ensures many { length controllers.new ≡ length controllers.old }
-        ensures present { KeepsCallers self.old self.new }
-        ensures follows { OnOk result (Follows self.new) }
-        ensures leads { IfOk result (λ delivered. Leads C.reconciler C.phase C.is_waiting
-            (asked number) (ends_with delivered) self.old self.new controllers.old controllers.new) }
-        ensures halts { IfErr result (λ fault. Halts C.reconciler C.phase C.is_waiting fault (asked number) self.old controllers.old controllers.new) }
-        ensures reasons { IfErr result IsShort }
-    {
-        self.call_next(controllers, number)?;
-        let caller = self.callers.present[number];
-        self.carry(controllers, caller)
-    }
-
-    /// Whether the controller got its reply, and its round goes on.
-    fn is_within<C: ControlLoop>(
-        &self,
-        controllers: &mut [C],
-        number: usize,
-    ) -> Result<bool, ClusterFault>
-        requires present { HaveCallers controllers.old self.now }
-        requires there { number < length controllers.old }
-        ensures many { length controllers.new ≡ length controllers.old }
-        ensures peeks { IfOk result (λ within. Peeks C.reconciler C.phase C.is_waiting number within self.now controllers.old controllers.new) }
-        ensures stays { OnErr result (Stay C.reconciler C.phase controllers.old controllers.new) }
-        ensures reasons { IfErr result (λ fault. fault ≡ OutOfMemory) }
-    {
-        let caller = self.callers.present[number];
-        if !self.replay.idle(caller) {
-            return Ok(false);
-        }
-        let request = controllers[number].next()?;
-        let begins = begins(&request);
-        // Let go by name, which is proved once for the type and not at each way out.
-        drop(request);
-        Ok(!begins)
     }
 
     /// The kubelet's turn: what is still open is carried on, and then the pods of each namespace are tended.
@@ -278,7 +216,7 @@ impl Cluster {
     }
 
     /// Somebody else asks, where the caller is idle.
-    fn ask<C: ControlLoop>(
+    pub(crate) fn ask<C: ControlLoop>(
         &mut self,
         controllers: &mut [C],
         caller: u64,

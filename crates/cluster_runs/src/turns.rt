@@ -1,4 +1,4 @@
-ghost use Rattle.std.specs.Prelude.{◌≡◌, ◌⊎◌, ◌<◌, ◌≤◌, ◌↔◌, ℕ, length, take, IfErr, IfOk, IsErrOf, OnErr, OnOk};
+ghost use Rattle.std.specs.Prelude.{◌≡◌, ◌⊎◌, ◌<◌, ◌≤◌, ◌↔◌, ℕ, length, take, None, IfErr, IfOk, IsErrOf, OnErr, OnOk};
 ghost use Rattle.std.specs.List.{AllByRecursion};
 ghost use Rattle.plain_store.specs.Reached.{most_revisions};
 ghost use Rattle.rounds.specs.Phase.{reading_set};
@@ -7,10 +7,10 @@ ghost use Rattle.rounds.specs.Sound.{IsSound};
 ghost use Rattle.rounds.specs.World.{AreMadeOf, StandAt};
 ghost use Rattle.cluster_runs.specs.Ordered.{OrderKeepsPromises};
 ghost use Rattle.cluster_runs.specs.Faults.{IsShort};
-ghost use Rattle.cluster_runs.specs.Leading.{Halts, Leads};
+ghost use Rattle.cluster_runs.specs.Leading.{ComesTo, Halts, Leads};
 ghost use Rattle.cluster_runs.specs.Ran.{IsClusterRun, IsTooMany, StopsAt, cluster_after};
 ghost use Rattle.cluster_runs.specs.Shown.{Follows, HaveCallers, KeepsCallers};
-ghost use Rattle.cluster_runs.specs.Turns.{course_of, course_of_all, ends_with, events_of_turns, nothing};
+ghost use Rattle.cluster_runs.specs.Turns.{course_of, course_of_all, ends_of_turns, ends_with, events_of_turns, nothing};
 
 use crate::callers::Callers;
 use crate::cluster::Cluster;
@@ -24,6 +24,14 @@ use requests::Reply;
 use rounds::ControlLoop;
 use std::alloc::Global;
 
+/// A run by turns, and how far each turn came.
+#[derive(Drop)]
+pub struct TurnsRun {
+    pub run: ClusterRun,
+    /// For each turn, how many events had been handed on to the store as it was done.
+    pub ends: Vec<usize>,
+}
+
 /// Lets the events happen that the turns stand for, one after another: each turn finds the cluster as the ones before left it.
 /// The namespaces are those whose pods a kubelet tends.
 /// All else is as of `run_cluster` over these events, but that memory may also run out between two events, or after the last.
@@ -34,17 +42,20 @@ pub fn run_turns<C: ControlLoop>(
     controllers: &mut [C],
     namespaces: &[Text],
     turns: &[Turn],
-) -> Result<ClusterRun, ClusterFault>
+) -> Result<TurnsRun, ClusterFault>
     requires { AllByRecursion (λ c. (C.phase c ≡ reading_set)) controllers.old }
     ensures run { IfOk result (λ found. (reconcilers : ℕ → Reconciler) → AreMadeOf C.reconciler controllers.old reconcilers
         → IsClusterRun (record { capacity = capacity; shards = shards }) (length controllers.old) reconcilers
-        (events_of_turns (record { capacity = capacity; shards = shards }) (length controllers.old) reconcilers namespaces.now turns.now) found) }
+        (events_of_turns (record { capacity = capacity; shards = shards }) (length controllers.old) reconcilers namespaces.now turns.now) found.run) }
+    ensures ends { IfOk result (λ found. (reconcilers : ℕ → Reconciler) → AreMadeOf C.reconciler controllers.old reconcilers
+        → found.ends.items
+        ≡ ends_of_turns (record { capacity = capacity; shards = shards }) (length controllers.old) reconcilers namespaces.now turns.now) }
     ensures promises { IfOk result (λ found. (reconcilers : ℕ → Reconciler) → AreMadeOf C.reconciler controllers.old reconcilers
         → ((c : ℕ) → IsSound (reconcilers c))
         → OrderKeepsPromises (record { capacity = capacity; shards = shards }) reconcilers
         (cluster_after (record { capacity = capacity; shards = shards }) (length controllers.old) reconcilers
         (events_of_turns (record { capacity = capacity; shards = shards }) (length controllers.old)
-        reconcilers namespaces.now turns.now)) found.run.order.items) }
+        reconcilers namespaces.now turns.now)) found.run.run.order.items) }
     ensures many { length controllers.new ≡ length controllers.old }
     ensures stand { OnOk result ((reconcilers : ℕ → Reconciler) → AreMadeOf C.reconciler controllers.old reconcilers
         → StandAt C.reconciler C.phase controllers.new reconcilers
@@ -77,7 +88,7 @@ pub fn run_turns<C: ControlLoop>(
         callers,
         events: Vec::new(alloc),
     };
-    cluster.go(controllers, namespaces, turns)?;
+    let ends = cluster.go(controllers, namespaces, turns)?;
     let Cluster {
         replay,
         callers,
@@ -90,43 +101,52 @@ pub fn run_turns<C: ControlLoop>(
     } = callers;
     // Let go by name, which is proved once for the type and not at each way out.
     drop(present);
-    Ok(ClusterRun {
-        events,
-        run: replay.finish(),
-        owners,
+    Ok(TurnsRun {
+        run: ClusterRun {
+            events,
+            run: replay.finish(),
+            owners,
+        },
+        ends,
     })
 }
 
 impl Cluster {
-    /// The events of all turns.
+    /// The events of all turns, and how far each turn came.
     fn go<C: ControlLoop>(
         &mut self,
         controllers: &mut [C],
         namespaces: &[Text],
         turns: &[Turn],
-    ) -> Result<(), ClusterFault>
+    ) -> Result<Vec<usize>, ClusterFault>
         requires present { HaveCallers controllers.old self.old }
         requires follows { Follows self.old }
         ensures many { length controllers.new ≡ length controllers.old }
         ensures present { KeepsCallers self.old self.new }
         ensures follows { OnOk result (Follows self.new) }
         ensures leads { OnOk result (Leads C.reconciler C.phase C.is_waiting
-            (course_of_all namespaces.now turns.now) nothing self.old self.new controllers.old controllers.new) }
+            (course_of_all None namespaces.now turns.now) nothing self.old self.new controllers.old controllers.new) }
+        ensures ends { IfOk result (λ ends. ComesTo C.reconciler C.phase C.is_waiting namespaces.now turns.now ends.items self.old controllers.old) }
         ensures halts { IfErr result (λ fault. Halts C.reconciler C.phase C.is_waiting fault
-            (course_of_all namespaces.now turns.now) self.old controllers.old controllers.new) }
+            (course_of_all None namespaces.now turns.now) self.old controllers.old controllers.new) }
         ensures reasons { IfErr result IsShort }
     {
+        let mut ends = Vec::new(*self.events.allocator());
+        let mut kubelet = None;
         for turn in turns {
-            let delivered = self.turn(controllers, namespaces, turn)?;
+            kubelet = self.callers.kubelet_at(kubelet, turn);
+            let delivered = self.turn(controllers, kubelet, namespaces, turn)?;
             drop(delivered);
+            ends.push(self.events.len())?;
         }
-        Ok(())
+        Ok(ends)
     }
 
     /// The events of one turn, and the reply that ends them, if one does.
     fn turn<C: ControlLoop>(
         &mut self,
         controllers: &mut [C],
+        kubelet: Option<u64>,
         namespaces: &[Text],
         turn: &Turn,
     ) -> Result<Option<Reply>, ClusterFault>
@@ -136,9 +156,9 @@ impl Cluster {
         ensures present { KeepsCallers self.old self.new }
         ensures follows { OnOk result (Follows self.new) }
         ensures leads { IfOk result (λ delivered. Leads C.reconciler C.phase C.is_waiting
-            (course_of namespaces.now turn.now) (ends_with delivered) self.old self.new controllers.old controllers.new) }
+            (course_of kubelet namespaces.now turn.now) (ends_with delivered) self.old self.new controllers.old controllers.new) }
         ensures halts { IfErr result (λ fault. Halts C.reconciler C.phase C.is_waiting fault
-            (course_of namespaces.now turn.now) self.old controllers.old controllers.new) }
+            (course_of kubelet namespaces.now turn.now) self.old controllers.old controllers.new) }
         ensures reasons { IfErr result IsShort }
     {
         match turn {
@@ -147,8 +167,18 @@ impl Cluster {
                 Ok(None)
             }
             Turn::Run(number) => self.run(controllers, *number),
+            Turn::RunCaller(caller) => self.carry(controllers, *caller),
+            Turn::Ask(caller, request) => self.ask(controllers, *caller, request),
+            Turn::Round(number) => {
+                self.round(controllers, *number)?;
+                Ok(None)
+            }
+            Turn::Approach(number) => {
+                self.approach(controllers, *number)?;
+                Ok(None)
+            }
             Turn::Settle { rounds } => {
-                self.settle(controllers, namespaces, *rounds)?;
+                self.settle(controllers, kubelet, namespaces, *rounds)?;
                 Ok(None)
             }
         }

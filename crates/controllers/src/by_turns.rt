@@ -4,19 +4,19 @@ ghost use Rattle.std.specs.List.{list_any};
 ghost use Rattle.plain_store.specs.Reached.{most_revisions};
 ghost use Rattle.cluster_runs.specs.Ordered.{OrderKeepsPromises, entries_in};
 ghost use Rattle.cluster_runs.specs.Ran.{IsClusterRun, cluster_after};
-ghost use Rattle.cluster_runs.specs.Turns.{events_of_turns};
+ghost use Rattle.cluster_runs.specs.Turns.{ends_of_turns, events_of_turns};
 ghost use Rattle.controllers.specs.Cluster.{namespaces_of, reconciler_named, size_of, with_namespace};
 ghost use Rattle.controllers.specs.InTurn.{PodsComeInTurn};
 
 use crate::cluster::controllers_of;
 use crate::cluster_spec::ClusterSpec;
 use crate::set_spec::SetSpec;
-use cluster_runs::{ClusterFault, ClusterRun, Turn};
+use cluster_runs::{ClusterFault, Turn, TurnsRun};
 use objects::{Memory, Text};
 use std::alloc::Global;
 
 /// Lets the events happen that the turns stand for, one after another: each turn finds the cluster as the ones before left it.
-/// All else is as of `run_cluster` over these events.
+/// It is also said how far each turn came. All else is as of `run_cluster` over these events.
 ///
 /// # Errors
 /// Those of `run_cluster`.
@@ -24,18 +24,20 @@ pub fn run_turns(
     alloc: Global,
     spec: &ClusterSpec,
     turns: &[Turn],
-) -> Result<ClusterRun, ClusterFault>
+) -> Result<TurnsRun, ClusterFault>
     ensures run { IfOk result (λ found. IsClusterRun (size_of spec.now) (length spec.now.sets.items) (reconciler_named spec.now.sets.items)
         (events_of_turns (size_of spec.now) (length spec.now.sets.items)
-        (reconciler_named spec.now.sets.items) (namespaces_of spec.now.sets.items) turns.now) found) }
+        (reconciler_named spec.now.sets.items) (namespaces_of spec.now.sets.items) turns.now) found.run) }
+    ensures ends { IfOk result (λ found. found.ends.items ≡ ends_of_turns (size_of spec.now) (length spec.now.sets.items)
+        (reconciler_named spec.now.sets.items) (namespaces_of spec.now.sets.items) turns.now) }
     ensures promises { IfOk result (λ found. OrderKeepsPromises (size_of spec.now) (reconciler_named spec.now.sets.items)
         (cluster_after (size_of spec.now) (length spec.now.sets.items) (reconciler_named spec.now.sets.items)
         (events_of_turns (size_of spec.now) (length spec.now.sets.items)
-        (reconciler_named spec.now.sets.items) (namespaces_of spec.now.sets.items) turns.now)) found.run.order.items) }
+        (reconciler_named spec.now.sets.items) (namespaces_of spec.now.sets.items) turns.now)) found.run.run.order.items) }
     ensures in_turn { IfOk result (λ found. PodsComeInTurn (reconciler_named spec.now.sets.items) (entries_in (size_of spec.now)
         (cluster_after (size_of spec.now) (length spec.now.sets.items) (reconciler_named spec.now.sets.items)
         (events_of_turns (size_of spec.now) (length spec.now.sets.items)
-        (reconciler_named spec.now.sets.items) (namespaces_of spec.now.sets.items) turns.now)) found.run.order.items)) }
+        (reconciler_named spec.now.sets.items) (namespaces_of spec.now.sets.items) turns.now)) found.run.run.order.items)) }
     ensures bad_shards { IsErrOf result ClusterFault.BadShards → 1 ≤ spec.now.shards → 64 < spec.now.shards }
     ensures shards { IfOk result (λ found. (1 ≤ spec.now.shards) × (spec.now.shards ≤ 64)) }
     ensures bad_capacity { IsErrOf result ClusterFault.BadCapacity → (1 ≤ spec.now.shards) × (spec.now.shards ≤ 64)

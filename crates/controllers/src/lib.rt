@@ -17,7 +17,7 @@ mod whole;
 
 pub use by_turns::run_turns;
 pub use cluster::run_cluster;
-pub use cluster_runs::{ClusterEvent, ClusterFault, ClusterRun, Turn};
+pub use cluster_runs::{ClusterEvent, ClusterFault, ClusterRun, Turn, TurnsRun};
 pub use cluster_spec::ClusterSpec;
 pub use controller::Controller;
 pub use laws::{creates_wait_for_lower_pods, pods_come_in_turn};

@@ -4,7 +4,7 @@ use Rattle.std.proofs.lemmas.Result.{IfOk-weaker}
 use Rattle.plain_store.specs.Reached.{most_revisions}
 use Rattle.cluster_runs.specs.Ordered.{OrderKeepsPromises, entries_in}
 use Rattle.cluster_runs.specs.Ran.{IsClusterRun, cluster_after}
-use Rattle.cluster_runs.specs.Turns.{events_of_turns}
+use Rattle.cluster_runs.specs.Turns.{ends_of_turns, events_of_turns}
 use Rattle.cluster_runs.specs.declared.fault.ClusterFault.TheVariants.{BadCapacity, BadShards, TooManyCallers}
 use Rattle.cluster_runs.proofs.Showing.{within}
 use Rattle.controllers.specs.Cluster.{namespaces_of, reconciler_for, reconciler_named, size_of}
@@ -22,8 +22,19 @@ returns-clause-run c =
     let spaces = c.as_slice-3.result.now in
     let spaces_are : spaces ≡ namespaces_of sets = c.as_slice-3.ensures.value ∙ c.in_ok-namespaces.ensures ∙ ap namespaces_of c.as_slice-2.ensures.value in
     IfOk-weaker c.run_turns.result _ _
-    (λ found run. subst (λ l. IsClusterRun (size_of c.args.spec.now) (length sets) (reconciler_named sets) (events_of_turns (size_of c.args.spec.now) (length sets) (reconciler_named sets) l c.args.turns.now) found) spaces_are (subst (λ n. IsClusterRun (size_of c.args.spec.now) n (reconciler_named sets) (events_of_turns (size_of c.args.spec.now) n (reconciler_named sets) spaces c.args.turns.now) found) many (run (reconciler_named sets) (made_named _ sets made))))
+    (λ found run. subst (λ l. IsClusterRun (size_of c.args.spec.now) (length sets) (reconciler_named sets) (events_of_turns (size_of c.args.spec.now) (length sets) (reconciler_named sets) l c.args.turns.now) found.run) spaces_are (subst (λ n. IsClusterRun (size_of c.args.spec.now) n (reconciler_named sets) (events_of_turns (size_of c.args.spec.now) n (reconciler_named sets) spaces c.args.turns.now) found.run) many (run (reconciler_named sets) (made_named _ sets made))))
     c.run_turns.ensures.run
+
+pub returns-clause-ends : goal.returns-clause-ends
+returns-clause-ends c =
+    let sets = c.args.spec.now.sets.items in
+    let made = ap (map reconciler_of) c.as_mut_slice.ensures.value ∙ c.in_ok-controllers.ensures.made ∙ ap (map reconciler_for) c.as_slice.ensures.value in
+    let many = same_length reconciler_of reconciler_for _ sets made in
+    let spaces = c.as_slice-3.result.now in
+    let spaces_are : spaces ≡ namespaces_of sets = c.as_slice-3.ensures.value ∙ c.in_ok-namespaces.ensures ∙ ap namespaces_of c.as_slice-2.ensures.value in
+    IfOk-weaker c.run_turns.result _ _
+    (λ found ends. subst (λ l. found.ends.items ≡ ends_of_turns (size_of c.args.spec.now) (length sets) (reconciler_named sets) l c.args.turns.now) spaces_are (subst (λ n. found.ends.items ≡ ends_of_turns (size_of c.args.spec.now) n (reconciler_named sets) spaces c.args.turns.now) many (ends (reconciler_named sets) (made_named _ sets made))))
+    c.run_turns.ensures.ends
 
 pub returns-clause-promises : goal.returns-clause-promises
 returns-clause-promises c =
@@ -33,7 +44,7 @@ returns-clause-promises c =
     let spaces = c.as_slice-3.result.now in
     let spaces_are : spaces ≡ namespaces_of sets = c.as_slice-3.ensures.value ∙ c.in_ok-namespaces.ensures ∙ ap namespaces_of c.as_slice-2.ensures.value in
     IfOk-weaker c.run_turns.result _ _
-    (λ found kept. subst (λ l. OrderKeepsPromises (size_of c.args.spec.now) (reconciler_named sets) (cluster_after (size_of c.args.spec.now) (length sets) (reconciler_named sets) (events_of_turns (size_of c.args.spec.now) (length sets) (reconciler_named sets) l c.args.turns.now)) found.run.order.items) spaces_are (subst (λ n. OrderKeepsPromises (size_of c.args.spec.now) (reconciler_named sets) (cluster_after (size_of c.args.spec.now) n (reconciler_named sets) (events_of_turns (size_of c.args.spec.now) n (reconciler_named sets) spaces c.args.turns.now)) found.run.order.items) many (kept (reconciler_named sets) (made_named _ sets made) (sound_named sets))))
+    (λ found kept. subst (λ l. OrderKeepsPromises (size_of c.args.spec.now) (reconciler_named sets) (cluster_after (size_of c.args.spec.now) (length sets) (reconciler_named sets) (events_of_turns (size_of c.args.spec.now) (length sets) (reconciler_named sets) l c.args.turns.now)) found.run.run.order.items) spaces_are (subst (λ n. OrderKeepsPromises (size_of c.args.spec.now) (reconciler_named sets) (cluster_after (size_of c.args.spec.now) n (reconciler_named sets) (events_of_turns (size_of c.args.spec.now) n (reconciler_named sets) spaces c.args.turns.now)) found.run.run.order.items) many (kept (reconciler_named sets) (made_named _ sets made) (sound_named sets))))
     c.run_turns.ensures.promises
 
 pub returns-clause-in_turn : goal.returns-clause-in_turn
@@ -44,7 +55,7 @@ returns-clause-in_turn c =
     let spaces = c.as_slice-3.result.now in
     let spaces_are : spaces ≡ namespaces_of sets = c.as_slice-3.ensures.value ∙ c.in_ok-namespaces.ensures ∙ ap namespaces_of c.as_slice-2.ensures.value in
     IfOk-weaker c.run_turns.result _ _
-    (λ found kept. subst (λ l. PodsComeInTurn (reconciler_named sets) (entries_in (size_of c.args.spec.now) (cluster_after (size_of c.args.spec.now) (length sets) (reconciler_named sets) (events_of_turns (size_of c.args.spec.now) (length sets) (reconciler_named sets) l c.args.turns.now)) found.run.order.items)) spaces_are (subst (λ n. PodsComeInTurn (reconciler_named sets) (entries_in (size_of c.args.spec.now) (cluster_after (size_of c.args.spec.now) n (reconciler_named sets) (events_of_turns (size_of c.args.spec.now) n (reconciler_named sets) spaces c.args.turns.now)) found.run.order.items)) many (pods_in_turn (reconciler_named sets) _ (sets_named sets) (kept (reconciler_named sets) (made_named _ sets made) (sound_named sets)).creates)))
+    (λ found kept. subst (λ l. PodsComeInTurn (reconciler_named sets) (entries_in (size_of c.args.spec.now) (cluster_after (size_of c.args.spec.now) (length sets) (reconciler_named sets) (events_of_turns (size_of c.args.spec.now) (length sets) (reconciler_named sets) l c.args.turns.now)) found.run.run.order.items)) spaces_are (subst (λ n. PodsComeInTurn (reconciler_named sets) (entries_in (size_of c.args.spec.now) (cluster_after (size_of c.args.spec.now) n (reconciler_named sets) (events_of_turns (size_of c.args.spec.now) n (reconciler_named sets) spaces c.args.turns.now)) found.run.run.order.items)) many (pods_in_turn (reconciler_named sets) _ (sets_named sets) (kept (reconciler_named sets) (made_named _ sets made) (sound_named sets)).creates)))
     c.run_turns.ensures.promises
 
 one_reason : {T E : Type 0} (r : Result T E) (d e : E) → IsErrOf r d → IsErrOf r e → d ≡ e

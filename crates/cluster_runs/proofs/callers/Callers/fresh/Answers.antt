@@ -1,16 +1,20 @@
-use Rattle.std.proofs.Common.{ℕ, Option, Some, None}
-use Rattle.std.specs.Prelude.{IfSome}
+use Rattle.std.proofs.Common.{◌≡◌, ◌<◌, ◌≤◌, ℕ, true, ap, Option, Some, None, refl}
+use Rattle.std.specs.Prelude.{IfSome, is_some}
+use Rattle.std.specs.BTreeMap.{get}
+use Rattle.std.specs.Ordering.{nat_cmp}
+use Rattle.cluster_runs.specs.Callers.{AreCallers}
+use Rattle.cluster_runs.specs.Cluster.{Cluster, lowest_unused}
+use Rattle.cluster_runs.specs.declared.callers.Callers.{Callers}
 use Rattle.cluster_runs.proofs.Calling.{lowest_here, none_left}
 use Rattle.cluster_runs.proofs.callers.Callers.fresh.Goals as goal
 
-both : (A B C : ℕ → Type 0) (o : Option ℕ) → IfSome o A → IfSome o B → ((n : ℕ) → A n → B n → C n) → IfSome o C
-both A B C None one two goes = tt
-both A B C (Some n) one two goes = goes n one two
+abbrev AreUsed : Callers → ℕ → Type 0
+AreUsed callers n = (m : ℕ) → callers.unused ≤ m → m < n → is_some (get nat_cmp callers.owners m) ≡ true
 
-pub returns-clause-lowest : goal.returns-clause-lowest
-returns-clause-lowest c =
-    both _ _ _ c.unused_below.result c.unused_below.ensures.fresh c.unused_below.ensures.lowest
-    (λ n fresh others count k are. lowest_here count k c.args.self.now are n fresh others)
+lowest : (count : ℕ) (k : Cluster) (callers : Callers) → AreCallers count k callers → (r : Option ℕ) → IfSome r (λ n. get nat_cmp callers.owners n ≡ None) → IfSome r (AreUsed callers)
+    → (r ≡ None → AreUsed callers 4097) → r ≡ Some (lowest_unused k)
+lowest count k callers are None free used none = absurd (none_left count k callers are (none refl))
+lowest count k callers are (Some n) free used none = ap Some (lowest_here count k callers are n free used)
 
-pub returns-clause-there : goal.returns-clause-there
-returns-clause-there c = λ none count k are. none_left count k c.args.self.now are (c.unused_below.ensures.none none)
+pub returns : goal.returns
+returns c = λ count k are. lowest count k c.args.self.now are c.unused_below.result c.unused_below.ensures.fresh c.unused_below.ensures.lowest c.unused_below.ensures.none

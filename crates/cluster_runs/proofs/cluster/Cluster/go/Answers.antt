@@ -1,9 +1,9 @@
-use Rattle.std.proofs.Common.{◌≡◌, ◌∙◌, refl, rules, subst, sym}
+use Rattle.std.proofs.Common.{◌≡◌, ◌∙◌, ◌+◌, ◌++◌, ◌∷◌, [], None, ap, arith, length, refl, rules, subst, sym}
 use Rattle.std.specs.Prelude.{Err, IfErr}
 use Rattle.cluster_runs.specs.Leading.{Halts}
-use Rattle.cluster_runs.specs.Turns.{course_of, course_of_all}
-use Rattle.cluster_runs.proofs.Leading.{self_leads}
-use Rattle.cluster_runs.proofs.Parts.{walked_all, walked_halts, walked_more}
+use Rattle.cluster_runs.specs.Turns.{course_of_all}
+use Rattle.cluster_runs.specs.declared.fault.ClusterFault.TheVariants.{Memory as OutOfMemory}
+use Rattle.cluster_runs.proofs.Going.{Gone, gone_all, gone_ends, gone_halts, gone_more, gone_none, gone_stays}
 use Rattle.cluster_runs.proofs.cluster.Cluster.go.Goals as goal
 
 pub loop-turn-init : goal.loop-turn-init
@@ -11,26 +11,40 @@ loop-turn-init g c = record {
   many = refl;
   present = c.requires.present;
   follows = c.requires.follows;
-  leads = self_leads g.C.ControlLoop.reconciler g.C.ControlLoop.phase g.C.ControlLoop.is_waiting (course_of_all c.args.namespaces.now c.args.turns.now) c.args.self.now c.args.controllers.now;
+  gone = subst (λ ends. Gone g.C.ControlLoop.reconciler g.C.ControlLoop.phase g.C.ControlLoop.is_waiting c.args.namespaces.now c.args.turns.now 0 None ends c.args.self.now c.args.self.now c.args.controllers.now c.args.controllers.now) (sym c.new-ends.ensures.items) (gone_none g.C.ControlLoop.reconciler g.C.ControlLoop.phase g.C.ControlLoop.is_waiting c.args.namespaces.now c.args.turns.now c.args.self.now c.args.controllers.now);
 }
 
 pub loop-turn-preserved : goal.loop-turn-preserved
-loop-turn-preserved g c = let kept = c.loop-turn.invariant in record {
-  many = c.in_ok-delivered.ensures.many ∙ kept.many;
-  present = c.in_ok-delivered.ensures.many ∙ kept.present ∙ sym c.in_ok-delivered.ensures.present;
-  follows = c.in_ok-delivered.ensures.follows;
-  leads = walked_more g.C.ControlLoop.reconciler g.C.ControlLoop.phase g.C.ControlLoop.is_waiting (λ xs. course_of_all c.args.namespaces.now xs) (λ x. course_of c.args.namespaces.now x) refl (λ x xs. refl) (course_of_all c.args.namespaces.now c.args.turns.now) c.args.turns.now c.loop-turn.turn-index c.turn-item.result c.in_ok-delivered.delivered c.args.self.now c.loop-turn.self c.turn.new.self c.args.controllers.now c.loop-turn.controllers c.turn.new.controllers
-      c.loop-turn-test.true c.turn-item.is kept.many kept.leads c.in_ok-delivered.ensures.leads;
-}
+loop-turn-preserved g c =
+    let kept = c.loop-turn.invariant in
+    let fits = c.turn.new.self.events.ok.0 in
+    let len = c.len.ensures in
+    let many : c.len.result ≡ length c.turn.new.self.events.items = omega (arith, fits, len) in record {
+      many = c.in_ok-delivered.ensures.many ∙ kept.many;
+      present = c.in_ok-delivered.ensures.many ∙ kept.present ∙ sym c.in_ok-delivered.ensures.present;
+      follows = c.in_ok-delivered.ensures.follows;
+      gone = subst (λ ends. Gone g.C.ControlLoop.reconciler g.C.ControlLoop.phase g.C.ControlLoop.is_waiting c.args.namespaces.now c.args.turns.now (c.loop-turn.turn-index + 1) c.kubelet_at-kubelet.result ends c.args.self.now c.turn.new.self c.args.controllers.now c.turn.new.controllers) (sym (c.in_ok-push.ensures.items ∙ ap (λ e. c.loop-turn.ends.items ++ e ∷ []) many))
+          (gone_more g.C.ControlLoop.reconciler g.C.ControlLoop.phase g.C.ControlLoop.is_waiting c.args.namespaces.now c.args.turns.now c.loop-turn.turn-index c.turn-item.result c.loop-turn.kubelet c.kubelet_at-kubelet.result c.loop-turn.ends.items c.args.self.now c.loop-turn.self c.args.controllers.now c.loop-turn.controllers c.loop-turn-test.true c.turn-item.is kept.many (λ z reconcilers k shows. sym (c.kubelet_at-kubelet.ensures (length c.loop-turn.controllers) k shows.0.1)) kept.gone c.in_ok-delivered.delivered c.turn.new.self c.turn.new.controllers c.in_ok-delivered.ensures.leads);
+    }
 
 pub returns-in_err-delivered-clause-halts : goal.returns-in_err-delivered-clause-halts
 returns-in_err-delivered-clause-halts g c =
     let kept = c.loop-turn.invariant in
     let fault = c.in_err-delivered.field-0.0 in
     let is : c.from_residual.result ≡ Err fault = search rules in
-    subst (λ r. IfErr r (λ fault. Halts g.C.ControlLoop.reconciler g.C.ControlLoop.phase g.C.ControlLoop.is_waiting fault (course_of_all c.args.namespaces.now c.args.turns.now) c.args.self.now c.args.controllers.now c.turn.new.controllers)) (sym is)
-    (walked_halts g.C.ControlLoop.reconciler g.C.ControlLoop.phase g.C.ControlLoop.is_waiting (λ xs. course_of_all c.args.namespaces.now xs) (λ x. course_of c.args.namespaces.now x) refl (λ x xs. refl) (course_of_all c.args.namespaces.now c.args.turns.now) c.args.turns.now c.loop-turn.turn-index c.turn-item.result fault c.args.self.now c.loop-turn.self c.args.controllers.now c.loop-turn.controllers c.turn.new.controllers
-    c.loop-turn-test.true c.turn-item.is kept.many kept.leads c.in_err-delivered.ensures.halts)
+    subst (λ r. IfErr r (λ fault. Halts g.C.ControlLoop.reconciler g.C.ControlLoop.phase g.C.ControlLoop.is_waiting fault (course_of_all None c.args.namespaces.now c.args.turns.now) c.args.self.now c.args.controllers.now c.turn.new.controllers)) (sym is)
+    (gone_halts g.C.ControlLoop.reconciler g.C.ControlLoop.phase g.C.ControlLoop.is_waiting c.args.namespaces.now c.args.turns.now c.loop-turn.turn-index c.turn-item.result c.loop-turn.kubelet c.kubelet_at-kubelet.result c.loop-turn.ends.items c.args.self.now c.loop-turn.self c.args.controllers.now c.loop-turn.controllers c.loop-turn-test.true c.turn-item.is kept.many (λ z reconcilers k shows. sym (c.kubelet_at-kubelet.ensures (length c.loop-turn.controllers) k shows.0.1)) kept.gone fault c.turn.new.controllers c.in_err-delivered.ensures.halts)
+
+pub returns-in_err-push-clause-halts : goal.returns-in_err-push-clause-halts
+returns-in_err-push-clause-halts g c =
+    let kept = c.loop-turn.invariant in
+    let is : c.from_residual-in_err-push.result ≡ Err OutOfMemory = search rules in
+    subst (λ r. IfErr r (λ fault. Halts g.C.ControlLoop.reconciler g.C.ControlLoop.phase g.C.ControlLoop.is_waiting fault (course_of_all None c.args.namespaces.now c.args.turns.now) c.args.self.now c.args.controllers.now c.turn.new.controllers)) (sym is)
+    (gone_stays g.C.ControlLoop.reconciler g.C.ControlLoop.phase g.C.ControlLoop.is_waiting c.args.namespaces.now c.args.turns.now (c.loop-turn.turn-index + 1) c.kubelet_at-kubelet.result _ c.args.self.now c.turn.new.self c.args.controllers.now c.turn.new.controllers (c.in_ok-delivered.ensures.many ∙ kept.many)
+    (gone_more g.C.ControlLoop.reconciler g.C.ControlLoop.phase g.C.ControlLoop.is_waiting c.args.namespaces.now c.args.turns.now c.loop-turn.turn-index c.turn-item.result c.loop-turn.kubelet c.kubelet_at-kubelet.result c.loop-turn.ends.items c.args.self.now c.loop-turn.self c.args.controllers.now c.loop-turn.controllers c.loop-turn-test.true c.turn-item.is kept.many (λ z reconcilers k shows. sym (c.kubelet_at-kubelet.ensures (length c.loop-turn.controllers) k shows.0.1)) kept.gone c.in_ok-delivered.delivered c.turn.new.self c.turn.new.controllers c.in_ok-delivered.ensures.leads))
 
 pub returns-clause-leads : goal.returns-clause-leads
-returns-clause-leads g c = walked_all g.C.ControlLoop.reconciler g.C.ControlLoop.phase g.C.ControlLoop.is_waiting (λ xs. course_of_all c.args.namespaces.now xs) (λ x. course_of c.args.namespaces.now x) refl (λ x xs. refl) (course_of_all c.args.namespaces.now c.args.turns.now) c.args.turns.now c.loop-turn.turn-index c.args.self.now c.loop-turn.self c.args.controllers.now c.loop-turn.controllers c.loop-turn-test.false c.loop-turn.invariant.leads
+returns-clause-leads g c = gone_all g.C.ControlLoop.reconciler g.C.ControlLoop.phase g.C.ControlLoop.is_waiting c.args.namespaces.now c.args.turns.now c.loop-turn.turn-index c.loop-turn.kubelet c.loop-turn.ends.items c.args.self.now c.loop-turn.self c.args.controllers.now c.loop-turn.controllers c.loop-turn-test.false c.loop-turn.invariant.gone
+
+pub returns-clause-ends : goal.returns-clause-ends
+returns-clause-ends g c = gone_ends g.C.ControlLoop.reconciler g.C.ControlLoop.phase g.C.ControlLoop.is_waiting c.args.namespaces.now c.args.turns.now c.loop-turn.turn-index c.loop-turn.kubelet c.loop-turn.ends.items c.args.self.now c.loop-turn.self c.args.controllers.now c.loop-turn.controllers c.loop-turn-test.false c.loop-turn.invariant.gone

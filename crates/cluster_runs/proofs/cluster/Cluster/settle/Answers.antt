@@ -1,53 +1,18 @@
-use Rattle.std.proofs.Common.{◌≡◌, ◌∙◌, ◌+◌, ◌-◌, None, ap, length, refl, rules, subst, sym}
-use Rattle.std.specs.Prelude.{Err, IfErr}
+use Rattle.std.proofs.Common.{subst, sym}
+use Rattle.std.specs.Prelude.{IfErr, OnOk}
 use Rattle.cluster_runs.specs.Leading.{Halts, Leads}
-use Rattle.cluster_runs.specs.Turns.{settled, settled_as, settled_once}
-use Rattle.cluster_runs.proofs.Leading.{ends_as, far_begins, far_ends, far_halts, far_on, first_halts, first_leads, never_halts}
-use Rattle.cluster_runs.proofs.Parts.{settles_none, settles_on}
+use Rattle.cluster_runs.specs.Turns.{nothing, settled}
+use Rattle.cluster_runs.proofs.Leading.{self_leads}
 use Rattle.cluster_runs.proofs.cluster.Cluster.settle.Goals as goal
 
-pub returns-in_default-clause-halts : goal.returns-in_default-clause-halts
-returns-in_default-clause-halts g c =
-    never_halts g.C.ControlLoop.reconciler g.C.ControlLoop.phase g.C.ControlLoop.is_waiting _ (settled c.args.rounds c.args.namespaces.now) c.args.self.now c.args.controllers.now c.args.controllers.now (λ z reconcilers k shows. c.fresh.ensures.there c.in_default.is (length c.args.controllers.now) k shows.0.1)
+pub returns-in-Some-clause-leads : goal.returns-in-Some-clause-leads
+returns-in-Some-clause-leads g c =
+    subst (λ n. OnOk c.settle_as.result (Leads g.C.ControlLoop.reconciler g.C.ControlLoop.phase g.C.ControlLoop.is_waiting (settled n c.args.rounds c.args.namespaces.now) nothing c.args.self.now c.settle_as.new.self c.args.controllers.now c.settle_as.new.controllers)) (sym c.in-Some.is) c.settle_as.ensures.leads
 
-pub loop-init : goal.loop-init
-loop-init g c = record {
-  many = refl;
-  present = c.requires.present;
-  follows = c.requires.follows;
-  leads = far_begins g.C.ControlLoop.reconciler g.C.ControlLoop.phase g.C.ControlLoop.is_waiting (settled c.args.rounds c.args.namespaces.now) (λ rounds. settled_as rounds c.in-Some.kubelet c.args.namespaces.now) c.args.rounds c.args.self.now c.args.controllers.now
-      (ends_as g.C.ControlLoop.reconciler g.C.ControlLoop.phase g.C.ControlLoop.is_waiting (settled c.args.rounds c.args.namespaces.now) (settled_as c.args.rounds c.in-Some.kubelet c.args.namespaces.now) c.args.self.now c.args.controllers.now
-      (λ z reconcilers k shows. ap (λ n. settled_as c.args.rounds n c.args.namespaces.now z (length c.args.controllers.now) reconcilers k) (sym (c.in-Some.ensures.lowest (length c.args.controllers.now) k shows.0.1))));
-}
+pub returns-in-Some-clause-halts : goal.returns-in-Some-clause-halts
+returns-in-Some-clause-halts g c =
+    subst (λ n. IfErr c.settle_as.result (λ fault. Halts g.C.ControlLoop.reconciler g.C.ControlLoop.phase g.C.ControlLoop.is_waiting fault (settled n c.args.rounds c.args.namespaces.now) c.args.self.now c.args.controllers.now c.settle_as.new.controllers)) (sym c.in-Some.is) c.settle_as.ensures.halts
 
-pub loop-preserved : goal.loop-preserved
-loop-preserved g c =
-    let kept = c.loop.invariant in
-    let left = c.args.rounds - (c.loop.counter + 1) in
-    let rest = settled_as left c.in-Some.kubelet c.args.namespaces.now in record {
-      many = c.in_ok-settle_once.ensures.many ∙ kept.many;
-      present = c.in_ok-settle_once.ensures.many ∙ kept.present ∙ sym c.in_ok-settle_once.ensures.present;
-      follows = c.in_ok-settle_once.ensures.follows;
-      leads = far_on g.C.ControlLoop.reconciler g.C.ControlLoop.phase g.C.ControlLoop.is_waiting (settled c.args.rounds c.args.namespaces.now) (λ rounds. settled_as rounds c.in-Some.kubelet c.args.namespaces.now) c.args.rounds c.loop.counter rest c.args.self.now c.loop.self c.settle_once.new.self
-          c.args.controllers.now c.loop.controllers c.settle_once.new.controllers c.loop-test.true kept.many kept.leads
-          (subst (λ whole. Leads g.C.ControlLoop.reconciler g.C.ControlLoop.phase g.C.ControlLoop.is_waiting whole rest c.loop.self c.settle_once.new.self c.loop.controllers c.settle_once.new.controllers) (sym (settles_on left c.in-Some.kubelet c.args.namespaces.now))
-          (first_leads g.C.ControlLoop.reconciler g.C.ControlLoop.phase g.C.ControlLoop.is_waiting (settled_once c.in-Some.kubelet c.args.namespaces.now) None (λ delivered. rest) c.loop.self c.settle_once.new.self c.loop.controllers c.settle_once.new.controllers c.in_ok-settle_once.ensures.leads));
-    }
-
-pub returns-in_err-settle_once-clause-halts : goal.returns-in_err-settle_once-clause-halts
-returns-in_err-settle_once-clause-halts g c =
-    let kept = c.loop.invariant in
-    let left = c.args.rounds - (c.loop.counter + 1) in
-    let rest = settled_as left c.in-Some.kubelet c.args.namespaces.now in
-    let fault = c.in_err-settle_once.field-0.0 in
-    let is : c.from_residual.result ≡ Err fault = search rules in
-    subst (λ r. IfErr r (λ fault. Halts g.C.ControlLoop.reconciler g.C.ControlLoop.phase g.C.ControlLoop.is_waiting fault (settled c.args.rounds c.args.namespaces.now) c.args.self.now c.args.controllers.now c.settle_once.new.controllers)) (sym is)
-    (far_halts g.C.ControlLoop.reconciler g.C.ControlLoop.phase g.C.ControlLoop.is_waiting (settled c.args.rounds c.args.namespaces.now) (λ rounds. settled_as rounds c.in-Some.kubelet c.args.namespaces.now) c.args.rounds c.loop.counter fault c.args.self.now c.loop.self c.args.controllers.now c.loop.controllers
-    c.settle_once.new.controllers c.loop-test.true kept.many kept.leads
-    (subst (λ whole. Halts g.C.ControlLoop.reconciler g.C.ControlLoop.phase g.C.ControlLoop.is_waiting fault whole c.loop.self c.loop.controllers c.settle_once.new.controllers) (sym (settles_on left c.in-Some.kubelet c.args.namespaces.now))
-    (first_halts g.C.ControlLoop.reconciler g.C.ControlLoop.phase g.C.ControlLoop.is_waiting fault (settled_once c.in-Some.kubelet c.args.namespaces.now) (λ delivered. rest) c.loop.self c.loop.controllers c.settle_once.new.controllers c.in_err-settle_once.ensures.halts)))
-
-pub returns-clause-leads : goal.returns-clause-leads
-returns-clause-leads g c =
-    far_ends g.C.ControlLoop.reconciler g.C.ControlLoop.phase g.C.ControlLoop.is_waiting (settled c.args.rounds c.args.namespaces.now) (λ rounds. settled_as rounds c.in-Some.kubelet c.args.namespaces.now) c.args.rounds c.loop.counter c.args.self.now c.loop.self c.args.controllers.now c.loop.controllers
-    (settles_none c.in-Some.kubelet c.args.namespaces.now) c.loop-test.false c.loop.invariant.leads
+pub returns-in-None-clause-leads : goal.returns-in-None-clause-leads
+returns-in-None-clause-leads g c =
+    subst (λ n. Leads g.C.ControlLoop.reconciler g.C.ControlLoop.phase g.C.ControlLoop.is_waiting (settled n c.args.rounds c.args.namespaces.now) nothing c.args.self.now c.args.self.now c.args.controllers.now c.args.controllers.now) (sym c.in-None.is) (self_leads g.C.ControlLoop.reconciler g.C.ControlLoop.phase g.C.ControlLoop.is_waiting nothing c.args.self.now c.args.controllers.now)

@@ -1,0 +1,222 @@
+// One controller makes its round, or goes up to its next write.
+ghost use Rattle.std.specs.Prelude.{◌≡◌, ◌<◌, length, IfErr, IfOk, OnErr, OnOk};
+ghost use Rattle.cluster_runs.specs.Faults.{IsShort};
+ghost use Rattle.cluster_runs.specs.Leading.{Halts, Leads, Peeks, is_meant};
+ghost use Rattle.cluster_runs.specs.Shown.{Follows, HaveCallers, KeepsCallers, Stay};
+ghost use Rattle.cluster_runs.specs.declared.fault.ClusterFault.TheVariants.{Memory as OutOfMemory};
+ghost use Rattle.cluster_runs.specs.Turns.{approach, approach_of, asked, asked_while, begins, ends_with, is_read, most_requests, nothing, round, round_of};
+
+use crate::cluster::Cluster;
+use crate::fault::ClusterFault;
+use requests::{Reply, Request};
+use rounds::ControlLoop;
+
+/// More requests no round has.
+const MOST_REQUESTS: u64 = 4_294_967_296;
+
+/// The requests that are meant.
+#[derive(Clone, Copy)]
+pub(crate) enum Meant {
+    /// All but the one that a round begins with.
+    Within,
+    /// The reads among these.
+    ReadWithin,
+    /// All that are no reads.
+    Write,
+}
+
+impl Meant {
+    fn is_meant(self, request: &Request) -> bool
+        ensures { result ≡ is_meant self request.now }
+    {
+        match self {
+            Meant::Within => !begins(request),
+            Meant::ReadWithin => !begins(request) && is_read(request),
+            Meant::Write => !is_read(request),
+        }
+    }
+}
+
+/// Whether a round begins with the request.
+fn begins(request: &Request) -> bool
+    ensures { result ≡ begins request.now }
+{
+    matches!(request, Request::Get(_))
+}
+
+/// Whether it is a get or a list.
+fn is_read(request: &Request) -> bool
+    ensures { result ≡ is_read request.now }
+{
+    matches!(request, Request::Get(_) | Request::List { .. })
+}
+
+impl Cluster {
+    /// The round of the controller, if it is there.
+    pub(crate) fn round<C: ControlLoop>(
+        &mut self,
+        controllers: &mut [C],
+        number: usize,
+    ) -> Result<(), ClusterFault>
+        requires present { HaveCallers controllers.old self.old }
+        requires follows { Follows self.old }
+        ensures many { length controllers.new ≡ length controllers.old }
+        ensures present { KeepsCallers self.old self.new }
+        ensures follows { OnOk result (Follows self.new) }
+        ensures leads { OnOk result (Leads C.reconciler C.phase C.is_waiting
+            (round_of number) nothing self.old self.new controllers.old controllers.new) }
+        ensures halts { IfErr result (λ fault. Halts C.reconciler C.phase C.is_waiting fault
+            (round_of number) self.old controllers.old controllers.new) }
+        ensures reasons { IfErr result IsShort }
+    {
+        if number < controllers.len() {
+            return self.make_round(controllers, number);
+        }
+        Ok(())
+    }
+
+    /// What the controller asks before its next write, if it is there.
+    pub(crate) fn approach<C: ControlLoop>(
+        &mut self,
+        controllers: &mut [C],
+        number: usize,
+    ) -> Result<(), ClusterFault>
+        requires present { HaveCallers controllers.old self.old }
+        requires follows { Follows self.old }
+        ensures many { length controllers.new ≡ length controllers.old }
+        ensures present { KeepsCallers self.old self.new }
+        ensures follows { OnOk result (Follows self.new) }
+        ensures leads { OnOk result (Leads C.reconciler C.phase C.is_waiting
+            (approach_of number) nothing self.old self.new controllers.old controllers.new) }
+        ensures halts { IfErr result (λ fault. Halts C.reconciler C.phase C.is_waiting fault
+            (approach_of number) self.old controllers.old controllers.new) }
+        ensures reasons { IfErr result IsShort }
+    {
+        if number < controllers.len() {
+            return self.make_approach(controllers, number);
+        }
+        Ok(())
+    }
+
+    /// The controller goes on until its round is over, or a reply does not come.
+    pub(crate) fn make_round<C: ControlLoop>(
+        &mut self,
+        controllers: &mut [C],
+        number: usize,
+    ) -> Result<(), ClusterFault>
+        requires present { HaveCallers controllers.old self.old }
+        requires follows { Follows self.old }
+        requires there { number < length controllers.old }
+        ensures many { length controllers.new ≡ length controllers.old }
+        ensures present { KeepsCallers self.old self.new }
+        ensures follows { OnOk result (Follows self.new) }
+        ensures leads { OnOk result (Leads C.reconciler C.phase C.is_waiting
+            (round number) nothing self.old self.new controllers.old controllers.new) }
+        ensures halts { IfErr result (λ fault. Halts C.reconciler C.phase C.is_waiting fault
+            (round number) self.old controllers.old controllers.new) }
+        ensures reasons { IfErr result IsShort }
+    {
+        self.ask_while(controllers, number, Meant::Within)
+    }
+
+    /// The controller goes on until it would call a write, or its round is over, or a reply does not come.
+    fn make_approach<C: ControlLoop>(
+        &mut self,
+        controllers: &mut [C],
+        number: usize,
+    ) -> Result<(), ClusterFault>
+        requires present { HaveCallers controllers.old self.old }
+        requires follows { Follows self.old }
+        requires there { number < length controllers.old }
+        ensures many { length controllers.new ≡ length controllers.old }
+        ensures present { KeepsCallers self.old self.new }
+        ensures follows { OnOk result (Follows self.new) }
+        ensures leads { OnOk result (Leads C.reconciler C.phase C.is_waiting
+            (approach number) nothing self.old self.new controllers.old controllers.new) }
+        ensures halts { IfErr result (λ fault. Halts C.reconciler C.phase C.is_waiting fault
+            (approach number) self.old controllers.old controllers.new) }
+        ensures reasons { IfErr result IsShort }
+    {
+        let writes = self.is_next(controllers, number, Meant::Write)?;
+        if writes {
+            return Ok(());
+        }
+        self.ask_while(controllers, number, Meant::ReadWithin)
+    }
+
+    /// The controller asks its next request, and then on while the next one is meant.
+    fn ask_while<C: ControlLoop>(
+        &mut self,
+        controllers: &mut [C],
+        number: usize,
+        meant: Meant,
+    ) -> Result<(), ClusterFault>
+        requires present { HaveCallers controllers.old self.old }
+        requires follows { Follows self.old }
+        requires there { number < length controllers.old }
+        ensures many { length controllers.new ≡ length controllers.old }
+        ensures present { KeepsCallers self.old self.new }
+        ensures follows { OnOk result (Follows self.new) }
+        ensures leads { OnOk result (Leads C.reconciler C.phase C.is_waiting
+            (asked_while (is_meant meant) most_requests number) nothing self.old self.new controllers.old controllers.new) }
+        ensures halts { IfErr result (λ fault. Halts C.reconciler C.phase C.is_waiting fault
+            (asked_while (is_meant meant) most_requests number) self.old controllers.old controllers.new) }
+        ensures reasons { IfErr result IsShort }
+    {
+        for _ in 0..MOST_REQUESTS {
+            self.ask_next(controllers, number)?;
+            let more = self.is_next(controllers, number, meant)?;
+            if !more {
+                return Ok(());
+            }
+        }
+        Ok(())
+    }
+
+    /// The controller asks its next request.
+    fn ask_next<C: ControlLoop>(
+        &mut self,
+        controllers: &mut [C],
+        number: usize,
+    ) -> Result<Option<Reply>, ClusterFault>
+        requires present { HaveCallers controllers.old self.old }
+        requires follows { Follows self.old }
+        requires there { number < length controllers.old }
+        ensures many { length controllers.new ≡ length controllers.old }
+        ensures present { KeepsCallers self.old self.new }
+        ensures follows { OnOk result (Follows self.new) }
+        ensures leads { IfOk result (λ delivered. Leads C.reconciler C.phase C.is_waiting
+            (asked number) (ends_with delivered) self.old self.new controllers.old controllers.new) }
+        ensures halts { IfErr result (λ fault. Halts C.reconciler C.phase C.is_waiting fault (asked number) self.old controllers.old controllers.new) }
+        ensures reasons { IfErr result IsShort }
+    {
+        self.call_next(controllers, number)?;
+        let caller = self.callers.present[number];
+        self.carry(controllers, caller)
+    }
+
+    /// Whether the controller got its reply, and its next request is meant.
+    fn is_next<C: ControlLoop>(
+        &self,
+        controllers: &mut [C],
+        number: usize,
+        meant: Meant,
+    ) -> Result<bool, ClusterFault>
+        requires present { HaveCallers controllers.old self.now }
+        requires there { number < length controllers.old }
+        ensures many { length controllers.new ≡ length controllers.old }
+        ensures peeks { IfOk result (λ is. Peeks C.reconciler C.phase C.is_waiting (is_meant meant) number is self.now controllers.old controllers.new) }
+        ensures stays { OnErr result (Stay C.reconciler C.phase controllers.old controllers.new) }
+        ensures reasons { IfErr result (λ fault. fault ≡ OutOfMemory) }
+    {
+        let caller = self.callers.present[number];
+        if !self.replay.idle(caller) {
+            return Ok(false);
+        }
+        let request = controllers[number].next()?;
+        let is = meant.is_meant(&request);
+        // Let go by name, which is proved once for the type and not at each way out.
+        drop(request);
+        Ok(is)
+    }
+}
