@@ -39,12 +39,29 @@ bare_event_in word ms =
     else if bytes_eq word (codes "crash") then crash_in ms
     else store_step_in word ms
 
-abbrev pub event_by : (word : List ℕ) → Members → Option ClusterEvent
-event_by word ms = if bytes_eq word (codes "outside") then outside_in ms else bare_event_in word ms
+-- `{"controller":I,"event":"run"}`: the steps that carry the controller's open request to its reply; it has to have a number.
+-- `{"caller":N,"event":"run"}`, with no member `controller` at all: those of a caller.
+abbrev pub run_by : (controller : Option Data) → Members → Option Turn
+run_by (Some controller) ms = option_map turn.Run (count_of controller)
+run_by None ms = option_map turn.RunCaller (count_in (codes "caller") ms)
 
--- `{"controller":I,"event":"run"}`: the steps that carry the controller's open request to its reply
 abbrev pub run_in : Members → Option Turn
-run_in ms = option_map turn.Run (count_in (codes "controller") ms)
+run_in ms = run_by (get_member (codes "controller") ms) ms
+
+-- `{"controller":I,"event":"round"}`: a round of the controller
+abbrev pub round_in : Members → Option Turn
+round_in ms = option_map turn.Round (count_in (codes "controller") ms)
+
+-- `{"controller":I,"event":"approach"}`: its round up to its next write
+abbrev pub approach_in : Members → Option Turn
+approach_in ms = option_map turn.Approach (count_in (codes "controller") ms)
+
+-- `{"caller":N,"event":"ask","request":L}`: what a line `outside` calls, carried to its reply
+abbrev pub ask_in : Members → Option Turn
+ask_in ms = do
+  caller ← count_in (codes "caller") ms
+  request ← request_in ms
+  Some (turn.Ask caller request)
 
 -- from 1 to 1,024
 abbrev pub rounds_of : ℕ → Option ℕ
@@ -54,10 +71,20 @@ rounds_of n = if nat_le 1 n && nat_le n 1024 then Some n else None
 abbrev pub settle_in : Members → Option Turn
 settle_in ms = option_map turn.Settle (count_in (codes "rounds") ms >>= rounds_of)
 
-abbrev pub turn_by : (word : List ℕ) → Members → Option Turn
-turn_by word ms = if bytes_eq word (codes "run") then run_in ms
+-- several events that bring no request
+abbrev pub bare_turn_in : (word : List ℕ) → Members → Option Turn
+bare_turn_in word ms =
+    if bytes_eq word (codes "run") then run_in ms
+    else if bytes_eq word (codes "round") then round_in ms
+    else if bytes_eq word (codes "approach") then approach_in ms
     else if bytes_eq word (codes "settle") then settle_in ms
-    else option_map turn.Event (event_by word ms)
+    else option_map turn.Event (bare_event_in word ms)
+
+abbrev pub turn_by : (word : List ℕ) → Members → Option Turn
+turn_by word ms =
+    if bytes_eq word (codes "ask") then ask_in ms
+    else if bytes_eq word (codes "outside") then option_map turn.Event (outside_in ms)
+    else bare_turn_in word ms
 
 -- the turn that the member `event` says
 abbrev pub turn_in : Members → Option Turn

@@ -1,6 +1,6 @@
 // The turn that a line of a script is.
 ghost use Rattle.std.specs.Prelude.{◌≡◌};
-ghost use Rattle.cluster_scripts.specs.Events.{bare_event_in, crash_in, next_in, outside_in, run_in, settle_in, store_step_in, turn_in, turn_of};
+ghost use Rattle.cluster_scripts.specs.Events.{approach_in, ask_in, bare_event_in, bare_turn_in, crash_in, next_in, outside_in, round_in, run_in, settle_in, store_step_in, turn_in, turn_of};
 ghost use Rattle.replay_lines.specs.Events.{Reads};
 
 use cluster_runs::ClusterEvent;
@@ -31,32 +31,68 @@ fn turn_in(alloc: Global, members: Members) -> Result<Turn, ScriptError>
     let Some(word) = text_in(&members, "event") else {
         return Err(ScriptError::BadScript);
     };
-    if word == "run" {
-        return match run_in(&members) {
-            Some(turn) => Ok(turn),
-            None => Err(ScriptError::BadScript),
-        };
-    }
-    if word == "settle" {
-        return match settle_in(&members) {
-            Some(turn) => Ok(turn),
-            None => Err(ScriptError::BadScript),
-        };
+    if word == "ask" {
+        return ask_in(alloc, members);
     }
     if word == "outside" {
         return Ok(Turn::Event(outside_in(alloc, members)?));
     }
-    match bare_event_in(word, &members) {
-        Some(event) => Ok(Turn::Event(event)),
+    match bare_turn_in(word, &members) {
+        Some(turn) => Ok(turn),
         None => Err(ScriptError::BadScript),
     }
 }
 
+/// A turn that brings no request.
+fn bare_turn_in(word: &str, members: &Members) -> Option<Turn>
+    ensures { result ≡ bare_turn_in word.now members.now }
+{
+    if word == "run" {
+        run_in(members)
+    } else if word == "round" {
+        round_in(members)
+    } else if word == "approach" {
+        approach_in(members)
+    } else if word == "settle" {
+        settle_in(members)
+    } else {
+        Some(Turn::Event(bare_event_in(word, members)?))
+    }
+}
+
+/// The run of a controller, or of a caller where no controller is named.
 fn run_in(members: &Members) -> Option<Turn>
     ensures { result ≡ run_in members.now }
 {
+    match members.get("controller") {
+        Some(controller) => Some(Turn::Run(count_of(controller)? as usize)),
+        None => Some(Turn::RunCaller(count_in(members, "caller")?)),
+    }
+}
+
+fn round_in(members: &Members) -> Option<Turn>
+    ensures { result ≡ round_in members.now }
+{
     let controller = count_in(members, "controller")?;
-    Some(Turn::Run(controller as usize))
+    Some(Turn::Round(controller as usize))
+}
+
+fn approach_in(members: &Members) -> Option<Turn>
+    ensures { result ≡ approach_in members.now }
+{
+    let controller = count_in(members, "controller")?;
+    Some(Turn::Approach(controller as usize))
+}
+
+#[tactic(auto, using(replay_lines::proofs::Readings::fails_bind))]
+fn ask_in(alloc: Global, members: Members) -> Result<Turn, ScriptError>
+    ensures { Reads (λ turn. turn) result (ask_in members) }
+{
+    let Some(caller) = count_in(&members, "caller") else {
+        return Err(ScriptError::BadScript);
+    };
+    let request = request_in(alloc, members)?;
+    Ok(Turn::Ask(caller, request))
 }
 
 #[tactic(auto, using(replay_lines::proofs::Readings::fails_bind))]

@@ -3,7 +3,7 @@ ghost use Rattle.std.specs.Prelude.{◌≡◌, ◌++◌, ◌∷◌, [], IfOk, On
 ghost use Rattle.json.specs.Tree.{json_tokens};
 ghost use Rattle.serde_json.specs.Written.{compact_text, outline};
 ghost use Rattle.plain.specs.ValueLines.{text_lines};
-ghost use Rattle.cluster_scripts.specs.Printing.{call_data_at, call_shown, caller_tokens, cluster_text, item_shown, owner_in, shown};
+ghost use Rattle.cluster_scripts.specs.Printing.{call_data_at, caller_tokens, cluster_text, controller_tokens, item_shown, owner_in, shown};
 
 use crate::request_line::write_request;
 use cluster_runs::ClusterRun;
@@ -16,8 +16,9 @@ use std::alloc::{AllocError, Global};
 use std::collections::BTreeMap;
 
 /// The lines of a run, in the order of their places: `{"at":P,"caller":N,"controller":I,"request":L}` for each call of a
-/// controller, L as a request line of `serve`, and `{"at":P,"caller":N,"reply":R}` for each reply, R as a reply line of it;
-/// last `{"order":[..]}` with the places of the calls in the order of the run. A call of anybody else is not shown.
+/// controller, L as a request line of `serve`, `{"at":P,"caller":N,"request":L}` for each call of anybody else, and
+/// `{"at":P,"caller":N,"reply":R}` for each reply, R as a reply line; last `{"order":[..]}` with the places of the calls in
+/// the order of the run.
 pub fn cluster_text(alloc: Global, run: &ClusterRun) -> Result<Vec<u8>, Memory>
     ensures { IfOk result (λ text. text.items ≡ cluster_text (owner_in run.now.owners) run.now.run.trace.items.items run.now.run.order.items) }
 {
@@ -44,7 +45,7 @@ fn put_item(
     item: &Item,
     out: Vec<u8>,
 ) -> Result<Vec<u8>, AllocError>
-    ensures { IfOk result (λ text. text.items ≡ out.items ++ text_lines (item_shown (owner_in owners.now) item.now)) }
+    ensures { IfOk result (λ text. text.items ≡ out.items ++ (compact_text (item_shown (owner_in owners.now) item.now) ++ 10 ∷ [])) }
 {
     match item {
         Item::Call {
@@ -70,22 +71,7 @@ fn owner_of(owners: &BTreeMap<u64, Option<usize>>, caller: u64) -> Option<usize>
 fn put_call(
     place: u64,
     caller: u64,
-    owner: Option<usize>,
-    request: &Request,
-    out: Vec<u8>,
-) -> Result<Vec<u8>, AllocError>
-    ensures { IfOk result (λ text. text.items ≡ out.items ++ text_lines (call_shown place caller owner request.now)) }
-{
-    match owner {
-        Some(controller) => put_call_of(place, caller, controller, request, out),
-        None => Ok(out),
-    }
-}
-
-fn put_call_of(
-    place: u64,
-    caller: u64,
-    controller: usize,
+    controller: Option<usize>,
     request: &Request,
     out: Vec<u8>,
 ) -> Result<Vec<u8>, AllocError>
@@ -99,7 +85,7 @@ fn put_call_of(
 fn write_call_at(
     place: u64,
     caller: u64,
-    controller: usize,
+    controller: Option<usize>,
     request: &Request,
     out: &mut Writer,
 ) -> Result<(), AllocError>
@@ -118,7 +104,7 @@ fn write_call_at(
 fn write_caller(
     place: u64,
     caller: u64,
-    controller: usize,
+    controller: Option<usize>,
     out: &mut Writer,
 ) -> Result<(), AllocError>
     ensures tokens { OnOk result (out.new.tokens ≡ out.old.tokens ++ caller_tokens place caller controller) }
@@ -126,5 +112,15 @@ fn write_caller(
 {
     write_integer_member("at", place, out)?;
     write_integer_member("caller", caller, out)?;
-    write_integer_member("controller", controller as u64, out)
+    write_controller(controller, out)
+}
+
+fn write_controller(controller: Option<usize>, out: &mut Writer) -> Result<(), AllocError>
+    ensures tokens { OnOk result (out.new.tokens ≡ out.old.tokens ++ controller_tokens controller) }
+    ensures before { out.new.before ≡ out.old.before }
+{
+    match controller {
+        Some(controller) => write_integer_member("controller", controller as u64, out),
+        None => Ok(()),
+    }
 }

@@ -34,6 +34,10 @@ pub struct ClusterScript {
 ///   `crash`, or `{"event":"raise"}`: a step of the store, as in a script of `stsctl replay`. A `crash` with a member
 ///   `controller` is that of a controller;
 /// - `{"controller":I,"event":"run"}`: the steps that carry the controller's open request to its reply, as `Turn::Run` says;
+///   `{"caller":N,"event":"run"}`, with no member `controller`: those of a caller, as `Turn::RunCaller` says;
+/// - `{"caller":N,"event":"ask","request":L}`: what `outside` calls, carried to its reply, as `Turn::Ask` says;
+/// - `{"controller":I,"event":"round"}`: a round of the controller, as `Turn::Round` says;
+/// - `{"controller":I,"event":"approach"}`: its round up to its next write, as `Turn::Approach` says;
 /// - `{"event":"settle","rounds":R}`, R from 1 to 1,024: rounds of all controllers and turns of a kubelet, as `Turn::Settle` says.
 ///
 /// Other members are passed over, and of members of one name the last counts. C, K, I and N are whole numbers below 2^64.

@@ -1,7 +1,7 @@
 use Rattle.std.proofs.lemmas.Result.{IfOk-weaker}
 use Rattle.plain.proofs.Written.{line_written}
 use Rattle.cluster_scripts.specs.Printing.{call_data_at}
-use Rattle.cluster_scripts.proofs.printing.put_call_of.Goals as goal
+use Rattle.cluster_scripts.proofs.printing.put_call.Goals as goal
 
 pub returns : goal.returns
 returns c =
