@@ -1,0 +1,7 @@
+mod Ends
+mod Answered
+mod Short
+mod Open
+mod Asked
+mod Stays
+mod Rounds

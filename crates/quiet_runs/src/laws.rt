@@ -1,0 +1,65 @@
+ghost use Rattle.std.specs.Prelude.{◌≡◌, ◌<◌, ◌≤◌, ◌+◌, ◌∷◌, [], ℕ, List, None, Option, false, true};
+ghost use Rattle.std.specs.List.{AllByRecursion};
+ghost use Rattle.cluster_runs.specs.declared.event.ClusterEvent.{ClusterEvent};
+ghost use Rattle.cluster_runs.specs.Cluster.{Cluster, is_used, run, start};
+ghost use Rattle.cluster_runs.specs.Turns.{Course, approach, asked, asked_as, carried, events_of_turns, followed_by, round, settled_as};
+ghost use Rattle.cluster_runs.specs.declared.turn.Turn.{Turn};
+ghost use Rattle.interleavings.specs.declared.trace.Item.TheVariants as item;
+ghost use Rattle.interleavings.specs.World.{Idle, Size, opening};
+ghost use Rattle.quiet_runs.specs.Quiet.{Answers, HasShards, IsAtRest, IsQuiet, KeepsQuiet, is_open, is_single, steps_of_a_request, world_of};
+ghost use Rattle.requests.specs.declared.reply.Reply.{Reply};
+ghost use Rattle.requests.specs.declared.request.Request.{Request};
+ghost use Rattle.rounds.specs.Phase.{asks};
+ghost use Rattle.rounds.specs.Reconciler.{Reconciler};
+
+/// Where the store is quiet, an open request gets its reply when it is carried on: in five steps at the most, or in two more than
+/// there are shards; and the store is quiet again. So a line of a script that carries a request on never stops short there,
+/// whoever called the request, and however many requests of other callers are open.
+pub fn quiet_requests_are_answered()
+    ensures { (size : Size) (count : ℕ) (reconcilers : ℕ → Reconciler) (cluster : Cluster) (caller : ℕ) → HasShards size
+        → IsQuiet (world_of size cluster) → is_used cluster caller ≡ true → is_open ((world_of size cluster).phase caller) ≡ true
+        → Answers (carried caller) [] caller (steps_of_a_request size) size count reconcilers cluster }
+{}
+
+/// Where the store is quiet, whoever is idle and asks gets the reply: a controller that asks what it is to ask next, and a
+/// caller that is no controller's.
+pub fn quiet_asks_are_answered()
+    ensures controllers { (size : Size) (count : ℕ) (reconcilers : ℕ → Reconciler) (events : List ClusterEvent) (controller : ℕ)
+        → HasShards size → controller < count
+        → let cluster = run size count reconcilers (start count) events in
+        let caller = cluster.callers controller in
+        IsQuiet (world_of size cluster) → (world_of size cluster).phase caller ≡ Idle
+        → Answers (asked controller) (item.Call (world_of size cluster).now caller (asks (reconcilers controller) (cluster.phases controller)) ∷ [])
+        caller (steps_of_a_request size + 1) size count reconcilers cluster }
+    ensures others { (size : Size) (count : ℕ) (reconcilers : ℕ → Reconciler) (cluster : Cluster) (caller : ℕ) (request : Request)
+        → HasShards size → IsQuiet (world_of size cluster) → (world_of size cluster).phase caller ≡ Idle
+        → cluster.incarnations caller ≡ None
+        → Answers (asked_as caller request) (item.Call (world_of size cluster).now caller request ∷ [])
+        caller (steps_of_a_request size + 1) size count reconcilers cluster }
+{}
+
+/// What asks and carries requests on leaves a quiet store quiet, and nobody waits for a reply who did not wait before: a request
+/// that is carried on, or that a controller or anybody else asks, a controller's round or its approach to a write, rounds of all
+/// controllers and turns of a kubelet, and any of these one after another. So none of them stops short at a request that it has
+/// called. And a script none of whose lines is a single event ends at rest: no write is under way, and nobody waits.
+pub fn quiet_is_kept()
+    ensures begins { IsAtRest opening }
+    ensures carried { (size : Size) (count : ℕ) (reconcilers : ℕ → Reconciler) (caller : ℕ)
+        → HasShards size → KeepsQuiet size count reconcilers (carried caller) }
+    ensures controllers { (size : Size) (count : ℕ) (reconcilers : ℕ → Reconciler) (controller : ℕ)
+        → HasShards size → KeepsQuiet size count reconcilers (asked controller) }
+    ensures others { (size : Size) (count : ℕ) (reconcilers : ℕ → Reconciler) (caller : ℕ) (request : Request)
+        → HasShards size → KeepsQuiet size count reconcilers (asked_as caller request) }
+    ensures rounds { (size : Size) (count : ℕ) (reconcilers : ℕ → Reconciler) (controller : ℕ)
+        → HasShards size → KeepsQuiet size count reconcilers (round controller) }
+    ensures approaches { (size : Size) (count : ℕ) (reconcilers : ℕ → Reconciler) (controller : ℕ)
+        → HasShards size → KeepsQuiet size count reconcilers (approach controller) }
+    ensures settled { (size : Size) (count : ℕ) (reconcilers : ℕ → Reconciler) (rounds kubelet : ℕ) (namespaces : List (List ℕ))
+        → HasShards size → KeepsQuiet size count reconcilers (settled_as rounds kubelet namespaces) }
+    ensures one_after_another { (size : Size) (count : ℕ) (reconcilers : ℕ → Reconciler) (first : Course) (next : Option Reply → Course)
+        → KeepsQuiet size count reconcilers first → ((delivered : Option Reply) → KeepsQuiet size count reconcilers (next delivered))
+        → KeepsQuiet size count reconcilers (followed_by first next) }
+    ensures scripts { (size : Size) (count : ℕ) (reconcilers : ℕ → Reconciler) (namespaces : List (List ℕ)) (turns : List Turn)
+        → HasShards size → AllByRecursion (λ turn. is_single turn ≡ false) turns
+        → IsAtRest (world_of size (run size count reconcilers (start count) (events_of_turns size count reconcilers namespaces turns))) }
+{}
