@@ -1,0 +1,4 @@
+mod Pieces
+mod Runs
+mod Worlds
+mod Sections

@@ -1,0 +1,86 @@
+-- Which events are enabled, by the world before them. A Call is enabled where its caller is idle, and a Check where its caller
+-- has called a write and nobody holds the shard of its key. A Reserve is enabled for a write that holds its shard, and a Publish
+-- for one that has drawn a number, also of a caller that is gone. A Raise is enabled where the number behind the frontier is
+-- filled. A Read, a ReadAt and a Compact are enabled where the caller has called a get or a list of now, a list at a version, and
+-- a compaction. A Part is enabled while a shard has still to answer. A Reply is enabled where the frontier has reached what its
+-- caller saw, or where all shards have answered its read. A Crash is enabled for a caller that is not gone yet.
+use Rattle.std.specs.Prelude.{ℕ, zero, suc, Bool, true, false, not, nat_le, Option, is_some}
+use Rattle.interleavings.specs.declared.event.Event.{Event}
+use Rattle.interleavings.specs.declared.event.Event.TheVariants as event
+use Rattle.interleavings.specs.World.{Size, World}
+use Rattle.history.specs.NextStep.{can_rise}
+use Rattle.history.specs.declared.standing.Asked.TheVariants.{Write, Read, ReadAt, Compaction}
+use Rattle.history.specs.declared.standing.Standing.{Standing}
+use Rattle.history.specs.declared.standing.Standing.TheVariants.{Idle, Called, Holding, Drawn, Waiting, Reading, Gone, Left}
+use Rattle.pictures.specs.Picture.{standing_by}
+use Rattle.traces.specs.declared.moment.Moment.{Moment}
+
+-- ---- what a line tells of the world before an event, and after it
+-- whether somebody holds the shard in which a write is to be checked
+abbrev pub is_held : World → Standing → Bool
+is_held w (Called (Write shard)) = is_some (w.holder shard)
+is_held w _ = false
+
+-- where the caller stands that the event names, and whether its shard is held; the frontier, and whether the number behind it
+-- is filled
+abbrev pub moment_of : Size → World → (caller : Option ℕ) → Moment
+moment_of z w caller =
+    record { standing = standing_by z w caller; is_held = is_held w (standing_by z w caller); can_rise = can_rise w; frontier = w.frontier }
+
+-- ---- by where the caller stands
+abbrev pub is_idle : Standing → Bool
+is_idle Idle = true
+is_idle _ = false
+
+abbrev pub may_check : Standing → (is_held : Bool) → Bool
+may_check (Called (Write shard)) held = not held
+may_check _ held = false
+
+abbrev pub asks_read : Standing → Bool
+asks_read (Called Read) = true
+asks_read _ = false
+
+abbrev pub asks_read_at : Standing → Bool
+asks_read_at (Called ReadAt) = true
+asks_read_at _ = false
+
+abbrev pub asks_compaction : Standing → Bool
+asks_compaction (Called Compaction) = true
+asks_compaction _ = false
+
+abbrev pub is_holding : Standing → Bool
+is_holding (Holding shard) = true
+is_holding _ = false
+
+abbrev pub has_drawn : Standing → Bool
+has_drawn (Drawn number shard) = true
+has_drawn (Left number shard) = true
+has_drawn _ = false
+
+abbrev pub has_parts_left : Standing → Bool
+has_parts_left (Reading number shard (suc left)) = true
+has_parts_left _ = false
+
+abbrev pub may_reply : Standing → (frontier : ℕ) → Bool
+may_reply (Waiting saw) frontier = nat_le saw frontier
+may_reply (Reading number shard zero) frontier = true
+may_reply _ frontier = false
+
+abbrev pub is_gone : Standing → Bool
+is_gone Gone = true
+is_gone (Left number shard) = true
+is_gone _ = false
+
+-- ---- whether an event is enabled, by the moment before it
+abbrev pub is_enabled : Event → (before : Moment) → Bool
+is_enabled (event.Call c r) before = is_idle before.standing
+is_enabled (event.Check c) before = may_check before.standing before.is_held
+is_enabled (event.Reserve c) before = is_holding before.standing
+is_enabled (event.Publish c) before = has_drawn before.standing
+is_enabled event.Raise before = before.can_rise
+is_enabled (event.Read c) before = asks_read before.standing
+is_enabled (event.ReadAt c) before = asks_read_at before.standing
+is_enabled (event.Compact c) before = asks_compaction before.standing
+is_enabled (event.Part c) before = has_parts_left before.standing
+is_enabled (event.Reply c) before = may_reply before.standing before.frontier
+is_enabled (event.Crash c) before = not (is_gone before.standing)

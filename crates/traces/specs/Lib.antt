@@ -1,0 +1,4 @@
+pub mod Enabled
+pub mod Places
+pub mod Lines
+pub mod Traced

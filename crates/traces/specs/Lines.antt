@@ -1,0 +1,46 @@
+-- The line of an event: its place, who, what, that it was not enabled, if so, and where its caller then stands.
+use Rattle.std.specs.Prelude.{ℕ, Bool, true, false, List, [], ◌++◌, Option, Some, None, codes, decimal}
+use Rattle.requests.specs.declared.reply.Reply.{Reply}
+use Rattle.interleavings.specs.declared.event.Event.{Event}
+use Rattle.interleavings.specs.declared.event.Event.TheVariants as event
+use Rattle.history.specs.Replayed.{named_by}
+use Rattle.pictures.specs.Words.{reply_words, request_words}
+use Rattle.traces.specs.Enabled.{is_enabled}
+use Rattle.traces.specs.Places.{place_words}
+use Rattle.traces.specs.declared.moment.Moment.{Moment}
+
+-- `7: web, controller 0, caller 2: `, where `role` is what a caller is called before its number. A Raise names no caller
+abbrev pub caller_words : (role : ℕ → List ℕ) → (caller : Option ℕ) → List ℕ
+caller_words role None = []
+caller_words role (Some c) = role c ++ (codes "caller " ++ (decimal c ++ codes ": "))
+
+abbrev pub head : (role : ℕ → List ℕ) → (place : ℕ) → (caller : Option ℕ) → List ℕ
+head role place caller = decimal place ++ (codes ": " ++ caller_words role caller)
+
+-- `reply Created, version 2`; of a Reply that gives none, `reply`
+abbrev pub given_words : (delivered : Option Reply) → List ℕ
+given_words None = codes "reply"
+given_words (Some reply) = codes "reply " ++ reply_words reply
+
+-- what the event is: of a Call its request, of any other the word that scripts have for it
+abbrev pub event_words : Event → (delivered : Option Reply) → List ℕ
+event_words (event.Call c r) delivered = request_words r
+event_words (event.Check c) delivered = codes "check"
+event_words (event.Reserve c) delivered = codes "reserve"
+event_words (event.Publish c) delivered = codes "publish"
+event_words event.Raise delivered = codes "raise"
+event_words (event.Read c) delivered = codes "read"
+event_words (event.ReadAt c) delivered = codes "readat"
+event_words (event.Compact c) delivered = codes "compact"
+event_words (event.Part c) delivered = codes "part"
+event_words (event.Reply c) delivered = given_words delivered
+event_words (event.Crash c) delivered = codes "crash"
+
+abbrev pub verdict_words : (enabled : Bool) → List ℕ
+verdict_words true = codes ": "
+verdict_words false = codes ": not enabled: "
+
+-- by the moment before the event and the one after it, and by the reply that its caller gets
+abbrev pub event_line : (role : ℕ → List ℕ) → (place : ℕ) → Event → (before after : Moment) → (delivered : Option Reply) → List ℕ
+event_line role place e before after delivered =
+    head role place (named_by e) ++ (event_words e delivered ++ (verdict_words (is_enabled e before) ++ (place_words (named_by e) (is_enabled e before) after ++ codes "\n")))

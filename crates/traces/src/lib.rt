@@ -1,0 +1,14 @@
+//! Runs told to a person event by event: who, what, whether it was enabled, and where its caller then stands.
+#![tactic(auto)]
+
+mod enabled;
+mod laws;
+mod lines;
+mod moment;
+mod notes;
+mod places;
+mod tracing;
+
+pub use laws::enabled_events_change_the_world;
+pub use notes::{NoNotes, Notes};
+pub use tracing::{trace_by_lines, trace_lines};

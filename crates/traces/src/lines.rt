@@ -1,0 +1,106 @@
+//! The line of an event.
+ghost use Rattle.std.specs.Prelude.{◌≡◌, ◌<◌, ◌-◌, ◌^◌, ◌++◌, string_bytes, Some, OnOk};
+ghost use Rattle.traces.specs.Lines.{caller_words, event_line, event_words, given_words, head, verdict_words};
+
+use crate::enabled::is_enabled;
+use crate::moment::{Moment, named_by};
+use crate::places::put_place;
+use interleavings::Event;
+use pictures::{Roles, put_reply, put_request};
+use requests::Reply;
+use std::alloc::AllocError;
+
+/// Puts the line of an event behind the text, by the moment before it and the one after it, and by the reply that its caller
+/// gets.
+pub(crate) fn put_line<R: Roles>(
+    place: u64,
+    event: &Event,
+    before: Moment,
+    after: Moment,
+    delivered: &Option<Reply>,
+    roles: &R,
+    out: &mut String,
+) -> Result<(), AllocError>
+    requires { after.frontier < 2 ^ 64 - 1 }
+    ensures { OnOk result (string_bytes out.new ≡ string_bytes out.old ++ event_line (R.role roles.now) place event.now before after delivered.now) }
+{
+    let caller = named_by(event);
+    let enabled = is_enabled(event, before);
+    put_head(place, caller, roles, out)?;
+    put_event(event, delivered, out)?;
+    put_verdict(enabled, out)?;
+    put_place(caller, enabled, after, out)?;
+    write!(out, "\n")
+}
+
+fn put_head<R: Roles>(
+    place: u64,
+    caller: Option<u64>,
+    roles: &R,
+    out: &mut String,
+) -> Result<(), AllocError>
+    ensures { OnOk result (string_bytes out.new ≡ string_bytes out.old ++ head (R.role roles.now) place caller) }
+{
+    write!(out, "{place}: ")?;
+    put_caller(caller, roles, out)
+}
+
+fn put_caller<R: Roles>(caller: Option<u64>, roles: &R, out: &mut String) -> Result<(), AllocError>
+    ensures { OnOk result (string_bytes out.new ≡ string_bytes out.old ++ caller_words (R.role roles.now) caller) }
+{
+    match caller {
+        Some(caller) => put_named(caller, roles, out),
+        None => Ok(()),
+    }
+}
+
+fn put_named<R: Roles>(caller: u64, roles: &R, out: &mut String) -> Result<(), AllocError>
+    ensures { OnOk result (string_bytes out.new ≡ string_bytes out.old ++ caller_words (R.role roles.now) (Some caller)) }
+{
+    roles.put_role(caller, out)?;
+    write!(out, "caller {caller}: ")
+}
+
+/// Puts behind the text what the event is.
+fn put_event(event: &Event, delivered: &Option<Reply>, out: &mut String) -> Result<(), AllocError>
+    ensures { OnOk result (string_bytes out.new ≡ string_bytes out.old ++ event_words event.now delivered.now) }
+{
+    match event {
+        Event::Call(_, request) => put_request(request, out),
+        Event::Check(_) => out.push_str("check"),
+        Event::Reserve(_) => out.push_str("reserve"),
+        Event::Publish(_) => out.push_str("publish"),
+        Event::Raise => out.push_str("raise"),
+        Event::Read(_) => out.push_str("read"),
+        Event::ReadAt(_) => out.push_str("readat"),
+        Event::Compact(_) => out.push_str("compact"),
+        Event::Part(_) => out.push_str("part"),
+        Event::Reply(_) => put_delivered(delivered, out),
+        Event::Crash(_) => out.push_str("crash"),
+    }
+}
+
+fn put_delivered(delivered: &Option<Reply>, out: &mut String) -> Result<(), AllocError>
+    ensures { OnOk result (string_bytes out.new ≡ string_bytes out.old ++ given_words delivered.now) }
+{
+    match delivered {
+        Some(reply) => put_given(reply, out),
+        None => out.push_str("reply"),
+    }
+}
+
+fn put_given(reply: &Reply, out: &mut String) -> Result<(), AllocError>
+    ensures { OnOk result (string_bytes out.new ≡ string_bytes out.old ++ given_words (Some reply.now)) }
+{
+    out.push_str("reply ")?;
+    put_reply(reply, out)
+}
+
+fn put_verdict(enabled: bool, out: &mut String) -> Result<(), AllocError>
+    ensures { OnOk result (string_bytes out.new ≡ string_bytes out.old ++ verdict_words enabled) }
+{
+    if enabled {
+        return out.push_str(": ");
+    }
+    out.push_str(": not enabled: ")
+}

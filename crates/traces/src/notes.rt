@@ -1,0 +1,27 @@
+//! What is noted beside the events of a run.
+ghost use Rattle.std.specs.Prelude.{◌≡◌, ◌++◌, ℕ, List, string_bytes, OnOk};
+ghost use Rattle.traces.specs.Traced.{no_note};
+
+use std::alloc::AllocError;
+
+/// Lines that stand behind the lines of events.
+pub trait Notes {
+    /// What stands behind the line of the event at a place.
+    ghost note: { Self → ℕ → List ℕ };
+
+    /// Puts what stands behind the line of the event at that place behind the text: nothing, or whole lines.
+    fn put_note(&self, place: u64, out: &mut String) -> Result<(), AllocError>
+        ensures { OnOk result (string_bytes out.new ≡ string_bytes out.old ++ note self.now place) };
+}
+
+/// Nothing is noted.
+#[derive(Clone, Copy, Drop)]
+pub struct NoNotes;
+
+impl Notes for NoNotes {
+    ghost note = { λ _ place. no_note place };
+
+    fn put_note(&self, _place: u64, _out: &mut String) -> Result<(), AllocError> {
+        Ok(())
+    }
+}
