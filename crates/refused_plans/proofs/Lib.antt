@@ -1,0 +1,4 @@
+mod Passing
+mod Told
+mod Noting
+mod InCluster

@@ -1,0 +1,7 @@
+-- ---- what public clauses cite
+pub mod InCluster
+pub mod Noted
+pub mod RefusedPlans
+pub mod Words
+-- ---- what only private clauses cite
+pub mod Standing

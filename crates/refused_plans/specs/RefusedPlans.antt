@@ -1,0 +1,70 @@
+-- Which plans of a run were refused, and where. Each incarnation of a controller asks as a caller of its own, so the replies to
+-- that caller say where it stands. A crash makes the controller go on as another caller, which has read nothing.
+use Rattle.std.specs.Prelude.{ℕ, List, [], ◌∷◌, ◌++◌, Option, Some, None, slice_get}
+use Rattle.requests.specs.declared.reply.Reply.{Reply}
+use Rattle.interleavings.specs.declared.trace.Item.{Item}
+use Rattle.interleavings.specs.declared.trace.Item.TheVariants as item
+use Rattle.set_views.specs.declared.fault.PlanError.{PlanError}
+use Rattle.rounds.specs.Phase.{Phase, reading_set, takes}
+use Rattle.rounds.specs.World.{put}
+use Rattle.controllers.specs.declared.set_spec.SetSpec.{SetSpec}
+use Rattle.controllers.specs.Cluster.{reconciler_for}
+use Rattle.controllers.specs.Controller.{Refusals, refusal_after, refusals_with}
+use Rattle.refused_plans.specs.declared.refused_plan.RefusedPlan.{RefusedPlan}
+
+-- by each caller the number of the controller that it is or was, none where it is somebody else
+abbrev pub Owners : Type 0
+Owners = ℕ → Option ℕ
+
+-- what the controller with the number is made of
+abbrev pub set_of : List SetSpec → Option ℕ → Option SetSpec
+set_of sets None = None
+set_of sets (Some controller) = slice_get sets controller
+
+-- ---- where each caller stands in its round
+abbrev pub Phases : Type 0
+Phases = ℕ → Phase
+
+abbrev pub none_read : Phases
+none_read caller = reading_set
+
+-- where a reply takes the controller that is made of this; nobody else stands anywhere
+abbrev pub phase_after : Option SetSpec → Phase → Reply → Phase
+phase_after None phase reply = phase
+phase_after (Some spec) phase reply = takes (reconciler_for spec) phase reply
+
+abbrev pub phases_after : Owners → List SetSpec → Phases → Item → Phases
+phases_after owners sets phases (item.Call place caller request) = phases
+phases_after owners sets phases (item.Reply place caller reply) =
+    put phases caller (phase_after (set_of sets (owners caller)) (phases caller) reply)
+
+abbrev pub phases_from : Owners → List SetSpec → Phases → List Item → Phases
+phases_from owners sets phases [] = phases
+phases_from owners sets phases (i ∷ items) = phases_from owners sets (phases_after owners sets phases i) items
+
+-- ---- the refusal at a reply
+abbrev pub refusals_for : SetSpec → Refusals
+refusals_for spec = refusals_with spec.digits spec.moment
+
+-- why the plan is refused that the reply ends the reading for; none where it ends no reading, or the plan is made
+abbrev pub refusal_at : Option SetSpec → Phase → Reply → Option PlanError
+refusal_at None phase reply = None
+refusal_at (Some spec) phase reply = refusal_after (refusals_for spec) phase reply None
+
+abbrev pub told : (place : ℕ) → Option ℕ → Option PlanError → List RefusedPlan
+told place (Some c) (Some e) = record { place = place; controller = c; reason = e } ∷ []
+told place controller reason = []
+
+abbrev pub told_at : Owners → List SetSpec → Phases → Item → List RefusedPlan
+told_at owners sets phases (item.Call place caller request) = []
+told_at owners sets phases (item.Reply place caller reply) =
+    told place (owners caller) (refusal_at (set_of sets (owners caller)) (phases caller) reply)
+
+-- ---- those of a trace, before which the callers stood there
+abbrev pub told_from : Owners → List SetSpec → Phases → List Item → List RefusedPlan
+told_from owners sets phases [] = []
+told_from owners sets phases (i ∷ items) =
+    told_at owners sets phases i ++ told_from owners sets (phases_after owners sets phases i) items
+
+abbrev pub refused_plans : Owners → List SetSpec → List Item → List RefusedPlan
+refused_plans owners sets items = told_from owners sets none_read items

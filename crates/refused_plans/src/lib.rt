@@ -1,0 +1,16 @@
+//! Which plans of a cluster's run were refused, and why. A controller goes on after a refusal as if it had nothing to do, so the
+//! run's requests do not show it.
+#![tactic(auto)]
+
+mod following;
+mod laws;
+mod notes;
+mod refused_plan;
+mod telling;
+mod words;
+
+pub use laws::callers_stand_as_their_controllers;
+pub use notes::RefusedNotes;
+pub use refused_plan::RefusedPlan;
+pub use telling::refused_plans;
+pub use words::put_refused;
