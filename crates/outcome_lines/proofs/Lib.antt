@@ -1,3 +1,6 @@
+pub mod Apart
+pub mod Firsts
+pub mod InTurn
 pub mod Printed
 pub mod Sameness
 pub mod Telling

@@ -1,4 +1,5 @@
 -- ---- what public clauses cite
+pub mod Brief
 pub mod Litmus
 pub mod Printing
 pub mod Scripting

@@ -1,6 +1,6 @@
-ghost use Rattle.std.specs.Prelude.{◌≡◌};
+ghost use Rattle.std.specs.Prelude.{◌≡◌, IfOk};
 ghost use Rattle.plain.specs.Lines.{lines};
-ghost use Rattle.outcome_lines.specs.Litmus.{crashed, litmus_of, opened, parts_of, with_before, with_line, with_lines};
+ghost use Rattle.outcome_lines.specs.Litmus.{AskInTurn, crashed, litmus_of, opened, parts_of, with_before, with_line, with_lines};
 ghost use Rattle.outcome_lines.specs.declared.line.Line.TheVariants.{Race};
 ghost use Rattle.replay_lines.specs.Events.{Reads};
 
@@ -18,10 +18,12 @@ use std::alloc::Global;
 ///
 /// # Errors
 ///
-/// `BadScript` where a line is none of these, also one that is cut off or empty, or where there is no line.
+/// `BadScript` where a line is none of these, also one that is cut off or empty, or one of a caller that crashed on an earlier one,
+/// or where there is no line.
 #[tactic(auto, using(replay_lines::proofs::Readings::fails_bind), unfolding(crate::specs::Litmus::litmus_of))]
 pub fn read_litmus(alloc: Global, text: &[u8]) -> Result<Litmus, ScriptError>
-    ensures { Reads parts_of result (litmus_of text.now) }
+    ensures read { Reads parts_of result (litmus_of text.now) }
+    ensures in_turn { IfOk result (λ litmus. AskInTurn litmus.asks.items) }
 {
     let Some(cut) = split_line(text) else {
         return Err(ScriptError::BadScript);
