@@ -14,12 +14,6 @@ use Rattle.commands.specs.Clustering.{IsClusterRefusal, IsClusterRefusedBy, IsCl
 use Rattle.commands.specs.Replaying.{script_refusal}
 use Rattle.commands.specs.declared.form.Form.{Form}
 
--- what is made of the bytes that were read is made of the input
-pub clustered_input : (form : Form) (had left : Option (List ℕ)) (bytes text : List ℕ) → IfSome had (λ i. bytes ≡ i) → IfSome had (λ _. left ≡ Some [])
-    → IsClusterTextOf form bytes text → IfSome had (λ input. (left ≡ Some []) × IsClusterTextOf form input text)
-clustered_input form None left bytes text all ends made = tt
-clustered_input form (Some i) left bytes text all ends made = (ends, subst (λ b. IsClusterTextOf form b text) all made)
-
 -- a text that is no script is refused by that name, for that line
 pub refused_cluster_script : (place : Bool) (name : Option (List ℕ)) (input : List ℕ) (line : Option ℕ) → name ≡ Some (refused_as line (codes "BadScript"))
     → line ≡ told_line place (refused_line_of input) → cluster_script_of input ≡ None → IfSome name (IsClusterRefusal place input)
@@ -31,10 +25,3 @@ pub refused_cluster : (place : Bool) (name : Option (List ℕ)) (input : List �
     → IfSome name (IsClusterRunRefusal script) → IfSome name (IsClusterRefusal place input)
 refused_cluster place None input script is refused = tt
 refused_cluster place (Some name) input script is refused = inr (script, is, refused)
-
--- what is refused of the bytes that were read is refused of the input
-pub refused_cluster_input : (place : Bool) (name : Option (List ℕ)) (had left : Option (List ℕ)) (bytes : List ℕ) → IfSome had (λ i. bytes ≡ i)
-    → IfSome had (λ _. left ≡ Some []) → IfSome name (IsClusterRefusal place bytes) → IfSome name (IsClusterRefusedBy place had left)
-refused_cluster_input place None had left bytes all ends refused = tt
-refused_cluster_input place (Some name) None left bytes all ends refused = tt
-refused_cluster_input place (Some name) (Some i) left bytes all ends refused = (ends, subst (λ b. IsClusterRefusal place b name) all refused)

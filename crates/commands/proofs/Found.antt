@@ -15,6 +15,7 @@ use Rattle.outcomes.specs.declared.litmus.Ask.{Ask}
 use Rattle.outcomes.specs.declared.outcome.Outcome.{Outcome}
 use Rattle.commands.specs.Finding.{AreOutcomes, IsFindingRefusal, IsOutcomesRefusal, IsOutcomesRefusedBy, IsOutcomesText}
 use Rattle.commands.specs.Replaying.{script_refusal}
+use Rattle.commands.specs.declared.words.OutcomesWords.{OutcomesWords}
 
 -- a text that is no litmus test is refused by that name
 pub refused_litmus : (error : ScriptError) (choice : Option ℕ) (name : Option (List ℕ)) (input : List ℕ) → name ≡ script_refusal error
@@ -27,19 +28,6 @@ pub refused_finding : (name : Option (List ℕ)) (choice : Option ℕ) (input : 
     → IfSome name (IsFindingRefusal choice litmus) → IfSome name (IsOutcomesRefusal choice input)
 refused_finding None choice input litmus is refused = tt
 refused_finding (Some name) choice input litmus is refused = inr (litmus, is, refused)
-
--- what is refused of the bytes that were read is refused of the input
-pub refused_outcomes_input : (choice : Option ℕ) (name : Option (List ℕ)) (had left : Option (List ℕ)) (bytes : List ℕ) → IfSome had (λ i. bytes ≡ i)
-    → IfSome had (λ _. left ≡ Some []) → IfSome name (IsOutcomesRefusal choice bytes) → IfSome name (IsOutcomesRefusedBy choice had left)
-refused_outcomes_input choice None had left bytes all ends refused = tt
-refused_outcomes_input choice (Some name) None left bytes all ends refused = tt
-refused_outcomes_input choice (Some name) (Some i) left bytes all ends refused = (ends, subst (λ b. IsOutcomesRefusal choice b name) all refused)
-
--- what is found of the bytes that were read is found of the input
-pub found_input : (choice : Option ℕ) (had left : Option (List ℕ)) (bytes text : List ℕ) → IfSome had (λ i. bytes ≡ i)
-    → IfSome had (λ _. left ≡ Some []) → IsOutcomesText choice bytes text → IfSome had (λ input. (left ≡ Some []) × IsOutcomesText choice input text)
-found_input choice None left bytes text all ends made = tt
-found_input choice (Some i) left bytes text all ends made = (ends, subst (λ b. IsOutcomesText choice b text) all made)
 
 -- ---- what is found can be printed
 

@@ -1,3 +1,4 @@
+pub mod Inputs
 pub mod Asked
 pub mod Clustered
 pub mod Found

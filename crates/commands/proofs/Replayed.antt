@@ -52,10 +52,3 @@ unnamed input.Memory = refl
 pub error_has : {A E : Type 0} (result : Result A E) (From Has : E → Type 0) → IsErrAnd result From → ((e : E) → From e → Has e) → IfErr result Has
 error_has (Ok x) From Has is has = tt
 error_has (Err e) From Has is has = has e is
-
--- what is refused of the bytes that were read is refused of the input
-pub refused_input : (place : Bool) (name : Option (List ℕ)) (had left : Option (List ℕ)) (bytes : List ℕ) → IfSome had (λ i. bytes ≡ i) → IfSome had (λ _. left ≡ Some [])
-    → IfSome name (IsReplayRefusal place bytes) → IfSome name (IsRefusedBy place had left)
-refused_input place None had left bytes all ends refused = tt
-refused_input place (Some name) None left bytes all ends refused = tt
-refused_input place (Some name) (Some i) left bytes all ends refused = (ends, subst (λ b. IsReplayRefusal place b name) all refused)

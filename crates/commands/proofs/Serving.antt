@@ -15,13 +15,13 @@ use Rattle.clap.proofs.OnLiterals.{clap_on_literals}
 use Rattle.plain.specs.Served.{served_so_far}
 use Rattle.plain.specs.Streams.{PutsPart, Takes}
 use Rattle.plain.proofs.Flows.{PutsPart-none, Takes-none}
-use Rattle.commands.specs.Asked.{IsAsked, IsFinding, IsOther, IsRaceBy, IsScriptBy, IsScripted, IsServing}
+use Rattle.commands.specs.Asked.{IsAsked, IsFinding, IsOther, IsRaceBy, IsScriptBy, IsScripted, IsServing, IsSoughtBy}
 use Rattle.commands.specs.Serving.{ServesSome}
 use Rattle.commands.specs.declared.race_words.RaceWords.{RaceWords}
 use Rattle.commands.specs.declared.words.Asked.{Asked}
 use Rattle.commands.specs.declared.words.Asked.TheVariants as say
 use Rattle.commands.specs.Forms.{IsFlagBy}
-use Rattle.commands.specs.Grammar.{IsCapacityBy, IsChoiceBy, IsNumberBy, Plan, asked, capacity_text, choice_text, digits_text, faults_of, flag_text, is_under, plan_text, race_text, rows_under, stsctl_app, word_by, word_of}
+use Rattle.commands.specs.Grammar.{IsCapacityBy, IsChoiceBy, IsNumberBy, Plan, asked, capacity_text, digits_text, faults_of, flag_text, is_under, outcomes_text, plan_text, race_text, rows_under, stsctl_app, word_by, word_of}
 
 stsctl-is_simple : is_simple stsctl_app ≡ true
 unfolding clap_on_literals
@@ -137,17 +137,17 @@ race_by words m race same by = (
   subst (λ t. IsFlagBy t race.history) (race-is words m (codes "history") same) by.5,
 )
 
-pub choice-is : (words : List Text) (m : ArgMatches) → subcommand_rows_of m ≡ subcommand_of stsctl_app words
-    → one_of (codes "script") (rows_under (codes "outcomes") (subcommand_rows_of m)) ≡ choice_text words
-unfolding choice_text
-choice-is words m same = ap (λ e. one_of (codes "script") (rows_under (codes "outcomes") e)) same
+pub outcomes-is : (words : List Text) (m : ArgMatches) (option : Text) → subcommand_rows_of m ≡ subcommand_of stsctl_app words
+    → one_of option (rows_under (codes "outcomes") (subcommand_rows_of m)) ≡ outcomes_text option words
+unfolding outcomes_text
+outcomes-is words m option same = ap (λ e. one_of option (rows_under (codes "outcomes") e)) same
 
 -- what words without a plan, a race, a replay and a cluster ask for
 pub found_serving : (m : ArgMatches) (found : Asked) → is_under (codes "cluster") (subcommand_rows_of m) ≡ false → IsFinding (subcommand_rows_of m) found
     → IsServing (subcommand_rows_of m) found
 found_serving m (say.Cluster form) cluster finding = absurd finding
 found_serving m (say.Serve capacity) cluster finding = (cluster, finding)
-found_serving m (say.Outcomes choice) cluster finding = (cluster, finding)
+found_serving m (say.Outcomes sought) cluster finding = (cluster, finding)
 found_serving m (say.Replay form) cluster finding = absurd finding
 found_serving m (say.Plan plan) cluster finding = absurd finding
 found_serving m (say.Race race) cluster finding = absurd finding
@@ -158,7 +158,7 @@ pub served_scripted : (m : ArgMatches) (found : Asked) → is_under (codes "repl
 served_scripted m (say.Replay form) replay serving = absurd serving.1
 served_scripted m (say.Serve capacity) replay serving = (replay, serving)
 served_scripted m (say.Cluster form) replay serving = (replay, serving)
-served_scripted m (say.Outcomes choice) replay serving = (replay, serving)
+served_scripted m (say.Outcomes sought) replay serving = (replay, serving)
 served_scripted m (say.Plan plan) replay serving = absurd serving.1
 served_scripted m (say.Race race) replay serving = absurd serving.1
 
@@ -169,7 +169,7 @@ scripted_other m (say.Race asked) race scripted = absurd scripted.1.1
 scripted_other m (say.Serve capacity) race scripted = (race, scripted)
 scripted_other m (say.Replay form) race scripted = (race, scripted)
 scripted_other m (say.Cluster form) race scripted = (race, scripted)
-scripted_other m (say.Outcomes choice) race scripted = (race, scripted)
+scripted_other m (say.Outcomes sought) race scripted = (race, scripted)
 scripted_other m (say.Plan plan) race scripted = absurd scripted.1.1
 
 -- what words without a plan ask for
@@ -179,9 +179,9 @@ other_asked words m (say.Serve capacity) none same plan other = (
   asked-by words m false false false false false none same plan other.0 other.1.0 other.1.1.0 other.1.1.1.0,
   subst (λ t. IsCapacityBy t capacity) (capacity-is words m same) other.1.1.1.1,
 )
-other_asked words m (say.Outcomes choice) none same plan other = (
+other_asked words m (say.Outcomes sought) none same plan other = (
   asked-by words m false false false false true none same plan other.0 other.1.0 other.1.1.0 other.1.1.1.0,
-  subst (λ t. IsChoiceBy t choice) (choice-is words m same) other.1.1.1.1,
+  subst (λ t. IsSoughtBy t sought) (λ i option. outcomes-is words m option same i) other.1.1.1.1,
 )
 other_asked words m (say.Replay form) none same plan other = (
   asked-by words m false false true _ _ none same plan other.0 other.1.0 refl refl,

@@ -5,14 +5,19 @@ use Rattle.commands.specs.declared.words.Asked.{Asked}
 use Rattle.commands.specs.declared.words.Asked.TheVariants as say
 use Rattle.commands.specs.declared.words.PlanWords.{PlanWords}
 use Rattle.commands.specs.declared.words.ScriptWords.{ScriptWords}
+use Rattle.commands.specs.declared.words.OutcomesWords.{OutcomesWords}
 use Rattle.commands.specs.declared.race_words.RaceWords.{RaceWords}
 use Rattle.commands.specs.Forms.{IsFlagBy, IsFormBy}
-use Rattle.commands.specs.Grammar.{AsksFor, Cluster, IsCapacityBy, IsChoiceBy, IsDigitsBy, IsNumberBy, Outcomes, Plan, Race, Replay, Serve, asked, choice_text, digits_text, flag_text, is_under, plan_text, race_text, rows_under}
+use Rattle.commands.specs.Grammar.{AsksFor, Cluster, IsCapacityBy, IsChoiceBy, IsDigitsBy, IsNumberBy, Outcomes, Plan, Race, Replay, Serve, asked, digits_text, flag_text, is_under, outcomes_text, plan_text, race_text, rows_under}
 use Rattle.race_log.specs.Limits.{is_race}
 
 -- what is printed of a script, and whether a refusal tells its line
 abbrev pub IsScriptBy : (text : Text → Option Text) → ScriptWords → Type 0
 IsScriptBy text script = IsFormBy text script.form × IsFlagBy (text (codes "where")) script.place
+
+-- which outcome's script is asked for, and whether outcomes are told in words
+abbrev pub IsSoughtBy : (text : Text → Option Text) → OutcomesWords → Type 0
+IsSoughtBy text sought = IsChoiceBy (text (codes "script")) sought.choice × IsFlagBy (text (codes "brief")) sought.brief
 
 -- what the words after `plan` say
 abbrev pub IsPlanAsked : List Text → PlanWords → Type 0
@@ -40,14 +45,14 @@ IsAsked words (say.Replay script) = (asked words ≡ Replay) × IsScriptBy (λ f
 IsAsked words (say.Cluster script) = (asked words ≡ Cluster) × IsScriptBy (λ flag. flag_text (codes "cluster") flag words) script
 IsAsked words (say.Plan plan) = (asked words ≡ Plan) × IsPlanAsked words plan
 IsAsked words (say.Race race) = (asked words ≡ Race) × IsRaceAsked words race
-IsAsked words (say.Outcomes choice) = (asked words ≡ Outcomes) × IsChoiceBy (choice_text words) choice
+IsAsked words (say.Outcomes sought) = (asked words ≡ Outcomes) × IsSoughtBy (λ option. outcomes_text option words) sought
 
 -- ---- for private clauses: what words ask for that ask for no plan, for no race, for no replay, and for no cluster, by the
 -- subcommand that was met
 
 abbrev pub IsFinding : Option (Text × List Row) → Asked → Type 0
-IsFinding met (say.Outcomes choice) = (is_under (codes "outcomes") met ≡ true)
-    × IsChoiceBy (one_of (codes "script") (rows_under (codes "outcomes") met)) choice
+IsFinding met (say.Outcomes sought) = (is_under (codes "outcomes") met ≡ true)
+    × IsSoughtBy (λ option. one_of option (rows_under (codes "outcomes") met)) sought
 IsFinding met (say.Serve capacity) = (is_under (codes "outcomes") met ≡ false)
     × IsCapacityBy (one_of (codes "capacity") (rows_under (codes "serve") met)) capacity
 IsFinding met _ = ⊥

@@ -4,26 +4,31 @@ use Rattle.std.specs.Option.{IfSome}
 use Rattle.cluster_runs.specs.Cluster.{Cluster}
 use Rattle.cluster_runs.specs.declared.event.ClusterEvent.{ClusterEvent}
 use Rattle.cluster_runs.specs.Ran.{IsClusterRun, cluster_after, owner_in}
-use Rattle.cluster_runs.specs.Turns.{events_of_turns}
+use Rattle.cluster_runs.specs.Turns.{ends_of_turns, events_of_turns}
 use Rattle.cluster_runs.specs.declared.fault.ClusterFault.{ClusterFault}
 use Rattle.cluster_runs.specs.declared.fault.ClusterFault.TheVariants as errors
 use Rattle.cluster_runs.specs.declared.run.ClusterRun.{ClusterRun}
 use Rattle.controllers.specs.Cluster.{namespaces_of, reconciler_named, size_of}
+use Rattle.controllers.specs.declared.cluster_spec.ClusterSpec.{ClusterSpec}
 use Rattle.cluster_scripts.specs.Printing.{cluster_text}
 use Rattle.cluster_scripts.specs.Scripts.{cluster_script_of, parts_of}
 use Rattle.cluster_scripts.specs.declared.script.ClusterScript.{ClusterScript}
 use Rattle.clap.specs.Words.{Text}
 use Rattle.pictures.specs.Picture.{picture_text}
 use Rattle.pictures.specs.declared.shown.Shown.{Shown}
+use Rattle.refused_plans.specs.RefusedPlans.{refused_plans}
+use Rattle.refused_plans.specs.Words.{line_at}
+use Rattle.refused_plans.specs.declared.refused_plan.RefusedPlan.{RefusedPlan}
 use Rattle.stories.specs.Story.{story_text}
+use Rattle.traces.specs.Traced.{trace_by_lines_text}
 use Rattle.cluster_scripts.specs.Refusals.{refused_line_of}
-use Rattle.commands.specs.Halts.{refused_as, told_line}
+use Rattle.commands.specs.Halts.{IsRefusedIn, refused_as, told_line}
 use Rattle.commands.specs.Forms.{IsFormBy, WritesBy}
 use Rattle.commands.specs.Grammar.{flag_text}
 use Rattle.commands.specs.Replaying.{IsSizeRefusal}
 use Rattle.commands.specs.Roles.{role_by}
 use Rattle.commands.specs.declared.form.Form.{Form}
-use Rattle.commands.specs.declared.form.Form.TheVariants.{Lines, Picture, Writes}
+use Rattle.commands.specs.declared.form.Form.TheVariants.{Lines, Picture, Trace, Writes}
 
 -- the events that its turns stand for
 abbrev pub events_by : ClusterScript → List ClusterEvent
@@ -51,10 +56,30 @@ IsClusterStory script text = (found : ClusterRun)
     × IsClusterRun (size_of script.spec) (length script.spec.sets.items) (reconciler_named script.spec.sets.items) (events_by script) found
     × (text ≡ story_text (λ n. role_by script.spec.sets.items (owner_in found.owners n)) found.run.trace.items.items)
 
+-- how many events there are up to the end of each of its turns
+abbrev pub ends_by : ClusterScript → List ℕ
+ends_by script = ends_of_turns (size_of script.spec) (length script.spec.sets.items) (reconciler_named script.spec.sets.items) (namespaces_of script.spec.sets.items) script.turns.items
+
+-- The trace of a run, under the lines of the script, of which the first is the size. A plan that was refused is told at its place.
+abbrev pub trace_beside : ClusterSpec → ClusterRun → (ends : List ℕ) → List RefusedPlan → List ℕ
+trace_beside spec found ends plans =
+    trace_by_lines_text (λ n. role_by spec.sets.items (owner_in found.owners n)) (line_at spec.sets.items plans)
+    (size_of spec) found.events.items ends 2
+
+abbrev pub trace_of : ClusterSpec → ClusterRun → (ends : List ℕ) → List ℕ
+trace_of spec found ends = trace_beside spec found ends (refused_plans (owner_in found.owners) spec.sets.items found.run.trace.items.items)
+
+-- that of the script's run
+abbrev pub IsClusterTrace : ClusterScript → List ℕ → Type 0
+IsClusterTrace script text = (found : ClusterRun)
+    × IsClusterRun (size_of script.spec) (length script.spec.sets.items) (reconciler_named script.spec.sets.items) (events_by script) found
+    × (text ≡ trace_of script.spec found (ends_by script))
+
 abbrev pub IsClusterShown : Form → ClusterScript → List ℕ → Type 0
 IsClusterShown Lines script text = IsClusterText script text
 IsClusterShown (Picture shown) script text = IsClusterPicture shown script text
 IsClusterShown Writes script text = IsClusterStory script text
+IsClusterShown Trace script text = IsClusterTrace script text
 
 -- the same of a script that the input is
 abbrev pub IsClusterTextOf : Form → (input text : List ℕ) → Type 0
@@ -83,4 +108,4 @@ IsClusterRefusal place input name = ((cluster_script_of input ≡ None) × (name
 
 -- All of the reader's bytes were read, and are refused by this name.
 abbrev pub IsClusterRefusedBy : (place : Bool) → Option (List ℕ) → Option (List ℕ) → List ℕ → Type 0
-IsClusterRefusedBy place had left name = IfSome had (λ input. (left ≡ Some []) × IsClusterRefusal place input name)
+IsClusterRefusedBy place had left name = IsRefusedIn (IsClusterRefusal place) had left name

@@ -1,10 +1,11 @@
 -- What a run of the program that was asked for outcomes has done, where the devices tell.
-use Rattle.std.specs.Prelude.{◌≡◌, ◌≢◌, ◌⊎◌, ◌≤◌, ◌<◌, ℕ, zero, suc, List, [], Option, Some, None, codes, map}
+use Rattle.std.specs.Prelude.{◌≡◌, ◌≢◌, ◌⊎◌, ◌≤◌, ◌<◌, ℕ, Bool, true, false, zero, suc, List, [], Option, Some, None, codes, map}
 use Rattle.std.specs.List.{All, AllPairs, Contains, slice_get}
 use Rattle.std.specs.Option.{IfSome}
 use Rattle.clap.specs.Words.{Text}
 use Rattle.outcome_lines.specs.Litmus.{litmus_of, parts_of}
-use Rattle.outcome_lines.specs.Printing.{outcomes_text}
+use Rattle.outcome_lines.specs.Brief.{outcomes_brief_text}
+use Rattle.outcome_lines.specs.Printing.{outcomes_text as all_outcomes}
 use Rattle.outcome_lines.specs.Scripting.{ShowsOutcome}
 use Rattle.outcome_lines.specs.declared.fault.ScriptingError.{ScriptingError}
 use Rattle.outcome_lines.specs.declared.fault.ScriptingError.TheVariants as scripting
@@ -16,8 +17,11 @@ use Rattle.outcomes.specs.declared.outcome.OutcomesError.{OutcomesError}
 use Rattle.outcomes.specs.declared.outcome.OutcomesError.TheVariants as finding
 use Rattle.plain_store.specs.Reached.{most_revisions}
 use Rattle.requests.specs.declared.reply.Reply.{Reply}
+use Rattle.commands.specs.Halts.{IsRefusedIn}
 use Rattle.commands.specs.Forms.{WritesBy}
-use Rattle.commands.specs.Grammar.{IsChoiceBy, choice_text}
+use Rattle.commands.specs.Asked.{IsSoughtBy}
+use Rattle.commands.specs.Grammar.{outcomes_text}
+use Rattle.commands.specs.declared.words.OutcomesWords.{OutcomesWords}
 
 -- what callers are told in each
 abbrev pub told_in : List Outcome → List (List (Option Reply))
@@ -35,22 +39,30 @@ abbrev pub outcome_of : (number : ℕ) → List Outcome → Option Outcome
 outcome_of zero found = None
 outcome_of (suc index) found = slice_get found index
 
--- the lines of all, or a script that shows the one that is chosen
-abbrev pub IsChosenText : (choice : Option ℕ) → Litmus → List Outcome → (text : List ℕ) → Type 0
-IsChosenText None litmus found text = text ≡ outcomes_text litmus found
-IsChosenText (Some number) litmus found text = (o : Outcome) × (outcome_of number found ≡ Some o) × ShowsOutcome litmus o.replies.items text
+-- the lines of all, which are in words where the words of the command line ask for it
+abbrev pub lines_of_all : (brief : Bool) → Litmus → List Outcome → List ℕ
+lines_of_all true litmus found = outcomes_brief_text litmus found
+lines_of_all false litmus found = all_outcomes litmus found
 
-abbrev pub IsFoundText : (choice : Option ℕ) → Litmus → (text : List ℕ) → Type 0
-IsFoundText choice litmus text = (found : List Outcome) × AreOutcomes litmus found × IsChosenText choice litmus found text
+-- these lines, or a script that shows the one that is chosen
+abbrev pub IsChosenBy : (choice : Option ℕ) → (brief : Bool) → Litmus → List Outcome → (text : List ℕ) → Type 0
+IsChosenBy None brief litmus found text = text ≡ lines_of_all brief litmus found
+IsChosenBy (Some number) brief litmus found text = (o : Outcome) × (outcome_of number found ≡ Some o) × ShowsOutcome litmus o.replies.items text
+
+abbrev pub IsChosenText : OutcomesWords → Litmus → List Outcome → (text : List ℕ) → Type 0
+IsChosenText sought litmus found text = IsChosenBy sought.choice sought.brief litmus found text
+
+abbrev pub IsFoundText : OutcomesWords → Litmus → (text : List ℕ) → Type 0
+IsFoundText sought litmus text = (found : List Outcome) × AreOutcomes litmus found × IsChosenText sought litmus found text
 
 -- the same of the litmus test that the input is
-abbrev pub IsOutcomesText : (choice : Option ℕ) → (input text : List ℕ) → Type 0
-IsOutcomesText choice input text = (litmus : Litmus) × (litmus_of input ≡ Some (parts_of litmus)) × IsFoundText choice litmus text
+abbrev pub IsOutcomesText : OutcomesWords → (input text : List ℕ) → Type 0
+IsOutcomesText sought input text = (litmus : Litmus) × (litmus_of input ≡ Some (parts_of litmus)) × IsFoundText sought litmus text
 
--- That text was written: all outcomes, or the script that the words ask for.
+-- That text was written: all outcomes, in words where that is asked for, or the script that the words ask for.
 abbrev pub Finds : (puts : Option (List ℕ) → List ℕ → Option (List ℕ) → Type 0) → List Text → (had left before after : Option (List ℕ)) → Type 0
 Finds puts words had left before after =
-    (choice : Option ℕ) × IsChoiceBy (choice_text words) choice × WritesBy puts (IsOutcomesText choice) had left before after
+    (sought : OutcomesWords) × IsSoughtBy (λ option. outcomes_text option words) sought × WritesBy puts (IsOutcomesText sought) had left before after
 
 -- ---- refusals
 
@@ -74,7 +86,7 @@ IsOutcomesRefusal choice input name = ((litmus_of input ≡ None) × (name ≡ c
 
 -- All of the reader's bytes were read, and are refused by this name.
 abbrev pub IsOutcomesRefusedBy : (choice : Option ℕ) → Option (List ℕ) → Option (List ℕ) → List ℕ → Type 0
-IsOutcomesRefusedBy choice had left name = IfSome had (λ input. (left ≡ Some []) × IsOutcomesRefusal choice input name)
+IsOutcomesRefusedBy choice had left name = IsRefusedIn (IsOutcomesRefusal choice) had left name
 
 -- the name of a refusal; want of memory is none
 abbrev pub finding_refusal : OutcomesError → Option (List ℕ)

@@ -4,24 +4,26 @@ use Rattle.std.specs.Option.{IfSome}
 use Rattle.clap.specs.Words.{Text}
 use Rattle.commands.specs.declared.form.Form.{Form}
 use Rattle.pictures.specs.declared.shown.Shown.TheVariants as shown
-use Rattle.commands.specs.declared.form.Form.TheVariants.{Lines, Picture, Writes}
+use Rattle.commands.specs.declared.form.Form.TheVariants.{Lines, Picture, Trace, Writes}
 
 -- whether a flag is given, by what `clap` has for it: `true` where it is, else `false` or nothing
 abbrev pub IsFlagBy : Option Text → Bool → Type 0
 IsFlagBy None given = given ≡ false
 IsFlagBy (Some text) given = (text ≡ codes "true" → given ≡ true) × (text ≡ codes "false" → given ≡ false)
 
--- what is printed where these flags are given: a picture of the writes where both are
-abbrev pub form_of : (picture writes : Bool) → Form
-form_of true true = Picture shown.Writes
-form_of true false = Picture shown.All
-form_of false true = Writes
-form_of false false = Lines
+-- what is printed where these flags are given: the trace before all, and a picture of the writes where both others are
+abbrev pub form_of : (picture writes trace : Bool) → Form
+form_of picture writes true = Trace
+form_of true true false = Picture shown.Writes
+form_of true false false = Picture shown.All
+form_of false true false = Writes
+form_of false false false = Lines
 
--- what the flags `--picture` and `--writes` ask for, by what `clap` has for each
+-- what the flags `--picture`, `--writes` and `--trace` ask for, by what `clap` has for each
 abbrev pub IsFormBy : (text : Text → Option Text) → Form → Type 0
-IsFormBy text form = (picture : Bool) × ((writes : Bool)
-    × (IsFlagBy (text (codes "picture")) picture × IsFlagBy (text (codes "writes")) writes × (form ≡ form_of picture writes)))
+IsFormBy text form = (picture : Bool) × ((writes : Bool) × ((trace : Bool)
+    × (IsFlagBy (text (codes "picture")) picture × IsFlagBy (text (codes "writes")) writes × IsFlagBy (text (codes "trace")) trace
+    × (form ≡ form_of picture writes trace))))
 
 -- All of the reader's bytes were read, and of such a text of the input was written all, by `Puts`, or a beginning, by `PutsPart`.
 abbrev pub WritesBy : (puts : Option (List ℕ) → List ℕ → Option (List ℕ) → Type 0) → (IsText : (input text : List ℕ) → Type 0)

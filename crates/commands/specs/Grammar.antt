@@ -1,7 +1,7 @@
--- What the program takes, as `clap` reads it: `serve [--capacity N]`, `replay [--picture] [--writes] [--where]`,
--- `cluster [--picture] [--writes] [--where]`, `plan --set NAME [--namespace NS] [--digits H] [--brief] [--where]`,
--- `race [--controllers N] [--shards N] [--rounds N] [--replicas N] [--operator] [--history]`, and `outcomes [--script K]`. `clap`
--- adds help and the version.
+-- What the program takes, as `clap` reads it: `serve [--capacity N]`, `replay [--picture] [--writes] [--trace] [--where]`,
+-- `cluster [--picture] [--writes] [--trace] [--where]`, `plan --set NAME [--namespace NS] [--digits H] [--brief] [--where]`,
+-- `race [--controllers N] [--shards N] [--rounds N] [--replicas N] [--operator] [--history]`, and
+-- `outcomes [--script K] [--brief]`. `clap` adds help and the version.
 use Rattle.std.specs.Prelude.{◌≡◌, ◌≤◌, ◌<◌, ◌^◌, ℕ, Bool, true, false, List, [], ◌∷◌, Option, Some, None, codes, if◌then◌else◌}
 use Rattle.std.specs.Option.{option_map_or}
 use Rattle.std.specs.Str.{bytes_eq}
@@ -35,11 +35,18 @@ picture_rule = flag_rule (codes "picture")
 abbrev pub writes_rule : Rule
 writes_rule = flag_rule (codes "writes")
 
+abbrev pub trace_rule : Rule
+trace_rule = flag_rule (codes "trace")
+
+-- what a run of a script is printed as, and whether a refusal tells its line
+abbrev pub with_forms : App → App
+with_forms app = with_rule (with_rule (with_rule (with_rule app picture_rule) writes_rule) trace_rule) (flag_rule (codes "where"))
+
 abbrev pub replay_app : App
-replay_app = with_rule (with_rule (with_rule (new_app (codes "replay")) picture_rule) writes_rule) (flag_rule (codes "where"))
+replay_app = with_forms (new_app (codes "replay"))
 
 abbrev pub cluster_app : App
-cluster_app = with_rule (with_rule (with_rule (new_app (codes "cluster")) picture_rule) writes_rule) (flag_rule (codes "where"))
+cluster_app = with_forms (new_app (codes "cluster"))
 
 abbrev pub set_rule : Rule
 set_rule = record (new_rule (codes "set")) { long = Some (codes "set"); value_names = 1; required = true }
@@ -74,7 +81,7 @@ abbrev pub race_app : App
 race_app = with_rule (with_rule sized_app (flag_rule (codes "operator"))) (flag_rule (codes "history"))
 
 abbrev pub outcomes_app : App
-outcomes_app = with_rule (new_app (codes "outcomes")) (option_rule (codes "script") (parsers.Unsigned 1 20000))
+outcomes_app = with_rule (with_rule (new_app (codes "outcomes")) (option_rule (codes "script") (parsers.Unsigned 1 20000))) brief_rule
 
 abbrev pub stsctl_app : App
 stsctl_app = with_subcommand (with_subcommand (with_subcommand (with_subcommand (with_subcommand (with_subcommand
@@ -125,7 +132,7 @@ asked words = word_of (faults_of words) (subcommand_of stsctl_app words)
 unfoldable pub capacity_text : List Text → Option Text
 capacity_text words = one_of (codes "capacity") (rows_under (codes "serve") (subcommand_of stsctl_app words))
 
--- what `clap` has for this flag of this subcommand, of `replay` and `cluster`
+-- what `clap` has for this flag of this subcommand
 unfoldable pub flag_text : (word flag : Text) → List Text → Option Text
 flag_text word flag words = one_of flag (rows_under word (subcommand_of stsctl_app words))
 
@@ -165,9 +172,9 @@ IsDigitsBy text digits = IsNumberBy 10 1 64 text digits
 unfoldable pub race_text : Text → List Text → Option Text
 race_text option words = one_of option (rows_under (codes "race") (subcommand_of stsctl_app words))
 
--- the number after `--script` of `outcomes`, as text
-unfoldable pub choice_text : List Text → Option Text
-choice_text words = one_of (codes "script") (rows_under (codes "outcomes") (subcommand_of stsctl_app words))
+-- the number after this option of `outcomes`, as text, or what `clap` has for this flag of it
+unfoldable pub outcomes_text : Text → List Text → Option Text
+outcomes_text option words = one_of option (rows_under (codes "outcomes") (subcommand_of stsctl_app words))
 
 -- The outcome whose script is asked for is the one of the number that the text says in decimal digits; without a text none is. Where
 -- the text is no such number, the words have a fault.

@@ -1,5 +1,6 @@
 -- Why there is no output, and what is reported of it.
 use Rattle.std.specs.Prelude.{◌≡◌, ◌<◌, ◌⊎◌, ℕ, Bool, true, false, List, [], ◌∷◌, ◌++◌, Option, Some, None, Result, Ok, Err, codes, decimal}
+use Rattle.std.specs.Option.{IfSome}
 use Rattle.plain.specs.Streams.{Puts}
 use Rattle.plain.specs.declared.devices.input.InputFault.{InputFault}
 use Rattle.plain.specs.declared.devices.input.InputFault.TheVariants as input
@@ -55,3 +56,7 @@ refusal_text name = codes "refused: " ++ name ++ 10 ∷ []
 -- That the input is refused by this name was written, or the writer failed.
 abbrev pub Tells : (name : List ℕ) → (before after : Option (List ℕ)) → (failed fails : ℕ) → Type 0
 Tells name before after failed fails = (Puts before (refusal_text name) after) ⊎ (failed < fails)
+
+-- All of the reader's bytes were read, and are refused by this name.
+abbrev pub IsRefusedIn : (IsRefusal : (input name : List ℕ) → Type 0) → (had left : Option (List ℕ)) → (name : List ℕ) → Type 0
+IsRefusedIn IsRefusal had left name = IfSome had (λ input. (left ≡ Some []) × IsRefusal input name)

@@ -2,11 +2,12 @@
 use Rattle.std.specs.Prelude.{◌≡◌, ℕ, Bool, List, Option, codes}
 use Rattle.clap.specs.Words.{Text}
 use Rattle.commands.specs.declared.words.PlanWords.{PlanWords}
-use Rattle.commands.specs.Asked.{IsPlanAsked}
+use Rattle.commands.specs.declared.words.OutcomesWords.{OutcomesWords}
+use Rattle.commands.specs.Asked.{IsPlanAsked, IsSoughtBy}
 use Rattle.commands.specs.Forms.{IsFlagBy}
 use Rattle.commands.specs.Finding.{IsOutcomesRefusedBy}
 use Rattle.commands.specs.Clustering.{IsClusterRefusedBy}
-use Rattle.commands.specs.Grammar.{Cluster, IsChoiceBy, Outcomes, Plan, Replay, asked, choice_text, flag_text}
+use Rattle.commands.specs.Grammar.{Cluster, Outcomes, Plan, Replay, asked, flag_text, outcomes_text}
 use Rattle.commands.specs.Planning.{IsPlanRefusedBy}
 use Rattle.commands.specs.Replaying.{IsRefusedBy}
 
@@ -16,4 +17,4 @@ abbrev pub Refuses : List Text → Option (List ℕ) → Option (List ℕ) → (
 Refuses words had left reported = (name : List ℕ) × reported name × (asked words ≡ Replay → (place : Bool) × IsFlagBy (flag_text (codes "replay") (codes "where") words) place × IsRefusedBy place had left name)
     × (asked words ≡ Cluster → (place : Bool) × IsFlagBy (flag_text (codes "cluster") (codes "where") words) place × IsClusterRefusedBy place had left name)
     × (asked words ≡ Plan → (plan : PlanWords) × IsPlanAsked words plan × IsPlanRefusedBy plan had left name)
-    × (asked words ≡ Outcomes → (choice : Option ℕ) × IsChoiceBy (choice_text words) choice × IsOutcomesRefusedBy choice had left name)
+    × (asked words ≡ Outcomes → (sought : OutcomesWords) × IsSoughtBy (λ option. outcomes_text option words) sought × IsOutcomesRefusedBy sought.choice had left name)

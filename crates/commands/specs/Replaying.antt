@@ -17,12 +17,13 @@ use Rattle.pictures.specs.Heading.{no_role}
 use Rattle.pictures.specs.Picture.{picture_text}
 use Rattle.pictures.specs.declared.shown.Shown.{Shown}
 use Rattle.stories.specs.Story.{story_text}
+use Rattle.traces.specs.Traced.{trace_text}
 use Rattle.replay_lines.specs.Refusals.{refused_line_of}
-use Rattle.commands.specs.Halts.{refused_as, told_line}
+use Rattle.commands.specs.Halts.{IsRefusedIn, refused_as, told_line}
 use Rattle.commands.specs.Forms.{IsFormBy, WritesBy}
 use Rattle.commands.specs.Grammar.{flag_text}
 use Rattle.commands.specs.declared.form.Form.{Form}
-use Rattle.commands.specs.declared.form.Form.TheVariants.{Lines, Picture, Writes}
+use Rattle.commands.specs.declared.form.Form.TheVariants.{Lines, Picture, Trace, Writes}
 use Rattle.replay_lines.specs.declared.fault.ScriptError.TheVariants.{BadScript, Memory}
 
 -- the replies of the run of these events, and its order
@@ -38,12 +39,14 @@ abbrev pub IsShownText : Form → Size × List Event → List ℕ → Type 0
 IsShownText Lines script text = IsRunText script text
 IsShownText (Picture shown) script text = text ≡ picture_text shown script.0 no_role script.1
 IsShownText Writes script text = IsStoryText script text
+IsShownText Trace script text = text ≡ trace_text no_role script.0 script.1
 
 -- the same of the script that the input is
 abbrev pub IsReplayText : Form → (input text : List ℕ) → Type 0
 IsReplayText form input text = (script : Size × List Event) × (script_of input ≡ Some script) × IsShownText form script text
 
--- That text was written, in the form that the words ask for: the replies of the run and its order, its picture, or its writes.
+-- That text was written, in the form that the words ask for: the replies of the run and its order, its picture, its writes, or its
+-- trace.
 abbrev pub Replays : (puts : Option (List ℕ) → List ℕ → Option (List ℕ) → Type 0) → List Text → (had left before after : Option (List ℕ)) → Type 0
 Replays puts words had left before after =
     (form : Form) × IsFormBy (λ flag. flag_text (codes "replay") flag words) form × WritesBy puts (IsReplayText form) had left before after
@@ -73,7 +76,7 @@ IsReplayRefusal place input name = ((script_of input ≡ None) × (name ≡ refu
 
 -- All of the reader's bytes were read, and are refused by this name.
 abbrev pub IsRefusedBy : (place : Bool) → Option (List ℕ) → Option (List ℕ) → List ℕ → Type 0
-IsRefusedBy place had left name = IfSome had (λ input. (left ≡ Some []) × IsReplayRefusal place input name)
+IsRefusedBy place had left name = IsRefusedIn (IsReplayRefusal place) had left name
 
 -- the name of the refusal of a text that is no script
 abbrev pub script_refusal : ScriptError → Option (List ℕ)

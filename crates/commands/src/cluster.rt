@@ -1,74 +1,44 @@
 //! `stsctl cluster`.
-ghost use Rattle.std.specs.Prelude.{◌≡◌, ◌≢◌, ◌<◌, ◌⊎◌, ℕ, List, [], true, false, IfOk, IfErr, IfSome, Some};
+ghost use Rattle.std.specs.Prelude.{◌≡◌, None, false, IfOk, IfErr, IfSome};
 ghost use Rattle.cluster_scripts.specs.Scripts.{cluster_script_of};
-ghost use Rattle.commands.specs.Clustering.{IsClusterPicture, IsClusterRefusal, IsClusterRefusedBy, IsClusterRunRefusal, IsClusterShown, IsClusterStory, IsClusterText, IsClusterTextOf};
-ghost use Rattle.plain.specs.Streams.{Puts, PutsPart};
-ghost use Rattle.commands.specs.Forms.{WritesBy};
-ghost use Rattle.commands.specs.Halts.{CountsReads, Tells, is_read, name_of, told_line};
+ghost use Rattle.commands.specs.Clustering.{IsClusterPicture, IsClusterRefusal, IsClusterRunRefusal, IsClusterShown, IsClusterStory, IsClusterText, IsClusterTextOf, IsClusterTrace, trace_beside, trace_of};
+ghost use Rattle.commands.specs.Halts.{is_read, name_of, told_line};
 ghost use Rattle.replay_lines.specs.Events.{Fails};
 ghost use Rattle.cluster_scripts.specs.Refusals.{refused_line_of};
 
+use crate::answering::Answer;
 use crate::cluster_roles::ClusterRoles;
 use crate::form::Form;
-use crate::halt::{Halt, halt_at, halted};
-use crate::status::{BAD_WORDS, FAILURE, Heap, REFUSED, SUCCESS, shown};
+use crate::halt::{Halt, halt_at};
 use crate::words::ScriptWords;
 use cluster_scripts::{ClusterScript, cluster_text, read_cluster_script, refused_cluster_line};
-use controllers::run_turns;
+use controllers::{ClusterSpec, TurnsRun, run_turns};
 use objects::Memory;
 use pictures::{Shown, picture};
-use plain::{Sink, Source, read_all};
+use refused_plans::{RefusedNotes, RefusedPlan, refused_plans};
 use replay_lines::ScriptError;
 use std::alloc::Global;
 use stories::story;
+use traces::trace_by_lines;
 
-/// Runs the controllers of the script that the reader has, by its turns, and writes what they ask, the replies and the order,
-/// a picture of the run, or its writes.
-pub(crate) fn clustered<R: Source, W: Sink, F: Sink>(
-    heap: &mut Heap,
-    asked: ScriptWords,
-    reader: &mut R,
-    writer: &mut W,
-    faults: &mut F,
-) -> u8
-    ensures status { (result < BAD_WORDS) ⊎ (result ≡ REFUSED) }
-    ensures clustered { result ≡ SUCCESS → WritesBy Puts (IsClusterTextOf asked.form) (R.remaining reader.old) (R.remaining reader.new)
-        (W.written writer.old) (W.written writer.new) }
-    ensures part { result ≡ FAILURE → (writer.new ≡ writer.old) ⊎ WritesBy PutsPart (IsClusterTextOf asked.form) (R.remaining reader.old) (R.remaining reader.new)
-        (W.written writer.old) (W.written writer.new) }
-    ensures named { result ≡ REFUSED → (name : List ℕ)
-        × (Tells name (F.written faults.old) (F.written faults.new) (F.failures faults.old) (F.failures faults.new))
-        × IsClusterRefusedBy asked.place (R.remaining reader.old) (R.remaining reader.new) name }
-    ensures cause { result ≡ FAILURE → (R.failures reader.old < R.failures reader.new) ⊎ ((W.failures writer.old < W.failures writer.new)
-        ⊎ (heap.new.refused ≡ true)) }
-    ensures memory { result ≢ FAILURE → heap.new.refused ≡ heap.old.refused }
-    ensures spared { (R.failures reader.old < R.failures reader.new) ⊎ (W.failures writer.old < W.failures writer.new)
-        → heap.new.refused ≡ heap.old.refused }
-    ensures quiet { result < BAD_WORDS → faults.new ≡ faults.old }
-    ensures silent { result ≡ REFUSED → writer.new ≡ writer.old }
-{
-    match cluster_of_input(heap.alloc, asked, reader) {
-        Ok(text) => shown(writer, text.as_slice()),
-        Err(halt) => halted(heap, halt, faults),
+/// What is printed of the run of a script of controllers: all requests and replies and the order, a picture, its writes or its
+/// trace.
+#[derive(Clone, Copy, Drop)]
+pub(crate) struct Clustering {
+    pub(crate) asked: ScriptWords,
+}
+
+impl Answer for Clustering {
+    ghost is_text = { λ word input text. IsClusterTextOf word.asked.form input text };
+
+    ghost is_refusal = { λ word input name. IsClusterRefusal word.asked.place input name };
+
+    fn answer(&self, alloc: Global, input: &[u8]) -> Result<Vec<u8>, Halt> {
+        cluster_of_lines(alloc, self.asked, input)
     }
 }
 
-/// What is to be written, given all that the reader has.
-fn cluster_of_input<R: Source>(
-    alloc: Global,
-    asked: ScriptWords,
-    reader: &mut R,
-) -> Result<Vec<u8>, Halt>
-    ensures clustered { IfOk result (λ text. IfSome (R.remaining reader.old)
-        (λ input. (R.remaining reader.new ≡ Some []) × IsClusterTextOf asked.form input text.items)) }
-    ensures refused { IfErr result (λ halt. IfSome (name_of halt) (IsClusterRefusedBy asked.place (R.remaining reader.old) (R.remaining reader.new))) }
-    ensures reads { CountsReads result (R.failures reader.old) (R.failures reader.new) }
-{
-    let input = read_all(alloc, reader)?;
-    cluster_of_lines(alloc, asked, input.as_slice())
-}
-
-/// The same, given the lines of the script.
+/// What is to be written, given the lines of the script.
 fn cluster_of_lines(alloc: Global, asked: ScriptWords, input: &[u8]) -> Result<Vec<u8>, Halt>
     ensures clustered { IfOk result (λ text. IsClusterTextOf asked.form input.now text.items) }
     ensures refused { IfErr result (λ halt. IfSome (name_of halt) (IsClusterRefusal asked.place input.now)) }
@@ -116,6 +86,7 @@ fn cluster_in_form(alloc: Global, form: Form, script: &ClusterScript) -> Result<
         Form::Lines => cluster_of_script(alloc, script),
         Form::Picture(shown) => picture_of_cluster(alloc, shown, script),
         Form::Writes => story_of_cluster(alloc, script),
+        Form::Trace => trace_of_cluster(alloc, script),
     }
 }
 
@@ -126,7 +97,7 @@ fn cluster_of_script(alloc: Global, script: &ClusterScript) -> Result<Vec<u8>, H
     ensures read { IfErr result (λ halt. is_read halt ≡ false) }
 {
     let found = run_turns(alloc, &script.spec, script.turns.as_slice())?;
-    let text = cluster_text(alloc, &found);
+    let text = cluster_text(alloc, &found.run);
     // Let go by name, which is proved once for the type and not at each way out.
     drop(found);
     Ok(text?)
@@ -140,10 +111,10 @@ fn story_of_cluster(alloc: Global, script: &ClusterScript) -> Result<Vec<u8>, Ha
 {
     let found = run_turns(alloc, &script.spec, script.turns.as_slice())?;
     let roles = ClusterRoles {
-        owners: &found.owners,
+        owners: &found.run.owners,
         sets: script.spec.sets.as_slice(),
     };
-    let text = story(alloc, found.run.trace.items.as_slice(), &roles);
+    let text = story(alloc, found.run.run.trace.items.as_slice(), &roles);
     // Let go by name, which is proved once for the type and not at each way out.
     drop(found);
     Ok(text?)
@@ -157,7 +128,7 @@ fn picture_of_cluster(alloc: Global, shown: Shown, script: &ClusterScript) -> Re
 {
     let found = run_turns(alloc, &script.spec, script.turns.as_slice())?;
     let roles = ClusterRoles {
-        owners: &found.owners,
+        owners: &found.run.owners,
         sets: script.spec.sets.as_slice(),
     };
     let size = &script.spec;
@@ -165,12 +136,77 @@ fn picture_of_cluster(alloc: Global, shown: Shown, script: &ClusterScript) -> Re
         alloc,
         size.shards,
         size.capacity,
-        found.events.as_slice(),
+        found.run.events.as_slice(),
         &roles,
         shown,
     );
     // Let go by name, which is proved once for the type and not at each way out.
     drop(found);
+    match text {
+        Ok(text) => Ok(text),
+        // The events ran before, so nothing but memory can be wanting.
+        Err(_) => Err(Halt::Memory),
+    }
+}
+
+/// The line of a script that its first turn is.
+const FIRST_TURN: u64 = 2;
+
+/// The trace of the run, given the script.
+fn trace_of_cluster(alloc: Global, script: &ClusterScript) -> Result<Vec<u8>, Halt>
+    ensures traced { IfOk result (λ text. IsClusterTrace script.now text.items) }
+    ensures refused { IfErr result (λ halt. IfSome (name_of halt) (IsClusterRunRefusal script.now)) }
+    ensures read { IfErr result (λ halt. is_read halt ≡ false) }
+{
+    let found = run_turns(alloc, &script.spec, script.turns.as_slice())?;
+    let text = trace_of_run(alloc, &script.spec, &found);
+    // Let go by name, which is proved once for the type and not at each way out.
+    drop(found);
+    text
+}
+
+/// The same, given the run.
+fn trace_of_run(alloc: Global, spec: &ClusterSpec, found: &TurnsRun) -> Result<Vec<u8>, Halt>
+    ensures traced { IfOk result (λ text. text.items ≡ trace_of spec.now found.now.run found.now.ends.items) }
+    ensures refused { IfErr result (λ halt. name_of halt ≡ None) }
+    ensures read { IfErr result (λ halt. is_read halt ≡ false) }
+{
+    let run = &found.run;
+    let items = run.run.trace.items.as_slice();
+    let plans = refused_plans(alloc, items, &run.owners, spec.sets.as_slice())?;
+    let text = trace_beside(alloc, spec, found, plans.as_slice());
+    drop(plans);
+    text
+}
+
+/// The same, given the plans that were refused.
+fn trace_beside(
+    alloc: Global,
+    spec: &ClusterSpec,
+    found: &TurnsRun,
+    plans: &[RefusedPlan],
+) -> Result<Vec<u8>, Halt>
+    ensures traced { IfOk result (λ text. text.items ≡ trace_beside spec.now found.now.run found.now.ends.items plans.now) }
+    ensures refused { IfErr result (λ halt. name_of halt ≡ None) }
+    ensures read { IfErr result (λ halt. is_read halt ≡ false) }
+{
+    let sets = spec.sets.as_slice();
+    let notes = RefusedNotes::of(alloc, plans, sets)?;
+    let roles = ClusterRoles {
+        owners: &found.run.owners,
+        sets,
+    };
+    let text = trace_by_lines(
+        alloc,
+        spec.shards,
+        spec.capacity,
+        found.run.events.as_slice(),
+        found.ends.as_slice(),
+        FIRST_TURN,
+        &roles,
+        &notes,
+    );
+    drop(notes);
     match text {
         Ok(text) => Ok(text),
         // The events ran before, so nothing but memory can be wanting.

@@ -1,99 +1,90 @@
 //! `stsctl outcomes`.
-ghost use Rattle.std.specs.Prelude.{◌≡◌, ◌≢◌, ◌<◌, ◌⊎◌, ℕ, List, [], true, false, IfOk, IfErr, IfSome, Some};
+ghost use Rattle.std.specs.Prelude.{◌≡◌, None, Some, false, IfOk, IfErr, IfSome};
 ghost use Rattle.std.specs.Option.{option_copied};
-ghost use Rattle.plain.specs.Streams.{Puts, PutsPart};
-ghost use Rattle.commands.specs.Finding.{AreOutcomes, IsChosenText, IsChoiceRefusal, IsFindingRefusal, IsFoundText, IsOutcomesRefusal, IsOutcomesRefusedBy, IsOutcomesText, outcome_of};
-ghost use Rattle.commands.specs.Forms.{WritesBy};
-ghost use Rattle.commands.specs.Halts.{CountsReads, Tells, is_read, name_of};
+ghost use Rattle.commands.specs.Finding.{AreOutcomes, IsChosenBy, IsChosenText, IsChoiceRefusal, IsFindingRefusal, IsFoundText, IsOutcomesRefusal, IsOutcomesText, lines_of_all, outcome_of};
+ghost use Rattle.commands.specs.Halts.{is_read, name_of};
 
-use crate::halt::{Halt, halted};
-use crate::status::{BAD_WORDS, FAILURE, Heap, REFUSED, SUCCESS, shown};
-use outcome_lines::{outcomes_text, read_litmus, script_text};
+use crate::answering::Answer;
+use crate::halt::Halt;
+use crate::words::OutcomesWords;
+use outcome_lines::{outcomes_brief_text, outcomes_text, read_litmus, script_text};
 use outcomes::{Litmus, Outcome, outcomes};
-use plain::{Sink, Source, read_all};
 use std::alloc::Global;
 
-/// Finds what the callers of the litmus test that the reader has can be told, and writes it, or the script that shows the outcome
-/// of that number.
-pub(crate) fn found<R: Source, W: Sink, F: Sink>(
-    heap: &mut Heap,
-    choice: Option<u64>,
-    reader: &mut R,
-    writer: &mut W,
-    faults: &mut F,
-) -> u8
-    ensures status { (result < BAD_WORDS) ⊎ (result ≡ REFUSED) }
-    ensures found { result ≡ SUCCESS → WritesBy Puts (IsOutcomesText choice) (R.remaining reader.old) (R.remaining reader.new)
-        (W.written writer.old) (W.written writer.new) }
-    ensures part { result ≡ FAILURE → (writer.new ≡ writer.old) ⊎ WritesBy PutsPart (IsOutcomesText choice) (R.remaining reader.old) (R.remaining reader.new)
-        (W.written writer.old) (W.written writer.new) }
-    ensures named { result ≡ REFUSED → (name : List ℕ)
-        × (Tells name (F.written faults.old) (F.written faults.new) (F.failures faults.old) (F.failures faults.new))
-        × IsOutcomesRefusedBy choice (R.remaining reader.old) (R.remaining reader.new) name }
-    ensures cause { result ≡ FAILURE → (R.failures reader.old < R.failures reader.new) ⊎ ((W.failures writer.old < W.failures writer.new)
-        ⊎ (heap.new.refused ≡ true)) }
-    ensures memory { result ≢ FAILURE → heap.new.refused ≡ heap.old.refused }
-    ensures spared { (R.failures reader.old < R.failures reader.new) ⊎ (W.failures writer.old < W.failures writer.new)
-        → heap.new.refused ≡ heap.old.refused }
-    ensures quiet { result < BAD_WORDS → faults.new ≡ faults.old }
-    ensures silent { result ≡ REFUSED → writer.new ≡ writer.old }
-{
-    match outcomes_of_input(heap.alloc, choice, reader) {
-        Ok(text) => shown(writer, text.as_slice()),
-        Err(halt) => halted(heap, halt, faults),
+/// What the callers of a litmus test can be told, in words where that is asked for, or the script that shows one outcome.
+#[derive(Clone, Copy, Drop)]
+pub(crate) struct Finding {
+    pub(crate) sought: OutcomesWords,
+}
+
+impl Answer for Finding {
+    ghost is_text = { λ word input text. IsOutcomesText word.sought input text };
+
+    ghost is_refusal = { λ word input name. IsOutcomesRefusal word.sought.choice input name };
+
+    fn answer(&self, alloc: Global, input: &[u8]) -> Result<Vec<u8>, Halt> {
+        outcomes_of_lines(alloc, self.sought, input)
     }
 }
 
-/// What is to be written, given all that the reader has.
-fn outcomes_of_input<R: Source>(
-    alloc: Global,
-    choice: Option<u64>,
-    reader: &mut R,
-) -> Result<Vec<u8>, Halt>
-    ensures found { IfOk result (λ text. IfSome (R.remaining reader.old)
-        (λ input. (R.remaining reader.new ≡ Some []) × IsOutcomesText choice input text.items)) }
-    ensures refused { IfErr result (λ halt. IfSome (name_of halt) (IsOutcomesRefusedBy choice (R.remaining reader.old) (R.remaining reader.new))) }
-    ensures reads { CountsReads result (R.failures reader.old) (R.failures reader.new) }
-{
-    let input = read_all(alloc, reader)?;
-    outcomes_of_lines(alloc, choice, input.as_slice())
-}
-
-/// The same, given the lines of the litmus test.
-fn outcomes_of_lines(alloc: Global, choice: Option<u64>, input: &[u8]) -> Result<Vec<u8>, Halt>
-    ensures found { IfOk result (λ text. IsOutcomesText choice input.now text.items) }
-    ensures refused { IfErr result (λ halt. IfSome (name_of halt) (IsOutcomesRefusal choice input.now)) }
+/// What is to be written, given the lines of the litmus test.
+fn outcomes_of_lines(alloc: Global, sought: OutcomesWords, input: &[u8]) -> Result<Vec<u8>, Halt>
+    ensures found { IfOk result (λ text. IsOutcomesText sought input.now text.items) }
+    ensures refused { IfErr result (λ halt. IfSome (name_of halt) (IsOutcomesRefusal sought.choice input.now)) }
     ensures read { IfErr result (λ halt. is_read halt ≡ false) }
 {
     let litmus = read_litmus(alloc, input)?;
-    outcomes_of_litmus(alloc, choice, &litmus)
+    outcomes_of_litmus(alloc, sought, &litmus)
 }
 
 /// The same, given the litmus test.
-fn outcomes_of_litmus(alloc: Global, choice: Option<u64>, litmus: &Litmus) -> Result<Vec<u8>, Halt>
-    ensures found { IfOk result (λ text. IsFoundText choice litmus.now text.items) }
-    ensures refused { IfErr result (λ halt. IfSome (name_of halt) (IsFindingRefusal choice litmus.now)) }
+fn outcomes_of_litmus(
+    alloc: Global,
+    sought: OutcomesWords,
+    litmus: &Litmus,
+) -> Result<Vec<u8>, Halt>
+    ensures found { IfOk result (λ text. IsFoundText sought litmus.now text.items) }
+    ensures refused { IfErr result (λ halt. IfSome (name_of halt) (IsFindingRefusal sought.choice litmus.now)) }
     ensures read { IfErr result (λ halt. is_read halt ≡ false) }
 {
     let found = outcomes(alloc, litmus)?;
-    text_of_found(alloc, choice, litmus, found.as_slice())
+    text_of_found(alloc, sought, litmus, found.as_slice())
 }
 
 /// The same, given the outcomes.
 fn text_of_found(
     alloc: Global,
-    choice: Option<u64>,
+    sought: OutcomesWords,
     litmus: &Litmus,
     found: &[Outcome],
 ) -> Result<Vec<u8>, Halt>
     requires { AreOutcomes litmus.now found.now }
-    ensures chosen { IfOk result (λ text. IsChosenText choice litmus.now found.now text.items) }
-    ensures refused { IfErr result (λ halt. IfSome (name_of halt) (IsChoiceRefusal choice found.now)) }
+    ensures chosen { IfOk result (λ text. IsChosenText sought litmus.now found.now text.items) }
+    ensures refused { IfErr result (λ halt. IfSome (name_of halt) (IsChoiceRefusal sought.choice found.now)) }
     ensures read { IfErr result (λ halt. is_read halt ≡ false) }
 {
-    match choice {
-        None => Ok(outcomes_text(alloc, litmus, found)?),
+    match sought.choice {
+        None => lines_of_all(alloc, sought.brief, litmus, found),
         Some(number) => script_of_number(alloc, number, litmus, found),
+    }
+}
+
+/// The lines of all outcomes.
+fn lines_of_all(
+    alloc: Global,
+    brief: bool,
+    litmus: &Litmus,
+    found: &[Outcome],
+) -> Result<Vec<u8>, Halt>
+    requires { AreOutcomes litmus.now found.now }
+    ensures told { IfOk result (λ text. text.items ≡ lines_of_all brief litmus.now found.now) }
+    ensures refused { IfErr result (λ halt. name_of halt ≡ None) }
+    ensures read { IfErr result (λ halt. is_read halt ≡ false) }
+{
+    if brief {
+        Ok(outcomes_brief_text(alloc, litmus, found)?)
+    } else {
+        Ok(outcomes_text(alloc, litmus, found)?)
     }
 }
 
@@ -104,7 +95,7 @@ fn script_of_number(
     litmus: &Litmus,
     found: &[Outcome],
 ) -> Result<Vec<u8>, Halt>
-    ensures chosen { IfOk result (λ text. IsChosenText (Some number) litmus.now found.now text.items) }
+    ensures chosen { IfOk result (λ text. IsChosenBy (Some number) false litmus.now found.now text.items) }
     ensures refused { IfErr result (λ halt. IfSome (name_of halt) (IsChoiceRefusal (Some number) found.now)) }
     ensures read { IfErr result (λ halt. is_read halt ≡ false) }
 {

@@ -55,23 +55,22 @@ More in docs/INTERLEAVINGS.md"#;
 pub(crate) const CLUSTER_END: &str =
     r#"Whole script, of a new set whose two pods come up; from a file as `stsctl cluster < FILE`:
 {"capacity":100,"sets":[{"name":"web"}],"shards":2}
-{"caller":9,"event":"outside","request":{"do":"create","object":{"kind":"StatefulSet","metadata":{"name":"web","namespace":"default"},"spec":{"replicas":2,"template":{}}}}}
-{"caller":9,"event":"check"}
-{"caller":9,"event":"reserve"}
-{"caller":9,"event":"publish"}
-{"event":"raise"}
-{"caller":9,"event":"reply"}
+{"caller":9,"event":"ask","request":{"do":"create","object":{"kind":"StatefulSet","metadata":{"name":"web","namespace":"default"},"spec":{"replicas":2,"template":{}}}}}
 {"event":"settle","rounds":5}
 {"event":"settle","rounds":1}
 
-Events of a controller:
-  next     it calls what it asks next
-  run      the steps that carry this to its reply
-  crash    it forgets its round, and begins anew as another caller
+Events of a controller, as {"controller":0,"event":"next"}:
+  next      it calls what it asks next
+  run       the steps that carry this to its reply
+  round     requests and their replies, up to the end of its round
+  approach  the same up to its next write, which is not called
+  crash     it forgets its round, and begins anew as another caller
 Of all controllers:
-  settle   so many rounds of each; after all have made one, a kubelet makes a turn
+  settle    so many rounds of each; after all have made one, a kubelet makes a turn
 Of a caller:
-  outside  anybody else calls a request, which is a line of `serve`
+  outside   anybody else calls a request, which is a line of `serve`
+  ask       the same, carried to its reply
+  run       the steps that carry its request to its reply
 The steps of callers, and `raise`, are those of `stsctl replay --help`
 
 Exit status:

@@ -2,6 +2,7 @@
 //! program hands it the standard streams.
 #![tactic(auto)]
 
+mod answering;
 mod cluster;
 mod cluster_roles;
 mod explain;

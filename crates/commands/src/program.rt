@@ -12,12 +12,13 @@ ghost use Rattle.commands.specs.Refusing.{Refuses};
 ghost use Rattle.commands.specs.Replaying.{Replays};
 ghost use Rattle.commands.specs.Serving.{AsksOutOfRange, Serves, ServesSome};
 
-use crate::cluster::clustered;
+use crate::answering::answered;
+use crate::cluster::Clustering;
 use crate::explain::explained;
-use crate::finding::found;
+use crate::finding::Finding;
 use crate::plan::planned;
 use crate::race::raced;
-use crate::replay::replayed;
+use crate::replay::Replaying;
 use crate::serve::served;
 use crate::status::{BAD_WORDS, FAILURE, Heap, REFUSED, SUCCESS};
 use crate::words::{Asked, read_words};
@@ -121,11 +122,15 @@ pub fn command<T: Threads + Wait + Sync, S: AsStr, R: Source, W: Sink, F: Sink>(
 {
     match read_words(heap.alloc, words) {
         Ok(Asked::Serve(capacity)) => served(heap, reader, writer, capacity),
-        Ok(Asked::Replay(script)) => replayed(heap, script, reader, writer, faults),
-        Ok(Asked::Cluster(script)) => clustered(heap, script, reader, writer, faults),
+        Ok(Asked::Replay(asked)) => { answered(heap, &Replaying { asked }, reader, writer, faults) }
+        Ok(Asked::Cluster(asked)) => {
+            answered(heap, &Clustering { asked }, reader, writer, faults)
+        }
         Ok(Asked::Plan(plan)) => planned(heap, &plan, reader, writer, faults),
         Ok(Asked::Race(race)) => raced(rt, heap, &race, writer),
-        Ok(Asked::Outcomes(choice)) => found(heap, choice, reader, writer, faults),
+        Ok(Asked::Outcomes(sought)) => {
+            answered(heap, &Finding { sought }, reader, writer, faults)
+        }
         Err(error) => explained(heap, &error, writer, faults),
     }
 }

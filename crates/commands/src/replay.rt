@@ -1,73 +1,43 @@
 //! `stsctl replay`.
-ghost use Rattle.std.specs.Prelude.{◌≡◌, ◌≢◌, ◌<◌, ◌⊎◌, ℕ, List, [], true, false, IfOk, IfErr, IfSome, Some};
+ghost use Rattle.std.specs.Prelude.{◌≡◌, false, IfOk, IfErr, IfSome};
 ghost use Rattle.replay_lines.specs.Scripts.{parts_of, script_of};
-ghost use Rattle.plain.specs.Streams.{Puts, PutsPart};
-ghost use Rattle.commands.specs.Forms.{WritesBy};
-ghost use Rattle.commands.specs.Halts.{CountsReads, Tells, is_read, name_of, told_line};
+ghost use Rattle.commands.specs.Halts.{is_read, name_of, told_line};
 ghost use Rattle.replay_lines.specs.Events.{Fails};
 ghost use Rattle.replay_lines.specs.Refusals.{refused_line_of};
 ghost use Rattle.pictures.specs.Heading.{no_role};
 ghost use Rattle.pictures.specs.Picture.{picture_text};
-ghost use Rattle.commands.specs.Replaying.{IsRefusedBy, IsReplayRefusal, IsReplayText, IsRunRefusal, IsRunText, IsShownText, IsStoryText};
+ghost use Rattle.traces.specs.Traced.{trace_text};
+ghost use Rattle.commands.specs.Replaying.{IsReplayRefusal, IsReplayText, IsRunRefusal, IsRunText, IsShownText, IsStoryText};
 
+use crate::answering::Answer;
 use crate::form::Form;
-use crate::halt::{Halt, halt_at, halted};
-use crate::status::{BAD_WORDS, FAILURE, Heap, REFUSED, SUCCESS, shown};
+use crate::halt::{Halt, halt_at};
 use crate::words::ScriptWords;
 use history::replay;
 use objects::Memory;
 use pictures::{Callers, Shown, picture};
-use plain::{Sink, Source, read_all};
 use replay_lines::{Script, ScriptError, read_script, refused_line, run_text};
 use std::alloc::Global;
 use stories::story;
+use traces::trace_lines;
 
-/// Runs the events of the script that the reader has, and writes the replies and the order, a picture of the run, or its writes.
-pub(crate) fn replayed<R: Source, W: Sink, F: Sink>(
-    heap: &mut Heap,
-    asked: ScriptWords,
-    reader: &mut R,
-    writer: &mut W,
-    faults: &mut F,
-) -> u8
-    ensures status { (result < BAD_WORDS) ⊎ (result ≡ REFUSED) }
-    ensures replayed { result ≡ SUCCESS → WritesBy Puts (IsReplayText asked.form) (R.remaining reader.old) (R.remaining reader.new)
-        (W.written writer.old) (W.written writer.new) }
-    ensures part { result ≡ FAILURE → (writer.new ≡ writer.old) ⊎ WritesBy PutsPart (IsReplayText asked.form) (R.remaining reader.old) (R.remaining reader.new)
-        (W.written writer.old) (W.written writer.new) }
-    ensures named { result ≡ REFUSED → (name : List ℕ)
-        × (Tells name (F.written faults.old) (F.written faults.new) (F.failures faults.old) (F.failures faults.new))
-        × IsRefusedBy asked.place (R.remaining reader.old) (R.remaining reader.new) name }
-    ensures cause { result ≡ FAILURE → (R.failures reader.old < R.failures reader.new) ⊎ ((W.failures writer.old < W.failures writer.new)
-        ⊎ (heap.new.refused ≡ true)) }
-    ensures memory { result ≢ FAILURE → heap.new.refused ≡ heap.old.refused }
-    ensures spared { (R.failures reader.old < R.failures reader.new) ⊎ (W.failures writer.old < W.failures writer.new)
-        → heap.new.refused ≡ heap.old.refused }
-    ensures quiet { result < BAD_WORDS → faults.new ≡ faults.old }
-    ensures silent { result ≡ REFUSED → writer.new ≡ writer.old }
-{
-    match replay_of_input(heap.alloc, asked, reader) {
-        Ok(text) => shown(writer, text.as_slice()),
-        Err(halt) => halted(heap, halt, faults),
+/// What is printed of the run of a script of callers: the replies and the order, a picture, its writes or its trace.
+#[derive(Clone, Copy, Drop)]
+pub(crate) struct Replaying {
+    pub(crate) asked: ScriptWords,
+}
+
+impl Answer for Replaying {
+    ghost is_text = { λ word input text. IsReplayText word.asked.form input text };
+
+    ghost is_refusal = { λ word input name. IsReplayRefusal word.asked.place input name };
+
+    fn answer(&self, alloc: Global, input: &[u8]) -> Result<Vec<u8>, Halt> {
+        replay_of_lines(alloc, self.asked, input)
     }
 }
 
-/// What is to be written, given all that the reader has.
-fn replay_of_input<R: Source>(
-    alloc: Global,
-    asked: ScriptWords,
-    reader: &mut R,
-) -> Result<Vec<u8>, Halt>
-    ensures replayed { IfOk result (λ text. IfSome (R.remaining reader.old)
-        (λ input. (R.remaining reader.new ≡ Some []) × IsReplayText asked.form input text.items)) }
-    ensures refused { IfErr result (λ halt. IfSome (name_of halt) (IsRefusedBy asked.place (R.remaining reader.old) (R.remaining reader.new))) }
-    ensures reads { CountsReads result (R.failures reader.old) (R.failures reader.new) }
-{
-    let input = read_all(alloc, reader)?;
-    replay_of_lines(alloc, asked, input.as_slice())
-}
-
-/// The same, given the lines of the script.
+/// What is to be written, given the lines of the script.
 fn replay_of_lines(alloc: Global, asked: ScriptWords, input: &[u8]) -> Result<Vec<u8>, Halt>
     ensures replayed { IfOk result (λ text. IsReplayText asked.form input.now text.items) }
     ensures refused { IfErr result (λ halt. IfSome (name_of halt) (IsReplayRefusal asked.place input.now)) }
@@ -115,6 +85,7 @@ fn replay_of_script(alloc: Global, form: Form, script: &Script) -> Result<Vec<u8
         Form::Lines => lines_of_script(alloc, script),
         Form::Picture(shown) => picture_of_script(alloc, shown, script),
         Form::Writes => story_of_script(alloc, script),
+        Form::Trace => trace_of_script(alloc, script),
     }
 }
 
@@ -155,4 +126,15 @@ fn picture_of_script(alloc: Global, shown: Shown, script: &Script) -> Result<Vec
     let shards = script.shards as usize;
     let events = script.events.as_slice();
     Ok(picture(alloc, shards, script.capacity, events, &Callers, shown)?)
+}
+
+/// The trace of the run of a script.
+fn trace_of_script(alloc: Global, script: &Script) -> Result<Vec<u8>, Halt>
+    ensures traced { IfOk result (λ text. text.items ≡ trace_text no_role (parts_of script.now).0 (parts_of script.now).1) }
+    ensures refused { IfErr result (λ halt. IfSome (name_of halt) (IsRunRefusal (parts_of script.now))) }
+    ensures read { IfErr result (λ halt. is_read halt ≡ false) }
+{
+    let shards = script.shards as usize;
+    let events = script.events.as_slice();
+    Ok(trace_lines(alloc, shards, script.capacity, events, &Callers)?)
 }

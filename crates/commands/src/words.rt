@@ -2,11 +2,11 @@
 ghost use Rattle.std.specs.Prelude.{◌≡◌, ◌≤◌, [], false, codes, map, unwrap_or, IfOk};
 ghost use Rattle.clap.specs.Words.{FailsBy, app_of, first_of, found_of, one_of, rows_of, rule_of, subcommand_rows_of};
 ghost use Rattle.commands.specs.Grammar.{IsCapacityBy, IsChoiceBy, IsDigitsBy, cluster_app, faults_of, flag_rule, outcomes_app, plan_app, replay_app, rows_under, serve_app, stsctl_app};
-ghost use Rattle.commands.specs.Asked.{IsAsked, IsFinding, IsOther, IsScriptBy, IsScripted, IsServing};
+ghost use Rattle.commands.specs.Asked.{IsAsked, IsFinding, IsOther, IsScriptBy, IsScripted, IsServing, IsSoughtBy};
 ghost use Rattle.commands.specs.Forms.{IsFlagBy};
 
 use crate::flags::{flag_arg, flag_in};
-use crate::form::{Form, form_in, picture_arg, writes_arg};
+use crate::form::{Form, form_in, picture_arg, trace_arg, writes_arg};
 use crate::help::{CLUSTER_END, OUTCOMES_END, PLAN_END, REPLAY_END, SERVE_END};
 use crate::numbers::{from_1_to_64, from_1_to_20000, number_arg, number_in};
 use crate::race_words::{RaceWords, race_grammar, race_words};
@@ -39,6 +39,13 @@ pub(crate) struct ScriptWords {
     pub(crate) place: bool,
 }
 
+/// Which outcome's script is asked for, by its number from 1, and whether outcomes are told in words.
+#[derive(Clone, Copy, Drop)]
+pub(crate) struct OutcomesWords {
+    pub(crate) choice: Option<u64>,
+    pub(crate) brief: bool,
+}
+
 /// What the words ask for.
 #[derive(Clone, Copy, Drop)]
 pub(crate) enum Asked<'a> {
@@ -52,13 +59,14 @@ pub(crate) enum Asked<'a> {
     Plan(PlanWords<'a>),
     /// To let controllers race.
     Race(RaceWords),
-    /// To find what racing callers can be told, or the script that shows the outcome of that number, from 1.
-    Outcomes(Option<u64>),
+    /// To find what racing callers can be told, or the script that shows one such outcome.
+    Outcomes(OutcomesWords),
 }
 
-/// What the program takes: `serve [--capacity N]`, `replay [--picture] [--writes] [--where]`, `cluster [--picture] [--writes] [--where]`,
-/// `plan --set NAME [--namespace NS] [--digits H] [--brief] [--where]`, `race [--controllers N] [--shards N] [--rounds N] [--replicas N] [--operator] [--history]`, and `outcomes [--script K]`, and what `clap` adds
-/// for help and the version.
+/// What the program takes: `serve [--capacity N]`, `replay [--picture] [--writes] [--trace] [--where]`,
+/// `cluster [--picture] [--writes] [--trace] [--where]`, `plan --set NAME [--namespace NS] [--digits H] [--brief] [--where]`,
+/// `race [--controllers N] [--shards N] [--rounds N] [--replicas N] [--operator] [--history]`, and
+/// `outcomes [--script K] [--brief]`, and what `clap` adds for help and the version.
 fn grammar<'a>(alloc: Global) -> Result<Command<'a>, AllocError>
     ensures { IfOk result (λ c. app_of c ≡ stsctl_app) }
 {
@@ -101,6 +109,7 @@ fn replay_grammar<'a>(alloc: Global) -> Result<Command<'a>, AllocError>
         .after_help(REPLAY_END)
         .arg(picture_arg(alloc))?
         .arg(writes_arg(alloc))?
+        .arg(trace_arg(alloc))?
         .arg(where_arg(alloc))
 }
 
@@ -109,11 +118,12 @@ fn cluster_grammar<'a>(alloc: Global) -> Result<Command<'a>, AllocError>
 {
     Command::new(alloc, "cluster")
         .about(
-            "Runs the controllers of the script on standard input, and prints what they ask, all replies and a legal order",
+            "Runs the controllers of the script on standard input, and prints all requests, all replies and a legal order",
         )
         .after_help(CLUSTER_END)
         .arg(picture_arg(alloc))?
         .arg(writes_arg(alloc))?
+        .arg(trace_arg(alloc))?
         .arg(where_arg(alloc))
 }
 
@@ -127,10 +137,16 @@ fn outcomes_grammar<'a>(alloc: Global) -> Result<Command<'a>, AllocError>
         from_1_to_20000(),
         "Print a script of `replay` that shows the outcome of line K, from 1 to 20000",
     );
+    let brief = flag_arg(
+        alloc,
+        "brief",
+        "Print outcomes in words instead, without versions and UIDs, those that are then alike as one",
+    );
     Command::new(alloc, "outcomes")
         .about("Prints all that the callers of the litmus test on standard input can be told")
         .after_help(OUTCOMES_END)
-        .arg(script)
+        .arg(script)?
+        .arg(brief)
 }
 
 fn plan_grammar<'a>(alloc: Global) -> Result<Command<'a>, AllocError>
@@ -214,7 +230,7 @@ fn finding_in<'a>(matches: &ArgMatches<'_>) -> Asked<'a>
     ensures { IsFinding (subcommand_rows_of matches.now) result }
 {
     match matches.subcommand_matches("outcomes") {
-        Some(outcomes) => Asked::Outcomes(choice_in(outcomes)),
+        Some(outcomes) => Asked::Outcomes(outcomes_words(outcomes)),
         None => Asked::Serve(capacity_in(matches)),
     }
 }
@@ -239,6 +255,16 @@ fn where_arg<'a>(alloc: Global) -> Arg<'a>
         "where",
         "Tell the number of the line for which the input is refused, as `line 7`",
     )
+}
+
+/// What the words after `outcomes` say.
+fn outcomes_words(matches: &ArgMatches<'_>) -> OutcomesWords
+    ensures { IsSoughtBy (λ option. one_of option (rows_of (found_of matches.now))) result }
+{
+    OutcomesWords {
+        choice: choice_in(matches),
+        brief: flag_in(matches, "brief"),
+    }
 }
 
 /// The number after `--script`.

@@ -13,8 +13,8 @@ returns-clause-clustered c =
     let spec = c.args.script.now.spec in
     let Is : List Turn → Type 0 =
     λ turns. IsClusterRun (size_of spec) (length spec.sets.items) (reconciler_named spec.sets.items)
-    (events_of_turns (size_of spec) (length spec.sets.items) (reconciler_named spec.sets.items) (namespaces_of spec.sets.items) turns) c.in_ok-found.found in
-    (c.in_ok-found.found, subst Is c.as_slice.ensures.value c.in_ok-found.ensures.run, c.in_ok-text.ensures)
+    (events_of_turns (size_of spec) (length spec.sets.items) (reconciler_named spec.sets.items) (namespaces_of spec.sets.items) turns) c.in_ok-found.found.run in
+    (c.in_ok-found.found.run, subst Is c.as_slice.ensures.value c.in_ok-found.ensures.run, c.in_ok-text.ensures)
 
 pub returns-in_err-text-clause-refused : goal.returns-in_err-text-clause-refused
 returns-in_err-text-clause-refused c =

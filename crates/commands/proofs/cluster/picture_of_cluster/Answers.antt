@@ -10,7 +10,7 @@ use Rattle.commands.proofs.cluster.picture_of_cluster.Goals as goal
 pub returns-in-Ok-clause-pictured : goal.returns-in-Ok-clause-pictured
 returns-in-Ok-clause-pictured c =
     let spec = c.args.script.now.spec in
-    let found = c.in_ok-found.found in
+    let found = c.in_ok-found.found.run in
     let Is : List Turn → Type 0 =
     λ turns. IsClusterRun (size_of spec) (length spec.sets.items) (reconciler_named spec.sets.items)
     (events_of_turns (size_of spec) (length spec.sets.items) (reconciler_named spec.sets.items) (namespaces_of spec.sets.items) turns) found in (

@@ -13,7 +13,7 @@ use Rattle.commands.proofs.cluster.story_of_cluster.Goals as goal
 pub returns-clause-told : goal.returns-clause-told
 returns-clause-told c =
     let spec = c.args.script.now.spec in
-    let found = c.in_ok-found.found in
+    let found = c.in_ok-found.found.run in
     let Is : List Turn → Type 0 =
     λ turns. IsClusterRun (size_of spec) (length spec.sets.items) (reconciler_named spec.sets.items)
     (events_of_turns (size_of spec) (length spec.sets.items) (reconciler_named spec.sets.items) (namespaces_of spec.sets.items) turns) found in (

@@ -94,19 +94,19 @@ returns-in-Err-clause-silent g c = λ some none.
 pub returns-in-Ok-Replay-clause-replayed : goal.returns-in-Ok-Replay-clause-replayed
 returns-in-Ok-Replay-clause-replayed g c = λ is asks.
     let asked = subst (λ (a : Asked). IsAsked (map g.S.AsStr.text c.args.words.now) a) c.in-Ok-Replay.field-0-is c.in-Ok-Replay.ensures.asked in
-    (c.in-Ok-Replay.script.form, asked.1.0, c.replayed.ensures.replayed is)
+    (c.in-Ok-Replay.asked.form, asked.1.0, c.answered.ensures.answered is)
 
 pub returns-in-Ok-Cluster-clause-clustered : goal.returns-in-Ok-Cluster-clause-clustered
 returns-in-Ok-Cluster-clause-clustered g c = λ is asks.
     let asked = subst (λ (a : Asked). IsAsked (map g.S.AsStr.text c.args.words.now) a) c.in-Ok-Cluster.field-0-is c.in-Ok-Cluster.ensures.asked in
-    (c.in-Ok-Cluster.script.form, asked.1.0, c.clustered.ensures.clustered is)
+    (c.in-Ok-Cluster.asked.form, asked.1.0, c.answered-in-Ok-Cluster.ensures.answered is)
 
 pub returns-in-Ok-Replay-clause-replayed_part : goal.returns-in-Ok-Replay-clause-replayed_part
 returns-in-Ok-Replay-clause-replayed_part g c = λ is asks.
     let asked = subst (λ (a : Asked). IsAsked (map g.S.AsStr.text c.args.words.now) a) c.in-Ok-Replay.field-0-is c.in-Ok-Replay.ensures.asked in
-    elim (c.replayed.ensures.part is) [
+    elim (c.answered.ensures.part is) [
       | inl same ↦ inl same
-      | inr part ↦ inr (c.in-Ok-Replay.script.form, asked.1.0, part)
+      | inr part ↦ inr (c.in-Ok-Replay.asked.form, asked.1.0, part)
     ]
 
 pub returns-in-Err-clause-replayed_part : goal.returns-in-Err-clause-replayed_part
@@ -117,9 +117,9 @@ returns-in-Err-clause-replayed_part g c = λ is asks.
 pub returns-in-Ok-Cluster-clause-clustered_part : goal.returns-in-Ok-Cluster-clause-clustered_part
 returns-in-Ok-Cluster-clause-clustered_part g c = λ is asks.
     let asked = subst (λ (a : Asked). IsAsked (map g.S.AsStr.text c.args.words.now) a) c.in-Ok-Cluster.field-0-is c.in-Ok-Cluster.ensures.asked in
-    elim (c.clustered.ensures.part is) [
+    elim (c.answered-in-Ok-Cluster.ensures.part is) [
       | inl same ↦ inl same
-      | inr part ↦ inr (c.in-Ok-Cluster.script.form, asked.1.0, part)
+      | inr part ↦ inr (c.in-Ok-Cluster.asked.form, asked.1.0, part)
     ]
 
 pub returns-in-Err-clause-clustered_part : goal.returns-in-Err-clause-clustered_part
@@ -130,7 +130,7 @@ returns-in-Err-clause-clustered_part g c = λ is asks.
 pub returns-in-Ok-Outcomes-clause-found : goal.returns-in-Ok-Outcomes-clause-found
 returns-in-Ok-Outcomes-clause-found g c = λ is asks.
     let asked = subst (λ (a : Asked). IsAsked (map g.S.AsStr.text c.args.words.now) a) c.in-Ok-Outcomes.field-0-is c.in-Ok-Outcomes.ensures.asked in
-    (c.in-Ok-Outcomes.choice, asked.1, c.found.ensures.found is)
+    (c.in-Ok-Outcomes.sought, asked.1, c.answered-in-Ok-Outcomes.ensures.answered is)
 
 pub returns-in-Err-clause-found : goal.returns-in-Err-clause-found
 returns-in-Err-clause-found g c = λ is asks.
@@ -139,9 +139,9 @@ returns-in-Err-clause-found g c = λ is asks.
 pub returns-in-Ok-Outcomes-clause-found_part : goal.returns-in-Ok-Outcomes-clause-found_part
 returns-in-Ok-Outcomes-clause-found_part g c = λ is asks.
     let asked = subst (λ (a : Asked). IsAsked (map g.S.AsStr.text c.args.words.now) a) c.in-Ok-Outcomes.field-0-is c.in-Ok-Outcomes.ensures.asked in
-    elim (c.found.ensures.part is) [
+    elim (c.answered-in-Ok-Outcomes.ensures.part is) [
       | inl same ↦ inl same
-      | inr part ↦ inr (c.in-Ok-Outcomes.choice, asked.1, part)
+      | inr part ↦ inr (c.in-Ok-Outcomes.sought, asked.1, part)
     ]
 
 pub returns-in-Err-clause-found_part : goal.returns-in-Err-clause-found_part

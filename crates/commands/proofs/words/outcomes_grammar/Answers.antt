@@ -12,4 +12,6 @@ returns c =
     let script_is : rule_of c.number_arg-script.result ≡ option_rule (codes "script") (parsers.Unsigned 1 20000) =
     script.rule ∙ ap (option_rule (codes "script")) c.from_1_to_20000.ensures in
     let top_is : app_of c.after_help.result ≡ new_app (codes "outcomes") = ap app_of_fields c.after_help.ensures ∙ ap app_of_fields c.about.ensures ∙ c.new.ensures.app in
-    IfOk-weaker c.arg.result _ _ (λ r h. h.shape script.own ∙ ap₂ with_rule top_is script_is) c.arg.ensures
+    let one_is = c.in_ok-arg.ensures.shape script.own ∙ ap₂ with_rule top_is script_is in
+    let brief = c.flag_arg-brief.ensures in
+    IfOk-weaker c.arg-2.result _ _ (λ r h. h.shape brief.own ∙ ap₂ with_rule one_is brief.rule) c.arg-2.ensures

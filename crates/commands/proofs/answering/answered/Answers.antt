@@ -1,20 +1,19 @@
 use Rattle.std.proofs.Common.{inl, inr, refl}
 use Rattle.commands.proofs.Halted.{read-fails, spared-unwritten}
 use Rattle.commands.proofs.Replayed.{named_and, writes_by}
-use Rattle.commands.specs.Halts.{Tells, name_of}
+use Rattle.commands.specs.Halts.{IsRefusedIn, Tells, name_of}
 use Rattle.plain.specs.Streams.{Puts, PutsPart}
-use Rattle.commands.specs.Clustering.{IsClusterTextOf, IsClusterRefusedBy}
-use Rattle.commands.proofs.cluster.clustered.Goals as goal
+use Rattle.commands.proofs.answering.answered.Goals as goal
 
-pub returns-in-Ok-clause-clustered : goal.returns-in-Ok-clause-clustered
-returns-in-Ok-clause-clustered g c = λ is.
-    writes_by Puts (IsClusterTextOf c.args.asked.form) (g.R.Source.remaining c.args.reader.now) (g.R.Source.remaining c.cluster_of_input.new.reader) (g.W.Sink.written c.args.writer.now)
-    (g.W.Sink.written c.shown.new.writer) c.in-Ok.text.items c.as_slice.result.now c.in-Ok.ensures.clustered (c.shown.ensures.all is) c.as_slice.ensures.value
+pub returns-in-Ok-clause-answered : goal.returns-in-Ok-clause-answered
+returns-in-Ok-clause-answered g c = λ is.
+    writes_by Puts (g.A.Answer.is_text c.args.word.now) (g.R.Source.remaining c.args.reader.now) (g.R.Source.remaining c.answer_to_all.new.reader) (g.W.Sink.written c.args.writer.now)
+    (g.W.Sink.written c.shown.new.writer) c.in-Ok.text.items c.as_slice.result.now c.in-Ok.ensures.answered (c.shown.ensures.all is) c.as_slice.ensures.value
 
 pub returns-in-Ok-clause-part : goal.returns-in-Ok-clause-part
 returns-in-Ok-clause-part g c = λ is.
-    inr (writes_by PutsPart (IsClusterTextOf c.args.asked.form) (g.R.Source.remaining c.args.reader.now) (g.R.Source.remaining c.cluster_of_input.new.reader)
-    (g.W.Sink.written c.args.writer.now) (g.W.Sink.written c.shown.new.writer) c.in-Ok.text.items c.as_slice.result.now c.in-Ok.ensures.clustered c.shown.ensures.part
+    inr (writes_by PutsPart (g.A.Answer.is_text c.args.word.now) (g.R.Source.remaining c.args.reader.now) (g.R.Source.remaining c.answer_to_all.new.reader)
+    (g.W.Sink.written c.args.writer.now) (g.W.Sink.written c.shown.new.writer) c.in-Ok.text.items c.as_slice.result.now c.in-Ok.ensures.answered c.shown.ensures.part
     c.as_slice.ensures.value)
 
 pub returns-in-Err-clause-part : goal.returns-in-Err-clause-part
@@ -24,7 +23,7 @@ pub returns-in-Err-clause-named : goal.returns-in-Err-clause-named
 returns-in-Err-clause-named g c = λ is.
     named_and (name_of c.in-Err.halt)
     (λ name. Tells name (g.F.Sink.written c.args.faults.now) (g.F.Sink.written c.halted.new.faults) (g.F.Sink.failures c.args.faults.now) (g.F.Sink.failures c.halted.new.faults))
-    (IsClusterRefusedBy c.args.asked.place (g.R.Source.remaining c.args.reader.now) (g.R.Source.remaining c.cluster_of_input.new.reader)) (c.halted.ensures.named is) c.in-Err.ensures.refused
+    (IsRefusedIn (g.A.Answer.is_refusal c.args.word.now) (g.R.Source.remaining c.args.reader.now) (g.R.Source.remaining c.answer_to_all.new.reader)) (c.halted.ensures.named is) c.in-Err.ensures.refused
 
 pub returns-in-Ok-clause-spared : goal.returns-in-Ok-clause-spared
 returns-in-Ok-clause-spared g c = λ failed. refl

@@ -1,0 +1,26 @@
+use Rattle.std.proofs.Common.{ℕ, List, length, ap, sym, subst, ◌∙◌}
+use Rattle.std.specs.Option.{IfSome}
+use Rattle.std.proofs.lemmas.Result.{IfErr-weaker, IfOk-weaker}
+use Rattle.cluster_runs.specs.Ran.{IsClusterRun}
+use Rattle.cluster_runs.specs.Turns.{ends_of_turns, events_of_turns}
+use Rattle.cluster_runs.specs.declared.turn.Turn.{Turn}
+use Rattle.controllers.specs.Cluster.{namespaces_of, reconciler_named, size_of}
+use Rattle.commands.specs.Clustering.{IsClusterRunRefusal, trace_of}
+use Rattle.commands.proofs.cluster.trace_of_cluster.Goals as goal
+
+pub returns-clause-traced : goal.returns-clause-traced
+returns-clause-traced c =
+    let spec = c.args.script.now.spec in
+    let found = c.in_ok-found.found in
+    let Is : List Turn → Type 0 =
+    λ turns. IsClusterRun (size_of spec) (length spec.sets.items) (reconciler_named spec.sets.items)
+    (events_of_turns (size_of spec) (length spec.sets.items) (reconciler_named spec.sets.items) (namespaces_of spec.sets.items) turns) found.run in
+    let ends : List Turn → List ℕ =
+    λ turns. ends_of_turns (size_of spec) (length spec.sets.items) (reconciler_named spec.sets.items) (namespaces_of spec.sets.items) turns in
+    IfOk-weaker c.trace_of_run-text.result _ _
+    (λ text is. (found.run, subst Is c.as_slice.ensures.value c.in_ok-found.ensures.run, is ∙ ap (trace_of spec found.run) (c.in_ok-found.ensures.ends ∙ ap ends c.as_slice.ensures.value)))
+    c.trace_of_run-text.ensures.traced
+
+pub returns-clause-refused : goal.returns-clause-refused
+returns-clause-refused c =
+    IfErr-weaker c.trace_of_run-text.result _ _ (λ halt none. subst (λ o. IfSome o (IsClusterRunRefusal c.args.script.now)) (sym none) tt) c.trace_of_run-text.ensures.refused
