@@ -4,7 +4,21 @@ import json
 
 from interleaved import Interleaved
 from judging import Fault, check_replies, places_of, said_by, taken_in, word_of
-from store_of_maps import WRITES, key_of
+from store_of_maps import WRITES, key_of, text_of
+from traced import Traced, check_trace
+
+
+def shown(request):
+    """A request as it is said: all that it is known by, and nothing that it passes over."""
+    verb = request["do"]
+    if "object" in request:
+        held = request["object"]
+        return {"do": verb, "object": {**held, "metadata": {**held["metadata"], "namespace": key_of(request)[1]}}}
+    if verb == "compact":
+        return {"do": verb, "resourceVersion": request["resourceVersion"]}
+    names = ("name", "at", "resourceVersion", "uid") if verb == "delete" else ("name",) if verb == "get" else ("resourceVersion",)
+    given = {name: request[name] for name in names if request.get(name) not in (None, "", "0")}
+    return {"do": verb, "kind": request["kind"], "namespace": request.get("namespace") or "default", **given}
 
 
 class Cluster:
@@ -14,22 +28,30 @@ class Cluster:
         self.world = Interleaved(size["shards"], size["capacity"], places)
         self.callers = list(range(len(size["sets"])))
         self.owners = {caller: caller for caller in self.callers}
-        self.asked = {line["at"]: line for line in said if "request" in line}
+        self.names = [one["name"] for one in size["sets"]]
+        self.namespaces = list(dict.fromkeys(one.get("namespace", "default") for one in size["sets"]))
+        self.kubelet = None
+        self.asked = {line["at"]: line for line in said if "controller" in line}
+
+    def role(self, caller):
+        """What a caller is called before its number."""
+        owner = self.owners.get(caller)
+        return "" if owner is None else f"{self.names[owner]}, controller {owner}, "
 
     def take(self, line):
-        event, caller = line["event"], line.get("caller")
-        if "controller" in line and line["controller"] >= len(self.callers):
-            return
-        if event == "next":
-            self.next(line["controller"])
+        event, caller, controller = line["event"], line.get("caller"), line.get("controller")
+        if event == "settle":
+            self.settle(line["rounds"])
+        elif controller is not None:
+            if controller < len(self.callers):
+                getattr(self, event)(controller)
         elif event == "run":
-            self.world.run(self.callers[line["controller"]])
-        elif "controller" in line:
-            self.crash(line["controller"])
-        elif event == "outside" and self.owners.get(caller) is None:
-            self.owners[caller] = None
-            self.world.call(caller, line["request"])
-        elif event == "raise" or event != "outside" and caller in self.owners and (event != "crash" or caller not in self.callers):
+            self.world.run(caller)
+        elif event == "ask":
+            self.ask(caller, line["request"])
+        elif event == "outside":
+            self.outside(caller, line["request"])
+        elif event == "raise" or caller in self.owners and (event != "crash" or caller not in self.callers):
             self.world.step(event, caller)
 
     def next(self, controller):
@@ -41,10 +63,90 @@ class Cluster:
             raise Fault(f"controller {controller} does not ask as caller {caller} at {self.world.count}")
         self.world.call(caller, asked["request"])
 
+    def run(self, controller):
+        self.world.run(self.callers[controller])
+
     def crash(self, controller):
         self.world.step("crash", self.callers[controller])
-        caller = next(number for number in range(len(self.owners) + 1) if number not in self.owners)
+        caller = self.unused()
         self.callers[controller], self.owners[caller] = caller, controller
+
+    def unused(self):
+        return next(number for number in range(len(self.owners) + 1) if number not in self.owners)
+
+    def comes_next(self, controller):
+        """The verb that a controller asks by here, as it is said, or None where it asks nothing."""
+        asked = self.asked.get(self.world.count, {})
+        is_its = asked.get("caller") == self.callers[controller] and self.callers[controller] not in self.world.phases
+        return asked["request"]["do"] if is_its else None
+
+    def ask_next(self, controller):
+        self.next(controller)
+        self.run(controller)
+
+    def round(self, controller):
+        """Until the next request is a get, which begins a round, or no reply comes."""
+        self.ask_next(controller)
+        while self.comes_next(controller) not in (None, "get"):
+            self.ask_next(controller)
+
+    def approach(self, controller):
+        """The same, but no write is called."""
+        if self.callers[controller] in self.world.phases or self.comes_next(controller) in ("get", "list"):
+            self.ask_next(controller)
+            while self.comes_next(controller) == "list":
+                self.ask_next(controller)
+
+    def outside(self, caller, request):
+        if self.owners.get(caller) is None:
+            self.owners[caller] = None
+            self.world.call(caller, request)
+
+    def ask(self, caller, request):
+        if caller not in self.world.phases:
+            self.outside(caller, request)
+            self.world.run(caller)
+            return self.world.reply_of(caller)
+        return None
+
+    def settle(self, rounds):
+        """The kubelet is the lowest caller that was not used before the first such line."""
+        self.kubelet = self.unused() if self.kubelet is None else self.kubelet
+        for _ in range(rounds):
+            for controller in range(len(self.callers)):
+                self.round(controller)
+            self.world.run(self.kubelet)
+            for namespace in self.namespaces:
+                self.tend(namespace)
+
+    def tend(self, namespace):
+        listed = self.ask(self.kubelet, {"do": "list", "kind": POD, "namespace": namespace}) or {}
+        for pod in listed.get("items", []):
+            for request in turn_of(pod):
+                self.ask(self.kubelet, request)
+
+    def check_calls(self, said):
+        """Each call is said, with who calls."""
+        wanted = []
+        for at, (caller, request) in sorted(self.world.calls.items()):
+            owner = self.owners[caller]
+            named = {} if owner is None else {"controller": owner}
+            wanted.append({"at": at, "caller": caller, **named, "request": shown(request)})
+        for one, other in zip([line for line in said if "request" in line], wanted, strict=True):
+            if text_of(one) != text_of(other):
+                raise Fault(f"the call {text_of(one)}, where {text_of(other)} is to come")
+
+
+READY = {"conditions": [{"status": "True", "type": "Ready"}], "phase": "Running"}
+
+
+def turn_of(pod):
+    """What the kubelet of a script asks for a pod."""
+    meta = pod["metadata"]
+    if "deletionTimestamp" in meta:
+        yield {"do": "delete", "kind": POD, "name": meta["name"], "namespace": meta["namespace"], "uid": meta["uid"]}
+    elif not is_ready(pod) and pod.get("status", {}).get("phase") not in ("Failed", "Succeeded"):
+        yield {"do": "status", "object": {**pod, "status": READY}}
 
 
 WRITTEN = ("Updated", "Unchanged")
@@ -142,9 +244,13 @@ def run_cluster(program, lines):
     requests = [line["request"] for line in [*lines, *said] if "request" in line]
     keys = {key_of(request) for request in requests if request["do"] not in ("list", "compact")}
     cluster = Cluster(lines[0], said, places_of(program, lines[0]["shards"], keys))
-    for line in lines[1:]:
-        cluster.take(line)
+    traced = Traced(cluster.world, cluster.role)
+    for number, line in enumerate(lines[1:], 2):
+        with traced.section(number):
+            cluster.take(line)
     if cluster.asked:
         raise Fault(f"a request at {min(cluster.asked)} that no line calls for")
+    check_trace(traced, [line for line in said_by(program, ["cluster", "--trace"], lines) if "plan refused" not in line])
+    cluster.check_calls(said)
     check_replies(cluster.world, said)
     return said, list(check_promises(cluster, said[-1]["order"], lines[0]["capacity"]))

@@ -123,6 +123,13 @@ class Interleaved:
         left = phase[1:] if phase[0] in ("drawn", "gone") else ()
         self.phases[caller] = ("gone", *left)
 
+    def reply_of(self, caller):
+        """The reply to what the caller asked last, or None where it has none."""
+        if caller in self.phases:
+            return None
+        last = max(place for place, (by, _) in self.calls.items() if by == caller)
+        return self.replies[last][1]
+
     def next_step(self, caller):
         """The step that leads the caller on while nobody else moves, or None."""
         phase = self.phases[caller]
