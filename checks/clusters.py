@@ -103,11 +103,12 @@ class Cluster:
             self.world.call(caller, request)
 
     def ask(self, caller, request):
-        if caller not in self.world.phases:
-            self.outside(caller, request)
-            self.world.run(caller)
-            return self.world.reply_of(caller)
-        return None
+        """The reply to it, or None where it has none, as where the caller is a controller's or waits for another one."""
+        if caller in self.world.phases or self.owners.get(caller) is not None:
+            return None
+        self.outside(caller, request)
+        self.world.run(caller)
+        return self.world.reply_of(caller)
 
     def settle(self, rounds):
         """The kubelet is the lowest caller that was not used before the first such line."""
