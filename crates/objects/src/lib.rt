@@ -37,12 +37,13 @@ pub use pod_names::{
     claim_name, claim_names_of_a_set_differ, pod_name, pod_names_differ, split_pod_name,
 };
 pub use print::{print_object, write_object};
-pub use printed::{Printed, Printer};
+pub use printed::{IndexedText, Printed, Printer};
 pub use read::{read_collection, read_draft, read_key, read_object};
-pub use replace::Replacement;
+pub use replace::{Replacement, generation_after, spec_bytes};
 pub use rewrite::same_found;
 pub use shape::{are_owners, are_texts};
 pub use shard::shard_of;
+pub use splice::{ends_so, spliced, status_end};
 pub use status::only_the_set_member_changes;
 pub use trees::{
     Integer, Items, Members, Memory, Text, Tree, TreeError, TreeReader, position_of, read_tree,

@@ -23,19 +23,20 @@ pub struct Printed {
     indexed: Arc<IndexedText>,
 }
 
-/// A text of an object, and what is known of the object without reading the text.
+/// A text of an object, and what is known of the object without reading the text. Who puts a text together out of parts of
+/// others makes one, and has to show that it says what is true of the object.
 #[derive(Drop)]
-pub(crate) struct IndexedText {
-    pub(crate) text: String,
-    pub(crate) uid: u64,
-    pub(crate) revision: u64,
+pub struct IndexedText {
+    pub text: String,
+    pub uid: u64,
+    pub revision: u64,
     /// The seams of the text, in bytes: before the resource version and before the status. The first is 0 where there are none.
-    pub(crate) version: u32,
-    pub(crate) status: u32,
+    pub version: u32,
+    pub status: u32,
     /// How many bytes of the spec end at the status, and the object's generation: 0 where other members stand there too,
     /// where the object has a time of deletion, or where it is not known.
-    pub(crate) spec: u32,
-    pub(crate) generation: u32,
+    pub spec: u32,
+    pub generation: u32,
 }
 
 impl Model for Printed {
@@ -62,7 +63,7 @@ impl Printed {
     }
 
     /// The object of an indexed text.
-    pub(crate) fn of_indexed(alloc: Global, indexed: IndexedText) -> Result<Printed, Memory>
+    pub fn of_indexed(alloc: Global, indexed: IndexedText) -> Result<Printed, Memory>
         requires { (o : SpecObject) × IsIndexedText o indexed }
         ensures { (o : SpecObject) → IsIndexedText o indexed → IfOk result (λ printed. printed ≡ o) }
     {
@@ -71,7 +72,8 @@ impl Printed {
         })
     }
 
-    pub(crate) fn indexed(&self) -> &IndexedText
+    /// The text, with what is known of the object without reading it.
+    pub fn indexed(&self) -> &IndexedText
         ensures { IsIndexedText self.now result.now }
     {
         &self.indexed

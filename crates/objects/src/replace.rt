@@ -199,7 +199,7 @@ fn has_same_spec(left: &IndexedText, right: &IndexedText) -> Option<bool>
 }
 
 /// The bytes of the spec, with the comma before it.
-fn spec_bytes(indexed: &IndexedText) -> &[u8]
+pub fn spec_bytes(indexed: &IndexedText) -> &[u8]
     requires { (o : SpecObject) × IsIndexedText o indexed.now × IsOpen o indexed.now }
     ensures { (o : SpecObject) → IsIndexedText o indexed.now → IsOpen o indexed.now → result.now ≡ spec_text (member_of (codes "spec") o.body) }
 {
@@ -230,8 +230,8 @@ fn meta_after(current: &Object, object: &Object) -> Result<Meta, AllocError>
     })
 }
 
-/// The generation after an update, which rises with each change of `spec` up to its limit.
-fn generation_after(generation: u64, same_spec: bool) -> u64
+/// The generation after an update, which rises with each change of `spec` up to its limit (Kubernetes `ObjectMeta`).
+pub fn generation_after(generation: u64, same_spec: bool) -> u64
     requires { generation < 2 ^ 63 }
     ensures value { result ≡ generation_after generation same_spec }
     ensures small { result < 2 ^ 63 }

@@ -12,7 +12,7 @@ use std::alloc::AllocError;
 use trees::{Memory, Tree, write_tree};
 
 /// The text with another resource version and another end, from its status on, if it has seams.
-pub(crate) fn spliced(
+pub fn spliced(
     indexed: &IndexedText,
     printer: &mut Printer,
     end: &[u8],
@@ -68,7 +68,7 @@ fn indexed_of(
 }
 
 /// The text from its status on, if it has seams.
-pub(crate) fn status_end(indexed: &IndexedText) -> &[u8]
+pub fn status_end(indexed: &IndexedText) -> &[u8]
     requires { indexed.now.version ≢ 0 → AreParts (string_bytes indexed.now.text) indexed.now.revision indexed.now.version indexed.now.status }
     ensures { indexed.now.version ≢ 0
         → (parts : AreParts (string_bytes indexed.now.text) indexed.now.revision indexed.now.version indexed.now.status) → result.now ≡ parts.rest }
@@ -80,7 +80,7 @@ pub(crate) fn status_end(indexed: &IndexedText) -> &[u8]
 }
 
 /// Whether the text ends so from its status on, if it has seams.
-pub(crate) fn ends_so(indexed: &IndexedText, end: &[u8]) -> Option<bool>
+pub fn ends_so(indexed: &IndexedText, end: &[u8]) -> Option<bool>
     requires { indexed.now.version ≢ 0 → AreParts (string_bytes indexed.now.text) indexed.now.revision indexed.now.version indexed.now.status }
     ensures { IfSome result (λ same. (indexed.now.version ≢ 0)
         × ((parts : AreParts (string_bytes indexed.now.text) indexed.now.revision indexed.now.version indexed.now.status) → same ≡ bytes_eq parts.rest end.now)) }

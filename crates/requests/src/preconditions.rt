@@ -1,16 +1,32 @@
 // What the verdicts turn on: the preconditions of a request, and whether it would change anything.
-ghost use Rattle.std.specs.Prelude.{◌≡◌, Option, is_some, option_map, decimal};
+ghost use Rattle.std.specs.Prelude.{◌≡◌, ◌<◌, ◌^◌, IfOk, Option, is_some, option_map, decimal};
 ghost use Rattle.std.specs.Option.{option_copied};
 ghost use Rattle.requests.specs.Verdict.{changes_data, conflicts, conflicts_with, differs, graceful, has_status, same_member, nonempty};
+ghost use Rattle.objects.specs.Again.{text_unless_zero};
 ghost use Rattle.objects.specs.Uid.{uid_text};
 
-use objects::{Draft, Kind, Object, Text, is_uid_text, is_version_text, same_found};
+use objects::{
+    Draft, Kind, Memory, Object, Text, is_uid_text, is_version_text, same_found, uid_text,
+};
+use std::alloc::{AllocError, Global};
 
 /// The text, if there is one. An empty one counts as none, as it does in a request line.
 pub(crate) fn nonempty(text: Option<&Text>) -> Option<&str>
     ensures { option_map (λ s. s.now) result ≡ nonempty (option_copied text.entry) }
 {
-    let text = text?.as_str();
+    unless_empty(borrowed(text))
+}
+
+fn borrowed(text: Option<&Text>) -> Option<&str>
+    ensures { option_map (λ s. s.now) result ≡ option_copied text.entry }
+{
+    Some(text?.as_str())
+}
+
+fn unless_empty(text: Option<&str>) -> Option<&str>
+    ensures { option_map (λ s. s.now) result ≡ nonempty (option_map (λ s. s.now) text.entry) }
+{
+    let text = text?;
     if text.is_empty() { None } else { Some(text) }
 }
 
@@ -21,7 +37,7 @@ pub(crate) fn conflicts(version: Option<&Text>, uid: Option<&Text>, current: &Ob
     conflicts_with(version, uid, current.meta.revision, current.meta.uid)
 }
 
-/// Whether a resource version or a UID is given that is not the text of its number.
+/// As `texts_conflict_with`, of texts of a draft.
 pub(crate) fn conflicts_with(
     version: Option<&Text>,
     uid: Option<&Text>,
@@ -30,25 +46,58 @@ pub(crate) fn conflicts_with(
 ) -> bool
     ensures { result ≡ conflicts_with (option_copied version.entry) (option_copied uid.entry) revision number }
 {
+    texts_conflict_with(borrowed(version), borrowed(uid), revision, number)
+}
+
+/// Whether a resource version or a UID is given that is not the text of its number. An empty text counts as none.
+pub fn texts_conflict_with(
+    version: Option<&str>,
+    uid: Option<&str>,
+    revision: u64,
+    number: u64,
+) -> bool
+    ensures { result ≡ conflicts_with (option_map (λ s. s.now) version.entry) (option_map (λ s. s.now) uid.entry) revision number }
+{
     differs_in_version(version, revision) || differs_in_uid(uid, number)
 }
 
-fn differs_in_version(precondition: Option<&Text>, revision: u64) -> bool
-    ensures { result ≡ differs (option_copied precondition.entry) (decimal revision) }
+fn differs_in_version(precondition: Option<&str>, revision: u64) -> bool
+    ensures { result ≡ differs (option_map (λ s. s.now) precondition.entry) (decimal revision) }
 {
-    match nonempty(precondition) {
+    match unless_empty(precondition) {
         Some(version) => !is_version_text(version, revision),
         None => false,
     }
 }
 
-fn differs_in_uid(precondition: Option<&Text>, number: u64) -> bool
-    ensures { result ≡ differs (option_copied precondition.entry) (uid_text number) }
+fn differs_in_uid(precondition: Option<&str>, number: u64) -> bool
+    ensures { result ≡ differs (option_map (λ s. s.now) precondition.entry) (uid_text number) }
 {
-    match nonempty(precondition) {
+    match unless_empty(precondition) {
         Some(uid) => !is_uid_text(uid, number),
         None => false,
     }
+}
+
+/// The text of a UID as a precondition; 0 stands for none.
+pub fn uid_precondition(alloc: Global, number: u64) -> Result<Option<Text>, Memory>
+    requires { number < 2 ^ 48 }
+    ensures { IfOk result (λ text. text ≡ text_unless_zero number (uid_text number)) }
+{
+    if number == 0 {
+        return Ok(None);
+    }
+    Ok(Some(Text::from(uid_text(alloc, number)?)))
+}
+
+/// The text of a resource version as a precondition; 0 stands for none.
+pub fn version_precondition(alloc: Global, number: u64) -> Result<Option<Text>, AllocError>
+    ensures { IfOk result (λ text. text ≡ text_unless_zero number (decimal number)) }
+{
+    if number == 0 {
+        return Ok(None);
+    }
+    Ok(Some(Text::from(format!(in alloc; "{number}")?)))
 }
 
 /// Whether an update would change what never changes: the `data` of a ControllerRevision (apps/v1).

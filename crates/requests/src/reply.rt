@@ -1,4 +1,5 @@
 ghost use Rattle.std.specs.Prelude.{◌≡◌};
+ghost use Rattle.requests.specs.DrawnRevisions.{drew_revision};
 ghost use Rattle.requests.specs.Reasons.{reason_code, reason_name};
 
 use crate::listing::Listing;
@@ -77,6 +78,25 @@ pub enum Reply {
     /// 200: the store no longer reads at resource versions below this one.
     Compacted { revision: u64 },
     Refused(Reason),
+}
+
+impl Reply {
+    /// Whether it is the reply to a write that drew a revision.
+    pub fn drew_revision(&self) -> bool
+        ensures { result ≡ drew_revision self.now }
+    {
+        match self {
+            Reply::Created(_) | Reply::Updated(_) | Reply::Marked(_) | Reply::Removed(_) => true,
+            Reply::Found(_)
+            | Reply::Listed {
+                objects: _,
+                revision: _,
+            }
+            | Reply::Unchanged(_)
+            | Reply::Compacted { revision: _ }
+            | Reply::Refused(_) => false,
+        }
+    }
 }
 
 impl Clone for Reply {

@@ -80,12 +80,7 @@ impl Plain {
         ensures judged { IfOk result (λ judged. update_verdict judged ≡ verdict (Update draft) (finite.get self.old.objects draft.object.key)) }
         ensures same { self.new ≡ self.old }
     {
-        let current = printed(
-            self.versions.at(&draft.object.key, self.counter),
-            &mut self.reader,
-            &mut self.printer,
-        );
-        let Ok(current) = current else {
+        let Ok(current) = self.printed_at(&draft.object.key) else {
             drop(draft);
             return Err(Memory);
         };
@@ -142,11 +137,7 @@ impl Plain {
         ensures judged { IfOk result (λ judged. status_verdict judged ≡ verdict (UpdateStatus draft.now) (finite.get self.old.objects draft.now.object.key)) }
         ensures same { self.new ≡ self.old }
     {
-        let current = printed(
-            self.versions.at(&draft.object.key, self.counter),
-            &mut self.reader,
-            &mut self.printer,
-        )?;
+        let current = self.printed_at(&draft.object.key)?;
         judge_status(current.as_ref(), draft, &mut self.reader)
     }
 
@@ -245,11 +236,7 @@ impl Plain {
             ≡ verdict (Delete key.now (option_copied uid.entry) (option_copied version.entry) None) (finite.get self.old.objects key.now)) }
         ensures same { self.new ≡ self.old }
     {
-        let current = printed(
-            self.versions.at(key, self.counter),
-            &mut self.reader,
-            &mut self.printer,
-        )?;
+        let current = self.printed_at(key)?;
         Ok(judge_removal(current.as_ref(), version, uid)?)
     }
 
@@ -278,8 +265,23 @@ impl Plain {
         object.at_version(&mut self.reader, &mut self.printer, next)
     }
 
+    /// The object that now has the key, with its text.
+    pub fn printed_at(&mut self, key: &Key) -> Result<Option<Printed>, Memory>
+        ensures there { IfOk result (λ current. current ≡ finite.get self.old.objects key.now) }
+        ensures reached { IsReached self.old }
+        ensures same { self.new ≡ self.old }
+    {
+        // Looked at so that the invariant is known here; it costs nothing.
+        let _ = &self.versions;
+        printed(
+            self.versions.at(key, self.counter),
+            &mut self.reader,
+            &mut self.printer,
+        )
+    }
+
     /// Draws the next number for a change of that kind, whose reply has this text.
-    fn put_text(
+    pub fn put_text(
         &mut self,
         kind: ChangeKind,
         key: &Key,

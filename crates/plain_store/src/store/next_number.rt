@@ -46,8 +46,15 @@ impl Plain {
         }
     }
 
+    /// The newest revision, 0 where none is drawn.
+    pub fn revision(&self) -> u64
+        ensures { result ≡ self.now.counter }
+    {
+        self.counter
+    }
+
     /// Whether all revisions are drawn.
-    pub(super) fn is_full(&self) -> bool
+    pub fn is_full(&self) -> bool
         ensures { result ≡ (self.now.counter == self.now.capacity) }
     {
         self.counter == self.capacity

@@ -5,11 +5,10 @@ use Rattle.objects.specs.declared.object.Draft.{Draft}
 use Rattle.objects.specs.declared.object.Object.{Object}
 use Rattle.requests.specs.Verdict.{verdict}
 use Rattle.requests.specs.declared.request.Request.TheVariants.{UpdateStatus}
-use Rattle.plain_store.proofs.Held.{found_is}
 use Rattle.plain_store.proofs.store.Plain.judge_status.Goals as goal
 
 pub returns-clause-judged : goal.returns-clause-judged
 returns-clause-judged c =
     let key = ap (λ (d : Draft). d.object.key) c.draft.view_is in
-    let there = c.as_ref.ensures.value ∙ c.in_ok-current.ensures ∙ c.at.ensures ∙ found_is c.self.inside.versions c.self.inside.counter c.self.inside.capacity c.args.self.now _ c.self.view_is ∙ ap (finite.get c.args.self.now.objects) key in
+    let there = c.as_ref.ensures.value ∙ c.in_ok-current.ensures.there ∙ ap (finite.get c.args.self.now.objects) key in
     IfOk-weaker c.judge_status.result _ _ (λ judged is. is ∙ ap (λ (current : Option Object). verdict (UpdateStatus c.args.draft.now) current) there) c.judge_status.ensures
