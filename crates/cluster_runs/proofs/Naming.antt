@@ -17,7 +17,7 @@ use Rattle.objects.specs.KeyOrder.{equal_from}
 use Rattle.interleavings.specs.declared.event.Event.{Event}
 use Rattle.interleavings.proofs.Basics.{Compared, compare, other, same}
 use Rattle.history.specs.Named.{callers, named, with_named}
-use Rattle.history.specs.Replayed.{named_by}
+use Rattle.interleavings.specs.Callers.{named_by}
 use Rattle.history.proofs.Naming.{named_more}
 
 -- ---- what holds of each name

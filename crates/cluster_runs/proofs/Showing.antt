@@ -13,13 +13,14 @@ use Rattle.requests.specs.declared.reply.Reply.{Reply}
 use Rattle.interleavings.specs.declared.event.Event.{Event}
 use Rattle.interleavings.specs.declared.event.Event.TheVariants as event
 use Rattle.interleavings.specs.Step.{step}
-use Rattle.interleavings.specs.Trace.{after, trace}
+use Rattle.interleavings.specs.Trace.{after, reply_in, trace}
 use Rattle.interleavings.specs.World.{Idle, Size, World, opening}
 use Rattle.interleavings.specs.World as world
 use Rattle.interleavings.proofs.Basics.{Compared, Least, above, atmost, compare, eq_self, least, other, same}
 use Rattle.history.specs.After.{IsAfter, IsReplyTo}
 use Rattle.history.specs.Named.{callers, named}
-use Rattle.history.specs.Replayed.{named_by, delivered_at}
+use Rattle.interleavings.specs.Callers.{named_by}
+use Rattle.history.specs.Replayed.{delivered_at}
 use Rattle.history.specs.declared.replaying.Replay.{Replay}
 use Rattle.history.proofs.Reached.{after_more}
 use Rattle.rounds.specs.Phase.{Phase, asks, reading_set, takes}
@@ -28,7 +29,7 @@ use Rattle.rounds.specs.Transcript.{Incarnation}
 use Rattle.rounds.specs.World.{AreMadeOf, StandAt, put}
 use Rattle.cluster_runs.specs.declared.event.ClusterEvent.{ClusterEvent}
 use Rattle.cluster_runs.specs.declared.event.ClusterEvent.TheVariants.{Next, Outside, Step, Crash}
-use Rattle.cluster_runs.specs.Cluster.{Cluster, controller_at, controller_by, hand, hand_if, happens, hears, is_idle, is_nobody, is_used, lowest_unused, reply_in, run, start, delivered, with_crash, with_next, with_outside, with_step, with_used}
+use Rattle.cluster_runs.specs.Cluster.{Cluster, controller_at, controller_by, hand, hand_if, happens, hears, is_idle, is_nobody, is_used, lowest_unused, run, start, delivered, with_crash, with_next, with_outside, with_step, with_used}
 use Rattle.cluster_runs.specs.Callers.{AreCallers, owner}
 use Rattle.cluster_runs.specs.Shown.{Becomes, Hands, Happens, Hears, HoldsEvents, IsCluster, Shows, Stands, Stay}
 use Rattle.cluster_runs.specs.Faults.{IsShort}

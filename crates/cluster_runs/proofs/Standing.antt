@@ -20,7 +20,8 @@ use Rattle.interleavings.specs.Step.{begun_unless, called, checked, checked_by, 
 use Rattle.interleavings.specs.Trace.{after, trace}
 use Rattle.interleavings.specs.World.{Phase, Idle, Called, Holding, Drawn, Waiting, Reading, Gone, Size, World, changed, opening, shard}
 use Rattle.interleavings.proofs.Basics.{Compared, changed-other, changed-same, compare, other, same}
-use Rattle.history.specs.Replayed.{named_by, delivered_at}
+use Rattle.interleavings.specs.Callers.{named_by}
+use Rattle.history.specs.Replayed.{delivered_at}
 use Rattle.history.proofs.Reached.{after_more}
 
 -- ---- another caller's event

@@ -14,7 +14,7 @@ use Rattle.interleavings.specs.declared.event.Event.TheVariants as event
 use Rattle.interleavings.specs.declared.trace.Item.{Item}
 use Rattle.interleavings.specs.declared.trace.Item.TheVariants as item
 use Rattle.interleavings.specs.Step.{step}
-use Rattle.interleavings.specs.Trace.{after, trace}
+use Rattle.interleavings.specs.Trace.{after, reply_in, trace}
 use Rattle.interleavings.specs.World.{Size, World, opening}
 use Rattle.interleavings.proofs.Basics.{Compared, same, other, compare, eq_self}
 use Rattle.rounds.specs.Phase.{asks, takes}
@@ -23,7 +23,7 @@ use Rattle.rounds.specs.Transcript.{Incarnation}
 use Rattle.rounds.specs.World.{put}
 use Rattle.cluster_runs.specs.declared.event.ClusterEvent.{ClusterEvent}
 use Rattle.cluster_runs.specs.declared.event.ClusterEvent.TheVariants.{Next, Outside, Step, Crash}
-use Rattle.cluster_runs.specs.Cluster.{Cluster, controller_at, controller_by, first_incarnation, hand, hand_if, happens, hears, is_idle, is_nobody, is_used, lowest_unused, reply_in, run, start, delivered, with_crash, with_next, with_outside, with_step}
+use Rattle.cluster_runs.specs.Cluster.{Cluster, controller_at, controller_by, first_incarnation, hand, hand_if, happens, hears, is_idle, is_nobody, is_used, lowest_unused, run, start, delivered, with_crash, with_next, with_outside, with_step}
 use Rattle.cluster_runs.proofs.Heard.{next_asked}
 use Rattle.cluster_runs.proofs.Kept.{IsKept, among, call_kept, crash_kept, reply_kept, used_kept}
 use Rattle.cluster_runs.proofs.Traces.{after_more, call_trace, check_trace, compact_trace, crash_trace, part_trace, publish_trace, raise_trace, read_at_trace, read_trace, reply_trace, reserve_trace}

@@ -6,9 +6,7 @@ use Rattle.requests.specs.declared.request.Request.{Request}
 use Rattle.requests.specs.declared.reply.Reply.{Reply}
 use Rattle.interleavings.specs.declared.event.Event.{Event}
 use Rattle.interleavings.specs.declared.event.Event.TheVariants as event
-use Rattle.interleavings.specs.declared.trace.Item.{Item}
-use Rattle.interleavings.specs.declared.trace.Item.TheVariants as item
-use Rattle.interleavings.specs.Trace.{after, trace}
+use Rattle.interleavings.specs.Trace.{after, reply_in, trace}
 use Rattle.interleavings.specs.World.{Size, opening}
 use Rattle.interleavings.specs.World as callers
 use Rattle.rounds.specs.Phase.{Phase, asks, reading_set, takes}
@@ -93,10 +91,6 @@ abbrev pub controller_at : Cluster → ℕ → Option ℕ
 controller_at k n = controller_by k n (k.incarnations n)
 
 -- the reply that an event gives, if it gives one
-abbrev pub reply_in : List Item → Option Reply
-reply_in (item.Reply place caller reply ∷ items) = Some reply
-reply_in items = None
-
 unfoldable pub delivered : Size → List Event → Event → Option Reply
 delivered z events e = reply_in (drop (length (trace z events)) (trace z (events ++ e ∷ [])))
 

@@ -4,7 +4,7 @@ ghost use Rattle.interleavings.specs.declared.event.Event.TheVariants as event;
 ghost use Rattle.interleavings.specs.World.{Size};
 ghost use Rattle.history.specs.After.{IsAfter, IsReplyTo};
 ghost use Rattle.history.specs.Named.{callers};
-ghost use Rattle.history.specs.Replayed.{named_by};
+ghost use Rattle.interleavings.specs.Callers.{named_by};
 ghost use Rattle.cluster_runs.specs.declared.event.ClusterEvent.TheVariants.{Next, Outside, Step, Crash};
 ghost use Rattle.cluster_runs.specs.Cluster.{controller_at, hand_if, is_nobody, is_used, with_outside};
 ghost use Rattle.cluster_runs.specs.Faults.{IsShort};

@@ -3,7 +3,8 @@ use Rattle.std.proofs.Common.{◌≡◌, inl, inr, ℕ, ◌+◌, ◌<◌, Bool, 
 use Rattle.std.proofs.lemmas.List.{at_drop_more}
 use Rattle.objects.specs.declared.object.Object.{Object}
 use Rattle.requests.specs.declared.request.Request.{Request}
-use Rattle.collector.specs.Collectable.{is_collectable, is_listed, deletion, collection, Among}
+use Rattle.requests.specs.Lists.{Has}
+use Rattle.collector.specs.Collectable.{is_collectable, is_listed, deletion, collection}
 
 pub collection-first : (claim : Object) (rest : List Object) (owners : List (List Object)) (at : ℕ) (b : Bool) → b ≡ is_collectable at (is_listed owners) claim
     → collection (claim ∷ rest) owners at ≡ cond b (deletion claim ∷ collection rest owners at) (collection rest owners at)
@@ -23,22 +24,22 @@ pub put-next : (put whole rest later : List Request) (request : Request) → put
 put-next put whole rest later request e r = append_assoc put (request ∷ []) later ∙ (ap (λ t. put ++ t) (sym r) ∙ e)
 
 later : (claim : Object) (rest : List Object) (owners : List (List Object)) (at : ℕ) (request : Request)
-    → ((found : Object) × (Among found rest × ((is_collectable at (is_listed owners) found ≡ true) × (request ≡ deletion found))))
-    → (found : Object) × (Among found (claim ∷ rest) × ((is_collectable at (is_listed owners) found ≡ true) × (request ≡ deletion found)))
+    → ((found : Object) × (Has found rest × ((is_collectable at (is_listed owners) found ≡ true) × (request ≡ deletion found))))
+    → (found : Object) × (Has found (claim ∷ rest) × ((is_collectable at (is_listed owners) found ≡ true) × (request ≡ deletion found)))
 later claim rest owners at request (found, (among, is)) = (found, (inr among, is))
 
 first : (claim : Object) (rest : List Object) (owners : List (List Object)) (at : ℕ) (request : Request) (b : Bool) → is_collectable at (is_listed owners) claim ≡ b
-    → (Among request (collection rest owners at) → (found : Object) × (Among found rest × ((is_collectable at (is_listed owners) found ≡ true) × (request ≡ deletion found))))
-    → Among request (cond b (deletion claim ∷ collection rest owners at) (collection rest owners at))
-    → (found : Object) × (Among found (claim ∷ rest) × ((is_collectable at (is_listed owners) found ≡ true) × (request ≡ deletion found)))
+    → (Has request (collection rest owners at) → (found : Object) × (Has found rest × ((is_collectable at (is_listed owners) found ≡ true) × (request ≡ deletion found))))
+    → Has request (cond b (deletion claim ∷ collection rest owners at) (collection rest owners at))
+    → (found : Object) × (Has found (claim ∷ rest) × ((is_collectable at (is_listed owners) found ≡ true) × (request ≡ deletion found)))
 first claim rest owners at request true e go (inl is) = (claim, (inl refl, (e, is)))
 first claim rest owners at request true e go (inr h) = later claim rest owners at request (go h)
 first claim rest owners at request false e go h = later claim rest owners at request (go h)
 
 -- the claim of a request that is collected
-pub claim_of : (claims : List Object) (owners : List (List Object)) (at : ℕ) (request : Request) → Among request (collection claims owners at)
-    → (claim : Object) × (Among claim claims × ((is_collectable at (is_listed owners) claim ≡ true) × (request ≡ deletion claim)))
+pub claim_of : (claims : List Object) (owners : List (List Object)) (at : ℕ) (request : Request) → Has request (collection claims owners at)
+    → (claim : Object) × (Has claim claims × ((is_collectable at (is_listed owners) claim ≡ true) × (request ≡ deletion claim)))
 claim_of [] owners at request h = elim h [ ]
 claim_of (claim ∷ rest) owners at request h =
     let b = is_collectable at (is_listed owners) claim in
-    first claim rest owners at request b refl (claim_of rest owners at request) (subst (Among request) (collection-first claim rest owners at b refl) h)
+    first claim rest owners at request b refl (claim_of rest owners at request) (subst (Has request) (collection-first claim rest owners at b refl) h)

@@ -1,10 +1,11 @@
 -- Which claims are collected (Kubernetes documentation, "Garbage Collection": a dependent goes once none of its owners is
 -- there; "StatefulSets": PersistentVolumeClaim retention).
-use Rattle.std.specs.Prelude.{◌≡◌, ◌⊎◌, ℕ, ◌==◌, nat_le, Bool, true, false, not, ◌&&◌, List, [], ◌∷◌, map, filter, decimal, codes, Option, Some, None, option_and_then, if◌then◌else◌}
+use Rattle.std.specs.Prelude.{◌≡◌, ◌⊎◌, ℕ, ◌==◌, nat_le, Bool, true, false, not, ◌&&◌, List, map, filter, decimal, codes, Option, Some, None, option_and_then}
 use Rattle.std.specs.List.{list_any}
 use Rattle.serde_json.specs.Data.{Data, Items, no_items, item}
 use Rattle.serde_json.specs.Find.{get, as_str}
 use Rattle.objects.specs.declared.object.Object.{Object}
+use Rattle.objects.specs.Again.{text_unless_zero}
 use Rattle.objects.specs.Metadata.{owners_of}
 use Rattle.objects.specs.Uid.{uid_text, uid_number}
 use Rattle.requests.specs.declared.request.Request.{Request}
@@ -37,13 +38,9 @@ is_collectable listed_at is_listed claim = has_items (owners_of claim.body) && a
 abbrev pub is_listed : List (List Object) → ℕ → Bool
 is_listed lists n = list_any (λ (objects : List Object). list_any (λ (o : Object). o.meta.uid == n) objects) lists
 
--- the text of a number that is not 0
-abbrev pub text_unless_zero : (ℕ → List ℕ) → ℕ → Option (List ℕ)
-text_unless_zero text n = if n == 0 then None else Some (text n)
-
 -- the delete of an object just as it was read: by its UID and its resource version, at once
 abbrev pub deletion : Object → Request
-deletion claim = Delete claim.key (text_unless_zero uid_text claim.meta.uid) (text_unless_zero decimal claim.meta.revision) None
+deletion claim = Delete claim.key (text_unless_zero claim.meta.uid (uid_text claim.meta.uid)) (text_unless_zero claim.meta.revision (decimal claim.meta.revision)) None
 
 -- the deletes of the collectable claims, in the order of the claims
 abbrev pub collection : List Object → List (List Object) → ℕ → List Request
@@ -53,8 +50,3 @@ collection claims owners listed_at = map deletion (filter (is_collectable listed
 abbrev pub HasOwner : ℕ → Items → Type 0
 HasOwner n no_items = ⊥
 HasOwner n (item d ds) = (owner_number d ≡ Some n) ⊎ HasOwner n ds
-
--- it stands in the list
-abbrev pub Among : {A : Type 0} → A → List A → Type 0
-Among x [] = ⊥
-Among x (y ∷ ys) = (x ≡ y) ⊎ Among x ys

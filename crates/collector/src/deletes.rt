@@ -1,14 +1,13 @@
-ghost use Rattle.std.specs.Prelude.{◌≡◌, ◌<◌, ◌^◌, IfOk, map, decimal};
+ghost use Rattle.std.specs.Prelude.{◌≡◌, IfOk, map};
 ghost use Rattle.std.specs.BTreeSet.{contains};
 ghost use Rattle.std.specs.Ordering.{nat_cmp};
-ghost use Rattle.collector.specs.Collectable.{are_gone, collection, deletion, text_unless_zero, is_collectable, is_gone, owner_number};
+ghost use Rattle.collector.specs.Collectable.{are_gone, collection, deletion, is_collectable, is_gone, owner_number};
 ghost use Rattle.objects.specs.Tree.{data_of, items_of};
-ghost use Rattle.objects.specs.Uid.{uid_text};
 
 use crate::listed::uids_in;
-use objects::{Memory, Object, Text, Tree, uid_number, uid_text};
-use requests::Request;
-use std::alloc::{AllocError, Global};
+use objects::{Memory, Object, Tree, uid_number};
+use requests::{Request, uid_precondition, version_precondition};
+use std::alloc::Global;
 use std::collections::BTreeSet;
 
 /// The deletes of the claims that nobody owns any more: those that have an owner, and whose every owner is gone for good.
@@ -73,34 +72,12 @@ fn deletion(alloc: Global, claim: &Object) -> Result<Request, Memory>
     ensures { IfOk result (λ request. request ≡ deletion claim.now) }
 {
     let key = claim.key.clone()?;
-    let uid = uid_unless_zero(alloc, claim.meta.uid)?;
-    let version = version_unless_zero(alloc, claim.meta.revision)?;
+    let uid = uid_precondition(alloc, claim.meta.uid)?;
+    let version = version_precondition(alloc, claim.meta.revision)?;
     Ok(Request::Delete {
         key,
         uid,
         version,
         at: None,
     })
-}
-
-/// The text of a UID, unless it is 0.
-fn uid_unless_zero(alloc: Global, number: u64) -> Result<Option<Text>, Memory>
-    requires { number < 2 ^ 48 }
-    ensures { IfOk result (λ text. text ≡ text_unless_zero uid_text number) }
-{
-    // 0 stands for no UID, and below for no version.
-    if number == 0 {
-        return Ok(None);
-    }
-    Ok(Some(Text::from(uid_text(alloc, number)?)))
-}
-
-/// The text of a resource version, unless it is 0.
-fn version_unless_zero(alloc: Global, number: u64) -> Result<Option<Text>, AllocError>
-    ensures { IfOk result (λ text. text ≡ text_unless_zero decimal number) }
-{
-    if number == 0 {
-        return Ok(None);
-    }
-    Ok(Some(Text::from(format!(in alloc; "{number}")?)))
 }

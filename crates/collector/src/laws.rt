@@ -4,7 +4,8 @@ ghost use Rattle.serde_json.specs.Data.{no_items};
 ghost use Rattle.objects.specs.declared.object.Object.{Object};
 ghost use Rattle.objects.specs.Metadata.{owners_of};
 ghost use Rattle.requests.specs.declared.request.Request.{Request};
-ghost use Rattle.collector.specs.Collectable.{Among, HasOwner, collection, deletion, is_collectable, is_listed};
+ghost use Rattle.requests.specs.Lists.{Has};
+ghost use Rattle.collector.specs.Collectable.{HasOwner, collection, deletion, is_collectable, is_listed};
 
 /// A claim is not collected where it has no owner, where one of its owners is among those listed, or where one was created
 /// after the lists were read.
@@ -21,6 +22,6 @@ pub fn owned_claims_stay()
 /// that were read.
 pub fn collected_claims_are_collectable()
     ensures { (claims : List Object) (owners : List (List Object)) (listed_at : ℕ) (request : Request)
-        → Among request (collection claims owners listed_at)
-        → (claim : Object) × (Among claim claims × ((is_collectable listed_at (is_listed owners) claim ≡ true) × (request ≡ deletion claim))) }
+        → Has request (collection claims owners listed_at)
+        → (claim : Object) × (Has claim claims × ((is_collectable listed_at (is_listed owners) claim ≡ true) × (request ≡ deletion claim))) }
 {}

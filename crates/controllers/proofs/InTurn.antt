@@ -55,10 +55,10 @@ use Rattle.claims.specs.declared.change.ClaimChange.TheVariants as changes
 use Rattle.claims.specs.Changes.{all_creates_and_updates, entries_of, keep_claims, create_or_update, make_claims, release_claims, update, with_owner_entries}
 use Rattle.claims.specs.Listed.{listed_claim}
 use Rattle.claims.specs.Owners.{owner_in_range, owner_of_condemned, wanted_entries}
-use Rattle.collector.specs.Collectable.{Among}
+use Rattle.requests.specs.Lists.{Has}
 use Rattle.sets.specs.declared.action.Action.{Action}
 use Rattle.sets.specs.declared.action.Action.TheVariants.{CreateClaim, CreatePod, DeletePod, UpdateClaim, WriteRevision, DeleteRevision, WriteStatus, Wait}
-use Rattle.sets.specs.Actions.{Claims, actions_of, changes_in, claim_action, claim_actions, name_at, new_pod, revision_of}
+use Rattle.sets.specs.Actions.{Claims, actions_of, changes_in, claim_action, claim_actions, name_at, new_pod, revision_of, version_or_empty}
 use Rattle.sets.specs.Laws.{HasHealthyTarget, is_on_pod as acts_on_pod}
 use Rattle.sets.specs.Plan.{fitting_pods, plan_by, plan_of_pods, refusal}
 use Rattle.sets.specs.PlanOfLists.{owned_of, plan_of_lists, views_of}
@@ -67,7 +67,8 @@ use Rattle.sets.proofs.Ordered.{all_among, all_in_order}
 use Rattle.sets.proofs.Origins.{created_alone, healthy_target, in_take, is_from_step, one_pod, origin, planned_over, renumbered_alone}
 use Rattle.sets.proofs.Owned.{filtered, first_among, total}
 use Rattle.rounds.proofs.Lists.{among_contained, among_either, contains_among}
-use Rattle.plan_requests.specs.Planned.{as_read, deletions as removals, key_of, new, or_none, request_of, requested, requested_for, requests_of, version_text}
+use Rattle.rounds.specs.Drafts.{draft}
+use Rattle.plan_requests.specs.Planned.{as_read, deletions as removals, key_of, or_none, request_of, requested, requested_for, requests_of}
 use Rattle.controllers.specs.InTurn.{IsInTurn, is_on_pod}
 
 module _ {X : Type 0} (P : X → Type 0) where
@@ -75,7 +76,7 @@ module _ {X : Type 0} (P : X → Type 0) where
   all_joined [] ys all more = more
   all_joined (x ∷ xs) ys all more = (all.0, all_joined xs ys all.1 more)
 
-  among_all : (xs : List X) (x : X) → AllByRecursion P xs → Among x xs → P x
+  among_all : (xs : List X) (x : X) → AllByRecursion P xs → Has x xs → P x
   among_all [] x all at = absurd at
   among_all (y ∷ ys) x all (inl is) = subst P (sym is) all.0
   among_all (y ∷ ys) x all (inr at) = among_all ys x all.1 at
@@ -362,7 +363,7 @@ module _ (set : SetParts) (claims : Claims) (views : List PodParts) (actions : L
 
 -- ---- requests
 
-in_requests : (namespace moment : List ℕ) (actions : List Action) (r : Request) → Among r (requests_of namespace moment actions) → (a : Action) × Among a actions × Among r (request_of namespace moment a)
+in_requests : (namespace moment : List ℕ) (actions : List Action) (r : Request) → Has r (requests_of namespace moment actions) → (a : Action) × Has a actions × Has r (request_of namespace moment a)
 in_requests namespace moment [] r at = absurd at
 in_requests namespace moment (a ∷ rest) r at =
     elim (among_either r (request_of namespace moment a) (requests_of namespace moment rest) at) [
@@ -380,38 +381,38 @@ object_in x (Delete key uid version at) = x
 object_in x (Compact to) = x
 
 module _ (d : Draft) where
-  only : (r : Request) → Among (Create d) (r ∷ []) → Create d ≡ r
+  only : (r : Request) → Has (Create d) (r ∷ []) → Create d ≡ r
   only r (inl is) = is
   only r (inr none) = absurd none
 
-  same : (o : Object) → Create d ≡ Create (new o) → d.object ≡ o
+  same : (o : Object) → Create d ≡ Create (draft o) → d.object ≡ o
   unfolding object_in
   same o is = ap (object_in o) is
 
-  no_removal : (key : Option Key) (uid : ℕ) (version at : Option (List ℕ)) → Among (Create d) (removals key uid version at) → ⊥
+  no_removal : (key : Option Key) (uid : ℕ) (version at : Option (List ℕ)) → Has (Create d) (removals key uid version at) → ⊥
   no_removal None uid version at h = h
   no_removal (Some k) uid version at h =
-      elim (nat_lt uid (2 ^ 48)) as (λ b. Among (Create d) (cond b (Delete k (Some (uid_text uid)) version at ∷ []) []) → ⊥) [
+      elim (nat_lt uid (2 ^ 48)) as (λ b. Has (Create d) (cond b (Delete k (Some (uid_text uid)) version at ∷ []) []) → ⊥) [
         | true ↦ λ there. let clash : Create d ≡ Delete k (Some (uid_text uid)) version at = only (Delete k (Some (uid_text uid)) version at) there in cc
         | false ↦ λ there. there
       ] h
 
-  other_request : (o : Object) → is_kind kinds.Pod d.object.key.kind ≡ true → IsOther o → Create d ≡ Create (new o) → ⊥
+  other_request : (o : Object) → is_kind kinds.Pod d.object.key.kind ≡ true → IsOther o → Create d ≡ Create (draft o) → ⊥
   other_request o kind other is = true≢false (sym kind ∙ ap (λ (x : Object). is_kind kinds.Pod x.key.kind) (same o is) ∙ other)
 
-  no_write : (b : Bool) (o : Object) → is_kind kinds.Pod d.object.key.kind ≡ true → IsOther o → Create d ≡ cond b (Create (new o)) (Update (as_read o)) → ⊥
+  no_write : (b : Bool) (o : Object) → is_kind kinds.Pod d.object.key.kind ≡ true → IsOther o → Create d ≡ cond b (Create (draft o)) (Update (as_read o)) → ⊥
   no_write true o kind other is = other_request o kind other is
   no_write false o kind other is = cc
 
   -- what asks for a pod is an action that creates it
   asks : (Q : Object → Type 0) (actions : List Action) (namespace moment : List ℕ) (a : Action) → ((pod : Object) → Contains actions (CreatePod pod) → Q pod) → is_kind kinds.Pod d.object.key.kind ≡ true
-      → IsApart a → Contains actions a → Among (Create d) (request_of namespace moment a) → Q d.object
-  asks Q actions namespace moment (CreateClaim o) each kind other at h = absurd (other_request o kind other (only (Create (new o)) h))
-  asks Q actions namespace moment (CreatePod o) each kind other at h = subst Q (sym (same o (only (Create (new o)) h))) (each o at)
+      → IsApart a → Contains actions a → Has (Create d) (request_of namespace moment a) → Q d.object
+  asks Q actions namespace moment (CreateClaim o) each kind other at h = absurd (other_request o kind other (only (Create (draft o)) h))
+  asks Q actions namespace moment (CreatePod o) each kind other at h = subst Q (sym (same o (only (Create (draft o)) h))) (each o at)
   asks Q actions namespace moment (DeletePod name uid) each kind other at h = absurd (no_removal (key_of kinds.Pod namespace name) uid None (Some moment) h)
   asks Q actions namespace moment (UpdateClaim o) each kind other at h = let clash : Create d ≡ Update (as_read o) = only (Update (as_read o)) h in absurd (cc)
-  asks Q actions namespace moment (WriteRevision o) each kind other at h = absurd (no_write (o.meta.uid == 0) o kind other (only (if o.meta.uid == 0 then Create (new o) else Update (as_read o)) h))
-  asks Q actions namespace moment (DeleteRevision name uid version) each kind other at h = absurd (no_removal (key_of kinds.ControllerRevision namespace name) uid (Some (version_text version)) None h)
+  asks Q actions namespace moment (WriteRevision o) each kind other at h = absurd (no_write (o.meta.uid == 0) o kind other (only (if o.meta.uid == 0 then Create (draft o) else Update (as_read o)) h))
+  asks Q actions namespace moment (DeleteRevision name uid version) each kind other at h = absurd (no_removal (key_of kinds.ControllerRevision namespace name) uid (Some (version_or_empty version)) None h)
   asks Q actions namespace moment (WriteStatus o) each kind other at h = let clash : Create d ≡ UpdateStatus (as_read o) = only (UpdateStatus (as_read o)) h in absurd (cc)
   asks Q actions namespace moment (Wait cause name) each kind other at h = absurd h
 
@@ -444,17 +445,17 @@ no_removals namespace name uid version at =
       | false ↦ omega arith
     ]
 
-few_writes : (b : Bool) (o : Object) → IsOther o → length (filter is_on_pod (cond b (Create (new o)) (Update (as_read o)) ∷ [])) ≤ 0
-few_writes true o other = none_of (is_kind kinds.Pod o.key.kind) (Create (new o)) other
+few_writes : (b : Bool) (o : Object) → IsOther o → length (filter is_on_pod (cond b (Create (draft o)) (Update (as_read o)) ∷ [])) ≤ 0
+few_writes true o other = none_of (is_kind kinds.Pod o.key.kind) (Create (draft o)) other
 few_writes false o other = omega arith
 
 few_of : (namespace moment : List ℕ) (a : Action) → IsApart a → length (filter is_on_pod (request_of namespace moment a)) ≤ length (filter acts_on_pod (a ∷ []))
-few_of namespace moment (CreateClaim o) other = none_of (is_kind kinds.Pod o.key.kind) (Create (new o)) other
-few_of namespace moment (CreatePod o) other = least_of (is_kind kinds.Pod o.key.kind) (Create (new o))
+few_of namespace moment (CreateClaim o) other = none_of (is_kind kinds.Pod o.key.kind) (Create (draft o)) other
+few_of namespace moment (CreatePod o) other = least_of (is_kind kinds.Pod o.key.kind) (Create (draft o))
 few_of namespace moment (DeletePod name uid) other = few_removals (key_of kinds.Pod namespace name) uid None (Some moment)
 few_of namespace moment (UpdateClaim o) other = omega arith
 few_of namespace moment (WriteRevision o) other = few_writes (o.meta.uid == 0) o other
-few_of namespace moment (DeleteRevision name uid version) other = no_removals namespace name uid (Some (version_text version)) None
+few_of namespace moment (DeleteRevision name uid version) other = no_removals namespace name uid (Some (version_or_empty version)) None
 few_of namespace moment (WriteStatus o) other = omega arith
 few_of namespace moment (Wait cause name) other = omega arith
 
@@ -471,23 +472,23 @@ few_requests namespace moment (a ∷ rest) all =
     ap length (filter-append acts_on_pod (a ∷ []) rest) ∙ length-append (filter acts_on_pod (a ∷ [])) (filter acts_on_pod rest) in
     omega (arith, one, more, asked, acted)
 
-among_filter : (p : Request → Bool) (r : Request) (rs : List Request) → p r ≡ true → Among r rs → Among r (filter p rs)
+among_filter : (p : Request → Bool) (r : Request) (rs : List Request) → p r ≡ true → Has r rs → Has r (filter p rs)
 among_filter p r [] holds at = absurd at
-among_filter p r (x ∷ rs) holds (inl is) = subst (λ b. Among r (cond b (x ∷ filter p rs) (filter p rs))) (sym holds ∙ ap p is) (inl is)
+among_filter p r (x ∷ rs) holds (inl is) = subst (λ b. Has r (cond b (x ∷ filter p rs) (filter p rs))) (sym holds ∙ ap p is) (inl is)
 among_filter p r (x ∷ rs) holds (inr at) =
-    elim (p x) as (λ b. Among r (cond b (x ∷ filter p rs) (filter p rs))) [
+    elim (p x) as (λ b. Has r (cond b (x ∷ filter p rs) (filter p rs))) [
       | true ↦ inr (among_filter p r rs holds at)
       | false ↦ among_filter p r rs holds at
     ]
 
-single : (r : Request) (rs : List Request) → length rs ≤ 1 → Among r rs → rs ≡ r ∷ []
+single : (r : Request) (rs : List Request) → length rs ≤ 1 → Has r rs → rs ≡ r ∷ []
 single r [] few at = absurd at
 single r (x ∷ []) few (inl is) = ap (λ y. y ∷ []) (sym is)
 single r (x ∷ []) few (inr at) = absurd at
 single r (x ∷ y ∷ rs) few at = absurd (omega (arith, few))
 
 made_in_turn : (set : SetParts) (digits : ℕ) (moment : List ℕ) (revisions pods claims : List Object) (requests : List Request) (d : Draft) (p : Result (List Action) PlanError) → set.policy ≡ OrderedReady
-    → plan_of_lists set digits revisions pods claims ≡ p → (p >>= λ actions. Ok (requests_of set.object.key.namespace moment actions)) ≡ Ok requests → Among (Create d) requests → is_kind kinds.Pod d.object.key.kind ≡ true
+    → plan_of_lists set digits revisions pods claims ≡ p → (p >>= λ actions. Ok (requests_of set.object.key.namespace moment actions)) ≡ Ok requests → Has (Create d) requests → is_kind kinds.Pod d.object.key.kind ≡ true
     → IsInTurn set pods requests d
 unfolding plan_of_lists is_made
 made_in_turn set digits moment revisions pods claims requests d (Err e) policy plan is at kind = let clash : false ≡ true = ap is_made is in absurd (true≢false (sym clash))
@@ -499,7 +500,7 @@ made_in_turn set digits moment revisions pods claims requests d (Ok actions) pol
     let made : requests_of namespace moment actions ≡ requests = ap or_none is in
     let all : AllByRecursion IsApart actions = all_among IsApart actions (λ a among. apart set (listed_claim set claims) views actions p a
     (revision_is_other set held digits (owned_of set revisions) (owned_are_other set revisions)) plan (contains_among a actions among)) in
-    let x = in_requests namespace moment actions (Create d) (subst (λ (l : List Request). Among (Create d) l) (sym made) at) in
+    let x = in_requests namespace moment actions (Create d) (subst (λ (l : List Request). Has (Create d) l) (sym made) at) in
     let next = asks d (λ pod. IsNext set views pod × IsFew actions) actions namespace moment x.0
     (λ pod created. in_turn set (listed_claim set claims) views actions p pod policy plan created) kind (among_all IsApart actions x.0 all x.1) (contains_among x.0 actions x.1) x.2 in
     let few = few_requests namespace moment actions all in
@@ -515,7 +516,7 @@ made_in_turn set digits moment revisions pods claims requests d (Ok actions) pol
     }
 
 pub created_in_turn : (o : Object) (set : SetParts) (digits : ℕ) (moment : List ℕ) (revisions pods claims : List Object) (requests : List Request) (d : Draft) → set_of o ≡ Ok set → set.policy ≡ OrderedReady
-    → requested o digits moment revisions pods claims ≡ Ok requests → Among (Create d) requests → d.object.key.kind ≡ kinds.Pod → IsInTurn set pods requests d
+    → requested o digits moment revisions pods claims ≡ Ok requests → Has (Create d) requests → d.object.key.kind ≡ kinds.Pod → IsInTurn set pods requests d
 unfolding requested requested_for
 created_in_turn o set digits moment revisions pods claims requests d read policy is at kind =
     made_in_turn set digits moment revisions pods claims requests d (plan_of_lists set digits revisions pods claims) policy refl

@@ -6,7 +6,7 @@ use Rattle.objects.specs.declared.object.Draft.{Draft}
 use Rattle.requests.specs.declared.request.Request.{Request}
 use Rattle.requests.specs.declared.request.Request.TheVariants.{Create}
 use Rattle.set_views.specs.declared.fault.PlanError.{PlanError}
-use Rattle.collector.specs.Collectable.{Among}
+use Rattle.requests.specs.Lists.{Has}
 use Rattle.rounds.specs.Planned.{IsPlanned, asked}
 use Rattle.rounds.specs.Promises.{CreatesArePlanned}
 use Rattle.rounds.specs.Reconciler.{Reconciler}
@@ -20,9 +20,9 @@ use Rattle.controllers.proofs.InTurn.{created_in_turn}
 planned_in_turn : (set : Key) (digits : ℕ) (moment : List ℕ) (own : List Exchange) (d : Draft) (plan : IsPlanned (reconciler_with set digits moment) own (Create d)) → d.object.key.kind ≡ Pod
     → ComesInTurn (reconciler_with set digits moment) own d plan
 planned_in_turn set digits moment own d plan kind = λ s read policy.
-    let among = subst (Among (Create d)) plan.planned (among_right (Create d) (asked plan.done) (Create d ∷ plan.later) (inl refl)) in
+    let among = subst (Has (Create d)) plan.planned (among_right (Create d) (asked plan.done) (Create d ∷ plan.later) (inl refl)) in
     elim (requested plan.set digits moment plan.revisions plan.pods plan.claims)
-    as (λ (r : Result (List Request) PlanError). requested plan.set digits moment plan.revisions plan.pods plan.claims ≡ r → Among (Create d) (or_none r) → IsInTurn s plan.pods (or_none r) d) [
+    as (λ (r : Result (List Request) PlanError). requested plan.set digits moment plan.revisions plan.pods plan.claims ≡ r → Has (Create d) (or_none r) → IsInTurn s plan.pods (or_none r) d) [
       | Ok requests ↦ λ is at. created_in_turn plan.set s digits moment plan.revisions plan.pods plan.claims requests d read policy is at kind
       | Err e ↦ λ is at. absurd at
     ] refl among

@@ -2,7 +2,7 @@
 // Values are let go by `drop`, which is proved once for a type and not at each way out.
 ghost use Rattle.std.specs.Prelude.{◌≡◌, ◌∷◌, [], ◌||◌, ℕ, List, true, false, reverse, IfOk, IfSome, IfNone, if◌then◌else◌};
 ghost use Rattle.collector.specs.Collectable.{collection};
-ghost use Rattle.rounds.specs.Accepted.{is_accepted};
+ghost use Rattle.rounds.specs.Accepted.{succeeded};
 ghost use Rattle.rounds.specs.Phase as phases;
 ghost use Rattle.rounds.specs.Phase.{acts, deletes, from_set, is_refusal, reading_set, takes};
 ghost use Rattle.objects.specs.declared.key.Key.{Key};
@@ -17,8 +17,8 @@ use requests::{Listing, Reason, Reply, Request};
 use std::alloc::{AllocError, Global};
 
 /// Whether the write was done, or there was nothing to do.
-fn is_accepted(request: &Request, reply: &Reply) -> bool
-    ensures { result ≡ is_accepted request.now reply.now }
+fn succeeded(request: &Request, reply: &Reply) -> bool
+    ensures { result ≡ succeeded request.now reply.now }
 {
     match (request, reply) {
         (Request::Create(_), Reply::Created(_)) => true,
@@ -101,11 +101,11 @@ fn deleting(mut requests: Vec<Request>) -> Progress
 /// After an action. A refused one ends the round.
 #[tactic(auto, unfolding(crate::specs::Progress::phase_at))]
 pub(crate) fn after_action(next: Request, later: Vec<Request>, reply: &Reply) -> Progress
-    ensures { phase_at result ≡ (if is_accepted next reply.now then acts (reverse later.items) else reading_set) }
+    ensures { phase_at result ≡ (if succeeded next reply.now then acts (reverse later.items) else reading_set) }
 {
-    let accepted = is_accepted(&next, reply);
+    let done = succeeded(&next, reply);
     drop(next);
-    if accepted {
+    if done {
         return acts(later);
     }
     drop(later);
@@ -115,9 +115,9 @@ pub(crate) fn after_action(next: Request, later: Vec<Request>, reply: &Reply) ->
 /// After the delete of a claim. A refused one is passed over.
 #[tactic(auto, unfolding(crate::specs::Progress::phase_at))]
 pub(crate) fn after_deletion(next: Request, later: Vec<Request>, reply: &Reply) -> Progress
-    ensures { phase_at result ≡ (if is_accepted next reply.now || is_refusal reply.now then deletes (reverse later.items) else reading_set) }
+    ensures { phase_at result ≡ (if succeeded next reply.now || is_refusal reply.now then deletes (reverse later.items) else reading_set) }
 {
-    let passes = is_accepted(&next, reply) || is_refusal(reply);
+    let passes = succeeded(&next, reply) || is_refusal(reply);
     drop(next);
     if passes {
         return deletes(later);

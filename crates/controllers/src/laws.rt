@@ -8,7 +8,7 @@ ghost use Rattle.requests.specs.declared.request.Request.TheVariants.{Create};
 ghost use Rattle.set_views.specs.declared.policies.Policy.TheVariants.{OrderedReady};
 ghost use Rattle.set_views.specs.Set.{SetParts};
 ghost use Rattle.set_views.specs.SetReading.{set_of};
-ghost use Rattle.collector.specs.Collectable.{Among};
+ghost use Rattle.requests.specs.Lists.{Has};
 ghost use Rattle.rounds.specs.Promises.{CreatesArePlanned};
 ghost use Rattle.rounds.specs.Reconciler.{Reconciler};
 ghost use Rattle.rounds.specs.Transcript.{Entry};
@@ -21,7 +21,7 @@ ghost use Rattle.controllers.specs.InTurn.{IsInTurn, IsOfSet, PodsComeInTurn};
 pub fn creates_wait_for_lower_pods()
     ensures { (o : Object) (set : SetParts) (digits : ℕ) (moment : List ℕ) (revisions pods claims : List Object) (requests : List Request) (d : Draft)
         → set_of o ≡ Ok set → set.policy ≡ OrderedReady
-        → requested o digits moment revisions pods claims ≡ Ok requests → Among (Create d) requests → d.object.key.kind ≡ Pod
+        → requested o digits moment revisions pods claims ≡ Ok requests → Has (Create d) requests → d.object.key.kind ≡ Pod
         → IsInTurn set pods requests d }
 {}
 

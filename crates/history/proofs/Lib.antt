@@ -17,7 +17,5 @@ pub mod Reached
 pub mod Replays
 pub mod Opening
 pub mod Naming
-pub mod Entries
-pub mod Gatherings
 pub mod Standings
 pub mod Enabled

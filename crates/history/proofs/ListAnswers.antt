@@ -11,7 +11,8 @@ use Rattle.plain_store.specs.Store.{Objects, collection, is_of, step}
 use Rattle.versions.specs.Records as versions
 use Rattle.versions.specs.Records.{Records}
 use Rattle.interleavings.specs.Log.{IsFiled, Log, state_at}
-use Rattle.history.specs.Mirrors.{Mirrors, found_in, read_up_to, with_objects}
+use Rattle.history.specs.Mirrors.{Mirrors, found_in, read_up_to}
+use Rattle.versions.specs.Gathered.{with_objects}
 use Rattle.interleavings.specs.Step.{only, reads}
 use Rattle.interleavings.specs.World.{Size}
 use Rattle.interleavings.proofs.Basics.{Compared, same, other, compare}

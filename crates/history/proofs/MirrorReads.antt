@@ -22,7 +22,8 @@ use Rattle.versions.specs.Records.{Records}
 use Rattle.versions.proofs.Found.{is_held}
 use Rattle.versions.proofs.States.{state_is_value}
 use Rattle.interleavings.specs.Log.{IsFiled, Log, state_at, value}
-use Rattle.history.specs.Mirrors.{Mirrors, read_up_to, with_object, with_objects}
+use Rattle.history.specs.Mirrors.{Mirrors, read_up_to, with_object}
+use Rattle.versions.specs.Gathered.{with_objects}
 use Rattle.interleavings.specs.Step.{only, reads, with_part}
 use Rattle.interleavings.specs.World.{Size, shard}
 use Rattle.interleavings.proofs.Basics.{Compared, same, other, compare, ComparedKeys, same_key, other_key, compare_keys, is_key_at, key_self}

@@ -9,7 +9,7 @@ use Rattle.std.specs.Ordering.{is_eq, match_ordering, nat_cmp}
 use Rattle.std.specs.Set.{remove_key}
 use Rattle.interleavings.specs.declared.event.Event.{Event}
 use Rattle.history.specs.Named.{callers, named, with_named}
-use Rattle.history.specs.Replayed.{named_by}
+use Rattle.interleavings.specs.Callers.{named_by}
 use Rattle.interleavings.proofs.Basics.{eq_self}
 use Rattle.history.proofs.Stepping.{lt_false}
 

@@ -14,7 +14,8 @@ use Rattle.interleavings.specs.Order.{order}
 use Rattle.interleavings.specs.Linearization.{IsLegal}
 use Rattle.interleavings.specs.Trace.{trace}
 use Rattle.interleavings.specs.World.{Phase, Idle, Size}
-use Rattle.history.specs.Replayed.{IsAnswer, IsRun, IsShown, Stays, Steps, is_idle, named_by, delivered_at}
+use Rattle.interleavings.specs.Callers.{named_by}
+use Rattle.history.specs.Replayed.{IsAnswer, IsRun, IsShown, Stays, Steps, is_idle, delivered_at}
 use Rattle.interleavings.proofs.Runs.{orders_are_legal}
 use Rattle.history.proofs.Naming.{named_more}
 use Rattle.history.proofs.Reached.{run_stays, run_steps}

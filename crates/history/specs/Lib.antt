@@ -7,6 +7,7 @@ pub mod NextStep
 pub mod Replayed
 pub mod Standing
 -- ---- of the crate below
+pub use Rattle.interleavings.specs.Callers
 pub use Rattle.interleavings.specs.Examples
 pub use Rattle.interleavings.specs.Linearizable
 pub use Rattle.interleavings.specs.Linearization

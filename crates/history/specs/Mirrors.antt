@@ -1,5 +1,5 @@
 -- One shard of versions beside the log of all shards.
-use Rattle.std.specs.Prelude.{◌≡◌, ◌≢◌, ℕ, zero, suc, ◌≤◌, true, List, fold, Option, Some, None}
+use Rattle.std.specs.Prelude.{◌≡◌, ◌≢◌, ℕ, zero, suc, ◌≤◌, true, List, Option, Some, None}
 use Rattle.std.specs.FinMap as map
 use Rattle.objects.specs.declared.key.Key.{Key}
 use Rattle.objects.specs.declared.kind.Kind.{Kind}
@@ -9,6 +9,7 @@ use Rattle.plain_store.specs.Store.{Objects, collection}
 use Rattle.versions.specs.Records as versions
 use Rattle.versions.specs.Records.{IsAbove, Records}
 use Rattle.versions.specs.Shard.{Shard, raised}
+use Rattle.versions.specs.Gathered.{with_objects}
 use Rattle.interleavings.specs.Log.{Log, Writing, last_write, value}
 use Rattle.interleavings.specs.Step.{with_part}
 use Rattle.interleavings.specs.World.{Size, shard}
@@ -44,10 +45,6 @@ pub record IsCompacted (n : ℕ) (a b : Shard) : Type 0 where
   pub values_stay : (m : ℕ) (k : Key) → b.floor ≤ m → versions.value b.records m k ≡ versions.value a.records m k
 
 -- ---- what a caller finds
-
--- with these objects too, each under its key
-abbrev pub with_objects : Objects → List Object → Objects
-with_objects found objects = fold (λ m o. map.insert m o.key o) found objects
 
 -- with an object too, if there is one
 abbrev pub with_object : Objects → Option Object → Objects

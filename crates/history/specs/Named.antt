@@ -6,7 +6,7 @@ use Rattle.std.specs.BTreeSet.{insert_key}
 use Rattle.std.specs.Ordering.{nat_cmp}
 use Rattle.std.specs.Set.{remove_key}
 use Rattle.interleavings.specs.declared.event.Event.{Event}
-use Rattle.history.specs.Replayed.{named_by}
+use Rattle.interleavings.specs.Callers.{named_by}
 
 -- the names with one more, unless it is among them
 abbrev pub with_named : List ℕ → Option ℕ → List ℕ

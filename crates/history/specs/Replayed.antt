@@ -323,20 +323,6 @@ abbrev pub delivered_at : ℕ → ℕ → Option Reply → List Item
 delivered_at place caller None = []
 delivered_at place caller (Some reply) = item.Reply place caller reply ∷ []
 
--- the caller that an event names
-abbrev pub named_by : Event → Option ℕ
-named_by (event.Call c r) = Some c
-named_by (event.Check c) = Some c
-named_by (event.Reserve c) = Some c
-named_by (event.Publish c) = Some c
-named_by event.Raise = None
-named_by (event.Read c) = Some c
-named_by (event.ReadAt c) = Some c
-named_by (event.Compact c) = Some c
-named_by (event.Part c) = Some c
-named_by (event.Reply c) = Some c
-named_by (event.Crash c) = Some c
-
 -- only a Reply is answered, by what it adds to the trace
 abbrev pub IsAnswer : Event → Machine → Machine → Option Reply → Type 0
 IsAnswer (event.Reply c) old new delivered = new.items.items ≡ old.items.items ++ delivered_at old.now_at c delivered

@@ -5,7 +5,6 @@
 mod callers;
 mod compaction;
 mod decision;
-mod gathered;
 mod laws;
 mod machine;
 mod names;

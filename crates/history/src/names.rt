@@ -1,6 +1,6 @@
 ghost use Rattle.std.specs.Prelude.{◌≡◌, ◌<◌, ◌≤◌, ◌↔◌, ◌⊎◌, [], length, OnOk, OnErr, IfOk, IfErr, IsErrOf};
 ghost use Rattle.history.specs.Named.{with_named, without};
-ghost use Rattle.history.specs.Replayed.{named_by};
+ghost use Rattle.interleavings.specs.Callers.{named_by};
 
 use crate::replay_error::ReplayError;
 use interleavings::Event;
@@ -35,7 +35,7 @@ impl Names {
         ensures refused { OnErr result (self.new.callers.keys ≡ self.old.callers.keys) }
         ensures reasons { IfErr result (λ reason. (reason ≡ ReplayError.TooManyCallers) ⊎ (reason ≡ ReplayError.Memory)) }
     {
-        let Some(caller) = caller_of(event) else {
+        let Some(caller) = event.caller() else {
             return Ok(None);
         };
         if self.callers.contains(&caller) {
@@ -55,24 +55,5 @@ impl Names {
         if let Some(caller) = caller {
             self.callers.remove(&caller);
         }
-    }
-}
-
-/// The caller that an event names.
-pub(crate) fn caller_of(event: &Event) -> Option<u64>
-    ensures { result ≡ named_by event.now }
-{
-    match event {
-        Event::Call(caller, _)
-        | Event::Check(caller)
-        | Event::Reserve(caller)
-        | Event::Publish(caller)
-        | Event::Read(caller)
-        | Event::ReadAt(caller)
-        | Event::Compact(caller)
-        | Event::Part(caller)
-        | Event::Reply(caller)
-        | Event::Crash(caller) => Some(*caller),
-        Event::Raise => None,
     }
 }

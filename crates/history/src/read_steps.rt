@@ -15,12 +15,12 @@ ghost use Rattle.interleavings.specs.declared.event.Event.TheVariants.{Compact, 
 ghost use Rattle.interleavings.specs.declared.event.Event.TheVariants as event;
 ghost use Rattle.history.specs.Replayed.{Answers, Begins, Does, IsDue, IsNumbered, Stands, Stays, Tells, compaction_at, exact_in, floor_in, is_called, is_replying, named_phase, parts_in, phase_at, records_of, shard_at, delivered_at};
 
-use crate::gathered::Gathered;
 use crate::machine::Machine;
 use crate::phase::Phase;
 use interleavings::Item;
 use objects::{Key, Kind, Memory, Object, Text};
 use requests::{Listing, Reason, Reply, Request};
+use versions::Gathered;
 
 impl Machine {
     pub(crate) fn read(&mut self, caller: u64) -> Result<(), Memory>

@@ -4,14 +4,15 @@ ghost use Rattle.interleavings.specs.declared.event.Event.{Event};
 ghost use Rattle.interleavings.specs.World.{Idle, Size, opening};
 ghost use Rattle.interleavings.specs.Trace.{after};
 ghost use Rattle.history.specs.Named.{callers};
-ghost use Rattle.history.specs.Replayed.{Does, IsAnswer, IsRun, Stands, Stays, Steps, named_by, named_phase, shard_at};
+ghost use Rattle.interleavings.specs.Callers.{named_by};
+ghost use Rattle.history.specs.Replayed.{Does, IsAnswer, IsRun, Stands, Stays, Steps, named_phase, shard_at};
 ghost use Rattle.plain_store.specs.Reached.{most_revisions};
 ghost use Rattle.versions.specs.Shard.{opening as fresh};
 ghost use Rattle.history.specs.declared.replay_error.ReplayError.TheVariants.{Memory as OutOfMemory};
 
 use crate::callers::Callers;
 use crate::machine::Machine;
-use crate::names::{Names, caller_of};
+use crate::names::Names;
 use crate::parking::Parking;
 use crate::replay_error::ReplayError;
 use crate::replaying::Replay;
@@ -180,7 +181,7 @@ impl Machine {
         ensures delivered { IfOk result (λ delivered. IsAnswer event.now self.old self.new delivered) }
         ensures memory { OnErr result (Stays self.old self.new) }
     {
-        match caller_of(event) {
+        match event.caller() {
             Some(caller) => self.step_of(caller, event),
             None => self.take(event),
         }

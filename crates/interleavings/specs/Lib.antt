@@ -1,4 +1,5 @@
 -- ---- what public clauses cite
+pub mod Callers
 pub mod Examples
 pub mod Linearizable
 pub mod Linearization

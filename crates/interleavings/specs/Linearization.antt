@@ -2,16 +2,13 @@
 -- which takes them whole and one at a time, gives exactly the replies of the trace, and which puts a request before each
 -- one called after its reply.
 use Rattle.std.specs.Prelude.{◌≡◌, ℕ, ◌<◌, ◌≤◌, ◌⊎◌, List, [], ◌∷◌, zip}
+pub use Rattle.requests.specs.Lists.{Has}
 use Rattle.requests.specs.declared.request.Request.{Request}
 use Rattle.requests.specs.declared.reply.Reply.{Reply}
 use Rattle.interleavings.specs.declared.trace.Item.{Item}
 use Rattle.interleavings.specs.declared.trace.Item.TheVariants as item
 use Rattle.plain_store.specs.Store.{opening}
 use Rattle.plain_store.specs.Run.{replies}
-
-abbrev pub Has : {A : Type 0} → A → List A → Type 0
-Has x [] = ⊥
-Has x (y ∷ ys) = (x ≡ y) ⊎ Has x ys
 
 -- At the place `at` the request that was called at `place` got the reply: the call is the caller's last one before
 -- the reply, and the reply the first one to the caller after the call.

@@ -1,3 +1,6 @@
+ghost use Rattle.std.specs.Prelude.{◌≡◌};
+ghost use Rattle.interleavings.specs.Callers.{named_by};
+
 use requests::Request;
 
 /// One atomic step of one caller, or of the frontier. An event that is not enabled where its caller stands changes
@@ -31,4 +34,25 @@ pub enum Event {
     Reply(u64),
     /// The caller is gone. A write that has drawn a number stays to be published; any other request is dropped.
     Crash(u64),
+}
+
+impl Event {
+    /// The caller that the event names.
+    pub fn caller(&self) -> Option<u64>
+        ensures { result ≡ named_by self.now }
+    {
+        match self {
+            Event::Call(caller, _)
+            | Event::Check(caller)
+            | Event::Reserve(caller)
+            | Event::Publish(caller)
+            | Event::Read(caller)
+            | Event::ReadAt(caller)
+            | Event::Compact(caller)
+            | Event::Part(caller)
+            | Event::Reply(caller)
+            | Event::Crash(caller) => Some(*caller),
+            Event::Raise => None,
+        }
+    }
 }

@@ -1,13 +1,14 @@
 // A kubelet: it takes marked pods away, and makes the others ready. In a turn it leaves those that have ended.
-ghost use Rattle.std.specs.Prelude.{◌≡◌, ◌++◌, ◌<◌, ◌^◌, decimal, IfOk, OnOk, Some, None, option_to_list};
+ghost use Rattle.std.specs.Prelude.{◌≡◌, ◌++◌, decimal, IfOk, OnOk, Some, None, option_to_list};
 ghost use Rattle.serde_json.specs.Data.{array, item, no_items};
 ghost use Rattle.objects.specs.Tree.{data_of};
+ghost use Rattle.objects.specs.Again.{text_unless_zero};
 ghost use Rattle.objects.specs.Uid.{uid_text};
 ghost use Rattle.requests.specs.declared.request.Request.TheVariants.{Delete, UpdateStatus};
-ghost use Rattle.kubelet.specs.Kubelet.{has_ended, is_left, is_ready, kubelet_asks, kubelet_asks_all, made_ready, ready_condition, ready_status, turn_asks, turn_asks_all, unless_zero};
+ghost use Rattle.kubelet.specs.Kubelet.{has_ended, is_left, is_ready, kubelet_asks, kubelet_asks_all, made_ready, ready_condition, ready_status, turn_asks, turn_asks_all};
 
 use objects::{Draft, Items, Members, Memory, Object, Text, Tree, uid_text};
-use requests::Request;
+use requests::{Request, uid_precondition, version_precondition};
 use set_views::{Readiness, read_pod};
 use std::alloc::{AllocError, Global};
 
@@ -41,29 +42,9 @@ fn ready_status(alloc: Global) -> Result<Tree, AllocError>
     Ok(Tree::Map(whole))
 }
 
-fn uid_precondition(alloc: Global, number: u64) -> Result<Option<Text>, Memory>
-    requires { number < 2 ^ 48 }
-    ensures { IfOk result (λ text. text ≡ unless_zero uid_text number) }
-{
-    // 0 stands for no UID, and below for no version.
-    if number == 0 {
-        return Ok(None);
-    }
-    Ok(Some(Text::from(uid_text(alloc, number)?)))
-}
-
-fn version_precondition(alloc: Global, number: u64) -> Result<Option<Text>, AllocError>
-    ensures { IfOk result (λ text. text ≡ unless_zero decimal number) }
-{
-    if number == 0 {
-        return Ok(None);
-    }
-    Ok(Some(Text::from(format!(in alloc; "{number}")?)))
-}
-
 /// The texts of the pod's UID and version.
 fn texts_of(alloc: Global, pod: &Object) -> Result<(Option<Text>, Option<Text>), Memory>
-    ensures { IfOk result (λ texts. (texts.0 ≡ unless_zero uid_text pod.now.meta.uid) × (texts.1 ≡ unless_zero decimal pod.now.meta.revision)) }
+    ensures { IfOk result (λ texts. (texts.0 ≡ text_unless_zero pod.now.meta.uid (uid_text pod.now.meta.uid)) × (texts.1 ≡ text_unless_zero pod.now.meta.revision (decimal pod.now.meta.revision))) }
 {
     let uid = uid_precondition(alloc, pod.meta.uid)?;
     let version = version_precondition(alloc, pod.meta.revision)?;

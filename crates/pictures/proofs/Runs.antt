@@ -5,17 +5,18 @@ use Rattle.requests.specs.declared.reply.Reply.{Reply}
 use Rattle.interleavings.specs.declared.event.Event.{Event}
 use Rattle.interleavings.specs.declared.event.Event.TheVariants as event
 use Rattle.interleavings.specs.Step.{step}
-use Rattle.interleavings.specs.Trace.{after, trace}
+use Rattle.interleavings.specs.Trace.{after, reply_in, trace}
 use Rattle.interleavings.specs.World.{Size, World, opening}
 use Rattle.interleavings.proofs.Facts.{facts_after}
 use Rattle.history.specs.After.{IsAfter, IsReplyTo, ReplayParts}
 use Rattle.history.specs.Named.{with_named}
-use Rattle.history.specs.Replayed.{named_by, delivered_at}
+use Rattle.interleavings.specs.Callers.{named_by}
+use Rattle.history.specs.Replayed.{delivered_at}
 use Rattle.history.proofs.Reached.{after_more}
 use Rattle.plain_store.specs.Reached.{most_revisions}
 use Rattle.pictures.specs.declared.moment.Moment.{Moment}
 use Rattle.pictures.specs.Lines.{reply_line}
-use Rattle.pictures.specs.Picture.{lines_between, lines_of, moment_of, reply_in, delivered, shown_lines}
+use Rattle.pictures.specs.Picture.{lines_between, lines_of, moment_of, delivered, shown_lines}
 use Rattle.pictures.specs.Shown.{shows, writer_by, writers}
 use Rattle.pictures.specs.declared.shown.Shown.{Shown}
 

@@ -3,12 +3,11 @@ use Rattle.std.specs.Prelude.{ℕ, suc, cond, List, [], ◌∷◌, ◌++◌, dro
 use Rattle.requests.specs.declared.reply.Reply.{Reply}
 use Rattle.interleavings.specs.declared.event.Event.{Event}
 use Rattle.interleavings.specs.declared.event.Event.TheVariants as event
-use Rattle.interleavings.specs.declared.trace.Item.{Item}
-use Rattle.interleavings.specs.declared.trace.Item.TheVariants as item
 use Rattle.interleavings.specs.Step.{step}
+use Rattle.interleavings.specs.Trace.{reply_in}
 use Rattle.interleavings.specs.World.{Size, World, opening}
 use Rattle.history.specs.NextStep.{can_rise}
-use Rattle.history.specs.Replayed.{named_by}
+use Rattle.interleavings.specs.Callers.{named_by}
 use Rattle.history.specs.Standing.{standing_of}
 use Rattle.history.specs.declared.standing.Standing.{Standing}
 use Rattle.history.specs.declared.standing.Standing.TheVariants as standing
@@ -26,10 +25,6 @@ standing_by z w (Some c) = standing_of z.shards (w.phase c)
 -- where the caller stands that the event names, the frontier, and whether the number behind it is filled
 abbrev pub moment_of : Size → World → Option ℕ → Moment
 moment_of z w caller = record { standing = standing_by z w caller; can_rise = can_rise w; frontier = w.frontier }
-
-abbrev pub reply_in : List Item → Option Reply
-reply_in (item.Reply place caller reply ∷ items) = Some reply
-reply_in items = None
 
 -- the reply that an event gives, if it gives one: what it adds to the trace
 abbrev pub delivered : (before after : World) → Option Reply

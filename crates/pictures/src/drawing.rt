@@ -16,7 +16,7 @@ use crate::lines::{
     put_read, put_read_at, put_reserve,
 };
 use crate::moment::{Moment, look};
-use crate::names::{named_by, shown_callers};
+use crate::names::shown_callers;
 use crate::roles::Roles;
 use crate::shown::{Shown, shows};
 use history::{Replay, ReplayError};
@@ -88,7 +88,7 @@ fn put_step(
         → IsErrOf result ReplayError.TooManyCallers → 4096 < callers (events ++ event.now ∷ []) }
 {
     let place = replay.events();
-    let caller = named_by(event);
+    let caller = event.caller();
     let before = look(replay, caller);
     let delivered = replay.step(event)?;
     let after = look(replay, caller);

@@ -1,7 +1,6 @@
 //! The callers that events name, and those that write or crash.
 ghost use Rattle.std.specs.Prelude.{◌≡◌, [], IfOk, OnOk};
 ghost use Rattle.history.specs.Named.{named, with_named};
-ghost use Rattle.history.specs.Replayed.{named_by};
 ghost use Rattle.pictures.specs.Shown.{shown_callers, writer_by, writers};
 
 use crate::shown::Shown;
@@ -29,7 +28,7 @@ fn named(alloc: Global, events: &[Event]) -> Result<BTreeSet<u64>, AllocError>
 {
     let mut callers = BTreeSet::new(alloc);
     for event in events {
-        note(&mut callers, named_by(event))?;
+        note(&mut callers, event.caller())?;
     }
     Ok(callers)
 }
@@ -55,25 +54,6 @@ fn note(callers: &mut BTreeSet<u64>, caller: Option<u64>) -> Result<(), AllocErr
         callers.insert(caller)?;
     }
     Ok(())
-}
-
-/// The caller that an event names.
-pub(crate) fn named_by(event: &Event) -> Option<u64>
-    ensures { result ≡ named_by event.now }
-{
-    match event {
-        Event::Call(caller, _)
-        | Event::Check(caller)
-        | Event::Reserve(caller)
-        | Event::Publish(caller)
-        | Event::Read(caller)
-        | Event::ReadAt(caller)
-        | Event::Compact(caller)
-        | Event::Part(caller)
-        | Event::Reply(caller)
-        | Event::Crash(caller) => Some(*caller),
-        Event::Raise => None,
-    }
 }
 
 /// The caller, if the event is a call for a write or a crash.

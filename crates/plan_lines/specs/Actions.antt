@@ -1,21 +1,18 @@
 -- The line of an action: compact JSON with keys in byte order.
-use Rattle.std.specs.Prelude.{ℕ, ◌^◌, ◌==◌, nat_lt, List, [], codes, decimal, if◌then◌else◌}
+use Rattle.std.specs.Prelude.{ℕ, ◌^◌, nat_lt, List, [], codes, if◌then◌else◌}
 use Rattle.serde_json.specs.Data.{Data, string, object, no_members, member}
 use Rattle.objects.specs.declared.object.Object.{Object}
 use Rattle.objects.specs.Text.{printed}
 use Rattle.objects.specs.Uid.{uid_text}
 use Rattle.pod_steps.specs.declared.step.Cause.{Cause}
 use Rattle.pod_steps.specs.declared.step.Cause.TheVariants.{Terminating, NotReady}
+use Rattle.sets.specs.Actions.{version_or_empty}
 use Rattle.sets.specs.declared.action.Action.{Action}
 use Rattle.sets.specs.declared.action.Action.TheVariants.{CreateClaim, CreatePod, DeletePod, UpdateClaim, WriteRevision, DeleteRevision, WriteStatus, Wait}
 
 -- the text of a UID; of 0, and of a number that no UID has, the empty text
 abbrev pub uid_or_empty : ℕ → List ℕ
 uid_or_empty n = if nat_lt n (2 ^ 48) then uid_text n else []
-
--- the text of a resource version; of 0 the empty text
-abbrev pub version_or_empty : ℕ → List ℕ
-version_or_empty n = if n == 0 then [] else decimal n
 
 abbrev pub cause_name : Cause → List ℕ
 cause_name Terminating = codes "Terminating"

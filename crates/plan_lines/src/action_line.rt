@@ -3,7 +3,8 @@ ghost use Rattle.std.specs.Prelude.{◌≡◌, ◌++◌, ◌∷◌, [], codes, s
 ghost use Rattle.json.specs.Token.{key, string};
 ghost use Rattle.json.specs.Tree.{json_tokens};
 ghost use Rattle.serde_json.specs.Written.{compact_text, outline};
-ghost use Rattle.plan_lines.specs.Actions.{action_data, cause_name, pod_deletion, revision_deletion, uid_or_empty, version_or_empty, wait_data, with_object};
+ghost use Rattle.sets.specs.Actions.{version_or_empty};
+ghost use Rattle.plan_lines.specs.Actions.{action_data, cause_name, pod_deletion, revision_deletion, uid_or_empty, wait_data, with_object};
 
 use json::Writer;
 use objects::{Memory, Object, uid_text};

@@ -29,7 +29,8 @@ use Rattle.pod_steps.specs.Listed.{is_named}
 use Rattle.pod_steps.specs.Views.{listed_pods}
 use Rattle.pod_steps.proofs.AtOnce.{alone}
 use Rattle.claims.specs.Listed.{listed_claim}
-use Rattle.collector.specs.Collectable.{Among, collection}
+use Rattle.requests.specs.Lists.{Has}
+use Rattle.collector.specs.Collectable.{collection}
 use Rattle.collector.proofs.Collected.{claim_of}
 use Rattle.sets.specs.declared.action.Action.{Action}
 use Rattle.sets.specs.declared.action.Action.TheVariants.{CreateClaim, CreatePod, DeletePod, UpdateClaim, WriteRevision, DeleteRevision, WriteStatus, Wait}
@@ -40,7 +41,8 @@ use Rattle.rounds.specs.Sound.{HasNamed, IsAction, IsCollection, IsSound}
 use Rattle.rounds.proofs.Lists.{among_contained, among_either, among_left, among_right, contains_among}
 use Rattle.sets.specs.Order.{in_order}
 use Rattle.sets.specs.PlanOfLists.{owned_of, plan_of_lists, views_of}
-use Rattle.plan_requests.specs.Planned.{deletions, deletion_of, key_of, or_none, new, as_read, request_of, requested, requested_for, requests_of}
+use Rattle.rounds.specs.Drafts.{draft}
+use Rattle.plan_requests.specs.Planned.{deletions, deletion_of, key_of, or_none, as_read, request_of, requested, requested_for, requests_of}
 use Rattle.plan_requests.specs.Reconciler.{reconciler_with}
 use Rattle.plan_requests.proofs.Deletions.{deletes_controlled}
 use Rattle.sets.proofs.Ordered.{all_among, all_in_order}
@@ -49,7 +51,7 @@ use Rattle.sets.proofs.Owned.{filtered, first_among, total}
 
 -- ---- requests
 
-in_requests : (namespace moment : List ℕ) (actions : List Action) (r : Request) → Among r (requests_of namespace moment actions) → (a : Action) × Among a actions × Among r (request_of namespace moment a)
+in_requests : (namespace moment : List ℕ) (actions : List Action) (r : Request) → Has r (requests_of namespace moment actions) → (a : Action) × Has a actions × Has r (request_of namespace moment a)
 in_requests namespace moment [] r at = absurd at
 in_requests namespace moment (a ∷ rest) r at =
     elim (among_either r (request_of namespace moment a) (requests_of namespace moment rest) at) [
@@ -57,11 +59,11 @@ in_requests namespace moment (a ∷ rest) r at =
       | inr more ↦ let x = in_requests namespace moment rest r more in (x.0, inr x.1, x.2)
     ]
 
-in_deletions : (key : Option Key) (uid : ℕ) (version at : Option (List ℕ)) (r : Request) → Among r (deletions key uid version at)
+in_deletions : (key : Option Key) (uid : ℕ) (version at : Option (List ℕ)) (r : Request) → Has r (deletions key uid version at)
     → (k : Key) × (key ≡ Some k) × (r ≡ Delete k (Some (uid_text uid)) version at)
 in_deletions None uid version at r h = absurd h
 in_deletions (Some k) uid version at r h =
-    elim (nat_lt uid (2 ^ 48)) as (λ b. Among r (cond b (Delete k (Some (uid_text uid)) version at ∷ []) []) → (q : Key) × (Some k ≡ Some q) × (r ≡ Delete q (Some (uid_text uid)) version at)) [
+    elim (nat_lt uid (2 ^ 48)) as (λ b. Has r (cond b (Delete k (Some (uid_text uid)) version at ∷ []) []) → (q : Key) × (Some k ≡ Some q) × (r ≡ Delete q (Some (uid_text uid)) version at)) [
       | true ↦ λ there. elim there [ inl is ↦ (k, refl, is) | inr none ↦ absurd none ]
       | false ↦ λ there. absurd there
     ] h
@@ -74,8 +76,8 @@ key_is kind namespace name k is =
     ] is
 
 -- the delete of a listed object
-named : (os : List Object) (kind : Kind) (namespace name : List ℕ) (uid : ℕ) (version at : Option (List ℕ)) (r : Request) (o : Object) → Among r (deletion_of kind namespace name uid version at)
-    → Among o os → o.key ≡ key_parts kind namespace name → o.meta.uid ≡ uid → IsAction os r
+named : (os : List Object) (kind : Kind) (namespace name : List ℕ) (uid : ℕ) (version at : Option (List ℕ)) (r : Request) (o : Object) → Has r (deletion_of kind namespace name uid version at)
+    → Has o os → o.key ≡ key_parts kind namespace name → o.meta.uid ≡ uid → IsAction os r
 named os kind namespace name uid version at r o h among key uid_is =
     let d = in_deletions (key_of kind namespace name) uid version at r h in
     subst (IsAction os) (sym d.2)
@@ -91,7 +93,7 @@ pod_kind kinds.ControllerRevision h = absurd (true≢false (sym h))
 
 -- the listed object of that name and UID
 abbrev IsListed : List Object → Kind → List ℕ → List ℕ → ℕ → Type 0
-IsListed os kind namespace name uid = (o : Object) × Among o os × (o.key ≡ key_parts kind namespace name) × (o.meta.uid ≡ uid)
+IsListed os kind namespace name uid = (o : Object) × Has o os × (o.key ≡ key_parts kind namespace name) × (o.meta.uid ≡ uid)
 
 pod_listed : (set : SetParts) (pods : List Object) (i : ℕ) (name : List ℕ) (uid : ℕ) (pod : PodParts) → name ≡ name_at set i → find (is_named set i) (views_of set pods) ≡ Some pod → pod.uid ≡ uid
     → IsListed pods kinds.Pod set.object.key.namespace name uid
@@ -138,15 +140,15 @@ pod_planned set claims pods (Err x) actions name uid e at = absurd (refused set 
 
 -- ---- listed revisions
 
-among_all : {X : Type 0} (P : X → Type 0) (xs : List X) (x : X) → AllByRecursion P xs → Among x xs → P x
+among_all : {X : Type 0} (P : X → Type 0) (xs : List X) (x : X) → AllByRecursion P xs → Has x xs → P x
 among_all P [] x all at = absurd at
 among_all P (y ∷ ys) x all (inl is) = subst P (sym is) all.0
 among_all P (y ∷ ys) x all (inr at) = among_all P ys x all.1 at
 
-owned_listed : (set : SetParts) (revisions : List Object) (o : Object) → Contains (owned_of set revisions) o → Among o revisions × (in_namespace set kinds.ControllerRevision o ≡ true)
+owned_listed : (set : SetParts) (revisions : List Object) (o : Object) → Contains (owned_of set revisions) o → Has o revisions × (in_namespace set kinds.ControllerRevision o ≡ true)
 unfolding owned_of
 owned_listed set revisions o at =
-    among_all (λ x. Among x revisions × (in_namespace set kinds.ControllerRevision x ≡ true)) (owned_of set revisions) o
+    among_all (λ x. Has x revisions × (in_namespace set kinds.ControllerRevision x ≡ true)) (owned_of set revisions) o
     (all_in_order revision_cmp total _ (owned_among set revisions) (all_among _ (owned_among set revisions) (λ x h.
     filtered (in_namespace set kinds.ControllerRevision) x revisions (first_among (listed set revisions) x (filtered (is_owned set) x (first_of_each (listed set revisions)) h).0))))
     (among_contained (owned_of set revisions) o at)
@@ -226,12 +228,12 @@ one_write : (os : List Object) (b : Bool) (x y : Request) (r : Request) → IsAc
 one_write os true x y r at_x at_y is = subst (IsAction os) (sym is) at_x
 one_write os false x y r at_x at_y is = subst (IsAction os) (sym is) at_y
 
-only : (os : List Object) (x r : Request) → IsAction os x → Among r (x ∷ []) → IsAction os r
+only : (os : List Object) (x r : Request) → IsAction os x → Has r (x ∷ []) → IsAction os r
 only os x r at (inl is) = subst (IsAction os) (sym is) at
 only os x r at (inr none) = absurd none
 
 action_is : (set : SetParts) (digits : ℕ) (moment : List ℕ) (revisions pods claims : List Object) (actions : List Action) (a : Action) (r : Request) → plan_of_lists set digits revisions pods claims ≡ Ok actions
-    → Contains actions a → Among r (request_of set.object.key.namespace moment a) → IsAction (revisions ++ pods) r
+    → Contains actions a → Has r (request_of set.object.key.namespace moment a) → IsAction (revisions ++ pods) r
 unfolding plan_of_lists
 action_is set digits moment revisions pods claims actions (CreateClaim o) r e at h = only (revisions ++ pods) _ r tt h
 action_is set digits moment revisions pods claims actions (CreatePod o) r e at h = only (revisions ++ pods) _ r tt h
@@ -240,7 +242,7 @@ action_is set digits moment revisions pods claims actions (DeletePod name uid) r
     named (revisions ++ pods) kinds.Pod set.object.key.namespace name uid None (Some moment) r p.0 h (among_right p.0 revisions pods p.1) p.2 p.3
 action_is set digits moment revisions pods claims actions (UpdateClaim o) r e at h = only (revisions ++ pods) _ r tt h
 action_is set digits moment revisions pods claims actions (WriteRevision o) r e at h =
-    elim h [ inl is ↦ one_write (revisions ++ pods) (o.meta.uid == 0) (Create (new o)) (Update (as_read o)) r tt tt is | inr none ↦ absurd none ]
+    elim h [ inl is ↦ one_write (revisions ++ pods) (o.meta.uid == 0) (Create (draft o)) (Update (as_read o)) r tt tt is | inr none ↦ absurd none ]
 action_is set digits moment revisions pods claims actions (DeleteRevision name uid version) r e at h =
     let p = revision_planned set (listed_claim set claims) (views_of set pods) revisions (plan_of set (is_held (listed set revisions)) digits (owned_of set revisions)) actions name uid version
     (planned_owned set (is_held (listed set revisions)) digits (owned_of set revisions)) e at in
@@ -248,17 +250,17 @@ action_is set digits moment revisions pods claims actions (DeleteRevision name u
 action_is set digits moment revisions pods claims actions (WriteStatus o) r e at h = only (revisions ++ pods) _ r tt h
 action_is set digits moment revisions pods claims actions (Wait cause name) r e at h = absurd h
 
-plan_is_sound : (set : Object) (digits : ℕ) (moment : List ℕ) (revisions pods claims : List Object) (r : Request) → Among r (or_none (requested set digits moment revisions pods claims)) → IsAction (revisions ++ pods) r
+plan_is_sound : (set : Object) (digits : ℕ) (moment : List ℕ) (revisions pods claims : List Object) (r : Request) → Has r (or_none (requested set digits moment revisions pods claims)) → IsAction (revisions ++ pods) r
 unfolding requested requested_for
 plan_is_sound o digits moment revisions pods claims r at = read (set_of o) at
   where
-    made : (set : SetParts) (p : Result (List Action) PlanError) → plan_of_lists set digits revisions pods claims ≡ p → Among r (or_none (p >>= λ actions. Ok (requests_of set.object.key.namespace moment actions))) → IsAction (revisions ++ pods) r
+    made : (set : SetParts) (p : Result (List Action) PlanError) → plan_of_lists set digits revisions pods claims ≡ p → Has r (or_none (p >>= λ actions. Ok (requests_of set.object.key.namespace moment actions))) → IsAction (revisions ++ pods) r
     made set (Err e) is h = absurd h
     made set (Ok actions) is h =
         let x = in_requests set.object.key.namespace moment actions r h in
         action_is set digits moment revisions pods claims actions x.0 r is (contains_among x.0 actions x.1) x.2
 
-    read : (s : Result SetParts PlanError) → Among r (or_none (s >>= λ set. requested_for set digits moment revisions pods claims)) → IsAction (revisions ++ pods) r
+    read : (s : Result SetParts PlanError) → Has r (or_none (s >>= λ set. requested_for set digits moment revisions pods claims)) → IsAction (revisions ++ pods) r
     read (Err e) h = absurd h
     read (Ok set) h = made set (plan_of_lists set digits revisions pods claims) refl h
 

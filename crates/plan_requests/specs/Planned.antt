@@ -1,31 +1,29 @@
 -- The requests that the plan of a set comes to, over what was listed (Kubernetes, "StatefulSets"; "Controllers").
-use Rattle.std.specs.Prelude.{ℕ, ◌^◌, ◌==◌, nat_lt, List, [], ◌∷◌, decimal, Option, Some, None, Result, Ok, Err, if◌then◌else◌}
+use Rattle.std.specs.Prelude.{ℕ, ◌^◌, ◌==◌, nat_lt, List, [], ◌∷◌, Option, Some, None, Result, Ok, Err, if◌then◌else◌}
 use Rattle.std.specs.List.{flat_map}
 use Rattle.objects.specs.declared.key.Key.{Key}
 use Rattle.objects.specs.declared.kind.Kind.{Kind}
 use Rattle.objects.specs.declared.kind.Kind.TheVariants.{Pod, ControllerRevision}
 use Rattle.objects.specs.declared.object.Draft.{Draft}
 use Rattle.objects.specs.declared.object.Object.{Object}
+use Rattle.objects.specs.Again.{draft_again_of}
 use Rattle.objects.specs.Key.{is_key, key_parts}
 use Rattle.objects.specs.Uid.{uid_text}
 use Rattle.requests.specs.declared.request.Request.{Request}
 use Rattle.requests.specs.declared.request.Request.TheVariants.{Create, Update, UpdateStatus, Delete}
+use Rattle.rounds.specs.Drafts.{draft}
 use Rattle.set_views.specs.declared.fault.PlanError.{PlanError}
 use Rattle.set_views.specs.Set.{SetParts}
 use Rattle.set_views.specs.SetReading.{set_of}
 use Rattle.set_views.specs.Steps.{◌>>=◌}
-use Rattle.collector.specs.Collectable.{text_unless_zero}
+use Rattle.sets.specs.Actions.{version_or_empty}
 use Rattle.sets.specs.declared.action.Action.{Action}
 use Rattle.sets.specs.declared.action.Action.TheVariants.{CreateClaim, CreatePod, DeletePod, UpdateClaim, WriteRevision, DeleteRevision, WriteStatus, Wait}
 use Rattle.sets.specs.PlanOfLists.{plan_of_lists}
 
--- the object as it is to be created
-abbrev pub new : Object → Draft
-new o = record { object = o; uid = None; version = None }
-
 -- the object, to be written if it still has its UID and its version
 abbrev pub as_read : Object → Draft
-as_read o = record { object = o; uid = text_unless_zero uid_text o.meta.uid; version = text_unless_zero decimal o.meta.revision }
+as_read o = draft_again_of o
 
 -- the key of these parts, if they name an object
 abbrev pub key_of : Kind → List ℕ → List ℕ → Option Key
@@ -39,18 +37,14 @@ deletions (Some key) uid version at = if nat_lt uid (2 ^ 48) then Delete key (So
 abbrev pub deletion_of : Kind → List ℕ → List ℕ → ℕ → Option (List ℕ) → Option (List ℕ) → List Request
 deletion_of kind namespace name uid version at = deletions (key_of kind namespace name) uid version at
 
--- the version as it stands in a delete; 0 stands there as an empty text
-abbrev pub version_text : ℕ → List ℕ
-version_text n = if n == 0 then [] else decimal n
-
 -- Each action but Wait is one request. A pod is marked with the moment of the controller.
 abbrev pub request_of : List ℕ → List ℕ → Action → List Request
-request_of namespace moment (CreateClaim o) = Create (new o) ∷ []
-request_of namespace moment (CreatePod o) = Create (new o) ∷ []
+request_of namespace moment (CreateClaim o) = Create (draft o) ∷ []
+request_of namespace moment (CreatePod o) = Create (draft o) ∷ []
 request_of namespace moment (DeletePod name uid) = deletion_of Pod namespace name uid None (Some moment)
 request_of namespace moment (UpdateClaim o) = Update (as_read o) ∷ []
-request_of namespace moment (WriteRevision o) = (if o.meta.uid == 0 then Create (new o) else Update (as_read o)) ∷ []
-request_of namespace moment (DeleteRevision name uid version) = deletion_of ControllerRevision namespace name uid (Some (version_text version)) None
+request_of namespace moment (WriteRevision o) = (if o.meta.uid == 0 then Create (draft o) else Update (as_read o)) ∷ []
+request_of namespace moment (DeleteRevision name uid version) = deletion_of ControllerRevision namespace name uid (Some (version_or_empty version)) None
 request_of namespace moment (WriteStatus o) = UpdateStatus (as_read o) ∷ []
 request_of namespace moment (Wait cause name) = []
 

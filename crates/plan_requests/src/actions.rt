@@ -1,20 +1,22 @@
 // The requests that the actions of a plan come to.
 // Values are let go by `drop`, which is proved once for a type and not at each way out.
 ghost use Rattle.std.specs.Prelude.{◌≡◌, ◌≢◌, ◌++◌, ◌∷◌, [], ◌<◌, ◌^◌, ◌==◌, decimal, IfOk, IsErr, OnOk, Some, None, if◌then◌else◌};
+ghost use Rattle.objects.specs.Again.{text_unless_zero};
 ghost use Rattle.objects.specs.Uid.{uid_text};
 ghost use Rattle.objects.specs.declared.fault.ReadError.TheVariants.{Memory as OutOfMemory};
 ghost use Rattle.objects.specs.declared.kind.Kind.TheVariants.{Pod, ControllerRevision};
 ghost use Rattle.requests.specs.declared.request.Request.TheVariants.{Create, Delete, Update, UpdateStatus};
-ghost use Rattle.collector.specs.Collectable.{text_unless_zero};
-ghost use Rattle.plan_requests.specs.Planned.{as_read, deletion_of, deletions, key_of, new, request_of, requests_of, version_text};
+ghost use Rattle.rounds.specs.Drafts.{draft};
+ghost use Rattle.sets.specs.Actions.{version_or_empty};
+ghost use Rattle.plan_requests.specs.Planned.{as_read, deletion_of, deletions, key_of, request_of, requests_of};
 
 use objects::{Draft, Key, Kind, Memory, Object, ReadError, Text, uid_text};
-use requests::Request;
+use requests::{Request, uid_precondition, version_precondition};
 use sets::Action;
 use std::alloc::{AllocError, Global};
 
-fn new(object: Object) -> Draft
-    ensures { result ≡ new object }
+fn draft(object: Object) -> Draft
+    ensures { result ≡ draft object }
 {
     Draft {
         object,
@@ -42,35 +44,15 @@ fn as_read(alloc: Global, object: Object) -> Result<Draft, Memory>
 
 /// The texts of an object's UID and version, each unless it is 0.
 fn read_texts(alloc: Global, object: &Object) -> Result<(Option<Text>, Option<Text>), Memory>
-    ensures { IfOk result (λ texts. (texts.0 ≡ text_unless_zero uid_text object.now.meta.uid) × (texts.1 ≡ text_unless_zero decimal object.now.meta.revision)) }
+    ensures { IfOk result (λ texts. (texts.0 ≡ text_unless_zero object.now.meta.uid (uid_text object.now.meta.uid)) × (texts.1 ≡ text_unless_zero object.now.meta.revision (decimal object.now.meta.revision))) }
 {
     let uid = uid_precondition(alloc, object.meta.uid)?;
     let version = version_precondition(alloc, object.meta.revision)?;
     Ok((uid, version))
 }
 
-fn uid_precondition(alloc: Global, number: u64) -> Result<Option<Text>, Memory>
-    requires { number < 2 ^ 48 }
-    ensures { IfOk result (λ text. text ≡ text_unless_zero uid_text number) }
-{
-    // 0 stands for no UID, and below for no version.
-    if number == 0 {
-        return Ok(None);
-    }
-    Ok(Some(Text::from(uid_text(alloc, number)?)))
-}
-
-fn version_precondition(alloc: Global, number: u64) -> Result<Option<Text>, AllocError>
-    ensures { IfOk result (λ text. text ≡ text_unless_zero decimal number) }
-{
-    if number == 0 {
-        return Ok(None);
-    }
-    Ok(Some(Text::from(format!(in alloc; "{number}")?)))
-}
-
-fn version_text(alloc: Global, number: u64) -> Result<Text, AllocError>
-    ensures { IfOk result (λ text. text ≡ version_text number) }
+fn version_or_empty(alloc: Global, number: u64) -> Result<Text, AllocError>
+    ensures { IfOk result (λ text. text ≡ version_or_empty number) }
 {
     if number == 0 {
         return Ok(Text::from(String::new(alloc)));
@@ -206,10 +188,10 @@ fn put_revision_deletion(
     version: u64,
 ) -> Result<(), Memory>
     ensures { OnOk result (requests.new.items
-        ≡ requests.old.items ++ deletion_of ControllerRevision namespace.now name.now uid (Some (version_text version)) None) }
+        ≡ requests.old.items ++ deletion_of ControllerRevision namespace.now name.now uid (Some (version_or_empty version)) None) }
 {
     let key = key_of(alloc, Kind::ControllerRevision, namespace, name)?;
-    match version_text(alloc, version) {
+    match version_or_empty(alloc, version) {
         Ok(version) => put_deletion(requests, alloc, key, uid, Some(version), None),
         Err(_) => {
             drop(key);
@@ -219,9 +201,9 @@ fn put_revision_deletion(
 }
 
 fn put_create(requests: &mut Vec<Request>, object: Object) -> Result<(), Memory>
-    ensures { OnOk result (requests.new.items ≡ requests.old.items ++ Create (new object) ∷ []) }
+    ensures { OnOk result (requests.new.items ≡ requests.old.items ++ Create (draft object) ∷ []) }
 {
-    put(requests, Request::Create(new(object)))
+    put(requests, Request::Create(draft(object)))
 }
 
 fn put_update(requests: &mut Vec<Request>, alloc: Global, object: Object) -> Result<(), Memory>
@@ -241,7 +223,7 @@ fn put_status(requests: &mut Vec<Request>, alloc: Global, set: Object) -> Result
 /// Adds the write of a revision: a create where it has no UID yet.
 fn put_revision(requests: &mut Vec<Request>, alloc: Global, revision: Object) -> Result<(), Memory>
     ensures { OnOk result (requests.new.items
-        ≡ requests.old.items ++ (if revision.meta.uid == 0 then Create (new revision) else Update (as_read revision)) ∷ []) }
+        ≡ requests.old.items ++ (if revision.meta.uid == 0 then Create (draft revision) else Update (as_read revision)) ∷ []) }
 {
     if revision.meta.uid == 0 {
         put_create(requests, revision)

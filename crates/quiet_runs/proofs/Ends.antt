@@ -7,14 +7,14 @@ use Rattle.interleavings.specs.declared.event.Event.{Event}
 use Rattle.interleavings.specs.declared.event.Event.TheVariants as event
 use Rattle.interleavings.specs.declared.trace.Item.TheVariants as item
 use Rattle.interleavings.specs.Step.{happens, later, step, with_reply}
-use Rattle.interleavings.specs.Trace.{after, trace}
+use Rattle.interleavings.specs.Trace.{after, reply_in, trace}
 use Rattle.interleavings.specs.World.{Idle, Size, World, opening}
 use Rattle.interleavings.proofs.Basics.{changed-other, changed-same}
 use Rattle.history.specs.NextStep.{next_step}
 use Rattle.rounds.specs.Reconciler.{Reconciler}
 use Rattle.cluster_runs.specs.declared.event.ClusterEvent.{ClusterEvent}
 use Rattle.cluster_runs.specs.declared.event.ClusterEvent.TheVariants.{Step}
-use Rattle.cluster_runs.specs.Cluster.{Cluster, controller_at, delivered, hand, hand_if, hears, is_used, reply_in, run, with_step}
+use Rattle.cluster_runs.specs.Cluster.{Cluster, controller_at, delivered, hand, hand_if, hears, is_used, run, with_step}
 use Rattle.cluster_runs.specs.Cluster as cluster
 use Rattle.cluster_runs.specs.Turns.{Course, carried_in, event_and, reply_of, reply_to, step_and, step_by}
 use Rattle.cluster_runs.proofs.Traces.{after_more}

@@ -1,8 +1,8 @@
 -- The log of a race: what is noted of requests and replies.
-use Rattle.std.specs.Prelude.{◌≡◌, ℕ, ◌<◌, ◌≤◌, Bool, true, false, not, List, [], ◌∷◌, length, Option, Some, None}
+use Rattle.std.specs.Prelude.{◌≡◌, ℕ, ◌<◌, ◌≤◌, not, List, [], ◌∷◌, length, Option, Some, None}
 use Rattle.requests.specs.declared.request.Request.{Request}
 use Rattle.requests.specs.declared.reply.Reply.{Reply}
-use Rattle.requests.specs.declared.reply.Reply.TheVariants.{Created, Updated, Marked, Removed}
+use Rattle.requests.specs.DrawnRevisions.{drew_revision}
 use Rattle.interleavings.specs.declared.trace.Item.{Item}
 use Rattle.interleavings.specs.declared.trace.Item.TheVariants as item
 use Rattle.interleavings.specs.Linearization.{Answers, Has, place_of}
@@ -16,18 +16,10 @@ pub record Noted : Type 0 where
   pub open_calls : ℕ → Option ℕ
   pub stamps : List Stamp
 
--- it is the reply to a write that drew a number
-abbrev pub is_accepted : Reply → Bool
-is_accepted (Created o) = true
-is_accepted (Updated o) = true
-is_accepted (Marked o) = true
-is_accepted (Removed o) = true
-is_accepted _ = false
-
 -- a stamp for the call, where there is one
 abbrev pub stamp_for : Option ℕ → (number place : ℕ) → Reply → List Stamp
 stamp_for None number place reply = []
-stamp_for (Some call) number place reply = record { number = number; follows = not (is_accepted reply); call = call; reply = place } ∷ []
+stamp_for (Some call) number place reply = record { number = number; follows = not (drew_revision reply); call = call; reply = place } ∷ []
 
 -- the caller's last call stands at the place, and has no reply
 pub record IsOpen (items : List Item) (caller place : ℕ) : Type 0 where

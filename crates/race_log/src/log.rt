@@ -3,7 +3,7 @@ ghost use Rattle.std.specs.BTreeMap.{get};
 ghost use Rattle.std.specs.Ordering.{nat_cmp};
 ghost use Rattle.order_check.specs.Lookup.{IsWith, IsWithout};
 ghost use Rattle.interleavings.specs.declared.trace.Item.TheVariants as item;
-ghost use Rattle.race_log.specs.Logged.{IsNoted, is_accepted, stamp_for};
+ghost use Rattle.race_log.specs.Logged.{IsNoted, stamp_for};
 
 use crate::stamp::Stamp;
 use interleavings::Item;
@@ -22,16 +22,6 @@ pub struct Log {
     /// A stamp for each call that has a reply.
     pub(crate) stamps: Vec<Stamp>,
     ghost noted: { ∥ IsNoted (record { items = items.items; open_calls = get nat_cmp open_calls; stamps = stamps.items }) ∥₁ },
-}
-
-/// Whether the reply is that of a write that drew a number.
-fn is_accepted(reply: &Reply) -> bool
-    ensures { result ≡ is_accepted reply.now }
-{
-    matches!(
-        reply,
-        Reply::Created(_) | Reply::Updated(_) | Reply::Marked(_) | Reply::Removed(_)
-    )
 }
 
 impl Log {
@@ -84,7 +74,7 @@ impl Log {
             drop(reply);
             return Err(Memory);
         }
-        let follows = !is_accepted(&reply);
+        let follows = !reply.drew_revision();
         if let Some(call) = self.open_calls.remove(&caller) {
             self.stamps.push_reserved(Stamp {
                 number,

@@ -7,7 +7,7 @@ use Rattle.requests.specs.declared.request.Request.TheVariants as request
 use Rattle.requests.specs.Verdict.{is_write}
 use Rattle.store.specs.declared.writing.Writing.{Writing}
 use Rattle.store.specs.History.{IsHistory, store_after}
-use Rattle.store.specs.Tickets.{is_accepted}
+use Rattle.requests.specs.DrawnRevisions.{drew_revision}
 
 -- it reads what is there now: a get, and a list at no number of the past
 abbrev pub reads_now : Request → Bool
@@ -22,6 +22,6 @@ pub record IsAnswered (capacity : ℕ) (request : Request) (reply : Reply) (numb
   pub seen : List Writing
   pub history : IsHistory capacity (take number seen)
   pub long : length (take number seen) ≡ number
-  pub accepted : is_write request ≡ true → is_accepted reply ≡ true → (0 < number) × (reply ≡ (step (store_after capacity (take (number - 1) seen)) request).1)
-  pub other : is_write request ≡ true → is_accepted reply ≡ false → reply ≡ (step (store_after capacity (take number seen)) request).1
+  pub accepted : is_write request ≡ true → drew_revision reply ≡ true → (0 < number) × (reply ≡ (step (store_after capacity (take (number - 1) seen)) request).1)
+  pub other : is_write request ≡ true → drew_revision reply ≡ false → reply ≡ (step (store_after capacity (take number seen)) request).1
   pub read : reads_now request ≡ true → reply ≡ (step (store_after capacity (take number seen)) request).1

@@ -18,7 +18,7 @@ use Rattle.plain_store.specs.Store.{Store, collection, is_of, opening, step}
 use Rattle.plain_store.proofs.KeptUids.{drawn_in_run, filed_in_run}
 use Rattle.plain_store.proofs.Past.{bounds}
 use Rattle.plain_store.proofs.CompleteLists.{listed_there}
-use Rattle.collector.specs.Collectable.{Among}
+use Rattle.requests.specs.Lists.{Has as Among}
 use Rattle.rounds.specs.Planned.{IsPlanned}
 use Rattle.rounds.specs.Reconciler.{Reconciler}
 use Rattle.rounds.specs.Transcript.{Entry, Incarnation, of_incarnation, requests_of}

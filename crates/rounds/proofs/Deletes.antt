@@ -11,6 +11,7 @@ use Rattle.objects.specs.declared.key.Key.{Key}
 use Rattle.objects.specs.declared.kind.Kind.{Kind}
 use Rattle.objects.specs.declared.kind.Kind.TheVariants.{StatefulSet, Pod, PersistentVolumeClaim, ControllerRevision}
 use Rattle.objects.specs.declared.object.Object.{Object}
+use Rattle.objects.specs.Again.{text_unless_zero}
 use Rattle.objects.specs.Key.{kind_index}
 use Rattle.objects.specs.Metadata.{owners_of}
 use Rattle.objects.specs.Uid.{uid_number, uid_text}
@@ -26,7 +27,8 @@ use Rattle.plain_store.specs.Taken.{taken}
 use Rattle.plain_store.proofs.KeptUids.{drawn_in_run, filed_in_run, uid_since, version_since}
 use Rattle.plain_store.proofs.TakenObjects.{delete_takes}
 use Rattle.plain_store.proofs.CompleteLists.{listed}
-use Rattle.collector.specs.Collectable.{Among, HasOwner, text_unless_zero, is_collectable, is_listed}
+use Rattle.requests.specs.Lists.{Has as Among}
+use Rattle.collector.specs.Collectable.{HasOwner, is_collectable, is_listed}
 use Rattle.collector.proofs.Gone.{is_collectable-kept, is_gone-later, is_gone-listed}
 use Rattle.rounds.specs.Phase.{list_of}
 use Rattle.rounds.specs.Planned.{IsCollected, IsPlanned}
@@ -102,13 +104,13 @@ plan_deletes c capacity before incarnation k uid version at least most run sound
 
 -- ---- a collector's delete
 
-given_some : (text : ℕ → List ℕ) (n : ℕ) → 0 < n → text_unless_zero text n ≡ Some (text n)
-given_some text n some = let other : (n == 0) ≡ false = grind (arith, nat_tests, some) in ap (λ b. cond b None (Some (text n))) other
+given_some : (n : ℕ) (text : List ℕ) → 0 < n → text_unless_zero n text ≡ Some text
+given_some n text some = let other : (n == 0) ≡ false = grind (arith, nat_tests, some) in ap (λ b. cond b None (Some text)) other
 
 -- the claim that is there now is as it was listed
 claim_is : (capacity : ℕ) (rs : List Request) (namespace : List ℕ) (cs : List Object) (n : ℕ) (claim current : Object) (uid version : Option (List ℕ))
     → 1 ≤ capacity → capacity ≤ 1048576 → WasListed (opening capacity) (after (opening capacity) rs) PersistentVolumeClaim namespace cs n → Among claim cs
-    → Has (after (opening capacity) rs) claim.key current → version ≡ text_unless_zero decimal claim.meta.revision → conflicts version uid current ≡ false
+    → Has (after (opening capacity) rs) claim.key current → version ≡ text_unless_zero claim.meta.revision (decimal claim.meta.revision) → conflicts version uid current ≡ false
     → (current ≡ claim) × (claim.key.namespace ≡ namespace)
 claim_is capacity rs namespace cs n claim current uid version least most listed' among there given' fits =
     let was = was_there capacity (after (opening capacity) rs) PersistentVolumeClaim namespace cs n claim least most listed' among in
@@ -117,7 +119,7 @@ claim_is capacity rs namespace cs n claim current uid version least most listed'
     let low = was.numbers.revision_low in
     let upto = now.revision_low in
     let text = same_version version uid (decimal claim.meta.revision) current (decimal_nonempty claim.meta.revision (omega (arith, low)))
-    (given' ∙ given_some decimal claim.meta.revision some) fits in
+    (given' ∙ given_some claim.meta.revision (decimal claim.meta.revision) some) fits in
     let same = decimal_injective claim.meta.revision current.meta.revision (omega (arith, low)) (omega (arith, upto)) text in
     let m = after (opening capacity) was.first in
     let drawn = (drawn_in_run capacity was.first claim.key claim was.there).2 in (
@@ -219,9 +221,9 @@ collector_takes c capacity before incarnation k uid version at claim least most 
     let owners : List (List Object) = OwnersOf is in
     let i = is_collection c own asked sound is in
     let known = claims_known c own asked is in
-    let deleted : Delete k uid version at ≡ Delete i.claim.key (text_unless_zero uid_text i.claim.meta.uid) (text_unless_zero decimal i.claim.meta.revision) None = i.deletes in
+    let deleted : Delete k uid version at ≡ Delete i.claim.key (text_unless_zero i.claim.meta.uid (uid_text i.claim.meta.uid)) (text_unless_zero i.claim.meta.revision (decimal i.claim.meta.revision)) None = i.deletes in
     let key_is : k ≡ i.claim.key = cc in
-    let version_is : version ≡ text_unless_zero decimal i.claim.meta.revision = cc in
+    let version_is : version ≡ text_unless_zero i.claim.meta.revision (decimal i.claim.meta.revision) = cc in
     let t = delete_takes s k uid version at claim told in
     let was = λ (kind : Kind) (os : List Object) (from : ℕ) (l : HasList c (of_incarnation incarnation before) kind os from).
     was_listed (opening capacity) before incarnation kind c.set.namespace os l.revision run l.stands in
@@ -247,7 +249,7 @@ collector_deletes c capacity before incarnation k uid version at least most run 
     let own = of_incarnation incarnation before in
     let asked = Delete k uid version at in
     let i = is_collection c own asked sound is in
-    let deleted : Delete k uid version at ≡ Delete i.claim.key (text_unless_zero uid_text i.claim.meta.uid) (text_unless_zero decimal i.claim.meta.revision) None = i.deletes in
+    let deleted : Delete k uid version at ≡ Delete i.claim.key (text_unless_zero i.claim.meta.uid (uid_text i.claim.meta.uid)) (text_unless_zero i.claim.meta.revision (decimal i.claim.meta.revision)) None = i.deletes in
     let key_is : k ≡ i.claim.key = cc in
     let known = claims_known c own asked is in
     let listed' = was_listed (opening capacity) before incarnation PersistentVolumeClaim c.set.namespace is.claims known.revision run known.stands in

@@ -6,7 +6,7 @@ use Rattle.requests.specs.declared.request.Request.{Request}
 use Rattle.requests.specs.declared.reply.Reply.{Reply}
 use Rattle.plain_store.specs.Store.{Store, step}
 use Rattle.plain_store.specs.Run.{after, exchanges}
-use Rattle.collector.specs.Collectable.{Among}
+use Rattle.requests.specs.Lists.{Has}
 use Rattle.rounds.specs.Incarnation.{Follows, phase_after}
 use Rattle.rounds.specs.Phase.{Phase, asks, takes}
 use Rattle.rounds.specs.Reconciler.{Reconciler}
@@ -69,19 +69,19 @@ asks_at c phase incarnation (e ∷ es) r reply fs follows =
 
 pub record Stands (a : Exchange) (es : List Entry) : Type 0 where
   pub who : Option Incarnation
-  pub at : Among (who, a.0, a.1) es
+  pub at : Has (who, a.0, a.1) es
 
 stands_later : (a : Exchange) (e : Entry) (es : List Entry) → Stands a es → Stands a (e ∷ es)
 stands_later a e es stands = record { who = stands.who; at = inr stands.at }
 
-stands_by : (b : Bool) (a : Exchange) (e : Entry) (es : List Entry) (own : List Exchange) → (Among a own → Stands a es)
-    → Among a (cond b ((e.1, e.2) ∷ own) own) → Stands a (e ∷ es)
+stands_by : (b : Bool) (a : Exchange) (e : Entry) (es : List Entry) (own : List Exchange) → (Has a own → Stands a es)
+    → Has a (cond b ((e.1, e.2) ∷ own) own) → Stands a (e ∷ es)
 stands_by true a e es own later (inl is) = record { who = e.0; at = inl (ap (λ (x : Exchange). (e.0, x.0, x.1)) is) }
 stands_by true a e es own later (inr at) = stands_later a e es (later at)
 stands_by false a e es own later at = stands_later a e es (later at)
 
 -- what was answered to an incarnation stands in the transcript
-pub stands_in : (incarnation : Incarnation) (a : Exchange) (es : List Entry) → Among a (of_incarnation incarnation es) → Stands a es
+pub stands_in : (incarnation : Incarnation) (a : Exchange) (es : List Entry) → Has a (of_incarnation incarnation es) → Stands a es
 stands_in incarnation a [] at = absurd at
 stands_in incarnation a (e ∷ es) at = stands_by (is_by incarnation e.0) a e es (of_incarnation incarnation es) (stands_in incarnation a es) at
 

@@ -11,8 +11,8 @@ use Rattle.requests.specs.declared.request.Request.TheVariants.{Create, Get, Del
 use Rattle.requests.specs.declared.reply.Reply.{Reply}
 use Rattle.requests.specs.declared.reply.Reply.TheVariants.{Found, Listed, Refused}
 use Rattle.requests.specs.declared.reply.Reason.TheVariants.{NotFound}
-use Rattle.collector.specs.Collectable.{Among}
-use Rattle.rounds.specs.Accepted.{is_accepted}
+use Rattle.requests.specs.Lists.{Has}
+use Rattle.rounds.specs.Accepted.{succeeded}
 use Rattle.rounds.specs.Incarnation.{Follows, phase_after}
 use Rattle.rounds.specs.Phase.{Phase, reading_set, listing_revisions, listing_pods, listing_claims, acting, listing_old_claims, listing_owner_sets, listing_owner_pods, listing_owner_revisions, listing_owner_claims, deleting, acts, asks, deletes, from_list, from_set, is_refusal, list_of, takes}
 use Rattle.rounds.specs.Planned.{IsCollected, IsPlanned, asked}
@@ -187,7 +187,7 @@ knows_next c own (listing_claims set rs ps) reply knows =
     (λ cs k. planned c (own ++ ListOf c PersistentVolumeClaim cs k ∷ []) set rs ps cs knows.0 knows.1 k (c.plan set rs ps cs) refl
     (ends_more own (ListOf c PersistentVolumeClaim cs k) (SetOf c set ∷ ListOf c ControllerRevision rs knows.0 ∷ ListOf c Pod ps knows.1 ∷ []) knows.2)) reply
 knows_next c own (acting next later) reply knows =
-    by_test (is_accepted next reply) (Knows c (own ++ (next, reply) ∷ [])) (acts later) reading_set (acted c own next later reply knows.0 knows.1) tt
+    by_test (succeeded next reply) (Knows c (own ++ (next, reply) ∷ [])) (acts later) reading_set (acted c own next later reply knows.0 knows.1) tt
 knows_next c own listing_old_claims reply knows =
     by_list (λ cs n. listing_owner_sets cs) (λ x p. Knows c (own ++ (list_of c PersistentVolumeClaim, x) ∷ []) p) (λ x. tt)
     (λ cs n. (n, (own, refl))) reply
@@ -215,7 +215,7 @@ knows_next c own (listing_owner_claims cs ss ps rs at) reply knows =
     (ends_more own (ListOf c PersistentVolumeClaim os n)
     (ListOf c PersistentVolumeClaim cs knows.0 ∷ ListOf c StatefulSet ss knows.1 ∷ ListOf c Pod ps knows.2 ∷ ListOf c ControllerRevision rs knows.3 ∷ []) knows.5)) reply
 knows_next c own (deleting next later) reply knows =
-    by_test (is_accepted next reply || is_refusal reply) (Knows c (own ++ (next, reply) ∷ [])) (deletes later) reading_set (passed c own next later reply knows.0 knows.1) tt
+    by_test (succeeded next reply || is_refusal reply) (Knows c (own ++ (next, reply) ∷ [])) (deletes later) reading_set (passed c own next later reply knows.0 knows.1) tt
 
 append_none : (l : List Exchange) → l ++ [] ≡ l
 append_none [] = refl
@@ -236,13 +236,13 @@ known c own follows = known_from c [] reading_set own tt follows
 
 pub action : (c : Reconciler) (own : List Exchange) (r : Request) → IsSound c → (plan : IsPlanned c own r) → IsAction (plan.revisions ++ plan.pods) r
 action c own r sound plan =
-    sound.plans plan.set plan.revisions plan.pods plan.claims r (subst (Among r) plan.planned (among_right r (asked plan.done) (r ∷ plan.later) (inl refl)))
+    sound.plans plan.set plan.revisions plan.pods plan.claims r (subst (Has r) plan.planned (among_right r (asked plan.done) (r ∷ plan.later) (inl refl)))
 
 pub is_collection : (c : Reconciler) (own : List Exchange) (r : Request) → IsSound c → (is : IsCollected c own r)
     → IsCollection is.claims (is.sets ∷ is.pods ∷ is.revisions ∷ is.others ∷ []) (min (min (min is.sets_at is.pods_at) is.revisions_at) is.others_at) r
 is_collection c own r sound is =
     sound.collects is.claims (is.sets ∷ is.pods ∷ is.revisions ∷ is.others ∷ []) (min (min (min is.sets_at is.pods_at) is.revisions_at) is.others_at) r
-    (subst (Among r) is.collected (among_right r (asked is.done) (r ∷ is.later) (inl refl)))
+    (subst (Has r) is.collected (among_right r (asked is.done) (r ∷ is.later) (inl refl)))
 
 no_collection : (c : Reconciler) (own : List Exchange) (d : Draft) (r : Request) → IsSound c → IsCollected c own r → Create d ≡ r → ⊥
 no_collection c own d r sound is same = let deletes = (is_collection c own r sound is).deletes in let both = same ∙ deletes in cc

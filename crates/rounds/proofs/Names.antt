@@ -19,7 +19,7 @@ use Rattle.plain_store.specs.Run.{exchanges}
 use Rattle.plain_store.specs.Store.{Store, compacted_to, denied, listed_at, opening, routed, step}
 use Rattle.plain_store.proofs.EventLives.{lives_in_run}
 use Rattle.plain_store.proofs.Verdicts.{tied}
-use Rattle.collector.specs.Collectable.{Among}
+use Rattle.requests.specs.Lists.{Has}
 use Rattle.rounds.specs.Accepted.{Creates, HasRemoval}
 use Rattle.rounds.specs.Transcript.{Exchange}
 use Rattle.rounds.proofs.Lists.{among_either, same_first, same_rest}
@@ -78,7 +78,7 @@ living current (ends o ∷ xs) ys lives = living None xs ys lives.1
 
 record IsEnd (uid : ℕ) (xs : List Event) : Type 0 where
   removed : Object
-  among : Among (ends removed) xs
+  among : Has (ends removed) xs
   uid_is : removed.meta.uid ≡ uid
 
 later_end : (uid : ℕ) (x : Event) (xs : List Event) → IsEnd uid xs → IsEnd uid (x ∷ xs)
@@ -94,16 +94,16 @@ ended o uid (ends q ∷ xs) ys p is lives = record { removed = q; among = inl re
 
 -- ---- removals
 
-none_lasts : (q : Object) (os : List Object) → Among (ends q) (map lasts os) → ⊥
+none_lasts : (q : Object) (os : List Object) → Has (ends q) (map lasts os) → ⊥
 none_lasts q [] at = at
 none_lasts q (o ∷ os) (inl is) = cc
 none_lasts q (o ∷ os) (inr at) = none_lasts q os at
 
-one_end : (q : Object) (x : Event) (P : Type 0) → (ends q ≡ x → P) → Among (ends q) (x ∷ []) → P
+one_end : (q : Object) (x : Event) (P : Type 0) → (ends q ≡ x → P) → Has (ends q) (x ∷ []) → P
 one_end q x P is (inl e) = is e
 one_end q x P is (inr at) = absurd at
 
-removal : (q : Object) (reply : Reply) → Among (ends q) (reply_events reply) → reply ≡ Removed q
+removal : (q : Object) (reply : Reply) → Has (ends q) (reply_events reply) → reply ≡ Removed q
 removal q (Created o) at = one_end q (begins o) (Created o ≡ Removed q) (λ e. cc) at
 removal q (Updated o) at = one_end q (changes o) (Updated o ≡ Removed q) (λ e. cc) at
 removal q (Marked o) at = one_end q (changes o) (Marked o ≡ Removed q) (λ e. cc) at
@@ -114,20 +114,20 @@ removal q (Listed os n) at = absurd (none_lasts q os at)
 removal q (Compacted n) at = absurd at
 removal q (Refused reason) at = absurd at
 
-removal_by : (q : Object) (about : Route) (reply : Reply) → Among (ends q) (events_by about reply) → reply ≡ Removed q
+removal_by : (q : Object) (about : Route) (reply : Reply) → Has (ends q) (events_by about reply) → reply ≡ Removed q
 removal_by q (gets key) reply at = removal q reply at
 removal_by q (lists kind namespace) reply at = removal q reply at
 removal_by q (writes key) reply at = removal q reply at
 removal_by q (lists_at kind namespace n) reply at = absurd at
 removal_by q (compacts n) reply at = absurd at
 
-kept_by : (key : Key) (q : Object) (x : Event) (xs : List Event) (b : Bool) → is_about key x ≡ b → (Among (ends q) (filter (is_about key) xs) → Among (ends q) xs × (is_about key (ends q) ≡ true))
-    → Among (ends q) (cond b (x ∷ filter (is_about key) xs) (filter (is_about key) xs)) → Among (ends q) (x ∷ xs) × (is_about key (ends q) ≡ true)
+kept_by : (key : Key) (q : Object) (x : Event) (xs : List Event) (b : Bool) → is_about key x ≡ b → (Has (ends q) (filter (is_about key) xs) → Has (ends q) xs × (is_about key (ends q) ≡ true))
+    → Has (ends q) (cond b (x ∷ filter (is_about key) xs) (filter (is_about key) xs)) → Has (ends q) (x ∷ xs) × (is_about key (ends q) ≡ true)
 kept_by key q x xs true is later (inl e) = (inl e, ap (is_about key) e ∙ is)
 kept_by key q x xs true is later (inr at) = let l = later at in (inr l.0, l.1)
 kept_by key q x xs false is later at = let l = later at in (inr l.0, l.1)
 
-kept : (key : Key) (q : Object) (xs : List Event) → Among (ends q) (filter (is_about key) xs) → Among (ends q) xs × (is_about key (ends q) ≡ true)
+kept : (key : Key) (q : Object) (xs : List Event) → Has (ends q) (filter (is_about key) xs) → Has (ends q) xs × (is_about key (ends q) ≡ true)
 kept key q [] at = absurd at
 kept key q (x ∷ xs) at = kept_by key q x xs (is_about key x) refl (kept key q xs) at
 
@@ -135,7 +135,7 @@ later_removal : (o : Object) (e : Exchange) (es : List Exchange) → HasRemoval 
 later_removal o e es is =
     record { exchange = is.exchange; stands = inr is.stands; removed = is.removed; removes = is.removes; key_is = is.key_is; uid_is = is.uid_is }
 
-found_removal : (o q : Object) (es : List Exchange) → q.meta.uid ≡ o.meta.uid → Among (ends q) (told o.key es) → HasRemoval o es
+found_removal : (o q : Object) (es : List Exchange) → q.meta.uid ≡ o.meta.uid → Has (ends q) (told o.key es) → HasRemoval o es
 unfolding told
 found_removal o q [] same at = absurd at
 found_removal o q (e ∷ es) same at =

@@ -6,20 +6,20 @@ use Rattle.requests.specs.declared.request.Request.{Request}
 use Rattle.requests.specs.declared.request.Request.TheVariants.{Create, Update, UpdateStatus, Delete}
 use Rattle.requests.specs.declared.reply.Reply.{Reply}
 use Rattle.requests.specs.declared.reply.Reply.TheVariants.{Created, Updated, Unchanged, Marked, Removed}
-use Rattle.collector.specs.Collectable.{Among}
+use Rattle.requests.specs.Lists.{Has}
 use Rattle.rounds.specs.Transcript.{Exchange}
 
 -- the write was done, or there was nothing to do
-abbrev pub is_accepted : Request → Reply → Bool
-is_accepted (Create d) (Created o) = true
-is_accepted (Update d) (Updated o) = true
-is_accepted (Update d) (Unchanged o) = true
-is_accepted (UpdateStatus d) (Updated o) = true
-is_accepted (UpdateStatus d) (Unchanged o) = true
-is_accepted (Delete k uid version at) (Marked o) = true
-is_accepted (Delete k uid version at) (Unchanged o) = true
-is_accepted (Delete k uid version at) (Removed o) = true
-is_accepted request reply = false
+abbrev pub succeeded : Request → Reply → Bool
+succeeded (Create d) (Created o) = true
+succeeded (Update d) (Updated o) = true
+succeeded (Update d) (Unchanged o) = true
+succeeded (UpdateStatus d) (Updated o) = true
+succeeded (UpdateStatus d) (Unchanged o) = true
+succeeded (Delete k uid version at) (Marked o) = true
+succeeded (Delete k uid version at) (Unchanged o) = true
+succeeded (Delete k uid version at) (Removed o) = true
+succeeded request reply = false
 
 -- a create was accepted, and made the object
 abbrev pub Creates : Exchange → Object → Type 0
@@ -32,7 +32,7 @@ Removes exchange o = exchange.1 ≡ Removed o
 -- an accepted removal of the object of that key and UID is among them
 pub record HasRemoval (o : Object) (exchanges : List Exchange) : Type 0 where
   pub exchange : Exchange
-  pub stands : Among exchange exchanges
+  pub stands : Has exchange exchanges
   pub removed : Object
   pub removes : Removes exchange removed
   pub key_is : removed.key ≡ o.key

@@ -3,7 +3,6 @@ use Rattle.std.specs.Prelude.{ℕ, List, [], ◌∷◌, codes, None}
 use Rattle.serde_json.specs.Data.{object, no_members}
 use Rattle.objects.specs.declared.kind.Kind.{Kind}
 use Rattle.objects.specs.declared.kind.Kind.TheVariants.{StatefulSet, Pod, PersistentVolumeClaim, ControllerRevision}
-use Rattle.objects.specs.declared.object.Draft.{Draft}
 use Rattle.objects.specs.declared.object.Object.{Object}
 use Rattle.requests.specs.declared.request.Request.{Request}
 use Rattle.requests.specs.declared.request.Request.TheVariants as request
@@ -11,6 +10,7 @@ use Rattle.requests.specs.declared.request.Request.TheVariants.{Create, Get, Upd
 use Rattle.requests.specs.declared.reply.Reply.{Reply}
 use Rattle.requests.specs.declared.reply.Reply.TheVariants.{Created, Found, Listed, Removed, Updated, Refused}
 use Rattle.requests.specs.declared.reply.Reason.TheVariants.{AlreadyExists, Conflict, NotFound}
+use Rattle.rounds.specs.Drafts.{draft}
 use Rattle.rounds.specs.Phase.{Phase, asks, reading_set, takes}
 use Rattle.rounds.specs.Reconciler.{Reconciler}
 
@@ -44,9 +44,6 @@ named kind name = record {
   meta = record { uid = 1; revision = 1; generation = 1; deletion = None };
   body = object no_members;
 }
-
-abbrev pub draft : Object → Draft
-draft o = record { object = o; uid = None; version = None }
 
 abbrev pub web : Object
 web = named StatefulSet (codes "web")

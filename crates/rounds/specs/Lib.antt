@@ -1,6 +1,7 @@
 -- ---- what public clauses cite
 pub mod Accepted
 pub mod Before
+pub mod Drafts
 pub mod Examples
 pub mod Incarnation
 pub mod Phase

@@ -11,7 +11,7 @@ use Rattle.requests.specs.declared.request.Request.TheVariants.{Get}
 use Rattle.requests.specs.declared.reply.Reply.{Reply}
 use Rattle.requests.specs.declared.reply.Reply.TheVariants.{Found, Listed, Refused}
 use Rattle.requests.specs.declared.reply.Reason.TheVariants.{NotFound}
-use Rattle.rounds.specs.Accepted.{is_accepted}
+use Rattle.rounds.specs.Accepted.{succeeded}
 use Rattle.rounds.specs.Reconciler.{Reconciler}
 
 -- A phase is named for what is asked next, and has what was read for it.
@@ -76,11 +76,11 @@ takes c reading_set reply = from_set reply
 takes c (listing_revisions set) reply = from_list (λ revisions at. listing_pods set revisions) reply
 takes c (listing_pods set revisions) reply = from_list (λ pods at. listing_claims set revisions pods) reply
 takes c (listing_claims set revisions pods) reply = from_list (λ claims at. acts (c.plan set revisions pods claims)) reply
-takes c (acting next later) reply = if is_accepted next reply then acts later else reading_set
+takes c (acting next later) reply = if succeeded next reply then acts later else reading_set
 takes c listing_old_claims reply = from_list (λ claims at. listing_owner_sets claims) reply
 takes c (listing_owner_sets claims) reply = from_list (λ sets at. listing_owner_pods claims sets at) reply
 takes c (listing_owner_pods claims sets at) reply = from_list (λ pods new. listing_owner_revisions claims sets pods (min at new)) reply
 takes c (listing_owner_revisions claims sets pods at) reply = from_list (λ revisions new. listing_owner_claims claims sets pods revisions (min at new)) reply
 takes c (listing_owner_claims claims sets pods revisions at) reply =
     from_list (λ others new. deletes (c.collect claims (sets ∷ pods ∷ revisions ∷ others ∷ []) (min at new))) reply
-takes c (deleting next later) reply = if is_accepted next reply || is_refusal reply then deletes later else reading_set
+takes c (deleting next later) reply = if succeeded next reply || is_refusal reply then deletes later else reading_set

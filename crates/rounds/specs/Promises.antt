@@ -13,7 +13,8 @@ use Rattle.plain_store.specs.AtKey.{Has}
 use Rattle.plain_store.specs.Run.{after}
 use Rattle.plain_store.specs.Store.{Store, opening}
 use Rattle.plain_store.specs.Taken.{taken}
-use Rattle.collector.specs.Collectable.{Among, HasOwner}
+use Rattle.requests.specs.Lists.{Has as Among}
+use Rattle.collector.specs.Collectable.{HasOwner}
 use Rattle.rounds.specs.Accepted.{Creates, HasRemoval}
 use Rattle.rounds.specs.Incarnation.{Follows}
 use Rattle.rounds.specs.Phase.{reading_set}

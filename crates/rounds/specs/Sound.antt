@@ -6,13 +6,14 @@ use Rattle.objects.specs.Uid.{uid_text}
 use Rattle.requests.specs.declared.request.Request.{Request}
 use Rattle.requests.specs.declared.request.Request.TheVariants as request
 use Rattle.requests.specs.declared.request.Request.TheVariants.{Create, Get, Update, UpdateStatus, Delete, Compact}
-use Rattle.collector.specs.Collectable.{Among, deletion, is_collectable, is_listed}
+use Rattle.requests.specs.Lists.{Has}
+use Rattle.collector.specs.Collectable.{deletion, is_collectable, is_listed}
 use Rattle.rounds.specs.Reconciler.{Reconciler}
 
 -- one of the objects has this key and this UID
 pub record HasNamed (objects : List Object) (key : Key) (uid : Option (List ℕ)) : Type 0 where
   pub object : Object
-  pub among : Among object objects
+  pub among : Has object objects
   pub key_is : key ≡ object.key
   pub uid_is : uid ≡ Some (uid_text object.meta.uid)
 
@@ -29,7 +30,7 @@ IsAction objects (Compact to) = ⊥
 -- the delete of one of the claims, as it was read, that is collectable by these lists of owners
 pub record IsCollection (claims : List Object) (owners : List (List Object)) (listed_at : ℕ) (r : Request) : Type 0 where
   pub claim : Object
-  pub among : Among claim claims
+  pub among : Has claim claims
   pub collectable : is_collectable listed_at (is_listed owners) claim ≡ true
   pub deletes : r ≡ deletion claim
 
@@ -37,6 +38,6 @@ pub record IsCollection (claims : List Object) (owners : List (List Object)) (li
 -- collectable.
 pub record IsSound (c : Reconciler) : Type 0 where
   pub plans : (set : Object) (revisions pods claims : List Object) (r : Request)
-      → Among r (c.plan set revisions pods claims) → IsAction (revisions ++ pods) r
+      → Has r (c.plan set revisions pods claims) → IsAction (revisions ++ pods) r
   pub collects : (claims : List Object) (owners : List (List Object)) (listed_at : ℕ) (r : Request)
-      → Among r (c.collect claims owners listed_at) → IsCollection claims owners listed_at r
+      → Has r (c.collect claims owners listed_at) → IsCollection claims owners listed_at r

@@ -16,7 +16,7 @@ use Rattle.set_views.specs.Words.{in_namespace, is_owned}
 use Rattle.revisions.specs.History.{has_pod}
 use Rattle.pod_steps.specs.Listed.{is_named}
 use Rattle.pod_steps.specs.Views.{AreViews, IsViewOf, listed_pod, listed_pods}
-use Rattle.collector.specs.Collectable.{Among}
+use Rattle.requests.specs.Lists.{Has}
 use Rattle.sets.specs.Actions.{name_at}
 use Rattle.sets.specs.SplitName.{split_name_in}
 use Rattle.sets.specs.PlanOfLists.{view_of, views_of}
@@ -25,15 +25,15 @@ use Rattle.sets.proofs.SplitNames.{found_below}
 
 -- ---- what is found
 
-pub found_in_map : (p : PodParts → Bool) (os : List Object) (pod : PodParts) → find p (map view_of os) ≡ Some pod → (o : Object) × Among o os × (view_of o ≡ pod) × (p (view_of o) ≡ true)
+pub found_in_map : (p : PodParts → Bool) (os : List Object) (pod : PodParts) → find p (map view_of os) ≡ Some pod → (o : Object) × Has o os × (view_of o ≡ pod) × (p (view_of o) ≡ true)
 found_in_map p [] pod is = let clash : false ≡ true = ap is_some is in absurd (true≢false (sym clash))
 found_in_map p (o ∷ os) pod is =
-    elim (p (view_of o)) as (λ b. p (view_of o) ≡ b → cond b (Some (view_of o)) (find p (map view_of os)) ≡ Some pod → (q : Object) × Among q (o ∷ os) × (view_of q ≡ pod) × (p (view_of q) ≡ true)) [
+    elim (p (view_of o)) as (λ b. p (view_of o) ≡ b → cond b (Some (view_of o)) (find p (map view_of os)) ≡ Some pod → (q : Object) × Has q (o ∷ os) × (view_of q ≡ pod) × (p (view_of q) ≡ true)) [
       | true ↦ λ e h. (o, inl refl, ap (λ x. option_map_or (λ (v : PodParts). v) x pod) h, e)
       | false ↦ λ e h. let r = found_in_map p os pod h in (r.0, inr r.1, r.2, r.3)
     ] refl is
 
-missed_in_map : (p : PodParts → Bool) (os : List Object) (q : Object) → find p (map view_of os) ≡ None → Among q os → p (view_of q) ≡ false
+missed_in_map : (p : PodParts → Bool) (os : List Object) (q : Object) → find p (map view_of os) ≡ None → Has q os → p (view_of q) ≡ false
 missed_in_map p [] q is at = absurd at
 missed_in_map p (o ∷ os) q is at =
     elim (p (view_of o)) as (λ b. p (view_of o) ≡ b → cond b (Some (view_of o)) (find p (map view_of os)) ≡ None → p (view_of q) ≡ false) [
@@ -41,10 +41,10 @@ missed_in_map p (o ∷ os) q is at =
       | false ↦ λ e h. elim at [ inl same ↦ ap (λ (x : Object). p (view_of x)) same ∙ e | inr more ↦ missed_in_map p os q h more ]
     ] refl is
 
-any_in_map : (p : PodParts → Bool) (os : List Object) → list_any p (map view_of os) ≡ true → (o : Object) × Among o os × (p (view_of o) ≡ true)
+any_in_map : (p : PodParts → Bool) (os : List Object) → list_any p (map view_of os) ≡ true → (o : Object) × Has o os × (p (view_of o) ≡ true)
 any_in_map p [] is = absurd (true≢false (sym is))
 any_in_map p (o ∷ os) is =
-    elim (p (view_of o)) as (λ b. p (view_of o) ≡ b → (b || list_any p (map view_of os)) ≡ true → (q : Object) × Among q (o ∷ os) × (p (view_of q) ≡ true)) [
+    elim (p (view_of o)) as (λ b. p (view_of o) ≡ b → (b || list_any p (map view_of os)) ≡ true → (q : Object) × Has q (o ∷ os) × (p (view_of q) ≡ true)) [
       | true ↦ λ e h. (o, inl refl, e)
       | false ↦ λ e h. let r = any_in_map p os h in (r.0, inr r.1, r.2)
     ] refl is
@@ -53,13 +53,13 @@ or_true : (b : Bool) → (b || true) ≡ true
 or_true true = refl
 or_true false = refl
 
-any_by_one : (p : PodParts → Bool) (os : List Object) (q : Object) → Among q os → p (view_of q) ≡ true → list_any p (map view_of os) ≡ true
+any_by_one : (p : PodParts → Bool) (os : List Object) (q : Object) → Has q os → p (view_of q) ≡ true → list_any p (map view_of os) ≡ true
 any_by_one p [] q at holds = absurd at
 any_by_one p (o ∷ os) q (inl same) holds = ap (λ b. b || list_any p (map view_of os)) (ap (λ (x : Object). p (view_of x)) (sym same) ∙ holds)
 any_by_one p (o ∷ os) q (inr more) holds = ap (λ b. p (view_of o) || b) (any_by_one p os q more holds) ∙ or_true (p (view_of o))
 
 -- two lists of the same objects
-module _ (p : PodParts → Bool) (xs ys : List Object) (to : (o : Object) → Among o xs → Among o ys) (back : (o : Object) → Among o ys → Among o xs) where
+module _ (p : PodParts → Bool) (xs ys : List Object) (to : (o : Object) → Has o xs → Has o ys) (back : (o : Object) → Has o ys → Has o xs) where
   same_any : list_any p (map view_of xs) ≡ list_any p (map view_of ys)
   same_any = both (list_any p (map view_of xs)) (list_any p (map view_of ys)) refl refl
     where
@@ -70,7 +70,7 @@ module _ (p : PodParts → Bool) (xs ys : List Object) (to : (o : Object) → Am
       both false false e f = refl
 
   -- at most one of them passes
-  same_found : ((a b : Object) → Among a xs → Among b xs → p (view_of a) ≡ true → p (view_of b) ≡ true → a ≡ b) → find p (map view_of xs) ≡ find p (map view_of ys)
+  same_found : ((a b : Object) → Has a xs → Has b xs → p (view_of a) ≡ true → p (view_of b) ≡ true → a ≡ b) → find p (map view_of xs) ≡ find p (map view_of ys)
   same_found one = both (find p (map view_of xs)) (find p (map view_of ys)) refl refl
     where
       both : (a b : Option PodParts) → find p (map view_of xs) ≡ a → find p (map view_of ys) ≡ b → a ≡ b
@@ -106,11 +106,11 @@ named_is set i o h =
 
 -- ---- the first of a name
 
-kept_among : (p : Object → Bool) (x : Object) (xs : List Object) → p x ≡ true → Among x xs → Among x (filter p xs)
+kept_among : (p : Object → Bool) (x : Object) (xs : List Object) → p x ≡ true → Has x xs → Has x (filter p xs)
 kept_among p x [] holds at = absurd at
-kept_among p x (y ∷ ys) holds (inl is) = subst (λ b. Among x (cond b (y ∷ filter p ys) (filter p ys))) (sym holds ∙ ap p is) (inl is)
+kept_among p x (y ∷ ys) holds (inl is) = subst (λ b. Has x (cond b (y ∷ filter p ys) (filter p ys))) (sym holds ∙ ap p is) (inl is)
 kept_among p x (y ∷ ys) holds (inr at) =
-    elim (p y) as (λ b. Among x (cond b (y ∷ filter p ys) (filter p ys))) [
+    elim (p y) as (λ b. Has x (cond b (y ∷ filter p ys) (filter p ys))) [
       | true ↦ inr (kept_among p x ys holds at)
       | false ↦ kept_among p x ys holds at
     ]
@@ -118,7 +118,7 @@ kept_among p x (y ∷ ys) holds (inr at) =
 same_name : (a b : List ℕ) → a ≡ b → bytes_eq a b ≡ true
 same_name a b is = (bytes_eq-Decides a b).1 is
 
-first_found : (os : List Object) (o : Object) → Among o (first_of_each os) → find (λ p. bytes_eq p.key.name o.key.name) os ≡ Some o
+first_found : (os : List Object) (o : Object) → Has o (first_of_each os) → find (λ p. bytes_eq p.key.name o.key.name) os ≡ Some o
 first_found [] o at = absurd at
 first_found (x ∷ os) o (inl is) =
     ap (λ b. cond b (Some x) (find (λ p. bytes_eq p.key.name o.key.name) os)) (same_name x.key.name o.key.name (ap (λ (p : Object). p.key.name) (sym is))) ∙ ap (λ p. Some p) (sym is)
@@ -137,10 +137,10 @@ has_found_name (x ∷ os) name o is =
       | false ↦ λ e h. has_found_name os name o h
     ] refl is
 
-found_is_first : (os : List Object) (name : List ℕ) (o : Object) → find (λ p. bytes_eq p.key.name name) os ≡ Some o → Among o (first_of_each os)
+found_is_first : (os : List Object) (name : List ℕ) (o : Object) → find (λ p. bytes_eq p.key.name name) os ≡ Some o → Has o (first_of_each os)
 found_is_first [] name o is = let clash : false ≡ true = ap is_some is in absurd (true≢false (sym clash))
 found_is_first (x ∷ os) name o is =
-    elim (bytes_eq x.key.name name) as (λ b. bytes_eq x.key.name name ≡ b → cond b (Some x) (find (λ p. bytes_eq p.key.name name) os) ≡ Some o → Among o (first_of_each (x ∷ os))) [
+    elim (bytes_eq x.key.name name) as (λ b. bytes_eq x.key.name name ≡ b → cond b (Some x) (find (λ p. bytes_eq p.key.name name) os) ≡ Some o → Has o (first_of_each (x ∷ os))) [
       | true ↦ λ e h. inl (sym (ap (λ p. option_map_or (λ (q : Object). q) p o) h))
       | false ↦ λ e h. inr (kept_among (λ p. not (bytes_eq p.key.name x.key.name)) o (first_of_each os) (differs e (has_found_name os name o h)) (found_is_first os name o h))
     ] refl is
@@ -163,17 +163,17 @@ found_in_filter p q (o ∷ os) =
 -- ---- lists with the same first pods
 
 module _ (set : SetParts) where
-  pub stays_listed : (pods others : List Object) → ((name : List ℕ) → listed_pod set pods name ≡ listed_pod set others name) → (o : Object) → Among o (listed_pods set pods) → Among o (listed_pods set others)
+  pub stays_listed : (pods others : List Object) → ((name : List ℕ) → listed_pod set pods name ≡ listed_pod set others name) → (o : Object) → Has o (listed_pods set pods) → Has o (listed_pods set others)
   stays_listed pods others same o at =
       let named : Object → Bool = λ p. bytes_eq p.key.name o.key.name in
       found_is_first (filter (in_namespace set kinds.Pod) others) o.key.name o
       (found_in_filter (in_namespace set kinds.Pod) named others ∙ (sym (same o.key.name) ∙ (sym (found_in_filter (in_namespace set kinds.Pod) named pods) ∙ first_found (filter (in_namespace set kinds.Pod) pods) o at)))
 
   module _ (pods others : List Object) (same : (name : List ℕ) → listed_pod set pods name ≡ listed_pod set others name) where
-    to : (o : Object) → Among o (listed_pods set pods) → Among o (listed_pods set others)
+    to : (o : Object) → Has o (listed_pods set pods) → Has o (listed_pods set others)
     to = stays_listed pods others same
 
-    back : (o : Object) → Among o (listed_pods set others) → Among o (listed_pods set pods)
+    back : (o : Object) → Has o (listed_pods set others) → Has o (listed_pods set pods)
     back = stays_listed others pods (λ name. sym (same name))
 
     pub same_firsts : (i : ℕ) → find (is_named set i) (views_of set pods) ≡ find (is_named set i) (views_of set others)
@@ -187,13 +187,13 @@ module _ (set : SetParts) where
 
 -- ---- the views of objects that were read
 
-view_among : (os : List Object) (views : List PodView) (o : Object) → AreViews os views → Among o os → (v : PodView) × IsViewOf o v
+view_among : (os : List Object) (views : List PodView) (o : Object) → AreViews os views → Has o os → (v : PodView) × IsViewOf o v
 view_among [] views o are at = absurd at
 view_among (q ∷ os) [] o are at = absurd are
 view_among (q ∷ os) (v ∷ views) o are (inl is) = (v, subst (λ (x : Object). IsViewOf x v) (sym is) are.0)
 view_among (q ∷ os) (v ∷ views) o are (inr at) = view_among os views o are.1 at
 
-pub views_among : (os read : List Object) (views : List PodView) → AreViews read views → ((o : Object) → Among o os → Among o read) → (vs : List PodView) × AreViews os vs
+pub views_among : (os read : List Object) (views : List PodView) → AreViews read views → ((o : Object) → Has o os → Has o read) → (vs : List PodView) × AreViews os vs
 views_among [] read views are each = ([], tt)
 views_among (o ∷ os) read views are each =
     let v = view_among read views o are (each o (inl refl)) in

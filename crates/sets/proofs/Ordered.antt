@@ -7,13 +7,13 @@ use Rattle.std.proofs.lemmas.Cmp.{tied_itself, alike_right}
 use Rattle.std.proofs.lemmas.List.Elements.{All-from_recursion, recursion_from_All}
 use Rattle.std.proofs.lemmas.List.Sorted.{All-permutation, sum_by-IsPermutation}
 use Rattle.std.proofs.lemmas.List.Sums.{sum_by-cons}
-use Rattle.collector.specs.Collectable.{Among}
+use Rattle.requests.specs.Lists.{Has}
 use Rattle.sets.specs.Order.{in_order, put_in_order}
 
 abbrev pub HasNoTies : {X : Type 0} → (X → X → Ordering) → List X → Type 0
-HasNoTies {X} cmp base = (x y : X) → Among x base → Among y base → cmp x y ≡ Equal → x ≡ y
+HasNoTies {X} cmp base = (x y : X) → Has x base → Has y base → cmp x y ≡ Equal → x ≡ y
 
-pub all_among : {X : Type 0} (P : X → Type 0) (xs : List X) → ((x : X) → Among x xs → P x) → AllByRecursion P xs
+pub all_among : {X : Type 0} (P : X → Type 0) (xs : List X) → ((x : X) → Has x xs → P x) → AllByRecursion P xs
 all_among P [] f = tt
 all_among P (x ∷ xs) f = (f x (inl refl), all_among P xs (λ y at. f y (inr at)))
 
@@ -140,7 +140,7 @@ module _ {X : Type 0} (cmp : X → X → Ordering) (total : IsTotalOrder cmp) wh
   tied x y Equal is one two = is
   tied x y Greater is one two = absurd (true≢false (sym (ap is_lt (turned x y Greater is)) ∙ two))
 
-  one_order : (base : List X) → HasNoTies cmp base → (xs ys : List X) → AllByRecursion (λ x. Among x base) xs → AllByRecursion (λ x. Among x base) ys → Ascends xs → Ascends ys → HasSame xs ys → xs ≡ ys
+  one_order : (base : List X) → HasNoTies cmp base → (xs ys : List X) → AllByRecursion (λ x. Has x base) xs → AllByRecursion (λ x. Has x base) ys → Ascends xs → Ascends ys → HasSame xs ys → xs ≡ ys
   one_order base apart [] [] in_x in_y up_x up_y same = refl
   one_order base apart [] (y ∷ ys) in_x in_y up_x up_y same = let a = sum_by-cons (λ (z : X). 1) y ys in let e = same (λ z. 1) in absurd (omega arith)
   one_order base apart (x ∷ xs) [] in_x in_y up_x up_y same = let a = sum_by-cons (λ (z : X). 1) x xs in let e = same (λ z. 1) in absurd (omega arith)
@@ -153,7 +153,7 @@ module _ {X : Type 0} (cmp : X → X → Ordering) (total : IsTotalOrder cmp) wh
   -- what sorts a list puts it in its order
   pub sorted_is_in_order : (base ys : List X) → HasNoTies cmp base → IsPermutation base ys → IsSorted cmp ys → ys ≡ in_order cmp base
   sorted_is_in_order base ys apart same sorted =
-      let P : X → Type 0 = λ x. Among x base in
+      let P : X → Type 0 = λ x. Has x base in
       let all : AllByRecursion P base = all_among P base (λ x at. at) in
       one_order base apart ys (in_order cmp base) (recursion_from_All P ys (All-permutation P base ys same (All-from_recursion P base all))) (all_in_order P base all)
       (ascends_from_sorted ys sorted) (in_order_ascends base) (λ f. sum_by-IsPermutation f base ys same ∙ sym (in_order_has_same base f))

@@ -11,25 +11,25 @@ use Rattle.objects.specs.declared.object.Object.{Object}
 use Rattle.set_views.specs.Firsts.{first_of_each}
 use Rattle.set_views.specs.Set.{SetParts}
 use Rattle.revisions.specs.Revision.{AreOwned, is_owned, listed, number_of, owned_among, revision_cmp}
-use Rattle.collector.specs.Collectable.{Among}
+use Rattle.requests.specs.Lists.{Has}
 use Rattle.sets.specs.PlanOfLists.{owned_of}
 use Rattle.sets.proofs.Ordered.{HasNoTies, sorted_is_in_order}
 
-pub filtered : {X : Type 0} (p : X → Bool) (x : X) (xs : List X) → Among x (filter p xs) → Among x xs × (p x ≡ true)
+pub filtered : {X : Type 0} (p : X → Bool) (x : X) (xs : List X) → Has x (filter p xs) → Has x xs × (p x ≡ true)
 filtered p x [] at = absurd at
 filtered p x (y ∷ ys) at =
-    elim (p y) as (λ b. p y ≡ b → Among x (cond b (y ∷ filter p ys) (filter p ys)) → Among x (y ∷ ys) × (p x ≡ true)) [
+    elim (p y) as (λ b. p y ≡ b → Has x (cond b (y ∷ filter p ys) (filter p ys)) → Has x (y ∷ ys) × (p x ≡ true)) [
       | true ↦ λ e h. elim h [ inl is ↦ (inl is, ap p is ∙ e) | inr more ↦ let r = filtered p x ys more in (inr r.0, r.1) ]
       | false ↦ λ e h. let r = filtered p x ys h in (inr r.0, r.1)
     ] refl at
 
-pub first_among : (os : List Object) (x : Object) → Among x (first_of_each os) → Among x os
+pub first_among : (os : List Object) (x : Object) → Has x (first_of_each os) → Has x os
 first_among [] x at = absurd at
 first_among (o ∷ os) x (inl is) = inl is
 first_among (o ∷ os) x (inr at) = inr (first_among os x (filtered (λ (p : Object). not (bytes_eq p.key.name o.key.name)) x (first_of_each os) at).0)
 
 -- one of a name is first
-pub one_of_a_name : (os : List Object) (x y : Object) → Among x (first_of_each os) → Among y (first_of_each os) → x.key.name ≡ y.key.name → x ≡ y
+pub one_of_a_name : (os : List Object) (x y : Object) → Has x (first_of_each os) → Has y (first_of_each os) → x.key.name ≡ y.key.name → x ≡ y
 one_of_a_name [] x y at_x at_y same = absurd at_x
 one_of_a_name (o ∷ os) x y (inl x_is) (inl y_is) same = x_is ∙ sym y_is
 one_of_a_name (o ∷ os) x y (inl x_is) (inr at_y) same =

@@ -1,5 +1,5 @@
 -- What the steps of a plan come to (Kubernetes, "StatefulSets": "Pod Identity", "Deployment and Scaling Guarantees").
-use Rattle.std.specs.Prelude.{ℕ, List, [], ◌∷◌, map, Option, Result, Ok, Err}
+use Rattle.std.specs.Prelude.{ℕ, ◌==◌, List, [], ◌∷◌, decimal, map, Option, Result, Ok, Err, if◌then◌else◌}
 use Rattle.objects.specs.declared.object.Object.{Object}
 use Rattle.objects.specs.PodNames.{pod_name}
 use Rattle.set_views.specs.declared.fault.PlanError.{PlanError}
@@ -53,3 +53,7 @@ actions_of set claims current update (steps.ReleaseClaims i uid) = claim_actions
 actions_of set claims current update (steps.CreatePod i revision) = CreatePod (new_pod set (revision_of current update revision) i) ∷ []
 actions_of set claims current update (steps.DeletePod i uid) = DeletePod (name_at set i) uid ∷ []
 actions_of set claims current update (steps.Wait i cause) = Wait cause (name_at set i) ∷ []
+
+-- the resource version that a DeleteRevision names, as a text; 0, of a revision that was not listed, is the empty text
+abbrev pub version_or_empty : ℕ → List ℕ
+version_or_empty n = if n == 0 then [] else decimal n

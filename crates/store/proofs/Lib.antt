@@ -5,8 +5,6 @@ pub mod Visits
 pub mod Tickets
 pub mod Writes
 pub mod Outcomes
-pub mod Entries
-pub mod Gatherings
 pub mod Parts
 pub mod Newest
 pub mod Agreeing

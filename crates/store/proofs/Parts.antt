@@ -30,7 +30,8 @@ use Rattle.interleavings.specs.World.{shard}
 use Rattle.line.specs.Notes.{IsLegal, keep, notes_of, notes_up_to}
 use Rattle.store.specs.declared.writing.Writing.{Writing}
 use Rattle.store.specs.History.{Accepts, current_of, home_of, key_of, record_of, records_of, state_of, store_after}
-use Rattle.store.specs.Parts.{part_of, parts_below, with_objects}
+use Rattle.store.specs.Parts.{part_of, parts_below}
+use Rattle.versions.specs.Gathered.{with_objects}
 use Rattle.store.proofs.Histories.{counter_is, get_is}
 
 -- ---- a shard has no writes of other shards' keys

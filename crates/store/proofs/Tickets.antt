@@ -30,7 +30,8 @@ use Rattle.line.proofs.Logs.{legal_front, some_same}
 use Rattle.store.specs.declared.writing.Writing.{Writing}
 use Rattle.store.specs.History.{Accepts, answered, by_of, current_of, home_of, records_of, store_after}
 use Rattle.store.specs.Callers.{Caller}
-use Rattle.store.specs.Tickets.{IsAnswered, IsReply, IsTicketOf, IsWritten, Saw, Ticket, is_accepted}
+use Rattle.requests.specs.DrawnRevisions.{drew_revision}
+use Rattle.store.specs.Tickets.{IsAnswered, IsReply, IsTicketOf, IsWritten, Saw, Ticket}
 use Rattle.store.specs.Views.{HasLoaded, IsCallerView, IsPublished, HasObserved, Unwritten, caller_by, writing_by}
 use Rattle.store.proofs.Histories.{get_is, is_history, reply_is}
 use Rattle.store.proofs.Readings.{last_le, last_number, saw_current, settled_state}
@@ -73,17 +74,17 @@ module _ (shards capacity : ℕ) where
       answer r is v e u =
           let state : current_of (notes_up_to (max saw loaded) notes) key ≡ current_of notes key = settled_state key (max saw loaded) notes (omega arith) in
           record {
-            other = ap is_accepted (sym is) ∙ (plainly v u).1;
+            other = ap drew_revision (sym is) ∙ (plainly v u).1;
             reply_is = sym is ∙ ((plainly v u).0 ∙ ap (answered capacity (max saw loaded)) (sym (ap (verdict request) state ∙ e)));
             sees = inr (subst (λ (o : Option Object). Saw o saw) (sym state) (subst (λ (n : ℕ). Saw (current_of notes key) n) (sym saw_is) (saw_current key notes first)));
           }
         where
-          plainly : (v : Verdict) → Unwritten v reply → (reply ≡ answered capacity (max saw loaded) v) × (is_accepted reply ≡ false)
-          plainly (Refuse reason) u = (u, ap is_accepted u)
-          plainly (Same o) u = (u, ap is_accepted u)
+          plainly : (v : Verdict) → Unwritten v reply → (reply ≡ answered capacity (max saw loaded) v) × (drew_revision reply ≡ false)
+          plainly (Refuse reason) u = (u, ap drew_revision u)
+          plainly (Same o) u = (u, ap drew_revision u)
           plainly (Write ch) u = absurd u
 
-  pub is_told : (ch : Change) (o : Object) → is_accepted (accepted ch o) ≡ true
+  pub is_told : (ch : Change) (o : Object) → drew_revision (accepted ch o) ≡ true
   is_told (creates x) o = refl
   is_told (updates x) o = refl
   is_told (marks x) o = refl
@@ -140,7 +141,7 @@ module _ (shards capacity : ℕ) where
               request_is = refl;
               by_is = refl;
               positive = positive;
-              accepted = ap is_accepted (sym (same_Some reply r is) ∙ reply_is') ∙ is_told change (stamp change n);
+              accepted = ap drew_revision (sym (same_Some reply r is) ∙ reply_is') ∙ is_told change (stamp change n);
               saw_is = refl;
               reply_is = sym (same_Some reply r is) ∙ (reply_is' ∙ (ap (λ m. accepted change (stamp change m)) (let e : n ≡ n - 1 + 1 = omega arith in e)
                   ∙ (ap (λ t. cond t (Refused StoreFull) (accepted change (stamp change (n - 1 + 1)))) (sym (ne_eqb (n - 1) capacity (λ e. omega arith))) ∙ ap (answered capacity (n - 1)) (sym judged))));
@@ -173,7 +174,7 @@ module _ (shards capacity : ℕ) where
             place_is = omega arith;
             known = omega arith;
             due = λ r is. inr record {
-              other = ap is_accepted (sym (same_Some (Refused StoreFull) r is));
+              other = ap drew_revision (sym (same_Some (Refused StoreFull) r is));
               sees = inl (sym (same_Some (Refused StoreFull) r is), refl);
               reply_is = sym (same_Some (Refused StoreFull) r is) ∙ (ap (λ t. cond t (Refused StoreFull) (accepted change (stamp change (capacity + 1)))) (sym (eq-eqb capacity capacity refl)) ∙ ap (answered capacity capacity) (sym (ap (verdict request) state ∙ judged)));
             };

@@ -27,7 +27,8 @@ use Rattle.interleavings.proofs.Basics.{is_key_at, keys_equal}
 use Rattle.store.specs.declared.writing.Writing.{Writing}
 use Rattle.store.specs.History.{Accepts, by_of, current_of, home_of, key_of, record_of, records_of, state_of}
 use Rattle.store.specs.Callers.{Caller, GoesOn}
-use Rattle.store.specs.Tickets.{IsTicketOf, Ticket, WritesOwn, is_accepted}
+use Rattle.requests.specs.DrawnRevisions.{drew_revision}
+use Rattle.store.specs.Tickets.{IsTicketOf, Ticket, WritesOwn}
 use Rattle.store.specs.Views.{AreTagged, HasLoaded, HasObserved, Holds, IsCallerView, IsPublished, Unwritten, WritesNotes, caller_by, ticket_by, writing_by}
 use Rattle.store.proofs.Agreeing.{agrees_room}
 use Rattle.store.proofs.Going.{goes_loaded}
@@ -132,7 +133,7 @@ module _ (shards capacity : ℕ) where
       subst (λ (x : Caller). WritesOwn (caller_by b) (ticket_by capacity request since (Some r)) x) (sym (ap caller_by notes.4)) record {
         name_is = ap (λ (x : NotedView Writing). name_of x.caller) full;
         observations_stay = (observation notes.0 notes.1 p.notes ∷ [], ap (λ (x : NotedView Writing). x.observations ++ observation notes.0 notes.1 p.notes ∷ []) (sym full));
-        own_is = inr (ap is_accepted h.0.1 ∙ is_told shards capacity change (stamp change r.0), (writing_by b request change, ap (λ (x : NotedView Writing). x.own_notes) full, refl, refl, refl));
+        own_is = inr (ap drew_revision h.0.1 ∙ is_told shards capacity change (stamp change r.0), (writing_by b request change, ap (λ (x : NotedView Writing). x.own_notes) full, refl, refl, refl));
       }
   pushed_own b p y notes request change since None h =
       subst (λ (x : Caller). WritesOwn (caller_by b) (ticket_by capacity request since None) x) (sym (ap caller_by notes.4)) record {
@@ -141,16 +142,16 @@ module _ (shards capacity : ℕ) where
         own_is = inl (refl, ap (λ (x : NotedView Writing). x.own_notes) h.1);
       }
 
-  plainly : (v : Verdict) (reply : Reply) → Unwritten v reply → is_accepted reply ≡ false
-  plainly (Refuse reason) reply u = ap is_accepted u
-  plainly (Same o) reply u = ap is_accepted u
+  plainly : (v : Verdict) (reply : Reply) → Unwritten v reply → drew_revision reply ≡ false
+  plainly (Refuse reason) reply u = ap drew_revision u
+  plainly (Same o) reply u = ap drew_revision u
   plainly (Write ch) reply u = absurd u
 
   pub noted_own : (index d : ℕ) (notes : List (ℕ × Writing)) (c c' : Caller) (t : Ticket) (v : Verdict) (reply : Reply) → HasObserved shards capacity index notes c d c' → t.reply ≡ Some reply → Unwritten v reply → WritesOwn c t c'
   noted_own index d notes c c' t v reply n is un = record {
     name_is = n.name;
     observations_stay = (observation index d notes ∷ [], sym n.observations);
-    own_is = inl (subst (λ o. IfSome o (λ r. is_accepted r ≡ false)) (sym is) (plainly v reply un), n.own_notes);
+    own_is = inl (subst (λ o. IfSome o (λ r. drew_revision r ≡ false)) (sym is) (plainly v reply un), n.own_notes);
   }
 
   -- the same of a caller that loaded the frontier before
@@ -159,19 +160,19 @@ module _ (shards capacity : ℕ) where
     name_is = w.name_is ∙ h.name;
     observations_stay = subst (λ l. IsPrefix l d.observations) h.observations w.observations_stay;
     own_is = ⊎_elim
-        (λ (u : IfSome t.reply (λ r. is_accepted r ≡ false) × (d.own_notes ≡ c.own_notes)). inl (u.0, u.1 ∙ h.own_notes))
-        (λ (u : IfSome t.reply (λ r. is_accepted r ≡ true) × ((x : Writing) × (d.own_notes ≡ c.own_notes ++ (t.place, x) ∷ []) × (x.request ≡ t.request) × (x.by ≡ c.name) × (x.count ≡ length c.observations))). inr (u.0, (u.1.0, u.1.1 ∙ ap (λ l. l ++ (t.place, u.1.0) ∷ []) h.own_notes, u.1.2, u.1.3 ∙ h.name, u.1.4 ∙ ap length h.observations)))
+        (λ (u : IfSome t.reply (λ r. drew_revision r ≡ false) × (d.own_notes ≡ c.own_notes)). inl (u.0, u.1 ∙ h.own_notes))
+        (λ (u : IfSome t.reply (λ r. drew_revision r ≡ true) × ((x : Writing) × (d.own_notes ≡ c.own_notes ++ (t.place, x) ∷ []) × (x.request ≡ t.request) × (x.by ≡ c.name) × (x.count ≡ length c.observations))). inr (u.0, (u.1.0, u.1.1 ∙ ap (λ l. l ++ (t.place, u.1.0) ∷ []) h.own_notes, u.1.2, u.1.3 ∙ h.name, u.1.4 ∙ ap length h.observations)))
         w.own_is;
   }
 
   -- ---- what it leaves of the shard's notes
 
   pub pushed_wrote : (b p : NotedView Writing) (has : List (ℕ × Writing)) → has ≡ p.notes → (request : Request) (change : Change) (since : ℕ) (o : Option (ℕ × Reply)) → Pushes b request change o p → WritesNotes b.notes (ticket_by capacity request since o) has
-  pushed_wrote b p has left request change since (Some r) h = inr (ap is_accepted h.0.1 ∙ is_told shards capacity change (stamp change r.0), (writing_by b request change, left ∙ ap (λ (x : NotedView Writing). x.notes) h.0.0.0, refl))
+  pushed_wrote b p has left request change since (Some r) h = inr (ap drew_revision h.0.1 ∙ is_told shards capacity change (stamp change r.0), (writing_by b request change, left ∙ ap (λ (x : NotedView Writing). x.notes) h.0.0.0, refl))
   pushed_wrote b p has left request change since None h = inl (refl, left ∙ ap (λ (x : NotedView Writing). x.notes) h.1)
 
   pub unwritten_wrote : (has has' : List (ℕ × Writing)) (t : Ticket) (v : Verdict) (reply : Reply) → has' ≡ has → t.reply ≡ Some reply → Unwritten v reply → WritesNotes has t has'
-  unwritten_wrote has has' t v reply same is un = inl (subst (λ o. IfSome o (λ r. is_accepted r ≡ false)) (sym is) (plainly v reply un), same)
+  unwritten_wrote has has' t v reply same is un = inl (subst (λ o. IfSome o (λ r. drew_revision r ≡ false)) (sym is) (plainly v reply un), same)
 
   -- ---- its ticket is due
 

@@ -1,14 +1,9 @@
 -- A list is gathered from the parts of all shards.
-use Rattle.std.specs.Prelude.{ℕ, nat_eq, nat_lt, ◌&&◌, List, fold}
+use Rattle.std.specs.Prelude.{ℕ, nat_eq, nat_lt, ◌&&◌, List}
 use Rattle.std.specs.FinMap as map
 use Rattle.objects.specs.declared.kind.Kind.{Kind}
-use Rattle.objects.specs.declared.object.Object.{Object}
 use Rattle.objects.specs.ShardOf.{shard_of}
 use Rattle.plain_store.specs.Store.{Objects, is_of}
-
--- with these objects too, each under its key
-abbrev pub with_objects : Objects → List Object → Objects
-with_objects found objects = fold (λ m o. map.insert m o.key o) found objects
 
 -- what the shard i has of them
 abbrev pub part_of : Objects → (shards i : ℕ) → Objects

@@ -1,5 +1,5 @@
 -- What contracts see of a ticket: what it rests on, and what its reply is.
-use Rattle.std.specs.Prelude.{◌≡◌, ◌⊎◌, ℕ, ◌-◌, ◌<◌, ◌≤◌, max, Bool, true, false, List, [], ◌∷◌, ◌++◌, length, take, Option, Some, None, IfSome, nat_le, if◌then◌else◌}
+use Rattle.std.specs.Prelude.{◌≡◌, ◌⊎◌, ℕ, ◌-◌, ◌<◌, ◌≤◌, max, true, false, List, [], ◌∷◌, ◌++◌, length, take, Option, Some, None, IfSome, nat_le, if◌then◌else◌}
 use mathlib.Core.List.{IsPrefix}
 use mathlib.Core.Option.{some}
 use lib.ListN.{get_elem?}
@@ -9,8 +9,9 @@ use Rattle.objects.specs.declared.object.Object.{Object}
 use Rattle.objects.specs.ShardOf.{shard_of}
 use Rattle.requests.specs.declared.request.Request.{Request}
 use Rattle.requests.specs.declared.reply.Reply.{Reply}
-use Rattle.requests.specs.declared.reply.Reply.TheVariants.{Created, Found, Listed, Updated, Unchanged, Marked, Removed, Compacted, Refused}
+use Rattle.requests.specs.declared.reply.Reply.TheVariants.{Refused}
 use Rattle.requests.specs.declared.reply.Reason.TheVariants.{StoreFull}
+use Rattle.requests.specs.DrawnRevisions.{drew_revision}
 use Rattle.requests.specs.Keys.{key_named}
 use Rattle.requests.specs.Verdict.{is_write, verdict}
 use Rattle.plain_store.specs.Store.{step}
@@ -27,18 +28,6 @@ pub record Ticket : Type 0 where
   pub saw : ℕ
   pub place : ℕ
   pub reply : Option Reply
-
--- the reply is one to an accepted write
-abbrev pub is_accepted : Reply → Bool
-is_accepted (Created o) = true
-is_accepted (Found o) = false
-is_accepted (Listed os n) = false
-is_accepted (Updated o) = true
-is_accepted (Unchanged o) = false
-is_accepted (Marked o) = true
-is_accepted (Removed o) = true
-is_accepted (Compacted n) = false
-is_accepted (Refused r) = false
 
 -- what a ticket gives where the frontier is found at f: its reply, once f is at least what it saw
 abbrev pub due_reply : Ticket → ℕ → Option Reply
@@ -60,12 +49,12 @@ pub record IsReply (capacity : ℕ) (t : Ticket) (reply : Reply) (c : Caller) : 
   pub long : length (take t.place c.seen) ≡ t.place
   pub since : t.since ≤ t.place
   -- an accepted write is its last, and has the plain store's reply there
-  pub written : is_accepted reply ≡ true → (w : Writing) × (0 < t.place) × (get_elem? c.seen (t.place - 1) ≡ some w) × (w.request ≡ t.request) × (w.by ≡ c.name) × (reply ≡ (step (store_after capacity (take (t.place - 1) c.seen)) t.request).1)
+  pub written : drew_revision reply ≡ true → (w : Writing) × (0 < t.place) × (get_elem? c.seen (t.place - 1) ≡ some w) × (w.request ≡ t.request) × (w.by ≡ c.name) × (reply ≡ (step (store_after capacity (take (t.place - 1) c.seen)) t.request).1)
   -- any other reply is the plain store's after it
-  pub answered : is_accepted reply ≡ false → reply ≡ (step (store_after capacity (take t.place c.seen)) t.request).1
+  pub answered : drew_revision reply ≡ false → reply ≡ (step (store_after capacity (take t.place c.seen)) t.request).1
   -- what the write saw: its number; else the capacity, or the revision of its key's object there
-  pub took : is_accepted reply ≡ true → t.saw ≡ t.place
-  pub saw : is_accepted reply ≡ false → ((reply ≡ Refused StoreFull) × (t.saw ≡ capacity)) ⊎ ((key : Key) → key_named t.request ≡ Some key → Saw (finite.get (store_after capacity (take t.place c.seen)).objects key) t.saw)
+  pub took : drew_revision reply ≡ true → t.saw ≡ t.place
+  pub saw : drew_revision reply ≡ false → ((reply ≡ Refused StoreFull) × (t.saw ≡ capacity)) ⊎ ((key : Key) → key_named t.request ≡ Some key → Saw (finite.get (store_after capacity (take t.place c.seen)).objects key) t.saw)
   -- of the caller's own it has just the accepted writes with a number up to its length, each at its number
   pub own_notes : notes_up_to t.place c.own_notes ≡ notes_of by_of c.name 1 (take t.place c.seen)
 
@@ -73,8 +62,8 @@ pub record IsReply (capacity : ℕ) (t : Ticket) (reply : Reply) (c : Caller) : 
 pub record WritesOwn (c : Caller) (t : Ticket) (d : Caller) : Type 0 where
   pub name_is : d.name ≡ c.name
   pub observations_stay : IsPrefix c.observations d.observations
-  pub own_is : (IfSome t.reply (λ r. is_accepted r ≡ false) × (d.own_notes ≡ c.own_notes))
-      ⊎ (IfSome t.reply (λ r. is_accepted r ≡ true) × ((w : Writing) × (d.own_notes ≡ c.own_notes ++ (t.place, w) ∷ []) × (w.request ≡ t.request) × (w.by ≡ c.name) × (w.count ≡ length c.observations)))
+  pub own_is : (IfSome t.reply (λ r. drew_revision r ≡ false) × (d.own_notes ≡ c.own_notes))
+      ⊎ (IfSome t.reply (λ r. drew_revision r ≡ true) × ((w : Writing) × (d.own_notes ≡ c.own_notes ++ (t.place, w) ∷ []) × (w.request ≡ t.request) × (w.by ≡ c.name) × (w.count ≡ length c.observations)))
 
 -- ---- what a ticket rests on
 
@@ -87,13 +76,13 @@ pub record IsWritten (capacity : ℕ) (t : Ticket) (key : Key) (name : ℕ) (not
   pub request_is : write.request ≡ t.request
   pub by_is : write.by ≡ name
   pub positive : 0 < t.place
-  pub accepted : is_accepted reply ≡ true
+  pub accepted : drew_revision reply ≡ true
   pub saw_is : t.saw ≡ t.place
   pub reply_is : reply ≡ answered capacity (t.place - 1) (verdict t.request (current_of earlier key))
 
 -- any other has the plain store's reply after all notes up to its place
 pub record IsAnswered (capacity : ℕ) (t : Ticket) (key : Key) (notes : List (ℕ × Writing)) (reply : Reply) : Type 0 where
-  pub other : is_accepted reply ≡ false
+  pub other : drew_revision reply ≡ false
   pub reply_is : reply ≡ answered capacity t.place (verdict t.request (current_of (notes_up_to t.place notes) key))
   pub sees : ((reply ≡ Refused StoreFull) × (t.saw ≡ capacity)) ⊎ Saw (current_of (notes_up_to t.place notes) key) t.saw
 

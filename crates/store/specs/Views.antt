@@ -23,7 +23,8 @@ use Rattle.store.specs.declared.writing.Writing.{Writing}
 use Rattle.store.specs.History.{Accepts, IsHistory, by_of, home_of}
 use Rattle.store.specs.Callers.{Caller}
 use Rattle.store.specs.Rule.{AgreesWith}
-use Rattle.store.specs.Tickets.{Ticket, is_accepted}
+use Rattle.requests.specs.DrawnRevisions.{drew_revision}
+use Rattle.store.specs.Tickets.{Ticket}
 
 -- ---- a caller
 
@@ -117,7 +118,7 @@ number_in (Some p) = p.0
 
 -- what a write leaves of its shard's notes: an accepted one is added, at its place; any other changes nothing
 abbrev pub WritesNotes : List (ℕ × Writing) → Ticket → List (ℕ × Writing) → Type 0
-WritesNotes old t new = (IfSome t.reply (λ r. is_accepted r ≡ false) × (new ≡ old)) ⊎ (IfSome t.reply (λ r. is_accepted r ≡ true) × ((w : Writing) × (new ≡ old ++ (t.place, w) ∷ []) × (w.request ≡ t.request)))
+WritesNotes old t new = (IfSome t.reply (λ r. drew_revision r ≡ false) × (new ≡ old)) ⊎ (IfSome t.reply (λ r. drew_revision r ≡ true) × ((w : Writing) × (new ≡ old ++ (t.place, w) ∷ []) × (w.request ≡ t.request)))
 
 -- What a write makes of the records of its shard, by its verdict over the newest one of its key, which has the number `newest`: its ticket, and the records afterwards. Only an accepted one adds a record, at its place.
 abbrev pub IsOutcome : (capacity : ℕ) → Records → (newest : ℕ) → Verdict → Ticket → Records → Type 0

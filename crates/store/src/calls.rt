@@ -18,7 +18,6 @@ ghost use Rattle.store.specs.declared.writing.Writing.{Writing};
 
 use crate::caller::Caller;
 use crate::gate::Gate;
-use crate::gathered::Gathered;
 use crate::locked::Locked;
 use crate::naming::{Naming, Sharding};
 use crate::ticket::Ticket;
@@ -28,6 +27,7 @@ use objects::{Key, Kind, Memory, Object, Text};
 use requests::{Listing, Reply, Request};
 use std::alloc::Global;
 use std::sync::{Mutex, Wait};
+use versions::Gathered;
 
 /// Hands in a create, an update, a status request or a delete. It does not return where the lock has another shard.
 pub(crate) fn submit<H: Sharding, N: Naming, G: Gate>(

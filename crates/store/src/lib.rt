@@ -11,7 +11,6 @@ mod calls;
 mod error;
 mod floor;
 mod gate;
-mod gathered;
 mod laws;
 mod locked;
 mod naming;

@@ -2,7 +2,7 @@
 use Rattle.std.proofs.Common.{◌≡◌, ℕ, Bool, List, ◌++◌, Option, codes, decimal, ap, ◌∙◌, append_assoc}
 use Rattle.requests.specs.declared.reply.Reply.{Reply}
 use Rattle.interleavings.specs.declared.event.Event.{Event}
-use Rattle.history.specs.Replayed.{named_by}
+use Rattle.interleavings.specs.Callers.{named_by}
 use Rattle.pictures.proofs.Pieces.{four, two}
 use Rattle.traces.specs.Enabled.{is_enabled}
 use Rattle.traces.specs.Lines.{caller_words, event_line, event_words, head, verdict_words}

@@ -7,18 +7,19 @@ use Rattle.requests.specs.declared.reply.Reply.{Reply}
 use Rattle.interleavings.specs.declared.event.Event.{Event}
 use Rattle.interleavings.specs.declared.event.Event.TheVariants as event
 use Rattle.interleavings.specs.Step.{step}
-use Rattle.interleavings.specs.Trace.{after, trace}
+use Rattle.interleavings.specs.Trace.{after, reply_in, trace}
 use Rattle.interleavings.specs.World.{Size, World, opening}
 use Rattle.history.specs.After.{IsReplyTo}
 use Rattle.history.specs.Named.{callers, named}
 use Rattle.history.specs.NextStep.{can_rise, goes_on, next_step}
-use Rattle.history.specs.Replayed.{named_by, delivered_at}
+use Rattle.interleavings.specs.Callers.{named_by}
+use Rattle.history.specs.Replayed.{delivered_at}
 use Rattle.history.specs.declared.standing.Asked.TheVariants.{Write}
 use Rattle.history.specs.declared.standing.Standing.{Standing}
 use Rattle.history.specs.declared.standing.Standing.TheVariants as standing
 use Rattle.history.proofs.Naming.{more_named, named_append}
 use Rattle.history.proofs.Reached.{after_more}
-use Rattle.pictures.specs.Picture.{delivered, reply_in, standing_by}
+use Rattle.pictures.specs.Picture.{delivered, standing_by}
 use Rattle.pictures.proofs.Runs.{taken_more}
 use Rattle.traces.specs.declared.moment.Moment.{Moment}
 use Rattle.traces.specs.Enabled.{is_held, moment_of}

@@ -11,7 +11,7 @@ use Rattle.history.specs.declared.standing.Asked.TheVariants as asks
 use Rattle.history.specs.declared.standing.Standing.{Standing}
 use Rattle.history.specs.declared.standing.Standing.TheVariants as standing
 use Rattle.history.specs.NextStep.{can_rise, goes_on}
-use Rattle.history.specs.Replayed.{named_by}
+use Rattle.interleavings.specs.Callers.{named_by}
 use Rattle.history.specs.Standing.{asked, standing_of}
 use Rattle.history.proofs.Enabled.{next_is_enabled}
 use Rattle.traces.specs.Enabled.{asks_compaction, asks_read, asks_read_at, has_drawn, has_parts_left, is_enabled, is_gone, is_held, is_holding, is_idle, may_check, may_reply, moment_of}

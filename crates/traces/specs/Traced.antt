@@ -5,7 +5,7 @@ use Rattle.std.specs.List.{concat}
 use Rattle.interleavings.specs.declared.event.Event.{Event}
 use Rattle.interleavings.specs.Step.{step}
 use Rattle.interleavings.specs.World.{Size, World, opening}
-use Rattle.history.specs.Replayed.{named_by}
+use Rattle.interleavings.specs.Callers.{named_by}
 use Rattle.pictures.specs.Picture.{delivered}
 use Rattle.traces.specs.Enabled.{moment_of}
 use Rattle.traces.specs.Lines.{event_line}

@@ -1,6 +1,6 @@
 //! The law of the events that are enabled.
 ghost use Rattle.std.specs.Prelude.{◌≡◌, ◌≢◌, false, true};
-ghost use Rattle.history.specs.Replayed.{named_by};
+ghost use Rattle.interleavings.specs.Callers.{named_by};
 ghost use Rattle.interleavings.specs.declared.event.Event.{Event};
 ghost use Rattle.interleavings.specs.Step.{happens};
 ghost use Rattle.interleavings.specs.World.{Size, World};

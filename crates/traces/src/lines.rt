@@ -3,7 +3,7 @@ ghost use Rattle.std.specs.Prelude.{◌≡◌, ◌<◌, ◌-◌, ◌^◌, ◌++�
 ghost use Rattle.traces.specs.Lines.{caller_words, event_line, event_words, given_words, head, verdict_words};
 
 use crate::enabled::is_enabled;
-use crate::moment::{Moment, named_by};
+use crate::moment::Moment;
 use crate::places::put_place;
 use interleavings::Event;
 use pictures::{Roles, put_reply, put_request};
@@ -24,7 +24,7 @@ pub(crate) fn put_line<R: Roles>(
     requires { after.frontier < 2 ^ 64 - 1 }
     ensures { OnOk result (string_bytes out.new ≡ string_bytes out.old ++ event_line (R.role roles.now) place event.now before after delivered.now) }
 {
-    let caller = named_by(event);
+    let caller = event.caller();
     let enabled = is_enabled(event, before);
     put_head(place, caller, roles, out)?;
     put_event(event, delivered, out)?;

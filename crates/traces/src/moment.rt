@@ -1,7 +1,6 @@
 ghost use Rattle.std.specs.Prelude.{◌≡◌, List, Some, is_none};
 ghost use Rattle.history.specs.After.{IsAfter};
 ghost use Rattle.history.specs.NextStep.{next_step};
-ghost use Rattle.history.specs.Replayed.{named_by};
 ghost use Rattle.interleavings.specs.declared.event.Event.{Event};
 ghost use Rattle.interleavings.specs.Trace.{after};
 ghost use Rattle.interleavings.specs.World.{Size, opening};
@@ -75,23 +74,4 @@ fn has_to_wait(replay: &Replay, caller: u64) -> bool
     // Let go by name, which is proved once for the type and not at each way out.
     drop(step);
     waits
-}
-
-/// The caller that an event names.
-pub(crate) fn named_by(event: &Event) -> Option<u64>
-    ensures { result ≡ named_by event.now }
-{
-    match event {
-        Event::Call(caller, _)
-        | Event::Check(caller)
-        | Event::Reserve(caller)
-        | Event::Publish(caller)
-        | Event::Read(caller)
-        | Event::ReadAt(caller)
-        | Event::Compact(caller)
-        | Event::Part(caller)
-        | Event::Reply(caller)
-        | Event::Crash(caller) => Some(*caller),
-        Event::Raise => None,
-    }
 }

@@ -10,7 +10,7 @@ ghost use Rattle.interleavings.specs.World.{Size, opening};
 ghost use Rattle.traces.specs.Traced.{line_between, line_words, section, texts_of, trace_by_lines_text, trace_text};
 
 use crate::lines::put_line;
-use crate::moment::{look, named_by};
+use crate::moment::look;
 use crate::notes::{NoNotes, Notes};
 use history::{Replay, ReplayError};
 use interleavings::Event;
@@ -110,7 +110,7 @@ fn put_told<R: Roles>(
         → IsErrOf result ReplayError.TooManyCallers → 4096 < callers (before ++ event.now ∷ []) }
 {
     let place = replay.events();
-    let caller = named_by(event);
+    let caller = event.caller();
     let before = look(replay, caller);
     let delivered = replay.step(event)?;
     let after = look(replay, caller);

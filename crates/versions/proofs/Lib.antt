@@ -5,3 +5,5 @@ pub mod OfKeys
 pub mod Kept
 pub mod Counted
 pub mod Held
+pub mod Entries
+pub mod Gatherings

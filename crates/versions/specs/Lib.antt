@@ -2,5 +2,6 @@
 pub mod Records
 pub mod Compacted
 pub mod Shard
+pub mod Gathered
 -- ---- what only proofs use
 pub mod Held

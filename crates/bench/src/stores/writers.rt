@@ -2,7 +2,7 @@
 use crate::stores::pods::{Drafts, PODS, key};
 use objects::{Memory, ReadError, Text};
 use racing::{SharedStore, answered};
-use requests::{Reply, Request};
+use requests::Request;
 use std::alloc::Global;
 use std::sync::Wait;
 use store::NoGate;
@@ -61,13 +61,6 @@ fn removal(alloc: Global, pod: u64) -> Result<Request, ReadError> {
     })
 }
 
-fn is_accepted(reply: &Reply) -> bool {
-    matches!(
-        reply,
-        Reply::Created(_) | Reply::Updated(_) | Reply::Removed(_)
-    )
-}
-
 /// Asks a write. Answers its revision, if it was accepted.
 fn accepted<S: SharedStore, R: Wait>(
     rt: &R,
@@ -76,10 +69,10 @@ fn accepted<S: SharedStore, R: Wait>(
     request: Request,
 ) -> Result<Option<u64>, Memory> {
     let (reply, number) = answered(rt, store, &NoGate, caller, request)?;
-    let is_accepted = is_accepted(&reply);
+    let accepted = reply.drew_revision();
     // Let go by name, which is proved once for the type and not at each way out.
     drop(reply);
-    Ok(is_accepted.then_some(number))
+    Ok(accepted.then_some(number))
 }
 
 /// Creates a pod, updates it, each time at the version that it has, and deletes it; the labels go up from that one. Answers

@@ -14,6 +14,6 @@ put_shown-put-requires c =
 
 pub returns-clause-put : goal.returns-clause-put
 returns-clause-put c = λ size events is same.
-    step_lines c.args.shown size events c.args.event.now c.args.shards c.events-place.result c.named_by-caller.result c.look-before.result c.look-after.result c.in_ok-delivered.delivered
-    (string_bytes c.args.out.now) _ same (c.events-place.ensures.count size events is) c.named_by-caller.ensures (c.look-before.ensures size events is)
+    step_lines c.args.shown size events c.args.event.now c.args.shards c.events-place.result c.caller-caller.result c.look-before.result c.look-after.result c.in_ok-delivered.delivered
+    (string_bytes c.args.out.now) _ same (c.events-place.ensures.count size events is) c.caller-caller.ensures (c.look-before.ensures size events is)
     (c.look-after.ensures size (events ++ c.args.event.now ∷ []) (c.in_ok-delivered.ensures.done size events is)) (c.in_ok-delivered.ensures.delivered size events is) c.in_ok-put.ensures

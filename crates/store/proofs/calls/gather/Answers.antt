@@ -3,7 +3,8 @@ use Rattle.plain_store.specs.Store.{collection}
 use Rattle.plain_store.proofs.KeptUids.{filed_in_run}
 use Rattle.store.specs.declared.writing.Writing.{Writing}
 use Rattle.store.specs.History.{request_of, store_after}
-use Rattle.store.specs.Parts.{part_of, parts_below, with_objects}
+use Rattle.store.specs.Parts.{part_of, parts_below}
+use Rattle.versions.specs.Gathered.{with_objects}
 use Rattle.store.proofs.Going.{stays_self, stays_stays}
 use Rattle.store.proofs.Parts.{no_parts, one_more_part}
 use Rattle.store.proofs.calls.gather.Goals as goal

@@ -15,6 +15,6 @@ put_line-put-requires g c =
 
 pub returns-clause-put : goal.returns-clause-put
 returns-clause-put g c = λ size before is.
-    step_line (g.R.Roles.role c.args.roles.now) size before c.args.event.now c.events-place.result c.named_by-caller.result c.look-before.result c.look-after.result c.in_ok-delivered.delivered
-    (string_bytes c.args.out.now) _ (c.events-place.ensures.count size before is) c.named_by-caller.ensures (c.look-before.ensures size before is)
+    step_line (g.R.Roles.role c.args.roles.now) size before c.args.event.now c.events-place.result c.caller-caller.result c.look-before.result c.look-after.result c.in_ok-delivered.delivered
+    (string_bytes c.args.out.now) _ (c.events-place.ensures.count size before is) c.caller-caller.ensures (c.look-before.ensures size before is)
     (c.look-after.ensures size (before ++ c.args.event.now ∷ []) (c.in_ok-delivered.ensures.done size before is)) (c.in_ok-delivered.ensures.delivered size before is) c.in_ok-put.ensures

@@ -1,7 +1,7 @@
 use Rattle.std.proofs.Common.{rules, ap, sym, subst, ◌∙◌, ◌↔◌, ◌<◌, ◌-◌, ◌^◌, ◌+◌, ◌++◌, ◌∷◌, [], length, arith, IsErrOf}
 use Rattle.history.specs.After.{IsAfter, IsReached, ReplayParts, taken}
 use Rattle.history.specs.Named.{with_named}
-use Rattle.history.specs.Replayed.{named_by}
+use Rattle.interleavings.specs.Callers.{named_by}
 use Rattle.history.specs.declared.replay_error.ReplayError.TheVariants.{TooManyCallers}
 use Rattle.history.proofs.Naming.{named_more}
 use Rattle.history.proofs.Pieces.{on_err, stays_same}

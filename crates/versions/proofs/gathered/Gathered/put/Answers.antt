@@ -1,7 +1,7 @@
 use Rattle.std.proofs.Common.{ap, ◌∙◌}
 use Rattle.std.specs.FinMap as map
-use Rattle.history.proofs.Entries.{inserted}
-use Rattle.history.proofs.gathered.Gathered.put.Goals as goal
+use Rattle.versions.proofs.Entries.{inserted}
+use Rattle.versions.proofs.gathered.Gathered.put.Goals as goal
 
 pub returns : goal.returns
 returns c =

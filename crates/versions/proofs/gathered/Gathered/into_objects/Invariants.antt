@@ -1,6 +1,6 @@
 use Rattle.std.proofs.Common.{◌≡◌, ◌++◌, map}
 use Rattle.std.specs.FinMap as finite
-use Rattle.history.proofs.gathered.Gathered.into_objects.Given as goal
+use Rattle.versions.proofs.gathered.Gathered.into_objects.Given as goal
 
 -- what is handed out, and what is left, are all objects
 abbrev pub invariant-loop-object : goal.invariant-loop-object
