@@ -1,45 +1,40 @@
 -- The object of a draft, as it is printed.
-use Rattle.std.proofs.Common.{◌≡◌, ℕ, List, [], ◌∷◌, Bool, true, false, cond, Option, Some, None, Ok, codes, refl, sym, ap, ◌∙◌, subst}
-use Rattle.std.specs.Prelude.{Result, Err, option_and_then, unwrap_or, bytes_eq}
+use Rattle.std.proofs.Common.{◌≡◌, ◌≢◌, ℕ, List, [], ◌∷◌, Bool, true, false, cond, decimal, Option, Some, None, codes, refl, sym, ap, ◌∙◌, subst, ne_eqb}
+use Rattle.std.specs.Prelude.{option_and_then, unwrap_or, bytes_eq}
 use Rattle.std.specs.Ordering.{nat_cmp, is_eq}
 use Rattle.std.specs.declared.cmp.Ordering.{Ordering}
 use Rattle.std.specs.declared.cmp.Ordering.TheVariants.{Less, Equal, Greater}
 use Rattle.std.specs.Cmp.Lexicographic.{slice_cmp}
 use Rattle.std.proofs.lemmas.Map.Text.{is_eq-slice_cmp}
-use Rattle.serde_json.specs.Data.{Data, object, Members, no_members, member, put}
+use Rattle.serde_json.specs.Data.{Data, object, string, Members, no_members, member, put}
 use Rattle.serde_json.specs.Find.{as_object, get_member}
-use Rattle.serde_json.specs.Written.{compact_text}
 use Rattle.serde_json.proofs.Views.{get_member-put}
 use Rattle.trees.specs.Building.{put_some}
+use Rattle.trees.specs.Canonical.{IsCanonical, AreCanonicalMembers}
 use Rattle.trees.specs.Members.{set_member, without_member}
 use Rattle.trees.specs.Tree.{AreAscending, ComesBefore}
-use Rattle.trees.proofs.PutOrder.{before_next, equal_texts}
-use Rattle.trees.proofs.SetMembers.{get_member-set_member}
+use Rattle.trees.proofs.EntryPositions.{ascending_put}
+use Rattle.trees.proofs.PutOrder.{before_next, canonical_put, equal_texts, put_found}
+use Rattle.trees.proofs.SetMembers.{ascending_set, get_member-set_member}
 use Rattle.objects.specs.Key.{KeyParts}
-use Rattle.objects.specs.Kind.{api_version}
 use Rattle.objects.specs.Merged.{puts}
-use Rattle.objects.specs.MetadataShape.{metadata_fits}
-use Rattle.objects.specs.Object.{is_missing_or, without_held}
-use Rattle.objects.specs.Reading.{draft_in, draft_meta_in, draft_parts, key_of, kind_in}
-use Rattle.objects.specs.Rewrites.{with_status}
-use Rattle.objects.specs.Status.{with_member}
-use Rattle.objects.specs.Steps.{◌>>=◌, guarded, required}
-use Rattle.objects.specs.Text.{full_metadata, printed, text}
-use Rattle.objects.specs.declared.fault.ReadError.{ReadError}
-use Rattle.objects.specs.declared.fault.ReadError.TheVariants.{BadMeta, BadName, UnknownKind}
+use Rattle.objects.specs.Object.{is_held, without_held}
+use Rattle.objects.specs.Rewrites.{at_version}
+use Rattle.objects.specs.Seams.{IsCanonicalStatus, rewritten}
+use Rattle.objects.specs.Text.{full_metadata, printed, unless_zero}
 use Rattle.objects.specs.declared.meta.Meta.{Meta}
-use Rattle.objects.specs.declared.object.Draft.{Draft}
 use Rattle.objects.specs.declared.object.Object as declared
-use Rattle.compact_drafts.specs.Drafts.{IsReadAs}
-use Rattle.compact_prints.specs.Merging.{held_of, is_set, without}
-use Rattle.compact_prints.specs.Texts.{with_meta}
-use Rattle.compact_prints.specs.declared.part.Part.TheVariants.{Object}
+use Rattle.compact_prints.specs.Merging.{held_with, is_set, object_with, uid_data, without}
+use Rattle.compact_prints.specs.Seaming.{metadata_with}
+use Rattle.compact_prints.specs.declared.part.Part.{Part}
+use Rattle.compact_prints.specs.declared.part.Part.TheVariants.{Metadata, Object}
 use Rattle.compact_prints.proofs.Merging.{above_trans, before_some, before_without, put_before, some_past}
+use Rattle.compact_prints.proofs.Printable.{AreWritable, writable_without}
 
-abbrev metadata : List ℕ
+abbrev pub metadata : List ℕ
 metadata = codes "metadata"
 
-abbrev status : List ℕ
+abbrev pub status : List ℕ
 status = codes "status"
 
 apart_if : (k l : List ℕ) (o : Ordering) → slice_cmp nat_cmp k l ≡ o → is_eq o ≡ false → bytes_eq k l ≡ false
@@ -129,47 +124,98 @@ both_put : (s : Option Data) (x d : Data) (ms : Members) → AreAscending ms →
 both_put s x d no_members ascending = behind_metadata s x d no_members tt tt
 both_put s x d (member l e ms) ascending = both_at (slice_cmp nat_cmp metadata l) s x d l e ms refl ascending (both_put s x d ms ascending.1)
 
--- ---- the draft
+-- ---- the members that the store does not set
 
-ok_then : {A B : Type 0} (r : Result A ReadError) (f : A → Result B ReadError) (b : B) → (r >>= f) ≡ Ok b → (a : A) × (r ≡ Ok a) × (f a ≡ Ok b)
-ok_then (Ok a) f b is = (a, refl, is)
-ok_then (Err e) f b is = absurd cc
+without_twice_by : (set : Bool) (l : List ℕ) (d : Data) (ms : Members) → is_set Object l ≡ set → without Object (without Object ms) ≡ without Object ms
+    → without Object (cond set (without Object ms) (member l d (without Object ms))) ≡ cond set (without Object ms) (member l d (without Object ms))
+without_twice_by true l d ms is later = later
+without_twice_by false l d ms is later = kept l d (without Object ms) is ∙ ap (member l d) later
 
-guarded_is : {A : Type 0} (e : ReadError) (b : Bool) (x y : A) → guarded e b x ≡ Ok y → x ≡ y
-guarded_is e true x y is = cc
-guarded_is e false x y is = absurd cc
+pub without_twice : (ms : Members) → without Object (without Object ms) ≡ without Object ms
+without_twice no_members = refl
+without_twice (member l d ms) = without_twice_by (is_set Object l) l d ms refl (without_twice ms)
 
-body_is : (os ms : Members) (d : Draft) → get_member metadata os ≡ Some (object ms) → draft_in os ≡ Ok d → d.object.body ≡ object (put metadata (object (without_held ms)) os)
-unfolding draft_in
-body_is os ms d found is =
-    let named = ok_then (kind_in os) _ d is in
-    let kind = ok_then (guarded UnknownKind (is_missing_or (api_version named.0) (get_member (codes "apiVersion") os)) named.0) _ d named.2 in
-    let meta = ok_then (required BadName (option_and_then as_object (get_member metadata os))) _ d kind.2 in
-    let key = ok_then (key_of kind.0 meta.0) _ d meta.2 in
-    let fits = ok_then (guarded BadMeta (metadata_fits meta.0) meta.0) _ d key.2 in
-    let store = ok_then (draft_meta_in fits.0) _ d fits.2 in
-    let same : Ok ms ≡ Ok meta.0 = sym (ap (λ m. required BadName (option_and_then as_object m)) found) ∙ meta.1 in
-    let metadata_is : ms ≡ meta.0 = cc in
-    let fitting : meta.0 ≡ fits.0 = guarded_is BadMeta (metadata_fits meta.0) meta.0 fits.0 fits.1 in
-    let made : draft_parts key.0 store.0 fits.0 os ≡ d = (let e = store.2 in cc) in
-    ap (λ x. x.object.body) (sym made) ∙ ap (λ m. object (put metadata (object (without_held m)) os)) (sym (metadata_is ∙ fitting))
+ascending_by : (set : Bool) (l : List ℕ) (d : Data) (ms : Members) → ComesBefore l ms → AreAscending ms → AreAscending (cond set ms (member l d ms))
+ascending_by true l d ms before ascending = ascending
+ascending_by false l d ms before ascending = (before, ascending)
+
+pub ascending_without : (part : Part) (ms : Members) → AreAscending ms → AreAscending (without part ms)
+ascending_without part no_members ascending = tt
+ascending_without part (member l d ms) ascending =
+    ascending_by (is_set part l) l d (without part ms) (before_without part l ms ascending.0 ascending.1) (ascending_without part ms ascending.1)
+
+canonical_by : (set : Bool) (l : List ℕ) (d : Data) (ms : Members) → IsCanonical d → AreCanonicalMembers ms → AreCanonicalMembers (cond set ms (member l d ms))
+canonical_by true l d ms one all = all
+canonical_by false l d ms one all = (one, all)
+
+canonical_without : (part : Part) (ms : Members) → AreCanonicalMembers ms → AreCanonicalMembers (without part ms)
+canonical_without part no_members all = tt
+canonical_without part (member l d ms) all = canonical_by (is_set part l) l d (without part ms) all.0 (canonical_without part ms all.1)
+
+canonical_some : (k : List ℕ) (v : Option Data) (ms : Members) → IsCanonicalStatus v → AreCanonicalMembers ms → AreCanonicalMembers (put_some k v ms)
+canonical_some k None ms one all = all
+canonical_some k (Some d) ms one all = canonical_put k d ms one all
+
+-- ---- the body, with its metadata and its status
+
+-- the members with that metadata and that status
+abbrev pub body_with : Option Data → Data → Members → Members
+body_with s x ms = set_member status s (put metadata x ms)
+
+body_metadata : (s : Option Data) (x : Data) (ms : Members) → get_member metadata (body_with s x ms) ≡ Some x
+body_metadata s x ms = get_member-set_member metadata status s (put metadata x ms) (λ e. cc) ∙ get_member-put metadata x ms
+
+body_ascending : (s : Option Data) (x : Data) (ms : Members) → AreAscending ms → AreAscending (body_with s x ms)
+body_ascending s x ms ascending = ascending_set status s (put metadata x ms) (ascending_put metadata x ms ascending)
+
+body_both : (s : Option Data) (x : Data) (ms : Members) → AreAscending ms → body_with s x ms ≡ both x s ms
+body_both s x ms ascending =
+    sym (put_found metadata x (body_with s x ms) (body_ascending s x ms ascending) (body_metadata s x ms)) ∙ both_put s x x ms ascending
+
+-- they are the same where those that the store sets were left out before
+pub body_without : (s : Option Data) (x : Data) (ms : Members) → AreAscending ms → body_with s x ms ≡ body_with s x (without Object ms)
+body_without s x ms ascending =
+    body_both s x ms ascending ∙ ap (λ m. put metadata x (put_some status s m)) (sym (without_twice ms))
+    ∙ sym (body_both s x (without Object ms) (ascending_without Object ms ascending))
+
+without_set : (ms : Members) → without Metadata ms ≡ without_held ms
+without_set no_members = refl
+without_set (member k d ms) = ap (λ w. cond (is_held k) w (member k d w)) (without_set ms)
+
+pub held_canonical : (ms : Members) → IsCanonical (object ms) → IsCanonical (object (without_held ms))
+held_canonical ms canonical = subst (λ m. IsCanonical (object m)) (without_set ms) (ascending_without Metadata ms canonical.0, canonical_without Metadata ms canonical.1)
+
+pub held_writable_left : (ms : Members) → AreWritable ms → AreWritable (without_held ms)
+held_writable_left ms all = subst AreWritable (without_set ms) (writable_without Metadata ms all)
+
+pub body_canonical : (s : Option Data) (os ms : Members) → IsCanonicalStatus s → IsCanonical (object os) → IsCanonical (object ms) → IsCanonical (object (body_with s (object (without_held ms)) os))
+body_canonical s os ms one canonical metadata_canonical =
+    let x = object (without_held ms) in (
+      body_ascending s x os canonical.0,
+      subst AreCanonicalMembers (sym (body_both s x os canonical.0))
+          (canonical_put metadata x (put_some status s (without Object os)) (held_canonical ms metadata_canonical) (canonical_some status s (without Object os) one (canonical_without Object os canonical.1))),
+    )
+
+-- ---- the object, as it is printed
+
+-- what the store sets of an object of that key and meta
+abbrev held_of : KeyParts → Meta → List (List ℕ × Option Data)
+held_of key meta = held_with key meta (unless_zero meta.revision (string (decimal meta.revision))) (uid_data meta.uid)
 
 printed_at : (key : KeyParts) (meta : Meta) (s : Option Data) (os ms : Members) → AreAscending os
-    → printed (record { key = key; meta = meta; body = object (set_member status s (put metadata (object (without_held ms)) os)) }) ≡ object (both (object (puts (held_of key meta) (without_held ms))) s os)
+    → printed (record { key = key; meta = meta; body = object (body_with s (object (without_held ms)) os) }) ≡ object (both (object (puts (held_of key meta) (without_held ms))) s os)
 unfolding printed
 printed_at key meta s os ms ascending =
-    let members = set_member status s (put metadata (object (without_held ms)) os) in
+    let members = body_with s (object (without_held ms)) os in
     let o : declared.Object = record { key = key; meta = meta; body = object members } in
-    let found : get_member metadata members ≡ Some (object (without_held ms)) =
-    get_member-set_member metadata status s (put metadata (object (without_held ms)) os) (λ e. cc) ∙ get_member-put metadata (object (without_held ms)) os in
-    ap (λ f. object (put metadata (object (full_metadata o (unwrap_or (option_and_then as_object f) no_members))) members)) found
+    ap (λ f. object (put metadata (object (full_metadata o (unwrap_or (option_and_then as_object f) no_members))) members)) (body_metadata s (object (without_held ms)) os)
     ∙ ap object (both_put s (object (without_held ms)) (object (full_metadata o (without_held ms))) os ascending)
 
-pub text_is : (os ms : Members) (d : Draft) (s : Option Data) (meta : Meta) (key : KeyParts) (uid version : Option (List ℕ)) → IsReadAs key uid version os → get_member metadata os ≡ Some (object ms) → AreAscending os → draft_in os ≡ Ok d
-    → compact_text (object (both (object (puts (held_of key meta) (without_held ms))) s os)) ≡ text (with_status s (with_meta meta d.object))
-text_is os ms d s meta key uid version r found ascending is =
-    let same : r.draft ≡ d = (let e = sym r.reads ∙ is in cc) in
-    let key_is : d.object.key ≡ key = ap (λ x. x.object.key) (sym same) ∙ r.key_is in
-    sym
-    (ap (λ k. compact_text (printed (record { key = k; meta = meta; body = with_member status s d.object.body }))) key_is
-    ∙ ap (λ b. compact_text (printed (record { key = key; meta = meta; body = with_member status s b }))) (body_is os ms d found is) ∙ ap compact_text (printed_at key meta s os ms ascending))
+-- the object with those others, at that version and with that status
+pub printed_with : (o : declared.Object) (os ms : Members) (n : ℕ) (s : Option Data) → AreAscending os → n ≢ 0
+    → printed (rewritten o (put metadata (object (without_held ms)) (without Object os)) n s) ≡ object (object_with (metadata_with o.key o.meta ms (string (decimal n)) (uid_data o.meta.uid)) s (without Object os))
+printed_with o os ms n s ascending some =
+    let version : unless_zero n (string (decimal n)) ≡ Some (string (decimal n)) = ap (λ b. cond b None (Some (string (decimal n)))) (ne_eqb n 0 some) in
+    printed_at o.key (at_version o n).meta s (without Object os) ms (ascending_without Object os ascending)
+    ∙ ap (λ v. object (both (object (puts (held_with o.key o.meta v (uid_data o.meta.uid)) (without_held ms))) s (without Object os))) version
+    ∙ ap (λ m. object (object_with (metadata_with o.key o.meta ms (string (decimal n)) (uid_data o.meta.uid)) s m)) (without_twice os)

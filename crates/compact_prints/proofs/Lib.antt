@@ -1,6 +1,10 @@
 mod Merging
 mod HeldTexts
 mod Maps
+mod Seaming
+pub mod Printable
 mod Drafts
 mod Lines
+mod Rules
+mod IndexedTexts
 mod Braces

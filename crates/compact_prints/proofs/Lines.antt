@@ -18,6 +18,7 @@ use Rattle.compact.specs.declared.tables.Tables.{Tables}
 use Rattle.objects.specs.Reading.{most_bytes, reading_of_data}
 use Rattle.compact_drafts.specs.Drafts.{IsDraftOf}
 use Rattle.compact_drafts.specs.declared.draft.CompactDraft.{CompactDraft}
+use Rattle.objects.proofs.BodyMembers.{member_of-integral}
 use Rattle.compact_prints.proofs.Braces.{map_begun}
 use Rattle.compact_drafts.proofs.Readings.{read_is_canonical}
 use Rattle.compact_prints.specs.Lines.{IsDraftOfLine}
@@ -71,5 +72,6 @@ told_of_line line text tables r t told =
       found = d.1;
       draft = d.2;
       canonical = canonical_found (codes "object") (map_of d.0) t.members t.canonical.1 d.1;
+      integral = subst (λ o. IfSome o (λ e. has_float e ≡ false)) d.1 (member_of-integral (codes "object") (map_of t.members) t.integral);
     })
     told

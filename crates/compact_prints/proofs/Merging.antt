@@ -1,5 +1,5 @@
 -- Members that are written in order, with those that are set among them.
-use Rattle.std.proofs.Common.{◌≡◌, ℕ, List, [], ◌∷◌, ◌++◌, Bool, true, false, cond, Option, Some, None, refl, sym, ap, ◌∙◌, ◌⊎◌, inl, inr, subst, append_assoc}
+use Rattle.std.proofs.Common.{◌≡◌, ℕ, List, [], ◌∷◌, ◌++◌, Bool, true, false, cond, Option, Some, None, refl, sym, ap, ◌∙◌, ◌⊎◌, inl, inr, subst, append_assoc, append-nil}
 use Rattle.std.specs.Prelude.{⊤}
 use Rattle.std.specs.Ordering.{nat_cmp, ordering_reverse}
 use Rattle.std.specs.declared.cmp.Ordering.{Ordering}
@@ -16,7 +16,7 @@ use Rattle.compact.specs.Fields.{IsFirst, IsLeft}
 use Rattle.compact.specs.Notes.{AreEntries}
 use Rattle.compact.specs.declared.entry.Entry.{Entry}
 use Rattle.objects.specs.Merged.{IsBelowAll, puts}
-use Rattle.compact_prints.specs.Merging.{WritesBelow, WritesStep, field_text, is_set, other_text, rest_text, some_text, without}
+use Rattle.compact_prints.specs.Merging.{AreBelow, IsKept, WritesBelow, WritesStep, field_text, is_set, other_text, rest_text, some_text, without}
 use Rattle.compact_prints.specs.declared.part.Part.{Part}
 
 abbrev Set : Type 0
@@ -75,21 +75,50 @@ passed_at false hs l v e ms own above is =
 
 -- ---- a walk over the members
 
+-- none of these keys has been passed over
+abbrev AreKept : Part → Set → Members → Members → Type 0
+AreKept part [] ms rest = ⊤
+AreKept part (h ∷ hs) ms rest = IsKept part h.0 ms rest × AreKept part hs ms rest
+
+below_by : (b : Bool) (k l : List ℕ) (d : Data) (ms : Members) → slice_cmp nat_cmp k l ≡ Greater → AreBelow k ms → AreBelow k (cond b ms (member l d ms))
+below_by true k l d ms above h = h
+below_by false k l d ms above h = (above, h)
+
+kept_all : (part : Part) (hs : Set) (ms : Members) → AreKept part hs ms ms
+kept_all part [] ms = tt
+kept_all part (h ∷ hs) ms = (record { found = refl; below = λ b. b }, kept_all part hs ms)
+
+kept_past : (part : Part) (hs : Set) (l : List ℕ) (d : Data) (ms rest : Members) → AreAbove l hs → AreKept part hs rest (member l d ms) → AreKept part hs rest ms
+kept_past part [] l d ms rest above kept = tt
+kept_past part (h ∷ hs) l d ms rest above kept = (
+  record {
+    found = kept.0.found ∙ rw above.0 refl;
+    below = λ b. kept.0.below (below_by (is_set part l) h.0 l d (without part ms) above.0 b);
+  },
+  kept_past part hs l d ms rest above.1 kept.1,
+)
+
 -- These are left: with whatever is set of those that may be, all is written.
 pub record Going (part : Part) (P : Set → Type 0) (ms : Members) (left : List ℕ) (entries : List Entry) (old new : List ℕ) : Type 0 where
   pub rest : Members
+  pub bytes : List ℕ
   pub left_is : IsLeft rest left
   pub entries_are : AreEntries entries rest
   pub ascending : AreAscending rest
-  pub written : (hs : Set) → P hs → old ++ rest_text part hs ms ≡ new ++ rest_text part hs rest
+  pub new_is : new ≡ old ++ bytes
+  pub written : (hs : Set) → P hs → rest_text part hs ms ≡ bytes ++ rest_text part hs rest
+  pub kept : (hs : Set) → P hs → AreKept part hs ms rest
 
 pub going_begins : (part : Part) (P : Set → Type 0) (ms : Members) (left : List ℕ) (entries : List Entry) (old : List ℕ) → AreAscending ms → IsLeft ms left → AreEntries entries ms → Going part P ms left entries old old
 going_begins part P ms left entries old ascending is are = record {
   rest = ms;
+  bytes = [];
   left_is = is;
   entries_are = are;
   ascending = ascending;
+  new_is = sym (append-nil old);
   written = λ hs p. refl;
+  kept = λ hs p. kept_all part hs ms;
 }
 
 pub going_on : (part : Part) (P : Set → Type 0) (ms : Members) (left left2 : List ℕ) (entries entries2 : List Entry) (old mid new key value : List ℕ) → (g : Going part P ms left entries old mid)
@@ -98,14 +127,16 @@ going_on part P ms left left2 entries entries2 old mid new key value g f above i
     let own = (subst (AreEntries entries) f.is g.entries_are).1 in
     record {
       rest = f.others;
+      bytes = g.bytes ++ other_text part key value;
       left_is = f.left_is;
       entries_are = f.entries_are;
       ascending = (subst AreAscending f.is g.ascending).1;
+      new_is = is ∙ ap (λ t. t ++ other_text part key value) g.new_is ∙ append_assoc old g.bytes (other_text part key value);
       written = λ hs p.
-          g.written hs p ∙ ap (λ m. mid ++ rest_text part hs m) f.is
-          ∙ ap (λ t. mid ++ t) (passed_at (is_set part key) hs key value f.d (without part f.others) own.0 (above hs p) f.value_is)
-          ∙ sym (append_assoc mid (other_text part key value) (rest_text part hs f.others))
-          ∙ ap (λ t. t ++ rest_text part hs f.others) (sym is);
+          g.written hs p ∙ ap (λ m. g.bytes ++ rest_text part hs m) f.is
+          ∙ ap (λ t. g.bytes ++ t) (passed_at (is_set part key) hs key value f.d (without part f.others) own.0 (above hs p) f.value_is)
+          ∙ sym (append_assoc g.bytes (other_text part key value) (rest_text part hs f.others));
+      kept = λ hs p. kept_past part hs key f.d f.others ms (above hs p) (subst (AreKept part hs ms) f.is (g.kept hs p));
     }
 
 -- ---- where a key goes in
@@ -133,11 +164,15 @@ below : (part : Part) (k : List ℕ) (ms : Members) (left : List ℕ) (entries :
     → WritesBelow part k ms left entries old new
 below part k ms left entries old new g before = record {
   rest = g.rest;
+  bytes = g.bytes;
   left_is = g.left_is;
   entries_are = g.entries_are;
   ascending = g.ascending;
   before = before;
+  new_is = g.new_is;
   written = λ hs v later. g.written ((k, v) ∷ hs) (refl, later);
+  kept = (g.kept ((k, None) ∷ []) (refl, tt)).0;
+  kept_above = λ q above. (g.kept ((k, None) ∷ (q, None) ∷ []) (refl, (above, tt))).1.0;
 }
 
 stopped : (part : Part) (k l : List ℕ) (d : Data) (ms : Members) → (o : Ordering) → slice_cmp nat_cmp k l ≡ o → (o ≡ Less) ⊎ (o ≡ Equal) → is_set part k ≡ true → AreAscending (member l d ms) → ComesBefore k (without part (member l d ms))
@@ -156,7 +191,9 @@ below_none part k ms left entries old new g none = below part k ms left entries 
 
 pub all_written : (part : Part) (ms : Members) (left : List ℕ) (entries : List Entry) (old mid new : List ℕ) → (g : Going part IsNone ms left entries old mid) → g.rest ≡ no_members → new ≡ mid ++ 125 ∷ []
     → new ≡ old ++ members_text true (without part ms)
-all_written part ms left entries old mid new g none is = is ∙ ap (λ m. mid ++ rest_text part [] m) (sym none) ∙ sym (g.written [] refl)
+all_written part ms left entries old mid new g none is =
+    is ∙ ap (λ t. t ++ 125 ∷ []) g.new_is ∙ append_assoc old g.bytes (125 ∷ [])
+    ∙ ap (λ t. old ++ t) (ap (λ m. g.bytes ++ rest_text part [] m) (sym none) ∙ sym (g.written [] refl))
 
 -- ---- a member that is set
 
@@ -164,7 +201,7 @@ pub put_before : (k : List ℕ) (d : Data) (ms : Members) → ComesBefore k ms �
 put_before k d no_members h = refl
 put_before k d (member l e ms) h = rw h refl
 
-text_some : (k : List ℕ) (v : Option Data) (ms : Members) → ComesBefore k ms → members_text true (put_some k v ms) ≡ some_text k v ++ members_text true ms
+pub text_some : (k : List ℕ) (v : Option Data) (ms : Members) → ComesBefore k ms → members_text true (put_some k v ms) ≡ some_text k v ++ members_text true ms
 text_some k None ms h = refl
 text_some k (Some d) ms h =
     ap (members_text true) (put_before k d ms h) ∙ ap (λ t. 44 ∷ t) (sym (append_assoc (quoted k) (58 ∷ compact_text d) (members_text true ms)))
@@ -173,23 +210,25 @@ pub before_some : (k j : List ℕ) (v : Option Data) (ms : Members) → slice_cm
 before_some k j None ms first h = h
 before_some k j (Some d) ms first h = before_put k j d ms first h
 
-before_puts : (hs : Set) (k : List ℕ) (ms : Members) → ComesBefore k ms → IsBelowAll k hs → ComesBefore k (puts hs ms)
+pub before_puts : (hs : Set) (k : List ℕ) (ms : Members) → ComesBefore k ms → IsBelowAll k hs → ComesBefore k (puts hs ms)
 before_puts [] k ms h later = h
 before_puts (x ∷ hs) k ms h later = before_some k x.0 x.1 (puts hs ms) later.0 (before_puts hs k ms h later.1)
 
--- the member of that key was written behind those below it
-pub step_text : (part : Part) (k : List ℕ) (v : Option Data) (ms : Members) (left : List ℕ) (entries : List Entry) (old mid new : List ℕ) → (w : WritesBelow part k ms left entries old mid) → new ≡ mid ++ some_text k v
-    → (hs : Set) → IsBelowAll k hs → old ++ rest_text part ((k, v) ∷ hs) ms ≡ new ++ rest_text part hs w.rest
-step_text part k v ms left entries old mid new w is hs later =
-    w.written hs v later ∙ ap (λ t. mid ++ t) (text_some k v (puts hs (without part w.rest)) (before_puts hs k (without part w.rest) w.before later))
-    ∙ sym (append_assoc mid (some_text k v) (rest_text part hs w.rest)) ∙ ap (λ t. t ++ rest_text part hs w.rest) (sym is)
+-- with the member of that key before those that are left
+pub key_text : (part : Part) (k : List ℕ) (v : Option Data) (ms : Members) (left : List ℕ) (entries : List Entry) (old new : List ℕ) → (w : WritesBelow part k ms left entries old new)
+    → (hs : Set) → IsBelowAll k hs → rest_text part ((k, v) ∷ hs) ms ≡ w.bytes ++ (some_text k v ++ rest_text part hs w.rest)
+key_text part k v ms left entries old new w hs later =
+    w.written hs v later ∙ ap (λ t. w.bytes ++ t) (text_some k v (puts hs (without part w.rest)) (before_puts hs k (without part w.rest) w.before later))
 
+-- the member of that key was written behind those below it
 pub step_written : (part : Part) (k : List ℕ) (v : Option Data) (ms : Members) (left : List ℕ) (entries : List Entry) (old mid new : List ℕ) → (w : WritesBelow part k ms left entries old mid) → new ≡ mid ++ some_text k v
     → WritesStep part k v ms left entries old new
 step_written part k v ms left entries old mid new w is = record {
   rest = w.rest;
+  bytes = w.bytes ++ some_text k v;
   left_is = w.left_is;
   entries_are = w.entries_are;
   ascending = w.ascending;
-  written = step_text part k v ms left entries old mid new w is;
+  new_is = is ∙ ap (λ t. t ++ some_text k v) w.new_is ∙ append_assoc old w.bytes (some_text k v);
+  written = λ hs later. key_text part k v ms left entries old mid w hs later ∙ sym (append_assoc w.bytes (some_text k v) (rest_text part hs w.rest));
 }

@@ -3,3 +3,4 @@ pub mod Texts
 pub mod Lines
 -- ---- what only proofs use
 pub mod Merging
+pub mod Seaming

@@ -1,9 +1,10 @@
 -- What a draft is that was told of a line as it came, in whatever order its members stood.
-use Rattle.std.specs.Prelude.{◌≡◌, ◌≤◌, ℕ, List, length, codes, true, Some, Ok}
+use Rattle.std.specs.Prelude.{◌≡◌, ◌≤◌, ℕ, List, length, codes, true, false, Some, Ok}
 use Rattle.std.specs.Str.{is_utf8}
 use Rattle.serde_json.specs.Data.{Members, object as map_of}
 use Rattle.serde_json.specs.Find.{get_member}
 use Rattle.serde_json.specs.Read.{read}
+use Rattle.serde_json.specs.Written.{has_float}
 use Rattle.trees.specs.Canonical.{IsCanonical}
 use Rattle.objects.specs.Reading.{most_bytes, reading_of_data}
 use Rattle.compact_drafts.specs.Drafts.{IsDraftOf}
@@ -19,3 +20,4 @@ pub record IsDraftOfLine (c : CompactDraft) (line : List ℕ) : Type 0 where
   pub found : get_member (codes "object") members ≡ Some (map_of object)
   pub draft : IsDraftOf c object
   pub canonical : IsCanonical (map_of object)
+  pub integral : has_float (map_of object) ≡ false

@@ -1,7 +1,11 @@
 -- The members of a map that are written beside those that the store sets.
-use Rattle.std.specs.Prelude.{◌≡◌, ℕ, List, [], ◌∷◌, ◌++◌, Bool, true, ◌||◌, bytes_eq, codes, cond, decimal, Option, Some, None, option_map}
+use Rattle.std.specs.Prelude.{◌≡◌, ℕ, List, [], ◌∷◌, ◌++◌, Bool, true, ◌||◌, bytes_eq, codes, cond, Option, Some, None, option_map, ⊤}
+use Rattle.std.specs.Ordering.{nat_cmp}
+use Rattle.std.specs.declared.cmp.Ordering.TheVariants.{Greater, Less}
+use Rattle.std.specs.Cmp.Lexicographic.{slice_cmp}
 use Rattle.json.specs.Print.{quoted}
-use Rattle.serde_json.specs.Data.{Data, number, string, unsigned, Members, no_members, member}
+use Rattle.serde_json.specs.Data.{Data, number, object as map_of, string, unsigned, Members, no_members, member}
+use Rattle.serde_json.specs.Find.{get_member}
 use Rattle.serde_json.specs.Written.{compact_text, members_text}
 use Rattle.trees.specs.Tree.{AreAscending, ComesBefore}
 use Rattle.compact.specs.Fields.{IsLeft}
@@ -32,12 +36,19 @@ abbrev pub held_data : Held → Data
 held_data (Text s) = string s.now
 held_data (Integer n) = number (unsigned n)
 
--- what the store sets in the metadata
-abbrev pub held_of : KeyParts → MetaParts → List (List ℕ × Option Data)
-held_of key meta =
+-- what the store sets in the metadata, with that resource version and that UID
+abbrev pub held_with : KeyParts → MetaParts → Option Data → Option Data → List (List ℕ × Option Data)
+held_with key meta version uid =
     (codes "deletionTimestamp", option_map string meta.deletion) ∷ (codes "generation", unless_zero meta.generation (number (unsigned meta.generation)))
     ∷ (codes "name", Some (string key.name)) ∷ (codes "namespace", Some (string key.namespace))
-    ∷ (codes "resourceVersion", unless_zero meta.revision (string (decimal meta.revision))) ∷ (codes "uid", unless_zero meta.uid (string (uid_text meta.uid))) ∷ []
+    ∷ (codes "resourceVersion", version) ∷ (codes "uid", uid) ∷ []
+
+abbrev pub uid_data : ℕ → Option Data
+uid_data n = unless_zero n (string (uid_text n))
+
+-- the members of an object with that metadata and that status, and these others
+abbrev pub object_with : Members → Option Data → Members → Members
+object_with metadata status others = puts ((codes "metadata", Some (map_of metadata)) ∷ (codes "status", status) ∷ []) others
 
 -- a member as it is written, with a comma before it
 abbrev pub field_text : List ℕ → List ℕ → List ℕ
@@ -55,19 +66,35 @@ some_text k (Some d) = 44 ∷ (quoted k ++ 58 ∷ compact_text d)
 abbrev pub rest_text : Part → List (List ℕ × Option Data) → Members → List ℕ
 rest_text part hs ms = members_text true (puts hs (without part ms))
 
+-- each key is below that one
+abbrev pub AreBelow : List ℕ → Members → Type 0
+AreBelow k no_members = ⊤
+AreBelow k (member l d ms) = (slice_cmp nat_cmp k l ≡ Greater) × AreBelow k ms
+
+-- Of these members those are left, and none of that key or above has been passed over.
+pub record IsKept (part : Part) (k : List ℕ) (ms rest : Members) : Type 0 where
+  pub found : get_member k ms ≡ get_member k rest
+  pub below : AreBelow k (without part rest) → AreBelow k (without part ms)
+
 -- These members are left, with others written: with whatever is set from that key on, all is written.
 pub record WritesBelow (part : Part) (k : List ℕ) (ms : Members) (left : List ℕ) (entries : List Entry) (old new : List ℕ) : Type 0 where
   pub rest : Members
+  pub bytes : List ℕ
   pub left_is : IsLeft rest left
   pub entries_are : AreEntries entries rest
   pub ascending : AreAscending rest
   pub before : ComesBefore k (without part rest)
-  pub written : (hs : List (List ℕ × Option Data)) (v : Option Data) → IsBelowAll k hs → old ++ rest_text part ((k, v) ∷ hs) ms ≡ new ++ rest_text part ((k, v) ∷ hs) rest
+  pub new_is : new ≡ old ++ bytes
+  pub written : (hs : List (List ℕ × Option Data)) (v : Option Data) → IsBelowAll k hs → rest_text part ((k, v) ∷ hs) ms ≡ bytes ++ rest_text part ((k, v) ∷ hs) rest
+  pub kept : IsKept part k ms rest
+  pub kept_above : (q : List ℕ) → slice_cmp nat_cmp k q ≡ Less → IsKept part q ms rest
 
 -- The same, with the member of that key: with whatever is set behind it, all is written.
 pub record WritesStep (part : Part) (k : List ℕ) (v : Option Data) (ms : Members) (left : List ℕ) (entries : List Entry) (old new : List ℕ) : Type 0 where
   pub rest : Members
+  pub bytes : List ℕ
   pub left_is : IsLeft rest left
   pub entries_are : AreEntries entries rest
   pub ascending : AreAscending rest
-  pub written : (hs : List (List ℕ × Option Data)) → IsBelowAll k hs → old ++ rest_text part ((k, v) ∷ hs) ms ≡ new ++ rest_text part hs rest
+  pub new_is : new ≡ old ++ bytes
+  pub written : (hs : List (List ℕ × Option Data)) → IsBelowAll k hs → rest_text part ((k, v) ∷ hs) ms ≡ bytes ++ rest_text part hs rest

@@ -1,13 +1,11 @@
 // Members that the store sets, as they are written.
-ghost use Rattle.std.specs.Prelude.{◌≡◌, ◌++◌, OnOk, Option, decimal, option_map};
+ghost use Rattle.std.specs.Prelude.{◌≡◌, ◌++◌, OnOk, option_map};
 ghost use Rattle.std.specs.Option.{option_copied};
-ghost use Rattle.json.specs.Print.{escape};
-ghost use Rattle.serde_json.specs.Data.{Data, string, number as number_data, unsigned};
+ghost use Rattle.serde_json.specs.Data.{string, number as number_data, unsigned};
 ghost use Rattle.json.specs.Tree.{json_tokens};
-ghost use Rattle.serde_json.specs.Written.{compact_text, outline};
+ghost use Rattle.serde_json.specs.Written.{outline};
 ghost use Rattle.objects.specs.Text.{unless_zero};
 ghost use Rattle.objects.specs.Uid.{uid_text};
-ghost use Rattle.compact_drafts.specs.Drafts.{lent};
 ghost use Rattle.compact_prints.specs.Merging.{field_text, held_data, some_text};
 
 use json::Writer;
@@ -40,17 +38,6 @@ pub(crate) fn held_number<'a>(number: u64) -> Option<Held<'a>>
         None
     } else {
         Some(Held::Integer(number))
-    }
-}
-
-/// The text of a resource version, unless it is 0.
-pub(crate) fn held_version<'a>(buffer: &'a mut itoa::Buffer, revision: u64) -> Option<Held<'a>>
-    ensures { option_map held_data result ≡ unless_zero revision (string (decimal revision)) }
-{
-    if revision == 0 {
-        None
-    } else {
-        Some(Held::Text(buffer.format(revision)))
     }
 }
 
@@ -93,21 +80,6 @@ fn write_value(value: Held<'_>, out: &mut Writer) -> Result<(), AllocError>
     match value {
         Held::Text(text) => out.string(text),
         Held::Integer(number) => out.u64(number),
-    }
-}
-
-/// Writes a member that is given as it is written, with a comma before it, if there is one.
-pub(crate) fn write_given(
-    key: &str,
-    value: Option<&[u8]>,
-    out: &mut Vec<u8>,
-) -> Result<(), AllocError>
-    requires { escape key.now ≡ key.now }
-    ensures { (v : Option Data) → lent value.entry ≡ option_map compact_text v → OnOk result (out.new.items ≡ out.old.items ++ some_text key.now v) }
-{
-    match value {
-        None => Ok(()),
-        Some(value) => write_field(key.as_bytes(), value, out),
     }
 }
 

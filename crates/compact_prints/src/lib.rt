@@ -8,6 +8,7 @@ mod merge;
 mod metadata;
 mod part;
 mod print;
+mod seams;
 
 pub use line::draft_of_line;
-pub use print::printed;
+pub use print::indexed;

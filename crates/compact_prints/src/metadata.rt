@@ -1,48 +1,50 @@
 // The metadata of an object, with what the store sets in it.
-ghost use Rattle.std.specs.Prelude.{◌≡◌, ◌++◌, ◌∷◌, ℕ, List, length, true, codes, Some, OnOk};
-ghost use Rattle.serde_json.specs.Data.{Members, object as map_of};
-ghost use Rattle.serde_json.specs.Written.{members_text};
+ghost use Rattle.std.specs.Prelude.{◌≡◌, ◌++◌, [], ◌∷◌, ℕ, List, length, codes, IfOk, OnOk};
+ghost use Rattle.serde_json.specs.Data.{Members};
 ghost use Rattle.trees.specs.Tree.{AreAscending};
-ghost use Rattle.objects.specs.Merged.{puts};
-ghost use Rattle.objects.specs.Object.{without_held};
+ghost use Rattle.compact.specs.Fields.{IsLeft};
+ghost use Rattle.compact.specs.Notes.{AreEntries};
 ghost use Rattle.compact_drafts.specs.Maps.{IsMap};
-ghost use Rattle.compact_prints.specs.Merging.{held_of, some_text};
+ghost use Rattle.compact_prints.specs.Merging.{rest_text, uid_data};
+ghost use Rattle.compact_prints.specs.Seaming.{WritesToVersion, member_with, members_with};
+ghost use Rattle.compact_prints.specs.declared.part.Part.TheVariants.{Metadata as MetadataPart};
 
-use crate::held::{Held, held_number, held_text, held_uid, held_version};
-use crate::merge::{write_rest, write_step};
+use crate::held::{Held, held_number, held_text, held_uid};
+use crate::merge::{write_below, write_rest, write_step};
 use crate::part::Part;
+use compact::Fields;
 use compact_drafts::Map;
 use objects::{Key, Memory, Meta, uid_text};
 use std::alloc::Global;
 
-/// Writes the member `metadata`, with a comma before it.
-pub(crate) fn write_metadata(
+/// Writes the member `metadata`, with a comma before it, up to its resource version, and answers its members behind that.
+pub(crate) fn write_to_version<'t>(
     alloc: Global,
-    metadata: Map<'_>,
+    metadata: Map<'t>,
     key: &Key,
     meta: &Meta,
     out: &mut Vec<u8>,
-) -> Result<(), Memory>
+) -> Result<Fields<'t, 't>, Memory>
     ensures { (ms : Members) → AreAscending ms → IsMap metadata.entry.text.now metadata.entry.table.now ms
-        → OnOk result (out.new.items ≡ out.old.items ++ some_text (codes "metadata") (Some (map_of (puts (held_of key.now meta.now) (without_held ms))))) }
+        → IfOk result (λ rest. WritesToVersion (member_with key.now meta.now ms) rest.left.now rest.entries.now out.old.items out.new.items) }
 {
     out.extend_from_slice(b",\"metadata\":")?;
     let start = out.len();
-    write_members(alloc, metadata, key, meta, out)?;
+    let rest = write_members(alloc, metadata, key, meta, out)?;
     begin_map(start, out);
-    Ok(())
+    Ok(rest)
 }
 
-// Writes the members, each with a comma before it, and the closing brace.
-fn write_members(
+// Writes the members up to the resource version, each with a comma before it.
+fn write_members<'t>(
     alloc: Global,
-    metadata: Map<'_>,
+    metadata: Map<'t>,
     key: &Key,
     meta: &Meta,
     out: &mut Vec<u8>,
-) -> Result<(), Memory>
+) -> Result<Fields<'t, 't>, Memory>
     ensures { (ms : Members) → AreAscending ms → IsMap metadata.entry.text.now metadata.entry.table.now ms
-        → OnOk result (out.new.items ≡ out.old.items ++ members_text true (puts (held_of key.now meta.now) (without_held ms))) }
+        → IfOk result (λ rest. WritesToVersion (members_with key.now meta.now ms) rest.left.now rest.entries.now out.old.items out.new.items) }
 {
     let part = Part::Metadata;
     let fields = metadata.table.fields(metadata.text);
@@ -54,9 +56,22 @@ fn write_members(
     let named = write_step(alloc, part, generated, "name", name, out)?;
     let namespace = Some(Held::Text(key.namespace.as_str()));
     let spaced = write_step(alloc, part, named, "namespace", namespace, out)?;
-    let mut buffer = itoa::Buffer::new();
-    let version = held_version(&mut buffer, meta.revision);
-    let versioned = write_step(alloc, part, spaced, "resourceVersion", version, out)?;
+    let rest = write_below(part, spaced, "resourceVersion", out)?;
+    out.extend_from_slice(b",\"resourceVersion\":")?;
+    Ok(rest)
+}
+
+/// Writes what stands behind the resource version in the metadata, with the closing brace.
+pub(crate) fn write_after_version(
+    alloc: Global,
+    versioned: Fields<'_, '_>,
+    meta: &Meta,
+    out: &mut Vec<u8>,
+) -> Result<(), Memory>
+    ensures { (ms : Members) → AreAscending ms → IsLeft ms versioned.entry.left.now → AreEntries versioned.entry.entries.now ms
+        → OnOk result (out.new.items ≡ out.old.items ++ rest_text MetadataPart ((codes "uid", uid_data meta.now.uid) ∷ []) ms) }
+{
+    let part = Part::Metadata;
     let text = uid_text(alloc, meta.uid)?;
     let uid = held_uid(text.as_str(), meta.uid);
     let known = write_step(alloc, part, versioned, "uid", uid, out)?;

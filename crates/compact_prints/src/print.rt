@@ -1,79 +1,97 @@
-// The text of an object.
-ghost use Rattle.std.specs.Prelude.{◌≡◌, [], ◌∷◌, Option, Some, Ok, codes, option_map, string_bytes, IfOk, IfSome, OnOk};
+// The text of an object, with its seams.
+ghost use Rattle.std.specs.Prelude.{◌≡◌, ◌≢◌, Option, None, Some, Ok, false, string_bytes, IfOk, IfSome};
 ghost use Rattle.serde_json.specs.Data.{Data, Members, object as map_of};
-ghost use Rattle.serde_json.specs.Find.{get_member};
-ghost use Rattle.serde_json.specs.Written.{compact_text};
+ghost use Rattle.serde_json.specs.Written.{has_float};
 ghost use Rattle.trees.specs.Canonical.{IsCanonical};
-ghost use Rattle.trees.specs.Tree.{AreAscending};
-ghost use Rattle.objects.specs.Merged.{puts};
-ghost use Rattle.objects.specs.Object.{without_held};
 ghost use Rattle.objects.specs.Reading.{draft_in};
 ghost use Rattle.objects.specs.Rewrites.{with_status};
-ghost use Rattle.objects.specs.Text.{text};
+ghost use Rattle.objects.specs.Seams.{IsCanonicalStatus, IsIndexedText, status_text, status_tokens};
+ghost use Rattle.json.specs.Print.{ArePrintableOrBad};
 ghost use Rattle.objects.specs.declared.object.Draft.{Draft};
-ghost use Rattle.compact_drafts.specs.Drafts.{IsDraftOf, lent};
-ghost use Rattle.compact_drafts.specs.Maps.{IsMap};
+ghost use Rattle.compact_drafts.specs.Drafts.{IsDraftOf};
 ghost use Rattle.compact_prints.specs.Texts.{with_meta};
-ghost use Rattle.compact_prints.specs.Merging.{held_of, without};
-ghost use Rattle.compact_prints.specs.declared.part.Part.TheVariants.{Object as ObjectPart};
 
-use crate::held::write_given;
-use crate::merge::{write_below, write_rest};
-use crate::metadata::{begin_map, write_metadata};
-use crate::part::Part;
-use compact_drafts::{CompactDraft, Map};
-use objects::{Key, Memory, Meta};
+use crate::seams::{Seams, write_object};
+use compact_drafts::CompactDraft;
+use objects::{IndexedText, Memory, Meta};
 use std::alloc::Global;
 
-/// The text of the draft's object, with what the store knows of it, and with that status, given as it is written, or with none.
-/// None says that the line was no UTF-8.
-pub fn printed(
+/// The text of the draft's object, with what the store knows of it, and with that end, from its status on; with its seams.
+/// None says nothing of the object: the line was no UTF-8, a member stands behind its status, or it has no resource version.
+pub fn indexed(
     alloc: Global,
     draft: &CompactDraft<'_>,
     meta: &Meta,
-    status: Option<&[u8]>,
-) -> Result<Option<String>, Memory>
-    ensures { (os : Members) (d : Draft) (s : Option Data) → IsDraftOf draft.now os → IsCanonical (map_of os) → draft_in os ≡ Ok d → lent status.entry ≡ option_map compact_text s
-        → IfOk result (λ found. IfSome found (λ t. string_bytes t ≡ text (with_status s (with_meta meta.now d.object)))) }
+    end: &[u8],
+) -> Result<Option<IndexedText>, Memory>
+    ensures { (os : Members) (d : Draft) (s : Option Data) → IsDraftOf draft.now os → IsCanonical (map_of os) → has_float (map_of os) ≡ false → draft_in os ≡ Ok d
+        → end.now ≡ status_text s → IsCanonicalStatus s → ArePrintableOrBad (status_tokens s)
+        → IfOk result (λ found. IfSome found (λ indexed. IsIndexedText (with_status s (with_meta meta.now d.object)) indexed)) }
 {
-    let size = draft.object.text.len().saturating_add(256);
-    let mut out = Vec::with_capacity(alloc, size)?;
-    write_object(
+    if meta.revision == 0 {
+        return Ok(None);
+    }
+    let size = draft.object.text.len().saturating_add(end.len());
+    let mut out = Vec::with_capacity(alloc, size.saturating_add(256))?;
+    let written = write_object(
         alloc,
         draft.object,
         draft.metadata,
         &draft.key,
         meta,
-        status,
+        end,
         &mut out,
     )?;
-    match String::from_utf8(out) {
-        Ok(text) => Ok(Some(text)),
-        Err(_) => Ok(None),
+    match written {
+        Some(seams) => Ok(indexed_of(meta, out, seams)),
+        None => Ok(None),
     }
 }
 
-// Writes the object.
-fn write_object(
-    alloc: Global,
-    object: Map<'_>,
-    metadata: Map<'_>,
-    key: &Key,
-    meta: &Meta,
-    status: Option<&[u8]>,
-    out: &mut Vec<u8>,
-) -> Result<(), Memory>
-    requires { out.old.items ≡ [] }
-    ensures { (os ms : Members) (s : Option Data) → IsMap object.entry.text.now object.entry.table.now os → AreAscending os
-        → IsMap metadata.entry.text.now metadata.entry.table.now ms → AreAscending ms → lent status.entry ≡ option_map compact_text s
-        → OnOk result (out.new.items ≡ compact_text (map_of (puts ((codes "metadata", Some (map_of (puts (held_of key.now meta.now) (without_held ms)))) ∷ (codes "status", s) ∷ []) (without ObjectPart os)))) }
+// The text of those bytes, with its seams, if they are UTF-8 and the seams fit.
+fn indexed_of(meta: &Meta, bytes: Vec<u8>, seams: Seams) -> Option<IndexedText>
+    ensures text { IfSome result (λ indexed. string_bytes indexed.text ≡ bytes.items) }
+    ensures meta { IfSome result (λ indexed. (indexed.uid ≡ meta.now.uid) × (indexed.revision ≡ meta.now.revision)) }
+    ensures seams { IfSome result (λ indexed. (indexed.version ≡ seams.version) × (indexed.status ≡ seams.status)) }
+    ensures spec { IfSome result (λ indexed. indexed.generation ≢ 0 → (seams.spec ≡ Some indexed.spec) × (indexed.generation ≡ meta.now.generation) × (meta.now.deletion ≡ None)) }
 {
-    let fields = object.table.fields(object.text);
-    let rest = write_below(Part::Object, fields, "metadata", out)?;
-    write_metadata(alloc, metadata, key, meta, out)?;
-    let last = write_below(Part::Object, rest, "status", out)?;
-    write_given("status", status, out)?;
-    write_rest(Part::Object, last, out)?;
-    begin_map(0, out);
-    Ok(())
+    let Ok(version) = u32::try_from(seams.version) else {
+        return None;
+    };
+    let Ok(status) = u32::try_from(seams.status) else {
+        return None;
+    };
+    let Ok(text) = String::from_utf8(bytes) else {
+        return None;
+    };
+    let (spec, generation) = short_spec(meta, seams.spec);
+    Some(IndexedText {
+        text,
+        uid: meta.uid,
+        revision: meta.revision,
+        version,
+        status,
+        spec,
+        generation,
+    })
+}
+
+// How many bytes the spec takes, and the generation, or 0 and 0 where they are not known, do not fit, or the object has a
+// time of deletion.
+fn short_spec(meta: &Meta, size: Option<usize>) -> (u32, u32)
+    ensures { result.1 ≢ 0 → (size ≡ Some result.0) × (result.1 ≡ meta.now.generation) × (meta.now.deletion ≡ None) }
+{
+    if meta.deletion.is_some() {
+        return (0, 0);
+    }
+    let Some(size) = size else {
+        return (0, 0);
+    };
+    let Ok(spec) = u32::try_from(size) else {
+        return (0, 0);
+    };
+    match u32::try_from(meta.generation) {
+        Ok(generation) => (spec, generation),
+        Err(_) => (0, 0),
+    }
 }

@@ -1,7 +1,7 @@
 -- Replies that were written come of the bytes that were read.
 use Rattle.std.proofs.Common.{◌≡◌, ℕ, ◌+◌, inl, inr, List, [], ◌++◌, length, refl, sym, ◌∙◌, ap, subst, append_assoc, append-nil, Option, Some, None, Result, Ok, Err}
 use Rattle.std.specs.Option.{IfSome}
-use Rattle.std.specs.Result.{OnErr}
+use Rattle.std.specs.Result.{OnErr, OnOk}
 use Rattle.plain_store.specs.Store.{Store}
 use Rattle.plain.specs.Lines.{ended_lines, lines}
 use Rattle.plain.specs.Served.{answers}
@@ -118,6 +118,21 @@ Serving-ended s t had left later before after pending n h begun none =
 over_still : (had left later : Option (List ℕ)) (consumed : List ℕ) → Takes had consumed left → IfSome left (λ l. l ≡ []) → Takes left [] later → IfSome had (λ _. later ≡ Some [])
 over_still None left later consumed taken over none = tt
 over_still (Some input) left later consumed taken over none = Takes-nothing left later [] refl (Takes-end input consumed left taken over) none
+
+rest_none : (left : Option (List ℕ)) (rest : List ℕ) → left ≡ Some rest → left ≡ Some [] → rest ≡ []
+rest_none left rest is none = cc
+
+-- all lines are answered at the end
+pub Serving-all : {A E : Type 0} (r : Result A E) (s t : Store) (had left before after then : Option (List ℕ)) (pending : List ℕ) (n : ℕ) →
+    Serving s had left before after t pending n → IfSome left (λ l. l ≡ []) → OnOk r (Puts after (answers t (lines pending)) then) →
+    OnOk r (IfSome had (λ input. Puts before (answers s (lines input)) then))
+Serving-all (Err e) s t had left before after then pending n h over p = tt
+Serving-all (Ok x) s t None left before after then pending n h over p = tt
+Serving-all (Ok x) s t (Some input) left before after then pending n h over p =
+    let none = rest_none left h.taken.0 h.taken.2 (Takes-end input h.consumed left h.taken over) in
+    let all : answers s (lines input) ≡ h.answered.text ++ answers t (lines pending) =
+    ap (λ b. answers s (lines b)) (h.taken.1 ∙ ap (λ b. h.consumed ++ b) none) ∙ (h.answered.reaches.text [] ∙ ap (λ b. h.answered.text ++ answers t (lines b)) (append-nil pending)) in
+    subst (λ b. Puts before b then) (sym all) (Puts-then before after then h.answered.text (answers t (lines pending)) h.answered.put p)
 
 -- a fault at the last line
 pub Serving-last : {A E : Type 0} (r : Result A E) (s t : Store) (had left later before after then : Option (List ℕ)) (pending piece : List ℕ) (n : ℕ) →

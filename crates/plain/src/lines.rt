@@ -2,6 +2,8 @@
 
 mod answer;
 mod compact_get;
+mod compact_write;
+pub(crate) mod line_reader;
 pub(crate) mod members;
 mod reply_line;
 pub(crate) mod reply_value;

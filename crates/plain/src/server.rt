@@ -9,8 +9,9 @@ ghost use Rattle.plain_store.specs.Reached.{most_revisions};
 ghost use Rattle.plain.specs.declared.server.ServeFault.TheVariants.{Memory as OutOfMemory, BadCapacity as CapacityOut};
 
 use crate::devices::stream::{Sink, Source, write_all};
+use crate::lines::line_reader::LineReader;
 use crate::lines::splitter::{Paused, Splitter, answer_last, answer_piece};
-use objects::{Memory, TreeReader};
+use objects::Memory;
 use plain_store::{Plain, PlainError};
 use std::alloc::{AllocError, Global};
 use thiserror::Error;
@@ -163,7 +164,7 @@ fn serve_store<R: Source, W: Sink>(
     ensures cause { IsInRange result }
 {
     let mut splitter = Splitter {
-        reader: Box::new(alloc, TreeReader::new(alloc)).map_err(AllocError::from)?,
+        reader: Box::new(alloc, LineReader::new(alloc)).map_err(AllocError::from)?,
         pending: Vec::new(alloc),
         replies: Vec::new(alloc),
         lines: 0,
@@ -186,8 +187,8 @@ fn serve_store<R: Source, W: Sink>(
 /// Answers each line of the reader's bytes with a line to the writer, as the plain store with room for `capacity`
 /// revisions answers them, and says how many lines there were. The bytes are cut at line feeds, and a last line may lack
 /// its line feed. Replies are written once they come to 65,536 bytes, and else before the next read. At any time it holds
-/// one piece of a read (64 KiB at most), at most 1,048,577 bytes of a line that the piece's end cuts, the reply to one
-/// line, and less than 65,536 bytes of other replies.
+/// one piece of a read (64 KiB at most), at most 1,048,577 bytes of a line that the piece's end cuts, a copy of one line,
+/// the reply to one line, and less than 65,536 bytes of other replies.
 ///
 /// # Errors
 ///

@@ -3,22 +3,45 @@ ghost use Rattle.serde_json.specs.Written.{compact_text};
 ghost use Rattle.plain.specs.Replies.{reply_data, error_data};
 ghost use Rattle.requests.specs.Verdict.{is_write};
 ghost use Rattle.plain.specs.Served.{answer};
-ghost use Rattle.plain_store.specs.PrintedReplies.{reply_stored};
+ghost use Rattle.plain_store.specs.PrintedReplies.{reply_printed, reply_stored};
 ghost use Rattle.plain_store.specs.Route.{is_read};
 ghost use Rattle.plain_store.specs.Store.{step};
 ghost use Rattle.objects.specs.declared.fault.ReadError.TheVariants.{Memory as out_of_memory};
 ghost use Rattle.plain.specs.declared.lines.request_error.RequestError.TheVariants.{Read};
 
+use crate::lines::compact_get::compact_get;
+use crate::lines::compact_write::compact_write;
+use crate::lines::line_reader::LineReader;
 use crate::lines::reply_line::{error_line, printed_line, stored_line};
 use crate::lines::request_error::RequestError;
 use crate::lines::request_line::next_request;
 use objects::{Memory, ReadError, TreeReader};
-use plain_store::{Plain, StoredReply};
+use plain_store::{Plain, PrintedReply, StoredReply};
 use requests::Request;
 use std::alloc::Global;
 
 /// Answers a line: the reply's text and a line feed come after what `out` holds.
 pub(crate) fn answer_line(
+    alloc: Global,
+    plain: &mut Plain,
+    reader: &mut LineReader,
+    line: &[u8],
+    out: Vec<u8>,
+) -> Result<Vec<u8>, Memory>
+    ensures text { IfOk result (λ v. v.items ≡ out.items ++ ((answer plain.old line.now).1 ++ 10 ∷ [])) }
+    ensures store { IfOk result (λ v. plain.new ≡ (answer plain.old line.now).0) }
+{
+    if let Some(key) = compact_get(alloc, line)? {
+        return answer_request(plain, Request::Get(key), out);
+    }
+    match compact_write(alloc, plain, reader, line)? {
+        Some(printed) => answer_printed(printed, out),
+        None => answer_by_tree(alloc, plain, &mut reader.tree, line, out),
+    }
+}
+
+/// Answers a line that is read as a tree.
+fn answer_by_tree(
     alloc: Global,
     plain: &mut Plain,
     reader: &mut TreeReader,
@@ -54,6 +77,12 @@ fn answer_write(plain: &mut Plain, request: Request, out: Vec<u8>) -> Result<Vec
     ensures store { IfOk result (λ v. plain.new ≡ (step plain.old request).0) }
 {
     let printed = plain.write(request)?;
+    answer_printed(printed, out)
+}
+
+fn answer_printed(printed: PrintedReply, out: Vec<u8>) -> Result<Vec<u8>, Memory>
+    ensures { IfOk result (λ v. v.items ≡ out.items ++ (compact_text (reply_data (reply_printed printed)) ++ 10 ∷ [])) }
+{
     let mut out = out;
     let written = printed_line(&printed, &mut out);
     drop(printed);

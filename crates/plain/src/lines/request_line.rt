@@ -26,10 +26,13 @@ use std::alloc::Global;
 pub fn read_request(alloc: Global, line: &[u8]) -> Result<Request, RequestError>
     ensures { Answers result (request_of line.now) }
 {
+    if let Some(key) = compact_get(alloc, line)? {
+        return Ok(Request::Get(key));
+    }
     next_request(alloc, &mut TreeReader::new(alloc), line)
 }
 
-/// As `read_request`, in the memory of a reader that reads one line after another.
+/// As `read_request`, by a tree of the line, in the memory of a reader that reads one line after another.
 pub(crate) fn next_request(
     alloc: Global,
     reader: &mut TreeReader,
@@ -37,9 +40,6 @@ pub(crate) fn next_request(
 ) -> Result<Request, RequestError>
     ensures { Answers result (request_of line.now) }
 {
-    if let Some(key) = compact_get(alloc, line)? {
-        return Ok(Request::Get(key));
-    }
     let value = value_in(reader, line)?;
     request_in(alloc, value)
 }

@@ -5,8 +5,9 @@ ghost use Rattle.plain.specs.Splits.{NoFeed, with_pending, LeadsTo, FewBefore};
 ghost use Rattle.plain.specs.declared.lines.splitter.TheConstants.{ENOUGH};
 
 use crate::lines::answer::answer_line;
+use crate::lines::line_reader::LineReader;
 use memchr::memchr;
-use objects::{Memory, TreeReader};
+use objects::Memory;
 use plain_store::Plain;
 use std::alloc::Global;
 
@@ -20,7 +21,7 @@ const ENOUGH: usize = 65_536;
 #[derive(Drop)]
 pub(crate) struct Splitter {
     /// Reads each line in the memory of the lines before it. It lies apart, since it is large and a splitter is moved often.
-    pub(crate) reader: Box<TreeReader>,
+    pub(crate) reader: Box<LineReader>,
     /// The beginning of the line whose end has not come yet.
     pub(crate) pending: Vec<u8>,
     /// The replies that are not written yet.

@@ -18,7 +18,7 @@ pub(crate) enum Verb {
 }
 
 impl Verb {
-    fn named(name: &str) -> Option<Verb>
+    pub(crate) fn named(name: &str) -> Option<Verb>
         ensures { result ≡ verb_named name.now }
     {
         if name == "create" {

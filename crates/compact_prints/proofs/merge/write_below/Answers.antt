@@ -1,8 +1,13 @@
 use Rattle.std.proofs.Common.{sym, ◌∙◌, ap}
 use Rattle.std.specs.Ordering.{nat_cmp}
 use Rattle.std.specs.Cmp.Lexicographic.{slice_cmp}
-use Rattle.compact_prints.proofs.Merging.{above_start, below_none, below_stop, going_on}
+use Rattle.compact_prints.proofs.Merging.{above_start, below_none, below_stop, going_begins, going_on}
 use Rattle.compact_prints.proofs.merge.write_below.Goals as goal
+
+pub members-init : goal.members-init
+members-init c = record {
+  going = λ ms ascending is are. going_begins _ _ ms _ _ _ ascending is are;
+}
 
 pub returns-in-Less : goal.returns-in-Less
 returns-in-Less c ms ascending is are =

@@ -1,5 +1,10 @@
-use Rattle.compact_prints.proofs.Merging.{above_none, all_written, going_on}
+use Rattle.compact_prints.proofs.Merging.{above_none, all_written, going_begins, going_on}
 use Rattle.compact_prints.proofs.merge.write_rest.Goals as goal
+
+pub members-init : goal.members-init
+members-init c = record {
+  going = λ ms ascending is are. going_begins _ _ ms _ _ _ ascending is are;
+}
 
 pub members-preserved : goal.members-preserved
 members-preserved c = record {

@@ -1,11 +1,10 @@
-use Rattle.std.proofs.Common.{decimal, ap, ◌∙◌}
+use Rattle.std.proofs.Common.{ap, ◌∙◌}
 use Rattle.std.specs.Prelude.{option_map}
 use Rattle.serde_json.specs.Data.{number, unsigned, string}
 use Rattle.objects.specs.Key.{KeyParts}
 use Rattle.objects.specs.Meta.{MetaParts}
 use Rattle.objects.specs.Text.{unless_zero}
-use Rattle.objects.specs.Uid.{uid_text}
-use Rattle.compact_prints.proofs.Maps.{metadata_written}
+use Rattle.compact_prints.proofs.Maps.{members_written}
 use Rattle.compact_prints.proofs.metadata.write_members.Goals as goal
 
 pub returns : goal.returns
@@ -15,12 +14,9 @@ returns c ms ascending is =
     let s2 = c.in_ok-generated.ensures s1.rest s1.ascending s1.left_is s1.entries_are in
     let s3 = c.in_ok-named.ensures s2.rest s2.ascending s2.left_is s2.entries_are in
     let s4 = c.in_ok-spaced.ensures s3.rest s3.ascending s3.left_is s3.entries_are in
-    let s5 = c.in_ok-versioned.ensures s4.rest s4.ascending s4.left_is s4.entries_are in
-    let s6 = c.in_ok-known.ensures s5.rest s5.ascending s5.left_is s5.entries_are in
-    metadata_written c.args.key.now c.args.meta.now ms _ _ _ _ _ _ _ _ _ _ _ _ _ _ _ _ _ _ _ _ _ _ _ _ _ _
+    let w = c.in_ok-rest.ensures s4.rest s4.ascending s4.left_is s4.entries_are in
+    members_written c.args.key.now c.args.meta.now ms _ _ _ _ _ _ _ _ _ _ _ _ _ _ _ _ _ _ _ _ _
     (c.held_text-deletion.ensures ∙ ap (option_map string) (c.as_ref.ensures.value ∙ ap (λ (m : MetaParts). m.deletion) c.meta.view_is))
     (c.held_number-generation.ensures ∙ ap (λ (m : MetaParts). unless_zero m.generation (number (unsigned m.generation))) c.meta.view_is)
     (ap string (c.as_str.ensures ∙ ap (λ (k : KeyParts). k.name) c.key.view_is)) (ap string (c.as_str-2.ensures ∙ ap (λ (k : KeyParts). k.namespace) c.key.view_is))
-    (c.held_version-version.ensures ∙ ap (λ (m : MetaParts). unless_zero m.revision (string (decimal m.revision))) c.meta.view_is)
-    (c.held_uid-uid.ensures ∙ ap (λ (m : MetaParts). unless_zero m.uid (string (uid_text m.uid))) c.meta.view_is)
-    s1 s2 s3 s4 s5 s6 (c.in_ok-write_rest.ensures s6.rest s6.ascending s6.left_is s6.entries_are)
+    s1 s2 s3 s4 w c.in_ok-extend_from_slice.ensures.items

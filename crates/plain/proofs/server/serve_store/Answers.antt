@@ -1,5 +1,5 @@
 use Rattle.std.proofs.Common.{ap, arith, take, length-take, ◌∙◌}
-use Rattle.plain.proofs.Servings.{on_err, Serving-next, Serving-fault, Serving-unread, Serving-ended, Serving-last}
+use Rattle.plain.proofs.Servings.{on_err, Serving-all, Serving-next, Serving-fault, Serving-unread, Serving-ended, Serving-last}
 use Rattle.plain.proofs.server.serve_store.Goals as goal
 
 pub returns-in_default-clause-fault : goal.returns-in_default-clause-fault
@@ -22,6 +22,11 @@ reads-preserved g c = record {
   reads = c.in-Some.ensures.well ∙ c.reads.invariant.reads;
   writes = c.in_ok-splitter.ensures.writes ∙ c.reads.invariant.writes;
 }
+
+pub returns-clause-text : goal.returns-clause-text
+returns-clause-text g c =
+    Serving-all c.answer_rest.result _ _ _ _ _ _ _ _ _ c.reads.invariant.serving
+    (c.in-Some.ensures.ended c.if-count-eq0.true (omega (arith, c.requires, c.reads.auto.room))) c.answer_rest.ensures.text
 
 pub returns-clause-fault : goal.returns-clause-fault
 returns-clause-fault g c =

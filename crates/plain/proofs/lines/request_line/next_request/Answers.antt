@@ -4,7 +4,7 @@ use Rattle.plain.proofs.lines.request_line.next_request.Goals as goal
 
 pub returns-in_err-value : goal.returns-in_err-value
 returns-in_err-value c =
-    let p = err_from_is_err_and c.from_residual-in_err-value.result c.from_residual-in_err-value.ensures.1 in
+    let p = err_from_is_err_and c.from_residual.result c.from_residual.ensures.1 in
     line_refused c.args.line.now _ p.0 _ p.1 p.2 c.in_err-value.ensures
 
 pub returns : goal.returns

@@ -1,0 +1,145 @@
+// An object, written with the seams of its text.
+ghost use Rattle.std.specs.Prelude.{◌≡◌, ◌-◌, ◌++◌, [], IfOk, IfSome, IsTrue, OnOk};
+ghost use Rattle.serde_json.specs.Data.{Members};
+ghost use Rattle.trees.specs.Tree.{AreAscending};
+ghost use Rattle.compact.specs.Fields.{IsLeft};
+ghost use Rattle.compact.specs.Notes.{AreEntries};
+ghost use Rattle.objects.specs.Seams.{version_text};
+ghost use Rattle.compact_drafts.specs.Maps.{IsMap};
+ghost use Rattle.compact_prints.specs.Seaming.{HasSpecAlone, IsEnd, IsSpecAlone, WritesFront, WritesObject};
+
+use crate::merge::write_below;
+use crate::metadata::{begin_map, write_after_version, write_to_version};
+use crate::part::Part;
+use compact::Fields;
+use compact_drafts::Map;
+use objects::{Key, Memory, Meta};
+use std::alloc::{AllocError, Global};
+
+/// The seams of a text: before its resource version and before its status, in bytes.
+#[derive(Clone, Copy, Drop)]
+pub(crate) struct Seams {
+    pub(crate) version: usize,
+    pub(crate) status: usize,
+    /// How many bytes of the spec end at the status, with the comma before it; none where other members stand there.
+    pub(crate) spec: Option<usize>,
+}
+
+// The members of the metadata behind the resource version, and those of the object behind the metadata.
+#[derive(Clone, Copy, Drop)]
+struct Behind<'t> {
+    versioned: Fields<'t, 't>,
+    others: Fields<'t, 't>,
+}
+
+/// Writes the object, with that end from its status on. None says that a member stands behind the status.
+pub(crate) fn write_object(
+    alloc: Global,
+    object: Map<'_>,
+    metadata: Map<'_>,
+    key: &Key,
+    meta: &Meta,
+    end: &[u8],
+    out: &mut Vec<u8>,
+) -> Result<Option<Seams>, Memory>
+    requires { out.old.items ≡ [] }
+    ensures { (os ms : Members) → IsMap object.entry.text.now object.entry.table.now os → AreAscending os
+        → IsMap metadata.entry.text.now metadata.entry.table.now ms → AreAscending ms
+        → IfOk result (λ found. IfSome found (λ seams. WritesObject key.now meta.now os ms end.now seams.version seams.status seams.spec out.new.items)) }
+{
+    let behind = write_front(alloc, object, metadata, key, meta, out)?;
+    let version = out.len();
+    write_version(meta.revision, out)?;
+    write_after_version(alloc, behind.versioned, meta, out)?;
+    let begin = out.len();
+    let last = write_below(Part::Object, behind.others, "status", out)?;
+    if !ends_there(last) {
+        return Ok(None);
+    }
+    let status = out.len();
+    out.extend_from_slice(end)?;
+    let spec = spec_between(behind.others, begin, status);
+    Ok(Some(Seams {
+        version,
+        status,
+        spec,
+    }))
+}
+
+// Writes the object up to its resource version.
+fn write_front<'t>(
+    alloc: Global,
+    object: Map<'t>,
+    metadata: Map<'t>,
+    key: &Key,
+    meta: &Meta,
+    out: &mut Vec<u8>,
+) -> Result<Behind<'t>, Memory>
+    requires { out.old.items ≡ [] }
+    ensures { (os ms : Members) → IsMap object.entry.text.now object.entry.table.now os → AreAscending os
+        → IsMap metadata.entry.text.now metadata.entry.table.now ms → AreAscending ms
+        → IfOk result (λ behind. WritesFront key.now meta.now os ms behind.versioned.left.now behind.versioned.entries.now behind.others.left.now behind.others.entries.now out.new.items) }
+{
+    let fields = object.table.fields(object.text);
+    let others = write_below(Part::Object, fields, "metadata", out)?;
+    let versioned = write_to_version(alloc, metadata, key, meta, out)?;
+    begin_map(0, out);
+    Ok(Behind { versioned, others })
+}
+
+// Writes a resource version.
+fn write_version(revision: u64, out: &mut Vec<u8>) -> Result<(), AllocError>
+    ensures { OnOk result (out.new.items ≡ out.old.items ++ version_text revision) }
+{
+    let mut buffer = itoa::Buffer::new();
+    out.push(b'"')?;
+    out.extend_from_slice(buffer.format(revision).as_bytes())?;
+    out.push(b'"')?;
+    Ok(())
+}
+
+// Whether no member is left but the status.
+fn ends_there(fields: Fields<'_, '_>) -> bool
+    ensures { (ms : Members) → IsLeft ms fields.entry.left.now → AreEntries fields.entry.entries.now ms → IsTrue result → IsEnd ms }
+{
+    match fields.split_first() {
+        None => true,
+        Some((field, others)) => {
+            field.key == "status".as_bytes() && others.split_first().is_none()
+        }
+    }
+}
+
+// Whether no member is left but the spec and the status.
+fn is_spec_alone(fields: Fields<'_, '_>) -> bool
+    ensures { (ms : Members) → IsLeft ms fields.entry.left.now → AreEntries fields.entry.entries.now ms → IsTrue result → IsSpecAlone ms }
+{
+    match fields.split_first() {
+        None => true,
+        Some((field, others)) => {
+            (field.key == "spec".as_bytes() && ends_there(others)) || ends_there(fields)
+        }
+    }
+}
+
+// Whether no member stands behind the metadata but the spec and the status.
+fn has_spec_alone(fields: Fields<'_, '_>) -> bool
+    ensures { (ms : Members) → IsLeft ms fields.entry.left.now → AreEntries fields.entry.entries.now ms → IsTrue result → HasSpecAlone ms }
+{
+    match fields.split_first() {
+        None => false,
+        Some((field, others)) => field.key == "metadata".as_bytes() && is_spec_alone(others),
+    }
+}
+
+// How many bytes the spec takes, if no other member stands between those places.
+fn spec_between(fields: Fields<'_, '_>, begin: usize, status: usize) -> Option<usize>
+    ensures { (ms : Members) → IsLeft ms fields.entry.left.now → AreEntries fields.entry.entries.now ms
+        → IfSome result (λ size. (size ≡ status - begin) × HasSpecAlone ms) }
+{
+    if has_spec_alone(fields) {
+        Some(status.saturating_sub(begin))
+    } else {
+        None
+    }
+}

@@ -1,0 +1,4 @@
+-- ---- what public clauses cite
+pub mod Told
+-- ---- what only proofs use
+pub mod Writes

@@ -1,0 +1,98 @@
+-- A write that is taken with no tree of its line is answered as its request.
+use Rattle.std.proofs.Common.{◌≡◌, ℕ, ◌≤◌, List, length, true, codes, Option, Some, None, Result, Ok, Err, sym, ap, ◌∙◌, subst}
+use Rattle.std.specs.Prelude.{Bool, false, is_ok, IfOk, IfSome, MatchResult}
+use Rattle.std.specs.Str.{IsUtf8, is_utf8}
+use Rattle.std.proofs.lemmas.Str.{is_utf8-from_IsUtf8}
+use Rattle.serde_json.specs.Data.{Data, Members, object as map_of}
+use Rattle.serde_json.specs.Find.{get_member}
+use Rattle.serde_json.specs.Written.{compact_text}
+use Rattle.compact.specs.Notes.{IsLine, OfMembers}
+use Rattle.compact.specs.Reads.{IsTaken}
+use Rattle.compact.specs.declared.tables.Tables.{Tables}
+use Rattle.compact_drafts.specs.Maps.{IsMap}
+use Rattle.compact_drafts.specs.declared.draft.CompactDraft.{CompactDraft}
+use Rattle.compact_prints.specs.Lines.{IsDraftOfLine}
+use Rattle.compact_writes.specs.Told.{IsToldOf}
+use Rattle.objects.specs.Reading.{draft_in, draft_of, most_bytes, reading_of_data}
+use Rattle.objects.specs.declared.object.Draft.{Draft}
+use Rattle.requests.specs.declared.reply.Reply.{Reply}
+use Rattle.requests.specs.declared.request.Request.{Request}
+use Rattle.plain_store.specs.PrintedReplies.{reply_printed}
+use Rattle.plain_store.specs.Store.{Store, step}
+use Rattle.plain_store.specs.declared.printed_reply.PrintedReply.{PrintedReply}
+use Rattle.plain.specs.declared.lines.verb.Verb.{Verb}
+use Rattle.plain.specs.Replies.{reply_data}
+use Rattle.plain.specs.RequestParts.{◌>>=◌, lifted, object_draft}
+use Rattle.plain.specs.Requests.{request_in, request_of}
+use Rattle.plain.specs.Served.{answer, answered}
+use Rattle.plain.specs.Verbs.{request_by, verb_in}
+use Rattle.plain.proofs.Readings.{IsMadeOf, part_read}
+
+weaker : {A E : Type 0} (P Q : A → Type 0) (r : Result (Option A) E) → ((x : A) → P x → Q x) → IfOk r (λ f. IfSome f P) → IfOk r (λ f. IfSome f Q)
+weaker P Q (Err e) then h = tt
+weaker P Q (Ok None) then h = tt
+weaker P Q (Ok (Some x)) then h = then x h
+
+-- the reply is that of the request which the verb makes of the members
+abbrev pub IsTakenBy : Verb → Members → (old new : Store) → PrintedReply → Type 0
+IsTakenBy v ms old new printed = (r : Request) × (request_by v ms ≡ Ok r) × ((new, reply_printed printed) ≡ step old r)
+
+pub taken_by : {E : Type 0} (v w : Verb) (ms : Members) (d : Draft) (make : Draft → Request) (old new : Store) (result : Result (Option PrintedReply) E)
+    → IsMadeOf w ms (object_draft (get_member (codes "object") ms)) make → v ≡ w → object_draft (get_member (codes "object") ms) ≡ Ok d
+    → IfOk result (λ found. IfSome found (λ printed. (new, reply_printed printed) ≡ step old (make d))) → IfOk result (λ found. IfSome found (IsTakenBy v ms old new))
+taken_by v w ms d make old new result made is drafted took = weaker _ _ result (λ printed same. (make d, part_read v w ms _ make d made is drafted, same)) took
+
+-- ---- the line
+
+-- the draft of a line is told of what its object reads as
+pub told : (c : CompactDraft) (line : List ℕ) → IsDraftOfLine c line → (d : Draft) × IsToldOf c d
+told c line d = (
+  d.draft.read_as.draft,
+  record {
+    members = d.object;
+    draft = d.draft;
+    canonical = d.canonical;
+    integral = d.integral;
+    reads = d.draft.read_as.reads;
+  },
+)
+
+drafted : (ms os : Members) (d : Draft) → get_member (codes "object") ms ≡ Some (map_of os) → draft_in os ≡ Ok d → object_draft (get_member (codes "object") ms) ≡ Ok d
+unfolding draft_of
+drafted ms os d found reads = ap object_draft found ∙ reads
+
+same_value : (a b : Data) → Some a ≡ Some b → a ≡ b
+same_value a b e = cc
+
+request_is : (line : List ℕ) (ms : Members) (v : Verb) (r : Request) → reading_of_data line ≡ Ok (map_of ms) → verb_in ms ≡ Ok v → request_by v ms ≡ Ok r → request_of line ≡ Ok r
+unfolding request_of request_in
+request_is line ms v r reads named made = ap (λ x. lifted x >>= request_in) reads ∙ ap (λ x. x >>= λ u. request_by u ms) named ∙ made
+
+abbrev pub IsAnswered : List ℕ → (old new : Store) → PrintedReply → Type 0
+IsAnswered line old new printed = answer old line ≡ (new, compact_text (reply_data (reply_printed printed)))
+
+answer_is : (line : List ℕ) (old new : Store) (r : Request) (printed : PrintedReply) → request_of line ≡ Ok r → (new, reply_printed printed) ≡ step old r → IsAnswered line old new printed
+answer_is line old new r printed read took = ap (answered old) read ∙ ap (λ (p : Store × Reply). (p.0, compact_text (reply_data p.1))) (sym took)
+
+pub taken_as : (line a b : List ℕ) (s t : Tables) → IsTaken line a s → b ≡ a → t ≡ s → IsTaken line b t
+taken_as line a b s t taken text tables = subst (λ x. IsTaken line x t) (sym text) (subst (IsTaken line a) (sym tables) taken)
+
+-- ---- a text
+
+pub text_told : {A E : Type 0} (bytes : List ℕ) (P : A → Type 0) (Q : E → Type 0) (r : Result A E) (b : Bool) → MatchResult r (λ s. P s × IsUtf8 bytes) Q → b ≡ is_ok r → b ≡ true → is_utf8 bytes ≡ true
+text_told bytes P Q (Ok x) b h is good = is_utf8-from_IsUtf8 bytes h.1
+text_told bytes P Q (Err e) b h is good = absurd (let bad : false ≡ true = sym is ∙ good in cc)
+
+-- ---- the reply
+
+pub answered_by : {E : Type 0} (line text : List ℕ) (tables : Tables) (c : CompactDraft) (v : Verb) (old new : Store) (result : Result (Option PrintedReply) E)
+    → IsTaken line text tables → IsDraftOfLine c line → length line ≤ most_bytes → is_utf8 line ≡ true → ((ms : Members) → IsMap text tables.line ms → verb_in ms ≡ Ok v)
+    → ((ms : Members) (o : Draft) → object_draft (get_member (codes "object") ms) ≡ Ok o → IsToldOf c o → IfOk result (λ found. IfSome found (IsTakenBy v ms old new)))
+    → IfOk result (λ found. IfSome found (IsAnswered line old new))
+unfolding told
+answered_by line text tables c v old new result t d short valid named took =
+    let same = same_value t.found (map_of d.members) (sym t.reads ∙ d.reads) in
+    let noted = subst (OfMembers (IsLine tables)) same t.noted in
+    let verb = named d.members (t.now ∙ ap compact_text same, noted.0) in
+    weaker _ _ result (λ printed p. answer_is line old new p.0 printed (request_is line d.members v p.0 (d.reading short valid) verb p.1) p.2)
+    (took d.members (told c line d).0 (drafted d.members d.object _ d.found d.draft.read_as.reads) (told c line d).1)
