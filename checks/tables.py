@@ -81,11 +81,12 @@ def option_faults():
 
 
 def help_faults():
-    """The input that the help on a word shows: some example is answered over it."""
+    """The inputs that the help on a word shows, each a part of it: some example is answered over each."""
     for word in re.findall(r"\n  (\w+)  ", said_to("--help")[1].decode()):
-        lines = [line for line in said_to(f"{word} --help")[1].splitlines() if line.startswith(b"{")]
-        if lines and not any(one.stdin.splitlines() == lines and one.asked[0][0] == word and one.said[0] == 0 for one in SHOWN):
-            yield f"examples/words: no example has the input that the help on {word} shows"
+        for part in said_to(f"{word} --help")[1].split(b"\n\n"):
+            lines = [line for line in part.splitlines() if line.startswith(b"{")]
+            if lines and not any(one.stdin.splitlines() == lines and one.asked[0][0] == word and one.said[0] == 0 for one in SHOWN):
+                yield f"examples/words: no example has an input that the help on {word} shows"
 
 
 def status_faults(program):

@@ -16,3 +16,4 @@ pub use printing::cluster_text;
 pub use refused::refused_cluster_line;
 pub use request_line::write_request;
 pub use script::{ClusterScript, read_cluster_script};
+pub use set::set_of;

@@ -38,7 +38,13 @@ fn sets_of(alloc: Global, items: &[Tree]) -> Result<Vec<SetSpec>, ScriptError>
     Ok(sets)
 }
 
-fn set_of(alloc: Global, value: &Tree) -> Result<SetSpec, ScriptError>
+/// The set that a value is, `{"digits":H,"moment":T,"name":N,"namespace":S}` as
+/// [`read_cluster_script`](crate::read_cluster_script) says it.
+///
+/// # Errors
+///
+/// `BadScript` where it is none.
+pub fn set_of(alloc: Global, value: &Tree) -> Result<SetSpec, ScriptError>
     ensures { Reads set_parts result (set_of (data_of value.now)) }
 {
     match value.as_map() {

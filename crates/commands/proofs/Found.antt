@@ -13,19 +13,18 @@ use Rattle.interleavings.specs.World.{changed}
 use Rattle.outcomes.specs.Found.{AreNext, IsOutcome}
 use Rattle.outcomes.specs.declared.litmus.Ask.{Ask}
 use Rattle.outcomes.specs.declared.outcome.Outcome.{Outcome}
-use Rattle.commands.specs.Finding.{AreOutcomes, IsFindingRefusal, IsOutcomesRefusal, IsOutcomesRefusedBy, IsOutcomesText}
+use Rattle.commands.specs.Finding.{AreOutcomes, IsFindingRefusal, IsLitmusRefusal}
 use Rattle.commands.specs.Replaying.{script_refusal}
-use Rattle.commands.specs.declared.words.OutcomesWords.{OutcomesWords}
 
 -- a text that is no litmus test is refused by that name
 pub refused_litmus : (error : ScriptError) (choice : Option ℕ) (name : Option (List ℕ)) (input : List ℕ) → name ≡ script_refusal error
-    → Fails error (litmus_of input) → IfSome name (IsOutcomesRefusal choice input)
-refused_litmus BadScript choice name input is fails = subst (λ o. IfSome o (IsOutcomesRefusal choice input)) (sym is) (inl (fails, refl))
-refused_litmus Memory choice name input is fails = subst (λ o. IfSome o (IsOutcomesRefusal choice input)) (sym is) tt
+    → Fails error (litmus_of input) → IfSome name (IsLitmusRefusal choice input)
+refused_litmus BadScript choice name input is fails = subst (λ o. IfSome o (IsLitmusRefusal choice input)) (sym is) (inl (fails, refl))
+refused_litmus Memory choice name input is fails = subst (λ o. IfSome o (IsLitmusRefusal choice input)) (sym is) tt
 
 -- what is refused is the litmus test that the input is
 pub refused_finding : (name : Option (List ℕ)) (choice : Option ℕ) (input : List ℕ) (litmus : Litmus) → litmus_of input ≡ Some (parts_of litmus)
-    → IfSome name (IsFindingRefusal choice litmus) → IfSome name (IsOutcomesRefusal choice input)
+    → IfSome name (IsFindingRefusal choice litmus) → IfSome name (IsLitmusRefusal choice input)
 refused_finding None choice input litmus is refused = tt
 refused_finding (Some name) choice input litmus is refused = inr (litmus, is, refused)
 

@@ -1,6 +1,7 @@
 pub mod Inputs
 pub mod Asked
 pub mod Clustered
+pub mod Ended
 pub mod Found
 pub mod Grammars
 pub mod Halted

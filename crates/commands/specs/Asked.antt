@@ -15,9 +15,10 @@ use Rattle.race_log.specs.Limits.{is_race}
 abbrev pub IsScriptBy : (text : Text → Option Text) → ScriptWords → Type 0
 IsScriptBy text script = IsFormBy text script.form × IsFlagBy (text (codes "where")) script.place
 
--- which outcome's script is asked for, and whether outcomes are told in words
+-- which outcome's script is asked for, whether outcomes are told in words, and whether they are those of controllers
 abbrev pub IsSoughtBy : (text : Text → Option Text) → OutcomesWords → Type 0
 IsSoughtBy text sought = IsChoiceBy (text (codes "script")) sought.choice × IsFlagBy (text (codes "brief")) sought.brief
+    × IsFlagBy (text (codes "final")) sought.finals
 
 -- what the words after `plan` say
 abbrev pub IsPlanAsked : List Text → PlanWords → Type 0

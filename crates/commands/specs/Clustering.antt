@@ -2,9 +2,8 @@
 use Rattle.std.specs.Prelude.{◌≡◌, ◌⊎◌, Bool, ℕ, List, [], length, Option, Some, None, codes}
 use Rattle.std.specs.Option.{IfSome}
 use Rattle.cluster_runs.specs.Cluster.{Cluster}
-use Rattle.cluster_runs.specs.declared.event.ClusterEvent.{ClusterEvent}
 use Rattle.cluster_runs.specs.Ran.{IsClusterRun, cluster_after, owner_in}
-use Rattle.cluster_runs.specs.Turns.{ends_of_turns, events_of_turns}
+use Rattle.cluster_runs.specs.Turns.{ends_of_turns}
 use Rattle.cluster_runs.specs.declared.fault.ClusterFault.{ClusterFault}
 use Rattle.cluster_runs.specs.declared.fault.ClusterFault.TheVariants as errors
 use Rattle.cluster_runs.specs.declared.run.ClusterRun.{ClusterRun}
@@ -22,6 +21,7 @@ use Rattle.refused_plans.specs.declared.refused_plan.RefusedPlan.{RefusedPlan}
 use Rattle.stories.specs.Story.{story_text}
 use Rattle.traces.specs.Traced.{trace_by_lines_text}
 use Rattle.cluster_scripts.specs.Refusals.{refused_line_of}
+pub use Rattle.outcome_lines.specs.StoreScripts.{events_by}
 use Rattle.commands.specs.Halts.{IsRefusedIn, refused_as, told_line}
 use Rattle.commands.specs.Forms.{IsFormBy, WritesBy}
 use Rattle.commands.specs.Grammar.{flag_text}
@@ -29,10 +29,6 @@ use Rattle.commands.specs.Replaying.{IsSizeRefusal}
 use Rattle.commands.specs.Roles.{role_by}
 use Rattle.commands.specs.declared.form.Form.{Form}
 use Rattle.commands.specs.declared.form.Form.TheVariants.{Lines, Picture, Trace, Writes}
-
--- the events that its turns stand for
-abbrev pub events_by : ClusterScript → List ClusterEvent
-events_by script = events_of_turns (size_of script.spec) (length script.spec.sets.items) (reconciler_named script.spec.sets.items) (namespaces_of script.spec.sets.items) script.turns.items
 
 -- the cluster of the script, after its events
 abbrev pub cluster_by : ClusterScript → Cluster

@@ -15,11 +15,11 @@ use Rattle.outcomes.specs.declared.litmus.Litmus.{Litmus}
 use Rattle.outcomes.specs.declared.outcome.Outcome.{Outcome}
 use Rattle.outcomes.specs.declared.outcome.OutcomesError.{OutcomesError}
 use Rattle.outcomes.specs.declared.outcome.OutcomesError.TheVariants as finding
-use Rattle.plain_store.specs.Reached.{most_revisions}
 use Rattle.requests.specs.declared.reply.Reply.{Reply}
 use Rattle.commands.specs.Halts.{IsRefusedIn}
 use Rattle.commands.specs.Forms.{WritesBy}
 use Rattle.commands.specs.Asked.{IsSoughtBy}
+use Rattle.commands.specs.Ending.{IsBadCapacity, IsStoresRefusal, IsStoresText}
 use Rattle.commands.specs.Grammar.{outcomes_text}
 use Rattle.commands.specs.declared.words.OutcomesWords.{OutcomesWords}
 
@@ -56,10 +56,18 @@ abbrev pub IsFoundText : OutcomesWords → Litmus → (text : List ℕ) → Type
 IsFoundText sought litmus text = (found : List Outcome) × AreOutcomes litmus found × IsChosenText sought litmus found text
 
 -- the same of the litmus test that the input is
-abbrev pub IsOutcomesText : OutcomesWords → (input text : List ℕ) → Type 0
-IsOutcomesText sought input text = (litmus : Litmus) × (litmus_of input ≡ Some (parts_of litmus)) × IsFoundText sought litmus text
+abbrev pub IsLitmusText : OutcomesWords → (input text : List ℕ) → Type 0
+IsLitmusText sought input text = (litmus : Litmus) × (litmus_of input ≡ Some (parts_of litmus)) × IsFoundText sought litmus text
 
--- That text was written: all outcomes, in words where that is asked for, or the script that the words ask for.
+-- where the words ask for it, the stores in which the race may end that the input is
+abbrev pub IsTextBy : (finals : Bool) → OutcomesWords → (input text : List ℕ) → Type 0
+IsTextBy true sought input text = IsStoresText sought.choice sought.brief input text
+IsTextBy false sought input text = IsLitmusText sought input text
+
+abbrev pub IsOutcomesText : OutcomesWords → (input text : List ℕ) → Type 0
+IsOutcomesText sought input text = IsTextBy sought.finals sought input text
+
+-- That text was written: all outcomes, in words where that is asked for, or the script that the words ask for, or all stores.
 abbrev pub Finds : (puts : Option (List ℕ) → List ℕ → Option (List ℕ) → Type 0) → List Text → (had left before after : Option (List ℕ)) → Type 0
 Finds puts words had left before after =
     (sought : OutcomesWords) × IsSoughtBy (λ option. outcomes_text option words) sought × WritesBy puts (IsOutcomesText sought) had left before after
@@ -71,22 +79,26 @@ abbrev pub IsChoiceRefusal : (choice : Option ℕ) → List Outcome → (name : 
 IsChoiceRefusal None found name = ⊥
 IsChoiceRefusal (Some number) found name = ((outcome_of number found ≡ None) × (name ≡ codes "NoSuchOutcome")) ⊎ (name ≡ codes "NoScript")
 
-abbrev pub IsBadCapacity : ℕ → Type 0
-IsBadCapacity capacity = 1 ≤ capacity → most_revisions < capacity
-
 -- Nothing is said of when there are too many.
 abbrev pub IsFindingRefusal : (choice : Option ℕ) → Litmus → (name : List ℕ) → Type 0
 IsFindingRefusal choice litmus name = (IsBadCapacity litmus.capacity × (name ≡ codes "BadCapacity"))
     ⊎ ((name ≡ codes "TooManyOutcomes") ⊎ ((found : List Outcome) × AreOutcomes litmus found × IsChoiceRefusal choice found name))
 
 -- The input is refused as BadScript exactly where it is no litmus test.
-abbrev pub IsOutcomesRefusal : (choice : Option ℕ) → (input name : List ℕ) → Type 0
-IsOutcomesRefusal choice input name = ((litmus_of input ≡ None) × (name ≡ codes "BadScript"))
+abbrev pub IsLitmusRefusal : (choice : Option ℕ) → (input name : List ℕ) → Type 0
+IsLitmusRefusal choice input name = ((litmus_of input ≡ None) × (name ≡ codes "BadScript"))
     ⊎ ((litmus : Litmus) × (litmus_of input ≡ Some (parts_of litmus)) × IsFindingRefusal choice litmus name)
 
+abbrev pub IsRefusalBy : (finals : Bool) → OutcomesWords → (input name : List ℕ) → Type 0
+IsRefusalBy true sought input name = IsStoresRefusal sought.choice input name
+IsRefusalBy false sought input name = IsLitmusRefusal sought.choice input name
+
+abbrev pub IsOutcomesRefusal : OutcomesWords → (input name : List ℕ) → Type 0
+IsOutcomesRefusal sought input name = IsRefusalBy sought.finals sought input name
+
 -- All of the reader's bytes were read, and are refused by this name.
-abbrev pub IsOutcomesRefusedBy : (choice : Option ℕ) → Option (List ℕ) → Option (List ℕ) → List ℕ → Type 0
-IsOutcomesRefusedBy choice had left name = IsRefusedIn (IsOutcomesRefusal choice) had left name
+abbrev pub IsOutcomesRefusedBy : OutcomesWords → Option (List ℕ) → Option (List ℕ) → List ℕ → Type 0
+IsOutcomesRefusedBy sought had left name = IsRefusedIn (IsOutcomesRefusal sought) had left name
 
 -- the name of a refusal; want of memory is none
 abbrev pub finding_refusal : OutcomesError → Option (List ℕ)

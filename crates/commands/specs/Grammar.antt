@@ -1,7 +1,7 @@
 -- What the program takes, as `clap` reads it: `serve [--capacity N]`, `replay [--picture] [--writes] [--trace] [--where]`,
 -- `cluster [--picture] [--writes] [--trace] [--where]`, `plan --set NAME [--namespace NS] [--digits H] [--brief] [--where]`,
 -- `race [--controllers N] [--shards N] [--rounds N] [--replicas N] [--operator] [--history]`, and
--- `outcomes [--script K] [--brief]`. `clap` adds help and the version.
+-- `outcomes [--script K] [--brief] [--final]`. `clap` adds help and the version.
 use Rattle.std.specs.Prelude.{◌≡◌, ◌≤◌, ◌<◌, ◌^◌, ℕ, Bool, true, false, List, [], ◌∷◌, Option, Some, None, codes, if◌then◌else◌}
 use Rattle.std.specs.Option.{option_map_or}
 use Rattle.std.specs.Str.{bytes_eq}
@@ -81,7 +81,7 @@ abbrev pub race_app : App
 race_app = with_rule (with_rule sized_app (flag_rule (codes "operator"))) (flag_rule (codes "history"))
 
 abbrev pub outcomes_app : App
-outcomes_app = with_rule (with_rule (new_app (codes "outcomes")) (option_rule (codes "script") (parsers.Unsigned 1 20000))) brief_rule
+outcomes_app = with_rule (with_rule (with_rule (new_app (codes "outcomes")) (option_rule (codes "script") (parsers.Unsigned 1 20000))) brief_rule) (flag_rule (codes "final"))
 
 abbrev pub stsctl_app : App
 stsctl_app = with_subcommand (with_subcommand (with_subcommand (with_subcommand (with_subcommand (with_subcommand

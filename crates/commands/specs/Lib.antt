@@ -1,6 +1,7 @@
 -- ---- what public clauses cite
 pub mod Asked
 pub mod Clustering
+pub mod Ending
 pub mod Finding
 pub mod Forms
 pub mod Grammar

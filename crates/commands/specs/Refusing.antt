@@ -17,4 +17,4 @@ abbrev pub Refuses : List Text → Option (List ℕ) → Option (List ℕ) → (
 Refuses words had left reported = (name : List ℕ) × reported name × (asked words ≡ Replay → (place : Bool) × IsFlagBy (flag_text (codes "replay") (codes "where") words) place × IsRefusedBy place had left name)
     × (asked words ≡ Cluster → (place : Bool) × IsFlagBy (flag_text (codes "cluster") (codes "where") words) place × IsClusterRefusedBy place had left name)
     × (asked words ≡ Plan → (plan : PlanWords) × IsPlanAsked words plan × IsPlanRefusedBy plan had left name)
-    × (asked words ≡ Outcomes → (sought : OutcomesWords) × IsSoughtBy (λ option. outcomes_text option words) sought × IsOutcomesRefusedBy sought.choice had left name)
+    × (asked words ≡ Outcomes → (sought : OutcomesWords) × IsSoughtBy (λ option. outcomes_text option words) sought × IsOutcomesRefusedBy sought had left name)

@@ -1,17 +1,19 @@
 //! `stsctl outcomes`.
 ghost use Rattle.std.specs.Prelude.{◌≡◌, None, Some, false, IfOk, IfErr, IfSome};
 ghost use Rattle.std.specs.Option.{option_copied};
-ghost use Rattle.commands.specs.Finding.{AreOutcomes, IsChosenBy, IsChosenText, IsChoiceRefusal, IsFindingRefusal, IsFoundText, IsOutcomesRefusal, IsOutcomesText, lines_of_all, outcome_of};
+ghost use Rattle.commands.specs.Finding.{AreOutcomes, IsChosenBy, IsChosenText, IsChoiceRefusal, IsFindingRefusal, IsFoundText, IsLitmusRefusal, IsLitmusText, IsOutcomesRefusal, IsOutcomesText, lines_of_all, outcome_of};
 ghost use Rattle.commands.specs.Halts.{is_read, name_of};
 
 use crate::answering::Answer;
+use crate::ending::stores_of_lines;
 use crate::halt::Halt;
 use crate::words::OutcomesWords;
 use outcome_lines::{outcomes_brief_text, outcomes_text, read_litmus, script_text};
 use outcomes::{Litmus, Outcome, outcomes};
 use std::alloc::Global;
 
-/// What the callers of a litmus test can be told, in words where that is asked for, or the script that shows one outcome.
+/// What the callers of a litmus test can be told, in words where that is asked for, or the script that shows one outcome; or the
+/// stores in which a race of controllers may end.
 #[derive(Clone, Copy, Drop)]
 pub(crate) struct Finding {
     pub(crate) sought: OutcomesWords,
@@ -20,17 +22,30 @@ pub(crate) struct Finding {
 impl Answer for Finding {
     ghost is_text = { λ word input text. IsOutcomesText word.sought input text };
 
-    ghost is_refusal = { λ word input name. IsOutcomesRefusal word.sought.choice input name };
+    ghost is_refusal = { λ word input name. IsOutcomesRefusal word.sought input name };
 
     fn answer(&self, alloc: Global, input: &[u8]) -> Result<Vec<u8>, Halt> {
         outcomes_of_lines(alloc, self.sought, input)
     }
 }
 
-/// What is to be written, given the lines of the litmus test.
+/// What is to be written, given all lines.
 fn outcomes_of_lines(alloc: Global, sought: OutcomesWords, input: &[u8]) -> Result<Vec<u8>, Halt>
     ensures found { IfOk result (λ text. IsOutcomesText sought input.now text.items) }
-    ensures refused { IfErr result (λ halt. IfSome (name_of halt) (IsOutcomesRefusal sought.choice input.now)) }
+    ensures refused { IfErr result (λ halt. IfSome (name_of halt) (IsOutcomesRefusal sought input.now)) }
+    ensures read { IfErr result (λ halt. is_read halt ≡ false) }
+{
+    if sought.finals {
+        stores_of_lines(alloc, sought.choice, sought.brief, input)
+    } else {
+        litmus_of_lines(alloc, sought, input)
+    }
+}
+
+/// The same, given the lines of the litmus test.
+fn litmus_of_lines(alloc: Global, sought: OutcomesWords, input: &[u8]) -> Result<Vec<u8>, Halt>
+    ensures found { IfOk result (λ text. IsLitmusText sought input.now text.items) }
+    ensures refused { IfErr result (λ halt. IfSome (name_of halt) (IsLitmusRefusal sought.choice input.now)) }
     ensures read { IfErr result (λ halt. is_read halt ≡ false) }
 {
     let litmus = read_litmus(alloc, input)?;

@@ -94,7 +94,7 @@ Exit status:
 
 More in docs/PLANS.md"#;
 
-/// Of `outcomes`: a litmus test.
+/// Of `outcomes`: a litmus test, and a race of controllers.
 pub(crate) const OUTCOMES_END: &str =
     r#"Whole input, of two callers who race for a name; from a file as `stsctl outcomes < FILE`:
 {"capacity":100}
@@ -102,11 +102,18 @@ pub(crate) const OUTCOMES_END: &str =
 {"caller":2,"request":{"do":"create","object":{"kind":"Pod","metadata":{"name":"a"}}}}
 Either is told Created, and the other AlreadyExists
 
+Whole input of `stsctl outcomes --final < FILE`, of two controllers that make a round each of a set that is new:
+{"capacity":100}
+{"request":{"do":"create","object":{"kind":"StatefulSet","metadata":{"name":"web"},"spec":{"replicas":1,"template":{}}}}}
+{"controller":{"name":"web"},"rounds":1}
+{"controller":{"name":"web"},"rounds":1}
+They leave the set and its revision, or a pod too
+
 Exit status:
   0  all was answered
   1  reading or writing failed, or memory ran out
   2  an unknown command line
-  3  the litmus test is refused; standard error says `refused: NAME`
+  3  the litmus test or the race is refused; standard error says `refused: NAME`
 
 More in docs/LITMUS.md"#;
 

@@ -5,6 +5,7 @@
 mod answering;
 mod cluster;
 mod cluster_roles;
+mod ending;
 mod explain;
 mod finding;
 mod flags;

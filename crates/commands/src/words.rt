@@ -39,11 +39,13 @@ pub(crate) struct ScriptWords {
     pub(crate) place: bool,
 }
 
-/// Which outcome's script is asked for, by its number from 1, and whether outcomes are told in words.
+/// Which outcome's script is asked for, by its number from 1, whether outcomes are told in words, and whether they are the stores
+/// in which a race of controllers may end.
 #[derive(Clone, Copy, Drop)]
 pub(crate) struct OutcomesWords {
     pub(crate) choice: Option<u64>,
     pub(crate) brief: bool,
+    pub(crate) finals: bool,
 }
 
 /// What the words ask for.
@@ -59,14 +61,14 @@ pub(crate) enum Asked<'a> {
     Plan(PlanWords<'a>),
     /// To let controllers race.
     Race(RaceWords),
-    /// To find what racing callers can be told, or the script that shows one such outcome.
+    /// To find what racing callers can be told, or the script that shows one such outcome, or where racing controllers may end.
     Outcomes(OutcomesWords),
 }
 
 /// What the program takes: `serve [--capacity N]`, `replay [--picture] [--writes] [--trace] [--where]`,
 /// `cluster [--picture] [--writes] [--trace] [--where]`, `plan --set NAME [--namespace NS] [--digits H] [--brief] [--where]`,
 /// `race [--controllers N] [--shards N] [--rounds N] [--replicas N] [--operator] [--history]`, and
-/// `outcomes [--script K] [--brief]`, and what `clap` adds for help and the version.
+/// `outcomes [--script K] [--brief] [--final]`, and what `clap` adds for help and the version.
 fn grammar<'a>(alloc: Global) -> Result<Command<'a>, AllocError>
     ensures { IfOk result (λ c. app_of c ≡ stsctl_app) }
 {
@@ -135,18 +137,24 @@ fn outcomes_grammar<'a>(alloc: Global) -> Result<Command<'a>, AllocError>
         "script",
         "K",
         from_1_to_20000(),
-        "Print a script of `replay` that shows the outcome of line K, from 1 to 20000",
+        "Print a script of `replay` (with --final of `cluster`) that shows the outcome of line K, from 1 to 20000",
     );
     let brief = flag_arg(
         alloc,
         "brief",
         "Print outcomes in words instead, without versions and UIDs, those that are then alike as one",
     );
+    let finals = flag_arg(
+        alloc,
+        "final",
+        "Print instead each store in which the controllers on standard input may end",
+    );
     Command::new(alloc, "outcomes")
         .about("Prints all that the callers of the litmus test on standard input can be told")
         .after_help(OUTCOMES_END)
         .arg(script)?
-        .arg(brief)
+        .arg(brief)?
+        .arg(finals)
 }
 
 fn plan_grammar<'a>(alloc: Global) -> Result<Command<'a>, AllocError>
@@ -264,6 +272,7 @@ fn outcomes_words(matches: &ArgMatches<'_>) -> OutcomesWords
     OutcomesWords {
         choice: choice_in(matches),
         brief: flag_in(matches, "brief"),
+        finals: flag_in(matches, "final"),
     }
 }
 

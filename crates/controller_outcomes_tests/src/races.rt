@@ -2,7 +2,7 @@
 //! one makes `web-0`, and then writes the status. So where each makes one round, and both list the revisions before there is
 //! one, the store is left at 2 with no pod; where one comes after the other, at 4 with a pod. An independent model of
 //! controllers and of the store finds these two as well.
-use controller_outcomes::{FinalStore, OutcomesError, Race, final_stores};
+use controller_outcomes::{FinalStore, OutcomesError, Race, Racer, final_stores};
 use controllers::SetSpec;
 use objects::{Kind, Memory, Text};
 use plain::read_request;
@@ -38,11 +38,17 @@ fn beginning(alloc: Global) -> Result<Vec<Request>, Memory> {
     Ok(beginning)
 }
 
-fn sets(alloc: Global) -> Result<Vec<SetSpec>, Memory> {
-    let mut sets = Vec::new(alloc);
-    sets.push(set(alloc)?)?;
-    sets.push(set(alloc)?)?;
-    Ok(sets)
+fn racer(alloc: Global, rounds: u64) -> Result<Racer, Memory> {
+    let set = set(alloc)?;
+    Ok(Racer { set, rounds })
+}
+
+/// Two controllers, which make so many rounds each.
+fn racers(alloc: Global, first: u64, second: u64) -> Result<Vec<Racer>, Memory> {
+    let mut racers = Vec::new(alloc);
+    racers.push(racer(alloc, first)?)?;
+    racers.push(racer(alloc, second)?)?;
+    Ok(racers)
 }
 
 fn looks(alloc: Global) -> Result<Vec<Request>, Memory> {
@@ -54,21 +60,20 @@ fn looks(alloc: Global) -> Result<Vec<Request>, Memory> {
     Ok(looks)
 }
 
-fn race(alloc: Global, rounds: u64) -> Result<Race, Memory> {
+fn race(alloc: Global, first: u64, second: u64) -> Result<Race, Memory> {
     let beginning = beginning(alloc)?;
-    let sets = sets(alloc)?;
+    let racers = racers(alloc, first, second)?;
     let looks = looks(alloc)?;
     Ok(Race {
         capacity: 100,
         beginning,
-        sets,
-        rounds,
+        racers,
         looks,
     })
 }
 
-fn found(alloc: Global, rounds: u64) -> Result<Vec<FinalStore>, OutcomesError> {
-    let race = race(alloc, rounds)?;
+fn found(alloc: Global, first: u64, second: u64) -> Result<Vec<FinalStore>, OutcomesError> {
+    let race = race(alloc, first, second)?;
     let found = final_stores(alloc, &race);
     drop(race);
     found
@@ -93,7 +98,7 @@ fn has(found: &[FinalStore], wanted: (usize, u64)) -> bool {
 
 #[test]
 fn one_round_ends_in_two_stores(rt: HostRuntime) {
-    let found = found(rt.alloc(), 1).expect(&rt, "the search ends");
+    let found = found(rt.alloc(), 1, 1).expect(&rt, "the search ends");
     assert!(rt; found.len() == 2);
     assert!(rt; has(found.as_slice(), (0, 2)));
     assert!(rt; has(found.as_slice(), (1, 4)));
@@ -101,7 +106,14 @@ fn one_round_ends_in_two_stores(rt: HostRuntime) {
 
 #[test]
 fn no_rounds_leave_the_beginning(rt: HostRuntime) {
-    let found = found(rt.alloc(), 0).expect(&rt, "the search ends");
+    let found = found(rt.alloc(), 0, 0).expect(&rt, "the search ends");
     assert!(rt; found.len() == 1);
     assert!(rt; has(found.as_slice(), (0, 1)));
+}
+
+#[test]
+fn one_round_of_one_controller_makes_the_revision(rt: HostRuntime) {
+    let found = found(rt.alloc(), 0, 1).expect(&rt, "the search ends");
+    assert!(rt; found.len() == 1);
+    assert!(rt; has(found.as_slice(), (0, 2)));
 }

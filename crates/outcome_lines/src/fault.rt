@@ -1,16 +1,18 @@
 ghost use Rattle.std.specs.Prelude.{◌≡◌};
 ghost use Rattle.outcome_lines.specs.declared.fault.ScriptingError.TheVariants.{Memory as OutOfMemory};
 ghost use Rattle.outcome_lines.specs.Scripting.{replay_fault, script_fault};
+ghost use Rattle.outcome_lines.specs.StoreScripts.{cluster_fault};
 
+use controllers::ClusterFault;
 use history::ReplayError;
 use replay_lines::ScriptError;
 use std::alloc::{AllocError, AllocFailed};
 use thiserror::Error;
 
-/// Why no script of an outcome is made.
+/// Why no script of an outcome or of a store is made.
 #[derive(Clone, Copy, Debug, PartialEq, Eq, Error)]
 pub enum ScriptingError {
-    /// None was found that shows it, as where a line of it would be too long to be read.
+    /// None was found that shows it or leads there, as where a line of it would be too long to be read.
     #[error("no script was found that shows the outcome")]
     NoScript,
     /// An allocation was refused.
@@ -41,6 +43,19 @@ impl From<ScriptError> for ScriptingError {
         match error {
             ScriptError::BadScript => ScriptingError::NoScript,
             ScriptError::Memory => ScriptingError::Memory,
+        }
+    }
+}
+
+impl From<ClusterFault> for ScriptingError {
+    ghost from_gives = { λ error e. e ≡ cluster_fault error };
+
+    fn from(error: ClusterFault) -> ScriptingError {
+        match error {
+            ClusterFault::BadShards | ClusterFault::BadCapacity | ClusterFault::TooManyCallers => {
+                ScriptingError::NoScript
+            }
+            ClusterFault::Memory => ScriptingError::Memory,
         }
     }
 }

@@ -1,25 +1,40 @@
 //! Lines of `stsctl outcomes`: the litmus test that a text is, its outcomes as text, for a program or for a person, and the
-//! script of `stsctl replay` that shows one of them.
+//! script of `stsctl replay` that shows one of them; and the race of controllers that a text is, the stores in which it may end,
+//! and the script of `stsctl cluster` that leads to one of them.
 #![tactic(auto)]
 
 mod brief;
+mod brief_stores;
 mod brief_words;
 mod calls;
 mod event_line;
 mod fault;
+mod last_told;
 mod laws;
 mod line;
+mod looks;
 mod printing;
+mod race_line;
+mod race_reading;
+mod race_script;
 mod reading;
 mod same;
+mod same_sets;
 mod script;
 mod shown;
 mod stage;
+mod store_objects;
+mod store_script;
+mod stores;
 mod turns;
 
 pub use brief::outcomes_brief_text;
+pub use brief_stores::stores_brief_text;
 pub use fault::ScriptingError;
 pub use laws::{outcomes_are_told_once, what_is_read_happens};
 pub use printing::outcomes_text;
+pub use race_reading::read_race;
 pub use reading::read_litmus;
 pub use script::script_text;
+pub use store_script::store_script_text;
+pub use stores::stores_text;

@@ -29,7 +29,8 @@ pub(crate) fn read_line(
     line_in(alloc, members)
 }
 
-fn line_in(alloc: Global, members: Members) -> Result<Line, ScriptError>
+/// The same, given the members of the line.
+pub(crate) fn line_in(alloc: Global, members: Members) -> Result<Line, ScriptError>
     ensures { Reads (λ said. said) result (line_in members) }
 {
     let Some(crashes) = crash_in(&members) else {

@@ -14,4 +14,6 @@ returns c =
     let top_is : app_of c.after_help.result ≡ new_app (codes "outcomes") = ap app_of_fields c.after_help.ensures ∙ ap app_of_fields c.about.ensures ∙ c.new.ensures.app in
     let one_is = c.in_ok-arg.ensures.shape script.own ∙ ap₂ with_rule top_is script_is in
     let brief = c.flag_arg-brief.ensures in
-    IfOk-weaker c.arg-2.result _ _ (λ r h. h.shape brief.own ∙ ap₂ with_rule one_is brief.rule) c.arg-2.ensures
+    let two_is = c.in_ok-arg-2.ensures.shape brief.own ∙ ap₂ with_rule one_is brief.rule in
+    let finals = c.flag_arg-finals.ensures in
+    IfOk-weaker c.arg-3.result _ _ (λ r h. h.shape finals.own ∙ ap₂ with_rule two_is finals.rule) c.arg-3.ensures

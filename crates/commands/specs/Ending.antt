@@ -1,0 +1,69 @@
+-- What a run of the program that was asked for the stores in which controllers may end has written, and what it refuses.
+use Rattle.std.specs.Prelude.{◌≡◌, ◌≢◌, ◌⊎◌, ◌≤◌, ◌<◌, ℕ, Bool, true, false, zero, suc, List, Option, Some, None, codes, map}
+use Rattle.std.specs.List.{All, AllPairs, Contains, slice_get}
+use Rattle.controller_outcomes.specs.Races.{IsFinal, IsWhole, shown_after}
+use Rattle.controller_outcomes.specs.declared.race.FinalStore.{FinalStore}
+use Rattle.controller_outcomes.specs.declared.race.Race.{Race}
+use Rattle.outcome_lines.specs.Looks.{looks_of}
+use Rattle.outcome_lines.specs.Race.{race_of, race_parts}
+use Rattle.outcome_lines.specs.StoreScripts.{ShowsStore}
+use Rattle.outcome_lines.specs.Stores.{stores_brief_text, stores_text}
+use Rattle.plain_store.specs.Reached.{most_revisions}
+use Rattle.requests.specs.declared.reply.Reply.{Reply}
+
+-- what is looked at in each
+abbrev pub shown_in : List FinalStore → List (List Reply)
+shown_in found = map (λ f. f.shown.items) found
+
+-- Each is where some order leads in which each controller makes its rounds; wherever such an order leads is there; and none is there
+-- twice.
+pub record AreFinals (race : Race) (found : List FinalStore) : Type 0 where
+  pub each : All (IsFinal race) found
+  pub all : (order : List ℕ) → IsWhole race order → Contains (shown_in found) (shown_after race order)
+  pub once : AllPairs (λ x y. x ≢ y) (shown_in found)
+
+-- the lines of all, without versions and UIDs where the words of the command line ask for it
+abbrev pub stores_lines : (brief : Bool) → List FinalStore → List ℕ
+stores_lines true found = stores_brief_text found
+stores_lines false found = stores_text found
+
+-- the store of that number, from 1
+abbrev pub store_of : (number : ℕ) → List FinalStore → Option FinalStore
+store_of zero found = None
+store_of (suc index) found = slice_get found index
+
+-- these lines, or a script that leads to the one that is chosen
+abbrev pub IsChosenStore : (choice : Option ℕ) → (brief : Bool) → Race → List FinalStore → (text : List ℕ) → Type 0
+IsChosenStore None brief race found text = text ≡ stores_lines brief found
+IsChosenStore (Some number) brief race found text = (f : FinalStore) × (store_of number found ≡ Some f) × ShowsStore race f.shown.items text
+
+abbrev pub IsRaceText : (choice : Option ℕ) → (brief : Bool) → Race → (text : List ℕ) → Type 0
+IsRaceText choice brief race text = (found : List FinalStore) × AreFinals race found × IsChosenStore choice brief race found text
+
+-- The race is the one that the input is, and all objects of its namespaces are looked at.
+pub record IsRaceOf (input : List ℕ) (race : Race) : Type 0 where
+  pub read : race_of input ≡ Some (race_parts race)
+  pub looks : race.looks.items ≡ looks_of race.beginning.items race.racers.items
+
+abbrev pub IsStoresText : (choice : Option ℕ) → (brief : Bool) → (input text : List ℕ) → Type 0
+IsStoresText choice brief input text = (race : Race) × IsRaceOf input race × IsRaceText choice brief race text
+
+-- ---- refusals
+
+abbrev pub IsBadCapacity : ℕ → Type 0
+IsBadCapacity capacity = 1 ≤ capacity → most_revisions < capacity
+
+-- there is no store of that number, or no script to it was found
+abbrev pub IsStoreRefusal : (choice : Option ℕ) → List FinalStore → (name : List ℕ) → Type 0
+IsStoreRefusal None found name = ⊥
+IsStoreRefusal (Some number) found name = ((store_of number found ≡ None) × (name ≡ codes "NoSuchOutcome")) ⊎ (name ≡ codes "NoScript")
+
+-- Nothing is said of when there are too many.
+abbrev pub IsRaceRefusal : (choice : Option ℕ) → Race → (name : List ℕ) → Type 0
+IsRaceRefusal choice race name = (IsBadCapacity race.capacity × (name ≡ codes "BadCapacity"))
+    ⊎ ((name ≡ codes "TooManyOutcomes") ⊎ ((found : List FinalStore) × AreFinals race found × IsStoreRefusal choice found name))
+
+-- The input is refused as BadScript exactly where it is no race of controllers.
+abbrev pub IsStoresRefusal : (choice : Option ℕ) → (input name : List ℕ) → Type 0
+IsStoresRefusal choice input name = ((race_of input ≡ None) × (name ≡ codes "BadScript"))
+    ⊎ ((race : Race) × IsRaceOf input race × IsRaceRefusal choice race name)

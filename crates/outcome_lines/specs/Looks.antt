@@ -1,0 +1,43 @@
+-- What is looked at where a race has ended: a list of each kind in each namespace that the race names. Nothing is created elsewhere.
+use Rattle.std.specs.Prelude.{ℕ, List, [], ◌∷◌, ◌++◌, map}
+use Rattle.std.specs.BTreeSet.{insert_key}
+use Rattle.std.specs.Cmp.Lexicographic.{slice_cmp}
+use Rattle.std.specs.Ordering.{nat_cmp}
+use Rattle.objects.specs.declared.kind.Kind.{Kind}
+use Rattle.objects.specs.declared.kind.Kind.TheVariants.{StatefulSet, Pod, PersistentVolumeClaim, ControllerRevision}
+use Rattle.requests.specs.declared.request.Request.{Request}
+use Rattle.requests.specs.declared.request.Request.TheVariants as request
+use Rattle.controller_outcomes.specs.declared.race.Racer.{Racer}
+
+-- ---- namespaces, each once
+
+-- the name goes to its place in byte order, unless it is there
+abbrev pub with_name : (names : List (List ℕ)) → List ℕ → List (List ℕ)
+with_name names name = insert_key (slice_cmp nat_cmp) names name
+
+-- the namespace in which a request creates
+abbrev pub with_created : (names : List (List ℕ)) → Request → List (List ℕ)
+with_created names (request.Create d) = with_name names d.object.key.namespace
+with_created names r = names
+
+abbrev pub namespaces_by : (names : List (List ℕ)) → List Request → List (List ℕ)
+namespaces_by names [] = names
+namespaces_by names (r ∷ requests) = namespaces_by (with_created names r) requests
+
+-- the namespaces of the controllers' sets
+abbrev pub named_by : (names : List (List ℕ)) → List Racer → List (List ℕ)
+named_by names [] = names
+named_by names (r ∷ racers) = named_by (with_name names r.set.namespace) racers
+
+-- ---- lists
+
+-- the newest one
+abbrev pub list_of : Kind → (namespace : List ℕ) → Request
+list_of kind namespace = request.List kind namespace 0
+
+abbrev pub lists_in : (namespaces : List (List ℕ)) → List Request
+lists_in names = ((map (list_of StatefulSet) names ++ map (list_of Pod) names) ++ map (list_of PersistentVolumeClaim) names) ++ map (list_of ControllerRevision) names
+
+-- in the order in which the store keeps what is listed: by kind, then by namespace
+abbrev pub looks_of : (beginning : List Request) → List Racer → List Request
+looks_of beginning racers = lists_in (named_by (namespaces_by [] beginning) racers)

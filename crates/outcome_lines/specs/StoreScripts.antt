@@ -1,0 +1,110 @@
+-- The script of `stsctl cluster` that leads to a store in which a race may end.
+use Rattle.std.specs.Prelude.{◌≡◌, ℕ, Bool, true, false, ◌==◌, ◌&&◌, ◌||◌, bytes_eq, List, [], ◌∷◌, ◌++◌, length, map, Option, Some, None}
+use Rattle.requests.specs.declared.reply.Reply.{Reply}
+use Rattle.requests.specs.declared.request.Request.{Request}
+use Rattle.requests.specs.Same.{same_reply}
+use Rattle.cluster_runs.specs.Ran.{IsClusterRun}
+use Rattle.cluster_runs.specs.Turns.{events_of_turns}
+use Rattle.cluster_runs.specs.declared.event.ClusterEvent.{ClusterEvent}
+use Rattle.cluster_runs.specs.declared.run.ClusterRun.{ClusterRun}
+use Rattle.cluster_runs.specs.declared.turn.Turn.{Turn}
+use Rattle.cluster_runs.specs.declared.turn.Turn.TheVariants as turn
+use Rattle.cluster_runs.specs.declared.fault.ClusterFault.{ClusterFault}
+use Rattle.cluster_runs.specs.declared.fault.ClusterFault.TheVariants as cluster
+use Rattle.cluster_scripts.specs.Scripts.{cluster_script_of, parts_of}
+use Rattle.cluster_scripts.specs.Sets.{set_parts}
+use Rattle.cluster_scripts.specs.declared.script.ClusterScript.{ClusterScript}
+use Rattle.controllers.specs.Cluster.{namespaces_of, reconciler_named, size_of}
+use Rattle.controllers.specs.declared.set_spec.SetSpec.{SetSpec}
+use Rattle.controller_outcomes.specs.Races.{sets_of}
+use Rattle.controller_outcomes.specs.declared.race.Race.{Race}
+use Rattle.controller_outcomes.specs.declared.race.Racer.{Racer}
+use Rattle.outcomes.specs.Outcomes.{Exchange, exchanges_by}
+use Rattle.outcome_lines.specs.Same.{same_request}
+use Rattle.outcome_lines.specs.declared.fault.ScriptingError.{ScriptingError}
+use Rattle.outcome_lines.specs.declared.fault.ScriptingError.TheVariants.{Memory, NoScript}
+
+-- a caller asks the looks, one after another
+abbrev pub asks_of : (caller : ℕ) → (looks : List Request) → List Turn
+asks_of caller looks = map (turn.Ask caller) looks
+
+-- each look is answered so
+abbrev pub answered_by : (looks : List Request) → (shown : List Reply) → List Exchange
+answered_by [] shown = []
+answered_by (l ∷ looks) [] = []
+answered_by (l ∷ looks) (s ∷ shown) = record { request = l; reply = Some s } ∷ answered_by looks shown
+
+-- the events that the turns of the script stand for
+abbrev pub events_by : ClusterScript → List ClusterEvent
+events_by script = events_of_turns (size_of script.spec) (length script.spec.sets.items) (reconciler_named script.spec.sets.items) (namespaces_of script.spec.sets.items) script.turns.items
+
+-- The script is of a store of the race's capacity, and of controllers of its sets. It ends with the looks of a caller, and what that is
+-- told last in its run is what the store shows.
+pub record LeadsTo (race : Race) (shown : List Reply) (script : ClusterScript) : Type 0 where
+  pub capacity : script.spec.capacity ≡ race.capacity
+  pub sets : map set_parts script.spec.sets.items ≡ map set_parts (sets_of race)
+  pub looker : ℕ
+  pub others : List Turn
+  pub last : script.turns.items ≡ others ++ asks_of looker race.looks.items
+  pub found : ClusterRun
+  pub run : IsClusterRun (size_of script.spec) (length script.spec.sets.items) (reconciler_named script.spec.sets.items) (events_by script) found
+  pub before : List Exchange
+  pub told : exchanges_by looker found.run.trace.items.items ≡ before ++ answered_by race.looks.items shown
+  pub many : length race.looks.items ≡ length shown
+
+-- so does the script that the text is
+pub record ShowsStore (race : Race) (shown : List Reply) (text : List ℕ) : Type 0 where
+  pub script : ClusterScript
+  pub read : cluster_script_of text ≡ Some (parts_of script)
+  pub leads : LeadsTo race shown script
+
+-- ---- for private clauses: the same as it is tested
+
+abbrev pub same_set : SetSpec → SetSpec → Bool
+same_set s t = bytes_eq s.namespace t.namespace && bytes_eq s.name t.name && s.digits == t.digits && bytes_eq s.moment t.moment
+
+abbrev pub are_sets_of : List Racer → List SetSpec → Bool
+are_sets_of [] [] = true
+are_sets_of (r ∷ racers) (s ∷ sets) = same_set r.set s && are_sets_of racers sets
+are_sets_of racers sets = false
+
+abbrev pub is_look : (caller : ℕ) → (look : Request) → Turn → Bool
+is_look c look (turn.Ask caller request) = caller == c && same_request request look
+is_look c look other = false
+
+abbrev pub are_looks : (caller : ℕ) → (looks : List Request) → List Turn → Bool
+are_looks c [] [] = true
+are_looks c (l ∷ looks) (t ∷ turns) = is_look c l t && are_looks c looks turns
+are_looks c looks turns = false
+
+abbrev pub is_none : List Request → Bool
+is_none [] = true
+is_none (r ∷ requests) = false
+
+abbrev pub ends_with_looks : (caller : ℕ) → (looks : List Request) → List Turn → Bool
+ends_with_looks c looks [] = is_none looks
+ends_with_looks c looks (t ∷ turns) = are_looks c looks (t ∷ turns) || ends_with_looks c looks turns
+
+abbrev pub is_told : Option Reply → Reply → Bool
+is_told None s = false
+is_told (Some y) s = same_reply y s
+
+abbrev pub is_told_just : List Exchange → (looks : List Request) → (shown : List Reply) → Bool
+is_told_just [] [] [] = true
+is_told_just (x ∷ xs) (l ∷ looks) (s ∷ shown) = is_told x.reply s && same_request x.request l && is_told_just xs looks shown
+is_told_just xs looks shown = false
+
+abbrev pub is_told_last : (beginning : List Request) → List Exchange → (looks : List Request) → (shown : List Reply) → Bool
+is_told_last [] xs looks shown = is_told_just xs looks shown
+is_told_last (r ∷ rs) [] looks shown = false
+is_told_last (r ∷ rs) (x ∷ xs) looks shown = is_told_last rs xs looks shown
+
+abbrev pub is_of_race : Race → (looker : ℕ) → ClusterScript → Bool
+is_of_race race looker script = script.spec.capacity == race.capacity && are_sets_of race.racers.items script.spec.sets.items
+    && ends_with_looks looker race.looks.items script.turns.items
+
+abbrev pub cluster_fault : ClusterFault → ScriptingError
+cluster_fault cluster.BadShards = NoScript
+cluster_fault cluster.BadCapacity = NoScript
+cluster_fault cluster.TooManyCallers = NoScript
+cluster_fault cluster.Memory = Memory

@@ -1,0 +1,80 @@
+// What a line of a race of controllers is, behind the first.
+ghost use Rattle.std.specs.Prelude.{◌≡◌};
+ghost use Rattle.outcome_lines.specs.Race.{begun_by, begun_in, line_parts, race_line_in, race_line_of, racer_in, racer_parts};
+ghost use Rattle.replay_lines.specs.Events.{Reads};
+
+use crate::line::{Line, line_in};
+use cluster_scripts::set_of;
+use controller_outcomes::Racer;
+use objects::{Members, TreeReader};
+use plain::Request;
+use replay_lines::{ScriptError, count_in, read_members};
+use std::alloc::Global;
+
+/// A request before anybody races, or a controller that races.
+#[derive(Drop)]
+pub(crate) enum RaceLine {
+    Before(Request),
+    Controller(Racer),
+}
+
+/// The request or the controller that a line is.
+#[tactic(auto, using(replay_lines::proofs::Readings::fails_bind), unfolding(crate::specs::Race::race_line_of))]
+pub(crate) fn read_race_line(
+    alloc: Global,
+    reader: &mut TreeReader,
+    line: &[u8],
+) -> Result<RaceLine, ScriptError>
+    ensures { Reads line_parts result (race_line_of line.now) }
+{
+    let members = read_members(reader, line)?;
+    race_line_in(alloc, members)
+}
+
+#[tactic(auto, using(replay_lines::proofs::Readings::fails_bind))]
+fn race_line_in(alloc: Global, members: Members) -> Result<RaceLine, ScriptError>
+    ensures { Reads line_parts result (race_line_in members) }
+{
+    if members.get("controller").is_some() {
+        Ok(RaceLine::Controller(racer_in(alloc, &members)?))
+    } else {
+        begun_in(alloc, members)
+    }
+}
+
+/// The controller that a line names, and its rounds.
+#[tactic(auto, using(replay_lines::proofs::Readings::fails_bind))]
+fn racer_in(alloc: Global, members: &Members) -> Result<Racer, ScriptError>
+    ensures { Reads racer_parts result (racer_in members.now) }
+{
+    let Some(rounds) = count_in(members, "rounds") else {
+        return Err(ScriptError::BadScript);
+    };
+    let Some(controller) = members.get("controller") else {
+        return Err(ScriptError::BadScript);
+    };
+    let set = set_of(alloc, controller)?;
+    Ok(Racer { set, rounds })
+}
+
+/// A request of the beginning, as a line of a litmus test says it.
+#[tactic(auto, using(replay_lines::proofs::Readings::fails_bind))]
+fn begun_in(alloc: Global, members: Members) -> Result<RaceLine, ScriptError>
+    ensures { Reads line_parts result (begun_in members) }
+{
+    let line = line_in(alloc, members)?;
+    begun_by(line)
+}
+
+/// Nobody races but controllers.
+fn begun_by(line: Line) -> Result<RaceLine, ScriptError>
+    ensures { Reads line_parts result (begun_by line) }
+{
+    match line {
+        Line::Before(request) => Ok(RaceLine::Before(request)),
+        Line::Race(ask) => {
+            drop(ask);
+            Err(ScriptError::BadScript)
+        }
+    }
+}

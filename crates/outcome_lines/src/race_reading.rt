@@ -1,0 +1,132 @@
+ghost use Rattle.std.specs.Prelude.{◌≡◌, IfOk, Some, map};
+ghost use Rattle.plain.specs.Lines.{lines};
+ghost use Rattle.outcome_lines.specs.Looks.{looks_of};
+ghost use Rattle.outcome_lines.specs.Race.{line_parts, race_of, race_opened, race_parts, racer_parts, with_begun, with_race_line, with_race_lines};
+ghost use Rattle.outcome_lines.specs.declared.race_line.RaceLine.TheVariants.{Controller};
+ghost use Rattle.replay_lines.specs.Events.{Reads};
+
+use crate::looks::looks_of;
+use crate::race_line::{RaceLine, read_race_line};
+use controller_outcomes::{Race, Racer};
+use objects::TreeReader;
+use plain::{Request, split_line};
+use replay_lines::{ScriptError, count_in, read_members};
+use std::alloc::Global;
+
+/// The race of controllers that a text is. Its first line is `{"capacity":C}`. Then come lines `{"request":L}`, requests that are
+/// taken in turn before anybody races, L as a request line of `serve`; and then lines `{"controller":S,"rounds":N}`, a
+/// controller of the set S, as a script of `stsctl cluster` names it, which makes N rounds. Other members are passed over, and of
+/// members of one name the last counts. C and N are whole numbers below 2^64; neither is bounded here. What is looked at in the
+/// end is a list of each kind in each namespace that these lines name.
+///
+/// # Errors
+///
+/// `BadScript` where a line is none of these, also one that is cut off or empty, or one of a caller, or where there is no line.
+#[tactic(auto, using(replay_lines::proofs::Readings::fails_bind), unfolding(crate::specs::Race::race_of))]
+pub fn read_race(alloc: Global, text: &[u8]) -> Result<Race, ScriptError>
+    ensures read { Reads race_parts result (race_of text.now) }
+    ensures looks { IfOk result (λ race. race.looks.items ≡ looks_of race.beginning.items race.racers.items) }
+{
+    let Some(cut) = split_line(text) else {
+        return Err(ScriptError::BadScript);
+    };
+    let (first, rest) = cut;
+    let mut reader = TreeReader::new(alloc);
+    let opened = read_race_opening(alloc, &mut reader, first)?;
+    let race = read_race_lines(alloc, &mut reader, rest, opened)?;
+    with_looks(alloc, race)
+}
+
+/// The race of the first line alone.
+#[tactic(auto, using(replay_lines::proofs::Readings::fails_bind))]
+fn read_race_opening(
+    alloc: Global,
+    reader: &mut TreeReader,
+    line: &[u8],
+) -> Result<Race, ScriptError>
+    ensures { Reads race_parts result (race_opened line.now) }
+{
+    let members = read_members(reader, line)?;
+    let Some(capacity) = count_in(&members, "capacity") else {
+        return Err(ScriptError::BadScript);
+    };
+    Ok(Race {
+        capacity,
+        beginning: Vec::new(alloc),
+        racers: Vec::new(alloc),
+        looks: Vec::new(alloc),
+    })
+}
+
+/// The race with the lines of the text.
+#[tactic(auto, using(replay_lines::proofs::Readings::fails_bind))]
+fn read_race_lines(
+    alloc: Global,
+    reader: &mut TreeReader,
+    text: &[u8],
+    opened: Race,
+) -> Result<Race, ScriptError>
+    ensures { Reads race_parts result (with_race_lines (race_parts opened) (lines text.now)) }
+{
+    let mut race = opened;
+    let mut rest = text;
+    'lines: while let Some(cut) = split_line(rest) {
+        let (line, after) = cut;
+        let said = read_race_line(alloc, reader, line)?;
+        race = with_race_line(race, said)?;
+        rest = after;
+    }
+    Ok(race)
+}
+
+fn with_race_line(race: Race, line: RaceLine) -> Result<Race, ScriptError>
+    ensures { Reads race_parts result (with_race_line (race_parts race) (line_parts line)) }
+{
+    match line {
+        RaceLine::Before(request) => with_begun(race, request),
+        RaceLine::Controller(racer) => with_racer(race, racer),
+    }
+}
+
+/// The race with one more request of the beginning.
+fn with_begun(race: Race, request: Request) -> Result<Race, ScriptError>
+    ensures { Reads race_parts result (with_begun (map racer_parts race.racers.items) (race_parts race) request) }
+{
+    let mut longer = race;
+    if longer.racers.is_empty() {
+        longer.beginning.push(request)?;
+        Ok(longer)
+    } else {
+        // They go by `drop`: that is proved once for a type.
+        drop(request);
+        drop(longer);
+        Err(ScriptError::BadScript)
+    }
+}
+
+/// The race with one more controller.
+fn with_racer(race: Race, racer: Racer) -> Result<Race, ScriptError>
+    ensures { Reads race_parts result (with_race_line (race_parts race) (line_parts (Controller racer))) }
+{
+    let mut longer = race;
+    longer.racers.push(racer)?;
+    Ok(longer)
+}
+
+/// The race with what is looked at in the end.
+fn with_looks(alloc: Global, race: Race) -> Result<Race, ScriptError>
+    ensures looks { IfOk result (λ looked. looked.looks.items ≡ looks_of looked.beginning.items looked.racers.items) }
+    ensures read { Reads race_parts result (Some (race_parts race)) }
+{
+    let mut looked = race;
+    match looks_of(alloc, looked.beginning.as_slice(), looked.racers.as_slice()) {
+        Ok(looks) => {
+            looked.looks = looks;
+            Ok(looked)
+        }
+        Err(error) => {
+            drop(looked);
+            Err(error.into())
+        }
+    }
+}

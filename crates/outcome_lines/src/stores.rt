@@ -1,0 +1,118 @@
+// Stores in which a race may end, as lines of JSON.
+ghost use Rattle.std.specs.Prelude.{◌≡◌, ◌++◌, ◌∷◌, [], codes, length, map, IfOk, OnOk};
+ghost use Rattle.json.specs.Token.{key as key_token};
+ghost use Rattle.json.specs.Tree.{json_tokens};
+ghost use Rattle.serde_json.specs.Data.{array};
+ghost use Rattle.serde_json.specs.Written.{compact_text, outline};
+ghost use Rattle.outcome_lines.specs.Stores.{bare_store_data, count_data, data_of_store, objects_in, revision_in, revision_of, store_data, store_items, stores_text};
+ghost use Rattle.plain.specs.ValueLines.{text_lines};
+
+use crate::store_objects::write_objects;
+use controller_outcomes::FinalStore;
+use json::Writer;
+use plain::{Reply, end_line, write_integer_member};
+use std::alloc::{AllocError, Global};
+
+/// The lines of the stores in which a race may end: `{"revision":V,"store":[OBJECT,..]}` for each, V the newest revision of the
+/// store, with its objects in the store's order as replies of `serve` show them; and last `{"stores":K}`.
+pub fn stores_text(alloc: Global, found: &[FinalStore]) -> Result<Vec<u8>, AllocError>
+    ensures { IfOk result (λ text. text.items ≡ stores_text found.now) }
+{
+    let lines = put_stores(found, Vec::new(alloc))?;
+    put_count(found.len() as u64, lines)
+}
+
+fn put_stores(found: &[FinalStore], out: Vec<u8>) -> Result<Vec<u8>, AllocError>
+    ensures { IfOk result (λ text. text.items ≡ out.items ++ text_lines (map data_of_store found.now)) }
+{
+    let mut text = out;
+    for store in found {
+        text = put_store(store.shown.as_slice(), text)?;
+    }
+    Ok(text)
+}
+
+fn put_store(shown: &[Reply], out: Vec<u8>) -> Result<Vec<u8>, AllocError>
+    ensures { IfOk result (λ text. text.items ≡ out.items ++ (compact_text (store_data shown.now) ++ 10 ∷ [])) }
+{
+    let mut writer = Writer::new(out);
+    write_store(shown, &mut writer)?;
+    end_line(writer)
+}
+
+fn write_store(shown: &[Reply], out: &mut Writer) -> Result<(), AllocError>
+    ensures tokens { OnOk result (out.new.tokens ≡ out.old.tokens ++ json_tokens (outline (store_data shown.now))) }
+    ensures before { out.new.before ≡ out.old.before }
+{
+    out.begin_object()?;
+    write_integer_member("revision", revision_in(shown), out)?;
+    write_objects_member(false, shown, out)?;
+    out.end_object()
+}
+
+fn revision_in(shown: &[Reply]) -> u64
+    ensures { result ≡ revision_in shown.now }
+{
+    match shown.first() {
+        Some(reply) => revision_of(reply),
+        None => 0,
+    }
+}
+
+fn revision_of(reply: &Reply) -> u64
+    ensures { result ≡ revision_of reply.now }
+{
+    match reply {
+        Reply::Listed {
+            objects: _,
+            revision,
+        } => *revision,
+        _ => 0,
+    }
+}
+
+/// Puts the line of a store without its versions and UIDs behind the text.
+pub(crate) fn put_bare_store(shown: &[Reply], out: Vec<u8>) -> Result<Vec<u8>, AllocError>
+    ensures { IfOk result (λ text. text.items ≡ out.items ++ (compact_text (bare_store_data shown.now) ++ 10 ∷ [])) }
+{
+    let mut writer = Writer::new(out);
+    write_bare_store(shown, &mut writer)?;
+    end_line(writer)
+}
+
+fn write_bare_store(shown: &[Reply], out: &mut Writer) -> Result<(), AllocError>
+    ensures tokens { OnOk result (out.new.tokens ≡ out.old.tokens ++ json_tokens (outline (bare_store_data shown.now))) }
+    ensures before { out.new.before ≡ out.old.before }
+{
+    out.begin_object()?;
+    write_objects_member(true, shown, out)?;
+    out.end_object()
+}
+
+fn write_objects_member(bare: bool, shown: &[Reply], out: &mut Writer) -> Result<(), AllocError>
+    ensures tokens { OnOk result (out.new.tokens ≡ out.old.tokens ++ key_token (codes "store")
+        ∷ json_tokens (outline (array (store_items bare (objects_in shown.now))))) }
+    ensures before { out.new.before ≡ out.old.before }
+{
+    out.key("store")?;
+    out.begin_array()?;
+    write_objects(bare, shown, out)
+}
+
+/// Puts the last line behind what was written.
+pub(crate) fn put_count(count: u64, out: Vec<u8>) -> Result<Vec<u8>, AllocError>
+    ensures { IfOk result (λ text. text.items ≡ out.items ++ (compact_text (count_data count) ++ 10 ∷ [])) }
+{
+    let mut writer = Writer::new(out);
+    write_count(count, &mut writer)?;
+    end_line(writer)
+}
+
+fn write_count(count: u64, out: &mut Writer) -> Result<(), AllocError>
+    ensures tokens { OnOk result (out.new.tokens ≡ out.old.tokens ++ json_tokens (outline (count_data count))) }
+    ensures before { out.new.before ≡ out.old.before }
+{
+    out.begin_object()?;
+    write_integer_member("stores", count, out)?;
+    out.end_object()
+}
