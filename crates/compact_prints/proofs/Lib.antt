@@ -1,4 +1,6 @@
 mod Merging
+pub mod PlainNames
+mod PlainTexts
 mod HeldTexts
 mod Maps
 mod Seaming

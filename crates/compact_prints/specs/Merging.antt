@@ -18,7 +18,7 @@ use Rattle.objects.specs.Object.{is_held}
 use Rattle.objects.specs.Text.{unless_zero}
 use Rattle.objects.specs.Uid.{uid_text}
 use Rattle.compact_prints.specs.declared.held.Held.{Held}
-use Rattle.compact_prints.specs.declared.held.Held.TheVariants.{Integer, Text}
+use Rattle.compact_prints.specs.declared.held.Held.TheVariants.{Integer, Plain, Text}
 use Rattle.compact_prints.specs.declared.part.Part.{Part}
 use Rattle.compact_prints.specs.declared.part.Part.TheVariants.{Metadata, Object}
 
@@ -33,6 +33,7 @@ without part no_members = no_members
 without part (member k d ms) = cond (is_set part k) (without part ms) (member k d (without part ms))
 
 abbrev pub held_data : Held → Data
+held_data (Plain s) = string s.text.now
 held_data (Text s) = string s.now
 held_data (Integer n) = number (unsigned n)
 

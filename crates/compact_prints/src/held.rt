@@ -1,13 +1,13 @@
 // Members that the store sets, as they are written.
-ghost use Rattle.std.specs.Prelude.{◌≡◌, ◌++◌, OnOk, option_map};
+ghost use Rattle.std.specs.Prelude.{◌≡◌, ◌++◌, OnOk, Some, option_map};
 ghost use Rattle.std.specs.Option.{option_copied};
 ghost use Rattle.serde_json.specs.Data.{string, number as number_data, unsigned};
-ghost use Rattle.json.specs.Tree.{json_tokens};
-ghost use Rattle.serde_json.specs.Written.{outline};
+ghost use Rattle.json.specs.Print.{escape};
 ghost use Rattle.objects.specs.Text.{unless_zero};
 ghost use Rattle.objects.specs.Uid.{uid_text};
 ghost use Rattle.compact_prints.specs.Merging.{field_text, held_data, some_text};
 
+use crate::plain_text::{PlainText, plain_uid};
 use json::Writer;
 use std::alloc::{AllocError, Global};
 use std::mem;
@@ -16,6 +16,7 @@ use trees::Text;
 /// The value of a member that the key or the meta holds.
 #[derive(Clone, Copy, Drop)]
 pub(crate) enum Held<'a> {
+    Plain(PlainText<'a>),
     Text(&'a str),
     Integer(u64),
 }
@@ -49,7 +50,7 @@ pub(crate) fn held_uid<'a>(text: &'a str, number: u64) -> Option<Held<'a>>
     if number == 0 {
         None
     } else {
-        Some(Held::Text(text))
+        Some(Held::Plain(plain_uid(text, number)))
     }
 }
 
@@ -60,27 +61,49 @@ pub(crate) fn write_held(
     value: Option<Held<'_>>,
     out: &mut Vec<u8>,
 ) -> Result<(), AllocError>
+    requires { escape key.now ≡ key.now }
     ensures { OnOk result (out.new.items ≡ out.old.items ++ some_text key.now (option_map held_data value.entry)) }
 {
-    let Some(value) = value else {
-        return Ok(());
-    };
+    match value {
+        None => Ok(()),
+        Some(Held::Plain(plain)) => write_plain(key, plain, out),
+        Some(Held::Text(text)) => write_text(alloc, key, text, out),
+        Some(Held::Integer(number)) => write_integer(key, number, out),
+    }
+}
+
+// Writes a member whose value is a text of which no byte is escaped.
+fn write_plain(key: &str, plain: PlainText<'_>, out: &mut Vec<u8>) -> Result<(), AllocError>
+    requires { escape key.now ≡ key.now }
+    ensures { OnOk result (out.new.items ≡ out.old.items ++ some_text key.now (Some (string plain.entry.text.now))) }
+{
+    out.extend_from_slice(b",\"")?;
+    out.extend_from_slice(key.as_bytes())?;
+    out.extend_from_slice(b"\":\"")?;
+    out.extend_from_slice(plain.text.as_bytes())?;
+    out.push(b'"')?;
+    Ok(())
+}
+
+// Writes a member whose value is a text.
+fn write_text(alloc: Global, key: &str, text: &str, out: &mut Vec<u8>) -> Result<(), AllocError>
+    ensures { OnOk result (out.new.items ≡ out.old.items ++ some_text key.now (Some (string text.now))) }
+{
     out.push(b',')?;
     let mut writer = Writer::new(mem::replace(out, Vec::new(alloc)));
     writer.key(key)?;
-    write_value(value, &mut writer)?;
+    writer.string(text)?;
     *out = writer.into_inner();
     Ok(())
 }
 
-fn write_value(value: Held<'_>, out: &mut Writer) -> Result<(), AllocError>
-    ensures tokens { OnOk result (out.new.tokens ≡ out.old.tokens ++ json_tokens (outline (held_data value.entry))) }
-    ensures before { out.new.before ≡ out.old.before }
+// Writes a member whose value is a number.
+fn write_integer(key: &str, number: u64, out: &mut Vec<u8>) -> Result<(), AllocError>
+    requires { escape key.now ≡ key.now }
+    ensures { OnOk result (out.new.items ≡ out.old.items ++ some_text key.now (Some (number_data (unsigned number)))) }
 {
-    match value {
-        Held::Text(text) => out.string(text),
-        Held::Integer(number) => out.u64(number),
-    }
+    let mut buffer = itoa::Buffer::new();
+    write_field(key.as_bytes(), buffer.format(number).as_bytes(), out)
 }
 
 /// Writes a member with a comma before it.

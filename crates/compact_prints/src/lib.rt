@@ -7,6 +7,7 @@ mod line;
 mod merge;
 mod metadata;
 mod part;
+mod plain_text;
 mod print;
 mod seams;
 

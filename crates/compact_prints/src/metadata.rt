@@ -12,6 +12,7 @@ ghost use Rattle.compact_prints.specs.declared.part.Part.TheVariants.{Metadata a
 use crate::held::{Held, held_number, held_text, held_uid};
 use crate::merge::{write_below, write_rest, write_step};
 use crate::part::Part;
+use crate::plain_text::{plain_name, plain_namespace};
 use compact::Fields;
 use compact_drafts::Map;
 use objects::{Key, Memory, Meta, uid_text};
@@ -52,9 +53,9 @@ fn write_members<'t>(
     let deleted = write_step(alloc, part, fields, "deletionTimestamp", deletion, out)?;
     let generation = held_number(meta.generation);
     let generated = write_step(alloc, part, deleted, "generation", generation, out)?;
-    let name = Some(Held::Text(key.name.as_str()));
+    let name = Some(Held::Plain(plain_name(key)));
     let named = write_step(alloc, part, generated, "name", name, out)?;
-    let namespace = Some(Held::Text(key.namespace.as_str()));
+    let namespace = Some(Held::Plain(plain_namespace(key)));
     let spaced = write_step(alloc, part, named, "namespace", namespace, out)?;
     let rest = write_below(part, spaced, "resourceVersion", out)?;
     out.extend_from_slice(b",\"resourceVersion\":")?;

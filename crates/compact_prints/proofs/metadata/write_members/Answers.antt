@@ -1,7 +1,6 @@
 use Rattle.std.proofs.Common.{ap, ◌∙◌}
 use Rattle.std.specs.Prelude.{option_map}
 use Rattle.serde_json.specs.Data.{number, unsigned, string}
-use Rattle.objects.specs.Key.{KeyParts}
 use Rattle.objects.specs.Meta.{MetaParts}
 use Rattle.objects.specs.Text.{unless_zero}
 use Rattle.compact_prints.proofs.Maps.{members_written}
@@ -18,5 +17,5 @@ returns c ms ascending is =
     members_written c.args.key.now c.args.meta.now ms _ _ _ _ _ _ _ _ _ _ _ _ _ _ _ _ _ _ _ _ _
     (c.held_text-deletion.ensures ∙ ap (option_map string) (c.as_ref.ensures.value ∙ ap (λ (m : MetaParts). m.deletion) c.meta.view_is))
     (c.held_number-generation.ensures ∙ ap (λ (m : MetaParts). unless_zero m.generation (number (unsigned m.generation))) c.meta.view_is)
-    (ap string (c.as_str.ensures ∙ ap (λ (k : KeyParts). k.name) c.key.view_is)) (ap string (c.as_str-2.ensures ∙ ap (λ (k : KeyParts). k.namespace) c.key.view_is))
+    (ap string c.plain_name.ensures) (ap string c.plain_namespace.ensures)
     s1 s2 s3 s4 w c.in_ok-extend_from_slice.ensures.items
