@@ -1,5 +1,7 @@
 // The members of a map and those that the store sets, in byte order.
 ghost use Rattle.std.specs.Prelude.{◌≡◌, ◌++◌, IfOk, OnOk, option_map, true};
+ghost use Rattle.std.specs.Ordering.{nat_cmp};
+ghost use Rattle.std.specs.Cmp.Lexicographic.{slice_cmp};
 ghost use Rattle.serde_json.specs.Data.{Members};
 ghost use Rattle.serde_json.specs.Written.{members_text};
 ghost use Rattle.trees.specs.Tree.{AreAscending};
@@ -23,6 +25,16 @@ fn write_other(part: Part, field: Field<'_>, out: &mut Vec<u8>) -> Result<(), Al
     write_field(field.key, field.value, out)
 }
 
+// The order of two keys. Most differ in their first byte, which is told sooner than how two slices compare.
+fn order(key: &[u8], other: &[u8]) -> Ordering
+    ensures { result ≡ slice_cmp nat_cmp key.now other.now }
+{
+    match (key.first(), other.first()) {
+        (Some(one), Some(two)) if one != two => one.cmp(two),
+        _ => key.cmp(other),
+    }
+}
+
 /// Writes the members below the key, and answers the others.
 pub(crate) fn write_below<'t, 'e>(
     part: Part,
@@ -36,7 +48,7 @@ pub(crate) fn write_below<'t, 'e>(
 {
     let mut left = fields;
     'members: while let Some((field, others)) = left.split_first() {
-        match key.as_bytes().cmp(field.key) {
+        match order(key.as_bytes(), field.key) {
             Ordering::Greater => write_other(part, field, out)?,
             Ordering::Less | Ordering::Equal => return Ok(left),
         }
