@@ -14,6 +14,7 @@ ghost use Rattle.compact_prints.specs.Texts.{with_meta};
 use crate::seams::{Seams, write_object};
 use compact_drafts::CompactDraft;
 use objects::{IndexedText, Memory, Meta};
+use simdutf8::basic::from_utf8;
 use std::alloc::Global;
 
 /// The text of the draft's object, with what the store knows of it, and with that end, from its status on; with its seams.
@@ -61,9 +62,7 @@ fn indexed_of(meta: &Meta, bytes: Vec<u8>, seams: Seams) -> Option<IndexedText>
     let Ok(status) = u32::try_from(seams.status) else {
         return None;
     };
-    let Ok(text) = String::from_utf8(bytes) else {
-        return None;
-    };
+    let text = text_of(bytes)?;
     let (spec, generation) = short_spec(meta, seams.spec);
     Some(IndexedText {
         text,
@@ -74,6 +73,16 @@ fn indexed_of(meta: &Meta, bytes: Vec<u8>, seams: Seams) -> Option<IndexedText>
         spec,
         generation,
     })
+}
+
+// The text of those bytes, if they are UTF-8.
+fn text_of(bytes: Vec<u8>) -> Option<String>
+    ensures { IfSome result (λ text. string_bytes text ≡ bytes.items) }
+{
+    match from_utf8(bytes.as_slice()) {
+        Ok(_) => Some(unsafe { String::from_utf8_unchecked(bytes) }),
+        Err(_) => None,
+    }
 }
 
 // How many bytes the spec takes, and the generation, or 0 and 0 where they are not known, do not fit, or the object has a
