@@ -1,19 +1,20 @@
 -- What the store sets in the metadata needs no escape, but for the time of deletion.
-use Rattle.std.proofs.Common.{◌≡◌, ℕ, ◌/◌, ◌%◌, ◌<◌, ◌==◌, List, [], ◌∷◌, ◌++◌, drop, Bool, true, false, codes, refl, sym, subst, arith}
+use Rattle.std.proofs.Common.{◌≡◌, ℕ, ◌/◌, ◌%◌, ◌<◌, ◌==◌, List, [], ◌∷◌, ◌++◌, drop, Bool, true, false, Some, codes, refl, sym, ap, ◌∙◌, subst, append_assoc, arith}
 use Rattle.std.specs.Prelude.{⊤, bytes_eq, if◌then◌else◌, slice_index}
 use Rattle.std.specs.Int.{w64, to_be_bytes}
 use Rattle.std.specs.List.{list_all}
-use Rattle.std.proofs.lemmas.Bool.{and_parts}
+use Rattle.std.proofs.lemmas.Bool.{and_parts, eqb-true}
 use Rattle.std.proofs.lemmas.List.Elements.{All-get_or}
 use Rattle.std.proofs.lemmas.List.Sums.{AllPass-from_list_all}
 use Rattle.std.proofs.lemmas.Slice.Eq.{bytes_eq-Decides}
 use Rattle.hex.specs.Hex.{encode_lower, encode_with, lower_digits}
-use Rattle.json.specs.Print.{escape, escape_byte}
+use Rattle.json.specs.Print.{escape, escape_byte, quoted}
+use Rattle.serde_json.specs.Data.{string}
 use Rattle.objects.specs.Key.{KeyParts, is_key}
 use Rattle.objects.specs.Kind.{is_name}
 use Rattle.objects.specs.Names.{is_dns_label, is_subdomain_byte}
 use Rattle.objects.specs.Uid.{twelve_digits, uid_prefix, uid_text}
-use Rattle.compact_prints.specs.Merging.{is_set}
+use Rattle.compact_prints.specs.Merging.{field_text, is_set, some_text}
 use Rattle.compact_prints.specs.declared.part.Part.{Part}
 use Rattle.compact_prints.specs.declared.part.Part.TheVariants.{Metadata, Object}
 use Rattle.compact_prints.proofs.PlainNames.{by_either, label_plain, name_plain, plain_bytes}
@@ -52,6 +53,25 @@ plain_unless false s own = own
 pub uid_plain : (n : ℕ) → escape (uid_text n) ≡ uid_text n
 unfolding uid_text
 uid_plain n = plain_unless (n == 0) (uid_prefix ++ twelve_digits n) (plain_bytes (uid_prefix ++ twelve_digits n) (digits_are (drop 2 (to_be_bytes w64 n)) (six_bytes n)))
+
+-- ---- a UID with its quotes, as the value of a member
+
+uid_by : (none : Bool) (n : ℕ) → n == 0 ≡ none → (n ≡ 0 → ⊥) → uid_text n ≡ uid_prefix ++ twelve_digits n
+unfolding uid_text
+uid_by true n is other = absurd (other (eqb-true n 0 is))
+uid_by false n is other = ap (λ (b : Bool). if b then [] else uid_prefix ++ twelve_digits n) is
+
+pub no_uid : (n : ℕ) → n ≡ 0 → 34 ∷ 34 ∷ [] ≡ quoted (uid_text n)
+unfolding uid_text
+no_uid n is = subst (λ m. 34 ∷ 34 ∷ [] ≡ quoted (uid_text m)) (sym is) refl
+
+pub uid_quoted : (n : ℕ) → (n ≡ 0 → ⊥) → 34 ∷ ((uid_prefix ++ twelve_digits n) ++ 34 ∷ []) ≡ quoted (uid_text n)
+uid_quoted n other = ap (λ s. 34 ∷ (s ++ 34 ∷ [])) (sym (uid_plain n ∙ uid_by (n == 0) n refl other))
+
+pub member_quoted : (k v s : List ℕ) → escape k ≡ k → v ≡ quoted s → field_text k v ≡ some_text k (Some (string s))
+member_quoted k v s own is =
+    ap (λ t. 44 ∷ 34 ∷ (k ++ 34 ∷ 58 ∷ t)) is
+    ∙ sym (ap (λ t. 44 ∷ 34 ∷ ((t ++ 34 ∷ []) ++ 58 ∷ quoted s)) own ∙ ap (λ t. 44 ∷ 34 ∷ t) (append_assoc k (34 ∷ []) (58 ∷ quoted s)))
 
 -- ---- the keys of members that are set
 

@@ -18,7 +18,7 @@ use Rattle.objects.specs.Object.{is_held}
 use Rattle.objects.specs.Text.{unless_zero}
 use Rattle.objects.specs.Uid.{uid_text}
 use Rattle.compact_prints.specs.declared.held.Held.{Held}
-use Rattle.compact_prints.specs.declared.held.Held.TheVariants.{Integer, Plain, Text}
+use Rattle.compact_prints.specs.declared.held.Held.TheVariants.{Integer, Plain, Text, Uid}
 use Rattle.compact_prints.specs.declared.part.Part.{Part}
 use Rattle.compact_prints.specs.declared.part.Part.TheVariants.{Metadata, Object}
 
@@ -36,6 +36,7 @@ abbrev pub held_data : Held → Data
 held_data (Plain s) = string s.text.now
 held_data (Text s) = string s.now
 held_data (Integer n) = number (unsigned n)
+held_data (Uid n) = string (uid_text n)
 
 -- what the store sets in the metadata, with that resource version and that UID
 abbrev pub held_with : KeyParts → MetaParts → Option Data → Option Data → List (List ℕ × Option Data)

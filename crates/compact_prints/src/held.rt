@@ -1,13 +1,13 @@
 // Members that the store sets, as they are written.
-ghost use Rattle.std.specs.Prelude.{◌≡◌, ◌++◌, OnOk, Some, option_map};
+ghost use Rattle.std.specs.Prelude.{◌≡◌, ◌++◌, ◌∷◌, [], OnOk, Some, option_map};
 ghost use Rattle.std.specs.Option.{option_copied};
 ghost use Rattle.serde_json.specs.Data.{string, number as number_data, unsigned};
 ghost use Rattle.json.specs.Print.{escape};
 ghost use Rattle.objects.specs.Text.{unless_zero};
-ghost use Rattle.objects.specs.Uid.{uid_text};
+ghost use Rattle.objects.specs.Uid.{twelve_digits, uid_prefix, uid_text};
 ghost use Rattle.compact_prints.specs.Merging.{field_text, held_data, some_text};
 
-use crate::plain_text::{PlainText, plain_uid};
+use crate::plain_text::PlainText;
 use json::Writer;
 use std::alloc::{AllocError, Global};
 use std::mem;
@@ -19,6 +19,7 @@ pub(crate) enum Held<'a> {
     Plain(PlainText<'a>),
     Text(&'a str),
     Integer(u64),
+    Uid(u64),
 }
 
 /// The text, if there is one.
@@ -42,15 +43,14 @@ pub(crate) fn held_number<'a>(number: u64) -> Option<Held<'a>>
     }
 }
 
-/// The text of a UID, unless it is 0.
-pub(crate) fn held_uid<'a>(text: &'a str, number: u64) -> Option<Held<'a>>
-    requires { text.now ≡ uid_text number }
+/// The UID of that number, unless it is 0.
+pub(crate) fn held_uid<'a>(number: u64) -> Option<Held<'a>>
     ensures { option_map held_data result ≡ unless_zero number (string (uid_text number)) }
 {
     if number == 0 {
         None
     } else {
-        Some(Held::Plain(plain_uid(text, number)))
+        Some(Held::Uid(number))
     }
 }
 
@@ -69,6 +69,7 @@ pub(crate) fn write_held(
         Some(Held::Plain(plain)) => write_plain(key, plain, out),
         Some(Held::Text(text)) => write_text(alloc, key, text, out),
         Some(Held::Integer(number)) => write_integer(key, number, out),
+        Some(Held::Uid(number)) => write_uid(key, number, out),
     }
 }
 
@@ -104,6 +105,28 @@ fn write_integer(key: &str, number: u64, out: &mut Vec<u8>) -> Result<(), AllocE
 {
     let mut buffer = itoa::Buffer::new();
     write_field(key.as_bytes(), buffer.format(number).as_bytes(), out)
+}
+
+// Writes a member whose value is the text of a UID, with no memory for it.
+fn write_uid(key: &str, number: u64, out: &mut Vec<u8>) -> Result<(), AllocError>
+    requires { escape key.now ≡ key.now }
+    ensures { OnOk result (out.new.items ≡ out.old.items ++ some_text key.now (Some (string (uid_text number)))) }
+{
+    if number == 0 {
+        write_field(key.as_bytes(), b"\"\"", out)
+    } else {
+        write_field(key.as_bytes(), quoted_uid(number).as_slice(), out)
+    }
+}
+
+// The text of a UID that is not 0, with its quotes.
+fn quoted_uid(number: u64) -> [u8; 38]
+    ensures { result ≡ 34 ∷ ((uid_prefix ++ twelve_digits number) ++ 34 ∷ []) }
+{
+    let mut text = *b"\"00000000-0000-4000-8000-000000000000\"";
+    // It can't fail: six bytes make twelve digits, and there is room for twelve.
+    let _ = hex::encode_to_slice(&number.to_be_bytes()[2..], &mut text[25..37]);
+    text
 }
 
 /// Writes a member with a comma before it.

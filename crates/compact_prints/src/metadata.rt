@@ -15,7 +15,7 @@ use crate::part::Part;
 use crate::plain_text::{plain_name, plain_namespace};
 use compact::Fields;
 use compact_drafts::Map;
-use objects::{Key, Memory, Meta, uid_text};
+use objects::{Key, Memory, Meta};
 use std::alloc::Global;
 
 /// Writes the member `metadata`, with a comma before it, up to its resource version, and answers its members behind that.
@@ -73,8 +73,7 @@ pub(crate) fn write_after_version(
         → OnOk result (out.new.items ≡ out.old.items ++ rest_text MetadataPart ((codes "uid", uid_data meta.now.uid) ∷ []) ms) }
 {
     let part = Part::Metadata;
-    let text = uid_text(alloc, meta.uid)?;
-    let uid = held_uid(text.as_str(), meta.uid);
+    let uid = held_uid(meta.uid);
     let known = write_step(alloc, part, versioned, "uid", uid, out)?;
     write_rest(part, known, out)?;
     Ok(())

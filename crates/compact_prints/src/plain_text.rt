@@ -1,7 +1,6 @@
 // Texts that are written as they are.
 ghost use Rattle.std.specs.Prelude.{◌≡◌};
 ghost use Rattle.json.specs.Print.{escape};
-ghost use Rattle.objects.specs.Uid.{uid_text};
 
 use objects::Key;
 
@@ -28,12 +27,4 @@ pub(crate) fn plain_namespace<'a>(key: &'a Key) -> PlainText<'a>
     PlainText {
         text: key.namespace.as_str(),
     }
-}
-
-/// The text of a UID.
-pub(crate) fn plain_uid<'a>(text: &'a str, number: u64) -> PlainText<'a>
-    requires { text.now ≡ uid_text number }
-    ensures { result.text.now ≡ text.now }
-{
-    PlainText { text }
 }
