@@ -12,7 +12,7 @@ use Rattle.serde_json.specs.Find.{get_member}
 use Rattle.serde_json.specs.Written.{compact_text, members_text}
 use Rattle.compact.specs.declared.entry.Entry.{Entry}
 use Rattle.compact.specs.Notes.{AreEntries}
-use Rattle.compact.specs.Fields.{IsLeft, IsFirst}
+use Rattle.compact.specs.Fields.{IsBehind, IsLeft, IsFirst}
 use Rattle.compact.proofs.Search.{Opened}
 
 -- the last members of a map up to the brace; behind the brace there is nothing left
@@ -82,6 +82,17 @@ is_first ms entry key value left behind o key_is value_is left_is = record {
   entries_are = (o.entries_are, o.plain);
 }
 
+pub is_behind : (ms : Members) (entry : Entry) (left : List ℕ) (behind : List Entry) → (o : Opened ms entry behind) → left ≡ rest_text o.others → IsBehind ms entry.key left behind
+is_behind ms entry left behind o left_is = record {
+  key = o.l;
+  d = o.e;
+  others = o.others;
+  is = o.is;
+  key_is = omega (arith, o.key_is, length-append (escape o.l) (34 ∷ []), ap length o.own);
+  left_is = as_left o.others left left_is;
+  entries_are = (o.entries_are, o.plain);
+}
+
 -- ---- where a member is looked for
 
 -- so far no member had the name
@@ -125,9 +136,15 @@ looked name ms left key value left2 entries entries2 b k f same other = record {
   same = k.same ∙ ap (get_member name) f.is ∙ differ name key f.d f.others b same other;
 }
 
+-- the first of them is passed over, whose key is longer or shorter than the name
+pub passed : (name : List ℕ) (ms : Members) (left left2 : List ℕ) (entries entries2 : List Entry) (size : ℕ) → (k : Looking name ms left entries) → IsBehind k.others size left2 entries2 → (size ≡ length name + 2 → ⊥) → Looking name ms left2 entries2
+passed name ms left left2 entries entries2 size k f other = record {
+  others = f.others;
+  left_is = f.left_is;
+  entries_are = f.entries_are;
+  same = k.same ∙ ap (get_member name) f.is ∙ differ_at (slice_cmp nat_cmp name f.key) name f.key f.d f.others refl (λ e. other (f.key_is ∙ ap (λ s. length s + 2) (sym e)));
+}
+
 pub found : (name : List ℕ) (ms : Members) (left key value left2 : List ℕ) (entries entries2 : List Entry) → (k : Looking name ms left entries) → IsFirst k.others key value left2 entries2 → key ≡ name → Some value ≡ option_map compact_text (get_member name ms)
 found name ms left key value left2 entries entries2 k f same =
     ap Some f.value_is ∙ sym (ap (option_map compact_text) (k.same ∙ ap (get_member name) f.is ∙ here name key f.d f.others same))
-
-pub missing : (name : List ℕ) (ms : Members) (left : List ℕ) (entries : List Entry) → (k : Looking name ms left entries) → k.others ≡ no_members → None ≡ option_map compact_text (get_member name ms)
-missing name ms left entries k none = sym (ap (option_map compact_text) (k.same ∙ ap (get_member name) none))

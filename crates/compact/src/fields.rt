@@ -1,10 +1,10 @@
 // The members of a map as they are written, one after another.
-ghost use Rattle.std.specs.Prelude.{◌≡◌, ◌+◌, ◌++◌, ◌<◌, ℕ, List, length, IfSome, MatchOption, option_map};
+ghost use Rattle.std.specs.Prelude.{◌≡◌, ◌+◌, ◌++◌, ◌∷◌, ◌<◌, ℕ, List, length, IfSome, MatchOption, option_map};
 ghost use Rattle.serde_json.specs.Data.{Members, no_members, object};
 ghost use Rattle.serde_json.specs.Find.{get_member};
 ghost use Rattle.serde_json.specs.Written.{compact_text};
 ghost use Rattle.compact.specs.Notes.{AreEntries};
-ghost use Rattle.compact.specs.Fields.{IsLeft, IsFirst};
+ghost use Rattle.compact.specs.Fields.{IsBehind, IsLeft, IsFirst};
 
 use crate::entry::Entry;
 use crate::table::Table;
@@ -39,6 +39,18 @@ impl<'t, 'e> Fields<'t, 'e> {
         let left = rest_from(self.left, entry.size);
         Some((Field { key, value }, Fields { left, entries }))
     }
+
+    /// Those behind the first member, given its lengths and those of the others.
+    #[inline(always)]
+    fn behind(self, first: Entry, entries: &'e [Entry]) -> Fields<'t, 'e>
+        ensures behind { (ms : Members) → IsLeft ms self.entry.left.now → AreEntries (first ∷ entries.now) ms → IsBehind ms first.key result.left.now result.entries.now }
+        ensures entries { result.entries.now ≡ entries.now }
+    {
+        Fields {
+            left: rest_from(self.left, first.size),
+            entries,
+        }
+    }
 }
 
 impl Table {
@@ -55,16 +67,24 @@ impl Table {
     }
 
     /// The value of the member of that name, as it is written, of a map of that text, whose table this is.
+    #[inline(always)]
     pub fn find<'t>(&self, text: &'t [u8], name: &[u8]) -> Option<&'t [u8]>
         ensures { (ms : Members) → text.now ≡ compact_text (object ms) → AreEntries self.now ms
             → option_map (λ v. v.now) result ≡ option_map compact_text (get_member name.now ms) }
     {
         let mut fields = self.fields(text);
-        'members: while let Some((field, others)) = fields.split_first() {
-            if field.key == name {
-                return Some(field.value);
+        'members: while let Some((entry, entries)) = fields.entries.split_first() {
+            let entry = *entry;
+            // Most members are told by the length of their key, which has its quotes in the table.
+            if entry.key.saturating_sub(2) == name.len() {
+                let (field, others) = fields.split_first()?;
+                if field.key == name {
+                    return Some(field.value);
+                }
+                fields = others;
+            } else {
+                fields = fields.behind(entry, entries);
             }
-            fields = others;
         }
         None
     }

@@ -20,6 +20,7 @@ pub struct Map<'t> {
 
 impl<'t> Map<'t> {
     /// The value of the member of that name, as it is written.
+    #[inline(always)]
     pub(crate) fn member(self, name: &str) -> Option<&'t [u8]>
         ensures { (ms : Members) → IsMap self.entry.text.now self.entry.table.now ms
             → option_map (λ v. v.now) result ≡ option_map compact_text (get_member name.now ms) }
