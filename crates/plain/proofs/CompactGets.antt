@@ -1,14 +1,12 @@
 -- A get line in compact form is read as its request.
-use Rattle.std.proofs.Common.{◌≡◌, ℕ, ◌≤◌, ◌==◌, List, [], ◌∷◌, ◌++◌, length, take, drop, Bool, true, false, ◌&&◌, ◌||◌, nat_eq, nat_le, nat_lt, not, cond, codes, None, Some, Ok, unwrap_or, take-append-drop, refl, sym, ap, ◌∙◌, append_assoc, length-append, arith}
-use Rattle.std.specs.List.{list_all}
+use Rattle.std.proofs.Common.{◌≡◌, ℕ, ◌≤◌, List, [], ◌∷◌, ◌++◌, length, take, drop, Bool, true, false, nat_eq, nat_lt, not, cond, codes, None, Some, Ok, unwrap_or, take-append-drop, refl, sym, ap, ◌∙◌, append_assoc, length-append, arith}
 use Rattle.std.specs.Str.{IsUtf8}
-use Rattle.std.proofs.lemmas.Bool.{and_parts, eqb-true, leb-true, lt-ltb}
+use Rattle.std.proofs.lemmas.Bool.{and_parts, leb-true, lt-ltb}
 use Rattle.std.proofs.lemmas.Slice.Eq.{bytes_eq-Decides}
 use Rattle.std.proofs.lemmas.Str.{IsUtf8-append}
 use Rattle.json.specs.Lex.{tokens}
 use Rattle.json.specs.Print.{escape, escape_byte}
 use Rattle.json.specs.Tree.{json_tokens}
-use Rattle.json.proofs.Printed.Strings.{escape_byte_plain}
 use Rattle.json.proofs.Printed.Tokens.{tokens-print}
 use Rattle.json.proofs.Printed.Trees.{ArePrintable-json_tokens}
 use Rattle.json.proofs.Printed.Utf8.{IsUtf8-are_ascii, are_ascii}
@@ -22,11 +20,12 @@ use Rattle.objects.specs.declared.kind.Kind.{Kind}
 use Rattle.objects.specs.declared.kind.Kind.TheVariants.{StatefulSet, Pod, PersistentVolumeClaim, ControllerRevision}
 use Rattle.objects.specs.Key.{KeyParts, is_key, key_parts}
 use Rattle.objects.specs.Kind.{is_name, kind_name, kind_named}
-use Rattle.objects.specs.Names.{is_alphanumeric, is_dns_label, is_label_byte, is_subdomain_byte, is_subdomain_name}
+use Rattle.objects.specs.Names.{is_dns_label}
 use Rattle.objects.specs.declared.fault.ReadError.TheVariants.{BadName, UnknownKind}
 use Rattle.objects.specs.Steps.{as_read, guarded, required}
 use Rattle.objects.specs.Reading.{key_in, key_of, kind_in, namespace_in}
 use Rattle.objects.proofs.KeyTexts.{key_name_length, key_namespace_length}
+use Rattle.compact_prints.proofs.PlainNames.{label_plain, name_plain}
 use Rattle.requests.specs.declared.request.Request.TheVariants.{Get}
 use Rattle.plain.specs.CompactGets.{get_text}
 use Rattle.plain.specs.Requests.{request_in, request_of}
@@ -37,60 +36,6 @@ use Rattle.plain.specs.Verbs.{request_by, verb_in}
 abbrev get_data : List ℕ → List ℕ → List ℕ → Data
 get_data kind name namespace =
     object (member (codes "do") (string (codes "get")) (member (codes "kind") (string kind) (member (codes "name") (string name) (member (codes "namespace") (string namespace) no_members))))
-
--- ---- names need no escape
-
-by_either : {P : Type 0} (a b : Bool) → (a || b) ≡ true → (a ≡ true → P) → (b ≡ true → P) → P
-by_either true b h f g = f refl
-by_either false b h f g = g h
-
-plain_letter : (x : ℕ) → (nat_le 97 x && nat_le x 122) ≡ true → escape_byte x ≡ x ∷ []
-plain_letter x h =
-    let low = leb-true 97 x (and_parts (nat_le 97 x) (nat_le x 122) h).0 in
-    escape_byte_plain x (λ e. omega (arith, e, low)) (λ e. omega (arith, e, low)) (omega (arith, low))
-
-plain_digit : (x : ℕ) → (nat_le 48 x && nat_le x 57) ≡ true → escape_byte x ≡ x ∷ []
-plain_digit x h =
-    let ends = and_parts (nat_le 48 x) (nat_le x 57) h in
-    let low = leb-true 48 x ends.0 in
-    escape_byte_plain x (λ e. omega (arith, e, low)) (λ e. omega (arith, e, leb-true x 57 ends.1)) (omega (arith, low))
-
-plain_hyphen : (x : ℕ) → (x == 45) ≡ true → escape_byte x ≡ x ∷ []
-plain_hyphen x h = let is = eqb-true x 45 h in escape_byte_plain x (λ e. omega (arith, e, is)) (λ e. omega (arith, e, is)) (omega (arith, is))
-
-plain_stop : (x : ℕ) → (x == 46) ≡ true → escape_byte x ≡ x ∷ []
-plain_stop x h = let is = eqb-true x 46 h in escape_byte_plain x (λ e. omega (arith, e, is)) (λ e. omega (arith, e, is)) (omega (arith, is))
-
-plain_byte : (x : ℕ) → is_subdomain_byte x ≡ true → escape_byte x ≡ x ∷ []
-plain_byte x h =
-    by_either (is_label_byte x) (x == 46) h (λ l. by_either (is_alphanumeric x) (x == 45) l
-    (λ a. by_either (nat_le 97 x && nat_le x 122) (nat_le 48 x && nat_le x 57) a (plain_letter x) (plain_digit x)) (plain_hyphen x)) (plain_stop x)
-
-plain_bytes : (s : List ℕ) → list_all is_subdomain_byte s ≡ true → escape s ≡ s
-plain_bytes [] h = refl
-plain_bytes (x ∷ s) h =
-    let parts = and_parts (is_subdomain_byte x) (list_all is_subdomain_byte s) h in
-    ap (λ e. e ++ escape s) (plain_byte x parts.0) ∙ ap (λ r. x ∷ r) (plain_bytes s parts.1)
-
-label_bytes : (s : List ℕ) → list_all is_label_byte s ≡ true → list_all is_subdomain_byte s ≡ true
-label_bytes [] h = refl
-label_bytes (x ∷ s) h =
-    let parts = and_parts (is_label_byte x) (list_all is_label_byte s) h in
-    rw (parts.0, label_bytes s parts.1) refl
-
-label_plain : (s : List ℕ) → is_dns_label s ≡ true → escape s ≡ s
-unfolding is_dns_label
-label_plain s h = plain_bytes s (label_bytes s (and_parts _ _ (and_parts _ _ (and_parts _ _ h).0).0).1)
-
-subdomain_plain : (s : List ℕ) → is_subdomain_name s ≡ true → escape s ≡ s
-unfolding is_subdomain_name
-subdomain_plain s h = plain_bytes s (and_parts _ _ (and_parts _ _ (and_parts _ _ h).0).0).1
-
-name_plain : (kind : Kind) (s : List ℕ) → is_name kind s ≡ true → escape s ≡ s
-name_plain StatefulSet s h = label_plain s h
-name_plain Pod s h = subdomain_plain s h
-name_plain PersistentVolumeClaim s h = subdomain_plain s h
-name_plain ControllerRevision s h = subdomain_plain s h
 
 kind_plain : (kind : Kind) → escape (kind_name kind) ≡ kind_name kind
 unfolding escape_byte

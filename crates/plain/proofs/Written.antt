@@ -1,5 +1,6 @@
 -- The text of a reply, piece by piece.
 use Rattle.std.proofs.Common.{◌≡◌, ℕ, ◌<◌, ◌^◌, List, [], ◌∷◌, ◌++◌, codes, decimal, false, refl, sym, ap, ◌∙◌, append_assoc}
+use Rattle.std.specs.Fmt.{digits}
 use Rattle.json.specs.Print.{escape, escape_byte, print}
 use Rattle.json.specs.Token.{Token}
 use Rattle.json.specs.Tree.{json_tokens}
@@ -41,6 +42,21 @@ object_text code o outcome plain =
     ap (λ x. codes "{\"code\":" ++ x) (feed_last (decimal code) _ shown
     (ap (λ x. codes ",\"object\":" ++ x) (feed_last (text o) _ result
     (ap (λ x. codes ",\"result\":\"" ++ x) (quoted_last outcome (125 ∷ []) plain)))))
+
+pub made_front : codes "{\"code\":201,\"object\":" ≡ code_text 201 ++ codes ",\"object\":"
+unfolding digits
+made_front = refl
+
+pub done_front : codes "{\"code\":200,\"object\":" ≡ code_text 200 ++ codes ",\"object\":"
+unfolding digits
+done_front = refl
+
+-- the same in three pieces
+pub object_pieces : (front back : List ℕ) (code : ℕ) (o : Object) (outcome : List ℕ) → escape outcome ≡ outcome → front ≡ code_text code ++ codes ",\"object\":" → back ≡ last_text (codes ",\"result\":\"") outcome
+    → front ++ (text o ++ back) ≡ compact_text (with_object code o outcome) ++ 10 ∷ []
+object_pieces front back code o outcome plain front_is back_is =
+    ap (λ f. f ++ (text o ++ back)) front_is ∙ ap (λ b. (code_text code ++ codes ",\"object\":") ++ (text o ++ b)) back_is
+    ∙ append_assoc (code_text code) (codes ",\"object\":") (text o ++ last_text (codes ",\"result\":\"") outcome) ∙ object_text code o outcome plain
 
 pub reason_text : (code : ℕ) (reason : List ℕ) → escape reason ≡ reason
     → code_text code ++ last_text (codes ",\"reason\":\"") reason ≡ compact_text (with_reason code reason) ++ 10 ∷ []

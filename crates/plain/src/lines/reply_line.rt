@@ -14,16 +14,24 @@ use plain_store::{PrintedReply, StoredReply};
 use requests::Reason;
 use std::alloc::AllocError;
 
+/// What begins the line of a reply with an object that the request made.
+const MADE: &str = "{\"code\":201,\"object\":";
+
+/// What begins that of any other reply with an object.
+const DONE: &str = "{\"code\":200,\"object\":";
+
 /// Writes the line of what a write is answered.
 pub(crate) fn printed_line(printed: &PrintedReply, out: &mut Vec<u8>) -> Result<(), AllocError>
     ensures { OnOk result (out.new.items ≡ out.old.items ++ (compact_text (reply_data (reply_printed printed.now)) ++ 10 ∷ [])) }
 {
     match printed {
-        PrintedReply::Created(text) => object_line(201, text, "Created", out),
-        PrintedReply::Updated(text) => object_line(200, text, "Updated", out),
-        PrintedReply::Unchanged(text) => object_line(200, text, "Unchanged", out),
-        PrintedReply::Marked(text) => object_line(200, text, "Marked", out),
-        PrintedReply::Removed(text) => object_line(200, text, "Removed", out),
+        PrintedReply::Created(text) => object_line(MADE, text, ",\"result\":\"Created\"}\n", out),
+        PrintedReply::Updated(text) => object_line(DONE, text, ",\"result\":\"Updated\"}\n", out),
+        PrintedReply::Unchanged(text) => {
+            object_line(DONE, text, ",\"result\":\"Unchanged\"}\n", out)
+        }
+        PrintedReply::Marked(text) => object_line(DONE, text, ",\"result\":\"Marked\"}\n", out),
+        PrintedReply::Removed(text) => object_line(DONE, text, ",\"result\":\"Removed\"}\n", out),
         PrintedReply::Refused(reason) => refused_line(*reason, out),
     }
 }
@@ -33,7 +41,7 @@ pub(crate) fn stored_line(stored: &StoredReply, out: &mut Vec<u8>) -> Result<(),
     ensures { OnOk result (out.new.items ≡ out.old.items ++ (compact_text (reply_data (reply_stored stored.now)) ++ 10 ∷ [])) }
 {
     match stored {
-        StoredReply::Found(packed) => packed_line(200, packed, "Found", out),
+        StoredReply::Found(packed) => packed_line(packed, out),
         StoredReply::Listed { objects, revision } => listed_line(
             objects.as_slice(),
             *revision,
@@ -51,34 +59,26 @@ pub(crate) fn error_line(error: RequestError, out: &mut Vec<u8>) -> Result<(), A
     reason_line(400, error.name(), out)
 }
 
+// The front, the object's text and the back.
 fn object_line(
-    code: u16,
+    front: &str,
     object: &Printed,
-    outcome: &str,
+    back: &str,
     out: &mut Vec<u8>,
 ) -> Result<(), AllocError>
-    requires { escape outcome.now ≡ outcome.now }
-    ensures { OnOk result (out.new.items ≡ out.old.items ++ (compact_text (with_object code object.now outcome.now) ++ 10 ∷ [])) }
+    ensures { OnOk result (out.new.items ≡ out.old.items ++ (front.now ++ (text object.now ++ back.now))) }
 {
-    put_code(code, out)?;
-    put(",\"object\":", out)?;
+    put(front, out)?;
     put(object.as_str(), out)?;
-    put_last(",\"result\":\"", outcome, out)
+    put(back, out)
 }
 
-fn packed_line(
-    code: u16,
-    object: &Packed,
-    outcome: &str,
-    out: &mut Vec<u8>,
-) -> Result<(), AllocError>
-    requires { escape outcome.now ≡ outcome.now }
-    ensures { OnOk result (out.new.items ≡ out.old.items ++ (compact_text (with_object code object.now outcome.now) ++ 10 ∷ [])) }
+fn packed_line(object: &Packed, out: &mut Vec<u8>) -> Result<(), AllocError>
+    ensures { OnOk result (out.new.items ≡ out.old.items ++ (compact_text (with_object 200 object.now (codes "Found")) ++ 10 ∷ [])) }
 {
-    put_code(code, out)?;
-    put(",\"object\":", out)?;
+    put(DONE, out)?;
     object.write_text(out)?;
-    put_last(",\"result\":\"", outcome, out)
+    put(",\"result\":\"Found\"}\n", out)
 }
 
 fn listed_line(objects: &[&Packed], revision: u64, out: &mut Vec<u8>) -> Result<(), AllocError>

@@ -1,23 +1,30 @@
-use Rattle.std.proofs.Common.{refl}
+use Rattle.std.proofs.Common.{codes, ◌++◌, ap, refl, ◌∙◌}
+use Rattle.std.proofs.lemmas.Result.{on_ok_weaker}
 use Rattle.json.specs.Print.{escape_byte}
+use Rattle.plain.proofs.Written.{done_front, made_front, object_pieces}
 use Rattle.plain.proofs.lines.reply_line.printed_line.Goals as goal
 
-pub object_line-requires : goal.object_line-requires
+pub returns-in-Created : goal.returns-in-Created
 unfolding escape_byte
-object_line-requires c = refl
+returns-in-Created c =
+    rw c.in-Created.is (on_ok_weaker c.object_line.result (λ last. last ∙ ap (λ t. c.args.out.now.items ++ t) (object_pieces _ _ 201 _ (codes "Created") refl made_front refl)) c.object_line.ensures)
 
-pub object_line-requires-in-Updated : goal.object_line-requires-in-Updated
+pub returns-in-Updated : goal.returns-in-Updated
 unfolding escape_byte
-object_line-requires-in-Updated c = refl
+returns-in-Updated c =
+    rw c.in-Updated.is (on_ok_weaker c.object_line-in-Updated.result (λ last. last ∙ ap (λ t. c.args.out.now.items ++ t) (object_pieces _ _ 200 _ (codes "Updated") refl done_front refl)) c.object_line-in-Updated.ensures)
 
-pub object_line-requires-in-Unchanged : goal.object_line-requires-in-Unchanged
+pub returns-in-Unchanged : goal.returns-in-Unchanged
 unfolding escape_byte
-object_line-requires-in-Unchanged c = refl
+returns-in-Unchanged c =
+    rw c.in-Unchanged.is (on_ok_weaker c.object_line-in-Unchanged.result (λ last. last ∙ ap (λ t. c.args.out.now.items ++ t) (object_pieces _ _ 200 _ (codes "Unchanged") refl done_front refl)) c.object_line-in-Unchanged.ensures)
 
-pub object_line-requires-in-Marked : goal.object_line-requires-in-Marked
+pub returns-in-Marked : goal.returns-in-Marked
 unfolding escape_byte
-object_line-requires-in-Marked c = refl
+returns-in-Marked c =
+    rw c.in-Marked.is (on_ok_weaker c.object_line-in-Marked.result (λ last. last ∙ ap (λ t. c.args.out.now.items ++ t) (object_pieces _ _ 200 _ (codes "Marked") refl done_front refl)) c.object_line-in-Marked.ensures)
 
-pub object_line-requires-in-Removed : goal.object_line-requires-in-Removed
+pub returns-in-Removed : goal.returns-in-Removed
 unfolding escape_byte
-object_line-requires-in-Removed c = refl
+returns-in-Removed c =
+    rw c.in-Removed.is (on_ok_weaker c.object_line-in-Removed.result (λ last. last ∙ ap (λ t. c.args.out.now.items ++ t) (object_pieces _ _ 200 _ (codes "Removed") refl done_front refl)) c.object_line-in-Removed.ensures)
