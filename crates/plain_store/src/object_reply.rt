@@ -24,7 +24,6 @@ impl ObjectReply {
         match text_of(printer, &reply) {
             Ok(text) => Ok(ObjectReply { reply, text }),
             Err(error) => {
-                // It goes by `drop`, here and below: that is proved once for a type, not for each of its parts.
                 drop(reply);
                 Err(error)
             }

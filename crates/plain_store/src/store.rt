@@ -84,13 +84,11 @@ impl Plain {
         ensures step { IfOk result (λ reply. (self.new, reply) ≡ step self.old request) }
         ensures memory { OnErr result (self.new ≡ self.old) }
     {
-        // Looked at so that the invariant is known here; it costs nothing.
         let _ = &self.versions;
         if request.is_write() {
             return Ok(self.write_by_object(request)?.into_reply());
         }
         let reply = self.answer(&request);
-        // It goes by `drop`, which is proved once for its type, and not for each of its parts again.
         drop(request);
         reply
     }
@@ -145,7 +143,6 @@ impl Plain {
         ensures denied { result ≡ denied self.old.floor self.old.counter to }
         ensures raised { self.new ≡ (compacted_to self.old to result).0 }
     {
-        // Looked at so that the invariant is known here; it costs nothing.
         let _ = &self.versions;
         if let Some(reason) = self.denied(to) {
             return Some(reason);

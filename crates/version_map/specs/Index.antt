@@ -5,6 +5,8 @@ use Rattle.std.specs.FinMap as finite
 use Rattle.objects.specs.declared.key.Key.{Key}
 use Rattle.objects.specs.Key.{key_coded}
 use Rattle.version_map.specs.Named.{KeySlots, both}
+use Rattle.version_map.specs.declared.found.Place.{Place}
+use Rattle.version_map.specs.declared.found.Found.{Found}
 
 pub record Index : Type 0 where
   pub all : KeySlots
@@ -28,3 +30,10 @@ AreKept old new = (k : Key) (p : ℕ) → finite.get old k ≡ Some p → finite
 
 abbrev pub AreWithin : Index → Type 0
 AreWithin i = AreKept i.listed i.all
+
+-- the slots that a key has among the listed keys, and among all
+abbrev pub IsPlaceOf : Index → Key → Place → Type 0
+IsPlaceOf i k place = (place.listed ≡ finite.get i.listed k) × (place.slot ≡ finite.get i.all k)
+
+abbrev pub IsFoundIn : Index → Found → Type 0
+IsFoundIn i found = IsPlaceOf i found.key found.place

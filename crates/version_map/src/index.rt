@@ -1,9 +1,10 @@
 ghost use Rattle.std.specs.Prelude.{◌≡◌, ◌≢◌, IfOk, OnOk, OnErr};
 ghost use Rattle.std.specs.FinMap as map;
 ghost use Rattle.objects.specs.declared.key.Key.{Key};
-ghost use Rattle.version_map.specs.Index.{AreKept, AreWithin, no_keys, with_key};
+ghost use Rattle.version_map.specs.Index.{AreKept, AreWithin, IsPlaceOf, no_keys, with_key};
 ghost use Rattle.version_map.specs.Keyed.{collection};
 
+use crate::found::{Found, Place};
 use crate::key_slots::KeySlots;
 use objects::{Key, Kind, Text};
 use std::alloc::{AllocError, Global};
@@ -15,16 +16,21 @@ use std::marker::Model;
 pub(crate) struct Index {
     listed: KeySlots,
     tombstones: KeySlots,
+    // The key that was looked up last. Whatever changes a slot forgets it.
+    found: Option<Found>,
 }
 
 impl Model for Index {
-    ghost use Rattle.version_map.specs.Index.{Index, index_coded, index_with};
+    ghost use Rattle.std.specs.Prelude.{IfSome};
+    ghost use Rattle.version_map.specs.Index.{Index, index_coded, index_with, IsFoundIn};
 
     ghost Value = { Index };
 
     ghost coded = { index_coded };
 
     ghost view = { λ i. index_with i.listed i.tombstones };
+
+    ghost invariant = { λ i. IfSome i.found (IsFoundIn (index_with i.listed i.tombstones)) };
 }
 
 impl Index {
@@ -34,15 +40,55 @@ impl Index {
         Index {
             listed: KeySlots::new(alloc),
             tombstones: KeySlots::new(alloc),
+            found: None,
         }
     }
 
     pub(crate) fn get(&self, key: &Key) -> Option<usize>
         ensures { result ≡ map.get self.now.all key.now }
     {
+        self.place(key).slot
+    }
+
+    /// Looks the key up, so that it is not searched for again until a slot changes or another key is looked up.
+    pub(crate) fn look_up(&mut self, key: &Key)
+        ensures { self.new ≡ self.old }
+    {
+        let place = self.place(key);
+        // Without memory for the key it is searched for again.
+        self.found = match key.clone() {
+            Ok(key) => Some(Found { key, place }),
+            Err(_) => None,
+        };
+    }
+
+    fn place(&self, key: &Key) -> Place
+        ensures { IsPlaceOf self.now key.now result }
+    {
+        match &self.found {
+            Some(found) => {
+                if found.is_of(key) {
+                    found.place
+                } else {
+                    self.search(key)
+                }
+            }
+            None => self.search(key),
+        }
+    }
+
+    fn search(&self, key: &Key) -> Place
+        ensures { IsPlaceOf self.now key.now result }
+    {
         match self.listed.get(key) {
-            Some(slot) => Some(slot),
-            None => self.tombstones.get(key),
+            Some(slot) => Place {
+                listed: Some(slot),
+                slot: Some(slot),
+            },
+            None => Place {
+                listed: None,
+                slot: self.tombstones.get(key),
+            },
         }
     }
 
@@ -57,12 +103,14 @@ impl Index {
         ensures listed { IfOk result (λ slot. map.get self.new.listed key.now ≡ slot) }
         ensures kept { AreKept self.old.listed self.new.listed }
     {
-        if let Some(slot) = self.listed.get(key) {
+        let place = self.place(key);
+        if let Some(slot) = place.listed {
             return Ok(Some(slot));
         }
-        let Some(slot) = self.tombstones.get(key) else {
+        let Some(slot) = place.slot else {
             return Ok(None);
         };
+        self.found = None;
         // Listed before it leaves the others: where memory runs out, it still has its slot.
         self.listed.insert(alloc, key, slot)?;
         self.tombstones.remove(key);
@@ -74,6 +122,7 @@ impl Index {
         ensures ok { OnOk result (self.new ≡ with_key self.old key.now slot) }
         ensures err { OnErr result (self.new ≡ self.old) }
     {
+        self.found = None;
         self.listed.insert(alloc, key, slot)
     }
 
@@ -82,9 +131,10 @@ impl Index {
         ensures all { self.new.all ≡ self.old.all }
         ensures others { (k : Key) → k ≢ key.now → map.get self.new.listed k ≡ map.get self.old.listed k }
     {
-        let Some(slot) = self.listed.get(key) else {
+        let Some(slot) = self.place(key).listed else {
             return;
         };
+        self.found = None;
         if let Ok(()) = self.tombstones.insert(alloc, key, slot) {
             self.listed.remove(key);
         }
@@ -95,6 +145,7 @@ impl Index {
         ensures all { self.new.all ≡ map.remove self.old.all key.now }
         ensures others { (k : Key) → k ≢ key.now → map.get self.new.listed k ≡ map.get self.old.listed k }
     {
+        self.found = None;
         self.listed.remove(key);
         self.tombstones.remove(key);
     }

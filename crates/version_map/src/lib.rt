@@ -2,6 +2,7 @@
 #![tactic(auto)]
 
 mod chain;
+mod found;
 mod index;
 mod key_slots;
 mod laws;

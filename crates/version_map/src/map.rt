@@ -94,6 +94,14 @@ impl<V: Drop> VersionMap<V> {
         }
     }
 
+    /// Looks the key up, so that what is done with it next need not search for it: until another key is looked up, a new
+    /// one is put in, or one gets or loses a tombstone.
+    pub fn look_up(&mut self, key: &Key)
+        ensures { self.new ≡ self.old }
+    {
+        self.index.look_up(key);
+    }
+
     /// The number of the key's newest version, and the value; a removal has none.
     pub fn newest(&self, key: &Key) -> Option<(u64, Option<&V>)>
         ensures { option_map (λ p. (p.0, option_copied p.1)) result ≡ newest self.now.rows key.now }
@@ -133,12 +141,12 @@ impl<V: Drop> VersionMap<V> {
         let Some(number) = self.removed_at(key) else {
             return;
         };
+        self.note_removal(key);
         match self.room {
             Some(_) => {}
             None => {
                 self.index.set_tombstone(self.alloc, key);
                 self.gone_since = self.gone_since.max(number);
-                self.note_removal(key);
             }
         }
     }
@@ -163,13 +171,13 @@ impl<V: Drop> VersionMap<V> {
         }
     }
 
-    /// Puts a removal into the queue, with room for the slot that a forgotten key leaves.
+    /// Puts a removal into the queue.
     fn enqueue_removal(&mut self, number: u64, key: &Key) -> Result<(), AllocError>
         ensures { self.new ≡ self.old }
     {
         self.removed.reserve(1)?;
-        self.free.reserve(self.removed.len())?;
-        self.free.reserve(1)?;
+        // Each key in the queue leaves a slot when it is forgotten, and then no memory may be wanting.
+        self.free.reserve(self.removed.len().saturating_add(1))?;
         let key = key.clone()?;
         self.removed.push_back_reserved(Removal { number, key });
         Ok(())

@@ -109,7 +109,6 @@ impl Ord for ShortName {
     ghost matches_eq = { texts_ties };
 
     fn cmp(&self, other: &ShortName) -> Ordering {
-        // Looked at so that both invariants are known here; it costs nothing.
         let _ = &self.bytes;
         let _ = &other.bytes;
         self.number().cmp(&other.number())

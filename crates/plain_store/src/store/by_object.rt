@@ -1,5 +1,4 @@
 // Writes by way of objects, where a text alone is not enough.
-// What is still held at a way out goes by `drop`: that is proved once for a type, and not for each of its parts again.
 ghost use Rattle.std.specs.Prelude.{◌≡◌, ◌≢◌, ◌+◌, true, IfOk, OnErr};
 ghost use Rattle.std.specs.FinMap as finite;
 ghost use Rattle.std.specs.Option.{option_copied};
@@ -25,7 +24,6 @@ impl Plain {
         ensures step { IfOk result (λ answer. (self.new, answer.reply) ≡ step self.old request) }
         ensures memory { OnErr result (self.new ≡ self.old) }
     {
-        // Looked at so that the invariant is known here; it costs nothing.
         let _ = &self.versions;
         let Some(key) = request.key() else {
             unreachable!();
@@ -52,6 +50,8 @@ impl Plain {
         ensures there { IfOk result (λ current. current ≡ finite.get self.old.objects key.now) }
         ensures same { self.new ≡ self.old }
     {
+        // What changes the object next need not search for it again.
+        self.versions.look_up(key);
         read_back(
             self.versions.at(key, self.counter),
             &mut self.reader,

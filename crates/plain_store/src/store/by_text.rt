@@ -1,5 +1,4 @@
 // Writes that are judged over the text of the object that is there, with no object read back.
-// What is still held at a way out goes by `drop`: that is proved once for a type, and not for each of its parts again.
 ghost use Rattle.std.specs.Prelude.{◌≡◌, ◌≢◌, ◌+◌, true, None, IfOk, OnOk, OnErr, option_map};
 ghost use Rattle.std.specs.FinMap as finite;
 ghost use Rattle.std.specs.Option.{option_copied};
@@ -32,7 +31,6 @@ impl Plain {
         ensures step { IfOk result (λ printed. (self.new, reply_printed printed) ≡ step self.old request) }
         ensures memory { OnErr result (self.new ≡ self.old) }
     {
-        // Looked at so that the invariant is known here; it costs nothing.
         let _ = &self.versions;
         match request {
             Request::Update(draft) => {
@@ -63,7 +61,6 @@ impl Plain {
         ensures step { IfOk result (λ printed. (self.new, reply_printed printed) ≡ step self.old (Update draft)) }
         ensures memory { OnErr result (self.new ≡ self.old) }
     {
-        // Looked at so that the invariant is known here; it costs nothing.
         let _ = &self.versions;
         let Ok(key) = draft.object.key.clone() else {
             drop(draft);
@@ -93,7 +90,6 @@ impl Plain {
         ensures step { IfOk result (λ printed. (self.new, reply_printed printed) ≡ carried_out self.old key.now (update_verdict judged)) }
         ensures memory { OnErr result (self.new ≡ self.old) }
     {
-        // Looked at so that the invariant is known here; it costs nothing.
         let _ = &self.versions;
         match judged {
             UpdateJudgment::Refuse(reason) => Ok(PrintedReply::Refused(reason)),
@@ -122,7 +118,6 @@ impl Plain {
         ensures step { IfOk result (λ printed. (self.new, reply_printed printed) ≡ step self.old (UpdateStatus draft.now)) }
         ensures memory { OnErr result (self.new ≡ self.old) }
     {
-        // Looked at so that the invariant is known here; it costs nothing.
         let _ = &self.versions;
         match self.judge_status(draft)? {
             StatusJudgment::Refuse(reason) => Ok(PrintedReply::Refused(reason)),
@@ -188,7 +183,6 @@ impl Plain {
         ensures step { IfOk result (λ printed. (self.new, reply_printed printed) ≡ step self.old (Delete key uid version at)) }
         ensures memory { OnErr result (self.new ≡ self.old) }
     {
-        // Looked at so that the invariant is known here; it costs nothing.
         let _ = &self.versions;
         if is_graceful(key.kind, at.as_ref()) {
             let request = Request::Delete {
@@ -218,7 +212,6 @@ impl Plain {
             ≡ step self.old (Delete key.now (option_copied uid.entry) (option_copied version.entry) None)) }
         ensures memory { OnErr result (self.new ≡ self.old) }
     {
-        // Looked at so that the invariant is known here; it costs nothing.
         let _ = &self.versions;
         match self.judge_removal(key, uid, version)? {
             RemovalJudgment::Refuse(reason) => Ok(PrintedReply::Refused(reason)),
@@ -271,8 +264,8 @@ impl Plain {
         ensures reached { IsReached self.old }
         ensures same { self.new ≡ self.old }
     {
-        // Looked at so that the invariant is known here; it costs nothing.
-        let _ = &self.versions;
+        // What changes the object next need not search for it again.
+        self.versions.look_up(key);
         printed(
             self.versions.at(key, self.counter),
             &mut self.reader,

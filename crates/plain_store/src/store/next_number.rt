@@ -38,7 +38,6 @@ impl Plain {
     fn set_tombstone_if_removed(&mut self, kind: ChangeKind, key: &Key)
         ensures { self.new ≡ self.old }
     {
-        // Looked at so that the invariant is known here; it costs nothing.
         let _ = &self.versions;
         match kind {
             ChangeKind::Creation | ChangeKind::Update | ChangeKind::Mark => {}
