@@ -12,3 +12,4 @@ mod Items
 mod Values
 mod Maps
 mod Split
+mod Lengths

@@ -1,5 +1,5 @@
 -- The first member of a text, and those behind it.
-use Rattle.std.proofs.Common.{◌≡◌, ℕ, ◌+◌, ◌-◌, List, [], ◌∷◌, ◌++◌, length, Bool, true, false, Some, None, option_map, refl, subst, sym, ap, ◌∙◌, append_assoc, length-append, arith}
+use Rattle.std.proofs.Common.{◌≡◌, ℕ, ◌+◌, ◌-◌, ◌%◌, ◌^◌, ◌<◌, List, [], ◌∷◌, ◌++◌, length, Bool, true, false, Some, option_map, refl, subst, sym, ap, ◌∙◌, append_assoc, length-append, arith}
 use Rattle.std.proofs.lemmas.Map.Text.{is_eq-slice_cmp}
 use Rattle.std.proofs.lemmas.Slice.Eq.{bytes_eq-Decides}
 use Rattle.std.specs.Ordering.{nat_cmp, match_ordering, is_eq}
@@ -7,13 +7,13 @@ use Rattle.std.specs.declared.cmp.Ordering.{Ordering}
 use Rattle.std.specs.declared.cmp.Ordering.TheVariants.{Less, Equal, Greater}
 use Rattle.std.specs.Cmp.Lexicographic.{slice_cmp}
 use Rattle.json.specs.Print.{escape, quoted}
-use Rattle.serde_json.specs.Data.{Data, Members, no_members, member}
+use Rattle.serde_json.specs.Data.{Data, Members, no_members, member, object}
 use Rattle.serde_json.specs.Find.{get_member}
 use Rattle.serde_json.specs.Written.{compact_text, members_text}
 use Rattle.compact.specs.declared.entry.Entry.{Entry}
 use Rattle.compact.specs.Notes.{AreEntries}
-use Rattle.compact.specs.Fields.{IsBehind, IsLeft, IsFirst}
-use Rattle.compact.proofs.Search.{Opened}
+use Rattle.compact.specs.Fields.{IsLeft, IsFirst}
+use Rattle.compact.proofs.Search.{Opened, opened}
 
 -- the last members of a map up to the brace; behind the brace there is nothing left
 abbrev pub rest_text : Members → List ℕ
@@ -82,17 +82,6 @@ is_first ms entry key value left behind o key_is value_is left_is = record {
   entries_are = (o.entries_are, o.plain);
 }
 
-pub is_behind : (ms : Members) (entry : Entry) (left : List ℕ) (behind : List Entry) → (o : Opened ms entry behind) → left ≡ rest_text o.others → IsBehind ms entry.key left behind
-is_behind ms entry left behind o left_is = record {
-  key = o.l;
-  d = o.e;
-  others = o.others;
-  is = o.is;
-  key_is = omega (arith, o.key_is, length-append (escape o.l) (34 ∷ []), ap length o.own);
-  left_is = as_left o.others left left_is;
-  entries_are = (o.entries_are, o.plain);
-}
-
 -- ---- where a member is looked for
 
 -- so far no member had the name
@@ -102,16 +91,27 @@ pub record Looking (name : List ℕ) (ms : Members) (left : List ℕ) (entries :
   pub entries_are : AreEntries entries others
   pub same : get_member name ms ≡ get_member name others
 
-pub looking_begins : (name left : List ℕ) (ms : Members) (entries : List Entry) → IsLeft ms left → AreEntries entries ms → Looking name ms left entries
-looking_begins name left ms entries is are = record { others = ms; left_is = is; entries_are = are; same = refl }
+-- the same, and those to come stand in the text from there on
+pub record LookingFrom (name text : List ℕ) (ms : Members) (at : ℕ) (entries : List Entry) : Type 0 where
+  pub front : List ℕ
+  pub left : List ℕ
+  pub is : text ≡ front ++ left
+  pub at_is : length front ≡ at
+  pub looking : Looking name ms left entries
 
-clash : true ≡ false → ⊥
-clash e = cc
+pub looking_begins : (name text : List ℕ) (ms : Members) (entries : List Entry) → text ≡ compact_text (object ms) → AreEntries entries ms → LookingFrom name text ms 1 entries
+looking_begins name text ms entries is are = record {
+  front = 123 ∷ [];
+  left = members_text false ms;
+  is = is;
+  at_is = refl;
+  looking = record { others = ms; left_is = all_left ms (members_text false ms) refl; entries_are = are; same = refl };
+}
 
 equal_texts : (k l : List ℕ) → slice_cmp nat_cmp k l ≡ Equal → k ≡ l
 equal_texts k l is = (bytes_eq-Decides k l).0 (sym (is_eq-slice_cmp k l) ∙ ap is_eq is)
 
-differ_at : (o : Ordering) (name l : List ℕ) (d : Data) (ms : Members) → slice_cmp nat_cmp name l ≡ o → (name ≡ l → ⊥) → match_ordering o (get_member name ms) (Some d) (get_member name ms) ≡ get_member name ms
+pub differ_at : (o : Ordering) (name l : List ℕ) (d : Data) (ms : Members) → slice_cmp nat_cmp name l ≡ o → (name ≡ l → ⊥) → match_ordering o (get_member name ms) (Some d) (get_member name ms) ≡ get_member name ms
 differ_at Less name l d ms is other = refl
 differ_at Equal name l d ms is other = absurd (other (equal_texts name l is))
 differ_at Greater name l d ms is other = refl
@@ -125,25 +125,41 @@ here : (name l : List ℕ) (d : Data) (ms : Members) → l ≡ name → get_memb
 here name l d ms same =
     ap (λ o. match_ordering o (get_member name ms) (Some d) (get_member name ms)) (ap (slice_cmp nat_cmp name) same ∙ equal_of _ (is_eq-slice_cmp name name ∙ (bytes_eq-Decides name name).1 refl))
 
-differ : (name l : List ℕ) (d : Data) (ms : Members) (b : Bool) → (l ≡ name → b ≡ true) → b ≡ false → get_member name (member l d ms) ≡ get_member name ms
-differ name l d ms b same other = differ_at (slice_cmp nat_cmp name l) name l d ms refl (λ e. clash (sym (same (sym e)) ∙ other))
+clash : true ≡ false → ⊥
+clash e = cc
 
-pub looked : (name : List ℕ) (ms : Members) (left key value left2 : List ℕ) (entries entries2 : List Entry) (b : Bool) → (k : Looking name ms left entries) → IsFirst k.others key value left2 entries2 → (key ≡ name → b ≡ true) → b ≡ false → Looking name ms left2 entries2
-looked name ms left key value left2 entries entries2 b k f same other = record {
-  others = f.others;
-  left_is = f.left_is;
-  entries_are = f.entries_are;
-  same = k.same ∙ ap (get_member name) f.is ∙ differ name key f.d f.others b same other;
-}
+key_of : (all others others2 : Members) (key l : List ℕ) (d e : Data) → all ≡ member key d others → all ≡ member l e others2 → key ≡ l
+key_of all others others2 key l d e one two = let same : member key d others ≡ member l e others2 = sym one ∙ two in cc
 
--- the first of them is passed over, whose key is longer or shorter than the name
-pub passed : (name : List ℕ) (ms : Members) (left left2 : List ℕ) (entries entries2 : List Entry) (size : ℕ) → (k : Looking name ms left entries) → IsBehind k.others size left2 entries2 → (size ≡ length name + 2 → ⊥) → Looking name ms left2 entries2
-passed name ms left left2 entries entries2 size k f other = record {
-  others = f.others;
-  left_is = f.left_is;
-  entries_are = f.entries_are;
-  same = k.same ∙ ap (get_member name) f.is ∙ differ_at (slice_cmp nat_cmp name f.key) name f.key f.d f.others refl (λ e. other (f.key_is ∙ ap (λ s. length s + 2) (sym e)));
-}
+-- the first of them has a key of that length, and has another name
+pub differs : (name key value left : List ℕ) (all : Members) (entries : List Entry) (b : Bool) → IsFirst all key value left entries → (key ≡ name → b ≡ true) → b ≡ false
+    → (l : List ℕ) (d : Data) (others : Members) → all ≡ member l d others → name ≡ l → ⊥
+differs name key value left all entries b f same other l d others is e = clash (sym (same (key_of all f.others others key l f.d d f.is is ∙ sym e)) ∙ other)
+
+-- the first of them has another name, and those behind it stand in the text from there on
+pub passed : (name text : List ℕ) (ms : Members) (at next : ℕ) (entry : Entry) (entries behind : List Entry) → (k : LookingFrom name text ms at entries) → entries ≡ entry ∷ behind
+    → length text < 2 ^ 64 → next ≡ (at + entry.size) % 2 ^ 64
+    → ((l : List ℕ) (d : Data) (others : Members) → k.looking.others ≡ member l d others → entry.key ≡ length l + 2 → name ≡ l → ⊥) → LookingFrom name text ms next behind
+passed name text ms at next entry entries behind k is fits next_is other =
+    let o = opened k.looking.others entry behind entries k.looking.entries_are.0 is k.looking.entries_are.1 in
+    let p = parted k.left k.looking.others entry behind k.looking.left_is o in
+    let one = quoted o.l ++ 58 ∷ (compact_text o.e ++ end_of o.others ∷ []) in
+    let whole : text ≡ (k.front ++ one) ++ rest_text o.others = k.is ∙ ap (λ l. k.front ++ l) p.behind_at ∙ sym (append_assoc k.front one (rest_text o.others)) in
+    let size : length (k.front ++ one) ≡ at + entry.size = length-append k.front one ∙ (λ i. k.at_is i + p.behind_begins i) in
+    let room : at + entry.size < 2 ^ 64 = omega (arith, fits, ap length whole, length-append (k.front ++ one) (rest_text o.others), size) in
+    let key : entry.key ≡ length o.l + 2 = omega (arith, o.key_is, length-append (escape o.l) (34 ∷ []), ap length o.own) in
+    record {
+      front = k.front ++ one;
+      left = rest_text o.others;
+      is = whole;
+      at_is = omega (arith, size, room, next_is);
+      looking = record {
+        others = o.others;
+        left_is = as_left o.others (rest_text o.others) refl;
+        entries_are = (o.entries_are, o.plain);
+        same = k.looking.same ∙ ap (get_member name) o.is ∙ differ_at (slice_cmp nat_cmp name o.l) name o.l o.e o.others refl (other o.l o.e o.others o.is key);
+      };
+    }
 
 pub found : (name : List ℕ) (ms : Members) (left key value left2 : List ℕ) (entries entries2 : List Entry) → (k : Looking name ms left entries) → IsFirst k.others key value left2 entries2 → key ≡ name → Some value ≡ option_map compact_text (get_member name ms)
 found name ms left key value left2 entries entries2 k f same =

@@ -1,5 +1,5 @@
 -- The members of a map, as they are written.
-use Rattle.std.specs.Prelude.{⊤, ◌≡◌, ◌+◌, ℕ, List, length, false}
+use Rattle.std.specs.Prelude.{⊤, ◌≡◌, ℕ, List, false}
 use Rattle.serde_json.specs.Data.{Data, Members, no_members, member}
 use Rattle.serde_json.specs.Written.{compact_text, members_text}
 use Rattle.compact.specs.declared.entry.Entry.{Entry}
@@ -16,15 +16,5 @@ pub record IsFirst (ms : Members) (key value left : List ℕ) (entries : List En
   pub others : Members
   pub is : ms ≡ member key d others
   pub value_is : value ≡ compact_text d
-  pub left_is : IsLeft others left
-  pub entries_are : AreEntries entries others
-
--- the members have a first one, whose key takes that many bytes with its quotes, with those left behind it
-pub record IsBehind (ms : Members) (size : ℕ) (left : List ℕ) (entries : List Entry) : Type 0 where
-  pub key : List ℕ
-  pub d : Data
-  pub others : Members
-  pub is : ms ≡ member key d others
-  pub key_is : size ≡ length key + 2
   pub left_is : IsLeft others left
   pub entries_are : AreEntries entries others

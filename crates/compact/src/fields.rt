@@ -4,7 +4,7 @@ ghost use Rattle.serde_json.specs.Data.{Members, no_members, object};
 ghost use Rattle.serde_json.specs.Find.{get_member};
 ghost use Rattle.serde_json.specs.Written.{compact_text};
 ghost use Rattle.compact.specs.Notes.{AreEntries};
-ghost use Rattle.compact.specs.Fields.{IsBehind, IsLeft, IsFirst};
+ghost use Rattle.compact.specs.Fields.{IsLeft, IsFirst};
 
 use crate::entry::Entry;
 use crate::table::Table;
@@ -39,18 +39,6 @@ impl<'t, 'e> Fields<'t, 'e> {
         let left = rest_from(self.left, entry.size);
         Some((Field { key, value }, Fields { left, entries }))
     }
-
-    /// Those behind the first member, given its lengths and those of the others.
-    #[inline(always)]
-    fn behind(self, first: Entry, entries: &'e [Entry]) -> Fields<'t, 'e>
-        ensures behind { (ms : Members) → IsLeft ms self.entry.left.now → AreEntries (first ∷ entries.now) ms → IsBehind ms first.key result.left.now result.entries.now }
-        ensures entries { result.entries.now ≡ entries.now }
-    {
-        Fields {
-            left: rest_from(self.left, first.size),
-            entries,
-        }
-    }
 }
 
 impl Table {
@@ -72,19 +60,24 @@ impl Table {
         ensures { (ms : Members) → text.now ≡ compact_text (object ms) → AreEntries self.now ms
             → option_map (λ v. v.now) result ≡ option_map compact_text (get_member name.now ms) }
     {
-        let mut fields = self.fields(text);
-        'members: while let Some((entry, entries)) = fields.entries.split_first() {
-            let entry = *entry;
+        let size = name.len() + 2;
+        if !self.may_have(size) {
+            return None;
+        }
+        // The members still to come, and where the first of them begins.
+        let mut entries = self.as_slice();
+        let mut at: usize = 1;
+        'members: while let Some((entry, others)) = entries.split_first() {
             // Most members are told by the length of their key, which has its quotes in the table.
-            if entry.key.saturating_sub(2) == name.len() {
-                let (field, others) = fields.split_first()?;
+            if entry.key == size {
+                let left = rest_from(text, at);
+                let (field, _others) = Fields { left, entries }.split_first()?;
                 if field.key == name {
                     return Some(field.value);
                 }
-                fields = others;
-            } else {
-                fields = fields.behind(entry, entries);
             }
+            at = at.wrapping_add(entry.size);
+            entries = others;
         }
         None
     }

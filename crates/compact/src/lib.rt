@@ -5,6 +5,7 @@
 mod controls;
 mod entry;
 mod fields;
+mod keys;
 mod level;
 mod moving;
 mod numbers;
@@ -19,6 +20,7 @@ mod texts;
 
 pub use entry::Entry;
 pub use fields::{Field, Fields};
+pub use keys::compare_keys;
 pub use scanner::Scanner;
 pub use table::Table;
 pub use tables::Tables;

@@ -7,6 +7,7 @@ ghost use Rattle.compact.specs.Notes.{entries_of, HavePlainKeys};
 ghost use Rattle.compact.specs.Places.{HasSlot, HasLast, HasPlace};
 
 use crate::entry::Entry;
+use crate::keys::compare_keys;
 use std::cmp::Ordering;
 
 /// The index and the place of a member, unless one before it has its key. Most often none is above it: that is told by the
@@ -26,7 +27,7 @@ pub(crate) fn place_of(
     };
     let new = key_at(text, at, key)?;
     let other = key_at(text, at.checked_sub(last.size)?, last.key)?;
-    match new.cmp(other) {
+    match compare_keys(new, other) {
         Ordering::Less => slot_of(text, entries, at, key),
         Ordering::Equal => None,
         Ordering::Greater => Some((entries.len(), at)),
@@ -44,7 +45,7 @@ fn slot_of(text: &[u8], entries: &[Entry], at: usize, key: usize) -> Option<(usi
     let mut left = entries;
     'slots: while let Some((entry, behind)) = left.split_first() {
         let other = key_at(text, start, entry.key)?;
-        match new.cmp(other) {
+        match compare_keys(new, other) {
             Ordering::Less => return Some((index, start)),
             Ordering::Equal => return None,
             Ordering::Greater => {}

@@ -5,4 +5,5 @@ mod Cursors
 mod LabelTexts
 mod OwnerTexts
 mod Drafting
+mod KindTexts
 pub mod Readings

@@ -20,5 +20,5 @@ pub use laws::what_is_read_is_canonical;
 pub use map::Map;
 pub use meta::{CompactMeta, meta_of};
 pub use owners::owners_fit;
-pub use parts::{is_of_version, key_of, kind_of, namespace_of};
+pub use parts::{is_of_version, key_of, kind_named, kind_of, namespace_of};
 pub use text::text_of;

@@ -2,23 +2,44 @@
 ghost use Rattle.std.specs.Prelude.{◌≡◌, IsTrue, codes, Ok, true, IfOk, IfSome, option_map};
 ghost use Rattle.serde_json.specs.Data.{Members};
 ghost use Rattle.serde_json.specs.Find.{get_member};
-ghost use Rattle.objects.specs.Kind.{api_version};
+ghost use Rattle.objects.specs.Kind.{api_version, kind_name};
 ghost use Rattle.objects.specs.Object.{is_missing_or};
 ghost use Rattle.objects.specs.Reading.{key_of, kind_in, namespace_in};
 ghost use Rattle.objects.specs.declared.fault.ReadError.TheVariants.{BadName};
 ghost use Rattle.compact_drafts.specs.Maps.{IsMap};
 
 use crate::map::Map;
-use crate::text::text_of;
+use crate::text::{inside_of, says};
 use objects::{Key, Kind, Memory, ReadError};
 use std::alloc::Global;
 
 /// The kind that the member `kind` names.
-#[tactic(auto, unfolding(objects::specs::Reading::kind_in))]
 pub fn kind_of(object: Map<'_>) -> Option<Kind>
     ensures { (ms : Members) → IsMap object.entry.text.now object.entry.table.now ms → IfSome result (λ kind. kind_in ms ≡ Ok kind) }
 {
-    Kind::named(text_of(object.member("kind")?)?)
+    let value = object.member("kind")?;
+    let name = inside_of(value)?;
+    let kind = kind_named(name)?;
+    Some(kind)
+}
+
+/// The kind of that name. Its length tells which one it can be.
+#[inline(always)]
+pub fn kind_named(name: &[u8]) -> Option<Kind>
+    ensures { IfSome result (λ kind. name.now ≡ kind_name kind) }
+{
+    let kind = match name.len() {
+        3 => Kind::Pod,
+        11 => Kind::StatefulSet,
+        18 => Kind::ControllerRevision,
+        21 => Kind::PersistentVolumeClaim,
+        _ => return None,
+    };
+    if name == kind.name().as_bytes() {
+        Some(kind)
+    } else {
+        None
+    }
 }
 
 /// Whether the member `apiVersion` is missing or that of the kind.
@@ -28,7 +49,7 @@ pub fn is_of_version(object: Map<'_>, kind: Kind) -> bool
 {
     match object.member("apiVersion") {
         None => true,
-        Some(value) => text_of(value) == Some(kind.api_version()),
+        Some(value) => says(value, kind.api_version()),
     }
 }
 

@@ -1,17 +1,45 @@
 // Texts as they are written.
-ghost use Rattle.std.specs.Prelude.{◌≡◌, IfSome};
+ghost use Rattle.std.specs.Prelude.{◌≡◌, ◌∷◌, ◌++◌, [], IsTrue, IfSome};
 ghost use Rattle.serde_json.specs.Data.{Data, string};
 ghost use Rattle.serde_json.specs.Written.{compact_text};
 
-use std::str::from_utf8;
+use std::str::{from_utf8, from_utf8_unchecked};
+
+/// What stands between the quotes of a value that is a text, given as it is written.
+#[inline(always)]
+pub(crate) fn inside_of(value: &[u8]) -> Option<&[u8]>
+    ensures { IfSome result (λ inside. value.now ≡ 34 ∷ (inside.now ++ 34 ∷ [])) }
+{
+    let (first, behind) = value.split_first()?;
+    let (last, inside) = behind.split_last()?;
+    if *first == b'"' && *last == b'"' {
+        Some(inside)
+    } else {
+        None
+    }
+}
+
+/// Whether a value, given as it is written, is that text; not where the text takes an escape.
+#[inline(always)]
+pub(crate) fn says(value: &[u8], text: &str) -> bool
+    ensures { IsTrue result → value.now ≡ 34 ∷ (text.now ++ 34 ∷ []) }
+{
+    match inside_of(value) {
+        Some(inside) => inside == text.as_bytes(),
+        None => false,
+    }
+}
 
 /// The text that a value says, given as it is written; none where the value is no text, or one with an escape.
 pub fn text_of(value: &[u8]) -> Option<&str>
     ensures { (v : Data) → value.now ≡ compact_text v → IfSome result (λ text. v ≡ string text.now) }
 {
-    let inside = value.strip_prefix(b"\"")?.strip_suffix(b"\"")?;
+    let inside = inside_of(value)?;
     if inside.contains(&b'\\') {
         return None;
+    }
+    if inside.is_ascii() {
+        return Some(unsafe { from_utf8_unchecked(inside) });
     }
     match from_utf8(inside) {
         Ok(text) => Some(text),

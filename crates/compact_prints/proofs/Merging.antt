@@ -1,6 +1,6 @@
 -- Members that are written in order, with those that are set among them.
-use Rattle.std.proofs.Common.{◌≡◌, ℕ, List, [], ◌∷◌, ◌++◌, Bool, true, false, cond, Option, Some, None, refl, sym, ap, ◌∙◌, ◌⊎◌, inl, inr, subst, append_assoc, append-nil}
-use Rattle.std.specs.Prelude.{⊤}
+use Rattle.std.proofs.Common.{◌≡◌, ℕ, List, [], ◌∷◌, ◌++◌, Bool, true, false, cond, Option, Some, None, refl, sym, ap, ◌∙◌, ◌⊎◌, inl, inr, subst, append_assoc, append-nil, length, length-append, drop, ◌+◌, arith}
+use Rattle.std.specs.Prelude.{⊤, slice_get}
 use Rattle.std.specs.Ordering.{nat_cmp, ordering_reverse}
 use Rattle.std.specs.declared.cmp.Ordering.{Ordering}
 use Rattle.std.specs.declared.cmp.Ordering.TheVariants.{Less, Equal, Greater}
@@ -13,7 +13,7 @@ use Rattle.trees.specs.Tree.{AreAscending, ComesBefore}
 use Rattle.trees.proofs.EntryPositions.{before_put}
 use Rattle.trees.proofs.PutOrder.{before_next, equal_texts}
 use Rattle.compact.specs.Fields.{IsFirst, IsLeft}
-use Rattle.compact.specs.Notes.{AreEntries}
+use Rattle.compact.specs.Notes.{AreEntries, entries_of, entry_of}
 use Rattle.compact.specs.declared.entry.Entry.{Entry}
 use Rattle.objects.specs.Merged.{IsBelowAll, puts}
 use Rattle.compact_prints.specs.Merging.{AreBelow, IsKept, WritesBelow, WritesStep, field_text, is_set, other_text, rest_text, some_text, without}
@@ -65,6 +65,42 @@ member_first : (l v rest : List ℕ) → escape l ≡ l → 44 ∷ (quoted l ++ 
 member_first l v rest own =
     ap (λ k. 44 ∷ 34 ∷ ((k ++ 34 ∷ []) ++ 58 ∷ (v ++ rest))) own
     ∙ ap (λ t. 44 ∷ 34 ∷ t) (append_assoc l (34 ∷ []) (58 ∷ (v ++ rest)) ∙ sym (append_assoc l (34 ∷ 58 ∷ v) rest))
+
+-- The first of these members stands at the head of their text, in so many bytes but for the comma or brace behind it.
+pub record HasFirst (key value left : List ℕ) (size : ℕ) : Type 0 where
+  pub text : List ℕ
+  pub back : List ℕ
+  pub is : left ≡ text ++ back
+  pub size_is : size ≡ length text + 1
+  pub text_is : 44 ∷ text ≡ field_text key value
+
+first_size : (e f : Entry) (fs entries : List Entry) → f ∷ fs ≡ entries → Some e ≡ slice_get entries 0 → e.size ≡ f.size
+first_size e f fs entries are at =
+    let some : Some e ≡ Some f = at ∙ ap (λ es. slice_get es 0) (sym are) in
+    let same : e ≡ f = cc in
+    ap (λ (x : Entry). x.size) same
+
+first_split : (l v rest : List ℕ) (e : Data) → escape l ≡ l → v ≡ compact_text e → quoted l ++ 58 ∷ (compact_text e ++ rest) ≡ (34 ∷ (l ++ 34 ∷ 58 ∷ v)) ++ rest
+first_split l v rest e own is = ap (λ t. quoted l ++ 58 ∷ (t ++ rest)) (sym is) ∙ ap (drop 1) (member_first l v rest own)
+
+pub has_first : (ms : Members) (key value left left2 : List ℕ) (entries entries2 : List Entry) (e : Entry) → IsLeft ms left → AreEntries entries ms → (f : IsFirst ms key value left2 entries2) → Some e ≡ slice_get entries 0
+    → HasFirst key value left e.size
+has_first ms key value left left2 entries entries2 e is are f at =
+    let entered = subst (AreEntries entries) f.is are in
+    let own = entered.1.0 in
+    let text : List ℕ = 34 ∷ (key ++ 34 ∷ 58 ∷ value) in
+    let size = first_size e (entry_of key f.d) (entries_of f.others) entries entered.0 at in
+    let ended = ap length (first_split key value (44 ∷ []) f.d own f.value_is) in
+    record {
+      text = text;
+      back = members_text true f.others;
+      is = subst (λ m. IsLeft m left) f.is is ∙ first_split key value (members_text true f.others) f.d own f.value_is;
+      size_is = omega (arith, size, ended, length-append text (44 ∷ []));
+      text_is = refl;
+    }
+
+pub other_is : (part : Part) (k v : List ℕ) → is_set part k ≡ false → field_text k v ≡ other_text part k v
+other_is part k v kept = ap (λ b. cond b [] (field_text k v)) (sym kept)
 
 passed_at : (b : Bool) (hs : Set) (l v : List ℕ) (e : Data) (ms : Members) → escape l ≡ l → AreAbove l hs → v ≡ compact_text e
     → members_text true (puts hs (cond b ms (member l e ms))) ≡ cond b [] (field_text l v) ++ members_text true (puts hs ms)
@@ -219,6 +255,9 @@ pub key_text : (part : Part) (k : List ℕ) (v : Option Data) (ms : Members) (le
     → (hs : Set) → IsBelowAll k hs → rest_text part ((k, v) ∷ hs) ms ≡ w.bytes ++ (some_text k v ++ rest_text part hs w.rest)
 key_text part k v ms left entries old new w hs later =
     w.written hs v later ∙ ap (λ t. w.bytes ++ t) (text_some k v (puts hs (without part w.rest)) (before_puts hs k (without part w.rest) w.before later))
+
+pub below_at : (part : Part) (j k : List ℕ) (ms : Members) (left : List ℕ) (entries : List Entry) (old new : List ℕ) → j ≡ k → WritesBelow part j ms left entries old new → WritesBelow part k ms left entries old new
+below_at part j k ms left entries old new is w = subst (λ x. WritesBelow part x ms left entries old new) is w
 
 -- the member of that key was written behind those below it
 pub step_written : (part : Part) (k : List ℕ) (v : Option Data) (ms : Members) (left : List ℕ) (entries : List Entry) (old mid new : List ℕ) → (w : WritesBelow part k ms left entries old mid) → new ≡ mid ++ some_text k v

@@ -1,23 +1,27 @@
 -- What the store sets in the metadata needs no escape, but for the time of deletion.
-use Rattle.std.proofs.Common.{◌≡◌, ℕ, ◌/◌, ◌%◌, ◌<◌, ◌==◌, List, [], ◌∷◌, ◌++◌, drop, Bool, true, false, Some, codes, refl, sym, ap, ◌∙◌, subst, append_assoc, arith}
-use Rattle.std.specs.Prelude.{⊤, bytes_eq, if◌then◌else◌, slice_index}
+use Rattle.std.proofs.Common.{◌≡◌, ℕ, ◌/◌, ◌%◌, ◌<◌, ◌==◌, List, [], ◌∷◌, ◌++◌, drop, Bool, true, false, Some, codes, refl, sym, ap, ◌∙◌, subst, arith}
+use Rattle.std.specs.Prelude.{⊤, decimal, if◌then◌else◌, is_ok, None, OnOk, Result, Ok, Err, slice_index}
 use Rattle.std.specs.Int.{w64, to_be_bytes}
 use Rattle.std.specs.List.{list_all}
 use Rattle.std.proofs.lemmas.Bool.{and_parts, eqb-true}
 use Rattle.std.proofs.lemmas.List.Elements.{All-get_or}
 use Rattle.std.proofs.lemmas.List.Sums.{AllPass-from_list_all}
-use Rattle.std.proofs.lemmas.Slice.Eq.{bytes_eq-Decides}
 use Rattle.hex.specs.Hex.{encode_lower, encode_with, lower_digits}
-use Rattle.json.specs.Print.{escape, escape_byte, quoted}
-use Rattle.serde_json.specs.Data.{string}
+use Rattle.json.specs.Print.{escape, escape_byte}
+use Rattle.serde_json.specs.Data.{Data, number, string, unsigned}
 use Rattle.objects.specs.Key.{KeyParts, is_key}
 use Rattle.objects.specs.Kind.{is_name}
 use Rattle.objects.specs.Names.{is_dns_label, is_subdomain_byte}
+use Rattle.objects.specs.Text.{unless_zero}
 use Rattle.objects.specs.Uid.{twelve_digits, uid_prefix, uid_text}
-use Rattle.compact_prints.specs.Merging.{field_text, is_set, some_text}
-use Rattle.compact_prints.specs.declared.part.Part.{Part}
-use Rattle.compact_prints.specs.declared.part.Part.TheVariants.{Metadata, Object}
-use Rattle.compact_prints.proofs.PlainNames.{by_either, label_plain, name_plain, plain_bytes}
+use Rattle.compact_prints.specs.Merging.{held_key, is_set, some_text, uid_data}
+use Rattle.compact_prints.specs.declared.held.Held.{Held}
+use Rattle.compact_prints.specs.declared.held.Held.TheVariants.{DeletionTimestamp, Generation, Name, Namespace, Uid}
+use Rattle.compact_prints.specs.declared.part.Part.TheVariants.{Metadata}
+use Rattle.compact_prints.proofs.PlainNames.{label_plain, name_plain, plain_bytes}
+
+pub same_plain : (k l : List ℕ) → escape l ≡ l → k ≡ l → escape k ≡ k
+same_plain k l own is = subst (λ t. escape t ≡ t) (sym is) own
 
 -- ---- a key
 
@@ -54,45 +58,49 @@ pub uid_plain : (n : ℕ) → escape (uid_text n) ≡ uid_text n
 unfolding uid_text
 uid_plain n = plain_unless (n == 0) (uid_prefix ++ twelve_digits n) (plain_bytes (uid_prefix ++ twelve_digits n) (digits_are (drop 2 (to_be_bytes w64 n)) (six_bytes n)))
 
--- ---- a UID with its quotes, as the value of a member
+-- ---- members that are set, as they are written
+
+-- of a call that failed, nothing is told
+pub extended : {T E : Type 0} (r : Result T E) (made old new : List ℕ) → new ≡ (if is_ok r then made else old) → OnOk r (new ≡ made)
+extended (Ok x) made old new is = is
+extended (Err e) made old new is = tt
 
 uid_by : (none : Bool) (n : ℕ) → n == 0 ≡ none → (n ≡ 0 → ⊥) → uid_text n ≡ uid_prefix ++ twelve_digits n
 unfolding uid_text
 uid_by true n is other = absurd (other (eqb-true n 0 is))
 uid_by false n is other = ap (λ (b : Bool). if b then [] else uid_prefix ++ twelve_digits n) is
 
-pub no_uid : (n : ℕ) → n ≡ 0 → 34 ∷ 34 ∷ [] ≡ quoted (uid_text n)
-unfolding uid_text
-no_uid n is = subst (λ m. 34 ∷ 34 ∷ [] ≡ quoted (uid_text m)) (sym is) refl
+some_by : (none : Bool) (n : ℕ) (d : Data) → n == 0 ≡ none → (n ≡ 0 → ⊥) → unless_zero n d ≡ Some d
+some_by true n d is other = absurd (other (eqb-true n 0 is))
+some_by false n d is other = ap (λ (b : Bool). if b then None else Some d) is
 
-pub uid_quoted : (n : ℕ) → (n ≡ 0 → ⊥) → 34 ∷ ((uid_prefix ++ twelve_digits n) ++ 34 ∷ []) ≡ quoted (uid_text n)
-uid_quoted n other = ap (λ s. 34 ∷ (s ++ 34 ∷ [])) (sym (uid_plain n ∙ uid_by (n == 0) n refl other))
+pub no_member : (k : List ℕ) (n : ℕ) (d : Data) → n ≡ 0 → [] ≡ some_text k (unless_zero n d)
+no_member k n d is = ap (λ m. some_text k (unless_zero m d)) (sym is)
 
-pub member_quoted : (k v s : List ℕ) → escape k ≡ k → v ≡ quoted s → field_text k v ≡ some_text k (Some (string s))
-member_quoted k v s own is =
-    ap (λ t. 44 ∷ 34 ∷ (k ++ 34 ∷ 58 ∷ t)) is
-    ∙ sym (ap (λ t. 44 ∷ 34 ∷ ((t ++ 34 ∷ []) ++ 58 ∷ quoted s)) own ∙ ap (λ t. 44 ∷ 34 ∷ t) (append_assoc k (34 ∷ []) (58 ∷ quoted s)))
+pub some_member : (k : List ℕ) (n : ℕ) (d : Data) → (n ≡ 0 → ⊥) → some_text k (Some d) ≡ some_text k (unless_zero n d)
+some_member k n d other = ap (some_text k) (sym (some_by (n == 0) n d refl other))
 
--- ---- the keys of members that are set
-
-pub same_plain : (k l : List ℕ) → escape l ≡ l → k ≡ l → escape k ≡ k
-same_plain k l own is = subst (λ t. escape t ≡ t) (sym is) own
-
-pub set_plain : (part : Part) (k : List ℕ) → is_set part k ≡ true → escape k ≡ k
+pub generation_text : (n : ℕ) → (n ≡ 0 → ⊥) → codes ",\"generation\":" ++ decimal n ≡ some_text (codes "generation") (unless_zero n (number (unsigned n)))
 unfolding escape_byte
-set_plain Object k h =
-    by_either (bytes_eq (codes "metadata") k) (bytes_eq (codes "status") k) h
-    (λ e. same_plain k (codes "metadata") refl (sym ((bytes_eq-Decides (codes "metadata") k).0 e)))
-    (λ e. same_plain k (codes "status") refl (sym ((bytes_eq-Decides (codes "status") k).0 e)))
-set_plain Metadata k h =
-    by_either _ _ h
-    (λ h4. by_either _ _ h4
-    (λ h3. by_either _ _ h3
-    (λ h2. by_either _ _ h2
-    (λ h1. by_either _ _ h1
-    (λ e. same_plain k (codes "deletionTimestamp") refl ((bytes_eq-Decides k (codes "deletionTimestamp")).0 e))
-    (λ e. same_plain k (codes "generation") refl ((bytes_eq-Decides k (codes "generation")).0 e)))
-    (λ e. same_plain k (codes "name") refl ((bytes_eq-Decides k (codes "name")).0 e)))
-    (λ e. same_plain k (codes "namespace") refl ((bytes_eq-Decides k (codes "namespace")).0 e)))
-    (λ e. same_plain k (codes "resourceVersion") refl ((bytes_eq-Decides k (codes "resourceVersion")).0 e)))
-    (λ e. same_plain k (codes "uid") refl ((bytes_eq-Decides k (codes "uid")).0 e))
+generation_text n other = some_member (codes "generation") n (number (unsigned n)) other
+
+pub name_text : (s : List ℕ) → escape s ≡ s → codes ",\"name\":\"" ++ (s ++ 34 ∷ []) ≡ some_text (codes "name") (Some (string s))
+unfolding escape_byte
+name_text s own = ap (λ t. codes ",\"name\":\"" ++ (t ++ 34 ∷ [])) (sym own)
+
+pub namespace_text : (s : List ℕ) → escape s ≡ s → codes ",\"namespace\":\"" ++ (s ++ 34 ∷ []) ≡ some_text (codes "namespace") (Some (string s))
+unfolding escape_byte
+namespace_text s own = ap (λ t. codes ",\"namespace\":\"" ++ (t ++ 34 ∷ [])) (sym own)
+
+pub uid_member : (n : ℕ) → (n ≡ 0 → ⊥) → codes ",\"uid\":\"" ++ ((uid_prefix ++ twelve_digits n) ++ 34 ∷ []) ≡ some_text (codes "uid") (uid_data n)
+unfolding escape_byte
+uid_member n other =
+    ap (λ t. codes ",\"uid\":\"" ++ (t ++ 34 ∷ [])) (sym (uid_plain n ∙ uid_by (n == 0) n refl other))
+    ∙ some_member (codes "uid") n (string (uid_text n)) other
+
+pub held_is_set : (h : Held) → is_set Metadata (held_key h) ≡ true
+held_is_set (DeletionTimestamp s) = refl
+held_is_set (Generation n) = refl
+held_is_set (Name s) = refl
+held_is_set (Namespace s) = refl
+held_is_set (Uid n) = refl

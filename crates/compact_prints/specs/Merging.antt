@@ -18,7 +18,7 @@ use Rattle.objects.specs.Object.{is_held}
 use Rattle.objects.specs.Text.{unless_zero}
 use Rattle.objects.specs.Uid.{uid_text}
 use Rattle.compact_prints.specs.declared.held.Held.{Held}
-use Rattle.compact_prints.specs.declared.held.Held.TheVariants.{Integer, Plain, Text, Uid}
+use Rattle.compact_prints.specs.declared.held.Held.TheVariants.{DeletionTimestamp, Generation, Name, Namespace, Uid}
 use Rattle.compact_prints.specs.declared.part.Part.{Part}
 use Rattle.compact_prints.specs.declared.part.Part.TheVariants.{Metadata, Object}
 
@@ -32,11 +32,22 @@ abbrev pub without : Part → Members → Members
 without part no_members = no_members
 without part (member k d ms) = cond (is_set part k) (without part ms) (member k d (without part ms))
 
-abbrev pub held_data : Held → Data
-held_data (Plain s) = string s.text.now
-held_data (Text s) = string s.now
-held_data (Integer n) = number (unsigned n)
-held_data (Uid n) = string (uid_text n)
+abbrev pub held_key : Held → List ℕ
+held_key (DeletionTimestamp s) = codes "deletionTimestamp"
+held_key (Generation n) = codes "generation"
+held_key (Name s) = codes "name"
+held_key (Namespace s) = codes "namespace"
+held_key (Uid n) = codes "uid"
+
+abbrev pub uid_data : ℕ → Option Data
+uid_data n = unless_zero n (string (uid_text n))
+
+abbrev pub held_data : Held → Option Data
+held_data (DeletionTimestamp s) = option_map string (option_map (λ t. t.now) s)
+held_data (Generation n) = unless_zero n (number (unsigned n))
+held_data (Name s) = Some (string s.text.now)
+held_data (Namespace s) = Some (string s.text.now)
+held_data (Uid n) = uid_data n
 
 -- what the store sets in the metadata, with that resource version and that UID
 abbrev pub held_with : KeyParts → MetaParts → Option Data → Option Data → List (List ℕ × Option Data)
@@ -44,9 +55,6 @@ held_with key meta version uid =
     (codes "deletionTimestamp", option_map string meta.deletion) ∷ (codes "generation", unless_zero meta.generation (number (unsigned meta.generation)))
     ∷ (codes "name", Some (string key.name)) ∷ (codes "namespace", Some (string key.namespace))
     ∷ (codes "resourceVersion", version) ∷ (codes "uid", uid) ∷ []
-
-abbrev pub uid_data : ℕ → Option Data
-uid_data n = unless_zero n (string (uid_text n))
 
 -- the members of an object with that metadata and that status, and these others
 abbrev pub object_with : Members → Option Data → Members → Members

@@ -1,38 +1,50 @@
 // The members of a map and those that the store sets, in byte order.
-ghost use Rattle.std.specs.Prelude.{◌≡◌, ◌++◌, IfOk, OnOk, option_map, true};
-ghost use Rattle.std.specs.Ordering.{nat_cmp};
-ghost use Rattle.std.specs.Cmp.Lexicographic.{slice_cmp};
+ghost use Rattle.std.specs.Prelude.{◌≡◌, ◌++◌, ◌∷◌, ℕ, List, length, IfOk, OnOk, true};
 ghost use Rattle.serde_json.specs.Data.{Members};
 ghost use Rattle.serde_json.specs.Written.{members_text};
 ghost use Rattle.trees.specs.Tree.{AreAscending};
-ghost use Rattle.compact.specs.Fields.{IsLeft};
+ghost use Rattle.compact.specs.Fields.{IsFirst, IsLeft};
 ghost use Rattle.compact.specs.Notes.{AreEntries};
-ghost use Rattle.compact_prints.specs.Merging.{held_data, is_set, other_text, without, WritesBelow, WritesStep};
+ghost use Rattle.compact.specs.declared.entry.Entry.{Entry};
+ghost use Rattle.compact_prints.specs.Merging.{field_text, held_data, held_key, is_set, other_text, without, WritesBelow, WritesStep};
+ghost use Rattle.compact_prints.specs.declared.part.Part.TheVariants.{Metadata as MetadataPart};
 
-use crate::held::{Held, write_field, write_held};
+use crate::held::{Held, write_held};
 use crate::part::{Part, is_set};
-use compact::{Field, Fields};
+use compact::{Fields, compare_keys};
 use std::alloc::{AllocError, Global};
 use std::cmp::Ordering;
 
-/// Writes a member, unless the store sets it.
-fn write_other(part: Part, field: Field<'_>, out: &mut Vec<u8>) -> Result<(), AllocError>
-    ensures { OnOk result (out.new.items ≡ out.old.items ++ other_text part field.entry.key.now field.entry.value.now) }
+/// Writes the member of that key as it stands, with a comma before it, unless the store sets it.
+fn write_other(part: Part, key: &[u8], member: &[u8], out: &mut Vec<u8>) -> Result<(), AllocError>
+    ensures { (value : List ℕ) → 44 ∷ member.now ≡ field_text key.now value
+        → OnOk result (out.new.items ≡ out.old.items ++ other_text part key.now value) }
 {
-    if is_set(part, field.key) {
+    if is_set(part, key) {
         return Ok(());
     }
-    write_field(field.key, field.value, out)
+    out.push(b',')?;
+    out.extend_from_slice(member)
 }
 
-// The order of two keys. Most differ in their first byte, which is told sooner than how two slices compare.
-fn order(key: &[u8], other: &[u8]) -> Ordering
-    ensures { result ≡ slice_cmp nat_cmp key.now other.now }
+// The first of these members as it is written, with no comma.
+#[inline(always)]
+fn first_text<'t>(fields: Fields<'t, '_>) -> &'t [u8]
+    ensures { (ms : Members) (key value left : List ℕ) (entries : List Entry) → IsLeft ms fields.entry.left.now → AreEntries fields.entry.entries.now ms → IsFirst ms key value left entries
+        → 44 ∷ result.now ≡ field_text key value }
 {
-    match (key.first(), other.first()) {
-        (Some(one), Some(two)) if one != two => one.cmp(two),
-        _ => key.cmp(other),
+    match fields.entries.first() {
+        Some(entry) => front_of(fields.left, entry.size.saturating_sub(1)),
+        None => &[],
     }
+}
+
+// What stands before a place.
+#[inline(always)]
+fn front_of(text: &[u8], end: usize) -> &[u8]
+    ensures { (front back : List ℕ) → text.now ≡ front ++ back → length front ≡ end → result.now ≡ front }
+{
+    if end <= text.len() { &text[..end] } else { &[] }
 }
 
 /// Writes the members below the key, and answers the others.
@@ -48,8 +60,8 @@ pub(crate) fn write_below<'t, 'e>(
 {
     let mut left = fields;
     'members: while let Some((field, others)) = left.split_first() {
-        match order(key.as_bytes(), field.key) {
-            Ordering::Greater => write_other(part, field, out)?,
+        match compare_keys(key.as_bytes(), field.key) {
+            Ordering::Greater => write_other(part, field.key, first_text(left), out)?,
             Ordering::Less | Ordering::Equal => return Ok(left),
         }
         left = others;
@@ -57,21 +69,19 @@ pub(crate) fn write_below<'t, 'e>(
     Ok(left)
 }
 
-/// Writes the members below the key and then the held one, and answers the others.
+/// Writes the members of the metadata below the held one and then that, and answers the others.
+#[inline(always)]
 pub(crate) fn write_step<'t, 'e>(
     alloc: Global,
-    part: Part,
     fields: Fields<'t, 'e>,
-    key: &str,
-    value: Option<Held<'_>>,
+    held: Held<'_>,
     out: &mut Vec<u8>,
 ) -> Result<Fields<'t, 'e>, AllocError>
-    requires { is_set part key.now ≡ true }
     ensures { (ms : Members) → AreAscending ms → IsLeft ms fields.entry.left.now → AreEntries fields.entry.entries.now ms
-        → IfOk result (λ rest. WritesStep part key.now (option_map held_data value.entry) ms rest.left.now rest.entries.now out.old.items out.new.items) }
+        → IfOk result (λ rest. WritesStep MetadataPart (held_key held.entry) (held_data held.entry) ms rest.left.now rest.entries.now out.old.items out.new.items) }
 {
-    let rest = write_below(part, fields, key, out)?;
-    write_held(alloc, key, value, out)?;
+    let rest = write_below(Part::Metadata, fields, held.key(), out)?;
+    write_held(alloc, held, out)?;
     Ok(rest)
 }
 
@@ -86,7 +96,7 @@ pub(crate) fn write_rest(
 {
     let mut left = fields;
     'members: while let Some((field, others)) = left.split_first() {
-        write_other(part, field, out)?;
+        write_other(part, field.key, first_text(left), out)?;
         left = others;
     }
     out.push(b'}')?;

@@ -9,7 +9,7 @@ ghost use Rattle.compact_prints.specs.Merging.{rest_text, uid_data};
 ghost use Rattle.compact_prints.specs.Seaming.{WritesToVersion, member_with, members_with};
 ghost use Rattle.compact_prints.specs.declared.part.Part.TheVariants.{Metadata as MetadataPart};
 
-use crate::held::{Held, held_number, held_text, held_uid};
+use crate::held::{Held, held_text};
 use crate::merge::{write_below, write_rest, write_step};
 use crate::part::Part;
 use crate::plain_text::{plain_name, plain_namespace};
@@ -47,17 +47,16 @@ fn write_members<'t>(
     ensures { (ms : Members) → AreAscending ms → IsMap metadata.entry.text.now metadata.entry.table.now ms
         → IfOk result (λ rest. WritesToVersion (members_with key.now meta.now ms) rest.left.now rest.entries.now out.old.items out.new.items) }
 {
-    let part = Part::Metadata;
     let fields = metadata.table.fields(metadata.text);
-    let deletion = held_text(meta.deletion.as_ref());
-    let deleted = write_step(alloc, part, fields, "deletionTimestamp", deletion, out)?;
-    let generation = held_number(meta.generation);
-    let generated = write_step(alloc, part, deleted, "generation", generation, out)?;
-    let name = Some(Held::Plain(plain_name(key)));
-    let named = write_step(alloc, part, generated, "name", name, out)?;
-    let namespace = Some(Held::Plain(plain_namespace(key)));
-    let spaced = write_step(alloc, part, named, "namespace", namespace, out)?;
-    let rest = write_below(part, spaced, "resourceVersion", out)?;
+    let deletion = Held::DeletionTimestamp(held_text(meta.deletion.as_ref()));
+    let deleted = write_step(alloc, fields, deletion, out)?;
+    let generation = Held::Generation(meta.generation);
+    let generated = write_step(alloc, deleted, generation, out)?;
+    let name = Held::Name(plain_name(key));
+    let named = write_step(alloc, generated, name, out)?;
+    let namespace = Held::Namespace(plain_namespace(key));
+    let spaced = write_step(alloc, named, namespace, out)?;
+    let rest = write_below(Part::Metadata, spaced, "resourceVersion", out)?;
     out.extend_from_slice(b",\"resourceVersion\":")?;
     Ok(rest)
 }
@@ -72,10 +71,8 @@ pub(crate) fn write_after_version(
     ensures { (ms : Members) → AreAscending ms → IsLeft ms versioned.entry.left.now → AreEntries versioned.entry.entries.now ms
         → OnOk result (out.new.items ≡ out.old.items ++ rest_text MetadataPart ((codes "uid", uid_data meta.now.uid) ∷ []) ms) }
 {
-    let part = Part::Metadata;
-    let uid = held_uid(meta.uid);
-    let known = write_step(alloc, part, versioned, "uid", uid, out)?;
-    write_rest(part, known, out)?;
+    let known = write_step(alloc, versioned, Held::Uid(meta.uid), out)?;
+    write_rest(Part::Metadata, known, out)?;
     Ok(())
 }
 

@@ -1,5 +1,4 @@
 // The update of an object as it is written.
-// What is still held at a way out goes by `drop`: that is proved once for a type, and not for each of its parts again.
 ghost use Rattle.std.specs.Prelude.{◌≡◌, ◌≢◌, ◌++◌, ◌<◌, ◌^◌, ℕ, List, codes, false, true, None, Option, option_map, string_bytes, IfOk, IfSome, OnErr};
 ghost use Rattle.serde_json.specs.Data.{Data};
 ghost use Rattle.serde_json.specs.Written.{compact_text, has_float};

@@ -1,5 +1,4 @@
 // The status request of an object as it is written.
-// What is still held at a way out goes by `drop`: that is proved once for a type, and not for each of its parts again.
 ghost use Rattle.std.specs.Prelude.{◌≡◌, None, Option, Some, option_map, IfOk, IfSome, OnErr};
 ghost use Rattle.serde_json.specs.Data.{Data};
 ghost use Rattle.serde_json.specs.Written.{compact_text};

@@ -171,7 +171,6 @@ fn serve_store<R: Source, W: Sink>(
     };
     'reads: loop {
         let Some(count) = reader.read(room) else {
-            // It goes by `drop`, here and below: that is proved once for a type, not for each of its parts.
             drop(splitter);
             return Err(ServeFault::Read);
         };

@@ -65,7 +65,6 @@ fn answer_request(plain: &mut Plain, request: Request, out: Vec<u8>) -> Result<V
         answer_write(plain, request, out)
     } else {
         let line = answer_other(plain, &request, out);
-        // It goes by `drop`, here and below: that is proved once for a type, not for each of its parts.
         drop(request);
         line
     }

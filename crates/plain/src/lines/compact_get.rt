@@ -7,6 +7,7 @@ ghost use Rattle.requests.specs.declared.request.Request.TheVariants.{Get};
 ghost use Rattle.plain.specs.CompactGets.{get_text};
 ghost use Rattle.plain.specs.Requests.{request_of};
 
+use compact_drafts::kind_named;
 use memchr::memchr;
 use objects::{Key, Kind, ReadError};
 use std::alloc::{AllocError, Global};
@@ -48,7 +49,7 @@ fn named_by(line: &[u8]) -> Option<Named<'_>>
     if rest != b"}".as_slice() {
         return None;
     }
-    let kind = kind_of(kind)?;
+    let kind = kind_named(kind)?;
     let name = text_of(name)?;
     let namespace = text_of(namespace)?;
     Some(Named {
@@ -56,12 +57,6 @@ fn named_by(line: &[u8]) -> Option<Named<'_>>
         namespace,
         name,
     })
-}
-
-fn kind_of(bytes: &[u8]) -> Option<Kind>
-    ensures { IfSome result (λ kind. kind_name kind ≡ bytes.now) }
-{
-    Kind::named(text_of(bytes)?)
 }
 
 fn text_of(bytes: &[u8]) -> Option<&str>

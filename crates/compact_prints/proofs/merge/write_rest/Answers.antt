@@ -10,7 +10,7 @@ pub members-preserved : goal.members-preserved
 members-preserved c = record {
   going = λ ms ascending is are.
       let g = c.members.invariant.going ms ascending is are in
-      going_on _ _ _ _ _ _ _ _ _ _ _ _ g (c.in-Some.ensures.first g.rest g.left_is g.entries_are) (above_none _) c.in_ok-write_other.ensures;
+      going_on _ _ _ _ _ _ _ _ _ _ _ _ g (c.in-Some.ensures.first g.rest g.left_is g.entries_are) (above_none _) (c.in_ok-write_other.ensures c.in-Some.field.value.now (c.first_text.ensures g.rest _ _ _ _ g.left_is g.entries_are (c.in-Some.ensures.first g.rest g.left_is g.entries_are)));
 }
 
 pub returns : goal.returns

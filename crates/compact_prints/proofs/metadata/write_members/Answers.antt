@@ -15,7 +15,7 @@ returns c ms ascending is =
     let s4 = c.in_ok-spaced.ensures s3.rest s3.ascending s3.left_is s3.entries_are in
     let w = c.in_ok-rest.ensures s4.rest s4.ascending s4.left_is s4.entries_are in
     members_written c.args.key.now c.args.meta.now ms _ _ _ _ _ _ _ _ _ _ _ _ _ _ _ _ _ _ _ _ _
-    (c.held_text-deletion.ensures ∙ ap (option_map string) (c.as_ref.ensures.value ∙ ap (λ (m : MetaParts). m.deletion) c.meta.view_is))
-    (c.held_number-generation.ensures ∙ ap (λ (m : MetaParts). unless_zero m.generation (number (unsigned m.generation))) c.meta.view_is)
+    (ap (option_map string) (c.held_text.ensures ∙ c.as_ref.ensures.value ∙ ap (λ (m : MetaParts). m.deletion) c.meta.view_is))
+    (ap (λ (m : MetaParts). unless_zero m.generation (number (unsigned m.generation))) c.meta.view_is)
     (ap string c.plain_name.ensures) (ap string c.plain_namespace.ensures)
     s1 s2 s3 s4 w c.in_ok-extend_from_slice.ensures.items
