@@ -9,7 +9,7 @@ use Rattle.objects.specs.declared.kind.Kind.TheVariants.{PersistentVolumeClaim}
 use Rattle.objects.specs.declared.object.Object.{Object}
 use Rattle.objects.specs.PodNames.{claim_name}
 use Rattle.set_views.specs.Set.{SetParts}
-use Rattle.set_views.specs.Words.{in_namespace}
+use Rattle.set_views.specs.Predicates.{in_namespace}
 use Rattle.claims.specs.declared.listed.ListedClaims.{ListedClaims}
 use Rattle.claims.specs.Pods.{claims_in, under}
 

@@ -1,5 +1,4 @@
 // The changes of a pod's claims.
-// Values are let go by `drop`, which is proved once for a type and not at each way out.
 ghost use Rattle.std.specs.Prelude.{◌≡◌, ◌++◌, ◌≤◌, ◌<◌, true, [], map, length, string_bytes, take, option_map, IfOk, OnOk};
 ghost use Rattle.std.specs.List.{cons_option, filter_map};
 ghost use Rattle.objects.specs.MetadataShape.{are_owners};

@@ -3,7 +3,7 @@ ghost use Rattle.std.specs.Prelude.{◌≡◌, ◌&&◌, ℕ, ◌<◌, [], List,
 ghost use Rattle.std.specs.Option.{option_map_or};
 ghost use Rattle.objects.specs.declared.kind.Kind.TheVariants.{PersistentVolumeClaim};
 ghost use Rattle.set_views.specs.Set.{set_parts};
-ghost use Rattle.set_views.specs.Words.{in_namespace};
+ghost use Rattle.set_views.specs.Predicates.{in_namespace};
 ghost use Rattle.claims.specs.Listed.{IsFor, claim_named, claims_of, found_in, listed_claim};
 ghost use Rattle.claims.specs.Pods.{claims_in};
 

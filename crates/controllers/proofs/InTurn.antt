@@ -28,14 +28,14 @@ use Rattle.set_views.specs.Pod.{PodParts}
 use Rattle.set_views.specs.Set.{SetParts}
 use Rattle.set_views.specs.SetReading.{set_of}
 use Rattle.set_views.specs.Steps.{◌>>=◌, guarded, required}
-use Rattle.set_views.specs.Words.{in_namespace, in_range, is_kind}
+use Rattle.set_views.specs.Predicates.{in_namespace, in_range, is_kind}
 use Rattle.revisions.specs.Built.{new_revision}
 use Rattle.revisions.specs.Choice.{Choice, in_place, to_renumber, to_create, choice_from, choice_of, data_with, greatest, has_data}
 use Rattle.revisions.specs.History.{expired_revisions}
 use Rattle.revisions.specs.Name.{first_free, most_tries, revision_name}
 use Rattle.revisions.specs.Plan as revision_plans
 use Rattle.revisions.specs.Plan.{created, renumbered, settled, plan_of}
-use Rattle.revisions.specs.Revision.{is_owned, listed, owned_among, revision_cmp}
+use Rattle.revisions.specs.Revision.{owns_revision, listed, owned_among, revision_cmp}
 use Rattle.pod_steps.specs.declared.step.Revision.{Revision}
 use Rattle.pod_steps.specs.declared.step.Step.{Step}
 use Rattle.pod_steps.specs.declared.step.Step.TheVariants as steps
@@ -43,7 +43,7 @@ use Rattle.pod_steps.specs.Listed.{is_named}
 use Rattle.pod_steps.specs.Replicas.{Pods}
 use Rattle.pod_steps.specs.Step.{is_of_pod}
 use Rattle.pod_steps.specs.FullSteps as pod_steps
-use Rattle.pod_steps.proofs.AtOnce.{alone, nowhere}
+use Rattle.pod_steps.proofs.ParallelPlans.{alone, nowhere}
 use Rattle.pod_steps.proofs.Causes as causes
 use Rattle.pod_steps.proofs.Causes.{created_is_absent}
 use Rattle.pod_steps.proofs.Firsts.{replicas_in_order}
@@ -245,7 +245,7 @@ owned_are_other : (set : SetParts) (revisions : List Object) → AllByRecursion 
 unfolding owned_of
 owned_are_other set revisions =
     all_in_order revision_cmp total IsOther (owned_among set revisions) (all_among IsOther (owned_among set revisions) (λ x h.
-    let near = filtered (in_namespace set kinds.ControllerRevision) x revisions (first_among (listed set revisions) x (filtered (is_owned set) x (first_of_each (listed set revisions)) h).0) in
+    let near = filtered (in_namespace set kinds.ControllerRevision) x revisions (first_among (listed set revisions) x (filtered (owns_revision set) x (first_of_each (listed set revisions)) h).0) in
     other_kind x.key.kind (and_parts (is_kind kinds.ControllerRevision x.key.kind) _ near.1).0))
 
 -- ---- plans

@@ -12,7 +12,7 @@ use Rattle.requests.specs.declared.reply.Reply.{Reply}
 use Rattle.set_views.specs.declared.policies.Policy.TheVariants.{OrderedReady}
 use Rattle.set_views.specs.Set.{SetParts}
 use Rattle.set_views.specs.SetReading.{set_of}
-use Rattle.set_views.specs.Words.{in_range, is_kind}
+use Rattle.set_views.specs.Predicates.{in_range, is_kind}
 use Rattle.pod_steps.specs.Listed.{is_named}
 use Rattle.sets.specs.Actions.{name_at}
 use Rattle.sets.specs.Laws.{HasHealthyTarget}

@@ -1,5 +1,5 @@
 -- The metadata of a claim has its shape.
-use Rattle.std.proofs.Common.{◌≡◌, ℕ, List, true, false, Option, Some, None, refl, ap, ◌∙◌}
+use Rattle.std.proofs.Common.{◌≡◌, ℕ, List, true, false, Option, Some, None, refl}
 use Rattle.std.specs.Prelude.{codes, option_map}
 use Rattle.std.specs.Option.{is_some, option_map_or}
 use Rattle.std.specs.Ordering.{nat_cmp, match_ordering}

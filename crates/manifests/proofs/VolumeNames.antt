@@ -8,7 +8,7 @@ use Rattle.std.proofs.lemmas.List.{map-append, take_more}
 use Rattle.std.proofs.lemmas.List.Folds.{list_any-append}
 use Rattle.std.proofs.lemmas.Slice.Eq.{bytes_eq-Decides}
 use Rattle.serde_json.specs.Data.{Data, string, Members, put, no_items}
-use Rattle.serde_json.specs.Find.{as_array, as_str, get, get_member}
+use Rattle.serde_json.specs.Find.{as_array, as_str, get}
 use Rattle.serde_json.proofs.Views.{get_member-put_other}
 use Rattle.objects.specs.Object.{is_text}
 use Rattle.objects.specs.Building.{put_some}

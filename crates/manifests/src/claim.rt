@@ -1,5 +1,4 @@
 // The claims that a plan creates.
-// Values are let go by `drop`, which is proved once for a type and not at each way out.
 ghost use Rattle.std.specs.Prelude.{◌≡◌, ◌≤◌, length, true, option_map, string_bytes, IfOk};
 ghost use Rattle.objects.specs.declared.kind.Kind.TheVariants.{PersistentVolumeClaim};
 ghost use Rattle.objects.specs.Key.{is_key, key_parts};

@@ -16,7 +16,7 @@ use Rattle.pod_steps.specs.declared.step.Step.TheVariants as steps
 use Rattle.pod_steps.specs.Replicas.{Pods}
 use Rattle.pod_steps.specs.Step.{is_of_pod}
 use Rattle.pod_steps.specs.FullSteps.{full_steps}
-use Rattle.pod_steps.proofs.AtOnce.{alone, nowhere, single, was_there}
+use Rattle.pod_steps.proofs.ParallelPlans.{alone, nowhere, single, was_there}
 use Rattle.manifests.specs.BuiltStatus.{built_status}
 use Rattle.claims.specs.declared.change.ClaimChange.{ClaimChange}
 use Rattle.claims.specs.declared.change.ClaimChange.TheVariants.{Create, Update as Change}

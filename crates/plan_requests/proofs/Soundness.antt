@@ -20,14 +20,14 @@ use Rattle.set_views.specs.Pod.{PodParts}
 use Rattle.set_views.specs.Set.{SetParts}
 use Rattle.set_views.specs.SetReading.{set_of}
 use Rattle.set_views.specs.Steps.{◌>>=◌}
-use Rattle.set_views.specs.Words.{in_namespace, is_kind, ordinal_in}
+use Rattle.set_views.specs.Predicates.{in_namespace, is_kind, ordinal_in}
 use Rattle.revisions.specs.Choice as choice
 use Rattle.revisions.specs.Plan as revision_plans
 use Rattle.revisions.specs.Plan.{created, renumbered, settled, plan_of}
-use Rattle.revisions.specs.Revision.{is_owned, listed, owned_among, revision_cmp}
+use Rattle.revisions.specs.Revision.{owns_revision, listed, owned_among, revision_cmp}
 use Rattle.pod_steps.specs.Listed.{is_named}
 use Rattle.pod_steps.specs.Views.{listed_pods}
-use Rattle.pod_steps.proofs.AtOnce.{alone}
+use Rattle.pod_steps.proofs.ParallelPlans.{alone}
 use Rattle.claims.specs.Listed.{listed_claim}
 use Rattle.requests.specs.Lists.{Has}
 use Rattle.collector.specs.Collectable.{collection}
@@ -150,7 +150,7 @@ unfolding owned_of
 owned_listed set revisions o at =
     among_all (λ x. Has x revisions × (in_namespace set kinds.ControllerRevision x ≡ true)) (owned_of set revisions) o
     (all_in_order revision_cmp total _ (owned_among set revisions) (all_among _ (owned_among set revisions) (λ x h.
-    filtered (in_namespace set kinds.ControllerRevision) x revisions (first_among (listed set revisions) x (filtered (is_owned set) x (first_of_each (listed set revisions)) h).0))))
+    filtered (in_namespace set kinds.ControllerRevision) x revisions (first_among (listed set revisions) x (filtered (owns_revision set) x (first_of_each (listed set revisions)) h).0))))
     (among_contained (owned_of set revisions) o at)
 
 owned_in : List Object → Result revision_plans.PlanParts PlanError → List Object

@@ -1,5 +1,4 @@
 // The requests that the actions of a plan come to.
-// Values are let go by `drop`, which is proved once for a type and not at each way out.
 ghost use Rattle.std.specs.Prelude.{◌≡◌, ◌≢◌, ◌++◌, ◌∷◌, [], ◌<◌, ◌^◌, ◌==◌, decimal, IfOk, IsErr, OnOk, Some, None, if◌then◌else◌};
 ghost use Rattle.objects.specs.Again.{text_unless_zero};
 ghost use Rattle.objects.specs.Uid.{uid_text};

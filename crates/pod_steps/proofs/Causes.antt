@@ -15,18 +15,18 @@ use Rattle.set_views.specs.declared.policies.Strategy.TheVariants.{RollingUpdate
 use Rattle.set_views.specs.declared.readiness.Readiness.{Readiness}
 use Rattle.set_views.specs.declared.readiness.Readiness.TheVariants.{Failed, Ready, NotReady as NotYetReady}
 use Rattle.set_views.specs.Set.{SetParts}
-use Rattle.set_views.specs.Words.{in_range, is_ready}
+use Rattle.set_views.specs.Predicates.{in_range, is_ready}
 use Rattle.pod_steps.specs.declared.replica.Replica.{Replica}
 use Rattle.pod_steps.specs.declared.step.Revision.{Revision}
 use Rattle.pod_steps.specs.declared.step.Step.{Step}
 use Rattle.pod_steps.specs.declared.step.Step.TheVariants.{MakeClaims, ReleaseClaims, CreatePod, DeletePod}
 use Rattle.pod_steps.specs.Replicas.{AreInOrder, Pods, has_healthy_pod, is_out_of_range, is_due, is_failed, is_healthy_replica, is_settled, lacks_healthy, ordinals, pod_at}
 use Rattle.pod_steps.specs.Step.{is_of_pod, pod_steps}
-use Rattle.pod_steps.specs.FullSteps.{at_once, removal_steps_unless, in_order, in_order_at, is_other_unhealthy, keep_steps, gap_steps, full_steps, full_steps_by, replacement_steps, scale_down_steps, scale_down_or_update_steps, revision_at, rolling_update_steps, scaling_steps_at_once, update_steps, update_steps_by, wait_for}
-use Rattle.pod_steps.proofs.AtOnce.{alone, creates_exactly, from_scaled, nowhere, rest, second, stays_there, update_creates_none, was_there}
+use Rattle.pod_steps.specs.FullSteps.{parallel_steps, removal_steps_unless, ordered_ready_steps, ordered_ready_steps_at, is_other_unhealthy, keep_steps, gap_steps, full_steps, full_steps_by, replacement_steps, scale_down_steps, scale_down_or_update_steps, revision_at, rolling_update_steps, parallel_scaling_steps, update_steps, update_steps_by, wait_for}
+use Rattle.pod_steps.proofs.ParallelPlans.{alone, creates_exactly, from_scaled, nowhere, rest, second, stays_there, update_creates_none, was_there}
 use Rattle.pod_steps.proofs.Entries.{at_head, at_tail, from_back}
 use Rattle.pod_steps.proofs.Found.{found_below, last_range}
-use Rattle.pod_steps.proofs.InOrder.{after_keep_steps, bounds, inside, not_false}
+use Rattle.pod_steps.proofs.OrderedReadyPlans.{after_keep_steps, bounds, inside, not_false}
 
 -- ---- what a search has found
 pub found_in : (p : ℕ → Bool) (a n i : ℕ) → find p (range_with_len a n) ≡ Some i → (a ≤ i) × (i < a + n)
@@ -96,7 +96,7 @@ entry_is_there q (x ∷ es) e sorted found =
       ] k
     ] refl parts
 
--- ---- what a plan in order has
+-- ---- what a plan of OrderedReady has
 past_keep_steps : (ns : List ℕ) (ys : List Step) (a : Step) → is_of_pod a ≡ true → Contains (flat_map keep_steps ns ++ ys) a → Contains ys a
 past_keep_steps ns ys a t h =
     let P : List Step → Type 0 = λ l. Contains l a in
@@ -109,18 +109,18 @@ abbrev highest_of : SetParts → Pods → Option (ℕ × Replica)
 highest_of set pods = find (is_out_of_range set) (reverse pods)
 
 -- the step is at a gap, or there is none and it scales down or updates
-abbrev IsInOrder : SetParts → Pods → Step → Type 0
-IsInOrder set pods a =
+abbrev IsOrderedReadyStep : SetParts → Pods → Step → Type 0
+IsOrderedReadyStep set pods a =
     ((g : ℕ) × (gap_of set pods ≡ Some g) × Contains (gap_steps set g (pod_at pods g)) a)
     ⊎ ((gap_of set pods ≡ None) × (((e : ℕ × Replica) × (highest_of set pods ≡ Some e) × Contains (scale_down_steps set pods e) a) ⊎ Contains (update_steps set pods) a))
 
-from_in_order : (set : SetParts) (pods : Pods) (a : Step) → is_of_pod a ≡ true → Contains (in_order set pods) a → IsInOrder set pods a
-from_in_order set pods a t h =
-    elim (gap_of set pods) as (λ g. gap_of set pods ≡ g → Contains (in_order_at set pods g) a → IsInOrder set pods a) [
+from_ordered_ready : (set : SetParts) (pods : Pods) (a : Step) → is_of_pod a ≡ true → Contains (ordered_ready_steps set pods) a → IsOrderedReadyStep set pods a
+from_ordered_ready set pods a t h =
+    elim (gap_of set pods) as (λ g. gap_of set pods ≡ g → Contains (ordered_ready_steps_at set pods g) a → IsOrderedReadyStep set pods a) [
       | Some g ↦ λ e k. inl (g, e, past_keep_steps (range_with_len set.start (g - set.start)) (gap_steps set g (pod_at pods g)) a t k)
       | None ↦ λ e k.
           let later = past_keep_steps (ordinals set) (scale_down_or_update_steps set pods (highest_of set pods)) a t k in
-          elim (highest_of set pods) as (λ o. highest_of set pods ≡ o → Contains (scale_down_or_update_steps set pods o) a → IsInOrder set pods a) [
+          elim (highest_of set pods) as (λ o. highest_of set pods ≡ o → Contains (scale_down_or_update_steps set pods o) a → IsOrderedReadyStep set pods a) [
             | Some x ↦ λ f m. inr (e, inl (x, f, m))
             | None ↦ λ f m. inr (e, inr m)
           ] refl later
@@ -151,9 +151,9 @@ scale_down_creates_none set pods e i revision h =
     ] h
 
 -- a create is of the gap
-created_gap : (set : SetParts) (pods : Pods) (i : ℕ) (revision : Revision) → Contains (in_order set pods) (CreatePod i revision) → (gap_of set pods ≡ Some i) × (pod_at pods i ≡ None)
+created_gap : (set : SetParts) (pods : Pods) (i : ℕ) (revision : Revision) → Contains (ordered_ready_steps set pods) (CreatePod i revision) → (gap_of set pods ≡ Some i) × (pod_at pods i ≡ None)
 created_gap set pods i revision h =
-    elim (from_in_order set pods (CreatePod i revision) refl h) [
+    elim (from_ordered_ready set pods (CreatePod i revision) refl h) [
       | inl m ↦
           let at = created_at set m.0 i revision (pod_at pods m.0) m.2 in
           (m.1 ∙ ap Some at.0, ap (pod_at pods) (sym at.0) ∙ at.1)
@@ -218,15 +218,15 @@ one_scaled_down set pods e =
 one_past : (ns : List ℕ) (ys : List Step) → IsAtMostOne ys → IsAtMostOne (flat_map keep_steps ns ++ ys)
 one_past ns ys h = let P : List Step → Type 0 = λ l. length l ≤ 1 in subst P (sym (after_keep_steps ns ys)) h
 
-one_in_order : (set : SetParts) (pods : Pods) → IsAtMostOne (in_order set pods)
-one_in_order set pods =
-    elim (gap_of set pods) as (λ g. IsAtMostOne (in_order_at set pods g)) [
+one_ordered_ready : (set : SetParts) (pods : Pods) → IsAtMostOne (ordered_ready_steps set pods)
+one_ordered_ready set pods =
+    elim (gap_of set pods) as (λ g. IsAtMostOne (ordered_ready_steps_at set pods g)) [
       | Some i ↦ one_past (range_with_len set.start (i - set.start)) (gap_steps set i (pod_at pods i)) (one_gap set i (pod_at pods i))
       | None ↦ one_past (ordinals set) (scale_down_or_update_steps set pods (highest_of set pods)) (elim (highest_of set pods) as (λ o. IsAtMostOne (scale_down_or_update_steps set pods o)) [ None ↦ one_update set pods | Some e ↦ one_scaled_down set pods e ])
     ]
 
 pub one_at_a_time : (set : SetParts) (pods : Pods) → set.policy ≡ OrderedReady → length (pod_steps (full_steps set pods)) ≤ 1
-one_at_a_time set pods policy = let P : Policy → Type 0 = λ p. IsAtMostOne (full_steps_by p set pods) in subst P (sym policy) (one_in_order set pods)
+one_at_a_time set pods policy = let P : Policy → Type 0 = λ p. IsAtMostOne (full_steps_by p set pods) in subst P (sym policy) (one_ordered_ready set pods)
 
 -- ---- deletes of the update
 settled_unless : (partition j : ℕ) (here : Option Replica) (pod : Replica) → (nat_le partition j && option_map_or (λ x. not (is_settled x)) here false) ≡ false → nat_le partition j ≡ true → here ≡ Some pod → is_settled pod ≡ true
@@ -278,7 +278,7 @@ replaced_from_partition set pods partition i uid rolling h =
     (both_true (nat_le partition i) (option_map_or (λ x. not (is_settled x)) (pod_at pods i) false) (passes_in (is_due partition pods) (reverse (ordinals set)) i found)).0
 
 -- ---- deletes
--- the pod is failed and in range, or condemned, or the update deletes it and, in order, no ordinal lacks a healthy pod
+-- the pod is failed and in range, or condemned, or the update deletes it and, under OrderedReady, no ordinal lacks a healthy pod
 abbrev IsCause : SetParts → Pods → ℕ → ℕ → Replica → Type 0
 IsCause set pods i uid pod = ((in_range set i ≡ true) × (is_failed pod.readiness ≡ true)) ⊎ ((in_range set i ≡ false) ⊎ (Contains (update_steps set pods) (DeletePod i uid) × (set.policy ≡ OrderedReady → gap_of set pods ≡ None)))
 
@@ -320,9 +320,9 @@ update_is set pods i uid h =
       | OnDelete ↦ λ m. absurd (nowhere (DeletePod i uid) m)
     ] h
 
-deleted_in_order : (set : SetParts) (pods : Pods) (i uid : ℕ) → AreInOrder pods → Contains (in_order set pods) (DeletePod i uid) → IsDeleted set pods i uid
-deleted_in_order set pods i uid sorted h =
-    elim (from_in_order set pods (DeletePod i uid) refl h) [
+deleted_ordered_ready : (set : SetParts) (pods : Pods) (i uid : ℕ) → AreInOrder pods → Contains (ordered_ready_steps set pods) (DeletePod i uid) → IsDeleted set pods i uid
+deleted_ordered_ready set pods i uid sorted h =
+    elim (from_ordered_ready set pods (DeletePod i uid) refl h) [
       | inl m ↦
           let r = gap_deletes set m.0 i uid (pod_at pods m.0) m.2 in
           let at = found_in (lacks_healthy pods) set.start set.replicas i (m.1 ∙ ap Some r.0) in
@@ -336,9 +336,9 @@ deleted_in_order set pods i uid sorted h =
       ]
     ]
 
-deleted_at_once : (set : SetParts) (pods : Pods) (i uid : ℕ) → set.policy ≡ Parallel → AreInOrder pods → Contains (at_once set pods) (DeletePod i uid) → IsDeleted set pods i uid
-deleted_at_once set pods i uid policy sorted h =
-    elim (Contains-append_cases (scaling_steps_at_once set pods) (rest set pods (list_any is_of_pod (scaling_steps_at_once set pods))) (DeletePod i uid) h) [
+deleted_parallel : (set : SetParts) (pods : Pods) (i uid : ℕ) → set.policy ≡ Parallel → AreInOrder pods → Contains (parallel_steps set pods) (DeletePod i uid) → IsDeleted set pods i uid
+deleted_parallel set pods i uid policy sorted h =
+    elim (Contains-append_cases (parallel_scaling_steps set pods) (rest set pods (list_any is_of_pod (parallel_scaling_steps set pods))) (DeletePod i uid) h) [
       | inl k ↦ elim (from_scaled set pods (DeletePod i uid) sorted refl k) [
         | inl m ↦ let e : CreatePod m.0 (revision_at set.strategy m.0) ≡ DeletePod i uid = m.2 in absurd (cc)
         | inr m ↦
@@ -354,7 +354,7 @@ deleted_at_once set pods i uid policy sorted h =
               ] refl,
             )
       ]
-      | inr k ↦ elim (list_any is_of_pod (scaling_steps_at_once set pods)) as (λ b. Contains (rest set pods b) (DeletePod i uid) → IsDeleted set pods i uid) [
+      | inr k ↦ elim (list_any is_of_pod (parallel_scaling_steps set pods)) as (λ b. Contains (rest set pods b) (DeletePod i uid) → IsDeleted set pods i uid) [
         | true ↦ λ m. absurd (nowhere (DeletePod i uid) m)
         | false ↦ λ m. let r = update_is set pods i uid m in (r.0, r.1, r.2, inr (inr (m, λ p. (let e : OrderedReady ≡ Parallel = sym p ∙ policy in absurd (cc)))))
       ] k
@@ -363,8 +363,8 @@ deleted_at_once set pods i uid policy sorted h =
 pub deleted : (set : SetParts) (pods : Pods) (i uid : ℕ) → AreInOrder pods → Contains (full_steps set pods) (DeletePod i uid) → IsDeleted set pods i uid
 deleted set pods i uid sorted h =
     elim (set.policy) as (λ p. set.policy ≡ p → Contains (full_steps_by p set pods) (DeletePod i uid) → IsDeleted set pods i uid) [
-      | OrderedReady ↦ λ e k. deleted_in_order set pods i uid sorted k
-      | Parallel ↦ λ e k. deleted_at_once set pods i uid e sorted k
+      | OrderedReady ↦ λ e k. deleted_ordered_ready set pods i uid sorted k
+      | Parallel ↦ λ e k. deleted_parallel set pods i uid e sorted k
     ] refl h
 
 failed_is_unhealthy : (readiness : Readiness) (terminating : Bool) → is_failed readiness ≡ true → (is_ready readiness && not terminating) ≡ false
@@ -389,7 +389,7 @@ kept_on_delete set pods i uid pod sorted strategy h within here =
       ]
     ]
 
--- in order a pod in range that has not failed goes only where each ordinal has a healthy pod
+-- under OrderedReady a pod in range that has not failed goes only where each ordinal has a healthy pod
 pub replaced_where_all_healthy : (set : SetParts) (pods : Pods) (i uid j : ℕ) (pod : Replica) → AreInOrder pods → set.policy ≡ OrderedReady → Contains (full_steps set pods) (DeletePod i uid) → in_range set i ≡ true → pod_at pods i ≡ Some pod → is_failed pod.readiness ≡ false → in_range set j ≡ true → has_healthy_pod pods j ≡ true
 replaced_where_all_healthy set pods i uid j pod sorted policy h within here staying other =
     let r = deleted set pods i uid sorted h in

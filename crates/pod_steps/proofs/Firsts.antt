@@ -12,7 +12,7 @@ use Rattle.std.specs.Ordering.{match_ordering, nat_cmp}
 use Rattle.std.specs.declared.cmp.Ordering.TheVariants.{Less, Equal, Greater}
 use Rattle.set_views.specs.Pod.{PodParts}
 use Rattle.set_views.specs.Set.{SetParts}
-use Rattle.set_views.specs.Words.{in_range, ordinal_in}
+use Rattle.set_views.specs.Predicates.{in_range, ordinal_in}
 use Rattle.pod_steps.specs.declared.replica.Replica.{Replica}
 use Rattle.pod_steps.specs.Listed.{by_ordinal, is_foreign, is_named, owned_of, with_pod, replica_of, replicas_in, unless_foreign}
 use Rattle.pod_steps.specs.Replicas.{AreInOrder, Pods, pod_at}

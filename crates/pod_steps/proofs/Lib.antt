@@ -3,8 +3,8 @@ pub mod Walks
 pub mod Backward
 pub mod Found
 pub mod Entries
-pub mod InOrder
-pub mod AtOnce
+pub mod OrderedReadyPlans
+pub mod ParallelPlans
 pub mod Causes
 pub mod Replaced
 pub mod Firsts

@@ -5,7 +5,7 @@ use Rattle.set_views.specs.declared.policies.Policy.TheVariants.{OrderedReady}
 use Rattle.set_views.specs.declared.policies.Strategy.TheVariants.{OnDelete}
 use Rattle.set_views.specs.Pod.{PodParts}
 use Rattle.set_views.specs.Set.{SetParts}
-use Rattle.set_views.specs.Words.{in_range, is_owned}
+use Rattle.set_views.specs.Predicates.{in_range, owns_pod}
 use Rattle.pod_steps.specs.declared.replica.Replica.{Replica}
 use Rattle.pod_steps.specs.declared.step.Revision.{Revision}
 use Rattle.pod_steps.specs.declared.step.Step.TheVariants.{CreatePod, DeletePod}
@@ -15,7 +15,7 @@ use Rattle.pod_steps.specs.FullSteps.{full_steps}
 use Rattle.pod_steps.proofs.Causes.{created_is_absent, deleted, kept_on_delete, replaced_where_all_healthy}
 use Rattle.pod_steps.proofs.Firsts.{is_free, is_listed, replicas_in_order}
 
-pub deleted_is_owned : (set : SetParts) (update current : List ℕ) (listed : List PodParts) (pods : Pods) (i uid : ℕ) → replicas_in set update current listed ≡ Ok pods → Contains (full_steps set pods) (DeletePod i uid) → (pod : PodParts) × (find (is_named set i) listed ≡ Some pod) × (is_owned set pod ≡ true) × (pod.uid ≡ uid)
+pub deleted_is_owned : (set : SetParts) (update current : List ℕ) (listed : List PodParts) (pods : Pods) (i uid : ℕ) → replicas_in set update current listed ≡ Ok pods → Contains (full_steps set pods) (DeletePod i uid) → (pod : PodParts) × (find (is_named set i) listed ≡ Some pod) × (owns_pod set pod ≡ true) × (pod.uid ≡ uid)
 deleted_is_owned set update current listed pods i uid e h =
     let r = deleted set pods i uid (replicas_in_order set update current listed pods e) h in
     let l = is_listed set update current listed pods i r.0 e r.1 in

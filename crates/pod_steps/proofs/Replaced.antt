@@ -1,5 +1,5 @@
 -- What is known of the pods of a set where one in range goes that has not failed.
-use Rattle.std.proofs.Common.{◌≡◌, inl, inr, ℕ, ◌≤◌, true, false, not, List, [], ◌∷◌, length, find, reverse, Option, Some, None, arith, refl, sym, ap, ◌∙◌, subst}
+use Rattle.std.proofs.Common.{◌≡◌, inl, inr, ℕ, ◌≤◌, true, false, not, List, [], ◌∷◌, length, find, reverse, Option, Some, None, refl, sym, ap, ◌∙◌, subst}
 use Rattle.std.specs.List.{Contains}
 use Rattle.std.specs.Option.{option_map_or}
 use Rattle.std.specs.Prelude.{◌&&◌, if◌then◌else◌}
@@ -7,15 +7,15 @@ use Rattle.set_views.specs.declared.policies.Policy.{Policy}
 use Rattle.set_views.specs.declared.policies.Policy.TheVariants.{OrderedReady, Parallel}
 use Rattle.set_views.specs.declared.policies.Strategy.TheVariants.{RollingUpdate, OnDelete}
 use Rattle.set_views.specs.Set.{SetParts}
-use Rattle.set_views.specs.Words.{in_range}
+use Rattle.set_views.specs.Predicates.{in_range}
 use Rattle.pod_steps.specs.declared.replica.Replica.{Replica}
 use Rattle.pod_steps.specs.declared.step.Step.{Step}
 use Rattle.pod_steps.specs.declared.step.Step.TheVariants.{DeletePod}
 use Rattle.pod_steps.specs.Replicas.{AreInOrder, Pods, has_healthy_pod, is_due, is_failed, is_healthy_replica, ordinals, pod_at}
 use Rattle.pod_steps.specs.Scaling.{CallsForScaling}
 use Rattle.pod_steps.specs.Step.{is_of_pod, pod_steps}
-use Rattle.pod_steps.specs.FullSteps.{at_once, full_steps, full_steps_by, replacement_steps, rolling_update_steps, update_steps, update_steps_by, wait_for}
-use Rattle.pod_steps.proofs.AtOnce.{alone, nowhere, scales_at_once, stays_there, uncalled_updates}
+use Rattle.pod_steps.specs.FullSteps.{parallel_steps, full_steps, full_steps_by, replacement_steps, rolling_update_steps, update_steps, update_steps_by, wait_for}
+use Rattle.pod_steps.proofs.ParallelPlans.{alone, nowhere, scales_parallel, stays_there, uncalled_updates}
 use Rattle.pod_steps.proofs.Causes.{deleted, one_at_a_time, one_update, replaced_where_all_healthy}
 
 -- the update deletes a pod at another revision that is not on its way out
@@ -75,12 +75,12 @@ module _ (set : SetParts) (pods : Pods) (i uid : ℕ) (pod : Replica) (sorted : 
         ]
       ]
 
-  -- at once nothing else is called for then
+  -- under Parallel nothing else is called for then
   none_called : set.policy ≡ Parallel → CallsForScaling set pods → ⊥
   none_called policy called =
       let P : Policy → Type 0 = λ p. Contains (full_steps_by p set pods) (DeletePod i uid) in
-      let among : Contains (pod_steps (at_once set pods)) (DeletePod i uid) = stays_there is_of_pod (at_once set pods) (DeletePod i uid) (subst P policy gone.there) refl in
-      let r = ((scales_at_once set pods sorted).deletes called i uid).0 among in
+      let among : Contains (pod_steps (parallel_steps set pods)) (DeletePod i uid) = stays_there is_of_pod (parallel_steps set pods) (DeletePod i uid) (subst P policy gone.there) refl in
+      let r = ((scales_parallel set pods sorted).deletes called i uid).0 among in
       let both : Some r.0 ≡ Some pod = sym r.1.here ∙ gone.here in
       let same : r.0 ≡ pod = cc in
       let clash : true ≡ false = sym (ap (λ (x : Replica). is_failed x.readiness) (sym same) ∙ r.1.failed gone.within) ∙ gone.staying in

@@ -7,7 +7,7 @@ use Rattle.set_views.specs.declared.policies.Policy.TheVariants.{OrderedReady, P
 use Rattle.set_views.specs.declared.policies.Strategy.{Strategy}
 use Rattle.set_views.specs.declared.policies.Strategy.TheVariants.{RollingUpdate, OnDelete}
 use Rattle.set_views.specs.Set.{SetParts}
-use Rattle.set_views.specs.Words.{in_range, is_ready}
+use Rattle.set_views.specs.Predicates.{in_range, is_ready}
 use Rattle.pod_steps.specs.declared.replica.Replica.{Replica}
 use Rattle.pod_steps.specs.declared.step.Cause.TheVariants.{Terminating, NotReady}
 use Rattle.pod_steps.specs.declared.step.Revision.{Revision}
@@ -79,14 +79,14 @@ scale_down_or_update_steps set pods None = update_steps set pods
 scale_down_or_update_steps set pods (Some highest) = scale_down_steps set pods highest
 
 -- here is the least ordinal in range without a healthy pod, if there is one
-abbrev pub in_order_at : SetParts → Pods → Option ℕ → List Step
-in_order_at set pods (Some i) = flat_map keep_steps (range_with_len set.start (i - set.start)) ++ gap_steps set i (pod_at pods i)
-in_order_at set pods None = flat_map keep_steps (ordinals set) ++ scale_down_or_update_steps set pods (find (is_out_of_range set) (reverse pods))
+abbrev pub ordered_ready_steps_at : SetParts → Pods → Option ℕ → List Step
+ordered_ready_steps_at set pods (Some i) = flat_map keep_steps (range_with_len set.start (i - set.start)) ++ gap_steps set i (pod_at pods i)
+ordered_ready_steps_at set pods None = flat_map keep_steps (ordinals set) ++ scale_down_or_update_steps set pods (find (is_out_of_range set) (reverse pods))
 
-abbrev pub in_order : SetParts → Pods → List Step
-in_order set pods = in_order_at set pods (find (lacks_healthy pods) (ordinals set))
+abbrev pub ordered_ready_steps : SetParts → Pods → List Step
+ordered_ready_steps set pods = ordered_ready_steps_at set pods (find (lacks_healthy pods) (ordinals set))
 
--- at once: what is done at an ordinal in range
+-- Parallel: what is done at an ordinal in range
 abbrev pub target_steps : SetParts → ℕ → Option Replica → List Step
 target_steps set i None = creation_steps set i
 target_steps set i (Some pod) =
@@ -98,15 +98,15 @@ condemned_steps set e = if in_range set e.0 || e.1.terminating then [] else remo
 abbrev pub all_target_steps : SetParts → Pods → List Step
 all_target_steps set pods = flat_map (λ i. target_steps set i (pod_at pods i)) (ordinals set)
 
-unfoldable pub scaling_steps_at_once : SetParts → Pods → List Step
-scaling_steps_at_once set pods = all_target_steps set pods ++ flat_map (condemned_steps set) (reverse pods)
+unfoldable pub parallel_scaling_steps : SetParts → Pods → List Step
+parallel_scaling_steps set pods = all_target_steps set pods ++ flat_map (condemned_steps set) (reverse pods)
 
-abbrev pub at_once : SetParts → Pods → List Step
-at_once set pods = scaling_steps_at_once set pods ++ (if list_any is_of_pod (scaling_steps_at_once set pods) then [] else update_steps set pods)
+abbrev pub parallel_steps : SetParts → Pods → List Step
+parallel_steps set pods = parallel_scaling_steps set pods ++ (if list_any is_of_pod (parallel_scaling_steps set pods) then [] else update_steps set pods)
 
 abbrev pub full_steps_by : Policy → SetParts → Pods → List Step
-full_steps_by OrderedReady set pods = in_order set pods
-full_steps_by Parallel set pods = at_once set pods
+full_steps_by OrderedReady set pods = ordered_ready_steps set pods
+full_steps_by Parallel set pods = parallel_steps set pods
 
 abbrev pub full_steps : SetParts → Pods → List Step
 full_steps set pods = full_steps_by set.policy set pods

@@ -8,7 +8,7 @@ use Rattle.set_views.specs.declared.fault.PlanError.{PlanError}
 use Rattle.set_views.specs.declared.fault.PlanError.TheVariants.{Foreign}
 use Rattle.set_views.specs.Pod.{PodParts}
 use Rattle.set_views.specs.Set.{SetParts}
-use Rattle.set_views.specs.Words.{in_range, is_owned, ordinal_in}
+use Rattle.set_views.specs.Predicates.{in_range, owns_pod, ordinal_in}
 use Rattle.pod_steps.specs.declared.replica.Replica.{Replica}
 use Rattle.pod_steps.specs.Replicas.{Pods}
 
@@ -19,7 +19,7 @@ has_revision name pod = option_map_or (λ revision. bytes_eq revision name) pod.
 -- what a walk needs of a pod, given the names of its set's update and current revisions
 abbrev pub replica_of : SetParts → List ℕ → List ℕ → PodParts → Replica
 replica_of set update current pod = record {
-  owned = is_owned set pod;
+  owned = owns_pod set pod;
   uid = pod.uid;
   readiness = pod.readiness;
   terminating = pod.terminating;

@@ -1,4 +1,4 @@
--- The pods of a set by their ordinals (Kubernetes, "StatefulSets": "Ordinal Index"), and the words of a walk over them.
+-- The pods of a set by their ordinals (Kubernetes, "StatefulSets": "Ordinal Index"), and the predicates of a walk over them.
 -- They are pairs of an ordinal and its pod, in the order of ordinals.
 use Rattle.std.specs.Prelude.{ℕ, List, Option, Bool, true, false, not, ◌&&◌, nat_le}
 use Rattle.std.specs.BTreeMap.{is_at}
@@ -10,7 +10,7 @@ use Rattle.std.specs.Ordering.{nat_cmp}
 use Rattle.set_views.specs.declared.readiness.Readiness.{Readiness}
 use Rattle.set_views.specs.declared.readiness.Readiness.TheVariants.{Failed, Ready, NotReady}
 use Rattle.set_views.specs.Set.{SetParts}
-use Rattle.set_views.specs.Words.{in_range, is_ready}
+use Rattle.set_views.specs.Predicates.{in_range, is_healthy}
 use Rattle.pod_steps.specs.declared.replica.Replica.{Replica}
 
 abbrev pub Pods : Type 0
@@ -31,9 +31,8 @@ is_failed Ready = false
 is_failed NotReady = false
 is_failed Failed = true
 
--- running and ready, and not on its way out
 abbrev pub is_healthy_replica : Replica → Bool
-is_healthy_replica pod = is_ready pod.readiness && not pod.terminating
+is_healthy_replica pod = is_healthy pod.readiness pod.terminating
 
 abbrev pub has_healthy_pod : Pods → ℕ → Bool
 has_healthy_pod pods i = option_map_or is_healthy_replica (pod_at pods i) false

@@ -3,7 +3,7 @@
 use Rattle.std.specs.Prelude.{◌≡◌, ◌≢◌, ◌↔◌, ◌⊎◌, ℕ, List, [], ◌∷◌, Option, Some, None, true, false, IsSome}
 use Rattle.std.specs.List.{Contains}
 use Rattle.set_views.specs.Set.{SetParts}
-use Rattle.set_views.specs.Words.{in_range}
+use Rattle.set_views.specs.Predicates.{in_range}
 use Rattle.pod_steps.specs.declared.replica.Replica.{Replica}
 use Rattle.pod_steps.specs.declared.step.Cause.{Cause}
 use Rattle.pod_steps.specs.declared.step.Cause.TheVariants.{Terminating, NotReady}
@@ -42,7 +42,7 @@ pub record ScalesDown (set : SetParts) (pods : Pods) (i : ℕ) (pod : Replica) (
   pub free : pod.terminating ≡ false → ((j : ℕ) → ¬ IsHolding set pods i j) → steps ≡ DeletePod i pod.uid ∷ []
 
 -- "OrderedReady Pod Management": one pod at a time
-pub record ScalesInOrder (set : SetParts) (pods : Pods) (steps : List Step) : Type 0 where
+pub record ScalesOrderedReady (set : SetParts) (pods : Pods) (steps : List Step) : Type 0 where
   -- "Before a scaling operation is applied to a Pod, all of its predecessors must be Running and Ready": the least
   -- ordinal in range without a healthy pod is the only one where anything is done
   pub gap : (i : ℕ) → IsLeast (IsGap set pods) i → ClosesGap set i (pod_at pods i) steps
@@ -67,7 +67,7 @@ abbrev pub CallsForScaling : SetParts → Pods → Type 0
 CallsForScaling set pods = ((i : ℕ) × IsAbsent set pods i) ⊎ ((i : ℕ) × ((pod : Replica) × IsDismissed set pods i pod))
 
 -- "Parallel Pod Management": all pods at once, and none is waited for
-pub record ScalesAtOnce (set : SetParts) (pods : Pods) (steps : List Step) : Type 0 where
+pub record ScalesParallel (set : SetParts) (pods : Pods) (steps : List Step) : Type 0 where
   -- the creates are exactly the absent ordinals in range
   pub creates : (i : ℕ) (revision : Revision) → Contains steps (CreatePod i revision) ↔ (IsAbsent set pods i × (revision_at set.strategy i ≡ revision))
   -- the deletes are exactly the failed pods in range and the condemned ones, of those that are not terminating

@@ -5,7 +5,7 @@ use Rattle.std.specs.Option.{option_map_or}
 use Rattle.set_views.specs.declared.policies.Strategy.{Strategy}
 use Rattle.set_views.specs.declared.policies.Strategy.TheVariants.{RollingUpdate, OnDelete}
 use Rattle.set_views.specs.Set.{SetParts}
-use Rattle.set_views.specs.Words.{is_ready}
+use Rattle.set_views.specs.Predicates.{is_ready}
 use Rattle.pod_steps.specs.declared.replica.Replica.{Replica}
 use Rattle.pod_steps.specs.declared.status.Counts.{Counts}
 use Rattle.pod_steps.specs.Replicas.{Pods, is_out_of_range, is_settled, ordinals, pod_at}

@@ -7,7 +7,7 @@ use Rattle.set_views.specs.declared.pod.PodView.{PodView}
 use Rattle.set_views.specs.Firsts.{first_of_each}
 use Rattle.set_views.specs.Pod.{split_name_of, pod_parts, pod_with}
 use Rattle.set_views.specs.Set.{SetParts}
-use Rattle.set_views.specs.Words.{in_namespace}
+use Rattle.set_views.specs.Predicates.{in_namespace}
 
 -- the pods of the set's namespace among these objects; of several with one name the first counts
 abbrev pub listed_pods : SetParts → List Object → List Object

@@ -3,7 +3,7 @@ ghost use Rattle.std.specs.Prelude.{◌≡◌, ◌≤◌, ◌<◌, ◌++◌, ◌
 ghost use Rattle.std.specs.List.{Contains, list_any};
 ghost use Rattle.set_views.specs.Pod.{PodParts};
 ghost use Rattle.set_views.specs.Set.{SetParts};
-ghost use Rattle.set_views.specs.Words.{in_range, is_owned};
+ghost use Rattle.set_views.specs.Predicates.{in_range, owns_pod};
 ghost use Rattle.pod_steps.specs.declared.replica.Replica.{Replica};
 ghost use Rattle.pod_steps.specs.declared.step.Revision.{Revision};
 ghost use Rattle.pod_steps.specs.declared.step.Step.{Step};
@@ -67,7 +67,7 @@ pub fn replacements_wait_for_all_in_order()
 pub fn deletes_are_of_owned_pods()
     ensures { (set : SetParts) (update current : List ℕ) (listed : List PodParts) (pods : Pods) (i uid : ℕ)
         → replicas_in set update current listed ≡ Ok pods → Contains (full_steps set pods) (Step.DeletePod i uid)
-        → (pod : PodParts) × (find (is_named set i) listed ≡ Some pod) × (is_owned set pod ≡ true) × (pod.uid ≡ uid) }
+        → (pod : PodParts) × (find (is_named set i) listed ≡ Some pod) × (owns_pod set pod ≡ true) × (pod.uid ≡ uid) }
 {}
 
 /// A create is of a name that no listed pod has.

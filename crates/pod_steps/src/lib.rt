@@ -1,18 +1,18 @@
 //! The walk over the pods of a StatefulSet: which pod to create, which to delete, and which to wait for.
 #![tactic(auto)]
 
-mod at_once;
-mod in_order;
 mod laws;
 mod listing;
+mod ordered_ready;
+mod parallel;
 mod planner;
+mod predicates;
 mod replica;
 mod single;
 mod status;
 mod step;
 mod update;
 mod views;
-mod words;
 
 pub use laws::{
     creates_are_of_free_names, creates_follow_healthy_pods, deletes_are_of_owned_pods,

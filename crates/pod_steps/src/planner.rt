@@ -2,11 +2,11 @@
 ghost use Rattle.std.specs.Prelude.{◌≡◌, [], IfOk, OnOk};
 ghost use Rattle.set_views.specs.Set.{set_parts};
 ghost use Rattle.pod_steps.specs.Step.{Adds, truncated, pod_steps};
-ghost use Rattle.pod_steps.specs.Scaling.{ScalesAtOnce, ScalesInOrder};
+ghost use Rattle.pod_steps.specs.Scaling.{ScalesOrderedReady, ScalesParallel};
 ghost use Rattle.pod_steps.specs.FullSteps.{full_steps};
 
-use crate::at_once::plan_at_once;
-use crate::in_order::plan_in_order;
+use crate::ordered_ready::add_ordered_ready_steps;
+use crate::parallel::add_parallel_steps;
 use crate::replica::Replica;
 use crate::step::{Step, Steps};
 use set_views::{Policy, Set};
@@ -23,10 +23,10 @@ pub fn pod_steps(
     pods: &BTreeMap<u32, Replica>,
 ) -> Result<Vec<Step>, AllocError>
     ensures first { IfOk result (λ steps. steps.items ≡ truncated (full_steps (set_parts set.now) pods.now.entries)) }
-    ensures in_order { IfOk result (λ _. set.now.policy ≡ Policy.OrderedReady
-        → ScalesInOrder (set_parts set.now) pods.now.entries (pod_steps (full_steps (set_parts set.now) pods.now.entries))) }
-    ensures at_once { IfOk result (λ _. set.now.policy ≡ Policy.Parallel
-        → ScalesAtOnce (set_parts set.now) pods.now.entries (pod_steps (full_steps (set_parts set.now) pods.now.entries))) }
+    ensures ordered_ready { IfOk result (λ _. set.now.policy ≡ Policy.OrderedReady
+        → ScalesOrderedReady (set_parts set.now) pods.now.entries (pod_steps (full_steps (set_parts set.now) pods.now.entries))) }
+    ensures parallel { IfOk result (λ _. set.now.policy ≡ Policy.Parallel
+        → ScalesParallel (set_parts set.now) pods.now.entries (pod_steps (full_steps (set_parts set.now) pods.now.entries))) }
 {
     // A map's length says that its keys are in order.
     let _len = pods.len();
@@ -35,7 +35,7 @@ pub fn pod_steps(
     Ok(steps.list)
 }
 
-/// Plans as the set's policy has it.
+/// Adds the steps as the set's policy has it.
 fn add_by_policy(
     steps: &mut Steps,
     set: &Set,
@@ -45,7 +45,7 @@ fn add_by_policy(
     ensures { OnOk result (Adds steps.old.list.items steps.new.list.items (full_steps (set_parts set.now) pods.now.entries)) }
 {
     match set.policy {
-        Policy::OrderedReady => plan_in_order(steps, set, pods),
-        Policy::Parallel => plan_at_once(steps, set, pods),
+        Policy::OrderedReady => add_ordered_ready_steps(steps, set, pods),
+        Policy::Parallel => add_parallel_steps(steps, set, pods),
     }
 }

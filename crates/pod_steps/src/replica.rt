@@ -4,7 +4,7 @@ ghost use Rattle.set_views.specs.Pod.{pod_parts};
 ghost use Rattle.set_views.specs.Set.{set_parts};
 ghost use Rattle.pod_steps.specs.Listed.{has_revision, replica_of};
 ghost use Rattle.pod_steps.specs.Replicas.{is_failed, is_healthy_replica, is_settled};
-ghost use Rattle.set_views.specs.Words.{is_ready};
+ghost use Rattle.set_views.specs.Predicates.{is_ready};
 
 use set_views::{PodView, Readiness, Set};
 

@@ -5,9 +5,9 @@ ghost use Rattle.set_views.specs.Set.{set_parts};
 ghost use Rattle.pod_steps.specs.Step.{Adds};
 ghost use Rattle.pod_steps.specs.FullSteps.{keep_steps, creation_steps, removal_steps, wait_for};
 
+use crate::predicates::revision_at;
 use crate::replica::Replica;
 use crate::step::{Cause, Step, Steps};
-use crate::words::revision_at;
 use set_views::Set;
 use std::alloc::AllocError;
 
@@ -40,15 +40,19 @@ pub(crate) fn create(steps: &mut Steps, set: &Set, ordinal: u32) -> Result<(), A
 
 /// Deletes a condemned pod, after its claims.
 #[tactic(auto, using(crate::proofs::Truncation::adds_two))]
-pub(crate) fn remove(steps: &mut Steps, ordinal: u32, pod: &Replica) -> Result<(), AllocError>
+pub(crate) fn delete_condemned(
+    steps: &mut Steps,
+    ordinal: u32,
+    pod: &Replica,
+) -> Result<(), AllocError>
     ensures { OnOk result (Adds steps.old.list.items steps.new.list.items (removal_steps ordinal pod.now)) }
 {
     let uid = pod.uid;
     steps.add(Step::ReleaseClaims { ordinal, uid })?;
-    delete(steps, ordinal, pod)
+    delete_pod(steps, ordinal, pod)
 }
 
-pub(crate) fn delete(steps: &mut Steps, ordinal: u32, pod: &Replica) -> Result<(), AllocError>
+pub(crate) fn delete_pod(steps: &mut Steps, ordinal: u32, pod: &Replica) -> Result<(), AllocError>
     ensures { OnOk result (Adds steps.old.list.items steps.new.list.items (Step.DeletePod ordinal pod.now.uid ∷ [])) }
 {
     steps.add(Step::DeletePod {

@@ -5,8 +5,8 @@ ghost use Rattle.set_views.specs.Set.{set_parts};
 ghost use Rattle.pod_steps.specs.Replicas.{is_out_of_range, ordinals};
 ghost use Rattle.pod_steps.specs.Status.{counts_of, has_settled_pod, is_current, is_ready_entry, is_rolled_out, is_updated};
 
+use crate::predicates::end_of;
 use crate::replica::Replica;
-use crate::words::end_of;
 use set_views::{Set, Strategy};
 use std::collections::BTreeMap;
 

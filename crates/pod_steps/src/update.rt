@@ -5,10 +5,10 @@ ghost use Rattle.pod_steps.specs.Replicas.{is_due, ordinals, pod_at};
 ghost use Rattle.pod_steps.specs.Step.{Adds};
 ghost use Rattle.pod_steps.specs.FullSteps.{replacement_steps, update_steps};
 
+use crate::predicates::end_of;
 use crate::replica::Replica;
-use crate::single::{delete, wait};
+use crate::single::{delete_pod, wait};
 use crate::step::Steps;
-use crate::words::end_of;
 use set_views::{Set, Strategy};
 use std::alloc::AllocError;
 use std::collections::BTreeMap;
@@ -40,7 +40,7 @@ fn replace(steps: &mut Steps, pods: &BTreeMap<u32, Replica>, ordinal: u32) -> Re
     match pods.get(&ordinal) {
         Some(pod) => {
             if !pod.updated && !pod.terminating {
-                delete(steps, ordinal, pod)
+                delete_pod(steps, ordinal, pod)
             } else {
                 wait(steps, ordinal, pod)
             }

@@ -6,11 +6,11 @@ use Rattle.std.specs.Option.{option_map_or}
 use Rattle.objects.specs.declared.object.Object.{Object}
 use Rattle.set_views.specs.Pod.{PodParts}
 use Rattle.set_views.specs.Set.{SetParts}
-use Rattle.set_views.specs.Words as words
+use Rattle.set_views.specs.Predicates.{owns_pod}
 
 -- a pod that the set controls was made from the revision of that name
 abbrev pub has_pod : SetParts → List PodParts → List ℕ → Bool
-has_pod set pods name = list_any (λ pod. words.is_owned set pod && option_map_or (bytes_eq name) pod.revision false) pods
+has_pod set pods name = list_any (λ pod. owns_pod set pod && option_map_or (bytes_eq name) pod.revision false) pods
 
 -- the current and the update revision are live, and those of the set's pods
 abbrev pub is_live : SetParts → List PodParts → List ℕ → List ℕ → List ℕ → Bool

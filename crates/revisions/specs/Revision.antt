@@ -14,7 +14,7 @@ use Rattle.objects.specs.Status.{member_of}
 use Rattle.set_views.specs.Firsts.{first_of_each}
 use Rattle.set_views.specs.Owners.{is_controlled}
 use Rattle.set_views.specs.Set.{SetParts}
-use Rattle.set_views.specs.Words.{in_namespace}
+use Rattle.set_views.specs.Predicates.{in_namespace}
 
 -- `revision`; what is no whole number from 0 up counts as 0
 abbrev pub number_of : Object → ℕ
@@ -24,8 +24,8 @@ abbrev pub data_in : Object → Option Data
 data_in o = member_of (codes "data") o.body
 
 -- the set controls the revision
-abbrev pub is_owned : SetParts → Object → Bool
-is_owned set o = is_controlled set.object.meta.uid (owners_of o.body)
+abbrev pub owns_revision : SetParts → Object → Bool
+owns_revision set o = is_controlled set.object.meta.uid (owners_of o.body)
 
 -- the revisions of the set's namespace among these objects
 abbrev pub listed : SetParts → List Object → List Object
@@ -33,7 +33,7 @@ listed set os = filter (in_namespace set ControllerRevision) os
 
 -- of the first of each name, those that the set controls
 abbrev pub owned_among : SetParts → List Object → List Object
-owned_among set os = filter (is_owned set) (first_of_each (listed set os))
+owned_among set os = filter (owns_revision set) (first_of_each (listed set os))
 
 -- by number, then by name
 abbrev pub revision_cmp : Object → Object → Ordering

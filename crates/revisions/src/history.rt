@@ -3,7 +3,7 @@ ghost use Rattle.std.specs.List.{filter};
 ghost use Rattle.std.specs.Option.{option_map_or};
 ghost use Rattle.set_views.specs.Pod.{pod_parts};
 ghost use Rattle.set_views.specs.Set.{set_parts};
-ghost use Rattle.set_views.specs.Words.{is_owned};
+ghost use Rattle.set_views.specs.Predicates.{owns_pod};
 ghost use Rattle.revisions.specs.History.{expired_revisions, is_live};
 ghost use Rattle.revisions.specs.Listing.{has_name};
 ghost use Rattle.revisions.specs.Plan.{objects_of};
@@ -62,7 +62,7 @@ fn take_name<'b>(
     set: &Set,
     pod: &PodView<'b>,
 ) -> Result<(), AllocError>
-    ensures { OnOk result ((q : List ℕ) → has_name q names.new.keys ≡ ((is_owned (set_parts set.now) (pod_parts pod.now)
+    ensures { OnOk result ((q : List ℕ) → has_name q names.new.keys ≡ ((owns_pod (set_parts set.now) (pod_parts pod.now)
         && option_map_or (bytes_eq q) (option_map (λ s. s.now) pod.now.revision) false) || has_name q names.old.keys)) }
 {
     if let Some(name) = pod.revision {

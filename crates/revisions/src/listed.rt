@@ -3,10 +3,10 @@ ghost use Rattle.std.specs.Prelude.{◌≡◌, ℕ, List, [], ◌∷◌, ◌++�
 ghost use Rattle.std.specs.List.Sorted.{IsPermutation, IsSorted};
 ghost use Rattle.objects.specs.declared.kind.Kind.TheVariants.{ControllerRevision};
 ghost use Rattle.set_views.specs.Set.{set_parts};
-ghost use Rattle.set_views.specs.Words.{in_namespace};
+ghost use Rattle.set_views.specs.Predicates.{in_namespace};
 ghost use Rattle.revisions.specs.Listing.{has_name, HoldsNames};
 ghost use Rattle.revisions.specs.Plan.{objects_of};
-ghost use Rattle.revisions.specs.Revision.{is_owned, owned_among, revision_cmp, AreOwned, listed};
+ghost use Rattle.revisions.specs.Revision.{owns_revision, owned_among, revision_cmp, AreOwned, listed};
 
 use crate::view::{RevisionView, read_revision};
 use objects::{Kind, Object};
@@ -27,7 +27,7 @@ impl<'a> Listed<'a> {
         ensures names { OnOk result ((q : List ℕ) → has_name q self.new.names.keys
             ≡ (has_name q self.old.names.keys || (in_namespace (set_parts set.now) ControllerRevision object.now && bytes_eq q object.now.key.name))) }
         ensures owned { OnOk result (objects_of self.new.owned.items ≡ (if in_namespace (set_parts set.now) ControllerRevision object.now
-            && not (has_name object.now.key.name self.old.names.keys) && is_owned (set_parts set.now) object.now
+            && not (has_name object.now.key.name self.old.names.keys) && owns_revision (set_parts set.now) object.now
             then objects_of self.old.owned.items ++ object.now ∷ [] else objects_of self.old.owned.items)) }
     {
         if set.has_in_namespace(Kind::ControllerRevision, object) {

@@ -9,5 +9,5 @@ pub mod SetReading
 pub mod Readiness
 pub mod Owners
 pub mod Pod
-pub mod Words
+pub mod Predicates
 pub mod Firsts

@@ -31,7 +31,6 @@ pub(crate) fn claims_in(
     if are_distinct(alloc, &claims)? {
         Ok(claims)
     } else {
-        // They go by `drop`, which is proved once for their type, and not for each of their parts.
         drop(claims);
         Err(PlanError::BadSpec)
     }

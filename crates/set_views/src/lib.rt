@@ -1,4 +1,4 @@
-//! A StatefulSet and its pods as a plan sees them: what is read of them, and the words that they are judged by.
+//! A StatefulSet and its pods as a plan sees them: what is read of them, and the predicates that they are judged by.
 #![tactic(auto)]
 
 mod claims;
@@ -6,11 +6,11 @@ mod fault;
 mod owners;
 mod pod;
 mod policies;
+mod predicates;
 mod readiness;
 mod reading;
 mod set;
 mod values;
-mod words;
 
 pub use fault::PlanError;
 pub use pod::{PodView, read_pod};

@@ -160,7 +160,6 @@ pub fn read_set(alloc: Global, object: &Object) -> Result<Set, PlanError>
     };
     let claims = claims_in(alloc, present(specified.spec.get("volumeClaimTemplates")))?;
     if !range_fits(specified.counts) {
-        // They go by `drop`, which is proved once for their type, and not for each of their parts.
         drop(claims);
         return Err(PlanError::OrdinalTooLarge);
     }

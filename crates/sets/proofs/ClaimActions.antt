@@ -15,7 +15,7 @@ use Rattle.set_views.specs.Set.{SetParts}
 use Rattle.set_views.specs.Steps.{guarded}
 use Rattle.pod_steps.specs.declared.step.Step.{Step}
 use Rattle.pod_steps.specs.declared.step.Step.TheVariants as steps
-use Rattle.pod_steps.proofs.AtOnce.{alone, nowhere, single}
+use Rattle.pod_steps.proofs.ParallelPlans.{alone, nowhere, single}
 use Rattle.manifests.specs.BuiltClaim.{built_claim}
 use Rattle.claims.specs.declared.change.ClaimChange.{ClaimChange}
 use Rattle.claims.specs.declared.change.ClaimChange.TheVariants.{Create, Update as Change}

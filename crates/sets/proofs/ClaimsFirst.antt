@@ -15,17 +15,17 @@ use Rattle.set_views.specs.declared.policies.Strategy.TheVariants.{RollingUpdate
 use Rattle.set_views.specs.Pod.{PodParts}
 use Rattle.set_views.specs.Set.{SetParts}
 use Rattle.set_views.specs.Steps.{guarded}
-use Rattle.set_views.specs.Words.{in_range, is_ready}
+use Rattle.set_views.specs.Predicates.{in_range, is_ready}
 use Rattle.revisions.specs.History.{expired_revisions}
 use Rattle.pod_steps.specs.declared.replica.Replica.{Replica}
 use Rattle.pod_steps.specs.declared.step.Step.{Step}
 use Rattle.pod_steps.specs.declared.step.Step.TheVariants as steps
 use Rattle.pod_steps.specs.Replicas.{Pods, is_out_of_range, is_due, is_failed, lacks_healthy, ordinals, pod_at}
 use Rattle.pod_steps.specs.Step.{is_of_pod}
-use Rattle.pod_steps.specs.FullSteps.{all_target_steps, at_once, target_steps, removal_steps_unless, in_order, in_order_at, is_other_unhealthy, keep_steps, condemned_steps, creation_steps, gap_steps, full_steps, full_steps_by, removal_steps, replacement_steps, scale_down_steps, scale_down_or_update_steps, revision_at, rolling_update_steps, scaling_steps_at_once, update_steps, update_steps_by, wait_for}
-use Rattle.pod_steps.proofs.AtOnce.{alone, nowhere, single}
+use Rattle.pod_steps.specs.FullSteps.{all_target_steps, parallel_steps, target_steps, removal_steps_unless, ordered_ready_steps, ordered_ready_steps_at, is_other_unhealthy, keep_steps, condemned_steps, creation_steps, gap_steps, full_steps, full_steps_by, removal_steps, replacement_steps, scale_down_steps, scale_down_or_update_steps, revision_at, rolling_update_steps, parallel_scaling_steps, update_steps, update_steps_by, wait_for}
+use Rattle.pod_steps.proofs.ParallelPlans.{alone, nowhere, single}
 use Rattle.pod_steps.proofs.Causes.{found_in}
-use Rattle.pod_steps.proofs.InOrder.{bounds, inside}
+use Rattle.pod_steps.proofs.OrderedReadyPlans.{bounds, inside}
 use Rattle.manifests.specs.BuiltClaim.{built_claim}
 use Rattle.manifests.specs.BuiltStatus.{built_status}
 use Rattle.claims.specs.declared.change.ClaimChange.{ClaimChange}
@@ -239,27 +239,27 @@ module _ (set : SetParts) (claims : Claims) where
     ending pods None = updating pods
     ending pods (Some e) = scaling_down pods e
 
-    in_order_stand : Fits → (pods : Pods) → StepsStand (in_order set pods)
-    in_order_stand fits pods =
-        elim (find (lacks_healthy pods) (ordinals set)) as (λ g. find (lacks_healthy pods) (ordinals set) ≡ g → StepsStand (in_order_at set pods g)) [
+    ordered_ready_stand : Fits → (pods : Pods) → StepsStand (ordered_ready_steps set pods)
+    ordered_ready_stand fits pods =
+        elim (find (lacks_healthy pods) (ordinals set)) as (λ g. find (lacks_healthy pods) (ordinals set) ≡ g → StepsStand (ordered_ready_steps_at set pods g)) [
           | Some i ↦ λ e.
               let at = found_in (lacks_healthy pods) set.start set.replicas i e in
               steps_both (flat_map keep_steps (range_with_len set.start (i - set.start))) (gap_steps set i (pod_at pods i)) (over_all keep_steps keeping (range_with_len set.start (i - set.start))) (closing_gap fits i (pod_at pods i) (inside set i at.0 at.1))
           | None ↦ λ e. steps_both (flat_map keep_steps (ordinals set)) (scale_down_or_update_steps set pods (find (is_out_of_range set) (reverse pods))) (over_all keep_steps keeping (ordinals set)) (ending pods (find (is_out_of_range set) (reverse pods)))
         ] refl
 
-    at_once_stand : Fits → (pods : Pods) → StepsStand (at_once set pods)
-    unfolding scaling_steps_at_once
-    at_once_stand fits pods =
-        let rest : List Step = if list_any is_of_pod (scaling_steps_at_once set pods) then [] else update_steps set pods in
-        steps_both (scaling_steps_at_once set pods) rest
+    parallel_stand : Fits → (pods : Pods) → StepsStand (parallel_steps set pods)
+    unfolding parallel_scaling_steps
+    parallel_stand fits pods =
+        let rest : List Step = if list_any is_of_pod (parallel_scaling_steps set pods) then [] else update_steps set pods in
+        steps_both (parallel_scaling_steps set pods) rest
         (steps_both (all_target_steps set pods) (flat_map (condemned_steps set) (reverse pods))
         (over_range (λ i. target_steps set i (pod_at pods i)) set.start set.replicas (λ j from to. of_target fits j (pod_at pods j) (inside set j from to)))
         (over_all (condemned_steps set) of_condemned (reverse pods)))
-        (elim (list_any is_of_pod (scaling_steps_at_once set pods)) as (λ b. StepsStand (if b then [] else update_steps set pods)) [ true ↦ steps_none | false ↦ updating pods ])
+        (elim (list_any is_of_pod (parallel_scaling_steps set pods)) as (λ b. StepsStand (if b then [] else update_steps set pods)) [ true ↦ steps_none | false ↦ updating pods ])
 
     planned_stand : Fits → (pods : Pods) → StepsStand (full_steps set pods)
-    planned_stand fits pods = elim (set.policy) as (λ p. StepsStand (full_steps_by p set pods)) [ OrderedReady ↦ in_order_stand fits pods | Parallel ↦ at_once_stand fits pods ]
+    planned_stand fits pods = elim (set.policy) as (λ p. StepsStand (full_steps_by p set pods)) [ OrderedReady ↦ ordered_ready_stand fits pods | Parallel ↦ parallel_stand fits pods ]
 
     -- ---- the full plan
     full_plan_stands : Fits → (listed : List PodParts) (owned : List Object) (pods : Pods) → Stands (full_plan set claims listed owned current update pods)

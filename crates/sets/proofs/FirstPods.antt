@@ -12,7 +12,7 @@ use Rattle.set_views.specs.declared.pod.PodView.{PodView}
 use Rattle.set_views.specs.Firsts.{first_of_each}
 use Rattle.set_views.specs.Pod.{PodParts}
 use Rattle.set_views.specs.Set.{SetParts}
-use Rattle.set_views.specs.Words.{in_namespace, is_owned}
+use Rattle.set_views.specs.Predicates.{in_namespace, owns_pod}
 use Rattle.revisions.specs.History.{has_pod}
 use Rattle.pod_steps.specs.Listed.{is_named}
 use Rattle.pod_steps.specs.Views.{AreViews, IsViewOf, listed_pod, listed_pods}
@@ -183,7 +183,7 @@ module _ (set : SetParts) where
 
     pub same_held : (name : List ℕ) → has_pod set (views_of set pods) name ≡ has_pod set (views_of set others) name
     unfolding views_of
-    same_held name = same_any (λ pod. is_owned set pod && option_map_or (bytes_eq name) pod.revision false) (listed_pods set pods) (listed_pods set others) to back
+    same_held name = same_any (λ pod. owns_pod set pod && option_map_or (bytes_eq name) pod.revision false) (listed_pods set pods) (listed_pods set others) to back
 
 -- ---- the views of objects that were read
 

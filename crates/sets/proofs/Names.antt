@@ -16,7 +16,7 @@ use Rattle.pod_steps.specs.Step.{truncated}
 use Rattle.pod_steps.specs.FullSteps.{full_steps}
 use Rattle.pod_steps.proofs.Causes.{created_is_absent}
 use Rattle.pod_steps.proofs.Truncation.{truncated_is_a_beginning}
-use Rattle.pod_steps.proofs.InOrder.{bounds}
+use Rattle.pod_steps.proofs.OrderedReadyPlans.{bounds}
 use Rattle.objects.specs.declared.object.Object.{Object}
 use Rattle.set_views.specs.declared.fault.PlanError.{PlanError}
 use Rattle.set_views.specs.declared.fault.PlanError.TheVariants as errors

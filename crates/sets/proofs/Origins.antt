@@ -13,7 +13,7 @@ use Rattle.set_views.specs.declared.policies.Strategy.TheVariants.{OnDelete}
 use Rattle.set_views.specs.Pod.{PodParts}
 use Rattle.set_views.specs.Set.{SetParts}
 use Rattle.set_views.specs.Steps.{◌>>=◌, guarded}
-use Rattle.set_views.specs.Words.{in_range, is_owned, is_healthy}
+use Rattle.set_views.specs.Predicates.{in_range, owns_pod, is_healthy}
 use Rattle.revisions.specs.History.{expired_revisions}
 use Rattle.revisions.specs.Plan.{created, renumbered}
 use Rattle.pod_steps.specs.declared.replica.Replica.{Replica}
@@ -25,7 +25,7 @@ use Rattle.pod_steps.specs.Replicas as replicas
 use Rattle.pod_steps.specs.Replicas.{Pods, has_healthy_pod, pod_at}
 use Rattle.pod_steps.specs.Step.{is_of_pod, pod_steps}
 use Rattle.pod_steps.specs.FullSteps.{full_steps}
-use Rattle.pod_steps.proofs.AtOnce.{alone, nowhere, single}
+use Rattle.pod_steps.proofs.ParallelPlans.{alone, nowhere, single}
 use Rattle.pod_steps.proofs.Causes.{created_in_turn, created_is_absent, deleted, one_at_a_time}
 use Rattle.pod_steps.proofs.Firsts.{is_listed, replicas_in_order}
 use Rattle.pod_steps.proofs.ListedPlans.{created_is_free, deleted_is_owned, kept_of_list}
@@ -198,7 +198,7 @@ origin set claims listed owned current update actions pods a t o h =
     from_step set claims listed owned current update pods a t (in_take 1024 (full_plan set claims listed owned current update pods) a (subst P o.1 h))
 
 -- ---- laws
-pub deletes_owned : (set : SetParts) (claims : Claims) (listed : List PodParts) (owned : List Object) (current update : Object) (actions : List Action) (name : List ℕ) (uid : ℕ) → plan_of_pods set claims listed owned current update ≡ Ok actions → Contains actions (DeletePod name uid) → (i : ℕ) × (name ≡ name_at set i) × ((pod : PodParts) × (find (is_named set i) listed ≡ Some pod) × (is_owned set pod ≡ true) × (pod.uid ≡ uid))
+pub deletes_owned : (set : SetParts) (claims : Claims) (listed : List PodParts) (owned : List Object) (current update : Object) (actions : List Action) (name : List ℕ) (uid : ℕ) → plan_of_pods set claims listed owned current update ≡ Ok actions → Contains actions (DeletePod name uid) → (i : ℕ) × (name ≡ name_at set i) × ((pod : PodParts) × (find (is_named set i) listed ≡ Some pod) × (owns_pod set pod ≡ true) × (pod.uid ≡ uid))
 unfolding is_from_step
 deletes_owned set claims listed owned current update actions name uid e h =
     let p = planned_over set claims listed owned current update actions e in
@@ -242,7 +242,7 @@ creates_in_turn set claims listed owned current update actions pod policy e h =
       λ j within below. healthy_target set update.key.name current.key.name listed p.0 j p.1.0 (created_in_turn set p.0 c.0 j c.1 policy (subst P c.2 s.1) within below),
     )
 
-pub kept_healthy : (set : SetParts) (claims : Claims) (listed : List PodParts) (owned : List Object) (current update : Object) (actions : List Action) (name : List ℕ) (uid : ℕ) → set.strategy ≡ OnDelete → plan_of_pods set claims listed owned current update ≡ Ok actions → Contains actions (DeletePod name uid) → (i : ℕ) × (name ≡ name_at set i) × ((pod : PodParts) × IsPodAt set listed i pod × (in_range set i ≡ true → is_healthy pod ≡ false))
+pub kept_healthy : (set : SetParts) (claims : Claims) (listed : List PodParts) (owned : List Object) (current update : Object) (actions : List Action) (name : List ℕ) (uid : ℕ) → set.strategy ≡ OnDelete → plan_of_pods set claims listed owned current update ≡ Ok actions → Contains actions (DeletePod name uid) → (i : ℕ) × (name ≡ name_at set i) × ((pod : PodParts) × IsPodAt set listed i pod × (in_range set i ≡ true → is_healthy pod.readiness pod.terminating ≡ false))
 unfolding is_from_step
 kept_healthy set claims listed owned current update actions name uid strategy e h =
     let p = planned_over set claims listed owned current update actions e in

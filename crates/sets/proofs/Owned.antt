@@ -10,7 +10,7 @@ use Rattle.std.proofs.lemmas.Slice.Eq.{bytes_eq-Decides}
 use Rattle.objects.specs.declared.object.Object.{Object}
 use Rattle.set_views.specs.Firsts.{first_of_each}
 use Rattle.set_views.specs.Set.{SetParts}
-use Rattle.revisions.specs.Revision.{AreOwned, is_owned, listed, number_of, owned_among, revision_cmp}
+use Rattle.revisions.specs.Revision.{AreOwned, owns_revision, listed, number_of, owned_among, revision_cmp}
 use Rattle.requests.specs.Lists.{Has}
 use Rattle.sets.specs.PlanOfLists.{owned_of}
 use Rattle.sets.proofs.Ordered.{HasNoTies, sorted_is_in_order}
@@ -54,8 +54,8 @@ second_ties Greater b h = absurd (true≢false (sym (ap is_eq h)))
 
 no_ties : (set : SetParts) (os : List Object) → HasNoTies revision_cmp (owned_among set os)
 no_ties set os x y at_x at_y ties =
-    one_of_a_name (listed set os) x y (filtered (is_owned set) x (first_of_each (listed set os)) at_x).0
-    (filtered (is_owned set) y (first_of_each (listed set os)) at_y).0
+    one_of_a_name (listed set os) x y (filtered (owns_revision set) x (first_of_each (listed set os)) at_x).0
+    (filtered (owns_revision set) y (first_of_each (listed set os)) at_y).0
     (exact_bytes x.key.name y.key.name (second_ties (nat_cmp (number_of x) (number_of y)) (slice_cmp nat_cmp x.key.name y.key.name) ties))
 
 pub owned_is : (set : SetParts) (os owned : List Object) → AreOwned set os owned → owned ≡ owned_of set os

@@ -7,7 +7,7 @@ use Rattle.set_views.specs.declared.policies.Policy.TheVariants.{OrderedReady}
 use Rattle.set_views.specs.declared.policies.Strategy.TheVariants.{RollingUpdate}
 use Rattle.set_views.specs.Pod.{PodParts}
 use Rattle.set_views.specs.Set.{SetParts}
-use Rattle.set_views.specs.Words.{in_range}
+use Rattle.set_views.specs.Predicates.{in_range}
 use Rattle.pod_steps.specs.declared.replica.Replica.{Replica}
 use Rattle.pod_steps.specs.declared.step.Step.{Step}
 use Rattle.pod_steps.specs.declared.step.Step.TheVariants as steps

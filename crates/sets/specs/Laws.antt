@@ -9,7 +9,7 @@ use Rattle.objects.specs.PodNames.{claim_name}
 use Rattle.set_views.specs.Claims.{Claim}
 use Rattle.set_views.specs.Pod.{PodParts}
 use Rattle.set_views.specs.Set.{SetParts}
-use Rattle.set_views.specs.Words.{in_range, is_healthy, is_owned}
+use Rattle.set_views.specs.Predicates.{in_range, is_healthy, owns_pod}
 use Rattle.pod_steps.specs.Listed.{has_revision, is_named}
 use Rattle.claims.specs.Changes.{entries_of, with_owner_entries}
 use Rattle.claims.specs.Owners.{is_of_pod, is_of_set, is_stranger, owner_in_range, owner_of_condemned}
@@ -23,7 +23,7 @@ IsPodAt set listed i pod = find (is_named set i) listed ≡ Some pod
 
 -- the ordinal has a pod of the set's, and it is healthy
 abbrev pub HasHealthyTarget : SetParts → List PodParts → ℕ → Type 0
-HasHealthyTarget set listed i = (pod : PodParts) × IsPodAt set listed i pod × (is_owned set pod ≡ true) × (is_healthy pod ≡ true)
+HasHealthyTarget set listed i = (pod : PodParts) × IsPodAt set listed i pod × (owns_pod set pod ≡ true) × (is_healthy pod.readiness pod.terminating ≡ true)
 
 -- the action creates, deletes or waits for a pod
 abbrev pub is_on_pod : Action → Bool
@@ -38,7 +38,7 @@ is_on_pod (Wait cause name) = true
 
 -- the ordinal has a pod of the set's that was made from the revision of that name, and it is healthy
 abbrev pub HasUpdatedTarget : SetParts → List ℕ → List PodParts → ℕ → Type 0
-HasUpdatedTarget set update listed i = (pod : PodParts) × IsPodAt set listed i pod × (is_owned set pod ≡ true) × (has_revision update pod ≡ true) × (is_healthy pod ≡ true)
+HasUpdatedTarget set update listed i = (pod : PodParts) × IsPodAt set listed i pod × (owns_pod set pod ≡ true) × (has_revision update pod ≡ true) × (is_healthy pod.readiness pod.terminating ≡ true)
 
 -- A rolling update down to that partition replaces the pod of that ordinal by one of the revision of that name ("Rolling
 -- Updates": "from the largest ordinal to the smallest", each once its predecessor is running and ready).

@@ -36,4 +36,4 @@ pub use Rattle.set_views.specs.Readiness
 pub use Rattle.set_views.specs.Set
 pub use Rattle.set_views.specs.SetReading
 pub use Rattle.set_views.specs.Steps as Refusals
-pub use Rattle.set_views.specs.Words
+pub use Rattle.set_views.specs.Predicates

@@ -12,7 +12,7 @@ ghost use Rattle.set_views.specs.Claims.{Claim};
 ghost use Rattle.set_views.specs.Pod.{PodParts};
 ghost use Rattle.set_views.specs.Set.{SetParts};
 ghost use Rattle.set_views.specs.Steps.{is_memory};
-ghost use Rattle.set_views.specs.Words.{in_range, is_healthy, is_owned};
+ghost use Rattle.set_views.specs.Predicates.{in_range, is_healthy, owns_pod};
 ghost use Rattle.revisions.specs.Plan.{created, renumbered};
 ghost use Rattle.pod_steps.specs.Listed.{is_named};
 ghost use Rattle.pod_steps.specs.Replicas.{is_failed};
@@ -32,7 +32,7 @@ pub fn plans_delete_owned_pods()
     ensures { (set : SetParts) (claims : Claims) (listed : List PodParts)
         (owned : List Object) (current update : Object) (actions : List Action) (name : List ℕ) (uid : ℕ)
         → plan_of_pods set claims listed owned current update ≡ Ok actions → Contains actions (DeletePod name uid)
-        → (i : ℕ) × (name ≡ name_at set i) × ((pod : PodParts) × IsPodAt set listed i pod × (is_owned set pod ≡ true) × (pod.uid ≡ uid)) }
+        → (i : ℕ) × (name ≡ name_at set i) × ((pod : PodParts) × IsPodAt set listed i pod × (owns_pod set pod ≡ true) × (pod.uid ≡ uid)) }
 {}
 
 /// A plan creates a pod only of an ordinal in range, under a name that no listed pod has.
@@ -61,7 +61,7 @@ pub fn plans_keep_healthy_pods_on_delete()
     ensures { (set : SetParts) (claims : Claims) (listed : List PodParts) (owned : List Object)
         (current update : Object) (actions : List Action) (name : List ℕ) (uid : ℕ) → set.strategy ≡ OnDelete
         → plan_of_pods set claims listed owned current update ≡ Ok actions → Contains actions (DeletePod name uid)
-        → (i : ℕ) × (name ≡ name_at set i) × ((pod : PodParts) × IsPodAt set listed i pod × (in_range set i ≡ true → is_healthy pod ≡ false)) }
+        → (i : ℕ) × (name ≡ name_at set i) × ((pod : PodParts) × IsPodAt set listed i pod × (in_range set i ≡ true → is_healthy pod.readiness pod.terminating ≡ false)) }
 {}
 
 /// A pod in range that has not failed is deleted by an update alone, and then no other pod is created, deleted or waited

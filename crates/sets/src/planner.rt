@@ -1,5 +1,4 @@
 // The plan of a set.
-// Values are let go by `drop`, which is proved once for a type and not at each way out.
 ghost use Rattle.std.specs.Prelude.{◌≡◌, ◌≤◌, ◌∷◌, [], map, take, true, IfOk, Result, Ok, Err};
 ghost use Rattle.set_views.specs.declared.fault.PlanError.{PlanError};
 ghost use Rattle.set_views.specs.declared.fault.PlanError.TheVariants.{Memory as OutOfMemory, NoRevisionName};

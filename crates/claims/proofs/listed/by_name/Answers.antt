@@ -9,7 +9,7 @@ use Rattle.std.specs.Iterator.Adapters.{rev_source}
 use Rattle.std.specs.Slice.Iter.{iter_rest}
 use Rattle.objects.specs.declared.kind.Kind.TheVariants.{PersistentVolumeClaim}
 use Rattle.set_views.specs.Set.{set_parts}
-use Rattle.set_views.specs.Words.{in_namespace}
+use Rattle.set_views.specs.Predicates.{in_namespace}
 use Rattle.claims.proofs.listed.by_name.Goals as goal
 
 pub loop-object-init : goal.loop-object-init

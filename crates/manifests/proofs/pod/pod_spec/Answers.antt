@@ -1,4 +1,4 @@
-use Rattle.std.proofs.Common.{◌≡◌, filter, not, sym, ap, ◌∙◌, codes}
+use Rattle.std.proofs.Common.{filter, not, sym, ap, ◌∙◌, codes}
 use Rattle.std.specs.Prelude.{option_map}
 use Rattle.serde_json.specs.Data.{Members, put, string}
 use Rattle.objects.specs.Building.{put_some}

@@ -6,7 +6,7 @@ use Rattle.objects.specs.declared.object.Object.{Object}
 use Rattle.set_views.specs.declared.pod.PodView.{PodView}
 use Rattle.set_views.specs.Firsts.{is_held}
 use Rattle.set_views.specs.Set.{set_parts}
-use Rattle.set_views.specs.Words.{in_namespace}
+use Rattle.set_views.specs.Predicates.{in_namespace}
 use Rattle.set_views.proofs.Firsts.{held_more}
 use Rattle.set_views.proofs.NameSets.{contains_is, has_name, name_taken, was_new, was_there}
 use Rattle.pod_steps.specs.Views.{AreViews, listed_pods}

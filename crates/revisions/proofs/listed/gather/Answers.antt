@@ -4,7 +4,7 @@ use Rattle.std.proofs.lemmas.List.{take_more}
 use Rattle.objects.specs.declared.kind.Kind.TheVariants.{ControllerRevision}
 use Rattle.set_views.specs.Firsts.{is_held}
 use Rattle.set_views.specs.Set.{set_parts}
-use Rattle.set_views.specs.Words.{in_namespace}
+use Rattle.set_views.specs.Predicates.{in_namespace}
 use Rattle.set_views.proofs.Firsts.{held_more}
 use Rattle.revisions.specs.Revision.{listed, owned_among}
 use Rattle.revisions.proofs.Firsts.{owned_step}

@@ -1,4 +1,4 @@
--- A plan at once meets the rules of scaling and updates.
+-- A plan of Parallel meets the rules of scaling and updates.
 use Rattle.std.proofs.Common.{◌≡◌, ◌≢◌, ◌==◌, ◌⊎◌, inl, inr, ◌||◌, ℕ, zero, suc, ◌+◌, ◌≤◌, ◌<◌, Bool, true, false, not, cond, if◌then◌else◌, List, [], ◌∷◌, ◌++◌, Option, Some, None, ◌&&◌, filter, find, reverse, arith, refl, sym, ap, ◌∙◌, subst}
 use Rattle.std.proofs.lemmas.Bool.{eqb-true, eq-eqb}
 use Rattle.std.proofs.lemmas.List.{reverse-append}
@@ -11,19 +11,19 @@ use Rattle.std.specs.Map.{keys_of}
 use Rattle.std.specs.Ordering.{nat_cmp}
 use Rattle.set_views.specs.declared.policies.Strategy.TheVariants.{RollingUpdate, OnDelete}
 use Rattle.set_views.specs.Set.{SetParts}
-use Rattle.set_views.specs.Words.{in_range, is_ready}
+use Rattle.set_views.specs.Predicates.{in_range, is_ready}
 use Rattle.pod_steps.specs.declared.replica.Replica.{Replica}
 use Rattle.pod_steps.specs.declared.step.Cause.{Cause}
 use Rattle.pod_steps.specs.declared.step.Revision.{Revision}
 use Rattle.pod_steps.specs.declared.step.Step.{Step}
 use Rattle.pod_steps.specs.declared.step.Step.TheVariants.{MakeClaims, KeepClaims, ReleaseClaims, CreatePod, DeletePod, Wait}
 use Rattle.pod_steps.specs.Replicas.{AreInOrder, Pods, is_due, is_failed, ordinals, pod_at}
-use Rattle.pod_steps.specs.Scaling.{CallsForScaling, IsAbsent, IsDismissed, ScalesAtOnce}
+use Rattle.pod_steps.specs.Scaling.{CallsForScaling, IsAbsent, IsDismissed, ScalesParallel}
 use Rattle.pod_steps.specs.Step.{is_of_pod, pod_steps}
 use Rattle.pod_steps.specs.Update.{Updates}
-use Rattle.pod_steps.specs.FullSteps.{all_target_steps, at_once, target_steps, keep_steps, condemned_steps, removal_steps, replacement_steps, revision_at, rolling_update_steps, scaling_steps_at_once, update_steps, update_steps_by, wait_for}
+use Rattle.pod_steps.specs.FullSteps.{all_target_steps, parallel_steps, target_steps, keep_steps, condemned_steps, removal_steps, replacement_steps, revision_at, rolling_update_steps, parallel_scaling_steps, update_steps, update_steps_by, wait_for}
 use Rattle.pod_steps.proofs.Entries.{at_head, at_same, at_tail, not_true}
-use Rattle.pod_steps.proofs.InOrder.{bounds, inside, updates}
+use Rattle.pod_steps.proofs.OrderedReadyPlans.{bounds, inside, updates}
 
 -- ---- membership
 pub nowhere : {X : Type 0} (a : X) → Contains [] a → ⊥
@@ -173,33 +173,33 @@ from_condemned_steps set pods i pod a e t h =
           ] refl k
     ] refl h
 
-pub from_scaled : (set : SetParts) (pods : Pods) (a : Step) → AreInOrder pods → is_of_pod a ≡ true → Contains (scaling_steps_at_once set pods) a → IsCalledFor set pods a
-unfolding scaling_steps_at_once
+pub from_scaled : (set : SetParts) (pods : Pods) (a : Step) → AreInOrder pods → is_of_pod a ≡ true → Contains (parallel_scaling_steps set pods) a → IsCalledFor set pods a
+unfolding parallel_scaling_steps
 from_scaled set pods a sorted t h =
     elim (Contains-append_cases (all_target_steps set pods) (flat_map (condemned_steps set) (reverse pods)) a h) [
       | inl k ↦ let r = in_walk (λ i. target_steps set i (pod_at pods i)) set.start set.replicas a k in from_target_steps set pods r.0 a (pod_at pods r.0) refl (inside set r.0 r.1 r.2) t r.3
       | inr k ↦ let r = in_pods (condemned_steps set) pods a sorted k in from_condemned_steps set pods r.0 r.1.0 a r.1.1 t r.1.2
     ]
 
-in_target_steps : (set : SetParts) (pods : Pods) (i : ℕ) (a : Step) → in_range set i ≡ true → Contains (target_steps set i (pod_at pods i)) a → Contains (scaling_steps_at_once set pods) a
-unfolding scaling_steps_at_once
+in_target_steps : (set : SetParts) (pods : Pods) (i : ℕ) (a : Step) → in_range set i ≡ true → Contains (target_steps set i (pod_at pods i)) a → Contains (parallel_scaling_steps set pods) a
+unfolding parallel_scaling_steps
 in_target_steps set pods i a r h =
     let at_i = bounds set i r in
     Contains-append_left (all_target_steps set pods) (flat_map (condemned_steps set) (reverse pods)) a (to_walk (λ j. target_steps set j (pod_at pods j)) set.start set.replicas i a at_i.0 at_i.1 h)
 
-in_condemned_steps : (set : SetParts) (pods : Pods) (i : ℕ) (pod : Replica) (a : Step) → pod_at pods i ≡ Some pod → Contains (condemned_steps set (i, pod)) a → Contains (scaling_steps_at_once set pods) a
-unfolding scaling_steps_at_once
+in_condemned_steps : (set : SetParts) (pods : Pods) (i : ℕ) (pod : Replica) (a : Step) → pod_at pods i ≡ Some pod → Contains (condemned_steps set (i, pod)) a → Contains (parallel_scaling_steps set pods) a
+unfolding parallel_scaling_steps
 in_condemned_steps set pods i pod a e h = Contains-append_right (all_target_steps set pods) (flat_map (condemned_steps set) (reverse pods)) a (to_pods (condemned_steps set) pods i pod a e h)
 
-absent_made : (set : SetParts) (pods : Pods) (i : ℕ) → IsAbsent set pods i → Contains (scaling_steps_at_once set pods) (CreatePod i (revision_at set.strategy i))
+absent_made : (set : SetParts) (pods : Pods) (i : ℕ) → IsAbsent set pods i → Contains (parallel_scaling_steps set pods) (CreatePod i (revision_at set.strategy i))
 absent_made set pods i absent =
     let new : Step = CreatePod i (revision_at set.strategy i) in
     let P : Option Replica → Type 0 = λ o. Contains (target_steps set i o) new in
     in_target_steps set pods i new absent.0 (subst P (sym absent.1) (second_is (MakeClaims i) new new refl))
 
-dismissed_goes : (set : SetParts) (pods : Pods) (i : ℕ) (pod : Replica) → IsDismissed set pods i pod → Contains (scaling_steps_at_once set pods) (DeletePod i pod.uid)
+dismissed_goes : (set : SetParts) (pods : Pods) (i : ℕ) (pod : Replica) → IsDismissed set pods i pod → Contains (parallel_scaling_steps set pods) (DeletePod i pod.uid)
 dismissed_goes set pods i pod gone =
-    elim (in_range set i) as (λ b. in_range set i ≡ b → Contains (scaling_steps_at_once set pods) (DeletePod i pod.uid)) [
+    elim (in_range set i) as (λ b. in_range set i ≡ b → Contains (parallel_scaling_steps set pods) (DeletePod i pod.uid)) [
       | true ↦ λ r.
           let P : Option Replica → Type 0 = λ o. Contains (target_steps set i o) (DeletePod i pod.uid) in
           let Q : Bool → Bool → Type 0 = λ t f. Contains (if t then [] else if f then DeletePod i pod.uid ∷ [] else if is_ready pod.readiness then keep_steps i else []) (DeletePod i pod.uid) in
@@ -238,29 +238,29 @@ update_creates_none set pods k revision h =
 abbrev pub rest : SetParts → Pods → Bool → List Step
 rest set pods touched = if touched then [] else update_steps set pods
 
-called_is_touched : (set : SetParts) (pods : Pods) → CallsForScaling set pods → list_any is_of_pod (scaling_steps_at_once set pods) ≡ true
-called_is_touched set pods (inl (i, absent)) = any_of is_of_pod (scaling_steps_at_once set pods) (CreatePod i (revision_at set.strategy i)) (absent_made set pods i absent) refl
-called_is_touched set pods (inr (i, (pod, gone))) = any_of is_of_pod (scaling_steps_at_once set pods) (DeletePod i pod.uid) (dismissed_goes set pods i pod gone) refl
+called_is_touched : (set : SetParts) (pods : Pods) → CallsForScaling set pods → list_any is_of_pod (parallel_scaling_steps set pods) ≡ true
+called_is_touched set pods (inl (i, absent)) = any_of is_of_pod (parallel_scaling_steps set pods) (CreatePod i (revision_at set.strategy i)) (absent_made set pods i absent) refl
+called_is_touched set pods (inr (i, (pod, gone))) = any_of is_of_pod (parallel_scaling_steps set pods) (DeletePod i pod.uid) (dismissed_goes set pods i pod gone) refl
 
-uncalled_is_untouched : (set : SetParts) (pods : Pods) → AreInOrder pods → ¬ CallsForScaling set pods → list_any is_of_pod (scaling_steps_at_once set pods) ≡ false
+uncalled_is_untouched : (set : SetParts) (pods : Pods) → AreInOrder pods → ¬ CallsForScaling set pods → list_any is_of_pod (parallel_scaling_steps set pods) ≡ false
 uncalled_is_untouched set pods sorted none =
-    not_true (list_any is_of_pod (scaling_steps_at_once set pods)) (λ t.
-    let r = some_of is_of_pod (scaling_steps_at_once set pods) t in
+    not_true (list_any is_of_pod (parallel_scaling_steps set pods)) (λ t.
+    let r = some_of is_of_pod (parallel_scaling_steps set pods) t in
     elim (from_scaled set pods r.0 sorted r.2 r.1) [
       | inl h ↦ none (inl (h.0, h.1))
       | inr h ↦ none (inr (h.0, (h.1.0, h.1.1)))
     ])
 
 -- where scaling calls for nothing, the plan is the update
-pub uncalled_updates : (set : SetParts) (pods : Pods) → AreInOrder pods → ¬ CallsForScaling set pods → pod_steps (at_once set pods) ≡ pod_steps (update_steps set pods)
+pub uncalled_updates : (set : SetParts) (pods : Pods) → AreInOrder pods → ¬ CallsForScaling set pods → pod_steps (parallel_steps set pods) ≡ pod_steps (update_steps set pods)
 uncalled_updates set pods sorted none =
     let t = uncalled_is_untouched set pods sorted none in
-    ap (λ b. pod_steps (scaling_steps_at_once set pods ++ rest set pods b)) t
-    ∙ (filter-append is_of_pod (scaling_steps_at_once set pods) (update_steps set pods) ∙ ap (λ l. l ++ pod_steps (update_steps set pods)) (none_of is_of_pod (scaling_steps_at_once set pods) t))
+    ap (λ b. pod_steps (parallel_scaling_steps set pods ++ rest set pods b)) t
+    ∙ (filter-append is_of_pod (parallel_scaling_steps set pods) (update_steps set pods) ∙ ap (λ l. l ++ pod_steps (update_steps set pods)) (none_of is_of_pod (parallel_scaling_steps set pods) t))
 
-pub creates_exactly : (set : SetParts) (pods : Pods) (i : ℕ) (revision : Revision) → AreInOrder pods → Contains (at_once set pods) (CreatePod i revision) → IsAbsent set pods i × (revision_at set.strategy i ≡ revision)
+pub creates_exactly : (set : SetParts) (pods : Pods) (i : ℕ) (revision : Revision) → AreInOrder pods → Contains (parallel_steps set pods) (CreatePod i revision) → IsAbsent set pods i × (revision_at set.strategy i ≡ revision)
 creates_exactly set pods i revision sorted h =
-    elim (Contains-append_cases (scaling_steps_at_once set pods) (rest set pods (list_any is_of_pod (scaling_steps_at_once set pods))) (CreatePod i revision) h) [
+    elim (Contains-append_cases (parallel_scaling_steps set pods) (rest set pods (list_any is_of_pod (parallel_scaling_steps set pods))) (CreatePod i revision) h) [
       | inl k ↦ elim (from_scaled set pods (CreatePod i revision) sorted refl k) [
         | inl m ↦
             let e : CreatePod m.0 (revision_at set.strategy m.0) ≡ CreatePod i revision = m.2 in
@@ -270,19 +270,19 @@ creates_exactly set pods i revision sorted h =
             (subst P same m.1, ap (revision_at set.strategy) (sym same) ∙ by)
         | inr m ↦ let e : DeletePod m.0 m.1.0.uid ≡ CreatePod i revision = m.1.2 in absurd (cc)
       ]
-      | inr k ↦ elim (list_any is_of_pod (scaling_steps_at_once set pods)) as (λ b. Contains (rest set pods b) (CreatePod i revision) → IsAbsent set pods i × (revision_at set.strategy i ≡ revision)) [
+      | inr k ↦ elim (list_any is_of_pod (parallel_scaling_steps set pods)) as (λ b. Contains (rest set pods b) (CreatePod i revision) → IsAbsent set pods i × (revision_at set.strategy i ≡ revision)) [
         | true ↦ λ m. absurd (nowhere (CreatePod i revision) m)
         | false ↦ λ m. absurd (update_creates_none set pods i revision m)
       ] k
     ]
 
 -- where scaling calls for anything, the plan is what it calls for
-only_scaled : (set : SetParts) (pods : Pods) → CallsForScaling set pods → (a : Step) → Contains (at_once set pods) a → Contains (scaling_steps_at_once set pods) a
+only_scaled : (set : SetParts) (pods : Pods) → CallsForScaling set pods → (a : Step) → Contains (parallel_steps set pods) a → Contains (parallel_scaling_steps set pods) a
 only_scaled set pods calls a h =
-    let P : Bool → Type 0 = λ b. Contains (scaling_steps_at_once set pods ++ rest set pods b) a in
-    elim (Contains-append_cases (scaling_steps_at_once set pods) [] a (subst P (called_is_touched set pods calls) h)) [ inl k ↦ k | inr k ↦ absurd (nowhere a k) ]
+    let P : Bool → Type 0 = λ b. Contains (parallel_scaling_steps set pods ++ rest set pods b) a in
+    elim (Contains-append_cases (parallel_scaling_steps set pods) [] a (subst P (called_is_touched set pods calls) h)) [ inl k ↦ k | inr k ↦ absurd (nowhere a k) ]
 
-deletes_exactly : (set : SetParts) (pods : Pods) (i uid : ℕ) → AreInOrder pods → CallsForScaling set pods → Contains (at_once set pods) (DeletePod i uid) → (pod : Replica) × IsDismissed set pods i pod × (pod.uid ≡ uid)
+deletes_exactly : (set : SetParts) (pods : Pods) (i uid : ℕ) → AreInOrder pods → CallsForScaling set pods → Contains (parallel_steps set pods) (DeletePod i uid) → (pod : Replica) × IsDismissed set pods i pod × (pod.uid ≡ uid)
 deletes_exactly set pods i uid sorted calls h =
     elim (from_scaled set pods (DeletePod i uid) sorted refl (only_scaled set pods calls (DeletePod i uid) h)) [
       | inl m ↦ let e : CreatePod m.0 (revision_at set.strategy m.0) ≡ DeletePod i uid = m.2 in absurd (cc)
@@ -294,32 +294,32 @@ deletes_exactly set pods i uid sorted calls h =
           (m.1.0, subst Q at_i m.1.1, uids)
     ]
 
-waits_for_none : (set : SetParts) (pods : Pods) (i : ℕ) (cause : Cause) → AreInOrder pods → CallsForScaling set pods → Contains (at_once set pods) (Wait i cause) → ⊥
+waits_for_none : (set : SetParts) (pods : Pods) (i : ℕ) (cause : Cause) → AreInOrder pods → CallsForScaling set pods → Contains (parallel_steps set pods) (Wait i cause) → ⊥
 waits_for_none set pods i cause sorted calls h =
     elim (from_scaled set pods (Wait i cause) sorted refl (only_scaled set pods calls (Wait i cause) h)) [
       | inl m ↦ let e : CreatePod m.0 (revision_at set.strategy m.0) ≡ Wait i cause = m.2 in absurd (cc)
       | inr m ↦ let e : DeletePod m.0 m.1.0.uid ≡ Wait i cause = m.1.2 in absurd (cc)
     ]
 
-scaled_stays : (set : SetParts) (pods : Pods) (a : Step) → is_of_pod a ≡ true → Contains (scaling_steps_at_once set pods) a → Contains (pod_steps (at_once set pods)) a
+scaled_stays : (set : SetParts) (pods : Pods) (a : Step) → is_of_pod a ≡ true → Contains (parallel_scaling_steps set pods) a → Contains (pod_steps (parallel_steps set pods)) a
 scaled_stays set pods a t h =
-    stays_there is_of_pod (at_once set pods) a (Contains-append_left (scaling_steps_at_once set pods) (rest set pods (list_any is_of_pod (scaling_steps_at_once set pods))) a h) t
+    stays_there is_of_pod (parallel_steps set pods) a (Contains-append_left (parallel_scaling_steps set pods) (rest set pods (list_any is_of_pod (parallel_scaling_steps set pods))) a h) t
 
-pub scales_at_once : (set : SetParts) (pods : Pods) → AreInOrder pods → ScalesAtOnce set pods (pod_steps (at_once set pods))
-scales_at_once set pods sorted = record {
+pub scales_parallel : (set : SetParts) (pods : Pods) → AreInOrder pods → ScalesParallel set pods (pod_steps (parallel_steps set pods))
+scales_parallel set pods sorted = record {
   creates = λ i revision. (
-    λ h. creates_exactly set pods i revision sorted (was_there is_of_pod (at_once set pods) (CreatePod i revision) h).0,
+    λ h. creates_exactly set pods i revision sorted (was_there is_of_pod (parallel_steps set pods) (CreatePod i revision) h).0,
     λ absent.
-        let P : Revision → Type 0 = λ r. Contains (pod_steps (at_once set pods)) (CreatePod i r) in
+        let P : Revision → Type 0 = λ r. Contains (pod_steps (parallel_steps set pods)) (CreatePod i r) in
         subst P absent.1 (scaled_stays set pods (CreatePod i (revision_at set.strategy i)) refl (absent_made set pods i absent.0)),
   );
   deletes = λ calls i uid. (
-    λ h. deletes_exactly set pods i uid sorted calls (was_there is_of_pod (at_once set pods) (DeletePod i uid) h).0,
+    λ h. deletes_exactly set pods i uid sorted calls (was_there is_of_pod (parallel_steps set pods) (DeletePod i uid) h).0,
     λ gone.
-        let P : ℕ → Type 0 = λ n. Contains (pod_steps (at_once set pods)) (DeletePod i n) in
+        let P : ℕ → Type 0 = λ n. Contains (pod_steps (parallel_steps set pods)) (DeletePod i n) in
         subst P gone.2 (scaled_stays set pods (DeletePod i gone.0.uid) refl (dismissed_goes set pods i gone.0 gone.1)),
   );
-  waits = λ calls i cause h. waits_for_none set pods i cause sorted calls (was_there is_of_pod (at_once set pods) (Wait i cause) h).0;
+  waits = λ calls i cause h. waits_for_none set pods i cause sorted calls (was_there is_of_pod (parallel_steps set pods) (Wait i cause) h).0;
   neither = λ none.
       let P : List Step → Type 0 = λ l. Updates set pods l in
       subst P (sym (uncalled_updates set pods sorted none)) (updates set pods);

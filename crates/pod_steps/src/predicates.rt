@@ -1,4 +1,4 @@
-// The words of a walk over a set's ordinals.
+// The predicates of a walk over a set's ordinals.
 ghost use Rattle.std.specs.Prelude.{◌≡◌, ◌+◌, not, find};
 ghost use Rattle.set_views.specs.Set.{set_parts};
 ghost use Rattle.pod_steps.specs.Replicas.{has_healthy_pod, ordinals};

@@ -3,7 +3,7 @@ use Rattle.std.proofs.lemmas.Iterator.Search.{find_from_yields_List}
 use Rattle.set_views.specs.Set.{set_parts}
 use Rattle.pod_steps.specs.Replicas.{is_out_of_range}
 use Rattle.pod_steps.proofs.Backward.{entries_back}
-use Rattle.pod_steps.proofs.in_order.highest_condemned.Goals as goal
+use Rattle.pod_steps.proofs.ordered_ready.highest_condemned.Goals as goal
 
 pub returns : goal.returns
 returns c = find_from_yields_List (is_out_of_range (set_parts c.args.set.now)) _ _ _ c.find.ensures.ran (entries_back c.args.pods.now.entries (c.rev.ensures.source ∙ c.iter.ensures.rest)) (λ x b q k. search (rules, tests))

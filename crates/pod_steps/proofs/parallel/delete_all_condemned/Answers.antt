@@ -6,7 +6,7 @@ use Rattle.std.specs.List.{flat_map}
 use Rattle.pod_steps.specs.Step.{truncated}
 use Rattle.pod_steps.specs.FullSteps.{condemned_steps}
 use Rattle.pod_steps.proofs.Truncation.{adds_none, coming_more}
-use Rattle.pod_steps.proofs.at_once.delete_all_condemned.Goals as goal
+use Rattle.pod_steps.proofs.parallel.delete_all_condemned.Goals as goal
 
 pub loop-ordinal-init : goal.loop-ordinal-init
 loop-ordinal-init c =
@@ -15,7 +15,7 @@ loop-ordinal-init c =
 
 pub loop-ordinal-preserved : goal.loop-ordinal-preserved
 loop-ordinal-preserved c =
-    coming_more _ _ _ _ c.in_ok-delete_condemned.ensures
+    coming_more _ _ _ _ c.in_ok-delete_if_condemned.ensures
     ∙ (ap (λ es. truncated (c.loop-ordinal.steps.list.items ++ flat_map (condemned_steps (set_parts c.args.set.now)) es))
     (sym (ap reverse c.in-Some.ensures.steps ∙ reverse-append (rev_source c.next.new.self) ((c.in-Some.ordinal.now, c.in-Some.pod.now) ∷ [])))
     ∙ c.loop-ordinal.invariant)

@@ -1,10 +1,10 @@
-// The words of a plan.
+// The predicates of a plan.
 ghost use Rattle.std.specs.Prelude.{◌≡◌};
 ghost use Rattle.objects.specs.Metadata.{owners_of};
 ghost use Rattle.set_views.specs.Owners.{is_controlled};
 ghost use Rattle.set_views.specs.Pod.{pod_parts};
 ghost use Rattle.set_views.specs.Set.{set_parts};
-ghost use Rattle.set_views.specs.Words.{in_namespace, in_range, is_owned, ordinal_in};
+ghost use Rattle.set_views.specs.Predicates.{in_namespace, in_range, owns_pod, ordinal_in};
 
 use crate::owners::is_controlled;
 use crate::pod::PodView;
@@ -49,7 +49,7 @@ impl PodView<'_> {
 
     /// Whether the set controls the pod.
     pub fn is_owned_by(&self, set: &Set) -> bool
-        ensures { result ≡ is_owned (set_parts set.now) (pod_parts self.now) }
+        ensures { result ≡ owns_pod (set_parts set.now) (pod_parts self.now) }
     {
         is_controlled(self.owners, set.object.meta.uid)
     }

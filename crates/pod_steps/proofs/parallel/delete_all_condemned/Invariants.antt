@@ -4,7 +4,7 @@ use Rattle.std.specs.List.{flat_map}
 use Rattle.std.specs.Iterator.Adapters.{rev_source}
 use Rattle.pod_steps.specs.Step.{truncated}
 use Rattle.pod_steps.specs.FullSteps.{condemned_steps}
-use Rattle.pod_steps.proofs.at_once.delete_all_condemned.Given as goal
+use Rattle.pod_steps.proofs.parallel.delete_all_condemned.Given as goal
 
 -- what is held, and what is still to come
 abbrev pub invariant-loop-ordinal : goal.invariant-loop-ordinal

@@ -1,4 +1,4 @@
--- The words of a plan (Kubernetes, "StatefulSets": "Pod Identity", "Deployment and Scaling Guarantees").
+-- The predicates of a plan (Kubernetes, "StatefulSets": "Pod Identity", "Deployment and Scaling Guarantees").
 use Rattle.std.specs.Prelude.{ℕ, ◌+◌, ◌==◌, Bool, true, false, not, ◌&&◌, nat_le, nat_lt, bytes_eq, Option, Some, None, option_and_then, if◌then◌else◌}
 use Rattle.objects.specs.declared.kind.Kind.{Kind}
 use Rattle.objects.specs.declared.object.Object.{Object}
@@ -25,8 +25,8 @@ abbrev pub ordinal_in : SetParts → PodParts → Option ℕ
 ordinal_in set pod = option_and_then (λ s. if bytes_eq s.0 set.object.key.name then Some s.1 else None) pod.split_name
 
 -- the set controls the pod
-abbrev pub is_owned : SetParts → PodParts → Bool
-is_owned set pod = is_controlled set.object.meta.uid pod.owners
+abbrev pub owns_pod : SetParts → PodParts → Bool
+owns_pod set pod = is_controlled set.object.meta.uid pod.owners
 
 abbrev pub is_ready : Readiness → Bool
 is_ready Ready = true
@@ -34,5 +34,5 @@ is_ready NotReady = false
 is_ready Failed = false
 
 -- running and ready, and not on its way out
-abbrev pub is_healthy : PodParts → Bool
-is_healthy pod = is_ready pod.readiness && not pod.terminating
+abbrev pub is_healthy : Readiness → (terminating : Bool) → Bool
+is_healthy readiness terminating = is_ready readiness && not terminating

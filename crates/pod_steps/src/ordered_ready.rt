@@ -4,24 +4,24 @@ ghost use Rattle.std.specs.Map.Iter.{deref_pair};
 ghost use Rattle.set_views.specs.Set.{set_parts};
 ghost use Rattle.pod_steps.specs.Replicas.{is_out_of_range, pod_at};
 ghost use Rattle.pod_steps.specs.Step.{Adds};
-ghost use Rattle.pod_steps.specs.FullSteps.{in_order, is_other_unhealthy, gap_steps, scale_down_steps};
+ghost use Rattle.pod_steps.specs.FullSteps.{ordered_ready_steps, is_other_unhealthy, gap_steps, scale_down_steps};
 
+use crate::predicates::{end_of, first_gap};
 use crate::replica::Replica;
-use crate::single::{create, delete, keep_below, remove, wait};
+use crate::single::{create, delete_condemned, delete_pod, keep_below, wait};
 use crate::step::Steps;
 use crate::update::update;
-use crate::words::{end_of, first_gap};
 use set_views::Set;
 use std::alloc::AllocError;
 use std::collections::BTreeMap;
 
-/// Scales and updates a set in order.
-pub(crate) fn plan_in_order(
+/// Adds the steps of OrderedReady: scales and updates the set one pod at a time.
+pub(crate) fn add_ordered_ready_steps(
     steps: &mut Steps,
     set: &Set,
     pods: &BTreeMap<u32, Replica>,
 ) -> Result<(), AllocError>
-    ensures { OnOk result (Adds steps.old.list.items steps.new.list.items (in_order (set_parts set.now) pods.now.entries)) }
+    ensures { OnOk result (Adds steps.old.list.items steps.new.list.items (ordered_ready_steps (set_parts set.now) pods.now.entries)) }
 {
     match first_gap(set, pods) {
         Some(ordinal) => {
@@ -51,7 +51,7 @@ fn close_gap(
         None => create(steps, set, ordinal),
         Some(pod) => {
             if pod.is_failed() && !pod.terminating {
-                delete(steps, ordinal, pod)
+                delete_pod(steps, ordinal, pod)
             } else {
                 wait(steps, ordinal, pod)
             }
@@ -98,6 +98,6 @@ fn scale_down(
     }
     match first_unhealthy(set, pods, highest) {
         Some((ordinal, other)) => wait(steps, *ordinal, other),
-        None => remove(steps, highest, pod),
+        None => delete_condemned(steps, highest, pod),
     }
 }

@@ -1,21 +1,21 @@
--- A plan in order meets the rules of scaling and updates.
+-- A plan of OrderedReady meets the rules of scaling and updates.
 use Rattle.std.proofs.Common.{◌≡◌, ◌==◌, ◌&&◌, ℕ, ◌+◌, ◌-◌, ◌≤◌, ◌<◌, Bool, true, false, not, if◌then◌else◌, List, [], ◌∷◌, ◌++◌, Option, Some, None, IsSome, find, reverse, arith, refl, sym, ap, ◌∙◌, subst}
 use Rattle.std.proofs.lemmas.Bool.{eqb-true, eq-eqb}
 use Rattle.std.proofs.lemmas.Bool.Decides.{nat_tests}
 use Rattle.std.specs.List.{flat_map, range_with_len}
 use Rattle.std.specs.Option.{option_map_or}
 use Rattle.set_views.specs.Set.{SetParts}
-use Rattle.set_views.specs.Words.{in_range}
+use Rattle.set_views.specs.Predicates.{in_range}
 use Rattle.pod_steps.specs.declared.replica.Replica.{Replica}
 use Rattle.pod_steps.specs.declared.step.Cause.TheVariants.{Terminating, NotReady}
 use Rattle.pod_steps.specs.declared.step.Step.{Step}
 use Rattle.pod_steps.specs.declared.step.Step.TheVariants.{DeletePod, Wait}
 use Rattle.pod_steps.specs.Least.{IsGreatest, IsLeast}
 use Rattle.pod_steps.specs.Replicas.{AreInOrder, Pods, has_healthy_pod, is_out_of_range, is_due, is_failed, is_healthy_replica, lacks_healthy, ordinals, pod_at}
-use Rattle.pod_steps.specs.Scaling.{HasCondemned, IsGap, IsHolding, ClosesGap, ScalesDown, ScalesInOrder}
+use Rattle.pod_steps.specs.Scaling.{HasCondemned, IsGap, IsHolding, ClosesGap, ScalesDown, ScalesOrderedReady}
 use Rattle.pod_steps.specs.Step.{pod_steps}
 use Rattle.pod_steps.specs.Update.{IsDue, Replaces, Updates}
-use Rattle.pod_steps.specs.FullSteps.{removal_steps_unless, in_order, in_order_at, is_other_unhealthy, keep_steps, gap_steps, replacement_steps, scale_down_steps, scale_down_or_update_steps, rolling_update_steps, update_steps, update_steps_by}
+use Rattle.pod_steps.specs.FullSteps.{removal_steps_unless, ordered_ready_steps, ordered_ready_steps_at, is_other_unhealthy, keep_steps, gap_steps, replacement_steps, scale_down_steps, scale_down_or_update_steps, rolling_update_steps, update_steps, update_steps_by}
 use Rattle.pod_steps.proofs.Entries.{first_entry, last_entry, none_back, none_passes, not_true}
 use Rattle.pod_steps.proofs.Found.{find_greatest, find_least, find_none, find_none_back}
 
@@ -64,11 +64,11 @@ no_gap set pods none =
     find_none (lacks_healthy pods) set.start set.replicas (λ j from to.
     not_true (lacks_healthy pods j) (λ p. none j (inside set j from to, not_false (has_healthy_pod pods j) p)))
 
-at_gap : (set : SetParts) (pods : Pods) (i : ℕ) → IsLeast (IsGap set pods) i → pod_steps (in_order set pods) ≡ pod_steps (gap_steps set i (pod_at pods i))
-at_gap set pods i gap = ap (λ g. pod_steps (in_order_at set pods g)) (found_gap set pods i gap) ∙ after_keep_steps (range_with_len set.start (i - set.start)) (gap_steps set i (pod_at pods i))
+at_gap : (set : SetParts) (pods : Pods) (i : ℕ) → IsLeast (IsGap set pods) i → pod_steps (ordered_ready_steps set pods) ≡ pod_steps (gap_steps set i (pod_at pods i))
+at_gap set pods i gap = ap (λ g. pod_steps (ordered_ready_steps_at set pods g)) (found_gap set pods i gap) ∙ after_keep_steps (range_with_len set.start (i - set.start)) (gap_steps set i (pod_at pods i))
 
-past_gaps : (set : SetParts) (pods : Pods) → ((i : ℕ) → ¬ IsGap set pods i) → pod_steps (in_order set pods) ≡ pod_steps (scale_down_or_update_steps set pods (find (is_out_of_range set) (reverse pods)))
-past_gaps set pods none = ap (λ g. pod_steps (in_order_at set pods g)) (no_gap set pods none) ∙ after_keep_steps (ordinals set) _
+past_gaps : (set : SetParts) (pods : Pods) → ((i : ℕ) → ¬ IsGap set pods i) → pod_steps (ordered_ready_steps set pods) ≡ pod_steps (scale_down_or_update_steps set pods (find (is_out_of_range set) (reverse pods)))
+past_gaps set pods none = ap (λ g. pod_steps (ordered_ready_steps_at set pods g)) (no_gap set pods none) ∙ after_keep_steps (ordinals set) _
 
 -- ---- the condemned pods
 is_here : (pods : Pods) (j : ℕ) (y : Replica) → pod_at pods j ≡ Some y → IsSome (pod_at pods j)
@@ -80,7 +80,7 @@ three_false false true c h = absurd (cc)
 three_false false false true h = absurd (cc)
 three_false false false false h = (refl, refl, refl)
 
--- the test of the walk, and the rule's words
+-- the test of the walk, and the rule's predicate
 holds_it : (set : SetParts) (pods : Pods) (i j : ℕ) (y : Replica) → pod_at pods j ≡ Some y → is_other_unhealthy set i (j, y) ≡ true → IsHolding set pods i j
 holds_it set pods i j y e t =
     let three = three_false (in_range set j) (j == i) (is_healthy_replica y) t in (
@@ -160,17 +160,17 @@ updates set pods = record {
   on_delete = λ e. ap (λ s. pod_steps (update_steps_by s set pods)) e;
 }
 
-pub scales_in_order : (set : SetParts) (pods : Pods) → AreInOrder pods → ScalesInOrder set pods (pod_steps (in_order set pods))
-scales_in_order set pods sorted = record {
+pub scales_ordered_ready : (set : SetParts) (pods : Pods) → AreInOrder pods → ScalesOrderedReady set pods (pod_steps (ordered_ready_steps set pods))
+scales_ordered_ready set pods sorted = record {
   gap = λ i gap.
       let P : List Step → Type 0 = λ l. ClosesGap set i (pod_at pods i) l in
       subst P (sym (at_gap set pods i gap)) (closes_gap set i (pod_at pods i));
   condemned = λ none i pod highest here.
-      let whole : pod_steps (in_order set pods) ≡ pod_steps (scale_down_steps set pods (i, pod)) = past_gaps set pods none ∙ ap (λ o. pod_steps (scale_down_or_update_steps set pods o)) (found_highest set pods i pod sorted highest here) in
+      let whole : pod_steps (ordered_ready_steps set pods) ≡ pod_steps (scale_down_steps set pods (i, pod)) = past_gaps set pods none ∙ ap (λ o. pod_steps (scale_down_or_update_steps set pods o)) (found_highest set pods i pod sorted highest here) in
       let P : List Step → Type 0 = λ l. ScalesDown set pods i pod l in
       subst P (sym whole) (scales_down set pods i pod sorted);
   neither = λ none none_gone.
-      let whole : pod_steps (in_order set pods) ≡ pod_steps (update_steps set pods) = past_gaps set pods none ∙ ap (λ o. pod_steps (scale_down_or_update_steps set pods o)) (no_condemned set pods sorted none_gone) in
+      let whole : pod_steps (ordered_ready_steps set pods) ≡ pod_steps (update_steps set pods) = past_gaps set pods none ∙ ap (λ o. pod_steps (scale_down_or_update_steps set pods o)) (no_condemned set pods sorted none_gone) in
       let P : List Step → Type 0 = λ l. Updates set pods l in
       subst P (sym whole) (updates set pods);
 }

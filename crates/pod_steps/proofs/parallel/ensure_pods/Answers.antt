@@ -4,7 +4,7 @@ use Rattle.pod_steps.specs.declared.step.Step.{Step}
 use Rattle.pod_steps.specs.Replicas.{Pods, pod_at}
 use Rattle.pod_steps.specs.FullSteps.{target_steps}
 use Rattle.pod_steps.proofs.Walks.{walk_all, walk_more, walk_none, walk_past}
-use Rattle.pod_steps.proofs.at_once.ensure_pods.Goals as goal
+use Rattle.pod_steps.proofs.parallel.ensure_pods.Goals as goal
 
 abbrev at : SetParts → Pods → ℕ → List Step
 at set pods i = target_steps set i (pod_at pods i)

@@ -4,25 +4,25 @@ ghost use Rattle.std.specs.List.{flat_map};
 ghost use Rattle.set_views.specs.Set.{set_parts};
 ghost use Rattle.pod_steps.specs.Replicas.{pod_at};
 ghost use Rattle.pod_steps.specs.Step.{Adds};
-ghost use Rattle.pod_steps.specs.FullSteps.{all_target_steps, at_once, target_steps, condemned_steps, scaling_steps_at_once};
+ghost use Rattle.pod_steps.specs.FullSteps.{all_target_steps, parallel_steps, target_steps, condemned_steps, parallel_scaling_steps};
 
+use crate::predicates::end_of;
 use crate::replica::Replica;
-use crate::single::{create, delete, keep, remove};
+use crate::single::{create, delete_condemned, delete_pod, keep};
 use crate::step::Steps;
 use crate::update::update;
-use crate::words::end_of;
 use set_views::Set;
 use std::alloc::AllocError;
 use std::collections::BTreeMap;
 
-/// Scales a set at once, and updates it where there is nothing to scale.
-pub(crate) fn plan_at_once(
+/// Adds the steps of Parallel: scales the set at once, and updates it where there is nothing to scale.
+pub(crate) fn add_parallel_steps(
     steps: &mut Steps,
     set: &Set,
     pods: &BTreeMap<u32, Replica>,
 ) -> Result<(), AllocError>
     requires { steps.old.list.items ≡ [] }
-    ensures { OnOk result (Adds steps.old.list.items steps.new.list.items (at_once (set_parts set.now) pods.now.entries)) }
+    ensures { OnOk result (Adds steps.old.list.items steps.new.list.items (parallel_steps (set_parts set.now) pods.now.entries)) }
 {
     scale(steps, set, pods)?;
     if steps.is_full() {
@@ -35,9 +35,9 @@ pub(crate) fn plan_at_once(
 }
 
 /// Brings about each pod in range, and deletes each condemned one.
-#[tactic(auto, using(crate::proofs::Truncation::adds_more), unfolding(crate::specs::FullSteps::scaling_steps_at_once))]
+#[tactic(auto, using(crate::proofs::Truncation::adds_more), unfolding(crate::specs::FullSteps::parallel_scaling_steps))]
 fn scale(steps: &mut Steps, set: &Set, pods: &BTreeMap<u32, Replica>) -> Result<(), AllocError>
-    ensures { OnOk result (Adds steps.old.list.items steps.new.list.items (scaling_steps_at_once (set_parts set.now) pods.now.entries)) }
+    ensures { OnOk result (Adds steps.old.list.items steps.new.list.items (parallel_scaling_steps (set_parts set.now) pods.now.entries)) }
 {
     ensure_pods(steps, set, pods)?;
     delete_all_condemned(steps, set, pods)
@@ -77,7 +77,7 @@ fn ensure_pod(
             if pod.terminating {
                 Ok(())
             } else if pod.is_failed() {
-                delete(steps, ordinal, pod)
+                delete_pod(steps, ordinal, pod)
             } else if pod.is_ready() {
                 keep(steps, ordinal)
             } else {
@@ -96,14 +96,14 @@ fn delete_all_condemned(
     ensures { OnOk result (Adds steps.old.list.items steps.new.list.items (flat_map (condemned_steps (set_parts set.now)) (reverse pods.now.entries))) }
 {
     for (ordinal, pod) in pods.iter().rev() {
-        delete_condemned(steps, set, *ordinal, pod)?;
+        delete_if_condemned(steps, set, *ordinal, pod)?;
     }
     Ok(())
 }
 
-/// Deletes a condemned pod, unless it is terminating.
+/// Deletes the pod if it is condemned, unless it is terminating.
 #[tactic(auto, using(crate::proofs::Truncation::adds_none))]
-fn delete_condemned(
+fn delete_if_condemned(
     steps: &mut Steps,
     set: &Set,
     ordinal: u32,
@@ -114,6 +114,6 @@ fn delete_condemned(
     if set.has_in_range(ordinal) || pod.terminating {
         Ok(())
     } else {
-        remove(steps, ordinal, pod)
+        delete_condemned(steps, ordinal, pod)
     }
 }
