@@ -1,7 +1,8 @@
 -- Courses, event by event and one after another.
 use Rattle.std.proofs.Common.{◌≡◌, ◌<◌, ◌≤◌, ◌+◌, ◌-◌, ◌++◌, ◌∷◌, [], ℕ, suc, Bool, List, length, Option, None, refl, sym, ap, ◌∙◌, subst, append_assoc, arith, cond, get_or, lt-ltb}
-use Rattle.std.specs.Prelude.{IfErr, IsErrOf, OnErr, Result, Ok, Err}
+use Rattle.std.specs.Prelude.{IfErr, IfOk, IsErrOf, OnErr, Result, Ok, Err}
 use Rattle.std.proofs.lemmas.List.{append-nil}
+use Rattle.std.proofs.lemmas.Result.{IfErr-weaker, IfOk-weaker}
 use Rattle.requests.specs.declared.reply.Reply.{Reply}
 use Rattle.interleavings.specs.declared.event.Event.{Event}
 use Rattle.interleavings.specs.declared.event.Event.TheVariants as event
@@ -13,8 +14,8 @@ use Rattle.rounds.specs.Reconciler.{Reconciler}
 use Rattle.cluster_runs.specs.declared.event.ClusterEvent.{ClusterEvent}
 use Rattle.cluster_runs.specs.declared.event.ClusterEvent.TheVariants.{Step}
 use Rattle.cluster_runs.specs.Cluster.{Cluster, happens, run}
-use Rattle.cluster_runs.specs.Leading.{Claim, Comes, FillsUp, Halts, HasCome, IsShownAs, Leads, StandsStill}
-use Rattle.cluster_runs.specs.Shown.{Exceeds, Happens, Shows, Stay, Tells}
+use Rattle.cluster_runs.specs.Leading.{Claim, Comes, FillsUp, GoesAlong, Halts, HasCome, IsShownAs, Leads, StandsStill}
+use Rattle.cluster_runs.specs.Shown.{Exceeds, Happens, KeepsCallers, Shows, Stay, StaysConsistent, Tells}
 use Rattle.cluster_runs.specs.Turns.{Course, carried, carried_in, ends_with, event_and, followed_by, most_steps, nothing, reply_to, run_of, step_and}
 use Rattle.cluster_runs.specs.declared.cluster.Cluster.{Cluster as Program}
 use Rattle.cluster_runs.specs.declared.fault.ClusterFault.{ClusterFault}
@@ -186,6 +187,39 @@ module _ {X : Type 0} (reconciler : X → Reconciler) (phase : X → Phase) (is_
       → Halts reconciler phase is_waiting fault b old before now → Halts reconciler phase is_waiting fault a old before now
   halts_as fault a b old before now same halts =
       (halts.0, comes_as (StandsStill reconciler phase is_waiting fault halts.0 now) a b halts.0 old before same halts.1)
+
+  -- a call that fails on the way
+  pub goes_no_further : {T : Type 0} {a : Course} {left : T → Course} {old new : Program} {before now : List X} {r : Result T ClusterFault} (fault : ClusterFault) → r ≡ Err fault
+      → StaysConsistent old new before now r → Halts reconciler phase is_waiting fault a old before now → GoesAlong reconciler phase is_waiting a left old new before now r
+  goes_no_further {T} {a} {left} {old} {new} {before} {now} {r} fault is kept halts = record {
+    consistent = kept;
+    leads = subst (λ s. IfOk s (λ done. Leads reconciler phase is_waiting a (left done) old new before now)) (sym is) tt;
+    halts = subst (λ s. IfErr s (λ fault. Halts reconciler phase is_waiting fault a old before now)) (sym is) halts;
+  }
+
+  -- a call that goes along a course, by another name of it
+  pub goes_as : {T : Type 0} {b : Course} {left : T → Course} {old new : Program} {before now : List X} {r : Result T ClusterFault} (a : Course) → AreSame a b old before
+      → GoesAlong reconciler phase is_waiting b left old new before now r → GoesAlong reconciler phase is_waiting a left old new before now r
+  goes_as {T} {b} {left} {old} {new} {before} {now} {r} a same goes = record {
+    consistent = goes.consistent;
+    leads = IfOk-weaker r _ _ (λ done. comes_as (IsShownAs reconciler phase is_waiting new now) a b (left done) old before same) goes.leads;
+    halts = IfErr-weaker r _ _ (λ fault. halts_as fault a b old before now same) goes.halts;
+  }
+
+  -- a call that goes on along a course
+  pub goes_on : {T : Type 0} {b : Course} {left : T → Course} {old mid new : Program} {before between now : List X} {r : Result T ClusterFault} (a : Course)
+      → length between ≡ length before → KeepsCallers old mid → Leads reconciler phase is_waiting a b old mid before between
+      → GoesAlong reconciler phase is_waiting b left mid new between now r → GoesAlong reconciler phase is_waiting a left old new before now r
+  goes_on {T} {b} {left} {old} {mid} {new} {before} {between} {now} {r} a same keeps leads goes = record {
+    consistent = record {
+      many = goes.consistent.many ∙ same;
+      present = goes.consistent.present ∙ keeps;
+      follows = goes.consistent.follows;
+      reasons = goes.consistent.reasons;
+    };
+    leads = IfOk-weaker r _ _ (λ done. leads_on a b (left done) old mid new before between now same leads) goes.leads;
+    halts = IfErr-weaker r _ _ (λ fault. halts_on fault a b old mid before between now same leads) goes.halts;
+  }
 
 -- ---- carrying
 

@@ -31,12 +31,12 @@ use Rattle.cluster_runs.specs.declared.event.ClusterEvent.{ClusterEvent}
 use Rattle.cluster_runs.specs.declared.event.ClusterEvent.TheVariants.{Next, Outside, Step, Crash}
 use Rattle.cluster_runs.specs.Cluster.{Cluster, controller_at, controller_by, hand, hand_if, happens, hears, is_idle, is_nobody, is_used, lowest_unused, run, start, delivered, with_crash, with_next, with_outside, with_step, with_used}
 use Rattle.cluster_runs.specs.Callers.{AreCallers, owner}
-use Rattle.cluster_runs.specs.Shown.{Becomes, Hands, Happens, Hears, HoldsEvents, IsCluster, Shows, Stands, Stay}
+use Rattle.cluster_runs.specs.Shown.{Applies, Becomes, Follows, Hands, Happens, Hears, HoldsEvents, IsCluster, Overfills, Shows, Stands, Stay}
 use Rattle.cluster_runs.specs.Faults.{IsShort}
 use Rattle.cluster_runs.specs.declared.callers.Callers.{Callers}
 use Rattle.cluster_runs.specs.declared.cluster.Cluster.{Cluster as Program}
 use Rattle.cluster_runs.specs.declared.fault.ClusterFault.{ClusterFault}
-use Rattle.cluster_runs.specs.declared.fault.ClusterFault.TheVariants.{BadCapacity, BadShards}
+use Rattle.cluster_runs.specs.declared.fault.ClusterFault.TheVariants.{BadCapacity, BadShards, TooManyCallers}
 use Rattle.cluster_runs.proofs.Kept.{among, put_other, put_same}
 use Rattle.cluster_runs.proofs.Calling.{among_first, among_later, not_among}
 use Rattle.cluster_runs.proofs.Naming.{all_more, all_named, few_callers}
@@ -454,6 +454,19 @@ module _ {X : Type 0} (reconciler : X → Reconciler) (phase : X → Phase) (is_
       → OnOk r (Becomes (λ k. hand_if (when k) k e) old new) → OnOk r (Happens reconciler phase is_waiting (Step f) old new xs xs)
   went_shows r e f when old new xs is on means went =
       on_ok_by _ _ r (λ becomes. subst (λ i. Happens reconciler phase is_waiting (Step i) old new xs xs) (sym is) (goes_shows e when old new xs on means becomes)) went
+
+  -- all that is said of that call
+  pub went_applies : {D : Type 0} (r : Result D ClusterFault) (e f : Event) (when : Cluster → Bool) (old new : Program) (xs : List X) → f ≡ e → goes_on e ≡ true
+      → ((z : Size) (reconcilers : ℕ → Reconciler) (k : Cluster) → with_step z reconcilers k e ≡ hand_if (when k) k e)
+      → new.callers ≡ old.callers → OnOk r (Follows new) → OnOk r (Becomes (λ k. hand_if (when k) k e) old new)
+      → (IsErrOf r TooManyCallers → Overfills (λ k. hand_if (when k) k e) old) → IfErr r IsShort → Applies reconciler phase is_waiting (Step f) old new xs xs r
+  went_applies r e f when old new xs is on means kept follows went overfills reasons = record {
+    consistent = record { many = refl; present = ap (λ (callers : Callers). length callers.present.items) kept; follows = follows; reasons = reasons };
+    shows = went_shows r e f when old new xs is on means went;
+    stays = at_err r _ (refl, refl);
+    too_many = λ failed z reconcilers k shows.
+        subst (λ (v : Cluster). 4096 < length v.used) (sym (ap (with_step z reconcilers k) is ∙ means z reconcilers k)) (overfills failed z (length xs) k shows.0);
+  }
 
   pub gone_shows : (n : ℕ) (old new : Program) (xs : List X) → Becomes (λ k. hand_if (is_used k n && is_nobody (controller_at k n)) k (event.Crash n)) old new
       → Happens reconciler phase is_waiting (Step (event.Crash n)) old new xs xs

@@ -1,5 +1,5 @@
 -- How the program goes along a course.
-use Rattle.std.specs.Prelude.{◌≡◌, ◌<◌, ◌≤◌, ◌++◌, ℕ, Bool, List, None, length, take}
+use Rattle.std.specs.Prelude.{◌≡◌, ◌<◌, ◌≤◌, ◌++◌, ℕ, Bool, List, None, Result, IfErr, IfOk, length, take}
 use Rattle.requests.specs.declared.request.Request.{Request}
 use Rattle.interleavings.specs.World.{Size}
 use Rattle.rounds.specs.Phase.{Phase}
@@ -7,7 +7,7 @@ use Rattle.rounds.specs.Reconciler.{Reconciler}
 use Rattle.rounds.specs.World.{StandAt}
 use Rattle.cluster_runs.specs.declared.event.ClusterEvent.{ClusterEvent}
 use Rattle.cluster_runs.specs.Cluster.{Cluster, run}
-use Rattle.cluster_runs.specs.Shown.{Shows}
+use Rattle.cluster_runs.specs.Shown.{Shows, StaysConsistent}
 use Rattle.cluster_runs.specs.Turns.{Course, ends_from, ends_with, is_next, is_read_within, is_within, is_write}
 use Rattle.cluster_runs.specs.declared.carrying.Advance.{Advance}
 use Rattle.cluster_runs.specs.declared.carrying.Advance.TheVariants.{On, Over}
@@ -55,6 +55,12 @@ module _ {X : Type 0} (reconciler : X → Reconciler) (phase : X → Phase) (is_
 
   abbrev pub Halts : ClusterFault → Course → Program → (before now : List X) → Type 0
   Halts fault whole old before now = (left : Course) × Comes (StandsStill fault left now) whole left old before
+
+  -- The program goes along the course, up to what is left of it by the result; at a fault it halts on the way.
+  pub record GoesAlong {T : Type 0} (whole : Course) (left : T → Course) (old new : Program) (before now : List X) (result : Result T ClusterFault) : Type 0 where
+    pub consistent : StaysConsistent old new before now result
+    pub leads : IfOk result (λ done. Leads whole (left done) old new before now)
+    pub halts : IfErr result (λ fault. Halts fault whole old before now)
 
   -- where the turns come, one after another
   abbrev pub ComesTo : (namespaces : List (List ℕ)) → List Turn → (ends : List ℕ) → Program → List X → Type 0

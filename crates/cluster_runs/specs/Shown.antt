@@ -1,5 +1,5 @@
 -- What the program holds of a cluster, and what one event does to it.
-use Rattle.std.specs.Prelude.{◌≡◌, ◌≢◌, ◌==◌, ◌<◌, ◌++◌, ◌∷◌, [], ℕ, Bool, true, false, List, length, map, Option, Some, None, slice_get, slice_set, IfSome, if◌then◌else◌}
+use Rattle.std.specs.Prelude.{◌≡◌, ◌≢◌, ◌==◌, ◌<◌, ◌++◌, ◌∷◌, [], ℕ, Bool, true, false, List, length, map, Option, Some, None, Result, slice_get, slice_set, IfErr, IfSome, IsErrOf, OnErr, OnOk, if◌then◌else◌}
 use Rattle.std.specs.List.{AllByRecursion, list_any}
 use Rattle.requests.specs.declared.reply.Reply.{Reply}
 use Rattle.interleavings.specs.declared.event.Event.{Event}
@@ -14,7 +14,10 @@ use Rattle.rounds.specs.Reconciler.{Reconciler}
 use Rattle.cluster_runs.specs.declared.event.ClusterEvent.{ClusterEvent}
 use Rattle.cluster_runs.specs.Cluster.{Cluster, happens, is_used, delivered}
 use Rattle.cluster_runs.specs.declared.cluster.Cluster.{Cluster as Program}
+use Rattle.cluster_runs.specs.declared.fault.ClusterFault.{ClusterFault}
+use Rattle.cluster_runs.specs.declared.fault.ClusterFault.TheVariants.{TooManyCallers}
 use Rattle.cluster_runs.specs.Callers.{AreCallers}
+use Rattle.cluster_runs.specs.Faults.{IsShort}
 
 -- the store has taken the events, by callers that were used; any other caller is idle
 pub record HoldsEvents (z : Size) (events : List Event) (used : List ℕ) (items : List Event) (replay : Replay) : Type 0 where
@@ -40,6 +43,18 @@ HaveCallers xs program = length xs ≡ length program.callers.present.items
 -- there are as many of them
 abbrev pub KeepsCallers : (old new : Program) → Type 0
 KeepsCallers old new = length new.callers.present.items ≡ length old.callers.present.items
+
+-- what each step of a run rests on
+pub record IsConsistent {X : Type 0} (xs : List X) (program : Program) : Type 0 where
+  pub present : HaveCallers xs program
+  pub follows : Follows program
+
+-- It stays so; after a fault, which is a want of callers or of memory, there are as many controllers and callers.
+pub record StaysConsistent {X T : Type 0} (old new : Program) (before now : List X) (result : Result T ClusterFault) : Type 0 where
+  pub many : length now ≡ length before
+  pub present : KeepsCallers old new
+  pub follows : OnOk result (Follows new)
+  pub reasons : IfErr result IsShort
 
 -- the store has taken one event more
 pub record Hands (e : Event) (old new : Program) : Type 0 where
@@ -76,6 +91,13 @@ module _ {X : Type 0} (reconciler : X → Reconciler) (phase : X → Phase) (is_
   abbrev pub Exceeds : ClusterEvent → Program → List X → Type 0
   Exceeds e old before = (z : Size) (reconcilers : ℕ → Reconciler) (k : Cluster) → Shows z reconcilers k old before
       → 4096 < length (happens z (length before) reconcilers k e).used
+
+  -- The event happens; at a fault each controller stands where it stood.
+  pub record Applies {T : Type 0} (e : ClusterEvent) (old new : Program) (before now : List X) (result : Result T ClusterFault) : Type 0 where
+    pub consistent : StaysConsistent old new before now result
+    pub shows : OnOk result (Happens e old new before now)
+    pub stays : OnErr result (Stay reconciler phase before now)
+    pub too_many : IsErrOf result TooManyCallers → Exceeds e old before
 
   -- the controller has taken the reply
   pub record Heard (before now : List X) (c : ℕ) (reply : Reply) : Type 0 where

@@ -1,8 +1,7 @@
 // A request is carried to its reply.
-ghost use Rattle.std.specs.Prelude.{◌≡◌, ℕ, suc, length, IfOk, IfErr, OnOk};
-ghost use Rattle.cluster_runs.specs.Faults.{IsShort};
-ghost use Rattle.cluster_runs.specs.Leading.{Halts, Leads, after_step};
-ghost use Rattle.cluster_runs.specs.Shown.{Follows, HaveCallers, KeepsCallers};
+ghost use Rattle.std.specs.Prelude.{◌≡◌, ℕ, suc, IfOk, IfErr};
+ghost use Rattle.cluster_runs.specs.Leading.{GoesAlong, Halts, Leads, after_step};
+ghost use Rattle.cluster_runs.specs.Shown.{IsConsistent, StaysConsistent};
 ghost use Rattle.cluster_runs.specs.Turns.{Course, carried, carried_in, ends_with, reply_of, run_of, step_by};
 
 use crate::cluster::Cluster;
@@ -40,15 +39,8 @@ impl Cluster {
         controllers: &mut [C],
         number: usize,
     ) -> Result<Option<Reply>, ClusterFault>
-        requires present { HaveCallers controllers.old self.old }
-        requires follows { Follows self.old }
-        ensures many { length controllers.new ≡ length controllers.old }
-        ensures present { KeepsCallers self.old self.new }
-        ensures follows { OnOk result (Follows self.new) }
-        ensures leads { IfOk result (λ delivered. Leads C.reconciler C.phase C.is_waiting
-            (run_of number) (ends_with delivered) self.old self.new controllers.old controllers.new) }
-        ensures halts { IfErr result (λ fault. Halts C.reconciler C.phase C.is_waiting fault (run_of number) self.old controllers.old controllers.new) }
-        ensures reasons { IfErr result IsShort }
+        requires { IsConsistent controllers.old self.old }
+        ensures { GoesAlong C.reconciler C.phase C.is_waiting (run_of number) ends_with self.old self.new controllers.old controllers.new result }
     {
         if number < controllers.len() {
             let caller = self.callers.present[number];
@@ -63,15 +55,8 @@ impl Cluster {
         controllers: &mut [C],
         caller: u64,
     ) -> Result<Option<Reply>, ClusterFault>
-        requires present { HaveCallers controllers.old self.old }
-        requires follows { Follows self.old }
-        ensures many { length controllers.new ≡ length controllers.old }
-        ensures present { KeepsCallers self.old self.new }
-        ensures follows { OnOk result (Follows self.new) }
-        ensures leads { IfOk result (λ delivered. Leads C.reconciler C.phase C.is_waiting
-            (carried caller) (ends_with delivered) self.old self.new controllers.old controllers.new) }
-        ensures halts { IfErr result (λ fault. Halts C.reconciler C.phase C.is_waiting fault (carried caller) self.old controllers.old controllers.new) }
-        ensures reasons { IfErr result IsShort }
+        requires { IsConsistent controllers.old self.old }
+        ensures { GoesAlong C.reconciler C.phase C.is_waiting (carried caller) ends_with self.old self.new controllers.old controllers.new result }
     {
         for _ in 0..MOST_STEPS {
             let went = self.advance(controllers, caller)?;
@@ -89,22 +74,17 @@ impl Cluster {
         controllers: &mut [C],
         caller: u64,
     ) -> Result<Advance, ClusterFault>
-        requires present { HaveCallers controllers.old self.old }
-        requires follows { Follows self.old }
-        ensures many { length controllers.new ≡ length controllers.old }
-        ensures present { KeepsCallers self.old self.new }
-        ensures follows { OnOk result (Follows self.new) }
+        requires { IsConsistent controllers.old self.old }
+        ensures consistent { StaysConsistent self.old self.new controllers.old controllers.new result }
         ensures leads { IfOk result (λ went. (steps : ℕ) → Leads C.reconciler C.phase C.is_waiting (carried_in (suc steps) caller)
             (after_step went (carried_in steps caller)) self.old self.new controllers.old controllers.new) }
         ensures halts { IfErr result (λ fault. (steps : ℕ) → Halts C.reconciler C.phase C.is_waiting fault (carried_in (suc steps) caller)
             self.old controllers.old controllers.new) }
-        ensures reasons { IfErr result IsShort }
     {
         let Some(event) = self.replay.next_step(caller) else {
             return Ok(Advance::Over(None));
         };
         let went = self.make(controllers, &event);
-        // Let go by name, which is proved once for the type and not at each way out.
         drop(event);
         went
     }
@@ -115,22 +95,18 @@ impl Cluster {
         controllers: &mut [C],
         event: &Event,
     ) -> Result<Advance, ClusterFault>
-        requires present { HaveCallers controllers.old self.old }
-        requires follows { Follows self.old }
-        ensures many { length controllers.new ≡ length controllers.old }
-        ensures present { KeepsCallers self.old self.new }
-        ensures follows { OnOk result (Follows self.new) }
+        requires { IsConsistent controllers.old self.old }
+        ensures consistent { StaysConsistent self.old self.new controllers.old controllers.new result }
         ensures leads { IfOk result (λ went. (next : Course) → Leads C.reconciler C.phase C.is_waiting (step_by event.now (reply_of event.now) next)
             (after_step went next) self.old self.new controllers.old controllers.new) }
         ensures halts { IfErr result (λ fault. (next : Course) → Halts C.reconciler C.phase C.is_waiting fault
             (step_by event.now (reply_of event.now) next) self.old controllers.old controllers.new) }
-        ensures reasons { IfErr result IsShort }
     {
         let Some(caller) = reply_of(event) else {
             self.step(controllers, event)?;
             return Ok(Advance::On);
         };
-        let delivered = self.tell(controllers, caller)?;
+        let delivered = self.deliver_reply(controllers, caller)?;
         Ok(Advance::Over(delivered))
     }
 }

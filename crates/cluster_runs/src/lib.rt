@@ -2,13 +2,13 @@
 //! ask, and runs, event by event.
 #![tactic(auto)]
 
+mod applying;
 mod callers;
 mod carrying;
 mod cluster;
 mod event;
 mod examples;
 mod fault;
-mod happening;
 mod laws;
 mod rounding;
 mod run;

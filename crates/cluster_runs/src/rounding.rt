@@ -1,8 +1,7 @@
 // One controller makes its round, or goes up to its next write.
-ghost use Rattle.std.specs.Prelude.{◌≡◌, ◌<◌, length, IfErr, IfOk, OnErr, OnOk};
-ghost use Rattle.cluster_runs.specs.Faults.{IsShort};
-ghost use Rattle.cluster_runs.specs.Leading.{Halts, Leads, Peeks, is_meant};
-ghost use Rattle.cluster_runs.specs.Shown.{Follows, HaveCallers, KeepsCallers, Stay};
+ghost use Rattle.std.specs.Prelude.{◌≡◌, ◌<◌, length, IfErr, IfOk, OnErr};
+ghost use Rattle.cluster_runs.specs.Leading.{GoesAlong, Peeks, is_meant};
+ghost use Rattle.cluster_runs.specs.Shown.{HaveCallers, IsConsistent, Stay};
 ghost use Rattle.cluster_runs.specs.declared.fault.ClusterFault.TheVariants.{Memory as OutOfMemory};
 ghost use Rattle.cluster_runs.specs.Turns.{approach, approach_of, asked, asked_while, begins, ends_with, is_read, most_requests, nothing, round, round_of};
 
@@ -11,7 +10,7 @@ use crate::fault::ClusterFault;
 use requests::{Reply, Request};
 use rounds::ControlLoop;
 
-/// More requests no round has.
+/// A bound of the loop, so that it is proved to end: no round comes near it.
 const MOST_REQUESTS: u64 = 4_294_967_296;
 
 /// The requests that are meant.
@@ -58,16 +57,9 @@ impl Cluster {
         controllers: &mut [C],
         number: usize,
     ) -> Result<(), ClusterFault>
-        requires present { HaveCallers controllers.old self.old }
-        requires follows { Follows self.old }
-        ensures many { length controllers.new ≡ length controllers.old }
-        ensures present { KeepsCallers self.old self.new }
-        ensures follows { OnOk result (Follows self.new) }
-        ensures leads { OnOk result (Leads C.reconciler C.phase C.is_waiting
-            (round_of number) nothing self.old self.new controllers.old controllers.new) }
-        ensures halts { IfErr result (λ fault. Halts C.reconciler C.phase C.is_waiting fault
-            (round_of number) self.old controllers.old controllers.new) }
-        ensures reasons { IfErr result IsShort }
+        requires { IsConsistent controllers.old self.old }
+        ensures { GoesAlong C.reconciler C.phase C.is_waiting
+            (round_of number) (λ done. nothing) self.old self.new controllers.old controllers.new result }
     {
         if number < controllers.len() {
             return self.make_round(controllers, number);
@@ -81,16 +73,9 @@ impl Cluster {
         controllers: &mut [C],
         number: usize,
     ) -> Result<(), ClusterFault>
-        requires present { HaveCallers controllers.old self.old }
-        requires follows { Follows self.old }
-        ensures many { length controllers.new ≡ length controllers.old }
-        ensures present { KeepsCallers self.old self.new }
-        ensures follows { OnOk result (Follows self.new) }
-        ensures leads { OnOk result (Leads C.reconciler C.phase C.is_waiting
-            (approach_of number) nothing self.old self.new controllers.old controllers.new) }
-        ensures halts { IfErr result (λ fault. Halts C.reconciler C.phase C.is_waiting fault
-            (approach_of number) self.old controllers.old controllers.new) }
-        ensures reasons { IfErr result IsShort }
+        requires { IsConsistent controllers.old self.old }
+        ensures { GoesAlong C.reconciler C.phase C.is_waiting
+            (approach_of number) (λ done. nothing) self.old self.new controllers.old controllers.new result }
     {
         if number < controllers.len() {
             return self.make_approach(controllers, number);
@@ -104,17 +89,10 @@ impl Cluster {
         controllers: &mut [C],
         number: usize,
     ) -> Result<(), ClusterFault>
-        requires present { HaveCallers controllers.old self.old }
-        requires follows { Follows self.old }
+        requires consistent { IsConsistent controllers.old self.old }
         requires there { number < length controllers.old }
-        ensures many { length controllers.new ≡ length controllers.old }
-        ensures present { KeepsCallers self.old self.new }
-        ensures follows { OnOk result (Follows self.new) }
-        ensures leads { OnOk result (Leads C.reconciler C.phase C.is_waiting
-            (round number) nothing self.old self.new controllers.old controllers.new) }
-        ensures halts { IfErr result (λ fault. Halts C.reconciler C.phase C.is_waiting fault
-            (round number) self.old controllers.old controllers.new) }
-        ensures reasons { IfErr result IsShort }
+        ensures { GoesAlong C.reconciler C.phase C.is_waiting
+            (round number) (λ done. nothing) self.old self.new controllers.old controllers.new result }
     {
         self.ask_while(controllers, number, Meant::Within)
     }
@@ -125,17 +103,10 @@ impl Cluster {
         controllers: &mut [C],
         number: usize,
     ) -> Result<(), ClusterFault>
-        requires present { HaveCallers controllers.old self.old }
-        requires follows { Follows self.old }
+        requires consistent { IsConsistent controllers.old self.old }
         requires there { number < length controllers.old }
-        ensures many { length controllers.new ≡ length controllers.old }
-        ensures present { KeepsCallers self.old self.new }
-        ensures follows { OnOk result (Follows self.new) }
-        ensures leads { OnOk result (Leads C.reconciler C.phase C.is_waiting
-            (approach number) nothing self.old self.new controllers.old controllers.new) }
-        ensures halts { IfErr result (λ fault. Halts C.reconciler C.phase C.is_waiting fault
-            (approach number) self.old controllers.old controllers.new) }
-        ensures reasons { IfErr result IsShort }
+        ensures { GoesAlong C.reconciler C.phase C.is_waiting
+            (approach number) (λ done. nothing) self.old self.new controllers.old controllers.new result }
     {
         let writes = self.is_next(controllers, number, Meant::Write)?;
         if writes {
@@ -151,17 +122,10 @@ impl Cluster {
         number: usize,
         meant: Meant,
     ) -> Result<(), ClusterFault>
-        requires present { HaveCallers controllers.old self.old }
-        requires follows { Follows self.old }
+        requires consistent { IsConsistent controllers.old self.old }
         requires there { number < length controllers.old }
-        ensures many { length controllers.new ≡ length controllers.old }
-        ensures present { KeepsCallers self.old self.new }
-        ensures follows { OnOk result (Follows self.new) }
-        ensures leads { OnOk result (Leads C.reconciler C.phase C.is_waiting
-            (asked_while (is_meant meant) most_requests number) nothing self.old self.new controllers.old controllers.new) }
-        ensures halts { IfErr result (λ fault. Halts C.reconciler C.phase C.is_waiting fault
-            (asked_while (is_meant meant) most_requests number) self.old controllers.old controllers.new) }
-        ensures reasons { IfErr result IsShort }
+        ensures { GoesAlong C.reconciler C.phase C.is_waiting
+            (asked_while (is_meant meant) most_requests number) (λ done. nothing) self.old self.new controllers.old controllers.new result }
     {
         for _ in 0..MOST_REQUESTS {
             self.ask_next(controllers, number)?;
@@ -179,16 +143,9 @@ impl Cluster {
         controllers: &mut [C],
         number: usize,
     ) -> Result<Option<Reply>, ClusterFault>
-        requires present { HaveCallers controllers.old self.old }
-        requires follows { Follows self.old }
+        requires consistent { IsConsistent controllers.old self.old }
         requires there { number < length controllers.old }
-        ensures many { length controllers.new ≡ length controllers.old }
-        ensures present { KeepsCallers self.old self.new }
-        ensures follows { OnOk result (Follows self.new) }
-        ensures leads { IfOk result (λ delivered. Leads C.reconciler C.phase C.is_waiting
-            (asked number) (ends_with delivered) self.old self.new controllers.old controllers.new) }
-        ensures halts { IfErr result (λ fault. Halts C.reconciler C.phase C.is_waiting fault (asked number) self.old controllers.old controllers.new) }
-        ensures reasons { IfErr result IsShort }
+        ensures { GoesAlong C.reconciler C.phase C.is_waiting (asked number) ends_with self.old self.new controllers.old controllers.new result }
     {
         self.call_next(controllers, number)?;
         let caller = self.callers.present[number];
@@ -215,7 +172,6 @@ impl Cluster {
         }
         let request = controllers[number].next()?;
         let is = meant.is_meant(&request);
-        // Let go by name, which is proved once for the type and not at each way out.
         drop(request);
         Ok(is)
     }

@@ -82,7 +82,7 @@ pub fn run_cluster<C: ControlLoop>(
         events: Vec::new(alloc),
     };
     for event in events {
-        cluster.happen(controllers, event)?;
+        cluster.apply_event(controllers, event)?;
     }
     let Cluster {
         replay,
@@ -94,7 +94,6 @@ pub fn run_cluster<C: ControlLoop>(
         owners,
         unused: _,
     } = callers;
-    // Let go by name, which is proved once for the type and not at each way out.
     drop(present);
     Ok(ClusterRun {
         events,

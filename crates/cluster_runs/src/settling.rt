@@ -1,11 +1,10 @@
 // All controllers make rounds, and a kubelet makes turns.
-ghost use Rattle.std.specs.Prelude.{◌≡◌, length, IfErr, IfOk, OnOk};
+ghost use Rattle.std.specs.Prelude.{◌≡◌, length, IfOk};
 ghost use Rattle.std.specs.List.{range_with_len};
 ghost use Rattle.objects.specs.declared.kind.Kind.TheVariants.{Pod};
 ghost use Rattle.requests.specs.declared.request.Request.TheVariants as request;
-ghost use Rattle.cluster_runs.specs.Faults.{IsShort};
-ghost use Rattle.cluster_runs.specs.Leading.{Halts, Leads};
-ghost use Rattle.cluster_runs.specs.Shown.{Follows, HaveCallers, KeepsCallers};
+ghost use Rattle.cluster_runs.specs.Leading.{GoesAlong};
+ghost use Rattle.cluster_runs.specs.Shown.{IsConsistent};
 ghost use Rattle.cluster_runs.specs.Turns.{asked_all, asked_as, ends_with, kubelet_turn, nothing, rounds_of, settled, settled_as, settled_once, tended, tends};
 
 use crate::cluster::Cluster;
@@ -51,16 +50,9 @@ impl Cluster {
         namespaces: &[Text],
         rounds: u64,
     ) -> Result<(), ClusterFault>
-        requires present { HaveCallers controllers.old self.old }
-        requires follows { Follows self.old }
-        ensures many { length controllers.new ≡ length controllers.old }
-        ensures present { KeepsCallers self.old self.new }
-        ensures follows { OnOk result (Follows self.new) }
-        ensures leads { OnOk result (Leads C.reconciler C.phase C.is_waiting
-            (settled kubelet rounds namespaces.now) nothing self.old self.new controllers.old controllers.new) }
-        ensures halts { IfErr result (λ fault. Halts C.reconciler C.phase C.is_waiting fault
-            (settled kubelet rounds namespaces.now) self.old controllers.old controllers.new) }
-        ensures reasons { IfErr result IsShort }
+        requires { IsConsistent controllers.old self.old }
+        ensures { GoesAlong C.reconciler C.phase C.is_waiting
+            (settled kubelet rounds namespaces.now) (λ done. nothing) self.old self.new controllers.old controllers.new result }
     {
         match kubelet {
             Some(kubelet) => self.settle_as(controllers, kubelet, namespaces, rounds),
@@ -75,16 +67,9 @@ impl Cluster {
         namespaces: &[Text],
         rounds: u64,
     ) -> Result<(), ClusterFault>
-        requires present { HaveCallers controllers.old self.old }
-        requires follows { Follows self.old }
-        ensures many { length controllers.new ≡ length controllers.old }
-        ensures present { KeepsCallers self.old self.new }
-        ensures follows { OnOk result (Follows self.new) }
-        ensures leads { OnOk result (Leads C.reconciler C.phase C.is_waiting
-            (settled_as rounds kubelet namespaces.now) nothing self.old self.new controllers.old controllers.new) }
-        ensures halts { IfErr result (λ fault. Halts C.reconciler C.phase C.is_waiting fault
-            (settled_as rounds kubelet namespaces.now) self.old controllers.old controllers.new) }
-        ensures reasons { IfErr result IsShort }
+        requires { IsConsistent controllers.old self.old }
+        ensures { GoesAlong C.reconciler C.phase C.is_waiting
+            (settled_as rounds kubelet namespaces.now) (λ done. nothing) self.old self.new controllers.old controllers.new result }
     {
         for _ in 0..rounds {
             self.settle_once(controllers, kubelet, namespaces)?;
@@ -98,16 +83,9 @@ impl Cluster {
         kubelet: u64,
         namespaces: &[Text],
     ) -> Result<(), ClusterFault>
-        requires present { HaveCallers controllers.old self.old }
-        requires follows { Follows self.old }
-        ensures many { length controllers.new ≡ length controllers.old }
-        ensures present { KeepsCallers self.old self.new }
-        ensures follows { OnOk result (Follows self.new) }
-        ensures leads { OnOk result (Leads C.reconciler C.phase C.is_waiting
-            (settled_once kubelet namespaces.now) nothing self.old self.new controllers.old controllers.new) }
-        ensures halts { IfErr result (λ fault. Halts C.reconciler C.phase C.is_waiting fault
-            (settled_once kubelet namespaces.now) self.old controllers.old controllers.new) }
-        ensures reasons { IfErr result IsShort }
+        requires { IsConsistent controllers.old self.old }
+        ensures { GoesAlong C.reconciler C.phase C.is_waiting
+            (settled_once kubelet namespaces.now) (λ done. nothing) self.old self.new controllers.old controllers.new result }
     {
         self.make_rounds(controllers)?;
         self.make_turn(controllers, kubelet, namespaces)
@@ -115,16 +93,9 @@ impl Cluster {
 
     /// Each controller makes a round, in the order of the numbers.
     fn make_rounds<C: ControlLoop>(&mut self, controllers: &mut [C]) -> Result<(), ClusterFault>
-        requires present { HaveCallers controllers.old self.old }
-        requires follows { Follows self.old }
-        ensures many { length controllers.new ≡ length controllers.old }
-        ensures present { KeepsCallers self.old self.new }
-        ensures follows { OnOk result (Follows self.new) }
-        ensures leads { OnOk result (Leads C.reconciler C.phase C.is_waiting
-            (rounds_of (range_with_len 0 (length controllers.old))) nothing self.old self.new controllers.old controllers.new) }
-        ensures halts { IfErr result (λ fault. Halts C.reconciler C.phase C.is_waiting fault
-            (rounds_of (range_with_len 0 (length controllers.old))) self.old controllers.old controllers.new) }
-        ensures reasons { IfErr result IsShort }
+        requires { IsConsistent controllers.old self.old }
+        ensures { GoesAlong C.reconciler C.phase C.is_waiting
+            (rounds_of (range_with_len 0 (length controllers.old))) (λ done. nothing) self.old self.new controllers.old controllers.new result }
     {
         for number in 0..controllers.len() {
             self.make_round(controllers, number)?;
@@ -139,16 +110,9 @@ impl Cluster {
         caller: u64,
         namespaces: &[Text],
     ) -> Result<(), ClusterFault>
-        requires present { HaveCallers controllers.old self.old }
-        requires follows { Follows self.old }
-        ensures many { length controllers.new ≡ length controllers.old }
-        ensures present { KeepsCallers self.old self.new }
-        ensures follows { OnOk result (Follows self.new) }
-        ensures leads { OnOk result (Leads C.reconciler C.phase C.is_waiting
-            (kubelet_turn caller namespaces.now) nothing self.old self.new controllers.old controllers.new) }
-        ensures halts { IfErr result (λ fault. Halts C.reconciler C.phase C.is_waiting fault
-            (kubelet_turn caller namespaces.now) self.old controllers.old controllers.new) }
-        ensures reasons { IfErr result IsShort }
+        requires { IsConsistent controllers.old self.old }
+        ensures { GoesAlong C.reconciler C.phase C.is_waiting
+            (kubelet_turn caller namespaces.now) (λ done. nothing) self.old self.new controllers.old controllers.new result }
     {
         let delivered = self.carry(controllers, caller)?;
         drop(delivered);
@@ -165,21 +129,13 @@ impl Cluster {
         caller: u64,
         namespace: &Text,
     ) -> Result<(), ClusterFault>
-        requires present { HaveCallers controllers.old self.old }
-        requires follows { Follows self.old }
-        ensures many { length controllers.new ≡ length controllers.old }
-        ensures present { KeepsCallers self.old self.new }
-        ensures follows { OnOk result (Follows self.new) }
-        ensures leads { OnOk result (Leads C.reconciler C.phase C.is_waiting
-            (tended caller namespace.now) nothing self.old self.new controllers.old controllers.new) }
-        ensures halts { IfErr result (λ fault. Halts C.reconciler C.phase C.is_waiting fault
-            (tended caller namespace.now) self.old controllers.old controllers.new) }
-        ensures reasons { IfErr result IsShort }
+        requires { IsConsistent controllers.old self.old }
+        ensures { GoesAlong C.reconciler C.phase C.is_waiting
+            (tended caller namespace.now) (λ done. nothing) self.old self.new controllers.old controllers.new result }
     {
         let alloc = *self.events.allocator();
         let list = list_of_pods(alloc, namespace)?;
         let listed = self.ask(controllers, caller, &list);
-        // Let go by name, which is proved once for the type and not at each way out.
         drop(list);
         let delivered = listed?;
         let requests = requests_after(alloc, &delivered);
@@ -197,16 +153,9 @@ impl Cluster {
         caller: u64,
         requests: &[Request],
     ) -> Result<(), ClusterFault>
-        requires present { HaveCallers controllers.old self.old }
-        requires follows { Follows self.old }
-        ensures many { length controllers.new ≡ length controllers.old }
-        ensures present { KeepsCallers self.old self.new }
-        ensures follows { OnOk result (Follows self.new) }
-        ensures leads { OnOk result (Leads C.reconciler C.phase C.is_waiting
-            (asked_all caller requests.now) nothing self.old self.new controllers.old controllers.new) }
-        ensures halts { IfErr result (λ fault. Halts C.reconciler C.phase C.is_waiting fault
-            (asked_all caller requests.now) self.old controllers.old controllers.new) }
-        ensures reasons { IfErr result IsShort }
+        requires { IsConsistent controllers.old self.old }
+        ensures { GoesAlong C.reconciler C.phase C.is_waiting
+            (asked_all caller requests.now) (λ done. nothing) self.old self.new controllers.old controllers.new result }
     {
         for request in requests {
             let delivered = self.ask(controllers, caller, request)?;
@@ -222,16 +171,9 @@ impl Cluster {
         caller: u64,
         request: &Request,
     ) -> Result<Option<Reply>, ClusterFault>
-        requires present { HaveCallers controllers.old self.old }
-        requires follows { Follows self.old }
-        ensures many { length controllers.new ≡ length controllers.old }
-        ensures present { KeepsCallers self.old self.new }
-        ensures follows { OnOk result (Follows self.new) }
-        ensures leads { IfOk result (λ delivered. Leads C.reconciler C.phase C.is_waiting
-            (asked_as caller request.now) (ends_with delivered) self.old self.new controllers.old controllers.new) }
-        ensures halts { IfErr result (λ fault. Halts C.reconciler C.phase C.is_waiting fault
-            (asked_as caller request.now) self.old controllers.old controllers.new) }
-        ensures reasons { IfErr result IsShort }
+        requires { IsConsistent controllers.old self.old }
+        ensures { GoesAlong C.reconciler C.phase C.is_waiting
+            (asked_as caller request.now) ends_with self.old self.new controllers.old controllers.new result }
     {
         if !self.replay.idle(caller) {
             return Ok(None);

@@ -1,4 +1,4 @@
-ghost use Rattle.std.specs.Prelude.{◌≡◌, ◌⊎◌, ◌<◌, ◌≤◌, ◌↔◌, ℕ, length, take, None, IfErr, IfOk, IsErrOf, OnErr, OnOk};
+ghost use Rattle.std.specs.Prelude.{◌≡◌, ◌⊎◌, ◌<◌, ◌≤◌, ◌↔◌, ℕ, length, take, None, IfOk, IsErrOf, OnErr, OnOk};
 ghost use Rattle.std.specs.List.{AllByRecursion};
 ghost use Rattle.plain_store.specs.Reached.{most_revisions};
 ghost use Rattle.rounds.specs.Phase.{reading_set};
@@ -6,10 +6,9 @@ ghost use Rattle.rounds.specs.Reconciler.{Reconciler};
 ghost use Rattle.rounds.specs.Sound.{IsSound};
 ghost use Rattle.rounds.specs.World.{AreMadeOf, StandAt};
 ghost use Rattle.cluster_runs.specs.Ordered.{OrderKeepsPromises};
-ghost use Rattle.cluster_runs.specs.Faults.{IsShort};
-ghost use Rattle.cluster_runs.specs.Leading.{ComesTo, Halts, Leads};
+ghost use Rattle.cluster_runs.specs.Leading.{ComesTo, GoesAlong};
 ghost use Rattle.cluster_runs.specs.Ran.{IsClusterRun, IsTooMany, StopsAt, cluster_after};
-ghost use Rattle.cluster_runs.specs.Shown.{Follows, HaveCallers, KeepsCallers};
+ghost use Rattle.cluster_runs.specs.Shown.{IsConsistent};
 ghost use Rattle.cluster_runs.specs.Turns.{course_of, course_of_all, ends_of_turns, ends_with, events_of_turns, nothing};
 
 use crate::callers::Callers;
@@ -99,7 +98,6 @@ pub fn run_turns<C: ControlLoop>(
         owners,
         unused: _,
     } = callers;
-    // Let go by name, which is proved once for the type and not at each way out.
     drop(present);
     Ok(TurnsRun {
         run: ClusterRun {
@@ -119,17 +117,10 @@ impl Cluster {
         namespaces: &[Text],
         turns: &[Turn],
     ) -> Result<Vec<usize>, ClusterFault>
-        requires present { HaveCallers controllers.old self.old }
-        requires follows { Follows self.old }
-        ensures many { length controllers.new ≡ length controllers.old }
-        ensures present { KeepsCallers self.old self.new }
-        ensures follows { OnOk result (Follows self.new) }
-        ensures leads { OnOk result (Leads C.reconciler C.phase C.is_waiting
-            (course_of_all None namespaces.now turns.now) nothing self.old self.new controllers.old controllers.new) }
+        requires { IsConsistent controllers.old self.old }
+        ensures goes_along { GoesAlong C.reconciler C.phase C.is_waiting
+            (course_of_all None namespaces.now turns.now) (λ done. nothing) self.old self.new controllers.old controllers.new result }
         ensures ends { IfOk result (λ ends. ComesTo C.reconciler C.phase C.is_waiting namespaces.now turns.now ends.items self.old controllers.old) }
-        ensures halts { IfErr result (λ fault. Halts C.reconciler C.phase C.is_waiting fault
-            (course_of_all None namespaces.now turns.now) self.old controllers.old controllers.new) }
-        ensures reasons { IfErr result IsShort }
     {
         let mut ends = Vec::new(*self.events.allocator());
         let mut kubelet = None;
@@ -150,20 +141,13 @@ impl Cluster {
         namespaces: &[Text],
         turn: &Turn,
     ) -> Result<Option<Reply>, ClusterFault>
-        requires present { HaveCallers controllers.old self.old }
-        requires follows { Follows self.old }
-        ensures many { length controllers.new ≡ length controllers.old }
-        ensures present { KeepsCallers self.old self.new }
-        ensures follows { OnOk result (Follows self.new) }
-        ensures leads { IfOk result (λ delivered. Leads C.reconciler C.phase C.is_waiting
-            (course_of kubelet namespaces.now turn.now) (ends_with delivered) self.old self.new controllers.old controllers.new) }
-        ensures halts { IfErr result (λ fault. Halts C.reconciler C.phase C.is_waiting fault
-            (course_of kubelet namespaces.now turn.now) self.old controllers.old controllers.new) }
-        ensures reasons { IfErr result IsShort }
+        requires { IsConsistent controllers.old self.old }
+        ensures { GoesAlong C.reconciler C.phase C.is_waiting
+            (course_of kubelet namespaces.now turn.now) ends_with self.old self.new controllers.old controllers.new result }
     {
         match turn {
             Turn::Event(event) => {
-                self.happen(controllers, event)?;
+                self.apply_event(controllers, event)?;
                 Ok(None)
             }
             Turn::Run(number) => self.run(controllers, *number),

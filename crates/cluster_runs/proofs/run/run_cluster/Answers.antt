@@ -45,36 +45,36 @@ stands reconciler phase is_waiting z reconcilers n events at program before now 
     let k = run z n reconcilers (start n) (take at events) in
     record { there = there; stand = still_stand reconciler phase before now reconcilers k.phases stay (shown_stand reconciler phase is_waiting z reconcilers k program before shows) }
 
-pub returns-in_err-happen-clause-stopped : goal.returns-in_err-happen-clause-stopped
-returns-in_err-happen-clause-stopped g c =
-    at_err c.from_residual-in_err-happen.result _ (λ reconcilers made. inr (
+pub returns-in_err-apply_event-clause-stopped : goal.returns-in_err-apply_event-clause-stopped
+returns-in_err-apply_event-clause-stopped g c =
+    at_err c.from_residual-in_err-apply_event.result _ (λ reconcilers made. inr (
       c.loop-event.event-index,
       stands g.C.ControlLoop.reconciler g.C.ControlLoop.phase g.C.ControlLoop.is_waiting (record { capacity = c.args.capacity; shards = c.args.shards }) reconcilers
-          (length c.args.controllers.now) c.args.events.now c.loop-event.event-index c.loop-event.cluster c.loop-event.controllers c.happen.new.controllers
-          c.loop-event-test.true c.in_err-happen.ensures.stays (c.loop-event.invariant.3 reconcilers made),
+          (length c.args.controllers.now) c.args.events.now c.loop-event.event-index c.loop-event.cluster c.loop-event.controllers c.apply_event.new.controllers
+          c.loop-event-test.true c.in_err-apply_event.ensures.stays (c.loop-event.invariant.3 reconcilers made),
     ))
 
-pub returns-in_err-happen-clause-filled : goal.returns-in_err-happen-clause-filled
-returns-in_err-happen-clause-filled g c = λ failed few reconcilers made.
+pub returns-in_err-apply_event-clause-filled : goal.returns-in_err-apply_event-clause-filled
+returns-in_err-apply_event-clause-filled g c = λ failed few reconcilers made.
     let z : Size = record { capacity = c.args.capacity; shards = c.args.shards } in
     let count = length c.args.controllers.now in
     let es = c.args.events.now in
     let i = c.loop-event.event-index in
     let k = run z count reconcilers (start count) (take i es) in
     let shows = c.loop-event.invariant.3 reconcilers made in
-    let many = c.in_err-happen.ensures.too_many (search (rules, failed)) z reconcilers k shows in
+    let many = c.in_err-apply_event.ensures.too_many (search (rules, failed)) z reconcilers k shows in
     let next = ap (happens z (length c.loop-event.controllers) reconcilers k) c.event-item.is
     ∙ ap (λ n. happens z n reconcilers k (slice_index_or es i c.event-item.result)) c.loop-event.invariant.0
     ∙ run_more z count reconcilers (start count) es i c.event-item.result c.loop-event-test.true in (
       i,
-      stands g.C.ControlLoop.reconciler g.C.ControlLoop.phase g.C.ControlLoop.is_waiting z reconcilers count es i c.loop-event.cluster c.loop-event.controllers c.happen.new.controllers
-          c.loop-event-test.true c.in_err-happen.ensures.stays shows,
+      stands g.C.ControlLoop.reconciler g.C.ControlLoop.phase g.C.ControlLoop.is_waiting z reconcilers count es i c.loop-event.cluster c.loop-event.controllers c.apply_event.new.controllers
+          c.loop-event-test.true c.in_err-apply_event.ensures.stays shows,
       record { few = shows.0.1.few; many = subst (λ (v : Cluster). 4096 < length v.used) next many },
     )
 
-pub returns-in_err-happen-clause-unbegun : goal.returns-in_err-happen-clause-unbegun
-returns-in_err-happen-clause-unbegun g c = λ refused.
-    absurd (has_begun c.from_residual-in_err-happen.result (length c.args.controllers.now) c.in_ok-callers.callers (search rules) c.in_ok-callers.ensures.callers refused)
+pub returns-in_err-apply_event-clause-unbegun : goal.returns-in_err-apply_event-clause-unbegun
+returns-in_err-apply_event-clause-unbegun g c = λ refused.
+    absurd (has_begun c.from_residual-in_err-apply_event.result (length c.args.controllers.now) c.in_ok-callers.callers (search rules) c.in_ok-callers.ensures.callers refused)
 
 pub returns-clause-unbegun : goal.returns-clause-unbegun
 returns-clause-unbegun g c = λ refused. absurd (has_begun (Ok _) (length c.args.controllers.now) c.in_ok-callers.callers tt c.in_ok-callers.ensures.callers refused)
@@ -94,14 +94,14 @@ loop-event-init g c =
           (record { replay = c.in_ok-replay.replay; callers = c.in_ok-callers.callers; events = c.new-2.result }) c.args.controllers.now c.requires made opened none are,
     )
 
-pub returns-in_err-happen-clause-too_many : goal.returns-in_err-happen-clause-too_many
-returns-in_err-happen-clause-too_many g c = λ failed reconcilers made.
+pub returns-in_err-apply_event-clause-too_many : goal.returns-in_err-apply_event-clause-too_many
+returns-in_err-apply_event-clause-too_many g c = λ failed reconcilers made.
     let z : Size = record { capacity = c.args.capacity; shards = c.args.shards } in
     let count = length c.args.controllers.now in
     let es = c.args.events.now in
     let i = c.loop-event.event-index in
     let k = run z count reconcilers (start count) (take i es) in
-    let many = c.in_err-happen.ensures.too_many (search (rules, failed)) z reconcilers k (c.loop-event.invariant.3 reconcilers made) in
+    let many = c.in_err-apply_event.ensures.too_many (search (rules, failed)) z reconcilers k (c.loop-event.invariant.3 reconcilers made) in
     let next = ap (happens z (length c.loop-event.controllers) reconcilers k) c.event-item.is
     ∙ ap (λ n. happens z n reconcilers k (slice_index_or es i c.event-item.result)) c.loop-event.invariant.0
     ∙ run_more z count reconcilers (start count) es i c.event-item.result c.loop-event-test.true in
@@ -116,17 +116,17 @@ loop-event-preserved g c =
     let es = c.args.events.now in
     let i = c.loop-event.event-index in
     let kept = c.loop-event.invariant in
-    let many = c.in_ok-happen.ensures.many in (
+    let many = c.in_ok-apply_event.ensures.consistent.many in (
       many ∙ kept.0,
-      many ∙ kept.1 ∙ sym c.in_ok-happen.ensures.present,
-      c.in_ok-happen.ensures.follows,
+      many ∙ kept.1 ∙ sym c.in_ok-apply_event.ensures.consistent.present,
+      c.in_ok-apply_event.ensures.consistent.follows,
       λ reconcilers made.
           let k = run z count reconcilers (start count) (take i es) in
-          subst (λ v. Shows g.C.ControlLoop.reconciler g.C.ControlLoop.phase g.C.ControlLoop.is_waiting z reconcilers v c.happen.new.self c.happen.new.controllers)
+          subst (λ v. Shows g.C.ControlLoop.reconciler g.C.ControlLoop.phase g.C.ControlLoop.is_waiting z reconcilers v c.apply_event.new.self c.apply_event.new.controllers)
           (ap (happens z (length c.loop-event.controllers) reconcilers k) c.event-item.is
           ∙ ap (λ n. happens z n reconcilers k (slice_index_or es i c.event-item.result)) kept.0
           ∙ run_more z count reconcilers (start count) es i c.event-item.result c.loop-event-test.true)
-          (c.in_ok-happen.ensures.shows z reconcilers k (kept.3 reconcilers made)),
+          (c.in_ok-apply_event.ensures.shows z reconcilers k (kept.3 reconcilers made)),
     )
 
 pub returns-clause-run : goal.returns-clause-run

@@ -45,18 +45,18 @@ pub returns-in_err-ends-clause-stopped : goal.returns-in_err-ends-clause-stopped
 returns-in_err-ends-clause-stopped g c =
     at_err c.from_residual-in_err-ends.result _ (λ reconcilers made.
     let z : Size = record { capacity = c.args.capacity; shards = c.args.shards } in
-    (goes_stops g.C.ControlLoop.reconciler g.C.ControlLoop.phase g.C.ControlLoop.is_waiting z reconcilers c.args.namespaces.now c.args.turns.now (record { replay = c.in_ok-replay.replay; callers = c.in_ok-callers.callers; events = c.new-2.result }) c.args.controllers.now c.go.new.controllers (start_shows g.C.ControlLoop.reconciler g.C.ControlLoop.phase g.C.ControlLoop.is_waiting z reconcilers (record { replay = c.in_ok-replay.replay; callers = c.in_ok-callers.callers; events = c.new-2.result }) c.args.controllers.now c.requires made c.in_ok-replay.ensures.opened c.new-2.ensures.items c.in_ok-callers.ensures.callers) c.in_err-ends.field-0.0 c.in_err-ends.ensures.halts).0)
+    (goes_stops g.C.ControlLoop.reconciler g.C.ControlLoop.phase g.C.ControlLoop.is_waiting z reconcilers c.args.namespaces.now c.args.turns.now (record { replay = c.in_ok-replay.replay; callers = c.in_ok-callers.callers; events = c.new-2.result }) c.args.controllers.now c.go.new.controllers (start_shows g.C.ControlLoop.reconciler g.C.ControlLoop.phase g.C.ControlLoop.is_waiting z reconcilers (record { replay = c.in_ok-replay.replay; callers = c.in_ok-callers.callers; events = c.new-2.result }) c.args.controllers.now c.requires made c.in_ok-replay.ensures.opened c.new-2.ensures.items c.in_ok-callers.ensures.callers) c.in_err-ends.field-0.0 c.in_err-ends.ensures.goes_along.halts).0)
 
 pub returns-in_err-ends-clause-filled : goal.returns-in_err-ends-clause-filled
 returns-in_err-ends-clause-filled g c = λ failed few reconcilers made.
     let z : Size = record { capacity = c.args.capacity; shards = c.args.shards } in
-    (goes_stops g.C.ControlLoop.reconciler g.C.ControlLoop.phase g.C.ControlLoop.is_waiting z reconcilers c.args.namespaces.now c.args.turns.now (record { replay = c.in_ok-replay.replay; callers = c.in_ok-callers.callers; events = c.new-2.result }) c.args.controllers.now c.go.new.controllers (start_shows g.C.ControlLoop.reconciler g.C.ControlLoop.phase g.C.ControlLoop.is_waiting z reconcilers (record { replay = c.in_ok-replay.replay; callers = c.in_ok-callers.callers; events = c.new-2.result }) c.args.controllers.now c.requires made c.in_ok-replay.ensures.opened c.new-2.ensures.items c.in_ok-callers.ensures.callers) c.in_err-ends.field-0.0 c.in_err-ends.ensures.halts).1 (search (rules, failed))
+    (goes_stops g.C.ControlLoop.reconciler g.C.ControlLoop.phase g.C.ControlLoop.is_waiting z reconcilers c.args.namespaces.now c.args.turns.now (record { replay = c.in_ok-replay.replay; callers = c.in_ok-callers.callers; events = c.new-2.result }) c.args.controllers.now c.go.new.controllers (start_shows g.C.ControlLoop.reconciler g.C.ControlLoop.phase g.C.ControlLoop.is_waiting z reconcilers (record { replay = c.in_ok-replay.replay; callers = c.in_ok-callers.callers; events = c.new-2.result }) c.args.controllers.now c.requires made c.in_ok-replay.ensures.opened c.new-2.ensures.items c.in_ok-callers.ensures.callers) c.in_err-ends.field-0.0 c.in_err-ends.ensures.goes_along.halts).1 (search (rules, failed))
 
 pub returns-in_err-ends-clause-too_many : goal.returns-in_err-ends-clause-too_many
 returns-in_err-ends-clause-too_many g c = λ failed reconcilers made.
     let z : Size = record { capacity = c.args.capacity; shards = c.args.shards } in
     let count = length c.args.controllers.now in
-    let full = (goes_stops g.C.ControlLoop.reconciler g.C.ControlLoop.phase g.C.ControlLoop.is_waiting z reconcilers c.args.namespaces.now c.args.turns.now (record { replay = c.in_ok-replay.replay; callers = c.in_ok-callers.callers; events = c.new-2.result }) c.args.controllers.now c.go.new.controllers (start_shows g.C.ControlLoop.reconciler g.C.ControlLoop.phase g.C.ControlLoop.is_waiting z reconcilers (record { replay = c.in_ok-replay.replay; callers = c.in_ok-callers.callers; events = c.new-2.result }) c.args.controllers.now c.requires made c.in_ok-replay.ensures.opened c.new-2.ensures.items c.in_ok-callers.ensures.callers) c.in_err-ends.field-0.0 c.in_err-ends.ensures.halts).1 (search (rules, failed)) in
+    let full = (goes_stops g.C.ControlLoop.reconciler g.C.ControlLoop.phase g.C.ControlLoop.is_waiting z reconcilers c.args.namespaces.now c.args.turns.now (record { replay = c.in_ok-replay.replay; callers = c.in_ok-callers.callers; events = c.new-2.result }) c.args.controllers.now c.go.new.controllers (start_shows g.C.ControlLoop.reconciler g.C.ControlLoop.phase g.C.ControlLoop.is_waiting z reconcilers (record { replay = c.in_ok-replay.replay; callers = c.in_ok-callers.callers; events = c.new-2.result }) c.args.controllers.now c.requires made c.in_ok-replay.ensures.opened c.new-2.ensures.items c.in_ok-callers.ensures.callers) c.in_err-ends.field-0.0 c.in_err-ends.ensures.goes_along.halts).1 (search (rules, failed)) in
     let many = full.2.many in
     let less = used_grow z count reconcilers (start count) (events_of_turns z count reconcilers c.args.namespaces.now c.args.turns.now) (full.0 + 1) in
     omega (arith, many, less)
@@ -77,7 +77,7 @@ pub returns-clause-run : goal.returns-clause-run
 returns-clause-run g c = λ reconcilers made.
     let z : Size = record { capacity = c.args.capacity; shards = c.args.shards } in
     let count = length c.args.controllers.now in
-    let shows = goes_all g.C.ControlLoop.reconciler g.C.ControlLoop.phase g.C.ControlLoop.is_waiting z reconcilers c.args.namespaces.now c.args.turns.now (record { replay = c.in_ok-replay.replay; callers = c.in_ok-callers.callers; events = c.new-2.result }) c.args.controllers.now c.go.new.controllers (start_shows g.C.ControlLoop.reconciler g.C.ControlLoop.phase g.C.ControlLoop.is_waiting z reconcilers (record { replay = c.in_ok-replay.replay; callers = c.in_ok-callers.callers; events = c.new-2.result }) c.args.controllers.now c.requires made c.in_ok-replay.ensures.opened c.new-2.ensures.items c.in_ok-callers.ensures.callers) c.go.new.self c.in_ok-ends.ensures.leads in
+    let shows = goes_all g.C.ControlLoop.reconciler g.C.ControlLoop.phase g.C.ControlLoop.is_waiting z reconcilers c.args.namespaces.now c.args.turns.now (record { replay = c.in_ok-replay.replay; callers = c.in_ok-callers.callers; events = c.new-2.result }) c.args.controllers.now c.go.new.controllers (start_shows g.C.ControlLoop.reconciler g.C.ControlLoop.phase g.C.ControlLoop.is_waiting z reconcilers (record { replay = c.in_ok-replay.replay; callers = c.in_ok-callers.callers; events = c.new-2.result }) c.args.controllers.now c.requires made c.in_ok-replay.ensures.opened c.new-2.ensures.items c.in_ok-callers.ensures.callers) c.go.new.self c.in_ok-ends.ensures.goes_along.leads in
     record {
       handed = shows.0.0.events_are;
       run_is = c.finish.ensures z _ shows.0.0.taken;
@@ -90,7 +90,7 @@ returns-clause-stand g c = λ reconcilers made.
     let z : Size = record { capacity = c.args.capacity; shards = c.args.shards } in
     let count = length c.args.controllers.now in
     shown_stand g.C.ControlLoop.reconciler g.C.ControlLoop.phase g.C.ControlLoop.is_waiting z reconcilers (cluster_after z count reconcilers (events_of_turns z count reconcilers c.args.namespaces.now c.args.turns.now)) c.go.new.self c.go.new.controllers
-    (goes_all g.C.ControlLoop.reconciler g.C.ControlLoop.phase g.C.ControlLoop.is_waiting z reconcilers c.args.namespaces.now c.args.turns.now (record { replay = c.in_ok-replay.replay; callers = c.in_ok-callers.callers; events = c.new-2.result }) c.args.controllers.now c.go.new.controllers (start_shows g.C.ControlLoop.reconciler g.C.ControlLoop.phase g.C.ControlLoop.is_waiting z reconcilers (record { replay = c.in_ok-replay.replay; callers = c.in_ok-callers.callers; events = c.new-2.result }) c.args.controllers.now c.requires made c.in_ok-replay.ensures.opened c.new-2.ensures.items c.in_ok-callers.ensures.callers) c.go.new.self c.in_ok-ends.ensures.leads)
+    (goes_all g.C.ControlLoop.reconciler g.C.ControlLoop.phase g.C.ControlLoop.is_waiting z reconcilers c.args.namespaces.now c.args.turns.now (record { replay = c.in_ok-replay.replay; callers = c.in_ok-callers.callers; events = c.new-2.result }) c.args.controllers.now c.go.new.controllers (start_shows g.C.ControlLoop.reconciler g.C.ControlLoop.phase g.C.ControlLoop.is_waiting z reconcilers (record { replay = c.in_ok-replay.replay; callers = c.in_ok-callers.callers; events = c.new-2.result }) c.args.controllers.now c.requires made c.in_ok-replay.ensures.opened c.new-2.ensures.items c.in_ok-callers.ensures.callers) c.go.new.self c.in_ok-ends.ensures.goes_along.leads)
 
 not_err : {T E : Type 0} (x : T) (e : E) → IsErrOf (Ok x) e → ⊥
 not_err x e is = cc
@@ -99,7 +99,7 @@ pub returns-clause-promises : goal.returns-clause-promises
 returns-clause-promises g c = λ reconcilers made sound.
     let z : Size = record { capacity = c.args.capacity; shards = c.args.shards } in
     let count = length c.args.controllers.now in
-    let shows = goes_all g.C.ControlLoop.reconciler g.C.ControlLoop.phase g.C.ControlLoop.is_waiting z reconcilers c.args.namespaces.now c.args.turns.now (record { replay = c.in_ok-replay.replay; callers = c.in_ok-callers.callers; events = c.new-2.result }) c.args.controllers.now c.go.new.controllers (start_shows g.C.ControlLoop.reconciler g.C.ControlLoop.phase g.C.ControlLoop.is_waiting z reconcilers (record { replay = c.in_ok-replay.replay; callers = c.in_ok-callers.callers; events = c.new-2.result }) c.args.controllers.now c.requires made c.in_ok-replay.ensures.opened c.new-2.ensures.items c.in_ok-callers.ensures.callers) c.go.new.self c.in_ok-ends.ensures.leads in
+    let shows = goes_all g.C.ControlLoop.reconciler g.C.ControlLoop.phase g.C.ControlLoop.is_waiting z reconcilers c.args.namespaces.now c.args.turns.now (record { replay = c.in_ok-replay.replay; callers = c.in_ok-callers.callers; events = c.new-2.result }) c.args.controllers.now c.go.new.controllers (start_shows g.C.ControlLoop.reconciler g.C.ControlLoop.phase g.C.ControlLoop.is_waiting z reconcilers (record { replay = c.in_ok-replay.replay; callers = c.in_ok-callers.callers; events = c.new-2.result }) c.args.controllers.now c.requires made c.in_ok-replay.ensures.opened c.new-2.ensures.items c.in_ok-callers.ensures.callers) c.go.new.self c.in_ok-ends.ensures.goes_along.leads in
     let run_is = c.finish.ensures z _ shows.0.0.taken in
     let some = within z.shards 64 (λ bad. not_err c.in_ok-replay.replay BadShards (c.in_ok-replay.ensures.bad_shards.1 bad)) in
     let room = within z.capacity most_revisions (λ bad. not_err c.in_ok-replay.replay BadCapacity (c.in_ok-replay.ensures.bad_capacity.1 (some.0, some.1, bad))) in

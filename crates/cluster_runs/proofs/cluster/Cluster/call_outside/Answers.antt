@@ -10,10 +10,10 @@ use Rattle.cluster_runs.proofs.cluster.Cluster.call_outside.Goals as goal
 pub returns-clause-shows : goal.returns-clause-shows
 returns-clause-shows c =
     let middle : Program = record { replay = c.args.self.now.replay; callers = c.admit.new.self; events = c.args.self.now.events } in
-    on_ok_by _ _ c.hand_quietly.result (λ hands z count k is.
+    on_ok_by _ _ c.forward_quietly.result (λ hands z count k is.
     let nobody = no_incarnation _ (sym (c.is_controllers.ensures count k is.1) ∙ c.if-is_controllers.false) in
-    outside_more z count k c.args.caller c.args.request.now c.args.self.now middle c.hand_quietly.new.self is refl refl (c.in_ok-admit.ensures.callers count k is.1 nobody) nobody
-    (subst (λ r. Hands (event.Call c.args.caller r) middle c.hand_quietly.new.self) c.in_ok-request.ensures.cases hands)) c.hand_quietly.ensures.hands
+    outside_more z count k c.args.caller c.args.request.now c.args.self.now middle c.forward_quietly.new.self is refl refl (c.in_ok-admit.ensures.callers count k is.1 nobody) nobody
+    (subst (λ r. Hands (event.Call c.args.caller r) middle c.forward_quietly.new.self) c.in_ok-request.ensures.cases hands)) c.forward_quietly.ensures.hands
 
 pub returns-clause-too_many : goal.returns-clause-too_many
 returns-clause-too_many c = λ failed z count k is.
@@ -21,4 +21,4 @@ returns-clause-too_many c = λ failed z count k is.
     let nobody = no_incarnation _ (sym (c.is_controllers.ensures count k is.1) ∙ c.if-is_controllers.false) in
     absurd (outside_few z count k c.args.caller c.in_ok-request.request c.args.self.now middle is refl refl (c.in_ok-admit.ensures.callers count k is.1 nobody)
     (subst (λ l. 4096 < callers (l ++ event.Call c.args.caller c.in_ok-request.request ∷ [])) (sym (used_same_events z count k c.args.caller c.in_ok-request.request))
-    (c.hand_quietly.ensures.too_many failed z k.events is.0.taken)))
+    (c.forward_quietly.ensures.too_many failed z k.events is.0.taken)))

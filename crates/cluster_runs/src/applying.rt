@@ -8,7 +8,7 @@ ghost use Rattle.interleavings.specs.Callers.{named_by};
 ghost use Rattle.cluster_runs.specs.declared.event.ClusterEvent.TheVariants.{Next, Outside, Step, Crash};
 ghost use Rattle.cluster_runs.specs.Cluster.{controller_at, hand_if, is_nobody, is_used, with_outside};
 ghost use Rattle.cluster_runs.specs.Faults.{IsShort};
-ghost use Rattle.cluster_runs.specs.Shown.{Becomes, Exceeds, Follows, Hands, Happens, HaveCallers, Hears, KeepsCallers, Overfills, Stay, Tells};
+ghost use Rattle.cluster_runs.specs.Shown.{Applies, Becomes, Follows, Hands, Hears, IsConsistent, Overfills, Stay, Tells};
 ghost use Rattle.cluster_runs.specs.declared.fault.ClusterFault.TheVariants.{Memory as OutOfMemory};
 
 use crate::cluster::Cluster;
@@ -20,20 +20,13 @@ use rounds::ControlLoop;
 
 impl Cluster {
     /// One event. One that is not enabled changes nothing. At a fault the controllers stand where they stood.
-    pub(crate) fn happen<C: ControlLoop>(
+    pub(crate) fn apply_event<C: ControlLoop>(
         &mut self,
         controllers: &mut [C],
         event: &ClusterEvent,
     ) -> Result<(), ClusterFault>
-        requires present { HaveCallers controllers.old self.old }
-        requires follows { Follows self.old }
-        ensures many { length controllers.new ≡ length controllers.old }
-        ensures present { KeepsCallers self.old self.new }
-        ensures follows { OnOk result (Follows self.new) }
-        ensures shows { OnOk result (Happens C.reconciler C.phase C.is_waiting event.now self.old self.new controllers.old controllers.new) }
-        ensures stays { OnErr result (Stay C.reconciler C.phase controllers.old controllers.new) }
-        ensures too_many { IsErrOf result ClusterFault.TooManyCallers → Exceeds C.reconciler C.phase C.is_waiting event.now self.old controllers.old }
-        ensures reasons { IfErr result IsShort }
+        requires { IsConsistent controllers.old self.old }
+        ensures { Applies C.reconciler C.phase C.is_waiting event.now self.old self.new controllers.old controllers.new result }
     {
         match event {
             ClusterEvent::Next(number) => {
@@ -59,23 +52,16 @@ impl Cluster {
         controllers: &mut [C],
         number: usize,
     ) -> Result<(), ClusterFault>
-        requires present { HaveCallers controllers.old self.old }
+        requires consistent { IsConsistent controllers.old self.old }
         requires there { number < length controllers.old }
-        requires follows { Follows self.old }
-        ensures many { length controllers.new ≡ length controllers.old }
-        ensures present { KeepsCallers self.old self.new }
-        ensures follows { OnOk result (Follows self.new) }
-        ensures shows { OnOk result (Happens C.reconciler C.phase C.is_waiting (Next number) self.old self.new controllers.old controllers.new) }
-        ensures stays { OnErr result (Stay C.reconciler C.phase controllers.old controllers.new) }
-        ensures too_many { IsErrOf result ClusterFault.TooManyCallers → Exceeds C.reconciler C.phase C.is_waiting (Next number) self.old controllers.old }
-        ensures reasons { IfErr result IsShort }
+        ensures { Applies C.reconciler C.phase C.is_waiting (Next number) self.old self.new controllers.old controllers.new result }
     {
         let caller = self.callers.present[number];
         if !self.replay.idle(caller) {
             return Ok(());
         }
         let request = controllers[number].next()?;
-        self.hand_quietly(Event::Call(caller, request))
+        self.forward_quietly(Event::Call(caller, request))
     }
 
     /// Somebody else calls, beside the controllers.
@@ -85,16 +71,8 @@ impl Cluster {
         caller: u64,
         request: &Request,
     ) -> Result<(), ClusterFault>
-        requires present { HaveCallers controllers.old self.old }
-        requires follows { Follows self.old }
-        ensures many { length controllers.new ≡ length controllers.old }
-        ensures present { KeepsCallers self.old self.new }
-        ensures follows { OnOk result (Follows self.new) }
-        ensures shows { OnOk result (Happens C.reconciler C.phase C.is_waiting (Outside caller request.now) self.old self.new controllers.old controllers.new) }
-        ensures stays { OnErr result (Stay C.reconciler C.phase controllers.old controllers.new) }
-        ensures too_many { IsErrOf result ClusterFault.TooManyCallers
-            → Exceeds C.reconciler C.phase C.is_waiting (Outside caller request.now) self.old controllers.old }
-        ensures reasons { IfErr result IsShort }
+        requires { IsConsistent controllers.old self.old }
+        ensures { Applies C.reconciler C.phase C.is_waiting (Outside caller request.now) self.old self.new controllers.old controllers.new result }
     {
         // For the contract alone, which speaks of the controllers; it costs nothing.
         let _ = controllers.len();
@@ -115,7 +93,7 @@ impl Cluster {
         }
         self.callers.admit(caller)?;
         let request = request.clone()?;
-        self.hand_quietly(Event::Call(caller, request))
+        self.forward_quietly(Event::Call(caller, request))
     }
 
     /// The controller forgets its round, and goes on as another caller. It does so once the other one is there, so that at a
@@ -125,20 +103,13 @@ impl Cluster {
         controllers: &mut [C],
         number: usize,
     ) -> Result<(), ClusterFault>
-        requires present { HaveCallers controllers.old self.old }
+        requires consistent { IsConsistent controllers.old self.old }
         requires there { number < length controllers.old }
-        requires follows { Follows self.old }
-        ensures many { length controllers.new ≡ length controllers.old }
-        ensures present { KeepsCallers self.old self.new }
-        ensures follows { OnOk result (Follows self.new) }
-        ensures shows { OnOk result (Happens C.reconciler C.phase C.is_waiting (Crash number) self.old self.new controllers.old controllers.new) }
-        ensures stays { OnErr result (Stay C.reconciler C.phase controllers.old controllers.new) }
-        ensures too_many { IsErrOf result ClusterFault.TooManyCallers → Exceeds C.reconciler C.phase C.is_waiting (Crash number) self.old controllers.old }
-        ensures reasons { IfErr result IsShort }
+        ensures { Applies C.reconciler C.phase C.is_waiting (Crash number) self.old self.new controllers.old controllers.new result }
     {
         let caller = self.callers.present[number];
         self.callers.renew(number)?;
-        self.hand_quietly(Event::Crash(caller))?;
+        self.forward_quietly(Event::Crash(caller))?;
         controllers[number].crash();
         Ok(())
     }
@@ -149,26 +120,19 @@ impl Cluster {
         controllers: &mut [C],
         event: &Event,
     ) -> Result<(), ClusterFault>
-        requires present { HaveCallers controllers.old self.old }
-        requires follows { Follows self.old }
-        ensures many { length controllers.new ≡ length controllers.old }
-        ensures present { KeepsCallers self.old self.new }
-        ensures follows { OnOk result (Follows self.new) }
-        ensures shows { OnOk result (Happens C.reconciler C.phase C.is_waiting (Step event.now) self.old self.new controllers.old controllers.new) }
-        ensures stays { OnErr result (Stay C.reconciler C.phase controllers.old controllers.new) }
-        ensures too_many { IsErrOf result ClusterFault.TooManyCallers → Exceeds C.reconciler C.phase C.is_waiting (Step event.now) self.old controllers.old }
-        ensures reasons { IfErr result IsShort }
+        requires { IsConsistent controllers.old self.old }
+        ensures { Applies C.reconciler C.phase C.is_waiting (Step event.now) self.old self.new controllers.old controllers.new result }
     {
         match event {
             Event::Call(_, _) => Ok(()),
-            Event::Raise => self.hand_quietly(Event::Raise),
-            Event::Check(caller) => self.go_on(*caller, Event::Check(*caller)),
-            Event::Reserve(caller) => self.go_on(*caller, Event::Reserve(*caller)),
-            Event::Publish(caller) => self.go_on(*caller, Event::Publish(*caller)),
-            Event::Read(caller) => self.go_on(*caller, Event::Read(*caller)),
-            Event::ReadAt(caller) => self.go_on(*caller, Event::ReadAt(*caller)),
-            Event::Compact(caller) => self.go_on(*caller, Event::Compact(*caller)),
-            Event::Part(caller) => self.go_on(*caller, Event::Part(*caller)),
+            Event::Raise => self.forward_quietly(Event::Raise),
+            Event::Check(caller) => self.forward_if_known(*caller, Event::Check(*caller)),
+            Event::Reserve(caller) => self.forward_if_known(*caller, Event::Reserve(*caller)),
+            Event::Publish(caller) => self.forward_if_known(*caller, Event::Publish(*caller)),
+            Event::Read(caller) => self.forward_if_known(*caller, Event::Read(*caller)),
+            Event::ReadAt(caller) => self.forward_if_known(*caller, Event::ReadAt(*caller)),
+            Event::Compact(caller) => self.forward_if_known(*caller, Event::Compact(*caller)),
+            Event::Part(caller) => self.forward_if_known(*caller, Event::Part(*caller)),
             Event::Reply(caller) => self.reply(controllers, *caller),
             Event::Crash(caller) => self.crash_outside(*caller),
         }
@@ -180,18 +144,10 @@ impl Cluster {
         controllers: &mut [C],
         caller: u64,
     ) -> Result<(), ClusterFault>
-        requires present { HaveCallers controllers.old self.old }
-        requires follows { Follows self.old }
-        ensures many { length controllers.new ≡ length controllers.old }
-        ensures present { KeepsCallers self.old self.new }
-        ensures follows { OnOk result (Follows self.new) }
-        ensures shows { OnOk result (Happens C.reconciler C.phase C.is_waiting (Step (event.Reply caller)) self.old self.new controllers.old controllers.new) }
-        ensures stays { OnErr result (Stay C.reconciler C.phase controllers.old controllers.new) }
-        ensures too_many { IsErrOf result ClusterFault.TooManyCallers
-            → Exceeds C.reconciler C.phase C.is_waiting (Step (event.Reply caller)) self.old controllers.old }
-        ensures reasons { IfErr result IsShort }
+        requires { IsConsistent controllers.old self.old }
+        ensures { Applies C.reconciler C.phase C.is_waiting (Step (event.Reply caller)) self.old self.new controllers.old controllers.new result }
     {
-        match self.tell(controllers, caller) {
+        match self.deliver_reply(controllers, caller) {
             Ok(delivered) => {
                 drop(delivered);
                 Ok(())
@@ -201,33 +157,24 @@ impl Cluster {
     }
 
     /// The same, and the reply that it got.
-    pub(crate) fn tell<C: ControlLoop>(
+    pub(crate) fn deliver_reply<C: ControlLoop>(
         &mut self,
         controllers: &mut [C],
         caller: u64,
     ) -> Result<Option<Reply>, ClusterFault>
-        requires present { HaveCallers controllers.old self.old }
-        requires follows { Follows self.old }
-        ensures many { length controllers.new ≡ length controllers.old }
-        ensures present { KeepsCallers self.old self.new }
-        ensures follows { OnOk result (Follows self.new) }
-        ensures shows { OnOk result (Happens C.reconciler C.phase C.is_waiting (Step (event.Reply caller)) self.old self.new controllers.old controllers.new) }
+        requires { IsConsistent controllers.old self.old }
+        ensures applies { Applies C.reconciler C.phase C.is_waiting (Step (event.Reply caller)) self.old self.new controllers.old controllers.new result }
         ensures delivered { IfOk result (λ delivered. Tells C.reconciler C.phase C.is_waiting caller delivered self.old controllers.old) }
-        ensures stays { OnErr result (Stay C.reconciler C.phase controllers.old controllers.new) }
-        ensures too_many { IsErrOf result ClusterFault.TooManyCallers
-            → Exceeds C.reconciler C.phase C.is_waiting (Step (event.Reply caller)) self.old controllers.old }
-        ensures reasons { IfErr result IsShort }
     {
         if !self.callers.is_used(caller) {
             return Ok(None);
         }
         let controller = self.callers.controller_at(caller);
-        let delivered = self.hand(Event::Reply(caller))?;
-        let heard = hear(controllers, controller, &delivered);
+        let delivered = self.forward(Event::Reply(caller))?;
+        let heard = on_reply(controllers, controller, &delivered);
         match heard {
             Ok(()) => Ok(delivered),
             Err(fault) => {
-                // Let go by name, which is proved once for the type and not at each way out.
                 drop(delivered);
                 Err(fault)
             }
@@ -235,7 +182,7 @@ impl Cluster {
     }
 
     /// A caller that was used goes on.
-    fn go_on(&mut self, caller: u64, event: Event) -> Result<(), ClusterFault>
+    fn forward_if_known(&mut self, caller: u64, event: Event) -> Result<(), ClusterFault>
         requires named { named_by event ≡ Some caller }
         requires follows { Follows self.old }
         ensures present { self.new.callers ≡ self.old.callers }
@@ -245,9 +192,8 @@ impl Cluster {
         ensures reasons { IfErr result IsShort }
     {
         if self.callers.is_used(caller) {
-            return self.hand_quietly(event);
+            return self.forward_quietly(event);
         }
-        // Let go by name, which is proved once for the type and not at each way out.
         drop(event);
         Ok(())
     }
@@ -265,11 +211,11 @@ impl Cluster {
         if self.callers.controller_at(caller).is_some() {
             return Ok(());
         }
-        self.go_on(caller, Event::Crash(caller))
+        self.forward_if_known(caller, Event::Crash(caller))
     }
 
     /// Hands on an event that gives no reply.
-    fn hand_quietly(&mut self, event: Event) -> Result<(), ClusterFault>
+    fn forward_quietly(&mut self, event: Event) -> Result<(), ClusterFault>
         requires { Follows self.old }
         ensures callers { self.new.callers ≡ self.old.callers }
         ensures follows { OnOk result (Follows self.new) }
@@ -278,12 +224,12 @@ impl Cluster {
             → IsAfter size events self.old.replay → 4096 < callers (events ++ event ∷ []) }
         ensures reasons { IfErr result IsShort }
     {
-        drop(self.hand(event)?);
+        drop(self.forward(event)?);
         Ok(())
     }
 
     /// Hands an event on to the store, and gives the reply that it gives.
-    fn hand(&mut self, event: Event) -> Result<Option<Reply>, ClusterFault>
+    fn forward(&mut self, event: Event) -> Result<Option<Reply>, ClusterFault>
         requires { Follows self.old }
         ensures callers { self.new.callers ≡ self.old.callers }
         ensures follows { OnOk result (Follows self.new) }
@@ -295,7 +241,6 @@ impl Cluster {
         ensures reasons { IfErr result IsShort }
     {
         if self.events.reserve(1).is_err() {
-            // Let go by name, which is proved once for the type and not at each way out.
             drop(event);
             return Err(ClusterFault::Memory);
         }
@@ -313,7 +258,7 @@ impl Cluster {
 }
 
 /// The controller of the number takes the reply.
-fn hear<C: ControlLoop>(
+fn on_reply<C: ControlLoop>(
     controllers: &mut [C],
     number: Option<usize>,
     delivered: &Option<Reply>,

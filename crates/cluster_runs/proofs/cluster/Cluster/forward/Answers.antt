@@ -1,7 +1,7 @@
 use Rattle.std.proofs.Common.{◌++◌, ◌∷◌, [], ◌∙◌, ap, arith, subst, sym}
 use Rattle.history.specs.After.{IsAfter, taken}
 use Rattle.cluster_runs.specs.Shown.{HasTaken}
-use Rattle.cluster_runs.proofs.cluster.Cluster.hand.Goals as goal
+use Rattle.cluster_runs.proofs.cluster.Cluster.forward.Goals as goal
 
 pub step-requires : goal.step-requires
 unfolding HasTaken IsAfter taken

@@ -3,7 +3,7 @@ use Rattle.std.specs.Prelude.{IfSome, slice_index_or, slice_set}
 use Rattle.rounds.proofs.Showing.{get_at}
 use Rattle.cluster_runs.specs.Shown.{Hears}
 use Rattle.cluster_runs.proofs.Showing.{at_err, stay_at}
-use Rattle.cluster_runs.proofs.happening.hear.Goals as goal
+use Rattle.cluster_runs.proofs.applying.on_reply.Goals as goal
 
 pub returns-in_err-take-clause-stays : goal.returns-in_err-take-clause-stays
 returns-in_err-take-clause-stays g c =
