@@ -2,7 +2,7 @@
 use Rattle.std.proofs.Common.{◌≡◌, ℕ, List, [], Option, Some, None, refl}
 use Rattle.std.specs.Option.{IfSome}
 use Rattle.sets.specs.declared.action.Plan.{Plan}
-use Rattle.commands.specs.declared.words.PlanWords.{PlanWords}
+use Rattle.commands.specs.declared.args.PlanWords.{PlanWords}
 use Rattle.commands.specs.Forms.{WritesBy}
 use Rattle.commands.specs.Planning.{IsPlanOf, IsPlanText, actions_of}
 

@@ -18,8 +18,8 @@ use Rattle.plain.proofs.Flows.{PutsPart-none, Takes-none}
 use Rattle.commands.specs.Asked.{IsAsked, IsFinding, IsOther, IsRaceBy, IsScriptBy, IsScripted, IsServing, IsSoughtBy}
 use Rattle.commands.specs.Serving.{ServesSome}
 use Rattle.commands.specs.declared.race_words.RaceWords.{RaceWords}
-use Rattle.commands.specs.declared.words.Asked.{Asked}
-use Rattle.commands.specs.declared.words.Asked.TheVariants as say
+use Rattle.commands.specs.declared.args.Asked.{Asked}
+use Rattle.commands.specs.declared.args.Asked.TheVariants as say
 use Rattle.commands.specs.Forms.{IsFlagBy}
 use Rattle.commands.specs.Grammar.{IsCapacityBy, IsChoiceBy, IsNumberBy, Plan, asked, capacity_text, digits_text, faults_of, flag_text, is_under, outcomes_text, plan_text, race_text, rows_under, stsctl_app, word_by, word_of}
 

@@ -1,11 +1,11 @@
 -- What the words ask for.
 use Rattle.std.specs.Prelude.{◌≡◌, ◌≤◌, List, [], Option, true, false, codes, unwrap_or}
 use Rattle.clap.specs.Words.{Row, Text, one_of}
-use Rattle.commands.specs.declared.words.Asked.{Asked}
-use Rattle.commands.specs.declared.words.Asked.TheVariants as say
-use Rattle.commands.specs.declared.words.PlanWords.{PlanWords}
-use Rattle.commands.specs.declared.words.ScriptWords.{ScriptWords}
-use Rattle.commands.specs.declared.words.OutcomesWords.{OutcomesWords}
+use Rattle.commands.specs.declared.args.Asked.{Asked}
+use Rattle.commands.specs.declared.args.Asked.TheVariants as say
+use Rattle.commands.specs.declared.args.PlanWords.{PlanWords}
+use Rattle.commands.specs.declared.args.ScriptWords.{ScriptWords}
+use Rattle.commands.specs.declared.args.OutcomesWords.{OutcomesWords}
 use Rattle.commands.specs.declared.race_words.RaceWords.{RaceWords}
 use Rattle.commands.specs.Forms.{IsFlagBy, IsFormBy}
 use Rattle.commands.specs.Grammar.{AsksFor, Cluster, IsCapacityBy, IsChoiceBy, IsDigitsBy, IsNumberBy, Outcomes, Plan, Race, Replay, Serve, asked, digits_text, flag_text, is_under, outcomes_text, plan_text, race_text, rows_under}

@@ -16,7 +16,7 @@ use Rattle.clap.specs.Words.{Text}
 use Rattle.pictures.specs.Picture.{picture_text}
 use Rattle.pictures.specs.declared.shown.Shown.{Shown}
 use Rattle.refused_plans.specs.RefusedPlans.{refused_plans}
-use Rattle.refused_plans.specs.Words.{line_at}
+use Rattle.refused_plans.specs.Labels.{line_at}
 use Rattle.refused_plans.specs.declared.refused_plan.RefusedPlan.{RefusedPlan}
 use Rattle.stories.specs.Story.{story_text}
 use Rattle.traces.specs.Traced.{trace_by_lines_text}

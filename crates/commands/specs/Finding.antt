@@ -21,7 +21,7 @@ use Rattle.commands.specs.Forms.{WritesBy}
 use Rattle.commands.specs.Asked.{IsSoughtBy}
 use Rattle.commands.specs.Ending.{IsBadCapacity, IsStoresRefusal, IsStoresText}
 use Rattle.commands.specs.Grammar.{outcomes_text}
-use Rattle.commands.specs.declared.words.OutcomesWords.{OutcomesWords}
+use Rattle.commands.specs.declared.args.OutcomesWords.{OutcomesWords}
 
 -- what callers are told in each
 abbrev pub told_in : List Outcome → List (List (Option Reply))

@@ -19,7 +19,7 @@ use Rattle.plan_lines.specs.Formats.{actions_text}
 use Rattle.plan_lines.specs.Objects.{Lists, is_named, nothing, read_from}
 use Rattle.plan_lines.specs.RefusedLines.{refused_line_of}
 use Rattle.plan_lines.specs.Refusals.{plan_error_name}
-use Rattle.commands.specs.declared.words.PlanWords.{PlanWords}
+use Rattle.commands.specs.declared.args.PlanWords.{PlanWords}
 use Rattle.commands.specs.Halts.{refused_as, told_line}
 use Rattle.commands.specs.Asked.{IsPlanAsked}
 use Rattle.commands.specs.Forms.{WritesBy}

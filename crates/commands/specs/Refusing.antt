@@ -1,8 +1,8 @@
 -- What a run of the program reports of an input that is refused.
 use Rattle.std.specs.Prelude.{◌≡◌, ℕ, Bool, List, Option, codes}
 use Rattle.clap.specs.Words.{Text}
-use Rattle.commands.specs.declared.words.PlanWords.{PlanWords}
-use Rattle.commands.specs.declared.words.OutcomesWords.{OutcomesWords}
+use Rattle.commands.specs.declared.args.PlanWords.{PlanWords}
+use Rattle.commands.specs.declared.args.OutcomesWords.{OutcomesWords}
 use Rattle.commands.specs.Asked.{IsPlanAsked, IsSoughtBy}
 use Rattle.commands.specs.Forms.{IsFlagBy}
 use Rattle.commands.specs.Finding.{IsOutcomesRefusedBy}

@@ -4,8 +4,8 @@ ghost use Rattle.plain.specs.Streams.{Puts, PutsPart};
 ghost use Rattle.commands.specs.Forms.{WritesBy};
 ghost use Rattle.commands.specs.Halts.{CountsReads, IsRefusedIn, Tells, is_read, name_of};
 
-use crate::halt::{Halt, halted};
-use crate::status::{BAD_WORDS, FAILURE, Heap, REFUSED, SUCCESS, shown};
+use crate::halt::{Halt, report_halt};
+use crate::status::{BAD_WORDS, FAILURE, REFUSED, SUCCESS, TrackedAlloc, write_text};
 use plain::{Sink, Source, read_all};
 use std::alloc::Global;
 
@@ -23,8 +23,8 @@ pub(crate) trait Answer {
 }
 
 /// Writes what the word makes of all that the reader has.
-pub(crate) fn answered<A: Answer, R: Source, W: Sink, F: Sink>(
-    heap: &mut Heap,
+pub(crate) fn run_word<A: Answer, R: Source, W: Sink, F: Sink>(
+    heap: &mut TrackedAlloc,
     word: &A,
     reader: &mut R,
     writer: &mut W,
@@ -47,8 +47,8 @@ pub(crate) fn answered<A: Answer, R: Source, W: Sink, F: Sink>(
     ensures silent { result ≡ REFUSED → writer.new ≡ writer.old }
 {
     match answer_to_all(heap.alloc, word, reader) {
-        Ok(text) => shown(writer, text.as_slice()),
-        Err(halt) => halted(heap, halt, faults),
+        Ok(text) => write_text(writer, text.as_slice()),
+        Err(halt) => report_halt(heap, halt, faults),
     }
 }
 

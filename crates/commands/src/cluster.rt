@@ -7,10 +7,10 @@ ghost use Rattle.replay_lines.specs.Events.{Fails};
 ghost use Rattle.cluster_scripts.specs.Refusals.{refused_line_of};
 
 use crate::answering::Answer;
+use crate::args::ScriptWords;
 use crate::cluster_roles::ClusterRoles;
 use crate::form::Form;
 use crate::halt::{Halt, halt_at};
-use crate::words::ScriptWords;
 use cluster_scripts::{ClusterScript, cluster_text, read_cluster_script, refused_cluster_line};
 use controllers::{ClusterSpec, TurnsRun, run_turns};
 use objects::Memory;
@@ -98,7 +98,6 @@ fn cluster_of_script(alloc: Global, script: &ClusterScript) -> Result<Vec<u8>, H
 {
     let found = run_turns(alloc, &script.spec, script.turns.as_slice())?;
     let text = cluster_text(alloc, &found.run);
-    // Let go by name, which is proved once for the type and not at each way out.
     drop(found);
     Ok(text?)
 }
@@ -115,7 +114,6 @@ fn story_of_cluster(alloc: Global, script: &ClusterScript) -> Result<Vec<u8>, Ha
         sets: script.spec.sets.as_slice(),
     };
     let text = story(alloc, found.run.run.trace.items.as_slice(), &roles);
-    // Let go by name, which is proved once for the type and not at each way out.
     drop(found);
     Ok(text?)
 }
@@ -140,7 +138,6 @@ fn picture_of_cluster(alloc: Global, shown: Shown, script: &ClusterScript) -> Re
         &roles,
         shown,
     );
-    // Let go by name, which is proved once for the type and not at each way out.
     drop(found);
     match text {
         Ok(text) => Ok(text),
@@ -160,7 +157,6 @@ fn trace_of_cluster(alloc: Global, script: &ClusterScript) -> Result<Vec<u8>, Ha
 {
     let found = run_turns(alloc, &script.spec, script.turns.as_slice())?;
     let text = trace_of_run(alloc, &script.spec, &found);
-    // Let go by name, which is proved once for the type and not at each way out.
     drop(found);
     text
 }

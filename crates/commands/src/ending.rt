@@ -22,7 +22,6 @@ pub(crate) fn stores_of_lines(
 {
     let race = read_race(alloc, input)?;
     let text = stores_of(alloc, choice, brief, &race);
-    // It goes by `drop`: that is proved once for a type, not for each part.
     drop(race);
     text
 }

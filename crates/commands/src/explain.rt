@@ -3,7 +3,7 @@ ghost use Rattle.std.specs.Prelude.{◌≡◌, ◌≢◌, ◌≤◌, ◌<◌, �
 ghost use Rattle.clap.specs.Words.{kind_of};
 ghost use Rattle.commands.specs.Grammar.{is_mistake, is_request};
 
-use crate::status::{BAD_WORDS, FAILURE, Heap, SUCCESS, report_bad_words, shown};
+use crate::status::{BAD_WORDS, FAILURE, SUCCESS, TrackedAlloc, report_bad_words, write_text};
 use clap::Error;
 use clap::error::ErrorKind;
 use plain::Sink;
@@ -32,8 +32,8 @@ fn tip(kind: ErrorKind) -> &'static str {
 }
 
 /// Says why nothing is done: help and the version on `writer`, a mistake in the words on `faults`.
-pub(crate) fn explained<W: Sink, F: Sink>(
-    heap: &mut Heap,
+pub(crate) fn explain<W: Sink, F: Sink>(
+    heap: &mut TrackedAlloc,
     error: &Error,
     writer: &mut W,
     faults: &mut F,
@@ -51,7 +51,7 @@ pub(crate) fn explained<W: Sink, F: Sink>(
     let kind = error.kind();
     let tip = tip(kind);
     match format!(in heap.alloc; "{error}{tip}") {
-        Ok(text) if is_request(kind) => shown(writer, text.as_bytes()),
+        Ok(text) if is_request(kind) => write_text(writer, text.as_bytes()),
         Ok(text) if is_mistake(kind) => report_bad_words(faults, text.as_bytes()),
         _ => {
             heap.refused = true;

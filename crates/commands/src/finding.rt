@@ -5,9 +5,9 @@ ghost use Rattle.commands.specs.Finding.{AreOutcomes, IsChosenBy, IsChosenText, 
 ghost use Rattle.commands.specs.Halts.{is_read, name_of};
 
 use crate::answering::Answer;
+use crate::args::OutcomesWords;
 use crate::ending::stores_of_lines;
 use crate::halt::Halt;
-use crate::words::OutcomesWords;
 use outcome_lines::{outcomes_brief_text, outcomes_text, read_litmus, script_text};
 use outcomes::{Litmus, Outcome, outcomes};
 use std::alloc::Global;

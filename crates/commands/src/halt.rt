@@ -6,7 +6,9 @@ ghost use Rattle.commands.specs.Halts.{IsNamed, Tells, halt_of, is_read, name_of
 ghost use Rattle.commands.specs.Planning.{plan_refusal, read_refusal};
 ghost use Rattle.commands.specs.Replaying.{run_refusal, script_refusal};
 
-use crate::status::{BAD_WORDS, FAILURE, Heap, REFUSED, SUCCESS, refused, refused_at};
+use crate::status::{
+    BAD_WORDS, FAILURE, REFUSED, SUCCESS, TrackedAlloc, write_refusal, write_refusal_at,
+};
 use controllers::ClusterFault;
 use history::ReplayError;
 use objects::{Memory, ReadError};
@@ -152,7 +154,7 @@ pub(crate) fn halt_at(name: &'static str, line: Option<u64>) -> Halt
 }
 
 /// The exit status of a run that has no output. A refusal goes to `faults`.
-pub(crate) fn halted<F: Sink>(heap: &mut Heap, halt: Halt, faults: &mut F) -> u8
+pub(crate) fn report_halt<F: Sink>(heap: &mut TrackedAlloc, halt: Halt, faults: &mut F) -> u8
     ensures status { (result < BAD_WORDS) ⊎ (result ≡ REFUSED) }
     ensures failed { result ≢ SUCCESS }
     ensures named { result ≡ REFUSED → IsNamed (name_of halt)
@@ -168,7 +170,7 @@ pub(crate) fn halted<F: Sink>(heap: &mut Heap, halt: Halt, faults: &mut F) -> u8
             heap.refused = true;
             FAILURE
         }
-        Halt::Refused(name) => refused(faults, name),
-        Halt::RefusedAt(name, line) => refused_at(faults, name, line),
+        Halt::Refused(name) => write_refusal(faults, name),
+        Halt::RefusedAt(name, line) => write_refusal_at(faults, name, line),
     }
 }

@@ -3,6 +3,7 @@
 #![tactic(auto)]
 
 mod answering;
+mod args;
 mod cluster;
 mod cluster_roles;
 mod ending;
@@ -20,7 +21,6 @@ mod race_words;
 mod replay;
 mod serve;
 mod status;
-mod words;
 
 pub use program::command;
-pub use status::Heap;
+pub use status::TrackedAlloc;

@@ -11,9 +11,9 @@ ghost use Rattle.plain.specs.Lines.{lines};
 ghost use Rattle.plan_lines.specs.RefusedLines.{refused_line_of};
 ghost use Rattle.commands.specs.Planning.{IsInputRefusal, IsPlanOf, IsPlanOfSetRefused, IsPlanOver, IsPlanRefusal, IsPlanRefusedBy, IsPlanText, IsRefusedOver, actions_of, format_by};
 
-use crate::halt::{Halt, halt_at, halted};
-use crate::status::{BAD_WORDS, FAILURE, Heap, REFUSED, SUCCESS};
-use crate::words::PlanWords;
+use crate::args::PlanWords;
+use crate::halt::{Halt, halt_at, report_halt};
+use crate::status::{BAD_WORDS, FAILURE, REFUSED, SUCCESS, TrackedAlloc};
 use objects::{Memory, ReadError};
 use plain::{RequestError, Sink, Source, read_all};
 use plan_lines::{
@@ -23,8 +23,8 @@ use sets::{Plan, Set, read_set};
 use std::alloc::Global;
 
 /// Plans the set that is asked for, given the objects that the reader has, and writes the actions.
-pub(crate) fn planned<R: Source, W: Sink, F: Sink>(
-    heap: &mut Heap,
+pub(crate) fn run_plan<R: Source, W: Sink, F: Sink>(
+    heap: &mut TrackedAlloc,
     asked: &PlanWords<'_>,
     reader: &mut R,
     writer: &mut W,
@@ -49,13 +49,18 @@ pub(crate) fn planned<R: Source, W: Sink, F: Sink>(
     ensures silent { result ≡ REFUSED → writer.new ≡ writer.old }
 {
     match plan_of_input(heap.alloc, asked, reader) {
-        Ok(plan) => printed(heap, asked, &plan, writer),
-        Err(halt) => halted(heap, halt, faults),
+        Ok(plan) => write_plan(heap, asked, &plan, writer),
+        Err(halt) => report_halt(heap, halt, faults),
     }
 }
 
 /// Writes the actions of the plan.
-fn printed<W: Sink>(heap: &mut Heap, asked: &PlanWords<'_>, plan: &Plan, writer: &mut W) -> u8
+fn write_plan<W: Sink>(
+    heap: &mut TrackedAlloc,
+    asked: &PlanWords<'_>,
+    plan: &Plan,
+    writer: &mut W,
+) -> u8
     ensures status { result < BAD_WORDS }
     ensures all { result ≡ SUCCESS → Puts (W.written writer.old) (actions_of asked.now plan.now) (W.written writer.new) }
     ensures part { PutsPart (W.written writer.old) (actions_of asked.now plan.now) (W.written writer.new) }

@@ -12,16 +12,16 @@ ghost use Rattle.commands.specs.Refusing.{Refuses};
 ghost use Rattle.commands.specs.Replaying.{Replays};
 ghost use Rattle.commands.specs.Serving.{AsksOutOfRange, Serves, ServesSome};
 
-use crate::answering::answered;
+use crate::answering::run_word;
+use crate::args::{Asked, read_words};
 use crate::cluster::Clustering;
-use crate::explain::explained;
+use crate::explain::explain;
 use crate::finding::Finding;
-use crate::plan::planned;
-use crate::race::raced;
+use crate::plan::run_plan;
+use crate::race::run_race;
 use crate::replay::Replaying;
-use crate::serve::served;
-use crate::status::{BAD_WORDS, FAILURE, Heap, REFUSED, SUCCESS};
-use crate::words::{Asked, read_words};
+use crate::serve::run_serve;
+use crate::status::{BAD_WORDS, FAILURE, REFUSED, SUCCESS, TrackedAlloc};
 use plain::{Sink, Source};
 use std::convert::AsStr;
 use std::sync::Wait;
@@ -34,7 +34,7 @@ use std::thread::Threads;
 /// the report of a race, which `writer` has then, is not legal. Only a race starts threads and waits.
 pub fn command<T: Threads + Wait + Sync, S: AsStr, R: Source, W: Sink, F: Sink>(
     rt: &T,
-    heap: &mut Heap,
+    heap: &mut TrackedAlloc,
     words: &[S],
     reader: &mut R,
     writer: &mut W,
@@ -121,16 +121,16 @@ pub fn command<T: Threads + Wait + Sync, S: AsStr, R: Source, W: Sink, F: Sink>(
         → heap.new.refused ≡ heap.old.refused }
 {
     match read_words(heap.alloc, words) {
-        Ok(Asked::Serve(capacity)) => served(heap, reader, writer, capacity),
-        Ok(Asked::Replay(asked)) => { answered(heap, &Replaying { asked }, reader, writer, faults) }
+        Ok(Asked::Serve(capacity)) => run_serve(heap, reader, writer, capacity),
+        Ok(Asked::Replay(asked)) => { run_word(heap, &Replaying { asked }, reader, writer, faults) }
         Ok(Asked::Cluster(asked)) => {
-            answered(heap, &Clustering { asked }, reader, writer, faults)
+            run_word(heap, &Clustering { asked }, reader, writer, faults)
         }
-        Ok(Asked::Plan(plan)) => planned(heap, &plan, reader, writer, faults),
-        Ok(Asked::Race(race)) => raced(rt, heap, &race, writer),
+        Ok(Asked::Plan(plan)) => run_plan(heap, &plan, reader, writer, faults),
+        Ok(Asked::Race(race)) => run_race(rt, heap, &race, writer),
         Ok(Asked::Outcomes(sought)) => {
-            answered(heap, &Finding { sought }, reader, writer, faults)
+            run_word(heap, &Finding { sought }, reader, writer, faults)
         }
-        Err(error) => explained(heap, &error, writer, faults),
+        Err(error) => explain(heap, &error, writer, faults),
     }
 }

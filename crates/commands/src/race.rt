@@ -6,7 +6,7 @@ ghost use Rattle.plan_lines.specs.Output.{CountsWrites};
 ghost use Rattle.commands.specs.Racing.{Reports, ReportsPart, history_shown, race_shown};
 
 use crate::race_words::RaceWords;
-use crate::status::{BAD_WORDS, FAILURE, Heap, REFUSED, SUCCESS};
+use crate::status::{BAD_WORDS, FAILURE, REFUSED, SUCCESS, TrackedAlloc};
 use plain::{Sink, write_all};
 use plan_lines::OutputFault;
 use race_lines::write_history;
@@ -19,9 +19,9 @@ use store::NoGate;
 
 /// Lets controllers race over the running store, and writes the line of the report, behind the history where that is asked
 /// for.
-pub(crate) fn raced<T: Threads + Wait + Sync, W: Sink>(
+pub(crate) fn run_race<T: Threads + Wait + Sync, W: Sink>(
     rt: &T,
-    heap: &mut Heap,
+    heap: &mut TrackedAlloc,
     asked: &RaceWords,
     writer: &mut W,
 ) -> u8
@@ -35,7 +35,7 @@ pub(crate) fn raced<T: Threads + Wait + Sync, W: Sink>(
     ensures spared { W.failures writer.old < W.failures writer.new → heap.new.refused ≡ heap.old.refused }
 {
     match race_history(rt, heap.alloc, &asked.spec, &NoGate) {
-        Ok(history) => reported(heap, asked, &history, writer),
+        Ok(history) => write_report(heap, asked, &history, writer),
         Err(RaceFault::Memory) => {
             heap.refused = true;
             FAILURE
@@ -46,8 +46,8 @@ pub(crate) fn raced<T: Threads + Wait + Sync, W: Sink>(
 }
 
 /// Writes what is asked for of the race. A report that is not legal is written like any other.
-fn reported<W: Sink>(
-    heap: &mut Heap,
+fn write_report<W: Sink>(
+    heap: &mut TrackedAlloc,
     asked: &RaceWords,
     history: &RaceHistory,
     writer: &mut W,

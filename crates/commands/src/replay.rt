@@ -10,12 +10,12 @@ ghost use Rattle.traces.specs.Traced.{trace_text};
 ghost use Rattle.commands.specs.Replaying.{IsReplayRefusal, IsReplayText, IsRunRefusal, IsRunText, IsShownText, IsStoryText};
 
 use crate::answering::Answer;
+use crate::args::ScriptWords;
 use crate::form::Form;
 use crate::halt::{Halt, halt_at};
-use crate::words::ScriptWords;
 use history::replay;
 use objects::Memory;
-use pictures::{Callers, Shown, picture};
+use pictures::{NoRoles, Shown, picture};
 use replay_lines::{Script, ScriptError, read_script, refused_line, run_text};
 use std::alloc::Global;
 use stories::story;
@@ -98,7 +98,6 @@ fn lines_of_script(alloc: Global, script: &Script) -> Result<Vec<u8>, Halt>
     let shards = script.shards as usize;
     let run = replay(alloc, shards, script.capacity, script.events.as_slice())?;
     let text = run_text(alloc, &run);
-    // Let go by name, which is proved once for the type and not at each way out.
     drop(run);
     Ok(text?)
 }
@@ -111,8 +110,7 @@ fn story_of_script(alloc: Global, script: &Script) -> Result<Vec<u8>, Halt>
 {
     let shards = script.shards as usize;
     let run = replay(alloc, shards, script.capacity, script.events.as_slice())?;
-    let text = story(alloc, run.trace.items.as_slice(), &Callers);
-    // Let go by name, which is proved once for the type and not at each way out.
+    let text = story(alloc, run.trace.items.as_slice(), &NoRoles);
     drop(run);
     Ok(text?)
 }
@@ -125,7 +123,7 @@ fn picture_of_script(alloc: Global, shown: Shown, script: &Script) -> Result<Vec
 {
     let shards = script.shards as usize;
     let events = script.events.as_slice();
-    Ok(picture(alloc, shards, script.capacity, events, &Callers, shown)?)
+    Ok(picture(alloc, shards, script.capacity, events, &NoRoles, shown)?)
 }
 
 /// The trace of the run of a script.
@@ -136,5 +134,5 @@ fn trace_of_script(alloc: Global, script: &Script) -> Result<Vec<u8>, Halt>
 {
     let shards = script.shards as usize;
     let events = script.events.as_slice();
-    Ok(trace_lines(alloc, shards, script.capacity, events, &Callers)?)
+    Ok(trace_lines(alloc, shards, script.capacity, events, &NoRoles)?)
 }

@@ -4,12 +4,12 @@ ghost use Rattle.plain.specs.Streams.{ServesPart};
 ghost use Rattle.plain.specs.Served.{served, served_so_far};
 ghost use Rattle.commands.specs.Serving.{IsOutOfRange, ServesAll};
 
-use crate::status::{BAD_WORDS, FAILURE, Heap, SUCCESS};
+use crate::status::{BAD_WORDS, FAILURE, SUCCESS, TrackedAlloc};
 use plain::{MAX_REVISIONS, ServeFault, Sink, Source};
 
 /// Serves the lines of the reader.
-pub(crate) fn served<R: Source, W: Sink>(
-    heap: &mut Heap,
+pub(crate) fn run_serve<R: Source, W: Sink>(
+    heap: &mut TrackedAlloc,
     reader: &mut R,
     writer: &mut W,
     capacity: u64,

@@ -21,17 +21,17 @@ pub(crate) const REFUSED: u8 = 3;
 /// What a run allocates from, and whether it was refused an allocation. The second tells an exit status of 1 for want of
 /// memory from one that nothing called for. It is for the clauses of `command`, and for who runs it.
 #[derive(Drop)]
-pub struct Heap {
+pub struct TrackedAlloc {
     pub(crate) alloc: Global,
     pub refused: bool,
 }
 
-impl Heap {
+impl TrackedAlloc {
     /// What allocates from there, and was refused nothing yet.
-    pub fn new(alloc: Global) -> Heap
+    pub fn new(alloc: Global) -> TrackedAlloc
         ensures { result.refused ≡ false }
     {
-        Heap {
+        TrackedAlloc {
             alloc,
             refused: false,
         }
@@ -39,7 +39,7 @@ impl Heap {
 }
 
 /// Writes the text that was asked for.
-pub(crate) fn shown<W: Sink>(writer: &mut W, text: &[u8]) -> u8
+pub(crate) fn write_text<W: Sink>(writer: &mut W, text: &[u8]) -> u8
     ensures status { result < BAD_WORDS }
     ensures all { result ≡ SUCCESS → Puts (W.written writer.old) text.now (W.written writer.new) }
     ensures part { PutsPart (W.written writer.old) text.now (W.written writer.new) }
@@ -62,7 +62,7 @@ pub(crate) fn report_bad_words<F: Sink>(faults: &mut F, text: &[u8]) -> u8
 
 /// Writes by which name the input is refused, as `refused: NAME` and a line end. The status already says that it is
 /// refused, so nothing is lost where this fails.
-pub(crate) fn refused<F: Sink>(faults: &mut F, name: &str) -> u8
+pub(crate) fn write_refusal<F: Sink>(faults: &mut F, name: &str) -> u8
     ensures status { result ≡ REFUSED }
     ensures all { Tells name.now (F.written faults.old) (F.written faults.new) (F.failures faults.old) (F.failures faults.new) }
 {
@@ -71,7 +71,7 @@ pub(crate) fn refused<F: Sink>(faults: &mut F, name: &str) -> u8
 }
 
 /// The same of an input that is refused for a line, with `line N` and a line end behind it.
-pub(crate) fn refused_at<F: Sink>(faults: &mut F, name: &str, line: u64) -> u8
+pub(crate) fn write_refusal_at<F: Sink>(faults: &mut F, name: &str, line: u64) -> u8
     ensures status { result ≡ REFUSED }
     ensures all { Tells (refused_as (Some line) name.now) (F.written faults.old) (F.written faults.new) (F.failures faults.old) (F.failures faults.new) }
 {

@@ -1,5 +1,5 @@
 //! Runs of the program over devices in memory, of which one fails.
-use commands::{Heap, command};
+use commands::{TrackedAlloc, command};
 use plain::{ReadSource, WriteSink};
 use std::alloc::Global;
 use std::io;
@@ -44,7 +44,7 @@ pub(crate) fn breaks<H: Threads + Wait + Sync>(
 ) -> bool {
     let mut written = Vec::new(alloc);
     let mut faults = Vec::new(alloc);
-    let mut heap = Heap::new(alloc);
+    let mut heap = TrackedAlloc::new(alloc);
     let status = command(
         rt,
         &mut heap,
@@ -64,7 +64,7 @@ pub(crate) fn needs_its_output<H: Threads + Wait + Sync>(
     input: &str,
 ) -> bool {
     let mut faults = Vec::new(alloc);
-    let mut heap = Heap::new(alloc);
+    let mut heap = TrackedAlloc::new(alloc);
     let status = command(
         rt,
         &mut heap,
@@ -85,7 +85,7 @@ pub(crate) fn needs_no_reason<H: Threads + Wait + Sync>(
     expected: u8,
 ) -> bool {
     let mut written = Vec::new(alloc);
-    let mut heap = Heap::new(alloc);
+    let mut heap = TrackedAlloc::new(alloc);
     let status = command(
         rt,
         &mut heap,
@@ -108,7 +108,7 @@ pub(crate) fn fills_up<H: Threads + Wait + Sync>(
     let mut room = [0u8; 32];
     let size = beginning.len().min(32);
     let mut faults = Vec::new(alloc);
-    let mut heap = Heap::new(alloc);
+    let mut heap = TrackedAlloc::new(alloc);
     let status = command(
         rt,
         &mut heap,

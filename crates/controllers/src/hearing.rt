@@ -1,5 +1,4 @@
 // Where a reply takes a controller.
-// Values are let go by `drop`, which is proved once for a type and not at each way out.
 ghost use Rattle.std.specs.Prelude.{◌≡◌, ◌∷◌, [], ◌||◌, ℕ, List, true, false, reverse, IfOk, IfSome, IfNone, if◌then◌else◌};
 ghost use Rattle.collector.specs.Collectable.{collection};
 ghost use Rattle.rounds.specs.Accepted.{succeeded};

@@ -55,7 +55,7 @@ impl Controller {
         ensures refusals { refusals_of self.new ≡ refusals_of self.old }
     {
         if self.waits {
-            hear(self, reply)?;
+            on_reply(self, reply)?;
             self.waits = false;
         }
         Ok(())
@@ -64,7 +64,7 @@ impl Controller {
 
 /// Goes on by the reply to what it asked last.
 #[tactic(auto, using(crate::proofs::Heard::carries))]
-fn hear(controller: &mut Controller, reply: &Reply) -> Result<(), Memory>
+fn on_reply(controller: &mut Controller, reply: &Reply) -> Result<(), Memory>
     ensures phase { OnOk result (phase_of controller.new ≡ takes (reconciler_of controller.old) (phase_of controller.old) reply.now) }
     ensures refusal { OnOk result (refusal_of controller.new
         ≡ refusal_after (refusals_of controller.old) (phase_of controller.old) reply.now (refusal_of controller.old)) }
@@ -74,17 +74,17 @@ fn hear(controller: &mut Controller, reply: &Reply) -> Result<(), Memory>
     ensures waits { controller.new.waits ≡ controller.old.waits }
 {
     if controller.progress.is_listing() {
-        return hear_list(controller, reply);
+        return on_list(controller, reply);
     }
     match &controller.progress {
-        Progress::ReadingSet => hear_set(controller, reply),
+        Progress::ReadingSet => on_set(controller, reply),
         Progress::ListingClaims {
             set: _,
             revisions: _,
             pods: _,
-        } => hear_claims(controller, reply),
+        } => on_claims(controller, reply),
         _ => {
-            carry_on(controller, reply);
+            continue_requests(controller, reply);
             Ok(())
         }
     }
@@ -92,7 +92,7 @@ fn hear(controller: &mut Controller, reply: &Reply) -> Result<(), Memory>
 
 /// Goes on by the set, or where there is none.
 #[tactic(auto, using(crate::proofs::Heard::set_heard, crate::proofs::Heard::refusal_at_set), unfolding(crate::specs::Controller::reconciler_of, crate::specs::Controller::phase_of, crate::specs::Controller::refusal_of, crate::specs::Controller::refusals_of))]
-fn hear_set(controller: &mut Controller, reply: &Reply) -> Result<(), Memory>
+fn on_set(controller: &mut Controller, reply: &Reply) -> Result<(), Memory>
     requires { controller.old.progress ≡ ReadingSet }
     ensures phase { OnOk result (phase_of controller.new ≡ takes (reconciler_of controller.old) (phase_of controller.old) reply.now) }
     ensures refusal { OnOk result (refusal_of controller.new
@@ -103,12 +103,16 @@ fn hear_set(controller: &mut Controller, reply: &Reply) -> Result<(), Memory>
     ensures waits { controller.new.waits ≡ controller.old.waits }
 {
     let progress = after_set(reply)?;
-    stand_at(controller, progress);
+    set_progress(controller, progress);
     Ok(())
 }
 
 /// Where the reply to its list takes it, but for that of the claims for its plan.
-fn heard_list(alloc: Global, progress: &Progress, reply: &Reply) -> Result<Progress, Memory>
+fn progress_after_list(
+    alloc: Global,
+    progress: &Progress,
+    reply: &Reply,
+) -> Result<Progress, Memory>
     requires { is_listing progress.now ≡ true }
     ensures { IfOk result (λ p. (set : Key) (digits : ℕ) (moment : List ℕ)
         → phase_at p ≡ takes (reconciler_with set digits moment) (phase_at progress.now) reply.now) }
@@ -121,7 +125,7 @@ fn heard_list(alloc: Global, progress: &Progress, reply: &Reply) -> Result<Progr
 
 /// Goes on by a list, but not by that of the claims for its plan.
 #[tactic(auto, using(crate::proofs::Heard::refusal_stays), unfolding(crate::specs::Controller::reconciler_of, crate::specs::Controller::phase_of, crate::specs::Controller::refusal_of, crate::specs::Controller::refusals_of))]
-fn hear_list(controller: &mut Controller, reply: &Reply) -> Result<(), Memory>
+fn on_list(controller: &mut Controller, reply: &Reply) -> Result<(), Memory>
     requires { is_listing controller.old.progress ≡ true }
     ensures phase { OnOk result (phase_of controller.new ≡ takes (reconciler_of controller.old) (phase_of controller.old) reply.now) }
     ensures refusal { OnOk result (refusal_of controller.new
@@ -131,13 +135,13 @@ fn hear_list(controller: &mut Controller, reply: &Reply) -> Result<(), Memory>
     ensures refusals { refusals_of controller.new ≡ refusals_of controller.old }
     ensures waits { controller.new.waits ≡ controller.old.waits }
 {
-    let progress = heard_list(controller.alloc, &controller.progress, reply)?;
-    stand_at(controller, progress);
+    let progress = progress_after_list(controller.alloc, &controller.progress, reply)?;
+    set_progress(controller, progress);
     Ok(())
 }
 
-/// What it plans, given the claims.
-fn planned(controller: &Controller, claims: &[Object]) -> Result<Vec<Request>, PlanError>
+/// The requests of its plan, given the claims.
+fn plan_with(controller: &Controller, claims: &[Object]) -> Result<Vec<Request>, PlanError>
     requires { is_planning controller.now.progress ≡ true }
     ensures { Gives (λ requests. requests.items) result (planned_at controller.now.digits controller.now.moment controller.now.progress claims.now) }
 {
@@ -161,7 +165,7 @@ fn planned(controller: &Controller, claims: &[Object]) -> Result<Vec<Request>, P
 
 /// Goes on by the list of the claims for its plan.
 #[tactic(auto, using(crate::proofs::Heard::claims_heard, crate::proofs::Heard::refusal_at_claims, crate::proofs::Heard::refusal_unheard), unfolding(crate::specs::Controller::reconciler_of, crate::specs::Controller::phase_of, crate::specs::Controller::refusal_of, crate::specs::Controller::refusals_of))]
-fn hear_claims(controller: &mut Controller, reply: &Reply) -> Result<(), Memory>
+fn on_claims(controller: &mut Controller, reply: &Reply) -> Result<(), Memory>
     requires { is_planning controller.old.progress ≡ true }
     ensures phase { OnOk result (phase_of controller.new ≡ takes (reconciler_of controller.old) (phase_of controller.old) reply.now) }
     ensures refusal { OnOk result (refusal_of controller.new
@@ -173,19 +177,22 @@ fn hear_claims(controller: &mut Controller, reply: &Reply) -> Result<(), Memory>
 {
     match listed(reply) {
         Some((claims, _)) => {
-            let found = planned(controller, claims.as_slice());
-            keep(controller, found)
+            let found = plan_with(controller, claims.as_slice());
+            start_plan(controller, found)
         }
         None => {
-            stand_at(controller, Progress::ReadingSet);
+            set_progress(controller, Progress::ReadingSet);
             Ok(())
         }
     }
 }
 
-/// Keeps what is planned, or why there is no plan.
+/// Starts the plan, or keeps why there is none.
 #[tactic(auto, using(crate::proofs::Heard::refused_with), unfolding(crate::specs::Controller::reconciler_of, crate::specs::Controller::phase_of, crate::specs::Controller::refusal_of, crate::specs::Controller::refusals_of, crate::specs::Progress::phase_at))]
-fn keep(controller: &mut Controller, found: Result<Vec<Request>, PlanError>) -> Result<(), Memory>
+fn start_plan(
+    controller: &mut Controller,
+    found: Result<Vec<Request>, PlanError>,
+) -> Result<(), Memory>
     ensures phase { OnOk result ((planned : Result (List Request) PlanError)
         → Gives (λ requests. requests.items) found planned → phase_of controller.new ≡ acts (or_none planned)) }
     ensures refusal { OnOk result ((planned : Result (List Request) PlanError)
@@ -198,22 +205,21 @@ fn keep(controller: &mut Controller, found: Result<Vec<Request>, PlanError>) -> 
     match found {
         Ok(requests) => {
             refuse(controller, None);
-            stand_at(controller, acting(requests));
+            set_progress(controller, acting(requests));
             Ok(())
         }
         Err(PlanError::Memory) => Err(Memory),
         Err(error) => {
             refuse(controller, Some(error));
-            stand_at(controller, Progress::ListingOldClaims);
+            set_progress(controller, Progress::ListingOldClaims);
             Ok(())
         }
     }
 }
 
-fn stand_at(controller: &mut Controller, progress: Progress)
+fn set_progress(controller: &mut Controller, progress: Progress)
     ensures { controller.new ≡ record controller.old { progress = progress } }
 {
-    // What stood here is taken out and let go by name, which is proved once for the type.
     drop(mem::replace(&mut controller.progress, progress));
 }
 
@@ -223,8 +229,8 @@ fn refuse(controller: &mut Controller, refusal: Option<PlanError>)
     controller.refusal = refusal;
 }
 
-/// Takes what it stands at, and lets it begin a round anew.
-fn begin_anew(controller: &mut Controller) -> Progress
+/// Takes its progress out. What is left in its place stands there until the next progress is set.
+fn take_progress(controller: &mut Controller) -> Progress
     ensures was { result ≡ controller.old.progress }
     ensures stays { controller.new ≡ record controller.old { progress = ReadingSet } }
 {
@@ -233,7 +239,7 @@ fn begin_anew(controller: &mut Controller) -> Progress
 
 /// Where the reply to the last action or delete takes it.
 #[tactic(auto, unfolding(crate::specs::Progress::phase_at, rounds::specs::Phase::takes))]
-fn carried(progress: Progress, reply: &Reply) -> Progress
+fn progress_after(progress: Progress, reply: &Reply) -> Progress
     requires { is_carrying progress ≡ true }
     ensures { (c : Reconciler) → phase_at result ≡ takes c (phase_at progress) reply.now }
 {
@@ -246,7 +252,7 @@ fn carried(progress: Progress, reply: &Reply) -> Progress
 
 /// Goes on with its plan or its deletes, by the reply to the last one.
 #[tactic(auto, using(crate::proofs::Heard::refusal_carried), unfolding(crate::specs::Controller::reconciler_of, crate::specs::Controller::phase_of, crate::specs::Controller::refusal_of, crate::specs::Controller::refusals_of))]
-fn carry_on(controller: &mut Controller, reply: &Reply)
+fn continue_requests(controller: &mut Controller, reply: &Reply)
     requires { is_carrying controller.old.progress ≡ true }
     ensures phase { phase_of controller.new ≡ takes (reconciler_of controller.old) (phase_of controller.old) reply.now }
     ensures refusal { refusal_of controller.new
@@ -255,6 +261,6 @@ fn carry_on(controller: &mut Controller, reply: &Reply)
     ensures refusals { refusals_of controller.new ≡ refusals_of controller.old }
     ensures waits { controller.new.waits ≡ controller.old.waits }
 {
-    let progress = begin_anew(controller);
-    stand_at(controller, carried(progress, reply));
+    let progress = take_progress(controller);
+    set_progress(controller, progress_after(progress, reply));
 }

@@ -62,7 +62,6 @@ impl Callers {
         ensures admitted { OnOk result (Enters self.old self.new caller Idle) }
         ensures memory { OnErr result (Same self.old self.new) }
     {
-        // What is let go goes by `drop`, here and below: that is proved once for a type, not for each of its parts.
         drop(self.phases.insert(caller, Phase::Idle)?);
         Ok(())
     }

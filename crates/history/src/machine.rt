@@ -23,8 +23,9 @@ pub(crate) struct Machine {
     pub places: Vec<Option<u64>>,
     pub parking: Parking,
     pub frontier: u64,
+    /// The number that reads may not ask below any more.
     pub floor: u64,
-    /// What all shards are compacted to: nothing below it is read any more.
+    /// What all shards are compacted to, at most the floor: a read that is still open holds it back.
     pub compacted: u64,
     /// The place of the next event.
     pub now_at: u64,
@@ -44,7 +45,7 @@ impl Machine {
     }
 
     /// Puts a request that changes nothing into the order, or parks it until the frontier has reached what it saw.
-    pub(crate) fn settle(&mut self, saw: u64, caller: u64, place: u64) -> Result<(), Memory>
+    pub(crate) fn order_or_park(&mut self, saw: u64, caller: u64, place: u64) -> Result<(), Memory>
         requires { is_undecided (phase_at self.old.callers caller) ≡ true }
         ensures settled { OnOk result (Settles saw caller place self.old self.new) }
         ensures callers { self.new.callers ≡ self.old.callers }
@@ -73,7 +74,7 @@ impl Machine {
         ensures memory { OnErr result (Stays self.old self.new) }
         ensures place { self.new.now_at ≡ self.old.now_at }
     {
-        match self.settle(saw, caller, place) {
+        match self.order_or_park(saw, caller, place) {
             Ok(()) => {
                 let waiting = Phase::Waiting { saw, place, reply };
                 // The phase before, of which nothing is needed.
@@ -81,7 +82,6 @@ impl Machine {
                 Ok(())
             }
             Err(error) => {
-                // It goes by `drop`, which is proved once for its type, and not for each of its parts.
                 drop(reply);
                 Err(error)
             }

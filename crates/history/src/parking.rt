@@ -58,7 +58,6 @@ impl Parking {
     pub(crate) fn clear(&mut self, number: u64)
         ensures { (n : ℕ) → lot_at self.new n ≡ (if n == number then [] else lot_at self.old n) }
     {
-        // It goes by `drop`, which is proved once for its type, and not for each of its parts.
         drop(self.lots.remove(&number));
     }
 }

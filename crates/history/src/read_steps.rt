@@ -120,14 +120,14 @@ impl Machine {
         ensures memory { OnErr result (Stays self.old self.new) }
         ensures place { self.new.now_at ≡ self.old.now_at }
     {
-        match self.due(caller)? {
+        match self.deliverable_reply(caller)? {
             Some(reply) => self.give(caller, reply),
             None => Ok(None),
         }
     }
 
     /// The reply that the caller can get now.
-    fn due(&self, caller: u64) -> Result<Option<Reply>, Memory>
+    fn deliverable_reply(&self, caller: u64) -> Result<Option<Reply>, Memory>
         requires { Stands self.now }
         ensures { IfOk result (λ due. IsDue caller due self.now) }
     {
@@ -154,10 +154,9 @@ impl Machine {
         ensures memory { OnErr result (Stays self.old self.new) }
         ensures place { self.new.now_at ≡ self.old.now_at }
     {
-        match self.tell(caller, &reply) {
+        match self.deliver(caller, &reply) {
             Ok(()) => Ok(Some(reply)),
             Err(error) => {
-                // It goes by `drop`, which is proved once for its type, and not for each of its parts.
                 drop(reply);
                 Err(error)
             }
@@ -165,7 +164,7 @@ impl Machine {
     }
 
     /// The caller gets its reply, and is idle.
-    fn tell(&mut self, caller: u64, reply: &Reply) -> Result<(), Memory>
+    fn deliver(&mut self, caller: u64, reply: &Reply) -> Result<(), Memory>
         requires { is_replying (phase_at self.old.callers caller) ≡ true }
         ensures delivered { OnOk result (Tells caller reply.now self.old self.new) }
         ensures items { OnOk result (self.new.items.items ≡ self.old.items.items ++ delivered_at self.old.now_at caller (Some reply.now)) }

@@ -91,7 +91,6 @@ impl Replay {
         ensures { (size : Size) (events : List Event) → IsAfter size events self → IsRunOf size events result }
     {
         let Replay { machine, names } = self;
-        // What the run does not need goes by `drop`: that is proved once for a type, and not for each of its parts.
         drop(names);
         let Machine {
             capacity,

@@ -211,7 +211,7 @@ impl Machine {
             return Ok(());
         };
         let number = self.frontier + 1;
-        let mut passed = self.passed(place, number)?;
+        let mut passed = self.places_raised(place, number)?;
         self.order.append(&mut passed)?;
         // Emptied by `append`.
         drop(passed);
@@ -232,19 +232,19 @@ impl Machine {
 
     /// What comes into the order as the frontier passes a number: its write, and then what is parked there, without those
     /// whose caller is gone.
-    fn passed(&self, place: u64, number: u64) -> Result<Vec<u64>, Memory>
+    fn places_raised(&self, place: u64, number: u64) -> Result<Vec<u64>, Memory>
         ensures { IfOk result (λ passed. passed.items ≡ place ∷ places_in (staying (drops self.now.callers) (lot_at self.now.parking number))) }
     {
         let mut passed = Vec::new(self.alloc);
         passed.push(place)?;
         let waiters = self.parking.at(number);
         for waiter in waiters {
-            self.keep(&mut passed, *waiter)?;
+            self.push_if_alive(&mut passed, *waiter)?;
         }
         Ok(passed)
     }
 
-    fn keep(&self, passed: &mut Vec<u64>, waiter: Waiter) -> Result<(), Memory>
+    fn push_if_alive(&self, passed: &mut Vec<u64>, waiter: Waiter) -> Result<(), Memory>
         ensures { OnOk result (passed.new.items ≡ passed.old.items ++ places_in (staying (drops self.now.callers) (waiter ∷ []))) }
     {
         if !self.callers.is_dropped(waiter.caller) {

@@ -7,7 +7,7 @@ use Rattle.objects.specs.declared.object.Object.{Object}
 use Rattle.requests.specs.declared.reply.Reply.{Reply}
 use Rattle.requests.specs.declared.reply.Reply.TheVariants.{Created, Found, Listed, Updated, Unchanged, Marked, Removed, Compacted, Refused}
 use Rattle.requests.specs.Reasons.{reason_name}
-use Rattle.pictures.specs.Words.{request_words}
+use Rattle.pictures.specs.Labels.{request_words}
 use Rattle.outcomes.specs.declared.litmus.Ask.{Ask}
 use Rattle.outcomes.specs.declared.litmus.Litmus.{Litmus}
 use Rattle.outcomes.specs.declared.outcome.Outcome.{Outcome}

@@ -17,7 +17,6 @@ pub fn stores_brief_text(alloc: Global, found: &[FinalStore]) -> Result<Vec<u8>,
     add_stores(alloc, found, &mut lines)?;
     let count = lines.len() as u64;
     let text = joined(lines.as_slice(), Vec::new(alloc));
-    // They go by `drop`: that is proved once for a type.
     drop(lines);
     put_count(count, text?)
 }

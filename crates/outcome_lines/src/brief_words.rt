@@ -2,7 +2,7 @@
 ghost use Rattle.std.specs.Prelude.{◌≡◌, ◌++◌, codes, decimal, string_bytes, OnOk};
 ghost use Rattle.std.specs.Option.{option_copied};
 ghost use Rattle.outcome_lines.specs.Brief.{answer_words, exchange_words, exchanges_words, listed_words, names_words, told_words};
-ghost use Rattle.pictures.specs.Words.{request_words};
+ghost use Rattle.pictures.specs.Labels.{request_words};
 
 use objects::Object;
 use outcomes::Ask;

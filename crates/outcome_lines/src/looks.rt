@@ -21,7 +21,6 @@ pub(crate) fn looks_of(
     add_created(beginning, &mut names)?;
     add_sets(racers, &mut names)?;
     let looks = lists_in(alloc, &names);
-    // They go by `drop`: that is proved once for a type.
     drop(names);
     looks
 }

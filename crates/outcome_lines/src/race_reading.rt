@@ -97,7 +97,6 @@ fn with_begun(race: Race, request: Request) -> Result<Race, ScriptError>
         longer.beginning.push(request)?;
         Ok(longer)
     } else {
-        // They go by `drop`: that is proved once for a type.
         drop(request);
         drop(longer);
         Err(ScriptError::BadScript)

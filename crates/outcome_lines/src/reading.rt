@@ -89,7 +89,6 @@ fn with_before(litmus: Litmus, request: Request) -> Result<Litmus, ScriptError>
         longer.beginning.push(request)?;
         Ok(longer)
     } else {
-        // They go by `drop`: that is proved once for a type.
         drop(request);
         drop(longer);
         Err(ScriptError::BadScript)

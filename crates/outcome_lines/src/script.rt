@@ -59,7 +59,6 @@ fn is_script_of(
     let shards = script.shards as usize;
     let run = replay(alloc, shards, script.capacity, script.events.as_slice())?;
     let shown = is_shown(litmus, replies, beginner, run.trace.items.as_slice());
-    // Let go by name, which is proved once for the type and not at each way out.
     drop(run);
     Ok(shown)
 }

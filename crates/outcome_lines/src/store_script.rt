@@ -47,7 +47,6 @@ fn is_script_to(
 {
     let script = read_cluster_script(alloc, text)?;
     let leads = leads_to(alloc, race, shown, looker, &script);
-    // Let go by name, here and below, which is proved once for the type and not at each way out.
     drop(script);
     leads
 }

@@ -14,9 +14,9 @@ use Rattle.interleavings.specs.Callers.{named_by}
 use Rattle.history.specs.Replayed.{delivered_at}
 use Rattle.history.proofs.Reached.{after_more}
 use Rattle.plain_store.specs.Reached.{most_revisions}
-use Rattle.pictures.specs.declared.moment.Moment.{Moment}
+use Rattle.pictures.specs.declared.snapshot.Snapshot.{Snapshot}
 use Rattle.pictures.specs.Lines.{reply_line}
-use Rattle.pictures.specs.Picture.{lines_between, lines_of, moment_of, delivered, shown_lines}
+use Rattle.pictures.specs.Picture.{lines_between, lines_of, snapshot_of, delivered, shown_lines}
 use Rattle.pictures.specs.Shown.{shows, writer_by, writers}
 use Rattle.pictures.specs.declared.shown.Shown.{Shown}
 
@@ -49,7 +49,7 @@ delivered_is z events c reply is =
     by None = ap reply_in (drop-append_seam (trace z events) [])
     by (Some r) = ap reply_in (drop-append_seam (trace z events) (delivered_at (length events) c (Some r)))
 
-pub lines_delivered : (shown : Shown) (z : Size) (events : List Event) (e : Event) (reply : Option Reply) (shards place : ℕ) (before now : Moment) → IsReplyTo z events e reply
+pub lines_delivered : (shown : Shown) (z : Size) (events : List Event) (e : Event) (reply : Option Reply) (shards place : ℕ) (before now : Snapshot) → IsReplyTo z events e reply
     → shown_lines shown shards place e before now reply ≡ shown_lines shown shards place e before now (delivered (after z opening events) (step z (after z opening events) e))
 lines_delivered shown z events (event.Reply c) reply shards place before now is =
     ap (λ r. cond (shows shown (event.Reply c) before.standing r) (reply_line place c r) []) (sym (delivered_is z events c reply is))
@@ -76,18 +76,18 @@ frontier_small z events replay is =
     omega (arith, within, room, small)
 
 -- what was put for an event are its lines between two worlds
-pub step_lines : (shown : Shown) (z : Size) (events : List Event) (e : Event) (shards place : ℕ) (caller : Option ℕ) (before now : Moment) (reply : Option Reply) (old new : List ℕ)
-    → z.shards ≡ shards → place ≡ length events → caller ≡ named_by e → before ≡ moment_of z (after z opening events) caller
-    → now ≡ moment_of z (after z opening (events ++ e ∷ [])) caller → IsReplyTo z events e reply → new ≡ old ++ shown_lines shown shards place e before now reply
+pub step_lines : (shown : Shown) (z : Size) (events : List Event) (e : Event) (shards place : ℕ) (caller : Option ℕ) (before now : Snapshot) (reply : Option Reply) (old new : List ℕ)
+    → z.shards ≡ shards → place ≡ length events → caller ≡ named_by e → before ≡ snapshot_of z (after z opening events) caller
+    → now ≡ snapshot_of z (after z opening (events ++ e ∷ [])) caller → IsReplyTo z events e reply → new ≡ old ++ shown_lines shown shards place e before now reply
     → new ≡ old ++ lines_between shown z (length events) e (after z opening events) (step z (after z opening events) e)
 step_lines shown z events e shards place caller before now reply old new many at who before_is now_is is put =
     let w : World = after z opening events in
     put ∙ ap (λ n. old ++ shown_lines shown n place e before now reply) (sym many)
     ∙ ap (λ n. old ++ shown_lines shown z.shards n e before now reply) at
-    ∙ ap (λ m. old ++ shown_lines shown z.shards (length events) e m now reply) (before_is ∙ ap (moment_of z w) who)
-    ∙ ap (λ m. old ++ shown_lines shown z.shards (length events) e (moment_of z w (named_by e)) m reply)
-    (now_is ∙ ap (λ v. moment_of z v caller) (after_more z events opening e) ∙ ap (moment_of z (step z w e)) who)
-    ∙ ap (λ t. old ++ t) (lines_delivered shown z events e reply z.shards (length events) (moment_of z w (named_by e)) (moment_of z (step z w e) (named_by e)) is)
+    ∙ ap (λ m. old ++ shown_lines shown z.shards (length events) e m now reply) (before_is ∙ ap (snapshot_of z w) who)
+    ∙ ap (λ m. old ++ shown_lines shown z.shards (length events) e (snapshot_of z w (named_by e)) m reply)
+    (now_is ∙ ap (λ v. snapshot_of z v caller) (after_more z events opening e) ∙ ap (snapshot_of z (step z w e)) who)
+    ∙ ap (λ t. old ++ t) (lines_delivered shown z events e reply z.shards (length events) (snapshot_of z w (named_by e)) (snapshot_of z (step z w e) (named_by e)) is)
 
 -- the text of one event more
 pub text_next : (shown : Shown) (z : Size) (i : ℕ) (es : List Event) (e : Event) (head text new : List ℕ) → i < length es → e ≡ get_or es i e

@@ -1,4 +1,4 @@
-pub mod Words
+pub mod Labels
 pub mod Lines
 pub mod Heading
 pub mod Shown

@@ -6,7 +6,7 @@ use Rattle.requests.specs.declared.reply.Reply.{Reply}
 use Rattle.history.specs.declared.standing.Asked.TheVariants.{Write, Read, ReadAt, Compaction}
 use Rattle.history.specs.declared.standing.Standing.{Standing}
 use Rattle.history.specs.declared.standing.Standing.TheVariants.{Idle, Called, Holding, Drawn, Waiting, Reading, Gone, Left}
-use Rattle.pictures.specs.Words.{reply_words, request_words}
+use Rattle.pictures.specs.Labels.{reply_words, request_words}
 
 -- ---- the forms of a line: `FROM ARROW TO: PLACE: TEXT`, and `Note over WHO: PLACE: TEXT`
 abbrev pub labelled : (place : ℕ) → (text : List ℕ) → List ℕ

@@ -14,7 +14,7 @@ use Rattle.history.specs.declared.standing.Standing.TheVariants as standing
 use Rattle.pictures.specs.Heading.{heading}
 use Rattle.pictures.specs.Lines.{call_line, check_line, compact_line, crash_line, part_line, publish_lines, raise_line, read_at_line, read_line, reply_line, reserve_line}
 use Rattle.pictures.specs.Shown.{shown_callers, shows}
-use Rattle.pictures.specs.declared.moment.Moment.{Moment}
+use Rattle.pictures.specs.declared.snapshot.Snapshot.{Snapshot}
 use Rattle.pictures.specs.declared.shown.Shown.{Shown}
 
 -- ---- what lines tell of the world before an event, and after it
@@ -23,15 +23,15 @@ standing_by z w None = standing.Idle
 standing_by z w (Some c) = standing_of z.shards (w.phase c)
 
 -- where the caller stands that the event names, the frontier, and whether the number behind it is filled
-abbrev pub moment_of : Size → World → Option ℕ → Moment
-moment_of z w caller = record { standing = standing_by z w caller; can_rise = can_rise w; frontier = w.frontier }
+abbrev pub snapshot_of : Size → World → Option ℕ → Snapshot
+snapshot_of z w caller = record { standing = standing_by z w caller; can_rise = can_rise w; frontier = w.frontier }
 
 -- the reply that an event gives, if it gives one: what it adds to the trace
 abbrev pub delivered : (before after : World) → Option Reply
 delivered before after = reply_in (drop (length before.trace) after.trace)
 
 -- ---- the lines of one event
-abbrev pub event_lines : (shards place : ℕ) → Event → (before after : Moment) → (delivered : Option Reply) → List ℕ
+abbrev pub event_lines : (shards place : ℕ) → Event → (before after : Snapshot) → (delivered : Option Reply) → List ℕ
 event_lines shards place (event.Call c r) before after delivered = call_line place c r before.standing
 event_lines shards place (event.Check c) before after delivered = check_line place c before.standing after.standing
 event_lines shards place (event.Reserve c) before after delivered = reserve_line place c before.standing after.standing
@@ -45,13 +45,13 @@ event_lines shards place (event.Reply c) before after delivered = reply_line pla
 event_lines shards place (event.Crash c) before after delivered = crash_line place c before.standing
 
 -- those of the picture: none of an event that is not shown
-abbrev pub shown_lines : Shown → (shards place : ℕ) → Event → (before after : Moment) → (delivered : Option Reply) → List ℕ
+abbrev pub shown_lines : Shown → (shards place : ℕ) → Event → (before after : Snapshot) → (delivered : Option Reply) → List ℕ
 shown_lines shown shards place e before after delivered =
     cond (shows shown e before.standing delivered) (event_lines shards place e before after delivered) []
 
 abbrev pub lines_between : Shown → Size → (place : ℕ) → Event → (before after : World) → List ℕ
 lines_between shown z place e before after =
-    shown_lines shown z.shards place e (moment_of z before (named_by e)) (moment_of z after (named_by e)) (delivered before after)
+    shown_lines shown z.shards place e (snapshot_of z before (named_by e)) (snapshot_of z after (named_by e)) (delivered before after)
 
 -- ---- the lines of a run
 -- the first event has this place

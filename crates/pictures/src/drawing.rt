@@ -15,10 +15,10 @@ use crate::lines::{
     put_call, put_check, put_compact, put_crash, put_delivered, put_part, put_publish, put_raise,
     put_read, put_read_at, put_reserve,
 };
-use crate::moment::{Moment, look};
 use crate::names::shown_callers;
 use crate::roles::Roles;
 use crate::shown::{Shown, shows};
+use crate::snapshot::{Snapshot, take_snapshot};
 use history::{Replay, ReplayError};
 use interleavings::Event;
 use requests::Reply;
@@ -89,11 +89,10 @@ fn put_step(
 {
     let place = replay.events();
     let caller = event.caller();
-    let before = look(replay, caller);
+    let before = take_snapshot(replay, caller);
     let delivered = replay.step(event)?;
-    let after = look(replay, caller);
+    let after = take_snapshot(replay, caller);
     let put = put_shown(shown, shards, place, event, before, after, &delivered, out);
-    // Let go by name, which is proved once for the type and not at each way out.
     drop(delivered);
     Ok(put?)
 }
@@ -104,8 +103,8 @@ fn put_shown(
     shards: usize,
     place: u64,
     event: &Event,
-    before: Moment,
-    after: Moment,
+    before: Snapshot,
+    after: Snapshot,
     delivered: &Option<Reply>,
     out: &mut String,
 ) -> Result<(), AllocError>
@@ -118,13 +117,13 @@ fn put_shown(
     put_event(shards, place, event, before, after, delivered, out)
 }
 
-/// Puts the lines of an event behind the text, by the moment before it and the one after it, and by the reply that its caller gets.
+/// Puts the lines of an event behind the text, by the snapshot before it and the one after it, and by the reply that its caller gets.
 fn put_event(
     shards: usize,
     place: u64,
     event: &Event,
-    before: Moment,
-    after: Moment,
+    before: Snapshot,
+    after: Snapshot,
     delivered: &Option<Reply>,
     out: &mut String,
 ) -> Result<(), AllocError>

@@ -5,14 +5,14 @@
 
 mod drawing;
 mod heading;
+mod labels;
 mod lines;
-mod moment;
 mod names;
 mod roles;
 mod shown;
-mod words;
+mod snapshot;
 
 pub use drawing::picture;
-pub use roles::{Callers, Roles};
+pub use labels::{put_reply, put_request};
+pub use roles::{NoRoles, Roles};
 pub use shown::Shown;
-pub use words::{put_reply, put_request};

@@ -3,7 +3,7 @@ ghost use Rattle.std.specs.Prelude.{◌≡◌, ◌<◌, ◌-◌, ◌^◌, ◌++�
 ghost use Rattle.history.specs.declared.standing.Standing.TheVariants.{Idle};
 ghost use Rattle.pictures.specs.Lines.{answering, begun_line, call_line, check_line, checked_line, compact_line, crash_line, drawn_line, hole_line, left_line, part_line, publish_lines, published_line, raise_line, read_at_line, read_line, reply_line, reserve_line};
 
-use crate::words::{put_reply, put_request};
+use crate::labels::{put_reply, put_request};
 use history::{Asked, Standing};
 use requests::{Reply, Request};
 use std::alloc::AllocError;

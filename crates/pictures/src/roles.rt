@@ -16,9 +16,9 @@ pub trait Roles {
 
 /// Callers with no other name than their number.
 #[derive(Clone, Copy, Drop)]
-pub struct Callers;
+pub struct NoRoles;
 
-impl Roles for Callers {
+impl Roles for NoRoles {
     ghost role = { λ _ caller. no_role caller };
 
     fn put_role(&self, _caller: u64, _out: &mut String) -> Result<(), AllocError> {

@@ -37,7 +37,6 @@ pub fn judged(
         open_calls,
         stamps,
     } = log;
-    // Let go by name, which is proved once for the type and not at each way out.
     drop(open_calls);
     let stamped = in_order(stamps)?;
     let twice = repeats(alloc, items.as_slice(), stamped.as_slice())?;

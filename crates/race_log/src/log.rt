@@ -47,7 +47,6 @@ impl Log {
     {
         let place = self.items.len() as u64;
         if self.items.reserve(1).is_err() || self.open_calls.insert(caller, place).is_err() {
-            // Let go by name, which is proved once for the type and not at each way out.
             drop(request);
             return Err(Memory);
         }
@@ -70,7 +69,6 @@ impl Log {
     {
         let place = self.items.len() as u64;
         if self.items.reserve(1).is_err() || self.stamps.reserve(1).is_err() {
-            // Let go by name, which is proved once for the type and not at each way out.
             drop(reply);
             return Err(Memory);
         }

@@ -2,7 +2,7 @@
 ghost use Rattle.std.specs.Prelude.{◌≡◌, ◌<◌, ◌≤◌, ◌^◌, ◌+◌, ◌∷◌, [], List, IfOk, OnOk, option_map};
 ghost use Rattle.requests.specs.declared.reply.Reply.{Reply};
 ghost use Rattle.requests.specs.declared.reply.Reply.TheVariants.{Created};
-ghost use Rattle.race_log.specs.Living.{Knows};
+ghost use Rattle.race_log.specs.LivePods.{Knows};
 ghost use Rattle.race_log.specs.Twice.{is_pod, repeats, reply_at, replies_in_order, with_next};
 
 use crate::stamp::Stamp;
@@ -14,7 +14,7 @@ use std::collections::BTreeSet;
 
 /// The keys that live, and how often a pod was created whose name another one had.
 #[derive(Drop)]
-struct Living {
+struct LivePods {
     keys: BTreeSet<Key>,
     again: u64,
 }
@@ -25,9 +25,9 @@ fn is_pod(kind: Kind) -> bool
     matches!(kind, Kind::Pod)
 }
 
-impl Living {
+impl LivePods {
     /// An object was created.
-    fn begin(&mut self, object: &Object) -> Result<(), Memory>
+    fn on_create(&mut self, object: &Object) -> Result<(), Memory>
         requires { self.old.again + 1 < 2 ^ 64 }
         ensures known { (earlier : List Reply) → Knows self.old earlier → OnOk result (Knows self.new (Created object.now ∷ earlier)) }
         ensures counted { self.new.again ≤ self.old.again + 1 }
@@ -40,13 +40,13 @@ impl Living {
     }
 
     /// The next reply.
-    fn take(&mut self, reply: &Reply) -> Result<(), Memory>
+    fn on_reply(&mut self, reply: &Reply) -> Result<(), Memory>
         requires { self.old.again + 1 < 2 ^ 64 }
         ensures known { (earlier : List Reply) → Knows self.old earlier → OnOk result (Knows self.new (reply.now ∷ earlier)) }
         ensures counted { self.new.again ≤ self.old.again + 1 }
     {
         match reply {
-            Reply::Created(object) => self.begin(object),
+            Reply::Created(object) => self.on_create(object),
             Reply::Removed(object) => {
                 self.keys.remove(&object.key);
                 Ok(())
@@ -72,15 +72,15 @@ fn reply_at(items: &[Item], place: u64) -> Option<&Reply>
     }
 }
 
-impl Living {
+impl LivePods {
     /// The next reply, which was noted at a place.
-    fn take_at(&mut self, items: &[Item], place: u64) -> Result<(), Memory>
+    fn on_reply_at(&mut self, items: &[Item], place: u64) -> Result<(), Memory>
         requires { self.old.again + 1 < 2 ^ 64 }
         ensures known { (earlier : List Reply) → Knows self.old earlier → OnOk result (Knows self.new (with_next (reply_at items.now place) earlier)) }
         ensures counted { self.new.again ≤ self.old.again + 1 }
     {
         match reply_at(items, place) {
-            Some(reply) => self.take(reply),
+            Some(reply) => self.on_reply(reply),
             None => Ok(()),
         }
     }
@@ -91,15 +91,14 @@ impl Living {
 pub(crate) fn repeats(alloc: Global, items: &[Item], order: &[Stamp]) -> Result<u64, Memory>
     ensures { IfOk result (λ n. n ≡ repeats (replies_in_order items.now order.now [])) }
 {
-    let mut living = Living {
+    let mut live = LivePods {
         keys: BTreeSet::new(alloc),
         again: 0,
     };
     for stamp in order {
-        living.take_at(items, stamp.reply)?;
+        live.on_reply_at(items, stamp.reply)?;
     }
-    let Living { keys, again } = living;
-    // Let go by name, which is proved once for the type and not at each way out.
+    let LivePods { keys, again } = live;
     drop(keys);
     Ok(again)
 }

@@ -9,7 +9,7 @@ use Rattle.std.proofs.lemmas.Bool.Decides.{nat_tests}
 use Rattle.std.proofs.lemmas.List.{drop_more}
 use Rattle.refused_plans.specs.declared.refused_plan.RefusedPlan.{RefusedPlan}
 use Rattle.refused_plans.specs.Noted.{plan_if}
-use Rattle.refused_plans.specs.Words.{plan_in}
+use Rattle.refused_plans.specs.Labels.{plan_in}
 
 tied : (m n : ℕ) → is_eq (nat_cmp m n) ≡ (m == n)
 tied m n = grind (arith, nat_tests)

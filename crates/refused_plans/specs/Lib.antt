@@ -2,6 +2,6 @@
 pub mod InCluster
 pub mod Noted
 pub mod RefusedPlans
-pub mod Words
+pub mod Labels
 -- ---- what only private clauses cite
 pub mod Standing

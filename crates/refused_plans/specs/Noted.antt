@@ -5,7 +5,7 @@ use Rattle.std.specs.BTreeMap.{BTreeMap, get}
 use Rattle.std.specs.Ordering.{nat_cmp}
 use Rattle.refused_plans.specs.declared.notes.RefusedNotes.{RefusedNotes}
 use Rattle.refused_plans.specs.declared.refused_plan.RefusedPlan.{RefusedPlan}
-use Rattle.refused_plans.specs.Words.{line_of}
+use Rattle.refused_plans.specs.Labels.{line_of}
 
 abbrev pub noted_in : BTreeMap ℕ (Bor RefusedPlan) → ℕ → Option RefusedPlan
 noted_in noted place = option_map (λ r. r.now) (get nat_cmp noted place)

@@ -3,14 +3,14 @@
 #![tactic(auto)]
 
 mod following;
+mod labels;
 mod laws;
 mod notes;
 mod refused_plan;
 mod telling;
-mod words;
 
+pub use labels::put_refused;
 pub use laws::callers_stand_as_their_controllers;
 pub use notes::RefusedNotes;
 pub use refused_plan::RefusedPlan;
 pub use telling::refused_plans;
-pub use words::put_refused;

@@ -1,10 +1,10 @@
 ghost use Rattle.std.specs.Prelude.{◌≡◌, ◌++◌, ℕ, IfOk, OnOk, string_bytes};
 ghost use Rattle.std.specs.Option.{option_or};
 ghost use Rattle.refused_plans.specs.Noted.{note_in, noted_in, plan_if};
-ghost use Rattle.refused_plans.specs.Words.{line_at};
+ghost use Rattle.refused_plans.specs.Labels.{line_at};
 
+use crate::labels::put_line;
 use crate::refused_plan::RefusedPlan;
-use crate::words::put_line;
 use controllers::SetSpec;
 use std::alloc::{AllocError, Global};
 use std::collections::BTreeMap;

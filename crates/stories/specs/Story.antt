@@ -7,7 +7,7 @@ use Rattle.requests.specs.declared.request.Request.TheVariants as request
 use Rattle.requests.specs.declared.reply.Reply.{Reply}
 use Rattle.interleavings.specs.declared.trace.Item.{Item}
 use Rattle.interleavings.specs.declared.trace.Item.TheVariants as item
-use Rattle.pictures.specs.Words.{reply_words, request_words}
+use Rattle.pictures.specs.Labels.{reply_words, request_words}
 
 -- whether a request may change the store. A compaction does: it takes past revisions away
 abbrev pub is_write : Request → Bool

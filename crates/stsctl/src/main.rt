@@ -2,7 +2,7 @@
 //! callers that race for one, plans what a StatefulSet calls for, and lets its controllers race.
 #![tactic(auto)]
 
-use commands::{Heap, command};
+use commands::{TrackedAlloc, command};
 use plain::{ReadSource, WriteSink};
 use std::process::ExitCode;
 use std::{env, io};
@@ -34,7 +34,7 @@ fn main(rt: HostRuntime) -> ExitCode {
     let mut reader = ReadSource::new(rt.stdin());
     let mut writer = WriteSink::new(rt.stdout());
     let mut faults = WriteSink::new(rt.stderr());
-    let mut heap = Heap::new(rt.alloc());
+    let mut heap = TrackedAlloc::new(rt.alloc());
     let status = command(
         &rt,
         &mut heap,

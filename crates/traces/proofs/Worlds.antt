@@ -14,7 +14,7 @@ use Rattle.history.specs.NextStep.{can_rise, goes_on}
 use Rattle.interleavings.specs.Callers.{named_by}
 use Rattle.history.specs.Standing.{asked, standing_of}
 use Rattle.history.proofs.Enabled.{next_is_enabled}
-use Rattle.traces.specs.Enabled.{asks_compaction, asks_read, asks_read_at, has_drawn, has_parts_left, is_enabled, is_gone, is_held, is_holding, is_idle, may_check, may_reply, moment_of}
+use Rattle.traces.specs.Enabled.{asks_compaction, asks_read, asks_read_at, has_drawn, has_parts_left, is_enabled, is_gone, is_held, is_holding, is_idle, may_check, may_reply, snapshot_of}
 
 -- ---- what is enabled by where its caller stands leads the caller on
 module _ (held : ℕ → Bool) (frontier : ℕ) (rises : Bool) (c : ℕ) where
@@ -93,7 +93,7 @@ module _ (z : Size) (w : World) where
   abbrev is_taken : ℕ → Bool
   is_taken s = is_some (w.holder s)
 
-  pub moves : (e : Event) → is_enabled e (moment_of z w (named_by e)) ≡ true → happens z w e ≢ w
+  pub moves : (e : Event) → is_enabled e (snapshot_of z w (named_by e)) ≡ true → happens z w e ≢ w
   moves (event.Call c r) so = call_moves c r (w.phase c) refl so
   moves (event.Check c) so = next_is_enabled z w c (event.Check c) (check_next w w.frontier (can_rise w) c (stands c) so)
   moves (event.Reserve c) so = next_is_enabled z w c (event.Reserve c) (reserve_next is_taken w.frontier (can_rise w) c (stands c) so)
@@ -181,7 +181,7 @@ module _ (z : Size) (w : World) where
   crash_stays c (Gone left) never = refl
   crash_stays c ph never = absurd cc
 
-  pub stays : (e : Event) → is_enabled e (moment_of z w (named_by e)) ≡ false → happens z w e ≡ w
+  pub stays : (e : Event) → is_enabled e (snapshot_of z w (named_by e)) ≡ false → happens z w e ≡ w
   stays (event.Call c r) never = call_stays c r (w.phase c) never
   stays (event.Check c) never = check_stays c (w.phase c) never
   stays (event.Reserve c) never = reserve_stays c (w.phase c) never

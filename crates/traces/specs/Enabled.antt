@@ -13,7 +13,7 @@ use Rattle.history.specs.declared.standing.Asked.TheVariants.{Write, Read, ReadA
 use Rattle.history.specs.declared.standing.Standing.{Standing}
 use Rattle.history.specs.declared.standing.Standing.TheVariants.{Idle, Called, Holding, Drawn, Waiting, Reading, Gone, Left}
 use Rattle.pictures.specs.Picture.{standing_by}
-use Rattle.traces.specs.declared.moment.Moment.{Moment}
+use Rattle.traces.specs.declared.snapshot.Snapshot.{Snapshot}
 
 -- ---- what a line tells of the world before an event, and after it
 -- whether somebody holds the shard in which a write is to be checked
@@ -23,8 +23,8 @@ is_held w _ = false
 
 -- where the caller stands that the event names, and whether its shard is held; the frontier, and whether the number behind it
 -- is filled
-abbrev pub moment_of : Size → World → (caller : Option ℕ) → Moment
-moment_of z w caller =
+abbrev pub snapshot_of : Size → World → (caller : Option ℕ) → Snapshot
+snapshot_of z w caller =
     record { standing = standing_by z w caller; is_held = is_held w (standing_by z w caller); can_rise = can_rise w; frontier = w.frontier }
 
 -- ---- by where the caller stands
@@ -71,8 +71,8 @@ is_gone Gone = true
 is_gone (Left number shard) = true
 is_gone _ = false
 
--- ---- whether an event is enabled, by the moment before it
-abbrev pub is_enabled : Event → (before : Moment) → Bool
+-- ---- whether an event is enabled, by the snapshot before it
+abbrev pub is_enabled : Event → (before : Snapshot) → Bool
 is_enabled (event.Call c r) before = is_idle before.standing
 is_enabled (event.Check c) before = may_check before.standing before.is_held
 is_enabled (event.Reserve c) before = is_holding before.standing

@@ -4,10 +4,10 @@ use Rattle.requests.specs.declared.reply.Reply.{Reply}
 use Rattle.interleavings.specs.declared.event.Event.{Event}
 use Rattle.interleavings.specs.declared.event.Event.TheVariants as event
 use Rattle.interleavings.specs.Callers.{named_by}
-use Rattle.pictures.specs.Words.{reply_words, request_words}
+use Rattle.pictures.specs.Labels.{reply_words, request_words}
 use Rattle.traces.specs.Enabled.{is_enabled}
 use Rattle.traces.specs.Places.{place_words}
-use Rattle.traces.specs.declared.moment.Moment.{Moment}
+use Rattle.traces.specs.declared.snapshot.Snapshot.{Snapshot}
 
 -- `7: web, controller 0, caller 2: `, where `role` is what a caller is called before its number. A Raise names no caller
 abbrev pub caller_words : (role : ℕ → List ℕ) → (caller : Option ℕ) → List ℕ
@@ -40,7 +40,7 @@ abbrev pub verdict_words : (enabled : Bool) → List ℕ
 verdict_words true = codes ": "
 verdict_words false = codes ": not enabled: "
 
--- by the moment before the event and the one after it, and by the reply that its caller gets
-abbrev pub event_line : (role : ℕ → List ℕ) → (place : ℕ) → Event → (before after : Moment) → (delivered : Option Reply) → List ℕ
+-- by the snapshot before the event and the one after it, and by the reply that its caller gets
+abbrev pub event_line : (role : ℕ → List ℕ) → (place : ℕ) → Event → (before after : Snapshot) → (delivered : Option Reply) → List ℕ
 event_line role place e before after delivered =
     head role place (named_by e) ++ (event_words e delivered ++ (verdict_words (is_enabled e before) ++ (place_words (named_by e) (is_enabled e before) after ++ codes "\n")))

@@ -4,7 +4,7 @@ use Rattle.history.specs.declared.standing.Asked.{Asked}
 use Rattle.history.specs.declared.standing.Asked.TheVariants.{Write, Read, ReadAt, Compaction}
 use Rattle.history.specs.declared.standing.Standing.{Standing}
 use Rattle.history.specs.declared.standing.Standing.TheVariants.{Idle, Called, Holding, Drawn, Waiting, Reading, Gone, Left}
-use Rattle.traces.specs.declared.moment.Moment.{Moment}
+use Rattle.traces.specs.declared.snapshot.Snapshot.{Snapshot}
 
 -- ---- `next is check, in shard 2`, and where the shard is held, `next is check, in shard 2, which is held`
 abbrev pub check_words : (shard : ℕ) → (is_held : Bool) → List ℕ
@@ -50,6 +50,6 @@ frontier_words true frontier = codes "the frontier is " ++ decimal frontier
 frontier_words false frontier = codes "the frontier is " ++ (decimal frontier ++ (codes ", and " ++ (decimal (frontier + 1) ++ codes " is not filled")))
 
 -- ---- of an event that names a caller where that stands, and of a Raise, which names none, where the frontier does
-abbrev pub place_words : (caller : Option ℕ) → (enabled : Bool) → (after : Moment) → List ℕ
+abbrev pub place_words : (caller : Option ℕ) → (enabled : Bool) → (after : Snapshot) → List ℕ
 place_words None enabled after = frontier_words enabled after.frontier
 place_words (Some c) enabled after = standing_words after.standing after.is_held after.frontier

@@ -1,13 +1,13 @@
-//! Which events are enabled, by the moment before them.
+//! Which events are enabled, by the snapshot before them.
 ghost use Rattle.std.specs.Prelude.{◌≡◌};
 ghost use Rattle.traces.specs.Enabled.{asks_compaction, asks_read, asks_read_at, has_drawn, has_parts_left, is_enabled, is_gone, is_holding, is_idle, may_check, may_reply};
 
-use crate::moment::Moment;
+use crate::snapshot::Snapshot;
 use history::{Asked, Standing};
 use interleavings::Event;
 
-/// Whether an event is enabled, by the moment before it.
-pub(crate) fn is_enabled(event: &Event, before: Moment) -> bool
+/// Whether an event is enabled, by the snapshot before it.
+pub(crate) fn is_enabled(event: &Event, before: Snapshot) -> bool
     ensures { result ≡ is_enabled event.now before }
 {
     match event {

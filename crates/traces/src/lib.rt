@@ -4,9 +4,9 @@
 mod enabled;
 mod laws;
 mod lines;
-mod moment;
 mod notes;
 mod places;
+mod snapshot;
 mod tracing;
 
 pub use laws::enabled_events_change_the_world;

@@ -3,20 +3,20 @@ ghost use Rattle.std.specs.Prelude.{◌≡◌, ◌<◌, ◌-◌, ◌^◌, ◌++�
 ghost use Rattle.traces.specs.Lines.{caller_words, event_line, event_words, given_words, head, verdict_words};
 
 use crate::enabled::is_enabled;
-use crate::moment::Moment;
 use crate::places::put_place;
+use crate::snapshot::Snapshot;
 use interleavings::Event;
 use pictures::{Roles, put_reply, put_request};
 use requests::Reply;
 use std::alloc::AllocError;
 
-/// Puts the line of an event behind the text, by the moment before it and the one after it, and by the reply that its caller
+/// Puts the line of an event behind the text, by the snapshot before it and the one after it, and by the reply that its caller
 /// gets.
 pub(crate) fn put_line<R: Roles>(
     place: u64,
     event: &Event,
-    before: Moment,
-    after: Moment,
+    before: Snapshot,
+    after: Snapshot,
     delivered: &Option<Reply>,
     roles: &R,
     out: &mut String,

@@ -2,7 +2,7 @@
 ghost use Rattle.std.specs.Prelude.{◌≡◌, ◌<◌, ◌-◌, ◌^◌, ◌++◌, string_bytes, OnOk};
 ghost use Rattle.traces.specs.Places.{asked_words, check_words, drawn_words, frontier_words, left_words, place_words, reading_words, standing_words, waiting_words};
 
-use crate::moment::Moment;
+use crate::snapshot::Snapshot;
 use history::{Asked, Standing};
 use std::alloc::AllocError;
 
@@ -10,7 +10,7 @@ use std::alloc::AllocError;
 pub(crate) fn put_place(
     caller: Option<u64>,
     enabled: bool,
-    after: Moment,
+    after: Snapshot,
     out: &mut String,
 ) -> Result<(), AllocError>
     requires { after.frontier < 2 ^ 64 - 1 }

@@ -10,8 +10,8 @@ ghost use Rattle.interleavings.specs.World.{Size, opening};
 ghost use Rattle.traces.specs.Traced.{line_between, line_words, section, texts_of, trace_by_lines_text, trace_text};
 
 use crate::lines::put_line;
-use crate::moment::look;
 use crate::notes::{NoNotes, Notes};
+use crate::snapshot::take_snapshot;
 use history::{Replay, ReplayError};
 use interleavings::Event;
 use pictures::Roles;
@@ -111,11 +111,10 @@ fn put_told<R: Roles>(
 {
     let place = replay.events();
     let caller = event.caller();
-    let before = look(replay, caller);
+    let before = take_snapshot(replay, caller);
     let delivered = replay.step(event)?;
-    let after = look(replay, caller);
+    let after = take_snapshot(replay, caller);
     let put = put_line(place, event, before, after, &delivered, roles, out);
-    // Let go by name, which is proved once for the type and not at each way out.
     drop(delivered);
     Ok(put?)
 }

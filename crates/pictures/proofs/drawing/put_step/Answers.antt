@@ -1,5 +1,5 @@
 use Rattle.std.proofs.Common.{◌++◌, ◌∷◌, [], ap, arith, string_bytes}
-use Rattle.pictures.specs.declared.moment.Moment.{Moment}
+use Rattle.pictures.specs.declared.snapshot.Snapshot.{Snapshot}
 use Rattle.pictures.proofs.Runs.{frontier_small, step_lines}
 use Rattle.pictures.proofs.drawing.put_step.Goals as goal
 
@@ -8,12 +8,12 @@ put_shown-put-requires c =
     let reached = c.step.ensures.reached in
     let events = reached.events ++ c.args.event.now ∷ [] in
     let done = c.in_ok-delivered.ensures.done reached.size reached.events reached.after in
-    let same = ap (λ (m : Moment). m.frontier) (c.look-after.ensures reached.size events done) in
+    let same = ap (λ (m : Snapshot). m.frontier) (c.take_snapshot-after.ensures reached.size events done) in
     let small = frontier_small reached.size events _ done in
     omega (arith, same, small)
 
 pub returns-clause-put : goal.returns-clause-put
 returns-clause-put c = λ size events is same.
-    step_lines c.args.shown size events c.args.event.now c.args.shards c.events-place.result c.caller-caller.result c.look-before.result c.look-after.result c.in_ok-delivered.delivered
-    (string_bytes c.args.out.now) _ same (c.events-place.ensures.count size events is) c.caller-caller.ensures (c.look-before.ensures size events is)
-    (c.look-after.ensures size (events ++ c.args.event.now ∷ []) (c.in_ok-delivered.ensures.done size events is)) (c.in_ok-delivered.ensures.delivered size events is) c.in_ok-put.ensures
+    step_lines c.args.shown size events c.args.event.now c.args.shards c.events-place.result c.caller-caller.result c.take_snapshot-before.result c.take_snapshot-after.result c.in_ok-delivered.delivered
+    (string_bytes c.args.out.now) _ same (c.events-place.ensures.count size events is) c.caller-caller.ensures (c.take_snapshot-before.ensures size events is)
+    (c.take_snapshot-after.ensures size (events ++ c.args.event.now ∷ []) (c.in_ok-delivered.ensures.done size events is)) (c.in_ok-delivered.ensures.delivered size events is) c.in_ok-put.ensures

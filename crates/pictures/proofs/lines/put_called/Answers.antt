@@ -1,6 +1,6 @@
 use Rattle.std.proofs.Common.{string_bytes}
 use Rattle.std.proofs.lemmas.Result.{on_ok_weaker}
-use Rattle.pictures.specs.Words.{request_words}
+use Rattle.pictures.specs.Labels.{request_words}
 use Rattle.pictures.proofs.Pieces.{noted}
 use Rattle.pictures.proofs.lines.put_called.Goals as goal
 

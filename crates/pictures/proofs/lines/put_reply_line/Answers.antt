@@ -1,6 +1,6 @@
 use Rattle.std.proofs.Common.{string_bytes}
 use Rattle.std.proofs.lemmas.Result.{on_ok_weaker}
-use Rattle.pictures.specs.Words.{reply_words}
+use Rattle.pictures.specs.Labels.{reply_words}
 use Rattle.pictures.proofs.Pieces.{from_frontier}
 use Rattle.pictures.proofs.lines.put_reply_line.Goals as goal
 

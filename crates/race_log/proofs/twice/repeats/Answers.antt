@@ -10,7 +10,7 @@ loop-stamp-preserved c =
     let inv = c.loop-stamp.invariant in
     record {
       earlier = with_next (reply_at c.args.items.now (get_or c.args.order.now c.loop-stamp.stamp-index d).reply) inv.earlier;
-      known = c.in_ok-take_at.ensures.known inv.earlier inv.known;
+      known = c.in_ok-on_reply_at.ensures.known inv.earlier inv.known;
       whole = replies_in_order-next c.args.items.now c.args.order.now c.loop-stamp.stamp-index d inv.earlier _ c.loop-stamp-test.true inv.whole;
-      counted = omega (arith, c.in_ok-take_at.ensures.counted);
+      counted = omega (arith, c.in_ok-on_reply_at.ensures.counted);
     }

@@ -1,6 +1,6 @@
 use Rattle.std.proofs.Common.{codes, string_bytes}
 use Rattle.std.proofs.lemmas.Result.{on_ok_weaker}
-use Rattle.pictures.specs.Words.{reply_words, request_words}
+use Rattle.pictures.specs.Labels.{reply_words, request_words}
 use Rattle.stories.specs.Story.{asker}
 use Rattle.stories.proofs.Pieces.{five}
 use Rattle.stories.proofs.telling.put_write.Goals as goal

@@ -1,6 +1,6 @@
 use Rattle.std.proofs.Common.{codes, string_bytes}
 use Rattle.std.proofs.lemmas.Result.{on_ok_weaker}
-use Rattle.pictures.specs.Words.{reply_words}
+use Rattle.pictures.specs.Labels.{reply_words}
 use Rattle.pictures.proofs.Pieces.{two}
 use Rattle.traces.proofs.lines.put_given.Goals as goal
 

@@ -1,7 +1,7 @@
 use Rattle.std.proofs.Common.{◌≡◌, ℕ, drop}
 use Rattle.std.specs.Option.{option_or}
 use Rattle.refused_plans.specs.Noted.{noted_in}
-use Rattle.refused_plans.specs.Words.{plan_in}
+use Rattle.refused_plans.specs.Labels.{plan_in}
 use Rattle.refused_plans.proofs.notes.RefusedNotes.of.Given as goal
 
 abbrev pub invariant-loop-plan : goal.invariant-loop-plan

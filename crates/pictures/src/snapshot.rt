@@ -1,0 +1,32 @@
+ghost use Rattle.std.specs.Prelude.{◌≡◌, List};
+ghost use Rattle.history.specs.After.{IsAfter};
+ghost use Rattle.interleavings.specs.declared.event.Event.{Event};
+ghost use Rattle.interleavings.specs.Trace.{after};
+ghost use Rattle.interleavings.specs.World.{Size, opening};
+ghost use Rattle.pictures.specs.Picture.{snapshot_of};
+
+use history::{Replay, Standing};
+
+/// What lines tell of a run between two events.
+#[derive(Clone, Copy)]
+pub(crate) struct Snapshot {
+    /// Where the caller stands that the event names. Where it names none, idle.
+    pub standing: Standing,
+    /// Whether the number behind the frontier is filled.
+    pub can_rise: bool,
+    pub frontier: u64,
+}
+
+pub(crate) fn take_snapshot(replay: &Replay, caller: Option<u64>) -> Snapshot
+    ensures { (size : Size) (events : List Event) → IsAfter size events replay.now → result ≡ snapshot_of size (after size opening events) caller }
+{
+    let standing = match caller {
+        Some(caller) => replay.standing(caller),
+        None => Standing::Idle,
+    };
+    Snapshot {
+        standing,
+        can_rise: replay.can_rise(),
+        frontier: replay.frontier(),
+    }
+}

@@ -1,7 +1,0 @@
-use Rattle.std.proofs.Common.{refl, rules}
-use Rattle.race_log.proofs.Living.{removed}
-use Rattle.race_log.proofs.twice.Living.take.Goals as goal
-
-pub returns-in-Removed-clause-known : goal.returns-in-Removed-clause-known
-returns-in-Removed-clause-known c = λ earlier known.
-    removed c.args.self.now _ c.args.reply.now c.in-Removed.object c.object.inside.key earlier (search rules) (search rules) c.remove.ensures.updates.0 refl known

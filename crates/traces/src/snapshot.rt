@@ -1,0 +1,76 @@
+ghost use Rattle.std.specs.Prelude.{◌≡◌, List, Some, is_none};
+ghost use Rattle.history.specs.After.{IsAfter};
+ghost use Rattle.history.specs.NextStep.{next_step};
+ghost use Rattle.interleavings.specs.declared.event.Event.{Event};
+ghost use Rattle.interleavings.specs.Trace.{after};
+ghost use Rattle.interleavings.specs.World.{Size, opening};
+ghost use Rattle.pictures.specs.Picture.{standing_by};
+ghost use Rattle.traces.specs.Enabled.{is_held, snapshot_of};
+
+use history::{Asked, Replay, Standing};
+use interleavings::Event;
+
+/// What a line tells of a run between two events.
+#[derive(Clone, Copy)]
+pub(crate) struct Snapshot {
+    /// Where the caller stands that the event names. Where it names none, idle.
+    pub standing: Standing,
+    /// Whether the caller has called a write and somebody holds the shard of its key.
+    pub is_held: bool,
+    /// Whether the number behind the frontier is filled.
+    pub can_rise: bool,
+    pub frontier: u64,
+}
+
+pub(crate) fn take_snapshot(replay: &Replay, caller: Option<u64>) -> Snapshot
+    ensures { (size : Size) (events : List Event) → IsAfter size events replay.now → result ≡ snapshot_of size (after size opening events) caller }
+{
+    let standing = standing_by(replay, caller);
+    Snapshot {
+        standing,
+        is_held: is_held(replay, caller, standing),
+        can_rise: replay.can_rise(),
+        frontier: replay.frontier(),
+    }
+}
+
+fn standing_by(replay: &Replay, caller: Option<u64>) -> Standing
+    ensures { (size : Size) (events : List Event) → IsAfter size events replay.now → result ≡ standing_by size (after size opening events) caller }
+{
+    match caller {
+        Some(caller) => replay.standing(caller),
+        None => Standing::Idle,
+    }
+}
+
+/// Whether the caller, which stands there, has called a write and somebody holds the shard of its key.
+fn is_held(replay: &Replay, caller: Option<u64>, standing: Standing) -> bool
+    ensures { (size : Size) (events : List Event) → IsAfter size events replay.now
+        → standing ≡ standing_by size (after size opening events) caller → result ≡ is_held (after size opening events) standing }
+{
+    match caller {
+        Some(caller) => waits_for_shard(replay, caller, standing),
+        None => false,
+    }
+}
+
+fn waits_for_shard(replay: &Replay, caller: u64, standing: Standing) -> bool
+    ensures { (size : Size) (events : List Event) → IsAfter size events replay.now
+        → standing ≡ standing_by size (after size opening events) (Some caller) → result ≡ is_held (after size opening events) standing }
+{
+    match standing {
+        // A write that is to be checked has a next step just where nobody holds its shard.
+        Standing::Called(Asked::Write { shard: _ }) => has_to_wait(replay, caller),
+        _ => false,
+    }
+}
+
+/// Whether no step leads the caller on while nobody else moves.
+fn has_to_wait(replay: &Replay, caller: u64) -> bool
+    ensures { (size : Size) (events : List Event) → IsAfter size events replay.now → result ≡ is_none (next_step size (after size opening events) caller) }
+{
+    let step = replay.next_step(caller);
+    let waits = step.is_none();
+    drop(step);
+    waits
+}
