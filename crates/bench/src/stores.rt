@@ -169,7 +169,6 @@ fn fill<S: SharedStore, R: Wait>(rt: &R, alloc: Global, store: &S) -> Result<(),
     for pod in 0..PODS {
         let created = Request::Create(drafts.next(pod, 0)?);
         let (reply, _) = answered(rt, store, &NoGate, &mut caller, created)?;
-        // Let go by name, which is proved once for the type and not at each way out.
         drop(reply);
     }
     Ok(())
@@ -180,7 +179,6 @@ fn frontier<S: SharedStore, R: Wait>(rt: &R, alloc: Global, store: &S) -> Result
     let mut caller = store.caller(rt)?;
     let key = key(alloc, 0)?;
     let reply = store.get(rt, &mut caller, &key)?;
-    // Let go by name, which is proved once for the type and not at each way out.
     drop(reply);
     Ok(store.seen(&caller))
 }

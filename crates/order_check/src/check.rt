@@ -43,7 +43,6 @@ fn explains(alloc: Global, store: Trees, items: &[Item], order: &[u64]) -> Resul
     match pairs.read(items) {
         Ok(true) => follows(alloc, store, pairs, items, order),
         refused => {
-            // What is left goes by `drop`, here and below: that is proved once for a type, not for each part.
             drop(pairs);
             drop(store);
             refused

@@ -90,7 +90,6 @@ impl Trees {
             } => {
                 let reply = self.write(request.clone()?)?;
                 let is_the_one = is_written(printer, recorded, &reply);
-                // Let go by name, which is proved once for the type and not at each way out.
                 drop(reply);
                 is_the_one
             }
@@ -102,7 +101,6 @@ impl Trees {
         ensures denied { result ≡ denied self.old.floor self.old.counter to }
         ensures raised { self.new ≡ (compacted_to self.old to result).0 }
     {
-        // Looked at so that the invariant is known here; it costs nothing.
         let _ = &self.versions;
         if let Some(reason) = self.denied(to) {
             return Some(reason);

@@ -82,7 +82,6 @@ pub fn answered<S: SharedStore, R: Wait, G: Gate>(
         return ask_write(rt, store, gate, caller, request);
     }
     let answer = read(rt, store, caller, &request);
-    // Let go by name, which is proved once for the type and not at each way out.
     drop(request);
     answer
 }

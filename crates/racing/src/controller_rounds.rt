@@ -79,7 +79,6 @@ fn make_round<S: SharedStore, R: Wait, G: Gate>(
     for _ in rt.forever() {
         let request = controller.next()?;
         if is_get(&request) {
-            // Let go by name, which is proved once for the type and not at each way out.
             drop(request);
             return Ok(());
         }

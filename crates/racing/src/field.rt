@@ -50,7 +50,6 @@ impl<S: SharedStore, G: Gate> Field<'_, S, G> {
         ensures { OnOk result (HasAsked S.gave request asked.old.items asked.new.items) }
     {
         let Ok(noted) = request.clone() else {
-            // Let go by name, which is proved once for the type and not at each way out.
             drop(request);
             return Err(Memory);
         };

@@ -107,7 +107,6 @@ pub(crate) fn run_job<S: SharedStore, R: Wait, G: Gate>(
     ensures { IfOk result (IsPartAt S.gave field.now.course.now.spec (number_of job)) }
 {
     if field.course.wait_for_start(rt).is_err() {
-        // Let go by name, which is proved once for the type and not at each way out.
         drop(job);
         return Err(Memory);
     }

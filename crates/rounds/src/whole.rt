@@ -238,7 +238,6 @@ fn ask_copied<A: Api>(
 fn let_go(request: Request) -> Result<(), ApiFault>
     ensures { IsErr result }
 {
-    // Let go by name, which is proved once for the type and not at each way out.
     drop(request);
     Err(ApiFault::Memory)
 }

@@ -1,5 +1,4 @@
 // A write while its shard is locked, and its caller's seat is in the shard's.
-// Values are let go by `drop`, which is proved once for a type and not at each way out.
 ghost use Rattle.std.specs.Prelude.{◌≡◌, ◌-◌, ◌≤◌, ◌<◌, max, true, length, Some, None, IsSome, All, IfOk, IfSome, IfNone, OnOk, OnErr};
 ghost use Rattle.objects.specs.declared.key.Key.{Key};
 ghost use Rattle.objects.specs.ShardOf.{shard_of};

@@ -49,7 +49,6 @@ fn read<S: SharedStore, R: Wait>(
         store.get(rt, caller, &key)?
     };
     let count = objects_in(&reply);
-    // Let go by name, which is proved once for the type and not at each way out.
     drop(reply);
     Ok(count)
 }

@@ -70,7 +70,6 @@ fn accepted<S: SharedStore, R: Wait>(
 ) -> Result<Option<u64>, Memory> {
     let (reply, number) = answered(rt, store, &NoGate, caller, request)?;
     let accepted = reply.drew_revision();
-    // Let go by name, which is proved once for the type and not at each way out.
     drop(reply);
     Ok(accepted.then_some(number))
 }

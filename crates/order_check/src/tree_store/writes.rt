@@ -20,7 +20,6 @@ impl Trees {
         ensures step { IfOk result (λ reply. (self.new, reply) ≡ step self.old request) }
         ensures to_write { IfOk result (λ reply. is_to_write reply ≡ true) }
     {
-        // Looked at so that the invariant is known here; it costs nothing.
         let _ = &self.versions;
         let Some(key) = request.key() else {
             unreachable!();
@@ -57,7 +56,6 @@ impl Trees {
         requires { self.now.counter ≢ self.now.capacity }
         ensures { result ≡ stamp (change_by kind object) (self.now.counter + 1) }
     {
-        // Looked at so that the invariant is known here; it costs nothing.
         let _ = &self.versions;
         kind.stamped(object, self.counter + 1)
     }
@@ -80,7 +78,6 @@ impl Trees {
     fn set_tombstone_if_removed(&mut self, kind: ChangeKind, key: &Key)
         ensures { self.new ≡ self.old }
     {
-        // Looked at so that the invariant is known here; it costs nothing.
         let _ = &self.versions;
         match kind {
             ChangeKind::Creation | ChangeKind::Update | ChangeKind::Mark => {}
