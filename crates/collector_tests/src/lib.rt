@@ -1,5 +1,4 @@
-//! That crate `collector` answers a refused allocation. Tests are a crate of their own, so that a library is proved once, and
-//! they reach only what it makes public.
+//! That crate `collector` answers a refused allocation.
 #![tactic(auto)]
 
 #[cfg(test)]

@@ -1,6 +1,5 @@
 //! What only a call shows of controllers: replies that no store gives, refused plans, and what is left after a refused
-//! allocation. What they ask over lines is in `examples/cluster` and `checks/stories.txt`. Tests are a crate of their own, so
-//! that a library is proved once, and they reach only what it makes public.
+//! allocation. What they ask over lines is in `examples/cluster` and `checks/stories.txt`.
 #![tactic(auto)]
 
 #[cfg(test)]

@@ -1,6 +1,5 @@
 //! What only a call shows of replays and of orders: orders that no replay makes, traces that are no history, and what is left
-//! after a refused allocation. Runs over lines are in `examples/replay` and `checks/races`. Tests are a crate of their own, so
-//! that a library is proved once, and they reach only what it makes public.
+//! after a refused allocation. Runs over lines are in `examples/replay` and `checks/races`.
 #![tactic(auto)]
 
 #[cfg(test)]

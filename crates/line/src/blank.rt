@@ -38,7 +38,6 @@ impl Line<Blank, Blanks> {
         ensures spent { (shard_seat seat.old).spent ≡ true → result ≡ None }
         ensures alone { seat.new.view.caller ≡ None }
     {
-        // Looked at so that the invariant is known here; it costs nothing.
         let _ = &seat.spent;
         draw_blank::<Brand>(self, seat)
     }

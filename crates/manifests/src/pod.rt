@@ -159,7 +159,6 @@ pub fn pod_of(alloc: Global, template: &PodTemplate<'_>, ordinal: u32) -> Result
 {
     let name = pod_name(alloc, name_of(template.set), ordinal)?;
     if MAX_LABEL < name.as_str().len() {
-        // Let go by name, which is proved once for the type and not at each way out.
         drop(name);
         return Err(PlanError::NameTooLong);
     }

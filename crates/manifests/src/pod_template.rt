@@ -49,7 +49,6 @@ impl<'a> PodTemplate<'a> {
         let members = template_of(alloc, revision)?;
         let given = part(alloc, &members, "metadata")?;
         let spec = part(alloc, &members, "spec")?;
-        // Let go by name, here and below, which is proved once for the type and not at each way out.
         drop(members);
         let labels = labels_in(alloc, &given)?;
         let metadata = with_annotations(alloc, set, &given)?;

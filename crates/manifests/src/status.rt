@@ -92,7 +92,6 @@ pub fn with_status(
     if differs(set, &new) {
         Ok(Some(set_with(set, new)?))
     } else {
-        // Let go by name, which is proved once for the type and not at each way out.
         drop(new);
         Ok(None)
     }

@@ -117,7 +117,6 @@ pub(crate) fn other_volumes(alloc: Global, set: &Set, spec: &Members) -> Result<
 {
     let names = names_of(alloc, set)?;
     let others = volumes_not_replaced(alloc, set, &names, volumes_in(spec))?;
-    // Let go by name, which is proved once for the type and not at each way out.
     drop(names);
     let items = Items::of(alloc, others)?;
     Ok(items)

@@ -1,5 +1,4 @@
 // What an update makes of an object.
-// What is still held at a way out goes by `drop`: that is proved once for a type, and not for each of its parts again.
 ghost use Rattle.std.specs.Prelude.{◌≡◌, ◌<◌, ◌^◌, None, codes, option_map, false, IfOk, IfSome};
 ghost use Rattle.trees.specs.Tree.{data_of};
 ghost use Rattle.objects.specs.declared.object.Object.{Object as SpecObject};

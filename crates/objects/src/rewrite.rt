@@ -44,7 +44,6 @@ impl Printed {
         ensures { IfOk result (λ printed. printed ≡ at_version (with_status (option_map data_of status) self.now) revision) }
     {
         let Ok(found) = self.spliced_status(printer, status.as_ref(), revision) else {
-            // Where it is not used it goes by `drop`: that is proved once for its type, not for each of its parts.
             drop(status);
             return Err(Memory);
         };

@@ -1,5 +1,4 @@
-//! What tests share: objects of texts, texts of objects, and what is asserted of a row. Large values go by `drop`, which is
-//! proved once for each type.
+//! What tests share: objects of texts, texts of objects, and what is asserted of a row.
 use objects::{Object, Printed, Printer, ReadError, print_object, read_object};
 use std::alloc::Global;
 use std::process::Abort;

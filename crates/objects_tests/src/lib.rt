@@ -1,6 +1,5 @@
 //! What only a call of `objects` and `trees` shows: objects that no line hands in, allocation failures, and what is too long
-//! or too deep for a line. What goes in as a line and comes out as a line stands in `examples/serve/`. Tests are a crate of
-//! their own, so that a library is proved once, and they reach only what it makes public.
+//! or too deep for a line. What goes in as a line and comes out as a line stands in `examples/serve/`.
 #![tactic(auto)]
 
 #[cfg(test)]

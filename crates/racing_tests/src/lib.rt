@@ -1,5 +1,4 @@
-//! Races over the running store. Tests are a crate of their own, so that the library is proved once, and they reach only
-//! what it makes public.
+//! Races over the running store.
 #![tactic(auto)]
 
 #[cfg(test)]

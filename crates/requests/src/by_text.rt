@@ -1,5 +1,4 @@
 // The verdicts on updates, status requests and deletes, by the text of the object that now has the key.
-// What is still held at a way out goes by `drop`: that is proved once for a type, and not for each of its parts again.
 ghost use Rattle.std.specs.Prelude.{◌≡◌, true, None, IfOk, IfSome};
 ghost use Rattle.std.specs.Option.{option_copied};
 ghost use Rattle.requests.specs.TextJudgments.{removal_verdict, status_verdict, update_verdict};

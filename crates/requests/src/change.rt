@@ -46,7 +46,6 @@ impl Change {
                 stored,
             }),
             Err(error) => {
-                // It goes by `drop`, which is proved once for its type, and not for each of its parts.
                 drop(object);
                 Err(error)
             }

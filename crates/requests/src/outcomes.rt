@@ -38,7 +38,6 @@ pub(crate) fn object_of(draft: Draft) -> Object
         uid,
         version,
     } = draft;
-    // Each goes by `drop`, which is proved once for its type, and not for each of its parts again.
     drop(uid);
     drop(version);
     object

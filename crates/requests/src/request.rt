@@ -140,7 +140,6 @@ fn copied_deletion(
             at,
         }),
         Err(error) => {
-            // It goes by `drop`, which is proved once for its type, and not for each of its parts again.
             drop(key);
             Err(error)
         }

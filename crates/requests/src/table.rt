@@ -1,5 +1,4 @@
 // The table of verdicts, in the order of its cases.
-// What is still held at a way out goes by `drop`: that is proved once for a type, and not for each of its parts again.
 ghost use Rattle.std.specs.Prelude.{◌≡◌, true, IfOk};
 ghost use Rattle.std.specs.Option.{option_copied};
 ghost use Rattle.requests.specs.Verdict.{is_write, on_create, on_delete, on_status, on_update, unless_same, verdict};

@@ -30,7 +30,6 @@ pub fn expired_revisions<'a>(
 {
     let live = live_names(alloc, set, pods, current, revisions.update.name)?;
     let mut history = others(alloc, &live, &revisions.owned)?;
-    // Let go by name, which is proved once for the type and not at each way out.
     drop(live);
     history.truncate(history.len().saturating_sub(set.history_limit as usize));
     Ok(history)

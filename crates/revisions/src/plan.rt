@@ -73,7 +73,6 @@ fn plan_of<'a>(
 {
     let Listed { names, owned } = found;
     if !are_sound(set, &owned) {
-        // Let go by name, which is proved once for the type and not at each way out.
         drop(names);
         drop(owned);
         return Err(PlanError::BadSpec);
@@ -129,7 +128,6 @@ fn creation(
     ensures { Gives (λ object. object) result (creation (set_parts set.now) (λ q. has_name q names.now.keys) digits number) }
 {
     if MAX_LABEL < name_of(set).len() + 1 + digits {
-        // Let go by name, which is proved once for the type and not at each way out.
         drop(template);
         return Err(PlanError::NameTooLong);
     }

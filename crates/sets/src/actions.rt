@@ -48,7 +48,6 @@ impl Actions {
             self.list.push(action)?;
             Ok(())
         } else {
-            // Let go by name, which is proved once for the type and not at each way out.
             drop(action);
             Ok(())
         }

@@ -30,7 +30,6 @@ pub(crate) fn name_at(alloc: Global, set: &Set, ordinal: u32) -> Result<Text, Me
 fn want_of_memory(error: PlanError) -> Memory
     requires { error ≡ OutOfMemory }
 {
-    // Let go by name, which is proved once for the type and not at each way out.
     drop(error);
     Memory
 }
@@ -130,7 +129,6 @@ fn make_claim_changes(
         Err(error) => match error {
             PlanError::Memory => Err(Memory),
             _ => {
-                // Let go by name, which is proved once for the type and not at each way out.
                 drop(error);
                 Ok(Vec::new(alloc))
             }

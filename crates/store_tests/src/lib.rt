@@ -1,5 +1,4 @@
-//! What a store answers, by one caller and by threads. Tests are a crate of their own, so that the library is proved once,
-//! and they reach only what it makes public.
+//! What a store answers, by one caller and by threads.
 #![tactic(auto)]
 
 #[cfg(test)]

@@ -1,6 +1,5 @@
 //! The records of two pods and a claim, and what is read of them before compactions, behind each, and behind later records. All
-//! of it was worked out by hand. A value of many parts is let go by `drop`, which is proved once for each type, and not at each
-//! way out of a test.
+//! of it was worked out by hand.
 use crate::readings::{lists, newest, reads};
 use crate::rising::Rising;
 use objects::{Key, Kind, Object, read_object};
