@@ -1,8 +1,6 @@
 -- The first piece of a delta and what is behind it.
-use Rattle.std.proofs.Common.{◌≡◌, ℕ, zero, suc, ◌+◌, ◌<◌, List, [], ◌∷◌, ◌++◌, length, take, drop, refl, ap, ◌∙◌, sym, arith, take-append-drop, slice_index_or, Bool, true, false, nat_eq, ◌==◌}
-use Rattle.std.specs.Cmp.Lexicographic.{pointwise}
+use Rattle.std.proofs.Common.{◌≡◌, ℕ, zero, suc, ◌+◌, ◌<◌, List, [], ◌∷◌, ◌++◌, length, take, drop, refl, ap, ◌∙◌, sym, arith, slice_index_or, Bool, true, false, ◌==◌}
 use Rattle.std.proofs.lemmas.Bool.{eqb-true}
-use Rattle.std.proofs.lemmas.Slice.Eq.{bytes_eq-Decides}
 use Rattle.packed.specs.Expanded.{pieces, expanded}
 
 pub pieces_added : (base : List ℕ) (n : ℕ) (xs : List ℕ) → pieces base n xs ≡ take n xs ++ pieces base 0 (drop n xs)
@@ -43,17 +41,6 @@ pieces_some base [] head after e f h = absurd (omega arith)
 pieces_some base (a ∷ []) head after e f h = absurd (omega arith)
 pieces_some base (a ∷ b ∷ []) head after e f h = absurd (omega arith)
 pieces_some base (a ∷ b ∷ c ∷ xs) head after e f h = rw (e, f) (pieces_first base a b c xs)
-
--- ---- comparing
-
-pub stripped : (text front rest : List ℕ) → pointwise nat_eq (take (length front) text) front ≡ true → rest ≡ drop (length front) text → text ≡ front ++ rest
-stripped text front rest same is = sym (take-append-drop (length front) text) ∙ ap (λ x. x ++ drop (length front) text) ((bytes_eq-Decides (take (length front) text) front).0 same) ∙ ap (λ x. front ++ x) (sym is)
-
-pub whole_of_parts : (whole left middle behind copied added rest : List ℕ) → whole ≡ copied ++ (added ++ rest) → left ≡ copied ++ middle → middle ≡ added ++ behind → rest ≡ behind → whole ≡ left
-whole_of_parts whole left middle behind copied added rest a b c d = cc
-
-pub same_bytes : (base text : List ℕ) (same : Bool) → same ≡ pointwise nat_eq base text → same ≡ true → base ≡ text
-same_bytes base text same is holds = (bytes_eq-Decides base text).0 (sym is ∙ holds)
 
 pub none_of_empty : (xs : List ℕ) (empty : Bool) → empty ≡ (length xs == 0) → empty ≡ true → xs ≡ []
 none_of_empty [] empty is holds = refl

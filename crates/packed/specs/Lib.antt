@@ -3,3 +3,5 @@ pub mod Expanded
 -- ---- what only proofs use
 pub mod Delta
 pub mod Kept
+pub mod Written
+pub mod Alike

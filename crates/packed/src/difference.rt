@@ -1,5 +1,6 @@
-ghost use Rattle.std.specs.Prelude.{◌≡◌, ◌<◌, ◌≤◌, ◌++◌, [], length, true, IfOk, OnOk, IsTrue};
+ghost use Rattle.std.specs.Prelude.{◌≡◌, ◌<◌, ◌≤◌, ◌++◌, [], length, true, IfOk, OnOk};
 ghost use Rattle.packed.specs.Expanded.{expanded};
+ghost use Rattle.packed.specs.Written.{Adds, AreFirst, IsWrittenTo};
 ghost use Rattle.packed.specs.declared.difference.TheConstants.{MOST};
 
 use crate::meeting::{Meeting, PATIENCE, common_length, next_meeting};
@@ -8,6 +9,9 @@ use std::alloc::AllocError;
 
 /// How many bytes a piece skips, copies and adds at most.
 const MOST: usize = 255;
+
+/// How many bytes of a piece say these numbers.
+const HEAD: usize = 3;
 
 /// Writes the text that a delta encodes.
 pub fn write_expanded(base: &[u8], delta: &[u8], out: &mut Vec<u8>) -> Result<(), AllocError>
@@ -27,30 +31,6 @@ pub fn write_expanded(base: &[u8], delta: &[u8], out: &mut Vec<u8>) -> Result<()
     Ok(())
 }
 
-/// Whether a delta encodes that text.
-fn encodes(base: &[u8], delta: &[u8], text: &[u8]) -> bool
-    ensures { IsTrue result → expanded base.now delta.now ≡ text.now }
-{
-    if delta.is_empty() {
-        return base == text;
-    }
-    let mut behind = base;
-    let mut rest = delta;
-    let mut left = text;
-    while let Some(piece) = next_piece(behind, rest) {
-        let Some(others) = left.strip_prefix(piece.copied) else {
-            return false;
-        };
-        let Some(others) = others.strip_prefix(piece.added) else {
-            return false;
-        };
-        left = others;
-        behind = piece.base;
-        rest = piece.delta;
-    }
-    left.is_empty()
-}
-
 /// Writes a delta that encodes the text, if one of at most that many bytes is found. Answers whether it is.
 pub fn write_delta(
     base: &[u8],
@@ -62,41 +42,47 @@ pub fn write_delta(
     ensures encoded { IfOk result (λ encoded. encoded ≡ true → expanded base.now out.new.items ≡ text.now) }
     ensures short { IfOk result (λ encoded. encoded ≡ true → length out.new.items ≤ most) }
 {
-    write_pieces(base, text, most, out)?;
-    Ok(out.len() <= most && encodes(base, out.as_slice(), text))
+    // An empty delta would encode the base.
+    if text.is_empty() {
+        return Ok(base.is_empty());
+    }
+    let end = write_stretches(base, text, most, out)?;
+    Ok(end.text == text.len() && out.len() <= most)
 }
 
-// Writes the pieces of a text, or the first ones that come to more than so many bytes.
-fn write_pieces(
+// Writes the pieces of a text, or the first ones that come to more than so many bytes. Answers how far they go.
+fn write_stretches(
     base: &[u8],
     text: &[u8],
     most: usize,
     out: &mut Vec<u8>,
-) -> Result<(), AllocError> {
+) -> Result<Meeting, AllocError>
+    requires { out.old.items ≡ [] }
+    ensures { IfOk result (IsWrittenTo base.now text.now out.new.items) }
+{
     let mut place = Meeting {
         text: 0,
         base: 0,
         skipped: 0,
         patience: PATIENCE,
     };
-    for _ in 0..text.len() {
-        if place.text >= text.len() || most < out.len() {
-            break;
-        }
-        place = write_piece(base, text, place, out)?;
+    'stretches: while place.text < text.len() && out.len() <= most {
+        place = write_stretch(base, text, place, out)?;
     }
-    Ok(())
+    Ok(place)
 }
 
 // Writes what both have alike from these places on, and what the text has alone behind it. Answers where they meet again.
-fn write_piece(
+fn write_stretch(
     base: &[u8],
     text: &[u8],
     place: Meeting,
     out: &mut Vec<u8>,
 ) -> Result<Meeting, AllocError>
-    requires { (place.text < length text.now) × (place.base ≤ length base.now) }
-    ensures { IfOk result (λ p. (p.text ≤ length text.now) × (p.base ≤ length base.now)) }
+    requires left { place.text < length text.now }
+    requires written { IsWrittenTo base.now text.now out.old.items place }
+    ensures on { IfOk result (λ p. place.text < p.text) }
+    ensures written { IfOk result (IsWrittenTo base.now text.now out.new.items) }
 {
     let same = common_length(&base[place.base..], &text[place.text..]);
     let behind = place.base + same;
@@ -119,33 +105,51 @@ fn write_run(
     copied: usize,
     added: &[u8],
     out: &mut Vec<u8>,
-) -> Result<(), AllocError> {
-    for _ in 0..skipped / MOST {
-        write_head(MOST, 0, 0, out)?;
-    }
-    let mut skipped = skipped % MOST;
-    for _ in 0..copied / MOST {
-        write_head(skipped, MOST, 0, out)?;
-        skipped = 0;
-    }
-    let (first, others) = added.split_at(added.len().min(MOST));
-    write_head(skipped, copied % MOST, first.len(), out)?;
-    out.extend_from_slice(first)?;
-    for chunk in others.chunks(MOST) {
-        write_head(0, 0, chunk.len(), out)?;
-        out.extend_from_slice(chunk)?;
+) -> Result<(), AllocError>
+    ensures { OnOk result (Adds skipped copied added.now out.old.items out.new.items) }
+{
+    let mut skips = skipped;
+    let mut copies = copied;
+    let mut rest = added;
+    'pieces: while 0 < skips || 0 < copies || !rest.is_empty() {
+        let (skip, copy, add) = first_lengths(skips, copies, rest.len());
+        let (first, others) = rest.split_at(add);
+        write_piece(skip, copy, first, out)?;
+        skips -= skip;
+        copies -= copy;
+        rest = others;
     }
     Ok(())
 }
 
-// Writes how many bytes a piece skips, copies and adds.
-fn write_head(
+// How many bytes the first of these pieces skips, copies and adds.
+#[inline(always)]
+fn first_lengths(skipped: usize, copied: usize, added: usize) -> (usize, usize, usize)
+    ensures { AreFirst skipped copied added result.0 result.1 result.2 }
+{
+    if skipped > MOST {
+        return (MOST, 0, 0);
+    }
+    if copied > MOST {
+        return (skipped, MOST, 0);
+    }
+    (skipped, copied, added.min(MOST))
+}
+
+// Writes the piece that does so.
+fn write_piece(
     skipped: usize,
     copied: usize,
-    added: usize,
+    added: &[u8],
     out: &mut Vec<u8>,
 ) -> Result<(), AllocError>
-    requires { (skipped ≤ MOST) × (copied ≤ MOST) × (added ≤ MOST) }
+    requires { (skipped ≤ MOST) × (copied ≤ MOST) × (length added.now ≤ MOST) }
+    ensures { OnOk result (Adds skipped copied added.now out.old.items out.new.items) }
 {
-    out.extend_from_slice(&[skipped as u8, copied as u8, added as u8])
+    out.reserve(HEAD)?;
+    out.push_reserved(skipped as u8);
+    out.push_reserved(copied as u8);
+    out.push_reserved(added.len() as u8);
+    out.extend_from_slice(added)?;
+    Ok(())
 }

@@ -1,8 +1,11 @@
 // Where a text and its base go on alike, once they have differed. Both are JSON, so this is looked for at the quotes of
 // names and texts.
-ghost use Rattle.std.specs.Prelude.{◌≤◌, ◌<◌, length, IfSome};
+ghost use Rattle.std.specs.Prelude.{◌≡◌, ◌≤◌, ◌<◌, length, map, take, IfSome};
+ghost use Rattle.std.specs.Simd.Lanes.{mask_l};
+ghost use Rattle.packed.specs.Alike.{differ, pairs};
 
 use memchr::memchr;
+use std::simd::prelude::*;
 
 /// How many bytes have to be alike where two texts meet.
 const WINDOW: usize = 8;
@@ -123,39 +126,50 @@ fn quote_from(bytes: &[u8], place: usize) -> usize
     }
 }
 
-/// How many bytes both begin with.
+/// How many bytes are compared at a time.
+const LANES: usize = 16;
+
+/// How many bytes both begin with alike.
 pub(crate) fn common_length(left: &[u8], right: &[u8]) -> usize
     ensures left { result ≤ length left.now }
     ensures right { result ≤ length right.now }
+    ensures alike { take result left.now ≡ take result right.now }
 {
-    let mut count = 0;
-    let mut left = left;
-    let mut right = right;
-    while let Some((here, behind)) = left.split_first_chunk::<WINDOW>() {
-        let Some((there, beyond)) = right.split_first_chunk::<WINDOW>() else {
-            break;
-        };
-        let differ = u64::from_le_bytes(*here) ^ u64::from_le_bytes(*there);
+    let shorter = left.len().min(right.len());
+    let mut at = 0;
+    'vectors: while shorter - at >= LANES {
+        let differ = differences(
+            u8x16::from_slice(&left[at..]),
+            u8x16::from_slice(&right[at..]),
+        );
         if differ != 0 {
-            // The lowest byte is the first.
-            return count + WINDOW.min((differ.trailing_zeros() / 8) as usize);
+            return at + differ.trailing_zeros() as usize;
         }
-        count += WINDOW;
-        left = behind;
-        right = beyond;
+        at += LANES;
     }
-    count + common_rest(left, right)
+    common_rest(left, right, at)
 }
 
-fn common_rest(left: &[u8], right: &[u8]) -> usize
+// Which of the bytes differ.
+#[inline(always)]
+fn differences(left: u8x16, right: u8x16) -> u64
+    ensures { result ≡ mask_l (map differ (pairs left right)) }
+{
+    left.simd_ne(right).to_bitmask()
+}
+
+// The same a byte at a time, for the last ones.
+fn common_rest(left: &[u8], right: &[u8], from: usize) -> usize
+    requires left { from ≤ length left.now }
+    requires right { from ≤ length right.now }
+    requires alike { take from left.now ≡ take from right.now }
     ensures left { result ≤ length left.now }
     ensures right { result ≤ length right.now }
+    ensures alike { take result left.now ≡ take result right.now }
 {
-    let longest = left.len().min(right.len());
-    for place in 0..longest {
-        if left[place] != right[place] {
-            return place;
-        }
+    let mut at = from;
+    'bytes: while at < left.len() && at < right.len() && left[at] == right[at] {
+        at += 1;
     }
-    longest
+    at
 }

@@ -1,9 +1,8 @@
-use Rattle.std.proofs.Common.{◌≡◌, ◌+◌, length}
+use Rattle.std.proofs.Common.{◌≡◌, ◌≤◌, ◌-◌, length, take}
 use Rattle.packed.proofs.meeting.common_length.Given as goal
 
--- what was found alike and what is left make the whole
-abbrev pub invariant-loop-here : goal.invariant-loop-here
-invariant-loop-here l = (l.count + length l.left ≡ length l.fn.left) × (l.count + length l.right ≡ length l.fn.right)
+abbrev pub invariant-vectors : goal.invariant-vectors
+invariant-vectors l = (l.at ≤ length l.left) × (l.at ≤ length l.right) × (take l.at l.left ≡ take l.at l.right) × (l.shorter ≤ length l.left) × (l.shorter ≤ length l.right) × (l.at ≤ l.shorter)
 
-abbrev pub decreases-loop-here : goal.decreases-loop-here
-decreases-loop-here l = length l.left
+abbrev pub decreases-vectors : goal.decreases-vectors
+decreases-vectors l = l.shorter - l.at
