@@ -17,6 +17,7 @@ use crate::texts::plain_rest;
 /// Puts the members of the maps of the value that begins here into byte order, and answers how many bytes it takes, if it is
 /// compact and nests at most so deep. What comes behind it stays. With `None` the bytes may be those of no text any more.
 #[cycle(order)]
+#[inline(always)]
 pub(crate) fn put_in_order(
     text: &mut [u8],
     depth: usize,
@@ -28,16 +29,34 @@ pub(crate) fn put_in_order(
 {
     let (first, _behind) = text.split_first()?;
     let first = *first;
-    if first == b'{' && depth > 0 {
-        let size = members_end(&mut text[1..], depth - 1, level, scanner)?;
-        return Some(size + 1);
-    }
-    if first == b'[' && depth > 0 {
-        let size = items_end(&mut text[1..], depth - 1, scanner)?;
-        return Some(size + 1);
+    if first == b'{' || first == b'[' {
+        return nested_end(text, depth, level, scanner);
     }
     let rest = scalar_rest(text)?;
     Some(text.len() - rest.len())
+}
+
+// The same for a map or a list. These alone take a call: most values are scalars.
+#[cycle(order)]
+#[inline(never)]
+fn nested_end(text: &mut [u8], depth: usize, level: Level, scanner: &mut Scanner) -> Option<usize>
+    ensures ordered { IfSome result (λ n. IsOrdered depth (IsNoted level scanner.old.tables scanner.new.tables) text.old text.new n) }
+    ensures within { IfSome result (λ n. n ≤ length text.old) }
+{
+    if depth == 0 {
+        return None;
+    }
+    let (first, _behind) = text.split_first()?;
+    let first = *first;
+    if first == b'{' {
+        let size = members_end(&mut text[1..], depth - 1, level, scanner)?;
+        return Some(size + 1);
+    }
+    if first != b'[' {
+        return None;
+    }
+    let size = items_end(&mut text[1..], depth - 1, scanner)?;
+    Some(size + 1)
 }
 
 // Where the bracket that closes a list ends, given what stands behind the one that opens it.

@@ -10,16 +10,16 @@ use Rattle.compact.proofs.Values.{scalar_is, list_is, map_is, member_is}
 use Rattle.compact.proofs.Maps.{no_member_is, members_begin, read_member, next_state, members_end}
 use Rattle.compact.proofs.order.+order.Goals as goal
 
-pub put_in_order-returns-then-depth-gt0-clause-ordered : goal.put_in_order-returns-then-depth-gt0-clause-ordered
-put_in_order-returns-then-depth-gt0-clause-ordered t c =
-    map_is c.args.depth (c.args.depth - 1) (IsNoted c.args.level c.args.scanner.now.tables c.members_end.new.scanner.tables) c.args.text.now _ c.members_end.new.text _ _ (let one : (c.args.depth - 1) + 1 ≤ c.args.depth = omega (arith, c.if-depth-gt0.true) in one) c.in_ok-first.ensures.cases.0 c.if-first-eq123.true c.in_ok-size.ensures.ordered
-
-pub put_in_order-returns-then-depth-gt0-2-clause-ordered : goal.put_in_order-returns-then-depth-gt0-2-clause-ordered
-put_in_order-returns-then-depth-gt0-2-clause-ordered t c =
-    list_is c.args.depth (c.args.depth - 1) c.args.text.now _ c.items_end.new.text _ _ c.args.level c.args.scanner.now.tables c.items_end.new.scanner.tables (let one : (c.args.depth - 1) + 1 ≤ c.args.depth = omega (arith, c.if-depth-gt0-2.true) in one) c.in_ok-first.ensures.cases.0 c.if-first-eq91.true c.in_ok-size-2.ensures.ordered c.in_ok-size-2.ensures.kept
-
 pub put_in_order-returns-clause-ordered : goal.put_in_order-returns-clause-ordered
 put_in_order-returns-clause-ordered t c = scalar_is c.args.depth c.args.text.now c.in_ok-rest.rest.now c.args.level c.args.scanner.now.tables c.in_ok-rest.ensures.value
+
+pub nested_end-returns-then-first-eq123-clause-ordered : goal.nested_end-returns-then-first-eq123-clause-ordered
+nested_end-returns-then-first-eq123-clause-ordered t c =
+    map_is c.args.depth (c.args.depth - 1) (IsNoted c.args.level c.args.scanner.now.tables c.members_end.new.scanner.tables) c.args.text.now _ c.members_end.new.text _ _ (let one : (c.args.depth - 1) + 1 ≤ c.args.depth = omega (arith, c.if-depth-eq0.false) in one) c.in_ok-first.ensures.cases.0 c.if-first-eq123.true c.in_ok-size.ensures.ordered
+
+pub nested_end-returns-clause-ordered : goal.nested_end-returns-clause-ordered
+nested_end-returns-clause-ordered t c =
+    list_is c.args.depth (c.args.depth - 1) c.args.text.now _ c.items_end.new.text _ _ c.args.level c.args.scanner.now.tables c.items_end.new.scanner.tables (let one : (c.args.depth - 1) + 1 ≤ c.args.depth = omega (arith, c.if-depth-eq0.false) in one) c.in_ok-first.ensures.cases.0 c.if-first-ne91.false c.in_ok-size-2.ensures.ordered c.in_ok-size-2.ensures.kept
 
 pub items_end-returns-then-first-eq93-clause-ordered : goal.items_end-returns-then-first-eq93-clause-ordered
 items_end-returns-then-first-eq93-clause-ordered t c = no_item_is c.args.depth _ _ _ c.in_ok-first.ensures.cases.0 c.if-first-eq93.true

@@ -4,16 +4,19 @@ use Rattle.compact.proofs.Maps.{MembersState}
 use Rattle.compact.proofs.order.+order.Given as goal
 
 abbrev pub decreases-put_in_order : goal.decreases-put_in_order
-decreases-put_in_order l = 3 * l.depth
+decreases-put_in_order l = 4 * l.depth + 1
+
+abbrev pub decreases-nested_end : goal.decreases-nested_end
+decreases-nested_end l = 4 * l.depth
 
 abbrev pub decreases-items_end : goal.decreases-items_end
-decreases-items_end l = 3 * l.depth + 1
+decreases-items_end l = 4 * l.depth + 2
 
 abbrev pub decreases-members_end : goal.decreases-members_end
-decreases-members_end l = 3 * l.depth + 2
+decreases-members_end l = 4 * l.depth + 3
 
 abbrev pub decreases-member_end : goal.decreases-member_end
-decreases-member_end l = 3 * l.depth + 1
+decreases-member_end l = 4 * l.depth + 2
 
 abbrev pub invariant-items_end-items : goal.invariant-items_end-items
 invariant-items_end-items l = record {
