@@ -21,4 +21,4 @@ pub use map::Map;
 pub use meta::{CompactMeta, meta_of};
 pub use owners::owners_fit;
 pub use parts::{is_of_version, key_of, kind_named, kind_of, namespace_of};
-pub use text::text_of;
+pub use text::{as_text, text_of};

@@ -1,5 +1,6 @@
 // Texts as they are written.
 ghost use Rattle.std.specs.Prelude.{◌≡◌, ◌∷◌, ◌++◌, [], IsTrue, IfSome};
+ghost use Rattle.std.specs.Str.{IsUtf8};
 ghost use Rattle.serde_json.specs.Data.{Data, string};
 ghost use Rattle.serde_json.specs.Written.{compact_text};
 
@@ -38,10 +39,20 @@ pub fn text_of(value: &[u8]) -> Option<&str>
     if inside.contains(&b'\\') {
         return None;
     }
-    if inside.is_ascii() {
-        return Some(unsafe { from_utf8_unchecked(inside) });
+    let text = as_text(inside)?;
+    Some(text)
+}
+
+/// These bytes as a text, if they are UTF-8. Of a short one it is soonest told that it is ASCII.
+#[inline(always)]
+pub fn as_text(bytes: &[u8]) -> Option<&str>
+    ensures value { IfSome result (λ text. text.now ≡ bytes.now) }
+    ensures utf8 { IfSome result (λ text. IsUtf8 text.now) }
+{
+    if bytes.is_ascii() {
+        return Some(unsafe { from_utf8_unchecked(bytes) });
     }
-    match from_utf8(inside) {
+    match from_utf8(bytes) {
         Ok(text) => Some(text),
         Err(_) => None,
     }
