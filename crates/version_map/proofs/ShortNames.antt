@@ -8,9 +8,9 @@ use Rattle.std.specs.Cmp.{nat_cmp_is, ranks}
 use Rattle.std.specs.Cmp.Lexicographic.{slice_cmp}
 use Rattle.std.specs.Slice.Scan.{big_endian}
 use Rattle.std.proofs.lemmas.Cmp.{nat_list_cmp_total}
-use Rattle.std.proofs.lemmas.List.{length-take-le}
+use Rattle.std.proofs.lemmas.List.{length-take-le, length-drop, drop_all, get_or-drop}
 use Rattle.std.proofs.Math.Seq.{take-append_seam}
-use Rattle.version_map.specs.ShortName.{padded, text_in, IsShort}
+use Rattle.version_map.specs.ShortName.{padded, text_in, word_at, IsShort}
 
 abbrev AreBytes : List ℕ → Type 0
 AreBytes xs = (i : ℕ) → slice_index xs i < 256
@@ -59,31 +59,56 @@ holds t le h xs made_of =
 
 -- ---- in the order of their bytes
 
-rises : (a b : ℕ) (xs ys : List ℕ) → length xs ≡ length ys → AreBytes xs → a < b → big_endian a xs < big_endian b ys
-rises a b [] [] e h l = l
-rises a b [] (y ∷ ys) e h l = absurd (omega arith)
-rises a b (x ∷ xs) [] e h l = absurd (omega arith)
-rises a b (x ∷ xs) (y ∷ ys) e h l =
+rises : (k a b : ℕ) (xs ys : List ℕ) → length xs ≡ length ys → AreBytes xs → a < b → big_endian a (take k xs) < big_endian b (take k ys)
+rises zero a b xs ys e h l = l
+rises (suc k) a b [] [] e h l = l
+rises (suc k) a b [] (y ∷ ys) e h l = absurd (omega arith)
+rises (suc k) a b (x ∷ xs) [] e h l = absurd (omega arith)
+rises (suc k) a b (x ∷ xs) (y ∷ ys) e h l =
     let low : x < 256 = h 0 in
-    rises (a * 256 + x) (b * 256 + y) xs ys (omega arith) (λ i. h (suc i)) (omega arith)
+    rises k (a * 256 + x) (b * 256 + y) xs ys (omega arith) (λ i. h (suc i)) (omega arith)
 
-ordered : (n : ℕ) (xs ys : List ℕ) → length xs ≡ length ys → AreBytes xs → AreBytes ys → slice_cmp nat_cmp xs ys ≡ nat_cmp (big_endian n xs) (big_endian n ys)
-ordered n [] [] e g h = nat_cmp_is n n Equal refl
-ordered n [] (y ∷ ys) e g h = absurd (omega arith)
-ordered n (x ∷ xs) [] e g h = absurd (omega arith)
-ordered n (x ∷ xs) (y ∷ ys) e g h = by (ordered (n * 256 + x) xs ys (omega arith) (λ i. g (suc i)) (λ i. h (suc i))) (nat_cmp x y) refl (ranks x y)
+-- the first k bytes decide as a number, or the rest does
+ordered : (k n : ℕ) (xs ys : List ℕ) → length xs ≡ length ys → AreBytes xs → AreBytes ys
+    → slice_cmp nat_cmp xs ys ≡ ordering_then (nat_cmp (big_endian n (take k xs)) (big_endian n (take k ys))) (slice_cmp nat_cmp (drop k xs) (drop k ys))
+ordered zero n xs ys e g h = ap (λ o. ordering_then o (slice_cmp nat_cmp xs ys)) (nat_cmp_is n n Equal refl)
+ordered (suc k) n [] [] e g h = ap (λ o. ordering_then o Equal) (nat_cmp_is n n Equal refl)
+ordered (suc k) n [] (y ∷ ys) e g h = absurd (omega arith)
+ordered (suc k) n (x ∷ xs) [] e g h = absurd (omega arith)
+ordered (suc k) n (x ∷ xs) (y ∷ ys) e g h = by (ordered k (n * 256 + x) xs ys (omega arith) (λ i. g (suc i)) (λ i. h (suc i))) (nat_cmp x y) refl (ranks x y)
   where
     rest : ℕ → ℕ → Ordering
-    rest a b = nat_cmp (big_endian (n * 256 + a) xs) (big_endian (n * 256 + b) ys)
+    rest a b = ordering_then (nat_cmp (big_endian (n * 256 + a) (take k xs)) (big_endian (n * 256 + b) (take k ys))) (slice_cmp nat_cmp (drop k xs) (drop k ys))
 
     by : slice_cmp nat_cmp xs ys ≡ rest x x → (o : Ordering) → nat_cmp x y ≡ o → MatchOrdering o (x < y) (x ≡ y) (y < x) → ordering_then (nat_cmp x y) (slice_cmp nat_cmp xs ys) ≡ rest x y
     by same Less is l =
-        let up : big_endian (n * 256 + x) xs < big_endian (n * 256 + y) ys = rises _ _ xs ys (omega arith) (λ i. g (suc i)) (omega (arith, l)) in
-        ap (λ o. ordering_then o (slice_cmp nat_cmp xs ys)) is ∙ nat_cmp_is _ _ Less up
+        let up = rises k (n * 256 + x) (n * 256 + y) xs ys (omega arith) (λ i. g (suc i)) (omega (arith, l)) in
+        ap (λ o. ordering_then o (slice_cmp nat_cmp xs ys)) is ∙ ap (λ o. ordering_then o (slice_cmp nat_cmp (drop k xs) (drop k ys))) (nat_cmp_is _ _ Less up)
     by same Greater is l =
-        let down : big_endian (n * 256 + y) ys < big_endian (n * 256 + x) xs = rises _ _ ys xs (omega arith) (λ i. h (suc i)) (omega (arith, l)) in
-        ap (λ o. ordering_then o (slice_cmp nat_cmp xs ys)) is ∙ nat_cmp_is _ _ Greater down
+        let down = rises k (n * 256 + y) (n * 256 + x) ys xs (omega arith) (λ i. h (suc i)) (omega (arith, l)) in
+        ap (λ o. ordering_then o (slice_cmp nat_cmp xs ys)) is ∙ ap (λ o. ordering_then o (slice_cmp nat_cmp (drop k xs) (drop k ys))) (nat_cmp_is _ _ Greater down)
     by same Equal is l = ap (λ o. ordering_then o (slice_cmp nat_cmp xs ys)) is ∙ same ∙ ap (rest x) l
+
+then_Equal : (o : Ordering) → ordering_then o Equal ≡ o
+then_Equal Less = refl
+then_Equal Equal = refl
+then_Equal Greater = refl
+
+dropped : (k : ℕ) (xs : List ℕ) → AreBytes xs → AreBytes (drop k xs)
+dropped k xs h i = subst (λ n. n < 256) (sym (get_or-drop k xs i 0)) (h (k + i))
+
+-- two words decide
+in_words : (xs ys : List ℕ) → length xs ≡ 16 → length ys ≡ 16 → AreBytes xs → AreBytes ys
+    → slice_cmp nat_cmp xs ys ≡ ordering_then (nat_cmp (word_at 0 xs) (word_at 0 ys)) (nat_cmp (word_at 8 xs) (word_at 8 ys))
+in_words xs ys e f g h =
+    let low = drop 8 xs in
+    let low' = drop 8 ys in
+    let n : length low ≡ 8 = omega (arith, length-drop 8 xs) in
+    let n' : length low' ≡ 8 = omega (arith, length-drop 8 ys) in
+    let none : slice_cmp nat_cmp (drop 8 low) (drop 8 low') ≡ Equal = λ i. slice_cmp nat_cmp (drop_all 8 low (omega arith) i) (drop_all 8 low' (omega arith) i) in
+    ordered 8 0 xs ys (omega arith) g h
+    ∙ ap (ordering_then (nat_cmp (word_at 0 xs) (word_at 0 ys)))
+    (ordered 8 0 low low' (omega arith) (dropped 8 xs g) (dropped 8 ys h) ∙ ap (ordering_then (nat_cmp (word_at 8 xs) (word_at 8 ys))) none ∙ then_Equal _)
 
 tied : (r q c d : ℕ) → r ≡ q → c ≡ d → slice_cmp nat_cmp (replicate r 0 ++ c ∷ []) (replicate q 0 ++ d ∷ []) ≡ Equal
 tied zero zero c d e f = ap (λ o. ordering_then o Equal) (sym (nat_cmp_is c d Equal f))
@@ -114,11 +139,12 @@ short_is xs s is h =
     let same : length s ≡ length (text_in xs) = ap length is in
     (ap padded is ∙ h.0, omega (arith, h.2))
 
--- two short names are in the order of what they are as numbers
-pub order_of : (xs ys s t : List ℕ) → s ≡ text_in xs → t ≡ text_in ys → IsShort xs → IsShort ys → slice_cmp nat_cmp s t ≡ nat_cmp (big_endian 0 (padded s)) (big_endian 0 (padded t))
+-- two short names are in the order of what holds them
+pub order_of : (xs ys s t : List ℕ) → s ≡ text_in xs → t ≡ text_in ys → IsShort xs → IsShort ys
+    → slice_cmp nat_cmp s t ≡ ordering_then (nat_cmp (word_at 0 xs) (word_at 0 ys)) (nat_cmp (word_at 8 xs) (word_at 8 ys))
 order_of xs ys s t is is' h g =
     let a = short_is xs s is h in
     let b = short_is ys t is' g in
-    let long : length (padded s) ≡ length (padded t) = ap length a.0 ∙ h.1 ∙ sym g.1 ∙ ap length (sym b.0) in
     sym (kept s t (15 - length s) (15 - length t) (length s) (length t) (omega (arith, a.1, b.1)) (omega (arith, a.1, b.1)))
-    ∙ ordered 0 (padded s) (padded t) long (subst AreBytes (sym a.0) h.3) (subst AreBytes (sym b.0) g.3)
+    ∙ (λ i. slice_cmp nat_cmp (a.0 i) (b.0 i))
+    ∙ in_words xs ys h.1 g.1 h.3 g.3

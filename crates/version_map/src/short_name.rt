@@ -1,13 +1,16 @@
-// A short name in the value itself, in a form that compares as a number does.
-ghost use Rattle.std.specs.Prelude.{◌≡◌, ◌≤◌, ◌<◌, length, IfSome, IfNone};
-ghost use Rattle.std.specs.Slice.Scan.{big_endian};
-ghost use Rattle.version_map.specs.ShortName.{padded};
+// A short name in the value itself, in a form that compares as two numbers do.
+ghost use Rattle.std.specs.Prelude.{◌≡◌, ◌+◌, ◌≤◌, ◌<◌, length, IfSome, IfNone};
+ghost use Rattle.std.specs.Ordering.{nat_cmp, ordering_then};
+ghost use Rattle.version_map.specs.ShortName.{word_at};
 
 use std::cmp::Ordering;
 use std::marker::Model;
 
+/// How many bytes are compared as one number.
+const WORD: usize = 8;
+
 /// How many bytes a short name is held in.
-const HELD: usize = 16;
+const HELD: usize = 2 * WORD;
 
 /// The most bytes of a short name. The last of those that hold it counts them.
 const MOST: usize = HELD - 1;
@@ -51,13 +54,34 @@ impl ShortName {
     {
         &self.bytes[..self.bytes[MOST] as usize]
     }
+}
 
-    /// What it is as a number.
-    fn number(&self) -> u128
-        ensures { result ≡ big_endian 0 (padded self.now) }
-    {
-        u128::from_be_bytes(self.bytes)
+/// The order of two by their bytes. A search goes on while the left one is greater, so this is told first, mostly from the
+/// first words alone.
+#[inline(always)]
+fn order(left: &[u8; HELD], right: &[u8; HELD]) -> Ordering
+    ensures { result ≡ ordering_then (nat_cmp (word_at 0 left.now) (word_at 0 right.now)) (nat_cmp (word_at 8 left.now) (word_at 8 right.now)) }
+{
+    let (left_high, right_high) = (word(left, 0), word(right, 0));
+    if left_high > right_high {
+        return Ordering::Greater;
     }
+    if left_high < right_high {
+        return Ordering::Less;
+    }
+    word(left, WORD).cmp(&word(right, WORD))
+}
+
+/// The bytes of a word from a place on, as a number.
+#[inline(always)]
+fn word(bytes: &[u8; HELD], from: usize) -> u64
+    requires { from + WORD ≤ HELD }
+    ensures { result ≡ word_at from bytes.now }
+{
+    let Some((word, _)) = bytes[from..].split_first_chunk::<WORD>() else {
+        unreachable!();
+    };
+    u64::from_be_bytes(*word)
 }
 
 impl PartialEq for ShortName {
@@ -108,9 +132,8 @@ impl Ord for ShortName {
 
     ghost matches_eq = { texts_ties };
 
+    #[inline(always)]
     fn cmp(&self, other: &ShortName) -> Ordering {
-        let _ = &self.bytes;
-        let _ = &other.bytes;
-        self.number().cmp(&other.number())
+        order(&self.bytes, &other.bytes)
     }
 }
