@@ -1,5 +1,5 @@
 -- Values that have been put into order.
-use Rattle.std.proofs.Common.{◌≡◌, ℕ, ◌+◌, ◌-◌, ◌≤◌, List, [], ◌∷◌, ◌++◌, length, true, Some, refl, sym, ap, ◌∙◌, append_assoc, append-nil, length-append, ◌==◌, Bool, arith}
+use Rattle.std.proofs.Common.{◌≡◌, ℕ, ◌+◌, ◌-◌, ◌≤◌, List, [], ◌∷◌, ◌++◌, length, true, Some, refl, subst, sym, ap, ◌∙◌, append_assoc, append-nil, length-append, ◌==◌, Bool, arith}
 use Rattle.std.proofs.lemmas.Bool.{eqb-true}
 use borrow.Rule.Slice.PartMut.{mid_of, put_mid}
 use Rattle.std.specs.Prelude.{option_map}
@@ -11,9 +11,9 @@ use Rattle.serde_json.specs.Data.{Data}
 use Rattle.serde_json.specs.Read.{of_json, max_depth}
 use Rattle.serde_json.specs.Written.{compact_text}
 use Rattle.compact.specs.Texts.{json_text, IsWhole}
-use Rattle.compact.specs.Begins.{BeginsScalar, EndsPlain}
+use Rattle.compact.specs.Begins.{BeginsScalar, IsPlainText, EndsPlain}
 use Rattle.compact.specs.Notes.{OfMembers, Told, IsNoted}
-use Rattle.compact.specs.Ordered.{IsOrdered, AreOrderedItems, AreOrderedMembers, IsOrderedMember, IsKey}
+use Rattle.compact.specs.Ordered.{IsOrdered, AreOrderedItems, AreOrderedMembers, IsOrderedMember}
 use Rattle.compact.specs.Reads.{IsTaken}
 use Rattle.compact.specs.declared.tables.Tables.{Tables}
 use Rattle.compact.specs.declared.level.Level.{Level}
@@ -51,6 +51,16 @@ scalar_is most text rest level tables b =
       whole = b.whole;
       said = (s.nothing level tables, λ h. refl);
     }
+
+pub plain_text_is : (text inside rest : List ℕ) (x : ℕ) → text ≡ x ∷ inside → x ≡ 34 → EndsPlain inside rest → IsPlainText text (length text - length rest)
+plain_text_is text inside rest x is quote e =
+    let whole = is ∙ ap (λ c. c ∷ inside) quote ∙ ap (λ l. 34 ∷ l) (e.is ∙ ap (λ v. v ++ 34 ∷ rest) (sym e.plain) ∙ sym (append_assoc (escape e.value) (34 ∷ []) rest)) in
+    record { inside = e.value; rest = rest; is = whole; size = omega (arith, ap length whole, length-append (quoted e.value) rest); plain = e.plain }
+
+pub plain_is : (most : ℕ) (text : List ℕ) (n : ℕ) (level : Level) (tables : Tables) → IsPlainText text n → IsOrdered most (IsNoted level tables tables) text text n
+plain_is most text n level tables k =
+    let size : length text - length k.rest ≡ n = omega (arith, k.size, ap length k.is, length-append (quoted k.inside) k.rest) in
+    subst (λ m. IsOrdered most (IsNoted level tables tables) text text m) size (scalar_is most text k.rest level tables record { value = string k.inside; is = k.is; shallow = omega arith; whole = tt })
 
 pub list_is : (most below : ℕ) (text behind sub : List ℕ) (x n : ℕ) (level : Level) (old new : Tables) → below + 1 ≤ most → text ≡ x ∷ behind → x ≡ 91 → AreOrderedItems below (mid_of 1 (length text - 1) text) sub n → new ≡ old
     → IsOrdered most (IsNoted level old new) text (put_mid 1 (length text - 1) text sub) (n + 1)
@@ -90,31 +100,26 @@ map_is most below P text behind sub x n deeper is brace o =
 
 -- ---- one member
 
-pub key_is : (text inside rest : List ℕ) (x : ℕ) → text ≡ x ∷ inside → x ≡ 34 → EndsPlain inside rest → IsKey text (length text - length rest)
-key_is text inside rest x is quote e =
-    let whole = is ∙ ap (λ c. c ∷ inside) quote ∙ ap (λ l. 34 ∷ l) (e.is ∙ ap (λ v. v ++ 34 ∷ rest) (sym e.plain) ∙ sym (append_assoc (escape e.value) (34 ∷ []) rest)) in
-    record { key = e.value; rest = rest; is = whole; size = omega (arith, ap length whole, length-append (quoted e.value) rest); plain = e.plain }
-
 one_more : (q b : List ℕ) → q ++ 58 ∷ b ≡ (q ++ 58 ∷ []) ++ b
 one_more q b = simp append_assoc
 
-pub member_is : (most : ℕ) (P : List ℕ → Data → Type 0) (text behind sub : List ℕ) (key n x : ℕ) → (k : IsKey text key) → mid_of key (length text - key) text ≡ x ∷ behind → x ≡ 58
-    → IsOrdered most (P k.key) (mid_of (key + 1) (length text - (key + 1)) text) sub n → IsOrderedMember most P text (put_mid (key + 1) (length text - (key + 1)) text sub) key (key + 1 + n)
+pub member_is : (most : ℕ) (P : List ℕ → Data → Type 0) (text behind sub : List ℕ) (key n x : ℕ) → (k : IsPlainText text key) → mid_of key (length text - key) text ≡ x ∷ behind → x ≡ 58
+    → IsOrdered most (P k.inside) (mid_of (key + 1) (length text - (key + 1)) text) sub n → IsOrderedMember most P text (put_mid (key + 1) (length text - (key + 1)) text sub) key (key + 1 + n)
 member_is most P text behind sub key n x k next colon o =
-    let rest_at = sym (part_of text (quoted k.key) k.rest key k.is (sym k.size)) ∙ next ∙ ap (λ c. c ∷ behind) colon in
-    let at = k.is ∙ ap (λ l. quoted k.key ++ l) rest_at in
-    let at_one = at ∙ one_more (quoted k.key) behind in
-    let here : key + 1 ≡ length (quoted k.key ++ 58 ∷ []) = omega (arith, k.size, length-append (quoted k.key) (58 ∷ [])) in
-    let left_is = part_of text (quoted k.key ++ 58 ∷ []) behind (key + 1) at_one here in
+    let rest_at = sym (part_of text (quoted k.inside) k.rest key k.is (sym k.size)) ∙ next ∙ ap (λ c. c ∷ behind) colon in
+    let at = k.is ∙ ap (λ l. quoted k.inside ++ l) rest_at in
+    let at_one = at ∙ one_more (quoted k.inside) behind in
+    let here : key + 1 ≡ length (quoted k.inside ++ 58 ∷ []) = omega (arith, k.size, length-append (quoted k.inside) (58 ∷ [])) in
+    let left_is = part_of text (quoted k.inside ++ 58 ∷ []) behind (key + 1) at_one here in
     record {
-      key = k.key;
+      key = k.inside;
       value = o.value;
       made = o.made;
       rest = o.rest;
-      is = at ∙ ap (λ l. quoted k.key ++ 58 ∷ l) (sym left_is ∙ o.is);
-      now = put_of text (quoted k.key ++ 58 ∷ []) behind sub (key + 1) at_one here ∙ sym (one_more (quoted k.key) sub) ∙ ap (λ l. quoted k.key ++ 58 ∷ l) o.now;
+      is = at ∙ ap (λ l. quoted k.inside ++ 58 ∷ l) (sym left_is ∙ o.is);
+      now = put_of text (quoted k.inside ++ 58 ∷ []) behind sub (key + 1) at_one here ∙ sym (one_more (quoted k.inside) sub) ∙ ap (λ l. quoted k.inside ++ 58 ∷ l) o.now;
       key_is = k.size;
-      size = omega (arith, k.size, o.size, length-append (quoted k.key) (58 ∷ compact_text o.made));
+      size = omega (arith, k.size, o.size, length-append (quoted k.inside) (58 ∷ compact_text o.made));
       plain = k.plain;
       converted = o.converted;
       shallow = o.shallow;

@@ -1,6 +1,6 @@
 -- What has been passed over, from a text to the rest of it.
-use Rattle.std.specs.Prelude.{◌≡◌, ◌<◌, ◌≤◌, ◌^◌, ℕ, List, ◌∷◌, ◌++◌, decimal}
-use Rattle.json.specs.Print.{escape, escape_byte}
+use Rattle.std.specs.Prelude.{◌≡◌, ◌<◌, ◌≤◌, ◌^◌, ℕ, List, ◌∷◌, ◌++◌, length, decimal}
+use Rattle.json.specs.Print.{escape, escape_byte, quoted}
 use Rattle.json.specs.Json.{Json}
 use Rattle.json.specs.Tree.{depth}
 use Rattle.compact.specs.Texts.{json_text, IsWhole}
@@ -11,6 +11,14 @@ pub record BeginsScalar (text rest : List ℕ) : Type 0 where
   pub is : text ≡ json_text value ++ rest
   pub shallow : depth value ≤ 0
   pub whole : IsWhole value
+
+-- a text with no escape, and how many bytes it takes
+pub record IsPlainText (text : List ℕ) (n : ℕ) : Type 0 where
+  pub inside : List ℕ
+  pub rest : List ℕ
+  pub is : text ≡ quoted inside ++ rest
+  pub size : length (quoted inside) ≡ n
+  pub plain : escape inside ≡ inside
 
 -- a text whose quote has come
 pub record EndsText (text rest : List ℕ) : Type 0 where

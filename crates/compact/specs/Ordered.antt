@@ -64,10 +64,3 @@ pub record IsOrderedMember (most : ℕ) (P : List ℕ → Data → Type 0) (old 
   pub shallow : depth value ≤ most
   pub whole : IsWhole value
   pub said : P key made
-
-pub record IsKey (text : List ℕ) (n : ℕ) : Type 0 where
-  pub key : List ℕ
-  pub rest : List ℕ
-  pub is : text ≡ quoted key ++ rest
-  pub size : length (quoted key) ≡ n
-  pub plain : escape key ≡ key

@@ -2,7 +2,7 @@
 ghost use Rattle.std.specs.Prelude.{◌≡◌, ◌≤◌, length, IfSome};
 ghost use Rattle.compact.specs.Levels.{below};
 ghost use Rattle.compact.specs.Notes.{IsNoted, Told};
-ghost use Rattle.compact.specs.Ordered.{IsOrdered, AreOrderedItems, AreOrderedMembers, IsOrderedMember, IsKey};
+ghost use Rattle.compact.specs.Ordered.{IsOrdered, AreOrderedItems, AreOrderedMembers, IsOrderedMember};
 ghost use Rattle.compact.specs.declared.level.Level.TheVariants.{Other};
 
 use crate::entry::Entry;
@@ -12,7 +12,7 @@ use crate::place::{key_at, place_of};
 use crate::scalars::scalar_rest;
 use crate::scanner::Scanner;
 use crate::table::Table;
-use crate::texts::plain_rest;
+use crate::texts::plain_text_end;
 
 /// Puts the members of the maps of the value that begins here into byte order, and answers how many bytes it takes, if it is
 /// compact and nests at most so deep. What comes behind it stays. With `None` the bytes may be those of no text any more.
@@ -27,6 +27,9 @@ pub(crate) fn put_in_order(
     ensures ordered { IfSome result (λ n. IsOrdered depth (IsNoted level scanner.old.tables scanner.new.tables) text.old text.new n) }
     ensures within { IfSome result (λ n. n ≤ length text.old) }
 {
+    if let Some(size) = plain_text_end(text) {
+        return Some(size);
+    }
     let (first, _behind) = text.split_first()?;
     let first = *first;
     if first == b'{' || first == b'[' {
@@ -36,7 +39,7 @@ pub(crate) fn put_in_order(
     Some(text.len() - rest.len())
 }
 
-// The same for a map or a list. These alone take a call: most values are scalars.
+// The same for a map or a list. Most values are plain texts, and need no call.
 #[cycle(order)]
 #[inline(never)]
 fn nested_end(text: &mut [u8], depth: usize, level: Level, scanner: &mut Scanner) -> Option<usize>
@@ -147,7 +150,7 @@ fn member_end(
     ensures ordered { IfSome result (λ n. IsOrderedMember depth (λ k d. IsNoted (below level k) scanner.old.tables scanner.new.tables d) text.old text.new n.0 n.1) }
     ensures within { IfSome result (λ n. n.1 ≤ length text.old) }
 {
-    let key = key_end(text)?;
+    let key = plain_text_end(text)?;
     let (colon, _behind) = text[key..].split_first()?;
     if *colon != b':' {
         return None;
@@ -156,18 +159,4 @@ fn member_end(
     let inner = level.below(name);
     let size = put_in_order(&mut text[key + 1..], depth, inner, scanner)?;
     Some((key, key + 1 + size))
-}
-
-// How many bytes the key takes that begins here, with its quotes, if none of it is escaped.
-#[inline(always)]
-fn key_end(text: &[u8]) -> Option<usize>
-    ensures key { IfSome result (λ n. IsKey text.now n) }
-    ensures within { IfSome result (λ n. n ≤ length text.now) }
-{
-    let (quote, inside) = text.split_first()?;
-    if *quote != b'"' {
-        return None;
-    }
-    let rest = plain_rest(inside)?;
-    Some(text.len() - rest.len())
 }

@@ -6,7 +6,7 @@ use crate::numbers::number_rest;
 use crate::texts::text_rest;
 
 /// What stands behind the text, the number or the word that begins here.
-#[inline(always)]
+#[inline(never)]
 pub(crate) fn scalar_rest(text: &[u8]) -> Option<&[u8]>
     ensures value { IfSome result (λ rest. BeginsScalar text.now rest.now) }
     ensures shorter { IfSome result (λ rest. length rest.now < length text.now) }

@@ -1,26 +1,28 @@
 // Texts of JSON, where they are written as a writer writes them.
-ghost use Rattle.std.specs.Prelude.{◌≡◌, ◌<◌, ◌∷◌, [], length, IfSome};
+ghost use Rattle.std.specs.Prelude.{◌≡◌, ◌≤◌, ◌<◌, ◌∷◌, [], length, IfSome};
 ghost use Rattle.json.specs.Print.{escape_byte};
-ghost use Rattle.compact.specs.Begins.{EndsText, EndsPlain, EndsEscape};
+ghost use Rattle.compact.specs.Begins.{IsPlainText, EndsText, EndsPlain, EndsEscape};
 
 use crate::controls::control_rest;
 use crate::plain::plain_end;
 
-/// What stands behind the closing quote of a text, given what stands behind its first one.
+/// How many bytes the text takes that begins here, with its quotes, if none of it is escaped.
 #[inline(always)]
-pub(crate) fn text_rest(text: &[u8]) -> Option<&[u8]>
-    ensures text { IfSome result (λ rest. EndsText text.now rest.now) }
-    ensures shorter { IfSome result (λ rest. length rest.now < length text.now) }
+pub(crate) fn plain_text_end(text: &[u8]) -> Option<usize>
+    ensures plain { IfSome result (λ n. IsPlainText text.now n) }
+    ensures within { IfSome result (λ n. n ≤ length text.now) }
 {
-    match plain_rest(text) {
-        Some(rest) => Some(rest),
-        None => escaped_rest(text),
+    let (quote, inside) = text.split_first()?;
+    if *quote != b'"' {
+        return None;
     }
+    let rest = plain_rest(inside)?;
+    Some(text.len() - rest.len())
 }
 
-/// The same for a text with no escape.
+// What stands behind the closing quote of such a text, given what stands behind its first one.
 #[inline(always)]
-pub(crate) fn plain_rest(text: &[u8]) -> Option<&[u8]>
+fn plain_rest(text: &[u8]) -> Option<&[u8]>
     ensures plain { IfSome result (λ rest. EndsPlain text.now rest.now) }
     ensures shorter { IfSome result (λ rest. length rest.now < length text.now) }
 {
@@ -29,9 +31,9 @@ pub(crate) fn plain_rest(text: &[u8]) -> Option<&[u8]>
     if *byte == b'"' { Some(behind) } else { None }
 }
 
-// The same, a run of plain bytes and an escape at a time.
-#[inline(never)]
-fn escaped_rest(text: &[u8]) -> Option<&[u8]>
+/// What stands behind the closing quote of any text, given what stands behind its first one. It goes by a run of plain bytes
+/// and an escape at a time.
+pub(crate) fn text_rest(text: &[u8]) -> Option<&[u8]>
     ensures text { IfSome result (λ rest. EndsText text.now rest.now) }
     ensures shorter { IfSome result (λ rest. length rest.now < length text.now) }
 {

@@ -6,9 +6,12 @@ use Rattle.compact.specs.Notes.{entries_of, IsNoted}
 use Rattle.compact.specs.Ordered.{IsOrdered}
 use Rattle.compact.proofs.Entries.{slot_text, slot_size, slot_entries, entries_count}
 use Rattle.compact.proofs.Items.{no_item_is, items_end, item_passed}
-use Rattle.compact.proofs.Values.{scalar_is, list_is, map_is, member_is}
+use Rattle.compact.proofs.Values.{scalar_is, plain_is, list_is, map_is, member_is}
 use Rattle.compact.proofs.Maps.{no_member_is, members_begin, read_member, next_state, members_end}
 use Rattle.compact.proofs.order.+order.Goals as goal
+
+pub put_in_order-returns-in-Some-clause-ordered : goal.put_in_order-returns-in-Some-clause-ordered
+put_in_order-returns-in-Some-clause-ordered t c = plain_is c.args.depth c.args.text.now c.in-Some.size c.args.level c.args.scanner.now.tables c.in-Some.ensures.plain
 
 pub put_in_order-returns-clause-ordered : goal.put_in_order-returns-clause-ordered
 put_in_order-returns-clause-ordered t c = scalar_is c.args.depth c.args.text.now c.in_ok-rest.rest.now c.args.level c.args.scanner.now.tables c.in_ok-rest.ensures.value
@@ -41,10 +44,10 @@ items_end-items-preserved t c = record {
 
 pub member_end-returns-clause-ordered : goal.member_end-returns-clause-ordered
 member_end-returns-clause-ordered t c =
-    let k = c.in_ok-key.ensures.key in
+    let k = c.in_ok-key.ensures.plain in
     let old = c.args.scanner.now.tables in
     let new = c.put_in_order.new.scanner.tables in
-    let name = c.in_ok-name.ensures [] k.key k.rest k.is refl k.size ∙ k.plain in
+    let name = c.in_ok-name.ensures [] k.inside k.rest k.is refl k.size ∙ k.plain in
     let inner = c.below-inner.ensures ∙ ap (below c.args.level) name in
     member_is c.args.depth (λ key d. IsNoted (below c.args.level key) old new d) c.args.text.now c.in_ok-colon._behind.now c.put_in_order.new.text c.in_ok-key.key c.in_ok-size.size _ k c.in_ok-colon.ensures.cases.0 c.if-colon-ne58.false
     (subst (λ l. IsOrdered c.args.depth (IsNoted l old new) (mid_of (c.in_ok-key.key + 1) (length c.args.text.now - (c.in_ok-key.key + 1)) c.args.text.now) c.put_in_order.new.text c.in_ok-size.size) inner c.in_ok-size.ensures.ordered)

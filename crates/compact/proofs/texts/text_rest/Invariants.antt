@@ -1,6 +1,6 @@
 use Rattle.std.proofs.Common.{◌≤◌, length}
 use Rattle.compact.proofs.PlainRuns.{GoesOn}
-use Rattle.compact.proofs.texts.escaped_rest.Given as goal
+use Rattle.compact.proofs.texts.text_rest.Given as goal
 
 abbrev pub invariant-runs : goal.invariant-runs
 invariant-runs l = record {
