@@ -7,11 +7,10 @@ ghost use Rattle.requests.specs.declared.request.Request.TheVariants.{Get};
 ghost use Rattle.plain.specs.CompactGets.{get_text};
 ghost use Rattle.plain.specs.Requests.{request_of};
 
-use compact_drafts::kind_named;
+use compact_drafts::{as_text, kind_named};
 use memchr::memchr;
 use objects::{Key, Kind, ReadError};
 use std::alloc::{AllocError, Global};
-use std::str::from_utf8;
 
 /// What such a line names.
 #[derive(Clone, Copy, Drop)]
@@ -50,22 +49,13 @@ fn named_by(line: &[u8]) -> Option<Named<'_>>
         return None;
     }
     let kind = kind_named(kind)?;
-    let name = text_of(name)?;
-    let namespace = text_of(namespace)?;
+    let name = as_text(name)?;
+    let namespace = as_text(namespace)?;
     Some(Named {
         kind,
         namespace,
         name,
     })
-}
-
-fn text_of(bytes: &[u8]) -> Option<&str>
-    ensures { IfSome result (λ text. (text.now ≡ bytes.now) × IsUtf8 text.now) }
-{
-    match from_utf8(bytes) {
-        Ok(text) => Some(text),
-        Err(_) => None,
-    }
 }
 
 // What stands before the first quotation mark, and behind it.
