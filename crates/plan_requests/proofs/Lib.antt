@@ -1,3 +1,5 @@
 pub mod Ends
+pub mod PlannedActions
+pub mod OwnedRevisions
 pub mod Deletions
 pub mod Soundness

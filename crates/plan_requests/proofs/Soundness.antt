@@ -1,7 +1,7 @@
 -- A plan deletes only what was listed for it, and a collection only what is collectable.
-use Rattle.std.proofs.Common.{◌≡◌, ◌⊎◌, inl, inr, ℕ, ◌^◌, Bool, true, false, cond, ◌+◌, List, [], ◌∷◌, ◌++◌, Option, Some, None, Result, Ok, Err, filter, find, refl, sym, ap, ◌∙◌, subst, true≢false}
-use Rattle.std.specs.Prelude.{◌==◌, ◌&&◌, nat_lt}
-use Rattle.std.specs.List.{AllByRecursion, Contains, flat_map}
+use Rattle.std.proofs.Common.{◌≡◌, inl, inr, ℕ, ◌^◌, Bool, true, false, cond, ◌+◌, List, [], ◌∷◌, ◌++◌, Option, Some, None, Result, Ok, Err, filter, find, refl, sym, ap, ◌∙◌, subst, true≢false}
+use Rattle.std.specs.Prelude.{◌==◌, nat_lt}
+use Rattle.std.specs.List.{Contains}
 use Rattle.std.specs.Option.{is_some, option_map_or}
 use Rattle.std.proofs.lemmas.Bool.{and_parts}
 use Rattle.std.proofs.lemmas.Slice.Eq.{bytes_eq-Decides}
@@ -12,52 +12,42 @@ use Rattle.objects.specs.declared.object.Object.{Object}
 use Rattle.objects.specs.Key.{is_key, key_parts}
 use Rattle.objects.specs.Uid.{uid_text}
 use Rattle.requests.specs.declared.request.Request.{Request}
-use Rattle.requests.specs.declared.request.Request.TheVariants.{Create, Update, UpdateStatus, Delete}
+use Rattle.requests.specs.declared.request.Request.TheVariants.{Create, Update, Delete}
 use Rattle.set_views.specs.declared.fault.PlanError.{PlanError}
 use Rattle.set_views.specs.declared.fault.PlanError.TheVariants as errors
-use Rattle.set_views.specs.Firsts.{first_of_each, is_held}
+use Rattle.set_views.specs.Firsts.{is_held}
 use Rattle.set_views.specs.Pod.{PodParts}
 use Rattle.set_views.specs.Set.{SetParts}
 use Rattle.set_views.specs.SetReading.{set_of}
 use Rattle.set_views.specs.Steps.{◌>>=◌}
-use Rattle.set_views.specs.Predicates.{in_namespace, is_kind, ordinal_in}
+use Rattle.set_views.specs.Predicates.{in_namespace, is_kind}
 use Rattle.revisions.specs.Choice as choice
 use Rattle.revisions.specs.Plan as revision_plans
 use Rattle.revisions.specs.Plan.{created, renumbered, settled, plan_of}
-use Rattle.revisions.specs.Revision.{owns_revision, listed, owned_among, revision_cmp}
+use Rattle.revisions.specs.Revision.{listed}
 use Rattle.pod_steps.specs.Listed.{is_named}
 use Rattle.pod_steps.specs.Views.{listed_pods}
-use Rattle.pod_steps.proofs.ParallelPlans.{alone}
 use Rattle.claims.specs.Listed.{listed_claim}
 use Rattle.requests.specs.Lists.{Has}
-use Rattle.collector.specs.Collectable.{collection}
 use Rattle.collector.proofs.Collected.{claim_of}
 use Rattle.sets.specs.declared.action.Action.{Action}
 use Rattle.sets.specs.declared.action.Action.TheVariants.{CreateClaim, CreatePod, DeletePod, UpdateClaim, WriteRevision, DeleteRevision, WriteStatus, Wait}
 use Rattle.sets.specs.Actions.{Claims, name_at}
-use Rattle.sets.specs.Plan.{plan_by, plan_of_pods, refusal, unless_refused, fitting_pods}
+use Rattle.sets.specs.Plan.{plan_by}
 use Rattle.sets.proofs.Origins.{created_alone, deletes_owned, renumbered_alone}
-use Rattle.rounds.specs.Sound.{HasNamed, IsAction, IsCollection, IsSound}
-use Rattle.rounds.proofs.Lists.{among_contained, among_either, among_left, among_right, contains_among}
-use Rattle.sets.specs.Order.{in_order}
+use Rattle.rounds.specs.Sound.{IsAction, IsSound}
+use Rattle.rounds.proofs.Lists.{among_contained, among_left, among_right, contains_among}
 use Rattle.sets.specs.PlanOfLists.{owned_of, plan_of_lists, views_of}
 use Rattle.rounds.specs.Drafts.{draft}
 use Rattle.plan_requests.specs.Planned.{deletions, deletion_of, key_of, or_none, as_read, request_of, requested, requested_for, requests_of}
 use Rattle.plan_requests.specs.Reconciler.{reconciler_with}
 use Rattle.plan_requests.proofs.Deletions.{deletes_controlled}
-use Rattle.sets.proofs.Ordered.{all_among, all_in_order}
+use Rattle.plan_requests.proofs.OwnedRevisions.{of_owned}
+use Rattle.plan_requests.proofs.PlannedActions.{among_all, in_requests, refused, writes_alone}
 use Rattle.sets.proofs.FirstPods.{found_in_map, named_is}
-use Rattle.sets.proofs.Owned.{filtered, first_among, total}
+use Rattle.sets.proofs.Owned.{filtered, first_among}
 
 -- ---- requests
-
-in_requests : (namespace moment : List ℕ) (actions : List Action) (r : Request) → Has r (requests_of namespace moment actions) → (a : Action) × Has a actions × Has r (request_of namespace moment a)
-in_requests namespace moment [] r at = absurd at
-in_requests namespace moment (a ∷ rest) r at =
-    elim (among_either r (request_of namespace moment a) (requests_of namespace moment rest) at) [
-      | inl here ↦ (a, inl refl, here)
-      | inr more ↦ let x = in_requests namespace moment rest r more in (x.0, inr x.1, x.2)
-    ]
 
 in_deletions : (key : Option Key) (uid : ℕ) (version at : Option (List ℕ)) (r : Request) → Has r (deletions key uid version at)
     → (k : Key) × (key ≡ Some k) × (r ≡ Delete k (Some (uid_text uid)) version at)
@@ -109,23 +99,6 @@ pod_listed set pods i name uid pod name_is found uid_is =
 
 -- ---- plans
 
-is_made : {A : Type 0} → Result A PlanError → Bool
-is_made (Ok x) = true
-is_made (Err e) = false
-
-never_made : {A B : Type 0} (r : Result A PlanError) (e : PlanError) (x : B) → (r >>= λ _. Err e) ≡ Ok x → ⊥
-unfolding is_made
-never_made (Ok y) e x is = let clash : false ≡ true = ap is_made is in true≢false (sym clash)
-never_made (Err d) e x is = let clash : false ≡ true = ap is_made is in true≢false (sym clash)
-
-refused : (set : SetParts) (views : List PodParts) (e : PlanError) (actions : List Action) → refusal set views e ≡ Ok actions → ⊥
-unfolding is_made
-refused set views errors.NoRevisionName actions is = never_made (fitting_pods set [] [] views) errors.NoRevisionName actions is
-refused set views e actions is = let clash : false ≡ true = ap is_made is in true≢false (sym clash)
-
-writes_alone : (actions : List Action) (x : Object) (a : Action) → actions ≡ WriteRevision x ∷ [] → Contains actions a → WriteRevision x ≡ a
-writes_alone actions x a is at = alone (WriteRevision x) a (subst (λ (l : List Action). Contains l a) is at)
-
 pod_planned : (set : SetParts) (claims : Claims) (pods : List Object) (p : Result revision_plans.PlanParts PlanError) (actions : List Action) (name : List ℕ) (uid : ℕ) → plan_by set claims (views_of set pods) p ≡ Ok actions
     → Contains actions (DeletePod name uid) → IsListed pods kinds.Pod set.object.key.namespace name uid
 unfolding plan_by
@@ -140,18 +113,10 @@ pod_planned set claims pods (Err x) actions name uid e at = absurd (refused set 
 
 -- ---- listed revisions
 
-among_all : {X : Type 0} (P : X → Type 0) (xs : List X) (x : X) → AllByRecursion P xs → Has x xs → P x
-among_all P [] x all at = absurd at
-among_all P (y ∷ ys) x all (inl is) = subst P (sym is) all.0
-among_all P (y ∷ ys) x all (inr at) = among_all P ys x all.1 at
-
 owned_listed : (set : SetParts) (revisions : List Object) (o : Object) → Contains (owned_of set revisions) o → Has o revisions × (in_namespace set kinds.ControllerRevision o ≡ true)
-unfolding owned_of
 owned_listed set revisions o at =
-    among_all (λ x. Has x revisions × (in_namespace set kinds.ControllerRevision x ≡ true)) (owned_of set revisions) o
-    (all_in_order revision_cmp total _ (owned_among set revisions) (all_among _ (owned_among set revisions) (λ x h.
-    filtered (in_namespace set kinds.ControllerRevision) x revisions (first_among (listed set revisions) x (filtered (owns_revision set) x (first_of_each (listed set revisions)) h).0))))
-    (among_contained (owned_of set revisions) o at)
+    let IsListedHere : Object → Type 0 = λ x. Has x revisions × (in_namespace set kinds.ControllerRevision x ≡ true) in
+    among_all IsListedHere (owned_of set revisions) o (of_owned IsListedHere set revisions (λ x there near. (there, near))) (among_contained (owned_of set revisions) o at)
 
 owned_in : List Object → Result revision_plans.PlanParts PlanError → List Object
 owned_in d (Ok (created o)) = d
@@ -178,26 +143,6 @@ planned_owned set held digits owned =
       | false ↦ refl
     ]
 
-name_in : Action → List ℕ
-name_in (CreateClaim o) = []
-name_in (CreatePod o) = []
-name_in (DeletePod name uid) = name
-name_in (UpdateClaim o) = []
-name_in (WriteRevision o) = []
-name_in (DeleteRevision name uid version) = name
-name_in (WriteStatus o) = []
-name_in (Wait cause name) = []
-
-uid_in : Action → ℕ
-uid_in (CreateClaim o) = 0
-uid_in (CreatePod o) = 0
-uid_in (DeletePod name uid) = uid
-uid_in (UpdateClaim o) = 0
-uid_in (WriteRevision o) = 0
-uid_in (DeleteRevision name uid version) = uid
-uid_in (WriteStatus o) = 0
-uid_in (Wait cause name) = 0
-
 revision_kind : (kind : Kind) → is_kind kinds.ControllerRevision kind ≡ true → kind ≡ kinds.ControllerRevision
 revision_kind kinds.StatefulSet h = absurd (true≢false (sym h))
 revision_kind kinds.Pod h = absurd (true≢false (sym h))
@@ -207,7 +152,7 @@ revision_kind kinds.ControllerRevision h = refl
 revision_planned : (set : SetParts) (claims : Claims) (views : List PodParts) (revisions : List Object) (p : Result revision_plans.PlanParts PlanError) (actions : List Action) (name : List ℕ) (uid version : ℕ)
     → owned_in (owned_of set revisions) p ≡ owned_of set revisions → plan_by set claims views p ≡ Ok actions → Contains actions (DeleteRevision name uid version)
     → IsListed revisions kinds.ControllerRevision set.object.key.namespace name uid
-unfolding plan_by owned_in name_in uid_in
+unfolding plan_by owned_in
 revision_planned set claims views revisions (Ok (created x)) actions name uid version own e at =
     let clash : WriteRevision x ≡ DeleteRevision name uid version = writes_alone actions x (DeleteRevision name uid version) (created_alone set claims views actions x e) at in absurd (cc)
 revision_planned set claims views revisions (Ok (renumbered x)) actions name uid version own e at =
@@ -218,8 +163,7 @@ revision_planned set claims views revisions (Ok (settled owned current update)) 
     let there = owned_listed set revisions o (subst (λ (l : List Object). Contains l o) own d.1) in
     let parts = and_parts (is_kind kinds.ControllerRevision o.key.kind) _ there.1 in
     let space : o.key.namespace ≡ set.object.key.namespace = (bytes_eq-Decides o.key.namespace set.object.key.namespace).0 parts.1 in
-    let same : o.key.name ≡ name = ap name_in d.2 in
-    (o, there.0, (λ j. key_parts (revision_kind o.key.kind parts.0 j) (space j) (same j)), ap uid_in d.2)
+    (o, there.0, (λ j. key_parts (revision_kind o.key.kind parts.0 j) (space j) (d.2 j)), d.3)
 revision_planned set claims views revisions (Err x) actions name uid version own e at = absurd (refused set views x actions e)
 
 -- ---- soundness
