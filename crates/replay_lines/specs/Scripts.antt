@@ -17,6 +17,10 @@ size_in ms = do
 abbrev pub header_of : List ℕ → Option Size
 header_of line = line_members line >>= size_in
 
+-- what a line is read as by its members
+abbrev pub line_by : {A : Type 0} → (read : Members → Option A) → List ℕ → Option A
+line_by read line = line_members line >>= read
+
 -- what each of these is read as, where each can be read
 abbrev pub each_of : {A B : Type 0} → (A → Option B) → List A → Option (List B)
 each_of read [] = Some []
@@ -26,10 +30,6 @@ each_of read (x ∷ xs) = read x >>= λ y. option_map (λ ys. y ∷ ys) (each_of
 abbrev pub script_by : {A B : Type 0} → (header : List ℕ → Option A) → (event : List ℕ → Option B) → List (List ℕ) → Option (A × List B)
 script_by header event [] = None
 script_by header event (first ∷ rest) = header first >>= λ h. option_map (λ es. (h, es)) (each_of event rest)
-
--- the events of the lines, where each line is one
-abbrev pub events_of : List (List ℕ) → Option (List Event)
-events_of ls = each_of event_of ls
 
 unfoldable pub script_of : List ℕ → Option (Size × List Event)
 script_of text = script_by header_of event_of (lines text)

@@ -2,30 +2,18 @@
 ghost use Rattle.std.specs.Prelude.{◌≡◌};
 ghost use Rattle.objects.specs.Tree.{data_of};
 ghost use Rattle.plain.specs.Requests.{request_in as plain_request_in};
-ghost use Rattle.replay_lines.specs.Events.{Reads, call_in, event_in, event_of, read_fault, request_fault, request_in, unless_refused};
+ghost use Rattle.replay_lines.specs.Events.{Reads, call_in, event_in, read_fault, request_fault, request_in, unless_refused};
 
 use crate::fault::ScriptError;
-use crate::line::{count_in, read_members, text_in};
+use crate::line::{count_in, text_in};
 use crate::step::step_in;
 use history::Event;
-use objects::{Members, ReadError, Tree, TreeReader};
+use objects::{Members, ReadError, Tree};
 use plain::{Request, RequestError};
 use std::alloc::Global;
 
-/// The event that a line is.
-#[tactic(auto, using(crate::proofs::Readings::fails_bind), unfolding(crate::specs::Events::event_of))]
-pub(crate) fn read_event(
-    alloc: Global,
-    reader: &mut TreeReader,
-    line: &[u8],
-) -> Result<Event, ScriptError>
-    ensures { Reads (λ event. event) result (event_of line.now) }
-{
-    let members = read_members(reader, line)?;
-    event_in(alloc, members)
-}
-
-fn event_in(alloc: Global, members: Members) -> Result<Event, ScriptError>
+/// The event that the members of a line are.
+pub(crate) fn event_in(alloc: Global, members: Members) -> Result<Event, ScriptError>
     ensures { Reads (λ event. event) result (event_in members) }
 {
     let Some(word) = text_in(&members, "event") else {

@@ -4,6 +4,7 @@
 
 mod event;
 mod fault;
+mod from_lines;
 mod header;
 mod line;
 mod printing;
@@ -13,9 +14,10 @@ mod step;
 
 pub use event::request_in;
 pub use fault::ScriptError;
+pub use from_lines::{FromLines, read_lines};
 pub use header::{Header, header_in};
 pub use line::{count_in, count_of, read_members, text_in};
 pub use printing::{put_order, put_reply, run_text};
-pub use refused::{LineTest, first_refused, refused_line};
+pub use refused::{LineTest, first_refused, refused_line, refused_line_by};
 pub use script::{Script, read_script};
 pub use step::step_in;

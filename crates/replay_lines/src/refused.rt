@@ -1,16 +1,16 @@
 // The first line for which a text is refused.
 ghost use Rattle.std.specs.Prelude.{◌≡◌, ◌≤◌, is_some, true, None, IfOk};
 ghost use Rattle.plain.specs.Lines.{lines};
-ghost use Rattle.replay_lines.specs.Events.{event_of};
-ghost use Rattle.replay_lines.specs.Refusals.{first_refused, refused_line_of};
-ghost use Rattle.replay_lines.specs.Scripts.{header_of, script_of};
+ghost use Rattle.replay_lines.specs.Refusals.{first_refused, refused_line, refused_line_of};
+ghost use Rattle.replay_lines.specs.Scripts.{line_by, script_by, script_of};
 
-use crate::event::read_event;
 use crate::fault::ScriptError;
-use crate::script::read_header;
+use crate::from_lines::{FromLines, read_event, read_header};
+use crate::script::Script;
 use objects::{Memory, TreeReader};
 use plain::split_line;
 use std::alloc::Global;
+use std::marker::PhantomData;
 
 /// Tells which lines can be read.
 pub trait LineTest {
@@ -46,21 +46,22 @@ pub fn first_refused<T: LineTest>(
     Ok(None)
 }
 
-/// Lines of a script but its first.
+/// The lines of a script but its first.
 #[derive(Drop)]
-struct Events {
+struct Events<S> {
     alloc: Global,
     reader: TreeReader,
+    of: PhantomData<S>,
 }
 
-impl LineTest for Events {
+impl<S: FromLines> LineTest for Events<S> {
     ghost use Rattle.std.specs.Prelude.{is_some};
-    ghost use Rattle.replay_lines.specs.Events.{event_of};
+    ghost use Rattle.replay_lines.specs.Scripts.{line_by};
 
-    ghost reads = { λ line. is_some (event_of line) };
+    ghost reads = { λ line. is_some (line_by S.event line) };
 
     fn can_read(&mut self, line: &[u8]) -> Result<bool, Memory> {
-        match read_event(self.alloc, &mut self.reader, line) {
+        match read_event::<S>(self.alloc, &mut self.reader, line) {
             Ok(event) => {
                 drop(event);
                 Ok(true)
@@ -72,33 +73,39 @@ impl LineTest for Events {
 }
 
 /// The number of the first line, from 1, for which a text is no script; none where it is one.
+#[tactic(auto, unfolding(crate::specs::Events::event_of, crate::specs::Scripts::script_of))]
 pub fn refused_line(alloc: Global, text: &[u8]) -> Result<Option<u64>, Memory>
     ensures line { IfOk result (λ line. line ≡ refused_line_of text.now) }
     ensures some { IfOk result (λ line. script_of text.now ≡ None → is_some line ≡ true) }
 {
-    refused_in(alloc, text)
+    refused_line_by::<Script>(alloc, text)
 }
 
-fn refused_in(alloc: Global, text: &[u8]) -> Result<Option<u64>, Memory>
-    ensures { IfOk result (λ line. line ≡ refused_line_of text.now) }
+/// The same of a script of any kind.
+pub fn refused_line_by<S: FromLines>(alloc: Global, text: &[u8]) -> Result<Option<u64>, Memory>
+    ensures line { IfOk result (λ line. line ≡ refused_line (λ l. is_some (line_by S.header l)) (λ l. is_some (line_by S.event l)) (lines text.now)) }
+    ensures some { IfOk result (λ line. script_by (line_by S.header) (line_by S.event) (lines text.now) ≡ None → is_some line ≡ true) }
+{
+    refused_in::<S>(alloc, text)
+}
+
+fn refused_in<S: FromLines>(alloc: Global, text: &[u8]) -> Result<Option<u64>, Memory>
+    ensures { IfOk result (λ line. line ≡ refused_line (λ l. is_some (line_by S.header l)) (λ l. is_some (line_by S.event l)) (lines text.now)) }
 {
     let Some(cut) = split_line(text) else {
         return Ok(Some(1));
     };
     let (first, rest) = cut;
     let mut reader = TreeReader::new(alloc);
-    if !is_header(&mut reader, first)? {
-        return Ok(Some(1));
+    match read_header::<S>(alloc, &mut reader, first) {
+        Ok(header) => drop(header),
+        Err(ScriptError::BadScript) => return Ok(Some(1)),
+        Err(ScriptError::Memory) => return Err(Memory),
     }
-    first_refused(&mut Events { alloc, reader }, rest, 2)
-}
-
-fn is_header(reader: &mut TreeReader, line: &[u8]) -> Result<bool, Memory>
-    ensures { IfOk result (λ is. is ≡ is_some (header_of line.now)) }
-{
-    match read_header(reader, line) {
-        Ok(_) => Ok(true),
-        Err(ScriptError::BadScript) => Ok(false),
-        Err(ScriptError::Memory) => Err(Memory),
-    }
+    let mut events = Events::<S> {
+        alloc,
+        reader,
+        of: PhantomData,
+    };
+    first_refused(&mut events, rest, 2)
 }

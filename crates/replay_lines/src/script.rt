@@ -1,14 +1,12 @@
-ghost use Rattle.plain.specs.Lines.{lines};
 ghost use Rattle.replay_lines.specs.Events.{Reads};
-ghost use Rattle.replay_lines.specs.Scripts.{events_of, header_of, parts_of, script_of, size_of};
+ghost use Rattle.replay_lines.specs.Scripts.{parts_of, script_of};
 
-use crate::event::read_event;
+use crate::event::event_in;
 use crate::fault::ScriptError;
+use crate::from_lines::{FromLines, read_lines};
 use crate::header::{Header, header_in};
-use crate::line::read_members;
 use history::Event;
-use objects::TreeReader;
-use plain::split_line;
+use objects::Members;
 use std::alloc::Global;
 
 /// A run that is to be replayed: how many revisions the store may draw, how many shards it has, and the events, first to
@@ -28,17 +26,11 @@ pub struct Script {
 /// # Errors
 ///
 /// `BadScript` where a line is none of these, also one that is cut off or empty, or where there is no line.
-#[tactic(auto, using(crate::proofs::Readings::fails_bind), unfolding(crate::specs::Scripts::script_of))]
+#[tactic(auto, unfolding(crate::specs::Events::event_of, crate::specs::Scripts::script_of))]
 pub fn read_script(alloc: Global, text: &[u8]) -> Result<Script, ScriptError>
     ensures { Reads parts_of result (script_of text.now) }
 {
-    let Some(cut) = split_line(text) else {
-        return Err(ScriptError::BadScript);
-    };
-    let (first, rest) = cut;
-    let mut reader = TreeReader::new(alloc);
-    let header = read_header(&mut reader, first)?;
-    let events = read_events(alloc, &mut reader, rest)?;
+    let (header, events) = read_lines::<Script>(alloc, text)?;
     Ok(Script {
         capacity: header.capacity,
         shards: header.shards,
@@ -46,30 +38,28 @@ pub fn read_script(alloc: Global, text: &[u8]) -> Result<Script, ScriptError>
     })
 }
 
-#[tactic(auto, using(crate::proofs::Readings::fails_bind))]
-pub(crate) fn read_header(reader: &mut TreeReader, line: &[u8]) -> Result<Header, ScriptError>
-    ensures { Reads size_of result (header_of line.now) }
-{
-    let members = read_members(reader, line)?;
-    header_in(&members)
-}
+impl FromLines for Script {
+    ghost use Rattle.interleavings.specs.World.{Size};
+    ghost use Rattle.replay_lines.specs.Events.{event_in};
+    ghost use Rattle.replay_lines.specs.Scripts.{size_in, size_of};
 
-/// The events that the lines of a text are.
-#[tactic(auto, using(crate::proofs::Readings::fails_bind))]
-fn read_events(
-    alloc: Global,
-    reader: &mut TreeReader,
-    text: &[u8],
-) -> Result<Vec<Event>, ScriptError>
-    ensures { Reads (λ events. events.items) result (events_of (lines text.now)) }
-{
-    let mut events = Vec::new(alloc);
-    let mut rest = text;
-    'lines: while let Some(cut) = split_line(rest) {
-        let (line, after) = cut;
-        let event = read_event(alloc, reader, line)?;
-        events.push(event)?;
-        rest = after;
+    type Header = Header;
+
+    type Event = Event;
+
+    ghost Parts = { Size };
+
+    ghost parts = { size_of };
+
+    ghost header = { size_in };
+
+    ghost event = { event_in };
+
+    fn header_in(_alloc: Global, members: &Members) -> Result<Header, ScriptError> {
+        header_in(members)
     }
-    Ok(events)
+
+    fn event_in(alloc: Global, members: Members) -> Result<Event, ScriptError> {
+        event_in(alloc, members)
+    }
 }
