@@ -1,10 +1,10 @@
 -- A create of a pod that a controller asks for is an action of its plan, and so comes in turn.
-use Rattle.std.proofs.Common.{◌≡◌, inl, inr, ℕ, ◌^◌, ◌<◌, ◌≤◌, ◌+◌, Bool, true, false, cond, List, [], ◌∷◌, ◌++◌, Option, Some, None, Result, Ok, Err, map, filter, find, length, length-append, refl, sym, ap, ◌∙◌, subst, true≢false, arith}
+use Rattle.std.proofs.Common.{◌≡◌, inl, inr, ℕ, ◌^◌, ◌<◌, ◌≤◌, ◌+◌, Bool, true, false, cond, List, [], ◌∷◌, Option, Some, None, Result, Ok, Err, filter, find, length, length-append, refl, sym, ap, ◌∙◌, subst, true≢false, arith}
 use Rattle.std.specs.Prelude.{⊤, ◌==◌, nat_le, nat_lt, option_and_then, if◌then◌else◌, reverse}
-use Rattle.std.specs.List.{AllByRecursion, Contains, cons_option, filter_map, flat_map, list_any}
+use Rattle.std.specs.List.{AllByRecursion, Contains, cons_option, filter_map}
 use Rattle.std.specs.Option.{option_map_or}
 use Rattle.std.proofs.lemmas.Bool.{and_parts}
-use Rattle.std.proofs.lemmas.List.Elements.{All-from_recursion, Contains-append_cases, filter-append, recursion_from_All}
+use Rattle.std.proofs.lemmas.List.Elements.{All-contains, All-from_recursion, filter-append, recursion_from_All}
 use Rattle.std.proofs.lemmas.List.Sorted.{All-permutation, IsPermutation-reverse}
 use Rattle.serde_json.specs.Data.{Data}
 use Rattle.serde_json.specs.Written.{compact_text}
@@ -18,41 +18,36 @@ use Rattle.objects.specs.Names.{most_label}
 use Rattle.objects.specs.PodNames.{claim_name}
 use Rattle.objects.specs.Uid.{uid_text}
 use Rattle.requests.specs.declared.request.Request.{Request}
-use Rattle.requests.specs.declared.request.Request.TheVariants.{Create, Get, List as Listing, Update, UpdateStatus, Delete, Compact}
+use Rattle.requests.specs.declared.request.Request.TheVariants.{Create, Update, UpdateStatus, Delete}
 use Rattle.set_views.specs.declared.fault.PlanError.{PlanError}
 use Rattle.set_views.specs.declared.fault.PlanError.TheVariants as errors
 use Rattle.set_views.specs.declared.policies.Policy.TheVariants.{OrderedReady}
-use Rattle.set_views.specs.Firsts.{first_of_each, is_held}
+use Rattle.set_views.specs.Firsts.{is_held}
 use Rattle.set_views.specs.Claims.{Claim}
 use Rattle.set_views.specs.Pod.{PodParts}
 use Rattle.set_views.specs.Set.{SetParts}
 use Rattle.set_views.specs.SetReading.{set_of}
 use Rattle.set_views.specs.Steps.{◌>>=◌, guarded, required}
-use Rattle.set_views.specs.Predicates.{in_namespace, in_range, is_kind}
+use Rattle.set_views.specs.Predicates.{in_range, is_kind}
 use Rattle.revisions.specs.Built.{new_revision}
 use Rattle.revisions.specs.Choice.{Choice, in_place, to_renumber, to_create, choice_from, choice_of, data_with, greatest, has_data}
-use Rattle.revisions.specs.History.{expired_revisions}
 use Rattle.revisions.specs.Name.{first_free, most_tries, revision_name}
 use Rattle.revisions.specs.Plan as revision_plans
 use Rattle.revisions.specs.Plan.{created, renumbered, settled, plan_of}
-use Rattle.revisions.specs.Revision.{owns_revision, listed, owned_among, revision_cmp}
+use Rattle.revisions.specs.Revision.{listed}
 use Rattle.pod_steps.specs.declared.step.Revision.{Revision}
 use Rattle.pod_steps.specs.declared.step.Step.{Step}
 use Rattle.pod_steps.specs.declared.step.Step.TheVariants as steps
 use Rattle.pod_steps.specs.Listed.{is_named}
-use Rattle.pod_steps.specs.Replicas.{Pods}
-use Rattle.pod_steps.specs.Step.{is_of_pod}
 use Rattle.pod_steps.specs.FullSteps as pod_steps
-use Rattle.pod_steps.proofs.ParallelPlans.{alone, nowhere}
 use Rattle.pod_steps.proofs.Causes as causes
 use Rattle.pod_steps.proofs.Causes.{created_is_absent}
 use Rattle.pod_steps.proofs.Firsts.{replicas_in_order}
 use Rattle.pod_steps.proofs.ListedPlans.{created_is_free}
 use Rattle.manifests.specs.BuiltClaim.{built_claim}
-use Rattle.manifests.specs.BuiltStatus.{built_status}
 use Rattle.claims.specs.declared.change.ClaimChange.{ClaimChange}
 use Rattle.claims.specs.declared.change.ClaimChange.TheVariants as changes
-use Rattle.claims.specs.Changes.{all_creates_and_updates, entries_of, keep_claims, create_or_update, make_claims, release_claims, update, with_owner_entries}
+use Rattle.claims.specs.Changes.{all_creates_and_updates, entries_of, create_or_update, update, with_owner_entries}
 use Rattle.claims.specs.Listed.{listed_claim}
 use Rattle.claims.specs.Owners.{owner_in_range, owner_of_condemned, wanted_entries}
 use Rattle.requests.specs.Lists.{Has}
@@ -60,29 +55,18 @@ use Rattle.sets.specs.declared.action.Action.{Action}
 use Rattle.sets.specs.declared.action.Action.TheVariants.{CreateClaim, CreatePod, DeletePod, UpdateClaim, WriteRevision, DeleteRevision, WriteStatus, Wait}
 use Rattle.sets.specs.Actions.{Claims, actions_of, changes_in, claim_action, claim_actions, name_at, new_pod, revision_of, version_or_empty}
 use Rattle.sets.specs.Laws.{HasHealthyTarget, is_on_pod as acts_on_pod}
-use Rattle.sets.specs.Plan.{fitting_pods, plan_by, plan_of_pods, refusal}
+use Rattle.sets.specs.Plan.{plan_by, plan_of_pods}
 use Rattle.sets.specs.PlanOfLists.{owned_of, plan_of_lists, views_of}
-use Rattle.sets.specs.FullPlan.{current_name, deletion, deletions, status_of, status_write, full_plan}
-use Rattle.sets.proofs.Ordered.{all_among, all_in_order}
-use Rattle.sets.proofs.Origins.{created_alone, healthy_target, in_take, is_from_step, one_pod, origin, planned_over, renumbered_alone}
-use Rattle.sets.proofs.Owned.{filtered, first_among, total}
-use Rattle.rounds.proofs.Lists.{among_contained, among_either, contains_among}
+use Rattle.sets.proofs.Origins.{created_alone, healthy_target, is_from_step, one_pod, origin, planned_over, renumbered_alone}
+use Rattle.rounds.proofs.Lists.{contains_among}
 use Rattle.rounds.specs.Drafts.{draft}
 use Rattle.plan_requests.specs.Planned.{as_read, deletions as removals, key_of, or_none, request_of, requested, requested_for, requests_of}
+use Rattle.plan_requests.proofs.OwnedRevisions.{of_owned}
+use Rattle.plan_requests.proofs.PlannedActions.{among_all, in_requests, of_plan, of_step, refused, writes_alone}
 use Rattle.controllers.specs.InTurn.{IsInTurn, is_on_pod}
 
-module _ {X : Type 0} (P : X → Type 0) where
-  all_joined : (xs ys : List X) → AllByRecursion P xs → AllByRecursion P ys → AllByRecursion P (xs ++ ys)
-  all_joined [] ys all more = more
-  all_joined (x ∷ xs) ys all more = (all.0, all_joined xs ys all.1 more)
-
-  among_all : (xs : List X) (x : X) → AllByRecursion P xs → Has x xs → P x
-  among_all [] x all at = absurd at
-  among_all (y ∷ ys) x all (inl is) = subst P (sym is) all.0
-  among_all (y ∷ ys) x all (inr at) = among_all ys x all.1 at
-
-  all_reversed : (xs : List X) → AllByRecursion P xs → AllByRecursion P (reverse xs)
-  all_reversed xs all = recursion_from_All P (reverse xs) (All-permutation P xs (reverse xs) (IsPermutation-reverse xs) (All-from_recursion P xs all))
+all_reversed : {X : Type 0} (P : X → Type 0) (xs : List X) → AllByRecursion P xs → AllByRecursion P (reverse xs)
+all_reversed P xs all = recursion_from_All P (reverse xs) (All-permutation P xs (reverse xs) (IsPermutation-reverse xs) (All-from_recursion P xs all))
 
 -- ---- beside the pods a plan creates nothing that is a pod
 
@@ -91,13 +75,8 @@ IsOther o = is_kind kinds.Pod o.key.kind ≡ false
 
 abbrev IsApart : Action → Type 0
 IsApart (CreateClaim o) = IsOther o
-IsApart (CreatePod o) = ⊤
-IsApart (DeletePod name uid) = ⊤
-IsApart (UpdateClaim o) = ⊤
 IsApart (WriteRevision o) = IsOther o
-IsApart (DeleteRevision name uid version) = ⊤
-IsApart (WriteStatus o) = ⊤
-IsApart (Wait cause name) = ⊤
+IsApart action = ⊤
 
 abbrev IsChangeApart : Option ClaimChange → Type 0
 IsChangeApart None = ⊤
@@ -143,40 +122,6 @@ module _ (set : SetParts) (claims : Claims) (current newest : Object) where
   apart_step (steps.CreatePod i revision) = (tt, tt)
   apart_step (steps.DeletePod i uid) = (tt, tt)
   apart_step (steps.Wait i cause) = (tt, tt)
-
-  apart_steps : (xs : List Step) → AllByRecursion IsApart (flat_map (actions_of set claims current newest) xs)
-  apart_steps [] = tt
-  apart_steps (s ∷ xs) = all_joined IsApart (actions_of set claims current newest s) (flat_map (actions_of set claims current newest) xs) (apart_step s) (apart_steps xs)
-
-apart_gone : (os : List Object) → AllByRecursion IsApart (map deletion os)
-apart_gone [] = tt
-apart_gone (o ∷ os) = (tt, apart_gone os)
-
-apart_deletions : (b : Bool) (os : List Object) → AllByRecursion IsApart (if b then [] else map deletion os)
-apart_deletions true os = tt
-apart_deletions false os = apart_gone os
-
-apart_status : (written : Option Object) → AllByRecursion IsApart (option_map_or (λ o. WriteStatus o ∷ []) written [])
-apart_status None = tt
-apart_status (Some o) = (tt, tt)
-
-apart_whole : (set : SetParts) (claims : Claims) (views : List PodParts) (owned : List Object) (current newest : Object) (pods : Pods) → AllByRecursion IsApart (full_plan set claims views owned current newest pods)
-unfolding full_plan
-apart_whole set claims views owned current newest pods =
-    let name : List ℕ = current_name set pods current newest in
-    let made : List Action = flat_map (actions_of set claims current newest) (pod_steps.full_steps set pods) in
-    let gone : List Action = deletions set views owned name newest.key.name (pod_steps.full_steps set pods) in
-    let written : List Action = status_write set (status_of set pods name newest.key.name) in
-    all_joined IsApart (made ++ gone) written
-    (all_joined IsApart made gone (apart_steps set claims current newest (pod_steps.full_steps set pods)) (apart_deletions (list_any is_of_pod (pod_steps.full_steps set pods)) (expired_revisions set views name newest.key.name owned)))
-    (apart_status (built_status set (status_of set pods name newest.key.name)))
-
-apart_in_place : (set : SetParts) (claims : Claims) (views : List PodParts) (owned : List Object) (current newest : Object) (actions : List Action) (a : Action) → plan_of_pods set claims views owned current newest ≡ Ok actions → Contains actions a → IsApart a
-apart_in_place set claims views owned current newest actions a e at =
-    let p = planned_over set claims views owned current newest actions e in
-    let all : List Action = full_plan set claims views owned current newest p.0 in
-    among_all IsApart all a (apart_whole set claims views owned current newest p.0)
-    (among_contained all a (in_take 1024 all a (subst (λ (l : List Action). Contains l a) p.1.1 at)))
 
 -- ---- the revision that is written
 
@@ -242,79 +187,19 @@ other_kind kinds.PersistentVolumeClaim h = refl
 other_kind kinds.ControllerRevision h = refl
 
 owned_are_other : (set : SetParts) (revisions : List Object) → AllByRecursion IsOther (owned_of set revisions)
-unfolding owned_of
-owned_are_other set revisions =
-    all_in_order revision_cmp total IsOther (owned_among set revisions) (all_among IsOther (owned_among set revisions) (λ x h.
-    let near = filtered (in_namespace set kinds.ControllerRevision) x revisions (first_among (listed set revisions) x (filtered (owns_revision set) x (first_of_each (listed set revisions)) h).0) in
-    other_kind x.key.kind (and_parts (is_kind kinds.ControllerRevision x.key.kind) _ near.1).0))
-
--- ---- plans
-
-is_made : {A : Type 0} → Result A PlanError → Bool
-is_made (Ok x) = true
-is_made (Err e) = false
-
-never_made : {A B : Type 0} (r : Result A PlanError) (e : PlanError) (x : B) → (r >>= λ _. Err e) ≡ Ok x → ⊥
-unfolding is_made
-never_made (Ok y) e x is = let clash : false ≡ true = ap is_made is in true≢false (sym clash)
-never_made (Err d) e x is = let clash : false ≡ true = ap is_made is in true≢false (sym clash)
-
-refused : (set : SetParts) (views : List PodParts) (e : PlanError) (actions : List Action) → refusal set views e ≡ Ok actions → ⊥
-unfolding is_made
-refused set views errors.NoRevisionName actions is = never_made (fitting_pods set [] [] views) errors.NoRevisionName actions is
-refused set views e actions is = let clash : false ≡ true = ap is_made is in true≢false (sym clash)
-
-writes_alone : (actions : List Action) (x : Object) (a : Action) → actions ≡ WriteRevision x ∷ [] → Contains actions a → WriteRevision x ≡ a
-writes_alone actions x a is at = alone (WriteRevision x) a (subst (λ (l : List Action). Contains l a) is at)
+owned_are_other set revisions = of_owned IsOther set revisions (λ o there near. other_kind o.key.kind (and_parts (is_kind kinds.ControllerRevision o.key.kind) _ near).0)
 
 -- ---- what creates a pod is the step of its ordinal
 
-creates_pod : Action → Bool
-creates_pod (CreateClaim o) = false
-creates_pod (CreatePod o) = true
-creates_pod (DeletePod name uid) = false
-creates_pod (UpdateClaim o) = false
-creates_pod (WriteRevision o) = false
-creates_pod (DeleteRevision name uid version) = false
-creates_pod (WriteStatus o) = false
-creates_pod (Wait cause name) = false
+module _ (set : SetParts) (claims : Claims) (current newest : Object) where
+  abbrev IsMadeBy : Step → Action → Type 0
+  IsMadeBy s (CreatePod pod) = (i : ℕ) × (revision : Revision) × (s ≡ steps.CreatePod i revision) × (new_pod set (revision_of current newest revision) i ≡ pod)
+  IsMadeBy s action = ⊤
 
-no_change : (change : ClaimChange) → creates_pod (claim_action change) ≡ false
-unfolding creates_pod
-no_change (changes.Create o) = refl
-no_change (changes.Update o) = refl
-
-other_than : (x a : Action) → creates_pod x ≡ false → creates_pod a ≡ true → Contains (x ∷ []) a → ⊥
-other_than x a none one h = true≢false (sym one ∙ ap creates_pod (sym (alone x a h)) ∙ none)
-
-not_of_claims : (changes : List ClaimChange) (a : Action) → creates_pod a ≡ true → Contains (claim_actions changes) a → ⊥
-not_of_claims [] a one h = nowhere a h
-not_of_claims (change ∷ changes) a one h =
-    elim (Contains-append_cases (claim_action change ∷ []) (claim_actions changes) a h) [
-      | inl k ↦ other_than (claim_action change) a (no_change change) one k
-      | inr k ↦ not_of_claims changes a one k
-    ]
-
-pod_in : Object → Action → Object
-pod_in x (CreateClaim o) = x
-pod_in x (CreatePod o) = o
-pod_in x (DeletePod name uid) = x
-pod_in x (UpdateClaim o) = x
-pod_in x (WriteRevision o) = x
-pod_in x (DeleteRevision name uid version) = x
-pod_in x (WriteStatus o) = x
-pod_in x (Wait cause name) = x
-
-created_from : (set : SetParts) (claims : Claims) (current newest : Object) (s : Step) (pod : Object) → Contains (actions_of set claims current newest s) (CreatePod pod)
-    → (i : ℕ) × (revision : Revision) × (s ≡ steps.CreatePod i revision) × (new_pod set (revision_of current newest revision) i ≡ pod)
-unfolding actions_of creates_pod pod_in
-created_from set claims current newest (steps.MakeClaims i) pod h = absurd (not_of_claims (changes_in (make_claims set claims i)) (CreatePod pod) refl h)
-created_from set claims current newest (steps.KeepClaims i) pod h = absurd (not_of_claims (keep_claims set claims i) (CreatePod pod) refl h)
-created_from set claims current newest (steps.ReleaseClaims i uid) pod h = absurd (not_of_claims (release_claims set claims i uid) (CreatePod pod) refl h)
-created_from set claims current newest (steps.CreatePod i revision) pod h =
-    (i, revision, refl, ap (pod_in pod) (alone (CreatePod (new_pod set (revision_of current newest revision) i)) (CreatePod pod) h))
-created_from set claims current newest (steps.DeletePod i uid) pod h = absurd (other_than (DeletePod (name_at set i) uid) (CreatePod pod) refl refl h)
-created_from set claims current newest (steps.Wait i cause) pod h = absurd (other_than (Wait cause (name_at set i)) (CreatePod pod) refl refl h)
+  created_from : (s : Step) (pod : Object) → Contains (actions_of set claims current newest s) (CreatePod pod) → IsMadeBy s (CreatePod pod)
+  created_from s pod h =
+      All-contains (IsMadeBy s) (actions_of set claims current newest s) (CreatePod pod)
+      (of_step (IsMadeBy s) set claims current newest (λ o. tt) (λ o. tt) s (λ i revision is. (i, revision, is, refl)) (λ i uid. tt) (λ i cause. tt)) h
 
 -- the pod is of the least ordinal in range without a healthy one, under a name that no listed pod has
 record IsNext (set : SetParts) (views : List PodParts) (pod : Object) : Type 0 where
@@ -345,12 +230,15 @@ created_next set claims views owned current newest actions pod policy e h =
     }
 
 module _ (set : SetParts) (claims : Claims) (views : List PodParts) (actions : List Action) where
-  apart : (p : Result revision_plans.PlanParts PlanError) (a : Action) → IsRevisionPlan p → plan_by set claims views p ≡ Ok actions → Contains actions a → IsApart a
+  apart : (p : Result revision_plans.PlanParts PlanError) → IsRevisionPlan p → plan_by set claims views p ≡ Ok actions → AllByRecursion IsApart actions
   unfolding plan_by
-  apart (Ok (created x)) a other e at = subst IsApart (writes_alone actions x a (created_alone set claims views actions x e) at) other
-  apart (Ok (renumbered x)) a other e at = subst IsApart (writes_alone actions x a (renumbered_alone set claims views actions x e) at) other
-  apart (Ok (settled owned current newest)) a other e at = apart_in_place set claims views owned current newest actions a e at
-  apart (Err x) a other e at = absurd (refused set views x actions e)
+  apart (Ok (created x)) other e = subst (AllByRecursion IsApart) (sym (created_alone set claims views actions x e)) (other, tt)
+  apart (Ok (renumbered x)) other e = subst (AllByRecursion IsApart) (sym (renumbered_alone set claims views actions x e)) (other, tt)
+  apart (Ok (settled owned current newest)) other e =
+      recursion_from_All IsApart actions
+      (of_plan IsApart set claims views owned current newest actions
+      (λ s. All-from_recursion IsApart (actions_of set claims current newest s) (apart_step set claims current newest s)) (λ k d low. tt) (λ o. tt) e)
+  apart (Err x) other e = absurd (refused set views x actions e)
 
   in_turn : (p : Result revision_plans.PlanParts PlanError) (pod : Object) → set.policy ≡ OrderedReady → plan_by set claims views p ≡ Ok actions → Contains actions (CreatePod pod)
       → IsNext set views pod × IsFew actions
@@ -363,31 +251,13 @@ module _ (set : SetParts) (claims : Claims) (views : List PodParts) (actions : L
 
 -- ---- requests
 
-in_requests : (namespace moment : List ℕ) (actions : List Action) (r : Request) → Has r (requests_of namespace moment actions) → (a : Action) × Has a actions × Has r (request_of namespace moment a)
-in_requests namespace moment [] r at = absurd at
-in_requests namespace moment (a ∷ rest) r at =
-    elim (among_either r (request_of namespace moment a) (requests_of namespace moment rest) at) [
-      | inl here ↦ (a, inl refl, here)
-      | inr more ↦ let x = in_requests namespace moment rest r more in (x.0, inr x.1, x.2)
-    ]
-
-object_in : Object → Request → Object
-object_in x (Create d) = d.object
-object_in x (Get key) = x
-object_in x (Listing kind namespace exact) = x
-object_in x (Update d) = x
-object_in x (UpdateStatus d) = x
-object_in x (Delete key uid version at) = x
-object_in x (Compact to) = x
-
 module _ (d : Draft) where
   only : (r : Request) → Has (Create d) (r ∷ []) → Create d ≡ r
   only r (inl is) = is
   only r (inr none) = absurd none
 
   same : (o : Object) → Create d ≡ Create (draft o) → d.object ≡ o
-  unfolding object_in
-  same o is = ap (object_in o) is
+  same o is = let drafts : d ≡ draft o = cc in ap (λ (x : Draft). x.object) drafts
 
   no_removal : (key : Option Key) (uid : ℕ) (version at : Option (List ℕ)) → Has (Create d) (removals key uid version at) → ⊥
   no_removal None uid version at h = h
@@ -490,16 +360,16 @@ single r (x ∷ y ∷ rs) few at = absurd (omega (arith, few))
 made_in_turn : (set : SetParts) (digits : ℕ) (moment : List ℕ) (revisions pods claims : List Object) (requests : List Request) (d : Draft) (p : Result (List Action) PlanError) → set.policy ≡ OrderedReady
     → plan_of_lists set digits revisions pods claims ≡ p → (p >>= λ actions. Ok (requests_of set.object.key.namespace moment actions)) ≡ Ok requests → Has (Create d) requests → is_kind kinds.Pod d.object.key.kind ≡ true
     → IsInTurn set pods requests d
-unfolding plan_of_lists is_made
-made_in_turn set digits moment revisions pods claims requests d (Err e) policy plan is at kind = let clash : false ≡ true = ap is_made is in absurd (true≢false (sym clash))
+unfolding plan_of_lists
+made_in_turn set digits moment revisions pods claims requests d (Err e) policy plan is at kind = absurd (cc)
 made_in_turn set digits moment revisions pods claims requests d (Ok actions) policy plan is at kind =
     let namespace = set.object.key.namespace in
     let held : List ℕ → Bool = is_held (listed set revisions) in
     let views = views_of set pods in
     let p : Result revision_plans.PlanParts PlanError = plan_of set held digits (owned_of set revisions) in
     let made : requests_of namespace moment actions ≡ requests = ap or_none is in
-    let all : AllByRecursion IsApart actions = all_among IsApart actions (λ a among. apart set (listed_claim set claims) views actions p a
-    (revision_is_other set held digits (owned_of set revisions) (owned_are_other set revisions)) plan (contains_among a actions among)) in
+    let all : AllByRecursion IsApart actions =
+    apart set (listed_claim set claims) views actions p (revision_is_other set held digits (owned_of set revisions) (owned_are_other set revisions)) plan in
     let x = in_requests namespace moment actions (Create d) (subst (λ (l : List Request). Has (Create d) l) (sym made) at) in
     let next = asks d (λ pod. IsNext set views pod × IsFew actions) actions namespace moment x.0
     (λ pod created. in_turn set (listed_claim set claims) views actions p pod policy plan created) kind (among_all IsApart actions x.0 all x.1) (contains_among x.0 actions x.1) x.2 in
