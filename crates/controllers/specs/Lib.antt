@@ -4,6 +4,8 @@ pub mod Controller
 pub mod InTurn
 pub mod Whole
 pub mod Progress
+-- ---- what only proofs use
+pub mod Round
 -- ---- of the crates below
 pub use Rattle.plan_requests.specs.Planned
 pub use Rattle.plan_requests.specs.Reconciler

@@ -11,6 +11,7 @@ ghost use Rattle.plan_requests.specs.Reconciler.{reconciler_with};
 ghost use Rattle.objects.specs.declared.key.Key.{Key};
 ghost use Rattle.controllers.specs.declared.progress.Progress.TheVariants.{ReadingSet};
 ghost use Rattle.controllers.specs.Controller.{is_waiting, phase_of, reconciler_of, refusal_after, refusal_of, refusals_of};
+ghost use Rattle.controllers.specs.Round.{Hears, KeepsItself, StandsAt, Stays, Takes};
 
 use crate::controller::Controller;
 use crate::hearing::{acting, after_action, after_deletion, after_list, after_set, listed};
@@ -65,13 +66,7 @@ impl Controller {
 /// Goes on by the reply to what it asked last.
 #[tactic(auto, using(crate::proofs::Heard::carries))]
 fn on_reply(controller: &mut Controller, reply: &Reply) -> Result<(), Memory>
-    ensures phase { OnOk result (phase_of controller.new ≡ takes (reconciler_of controller.old) (phase_of controller.old) reply.now) }
-    ensures refusal { OnOk result (refusal_of controller.new
-        ≡ refusal_after (refusals_of controller.old) (phase_of controller.old) reply.now (refusal_of controller.old)) }
-    ensures memory { OnErr result ((phase_of controller.new ≡ phase_of controller.old) × (refusal_of controller.new ≡ refusal_of controller.old)) }
-    ensures reconciler { reconciler_of controller.new ≡ reconciler_of controller.old }
-    ensures refusals { refusals_of controller.new ≡ refusals_of controller.old }
-    ensures waits { controller.new.waits ≡ controller.old.waits }
+    ensures { Takes reply.now controller.old controller.new result }
 {
     if controller.progress.is_listing() {
         return on_list(controller, reply);
@@ -94,13 +89,7 @@ fn on_reply(controller: &mut Controller, reply: &Reply) -> Result<(), Memory>
 #[tactic(auto, using(crate::proofs::Heard::set_heard, crate::proofs::Heard::refusal_at_set), unfolding(crate::specs::Controller::reconciler_of, crate::specs::Controller::phase_of, crate::specs::Controller::refusal_of, crate::specs::Controller::refusals_of))]
 fn on_set(controller: &mut Controller, reply: &Reply) -> Result<(), Memory>
     requires { controller.old.progress ≡ ReadingSet }
-    ensures phase { OnOk result (phase_of controller.new ≡ takes (reconciler_of controller.old) (phase_of controller.old) reply.now) }
-    ensures refusal { OnOk result (refusal_of controller.new
-        ≡ refusal_after (refusals_of controller.old) (phase_of controller.old) reply.now (refusal_of controller.old)) }
-    ensures memory { OnErr result ((phase_of controller.new ≡ phase_of controller.old) × (refusal_of controller.new ≡ refusal_of controller.old)) }
-    ensures reconciler { reconciler_of controller.new ≡ reconciler_of controller.old }
-    ensures refusals { refusals_of controller.new ≡ refusals_of controller.old }
-    ensures waits { controller.new.waits ≡ controller.old.waits }
+    ensures { Takes reply.now controller.old controller.new result }
 {
     let progress = after_set(reply)?;
     set_progress(controller, progress);
@@ -127,13 +116,7 @@ fn progress_after_list(
 #[tactic(auto, using(crate::proofs::Heard::refusal_stays), unfolding(crate::specs::Controller::reconciler_of, crate::specs::Controller::phase_of, crate::specs::Controller::refusal_of, crate::specs::Controller::refusals_of))]
 fn on_list(controller: &mut Controller, reply: &Reply) -> Result<(), Memory>
     requires { is_listing controller.old.progress ≡ true }
-    ensures phase { OnOk result (phase_of controller.new ≡ takes (reconciler_of controller.old) (phase_of controller.old) reply.now) }
-    ensures refusal { OnOk result (refusal_of controller.new
-        ≡ refusal_after (refusals_of controller.old) (phase_of controller.old) reply.now (refusal_of controller.old)) }
-    ensures memory { OnErr result ((phase_of controller.new ≡ phase_of controller.old) × (refusal_of controller.new ≡ refusal_of controller.old)) }
-    ensures reconciler { reconciler_of controller.new ≡ reconciler_of controller.old }
-    ensures refusals { refusals_of controller.new ≡ refusals_of controller.old }
-    ensures waits { controller.new.waits ≡ controller.old.waits }
+    ensures { Takes reply.now controller.old controller.new result }
 {
     let progress = progress_after_list(controller.alloc, &controller.progress, reply)?;
     set_progress(controller, progress);
@@ -164,16 +147,9 @@ fn plan_with(controller: &Controller, claims: &[Object]) -> Result<Vec<Request>,
 }
 
 /// Goes on by the list of the claims for its plan.
-#[tactic(auto, using(crate::proofs::Heard::claims_heard, crate::proofs::Heard::refusal_at_claims, crate::proofs::Heard::refusal_unheard), unfolding(crate::specs::Controller::reconciler_of, crate::specs::Controller::phase_of, crate::specs::Controller::refusal_of, crate::specs::Controller::refusals_of))]
 fn on_claims(controller: &mut Controller, reply: &Reply) -> Result<(), Memory>
     requires { is_planning controller.old.progress ≡ true }
-    ensures phase { OnOk result (phase_of controller.new ≡ takes (reconciler_of controller.old) (phase_of controller.old) reply.now) }
-    ensures refusal { OnOk result (refusal_of controller.new
-        ≡ refusal_after (refusals_of controller.old) (phase_of controller.old) reply.now (refusal_of controller.old)) }
-    ensures memory { OnErr result ((phase_of controller.new ≡ phase_of controller.old) × (refusal_of controller.new ≡ refusal_of controller.old)) }
-    ensures reconciler { reconciler_of controller.new ≡ reconciler_of controller.old }
-    ensures refusals { refusals_of controller.new ≡ refusals_of controller.old }
-    ensures waits { controller.new.waits ≡ controller.old.waits }
+    ensures { Takes reply.now controller.old controller.new result }
 {
     match listed(reply) {
         Some((claims, _)) => {
@@ -193,14 +169,10 @@ fn start_plan(
     controller: &mut Controller,
     found: Result<Vec<Request>, PlanError>,
 ) -> Result<(), Memory>
-    ensures phase { OnOk result ((planned : Result (List Request) PlanError)
-        → Gives (λ requests. requests.items) found planned → phase_of controller.new ≡ acts (or_none planned)) }
-    ensures refusal { OnOk result ((planned : Result (List Request) PlanError)
-        → Gives (λ requests. requests.items) found planned → refusal_of controller.new ≡ why_not planned) }
-    ensures memory { OnErr result ((phase_of controller.new ≡ phase_of controller.old) × (refusal_of controller.new ≡ refusal_of controller.old)) }
-    ensures reconciler { reconciler_of controller.new ≡ reconciler_of controller.old }
-    ensures refusals { refusals_of controller.new ≡ refusals_of controller.old }
-    ensures waits { controller.new.waits ≡ controller.old.waits }
+    ensures itself { KeepsItself controller.old controller.new }
+    ensures starts { OnOk result ((planned : Result (List Request) PlanError)
+        → Gives (λ requests. requests.items) found planned → StandsAt (acts (or_none planned)) (why_not planned) controller.new) }
+    ensures memory { OnErr result (Stays controller.old controller.new) }
 {
     match found {
         Ok(requests) => {
@@ -254,12 +226,8 @@ fn progress_after(progress: Progress, reply: &Reply) -> Progress
 #[tactic(auto, using(crate::proofs::Heard::refusal_carried), unfolding(crate::specs::Controller::reconciler_of, crate::specs::Controller::phase_of, crate::specs::Controller::refusal_of, crate::specs::Controller::refusals_of))]
 fn continue_requests(controller: &mut Controller, reply: &Reply)
     requires { is_carrying controller.old.progress ≡ true }
-    ensures phase { phase_of controller.new ≡ takes (reconciler_of controller.old) (phase_of controller.old) reply.now }
-    ensures refusal { refusal_of controller.new
-        ≡ refusal_after (refusals_of controller.old) (phase_of controller.old) reply.now (refusal_of controller.old) }
-    ensures reconciler { reconciler_of controller.new ≡ reconciler_of controller.old }
-    ensures refusals { refusals_of controller.new ≡ refusals_of controller.old }
-    ensures waits { controller.new.waits ≡ controller.old.waits }
+    ensures itself { KeepsItself controller.old controller.new }
+    ensures hears { Hears reply.now controller.old controller.new }
 {
     let progress = take_progress(controller);
     set_progress(controller, progress_after(progress, reply));
