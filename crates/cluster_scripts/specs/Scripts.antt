@@ -7,7 +7,7 @@ use Rattle.cluster_runs.specs.declared.turn.Turn.{Turn}
 use Rattle.controllers.specs.Cluster.{size_of}
 use Rattle.controllers.specs.declared.cluster_spec.ClusterSpec.{ClusterSpec}
 use Rattle.replay_lines.specs.Events.{◌>>=◌, line_members}
-use Rattle.replay_lines.specs.Scripts.{each_of, script_by, size_in}
+use Rattle.replay_lines.specs.Scripts.{script_by, size_in}
 use Rattle.cluster_scripts.specs.Events.{turn_of}
 use Rattle.cluster_scripts.specs.Sets.{SetParts, set_parts, sets_in}
 use Rattle.cluster_scripts.specs.declared.script.ClusterScript.{ClusterScript}
@@ -29,10 +29,6 @@ cluster_in ms = do
 
 abbrev pub cluster_of : List ℕ → Option ClusterParts
 cluster_of line = line_members line >>= cluster_in
-
--- the turns of the lines, where each line is one
-abbrev pub turns_of : List (List ℕ) → Option (List Turn)
-turns_of ls = each_of turn_of ls
 
 unfoldable pub cluster_script_of : List ℕ → Option (ClusterParts × List Turn)
 cluster_script_of text = script_by cluster_of turn_of (lines text)

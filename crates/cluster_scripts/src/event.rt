@@ -1,31 +1,19 @@
 // The turn that a line of a script is.
 ghost use Rattle.std.specs.Prelude.{◌≡◌};
-ghost use Rattle.cluster_scripts.specs.Events.{approach_in, ask_in, bare_event_in, bare_turn_in, crash_in, next_in, outside_in, round_in, run_in, settle_in, store_step_in, turn_in, turn_of};
+ghost use Rattle.cluster_scripts.specs.Events.{approach_in, ask_in, bare_event_in, bare_turn_in, crash_in, next_in, outside_in, round_in, run_in, settle_in, store_step_in, turn_in};
 ghost use Rattle.replay_lines.specs.Events.{Reads};
 
 use cluster_runs::ClusterEvent;
 use controllers::Turn;
-use objects::{Members, TreeReader};
-use replay_lines::{ScriptError, count_in, count_of, read_members, request_in, step_in, text_in};
+use objects::Members;
+use replay_lines::{ScriptError, count_in, count_of, request_in, step_in, text_in};
 use std::alloc::Global;
 
 /// The most rounds of a line `settle`.
 const MAX_ROUNDS: u64 = 1024;
 
-/// The turn that a line is.
-#[tactic(auto, using(replay_lines::proofs::Readings::fails_bind), unfolding(crate::specs::Events::turn_of))]
-pub(crate) fn read_turn(
-    alloc: Global,
-    reader: &mut TreeReader,
-    line: &[u8],
-) -> Result<Turn, ScriptError>
-    ensures { Reads (λ turn. turn) result (turn_of line.now) }
-{
-    let members = read_members(reader, line)?;
-    turn_in(alloc, members)
-}
-
-fn turn_in(alloc: Global, members: Members) -> Result<Turn, ScriptError>
+/// The turn that the members of a line are.
+pub(crate) fn turn_in(alloc: Global, members: Members) -> Result<Turn, ScriptError>
     ensures { Reads (λ turn. turn) result (turn_in members) }
 {
     let Some(word) = text_in(&members, "event") else {

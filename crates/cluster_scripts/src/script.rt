@@ -1,13 +1,11 @@
-ghost use Rattle.plain.specs.Lines.{lines};
-ghost use Rattle.cluster_scripts.specs.Scripts.{cluster_script_of, parts_of, turns_of};
+ghost use Rattle.cluster_scripts.specs.Scripts.{cluster_script_of, parts_of};
 ghost use Rattle.replay_lines.specs.Events.{Reads};
 
-use crate::event::read_turn;
-use crate::header::read_cluster;
+use crate::event::turn_in;
+use crate::header::cluster_in;
 use controllers::{ClusterSpec, Turn};
-use objects::TreeReader;
-use plain::split_line;
-use replay_lines::ScriptError;
+use objects::Members;
+use replay_lines::{FromLines, ScriptError, read_lines};
 use std::alloc::Global;
 
 /// A run of a cluster: what it is made of, and its turns, first to last. Neither the capacity nor the number of shards is
@@ -45,32 +43,35 @@ pub struct ClusterScript {
 /// # Errors
 ///
 /// `BadScript` where a line is none of these, also one that is cut off or empty, or where there is no line.
-#[tactic(auto, using(replay_lines::proofs::Readings::fails_bind), unfolding(crate::specs::Scripts::cluster_script_of))]
+#[tactic(auto, unfolding(crate::specs::Events::turn_of, crate::specs::Scripts::cluster_script_of))]
 pub fn read_cluster_script(alloc: Global, text: &[u8]) -> Result<ClusterScript, ScriptError>
     ensures { Reads parts_of result (cluster_script_of text.now) }
 {
-    let Some(cut) = split_line(text) else {
-        return Err(ScriptError::BadScript);
-    };
-    let (first, rest) = cut;
-    let mut reader = TreeReader::new(alloc);
-    let spec = read_cluster(alloc, &mut reader, first)?;
-    let turns = read_turns(alloc, &mut reader, rest)?;
+    let (spec, turns) = read_lines::<ClusterScript>(alloc, text)?;
     Ok(ClusterScript { spec, turns })
 }
 
-/// The turns that the lines of a text are.
-#[tactic(auto, using(replay_lines::proofs::Readings::fails_bind))]
-fn read_turns(alloc: Global, reader: &mut TreeReader, text: &[u8]) -> Result<Vec<Turn>, ScriptError>
-    ensures { Reads (λ turns. turns.items) result (turns_of (lines text.now)) }
-{
-    let mut turns = Vec::new(alloc);
-    let mut rest = text;
-    'lines: while let Some(cut) = split_line(rest) {
-        let (line, after) = cut;
-        let turn = read_turn(alloc, reader, line)?;
-        turns.push(turn)?;
-        rest = after;
+impl FromLines for ClusterScript {
+    ghost use Rattle.cluster_scripts.specs.Events.{turn_in};
+    ghost use Rattle.cluster_scripts.specs.Scripts.{ClusterParts, cluster_in, cluster_parts};
+
+    type Header = ClusterSpec;
+
+    type Event = Turn;
+
+    ghost Parts = { ClusterParts };
+
+    ghost parts = { cluster_parts };
+
+    ghost header = { cluster_in };
+
+    ghost event = { turn_in };
+
+    fn header_in(alloc: Global, members: &Members) -> Result<ClusterSpec, ScriptError> {
+        cluster_in(alloc, members)
     }
-    Ok(turns)
+
+    fn event_in(alloc: Global, members: Members) -> Result<Turn, ScriptError> {
+        turn_in(alloc, members)
+    }
 }
