@@ -1,6 +1,5 @@
 pub mod Inputs
 pub mod Asked
-pub mod Clustered
 pub mod Ended
 pub mod Found
 pub mod Grammars

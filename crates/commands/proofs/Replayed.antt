@@ -1,23 +1,12 @@
 -- What was made of an input that was read, and written or refused.
-use Rattle.std.proofs.Common.{◌≡◌, ℕ, List, [], Option, Some, None, inl, inr, refl, sym, subst}
+use Rattle.std.proofs.Common.{◌≡◌, ℕ, List, [], Option, Some, None, refl, subst}
 use Rattle.std.specs.Option.{IfSome}
-use Rattle.std.specs.Prelude.{Bool, codes}
-use Rattle.std.proofs.Common.{ap}
-use Rattle.replay_lines.specs.Refusals.{refused_line_of}
-use Rattle.commands.specs.Halts.{refused_as, told_line}
 use Rattle.std.specs.Prelude.{IfErr, Result, Ok, Err}
 use Rattle.std.specs.Result.{IsErrAnd}
 use Rattle.plain.specs.declared.devices.input.InputFault.{InputFault}
 use Rattle.plain.specs.declared.devices.input.InputFault.TheVariants as input
-use Rattle.replay_lines.specs.Events.{Fails}
-use Rattle.replay_lines.specs.Scripts.{script_of}
-use Rattle.replay_lines.specs.declared.fault.ScriptError.{ScriptError}
-use Rattle.replay_lines.specs.declared.fault.ScriptError.TheVariants.{BadScript, Memory}
 use Rattle.commands.specs.Forms.{WritesBy}
 use Rattle.commands.specs.Halts.{IsNamed, halt_of, name_of}
-use Rattle.commands.specs.Replaying.{IsRefusedBy, IsReplayRefusal, IsRunRefusal, script_refusal}
-use Rattle.interleavings.specs.World.{Size}
-use Rattle.interleavings.specs.declared.event.Event.{Event}
 
 -- what was made of the input was written as it is shown, all of it or a beginning
 pub writes_by : (puts : Option (List ℕ) → List ℕ → Option (List ℕ) → Type 0) (IsText : List ℕ → List ℕ → Type 0)
@@ -25,18 +14,6 @@ pub writes_by : (puts : Option (List ℕ) → List ℕ → Option (List ℕ) →
     → shown ≡ text → WritesBy puts IsText had left before after
 writes_by puts IsText None left before after text shown made put same = tt
 writes_by puts IsText (Some input) left before after text shown made put same = (made.0, (text, made.1, subst (λ t. puts before t after) same put))
-
--- a text that is no script is refused by that name, for that line
-pub refused_script : (place : Bool) (name : Option (List ℕ)) (input : List ℕ) (line : Option ℕ) → name ≡ Some (refused_as line (codes "BadScript"))
-    → line ≡ told_line place (refused_line_of input) → script_of input ≡ None → IfSome name (IsReplayRefusal place input)
-refused_script place name input line is told none =
-    subst (λ o. IfSome o (IsReplayRefusal place input)) (sym is) (inl (none, ap (λ l. refused_as l (codes "BadScript")) told))
-
--- a run that is refused is that of the script
-pub refused_run : (place : Bool) (name : Option (List ℕ)) (input : List ℕ) (script : Size × List Event) → script_of input ≡ Some script → IfSome name (IsRunRefusal script)
-    → IfSome name (IsReplayRefusal place input)
-refused_run place None input script is refused = tt
-refused_run place (Some name) input script is refused = inr (script, is, refused)
 
 -- a refusal has the name that is reported
 pub named_and : (name : Option (List ℕ)) (Is Said : List ℕ → Type 0) → IsNamed name Is → IfSome name Said → (n : List ℕ) × Is n × Said n

@@ -22,11 +22,12 @@ use Rattle.stories.specs.Story.{story_text}
 use Rattle.traces.specs.Traced.{trace_by_lines_text}
 use Rattle.cluster_scripts.specs.Refusals.{refused_line_of}
 pub use Rattle.outcome_lines.specs.StoreScripts.{events_by}
-use Rattle.commands.specs.Halts.{IsRefusedIn, refused_as, told_line}
+use Rattle.commands.specs.Halts.{IsRefusedIn}
 use Rattle.commands.specs.Forms.{IsFormBy, WritesBy}
 use Rattle.commands.specs.Grammar.{flag_text}
 use Rattle.commands.specs.Replaying.{IsSizeRefusal}
 use Rattle.commands.specs.Roles.{role_by}
+use Rattle.commands.specs.Running.{IsScriptRefusal, IsScriptText}
 use Rattle.commands.specs.declared.form.Form.{Form}
 use Rattle.commands.specs.declared.form.Form.TheVariants.{Lines, Picture, Trace, Writes}
 
@@ -79,7 +80,7 @@ IsClusterShown Trace script text = IsClusterTrace script text
 
 -- the same of a script that the input is
 abbrev pub IsClusterTextOf : Form → (input text : List ℕ) → Type 0
-IsClusterTextOf form input text = (script : ClusterScript) × (cluster_script_of input ≡ Some (parts_of script)) × IsClusterShown form script text
+IsClusterTextOf form input text = IsScriptText cluster_script_of parts_of IsClusterShown form input text
 
 -- That text was written, in the form that the words ask for.
 abbrev pub Clusters : (puts : Option (List ℕ) → List ℕ → Option (List ℕ) → Type 0) → List Text → (had left before after : Option (List ℕ)) → Type 0
@@ -97,10 +98,9 @@ cluster_refusal errors.BadCapacity = Some (codes "BadCapacity")
 cluster_refusal errors.TooManyCallers = Some (codes "TooManyCallers")
 cluster_refusal errors.Memory = None
 
--- The input is refused as BadScript exactly where it is no script, for its first line that is no line of one.
+-- the input is refused so, as it is no script or as its run is
 abbrev pub IsClusterRefusal : (place : Bool) → (input name : List ℕ) → Type 0
-IsClusterRefusal place input name = ((cluster_script_of input ≡ None) × (name ≡ refused_as (told_line place (refused_line_of input)) (codes "BadScript")))
-    ⊎ ((script : ClusterScript) × (cluster_script_of input ≡ Some (parts_of script)) × IsClusterRunRefusal script name)
+IsClusterRefusal place input name = IsScriptRefusal cluster_script_of parts_of refused_line_of IsClusterRunRefusal place input name
 
 -- All of the reader's bytes were read, and are refused by this name.
 abbrev pub IsClusterRefusedBy : (place : Bool) → Option (List ℕ) → Option (List ℕ) → List ℕ → Type 0

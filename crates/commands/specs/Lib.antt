@@ -11,4 +11,5 @@ pub mod Racing
 pub mod Refusing
 pub mod Replaying
 pub mod Roles
+pub mod Running
 pub mod Serving

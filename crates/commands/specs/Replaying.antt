@@ -10,7 +10,7 @@ use Rattle.interleavings.specs.World.{Size}
 use Rattle.interleavings.specs.declared.event.Event.{Event}
 use Rattle.interleavings.specs.declared.trace.Run.{Run}
 use Rattle.replay_lines.specs.Printing.{run_text}
-use Rattle.replay_lines.specs.Scripts.{script_of}
+use Rattle.replay_lines.specs.Scripts.{parts_of, script_of}
 use Rattle.replay_lines.specs.declared.fault.ScriptError.{ScriptError}
 use Rattle.clap.specs.Words.{Text}
 use Rattle.pictures.specs.Heading.{no_role}
@@ -19,9 +19,10 @@ use Rattle.pictures.specs.declared.shown.Shown.{Shown}
 use Rattle.stories.specs.Story.{story_text}
 use Rattle.traces.specs.Traced.{trace_text}
 use Rattle.replay_lines.specs.Refusals.{refused_line_of}
-use Rattle.commands.specs.Halts.{IsRefusedIn, refused_as, told_line}
+use Rattle.commands.specs.Halts.{IsRefusedIn}
 use Rattle.commands.specs.Forms.{IsFormBy, WritesBy}
 use Rattle.commands.specs.Grammar.{flag_text}
+use Rattle.commands.specs.Running.{IsScriptRefusal, IsScriptText}
 use Rattle.commands.specs.declared.form.Form.{Form}
 use Rattle.commands.specs.declared.form.Form.TheVariants.{Lines, Picture, Trace, Writes}
 use Rattle.replay_lines.specs.declared.fault.ScriptError.TheVariants.{BadScript, Memory}
@@ -43,7 +44,7 @@ IsShownText Trace script text = text ≡ trace_text no_role script.0 script.1
 
 -- the same of the script that the input is
 abbrev pub IsReplayText : Form → (input text : List ℕ) → Type 0
-IsReplayText form input text = (script : Size × List Event) × (script_of input ≡ Some script) × IsShownText form script text
+IsReplayText form input text = IsScriptText script_of parts_of (λ f script. IsShownText f (parts_of script)) form input text
 
 -- That text was written, in the form that the words ask for: the replies of the run and its order, its picture, its writes, or its
 -- trace.
@@ -69,10 +70,9 @@ run_refusal errors.BadCapacity = Some (codes "BadCapacity")
 run_refusal errors.TooManyCallers = Some (codes "TooManyCallers")
 run_refusal errors.Memory = None
 
--- The input is refused as BadScript exactly where it is no script, for its first line that is no line of one.
+-- the input is refused so, as it is no script or as its run is
 abbrev pub IsReplayRefusal : (place : Bool) → (input name : List ℕ) → Type 0
-IsReplayRefusal place input name = ((script_of input ≡ None) × (name ≡ refused_as (told_line place (refused_line_of input)) (codes "BadScript")))
-    ⊎ ((script : Size × List Event) × (script_of input ≡ Some script) × IsRunRefusal script name)
+IsReplayRefusal place input name = IsScriptRefusal script_of parts_of refused_line_of (λ script. IsRunRefusal (parts_of script)) place input name
 
 -- All of the reader's bytes were read, and are refused by this name.
 abbrev pub IsRefusedBy : (place : Bool) → Option (List ℕ) → Option (List ℕ) → List ℕ → Type 0

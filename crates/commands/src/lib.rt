@@ -19,6 +19,7 @@ mod program;
 mod race;
 mod race_words;
 mod replay;
+mod running;
 mod serve;
 mod status;
 

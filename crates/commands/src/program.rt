@@ -14,16 +14,18 @@ ghost use Rattle.commands.specs.Serving.{AsksOutOfRange, Serves, ServesSome};
 
 use crate::answering::run_word;
 use crate::args::{Asked, read_words};
-use crate::cluster::Clustering;
 use crate::explain::explain;
 use crate::finding::Finding;
 use crate::plan::run_plan;
 use crate::race::run_race;
-use crate::replay::Replaying;
+use crate::running::Running;
 use crate::serve::run_serve;
 use crate::status::{BAD_WORDS, FAILURE, REFUSED, SUCCESS, TrackedAlloc};
+use cluster_scripts::ClusterScript;
 use plain::{Sink, Source};
+use replay_lines::Script;
 use std::convert::AsStr;
+use std::marker::PhantomData;
 use std::sync::Wait;
 use std::thread::Threads;
 
@@ -122,9 +124,13 @@ pub fn command<T: Threads + Wait + Sync, S: AsStr, R: Source, W: Sink, F: Sink>(
 {
     match read_words(heap.alloc, words) {
         Ok(Asked::Serve(capacity)) => run_serve(heap, reader, writer, capacity),
-        Ok(Asked::Replay(asked)) => { run_word(heap, &Replaying { asked }, reader, writer, faults) }
+        Ok(Asked::Replay(asked)) => {
+            let of = PhantomData::<Script>;
+            run_word(heap, &Running { asked, of }, reader, writer, faults)
+        }
         Ok(Asked::Cluster(asked)) => {
-            run_word(heap, &Clustering { asked }, reader, writer, faults)
+            let of = PhantomData::<ClusterScript>;
+            run_word(heap, &Running { asked, of }, reader, writer, faults)
         }
         Ok(Asked::Plan(plan)) => run_plan(heap, &plan, reader, writer, faults),
         Ok(Asked::Race(race)) => run_race(rt, heap, &race, writer),

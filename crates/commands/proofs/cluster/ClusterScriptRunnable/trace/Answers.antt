@@ -6,11 +6,11 @@ use Rattle.cluster_runs.specs.Turns.{ends_of_turns, events_of_turns}
 use Rattle.cluster_runs.specs.declared.turn.Turn.{Turn}
 use Rattle.controllers.specs.Cluster.{namespaces_of, reconciler_named, size_of}
 use Rattle.commands.specs.Clustering.{IsClusterRunRefusal, trace_of}
-use Rattle.commands.proofs.cluster.trace_of_cluster.Goals as goal
+use Rattle.commands.proofs.cluster.ClusterScriptRunnable.trace.Goals as goal
 
-pub returns-clause-traced : goal.returns-clause-traced
-returns-clause-traced c =
-    let spec = c.args.script.now.spec in
+pub returns-clause-shown : goal.returns-clause-shown
+returns-clause-shown c =
+    let spec = c.args.self.now.spec in
     let found = c.in_ok-found.found in
     let Is : List Turn → Type 0 =
     λ turns. IsClusterRun (size_of spec) (length spec.sets.items) (reconciler_named spec.sets.items)
@@ -23,4 +23,4 @@ returns-clause-traced c =
 
 pub returns-clause-refused : goal.returns-clause-refused
 returns-clause-refused c =
-    IfErr-weaker c.trace_of_run-text.result _ _ (λ halt none. subst (λ o. IfSome o (IsClusterRunRefusal c.args.script.now)) (sym none) tt) c.trace_of_run-text.ensures.refused
+    IfErr-weaker c.trace_of_run-text.result _ _ (λ halt none. subst (λ o. IfSome o (IsClusterRunRefusal c.args.self.now)) (sym none) tt) c.trace_of_run-text.ensures.refused

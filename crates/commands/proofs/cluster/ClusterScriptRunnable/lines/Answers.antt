@@ -6,11 +6,11 @@ use Rattle.cluster_runs.specs.declared.turn.Turn.{Turn}
 use Rattle.controllers.specs.Cluster.{namespaces_of, reconciler_named, size_of}
 use Rattle.commands.specs.Clustering.{IsClusterRunRefusal}
 use Rattle.commands.proofs.Replayed.{error_has}
-use Rattle.commands.proofs.cluster.cluster_of_script.Goals as goal
+use Rattle.commands.proofs.cluster.ClusterScriptRunnable.lines.Goals as goal
 
-pub returns-clause-clustered : goal.returns-clause-clustered
-returns-clause-clustered c =
-    let spec = c.args.script.now.spec in
+pub returns-clause-shown : goal.returns-clause-shown
+returns-clause-shown c =
+    let spec = c.args.self.now.spec in
     let Is : List Turn → Type 0 =
     λ turns. IsClusterRun (size_of spec) (length spec.sets.items) (reconciler_named spec.sets.items)
     (events_of_turns (size_of spec) (length spec.sets.items) (reconciler_named spec.sets.items) (namespaces_of spec.sets.items) turns) c.in_ok-found.found.run in
@@ -19,4 +19,4 @@ returns-clause-clustered c =
 pub returns-in_err-text-clause-refused : goal.returns-in_err-text-clause-refused
 returns-in_err-text-clause-refused c =
     error_has c.from_residual-in_err-text.result _ _ c.from_residual-in_err-text.ensures.1
-    (λ halt is. subst (λ o. IfSome o (IsClusterRunRefusal c.args.script.now)) (sym is.1) tt)
+    (λ halt is. subst (λ o. IfSome o (IsClusterRunRefusal c.args.self.now)) (sym is.1) tt)

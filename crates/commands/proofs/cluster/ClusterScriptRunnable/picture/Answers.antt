@@ -5,11 +5,11 @@ use Rattle.cluster_runs.specs.declared.turn.Turn.{Turn}
 use Rattle.controllers.specs.Cluster.{namespaces_of, reconciler_named, size_of}
 use Rattle.pictures.specs.Picture.{picture_text}
 use Rattle.commands.specs.Roles.{role_by}
-use Rattle.commands.proofs.cluster.picture_of_cluster.Goals as goal
+use Rattle.commands.proofs.cluster.ClusterScriptRunnable.picture.Goals as goal
 
-pub returns-in-Ok-clause-pictured : goal.returns-in-Ok-clause-pictured
-returns-in-Ok-clause-pictured c =
-    let spec = c.args.script.now.spec in
+pub returns-in-Ok-clause-shown : goal.returns-in-Ok-clause-shown
+returns-in-Ok-clause-shown c =
+    let spec = c.args.self.now.spec in
     let found = c.in_ok-found.found.run in
     let Is : List Turn → Type 0 =
     λ turns. IsClusterRun (size_of spec) (length spec.sets.items) (reconciler_named spec.sets.items)

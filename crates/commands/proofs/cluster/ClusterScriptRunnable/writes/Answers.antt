@@ -8,11 +8,11 @@ use Rattle.stories.specs.Story.{story_text}
 use Rattle.commands.specs.Clustering.{IsClusterRunRefusal}
 use Rattle.commands.specs.Roles.{role_by}
 use Rattle.commands.proofs.Replayed.{error_has}
-use Rattle.commands.proofs.cluster.story_of_cluster.Goals as goal
+use Rattle.commands.proofs.cluster.ClusterScriptRunnable.writes.Goals as goal
 
-pub returns-clause-told : goal.returns-clause-told
-returns-clause-told c =
-    let spec = c.args.script.now.spec in
+pub returns-clause-shown : goal.returns-clause-shown
+returns-clause-shown c =
+    let spec = c.args.self.now.spec in
     let found = c.in_ok-found.found.run in
     let Is : List Turn → Type 0 =
     λ turns. IsClusterRun (size_of spec) (length spec.sets.items) (reconciler_named spec.sets.items)
@@ -27,4 +27,4 @@ returns-clause-told c =
 pub returns-in_err-text-clause-refused : goal.returns-in_err-text-clause-refused
 returns-in_err-text-clause-refused c =
     error_has c.from_residual-in_err-text.result _ _ c.from_residual-in_err-text.ensures.1
-    (λ halt is. subst (λ o. IfSome o (IsClusterRunRefusal c.args.script.now)) (sym is.1) tt)
+    (λ halt is. subst (λ o. IfSome o (IsClusterRunRefusal c.args.self.now)) (sym is.1) tt)
