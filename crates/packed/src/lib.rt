@@ -8,7 +8,6 @@ mod meeting;
 mod packed;
 mod packer;
 mod piece;
-mod short;
 
 pub use difference::{write_delta, write_expanded};
 pub use packed::Packed;

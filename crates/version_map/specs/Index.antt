@@ -5,8 +5,8 @@ use Rattle.std.specs.FinMap as finite
 use Rattle.objects.specs.declared.key.Key.{Key}
 use Rattle.objects.specs.Key.{key_coded}
 use Rattle.version_map.specs.Named.{KeySlots, both}
-use Rattle.version_map.specs.declared.found.Place.{Place}
-use Rattle.version_map.specs.declared.found.Found.{Found}
+use Rattle.version_map.specs.declared.index.Place.{Place}
+use Rattle.version_map.specs.declared.index.Found.{Found}
 
 pub record Index : Type 0 where
   pub all : KeySlots

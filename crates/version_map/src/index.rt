@@ -1,14 +1,38 @@
-ghost use Rattle.std.specs.Prelude.{◌≡◌, ◌≢◌, IfOk, OnOk, OnErr};
+ghost use Rattle.std.specs.Prelude.{◌≡◌, ◌≢◌, IfOk, OnOk, OnErr, true};
 ghost use Rattle.std.specs.FinMap as map;
 ghost use Rattle.objects.specs.declared.key.Key.{Key};
 ghost use Rattle.version_map.specs.Index.{AreKept, AreWithin, IsPlaceOf, no_keys, with_key};
 ghost use Rattle.version_map.specs.Keyed.{collection};
 
-use crate::found::{Found, Place};
 use crate::key_slots::KeySlots;
 use objects::{Key, Kind, Text};
 use std::alloc::{AllocError, Global};
 use std::marker::Model;
+
+/// The slot of a key among those that are listed, and among all; none where the key has none there.
+#[derive(Clone, Copy)]
+pub(crate) struct Place {
+    pub(crate) listed: Option<usize>,
+    pub(crate) slot: Option<usize>,
+}
+
+/// A key and its place.
+#[derive(Drop)]
+pub(crate) struct Found {
+    pub(crate) key: Key,
+    pub(crate) place: Place,
+}
+
+impl Found {
+    /// Whether it is that key which was found. Names are compared first: they tell most keys apart.
+    pub(crate) fn is_of(&self, key: &Key) -> bool
+        ensures { result ≡ true → self.now.key ≡ key.now }
+    {
+        self.key.name == key.name
+            && self.key.namespace == key.namespace
+            && self.key.kind == key.kind
+    }
+}
 
 /// The slot of each key. Those of keys without a value can stand apart, as tombstones, so that a list of what is there
 /// does not walk over them.

@@ -2,7 +2,6 @@
 #![tactic(auto)]
 
 mod chain;
-mod found;
 mod index;
 mod key_slots;
 mod laws;
