@@ -8,7 +8,7 @@ use Rattle.json.specs.Print.{escape, quoted}
 use Rattle.serde_json.specs.Data.{Data, Members, no_members, member, put}
 use Rattle.serde_json.specs.Written.{compact_text}
 use Rattle.compact.specs.Ended.{ended_member, ended_text}
-use Rattle.compact.specs.declared.entry.Entry.{Entry}
+use Rattle.compact.specs.declared.table.Entry.{Entry}
 use Rattle.compact.specs.Notes.{entry_of, entries_of}
 use Rattle.compact.specs.Places.{joined, HasSlot, AllBelow, LastOf, HasLast, HasPlace}
 use Rattle.compact.proofs.Entries.{ended_joined, entries_joined, entries_count, joined_nil}

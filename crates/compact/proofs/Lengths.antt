@@ -10,7 +10,7 @@ use Rattle.std.proofs.lemmas.List.Elements.{All-append, All-cons, All-drop, All-
 use Rattle.json.specs.Print.{escape}
 use Rattle.serde_json.specs.Data.{Members, no_members, member}
 use Rattle.serde_json.specs.Find.{get_member}
-use Rattle.compact.specs.declared.entry.Entry.{Entry}
+use Rattle.compact.specs.declared.table.Entry.{Entry}
 use Rattle.compact.specs.Notes.{AreEntries, HavePlainKeys, entries_of, entry_of}
 use Rattle.compact.proofs.Lists.{inserted}
 use Rattle.compact.proofs.Split.{differ_at}

@@ -12,10 +12,10 @@ use Rattle.serde_json.specs.Written as written
 use Rattle.serde_json.specs.Written.{compact_text}
 use Rattle.compact.specs.Texts.{json_text, members_text, IsWhole, AreWholeMembers}
 use Rattle.compact.specs.Ended.{ended_member, ended_text}
-use Rattle.compact.specs.declared.entry.Entry.{Entry}
-use Rattle.compact.specs.declared.tables.Tables.{Tables}
-use Rattle.compact.specs.declared.level.Level.{Level}
-use Rattle.compact.specs.declared.level.Level.TheVariants.{Other}
+use Rattle.compact.specs.declared.table.Entry.{Entry}
+use Rattle.compact.specs.declared.scanner.Tables.{Tables}
+use Rattle.compact.specs.declared.scanner.Level.{Level}
+use Rattle.compact.specs.declared.scanner.Level.TheVariants.{Other}
 use Rattle.compact.specs.Levels.{below}
 use Rattle.compact.specs.Notes.{entry_of, entries_of, HavePlainKeys, Told, ToldBelow, IsNoted, with_table}
 use Rattle.compact.specs.Ordered.{AreOrderedMembers, IsOrderedMember}

@@ -5,10 +5,10 @@ use Rattle.std.proofs.lemmas.Slice.Eq.{bytes_eq-Decides}
 use Rattle.serde_json.specs.Data.{Data, Members, no_members, put}
 use Rattle.serde_json.specs.Find.{get_member}
 use Rattle.serde_json.proofs.Views.{get_member-put, get_member-put_other}
-use Rattle.compact.specs.declared.entry.Entry.{Entry}
-use Rattle.compact.specs.declared.tables.Tables.{Tables}
-use Rattle.compact.specs.declared.level.Level.{Level}
-use Rattle.compact.specs.declared.level.Level.TheVariants.{Line, Object, Metadata, Other}
+use Rattle.compact.specs.declared.table.Entry.{Entry}
+use Rattle.compact.specs.declared.scanner.Tables.{Tables}
+use Rattle.compact.specs.declared.scanner.Level.{Level}
+use Rattle.compact.specs.declared.scanner.Level.TheVariants.{Line, Object, Metadata, Other}
 use Rattle.compact.specs.Levels.{below}
 use Rattle.compact.specs.Notes.{OfMembers, AtMember, AreEntries, IsMetadata, IsObject, Told, ToldBelow, IsNoted, with_table}
 

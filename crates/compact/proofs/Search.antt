@@ -7,7 +7,7 @@ use Rattle.json.specs.Print.{escape, quoted}
 use Rattle.serde_json.specs.Data.{Data, Members, no_members, member, put}
 use Rattle.serde_json.specs.Written.{compact_text}
 use Rattle.compact.specs.Ended.{ended_member, ended_text}
-use Rattle.compact.specs.declared.entry.Entry.{Entry}
+use Rattle.compact.specs.declared.table.Entry.{Entry}
 use Rattle.compact.specs.Notes.{entry_of, entries_of, HavePlainKeys}
 use Rattle.compact.specs.Places.{joined, count_of, HasSlot}
 use Rattle.compact.proofs.Entries.{ended_joined, joined_one, count_one}

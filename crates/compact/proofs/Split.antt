@@ -10,7 +10,7 @@ use Rattle.json.specs.Print.{escape, quoted}
 use Rattle.serde_json.specs.Data.{Data, Members, no_members, member, object}
 use Rattle.serde_json.specs.Find.{get_member}
 use Rattle.serde_json.specs.Written.{compact_text, members_text}
-use Rattle.compact.specs.declared.entry.Entry.{Entry}
+use Rattle.compact.specs.declared.table.Entry.{Entry}
 use Rattle.compact.specs.Notes.{AreEntries}
 use Rattle.compact.specs.Fields.{IsLeft, IsFirst}
 use Rattle.compact.proofs.Search.{Opened, opened}

@@ -15,9 +15,9 @@ use Rattle.compact.specs.Begins.{BeginsScalar, IsPlainText, EndsPlain}
 use Rattle.compact.specs.Notes.{OfMembers, Told, IsNoted}
 use Rattle.compact.specs.Ordered.{IsOrdered, AreOrderedItems, AreOrderedMembers, IsOrderedMember}
 use Rattle.compact.specs.Reads.{IsTaken}
-use Rattle.compact.specs.declared.tables.Tables.{Tables}
-use Rattle.compact.specs.declared.level.Level.{Level}
-use Rattle.compact.specs.declared.level.Level.TheVariants.{Line}
+use Rattle.compact.specs.declared.scanner.Tables.{Tables}
+use Rattle.compact.specs.declared.scanner.Level.{Level}
+use Rattle.compact.specs.declared.scanner.Level.TheVariants.{Line}
 use Rattle.compact.proofs.Lists.{part_of, put_of, none_left}
 use Rattle.compact.proofs.Reading.{read_text}
 

@@ -1,7 +1,7 @@
 -- The maps of a line whose members are noted.
 use Rattle.std.specs.Prelude.{List, ℕ, bytes_eq, codes, if◌then◌else◌}
-use Rattle.compact.specs.declared.level.Level.{Level}
-use Rattle.compact.specs.declared.level.Level.TheVariants.{Line, Object, Metadata, Other}
+use Rattle.compact.specs.declared.scanner.Level.{Level}
+use Rattle.compact.specs.declared.scanner.Level.TheVariants.{Line, Object, Metadata, Other}
 
 -- where the member of that key stands, of a value that stands there
 abbrev pub below : Level → List ℕ → Level

@@ -4,10 +4,10 @@ use Rattle.json.specs.Print.{escape, quoted}
 use Rattle.serde_json.specs.Data.{Data, null, boolean, number, string, array, object, Members, no_members, member}
 use Rattle.serde_json.specs.Find.{get_member}
 use Rattle.compact.specs.Ended.{ended_member}
-use Rattle.compact.specs.declared.entry.Entry.{Entry}
-use Rattle.compact.specs.declared.tables.Tables.{Tables}
-use Rattle.compact.specs.declared.level.Level.{Level}
-use Rattle.compact.specs.declared.level.Level.TheVariants.{Line, Object, Metadata, Other}
+use Rattle.compact.specs.declared.table.Entry.{Entry}
+use Rattle.compact.specs.declared.scanner.Tables.{Tables}
+use Rattle.compact.specs.declared.scanner.Level.{Level}
+use Rattle.compact.specs.declared.scanner.Level.TheVariants.{Line, Object, Metadata, Other}
 
 -- a member by its lengths
 abbrev pub entry_of : List ℕ → Data → Entry

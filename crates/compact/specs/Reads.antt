@@ -4,7 +4,7 @@ use Rattle.serde_json.specs.Data.{Data}
 use Rattle.serde_json.specs.Read.{read}
 use Rattle.serde_json.specs.Written.{compact_text, has_float}
 use Rattle.compact.specs.Notes.{OfMembers, IsLine}
-use Rattle.compact.specs.declared.tables.Tables.{Tables}
+use Rattle.compact.specs.declared.scanner.Tables.{Tables}
 
 -- A reader of JSON reads the old text as a value of whole numbers. The new one is what is printed of it, and the tables tell
 -- its members, if it is a map.

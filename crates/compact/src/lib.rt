@@ -3,24 +3,12 @@
 #![tactic(auto)]
 
 mod controls;
-mod entry;
-mod fields;
-mod keys;
-mod level;
-mod moving;
-mod numbers;
-mod order;
 mod place;
-mod plain;
 mod scalars;
 mod scanner;
 mod table;
-mod tables;
 mod texts;
 
-pub use entry::Entry;
-pub use fields::{Field, Fields};
-pub use keys::compare_keys;
-pub use scanner::Scanner;
-pub use table::Table;
-pub use tables::Tables;
+pub use place::compare_keys;
+pub use scanner::{Scanner, Tables};
+pub use table::{Entry, Field, Fields, Table};

@@ -1,14 +1,27 @@
-// Where a member goes among those before it.
-ghost use Rattle.std.specs.Prelude.{◌≡◌, ◌++◌, ℕ, List, length, IfSome};
+// Where a member goes among those before it, and how its bytes come there.
+ghost use Rattle.std.specs.Prelude.{◌≡◌, ◌++◌, ℕ, List, length, IfSome, ◌+◌, ◌≤◌, OnOk};
 ghost use Rattle.serde_json.specs.Data.{Data, Members};
 ghost use Rattle.json.specs.Print.{quoted, escape};
 ghost use Rattle.compact.specs.Ended.{ended_text, ended_member};
 ghost use Rattle.compact.specs.Notes.{entries_of, HavePlainKeys};
 ghost use Rattle.compact.specs.Places.{HasSlot, HasLast, HasPlace};
+ghost use Rattle.std.specs.Ordering.{nat_cmp};
+ghost use Rattle.std.specs.Cmp.Lexicographic.{slice_cmp};
 
-use crate::entry::Entry;
-use crate::keys::compare_keys;
+use crate::table::Entry;
+use std::alloc::AllocError;
 use std::cmp::Ordering;
+
+/// The byte order of two keys. Most differ in their first byte, which is told sooner than how two slices compare.
+#[inline(always)]
+pub fn compare_keys(key: &[u8], other: &[u8]) -> Ordering
+    ensures { result ≡ slice_cmp nat_cmp key.now other.now }
+{
+    match (key.first(), other.first()) {
+        (Some(one), Some(two)) if one != two => one.cmp(two),
+        _ => key.cmp(other),
+    }
+}
 
 /// The index and the place of a member, unless one before it has its key. Most often none is above it: that is told by the
 /// last of them alone.
@@ -65,4 +78,52 @@ pub(crate) fn key_at(text: &[u8], start: usize, key: usize) -> Option<&[u8]>
     let from = text.get(start..)?;
     let whole = from.get(..key)?;
     whole.get(1..key.checked_sub(1)?)
+}
+
+/// Puts the last bytes of those between two places before the others, by way of a buffer.
+#[inline(always)]
+pub(crate) fn move_back(
+    text: &mut [u8],
+    start: usize,
+    end: usize,
+    size: usize,
+    buffer: &mut Vec<u8>,
+) -> Result<(), AllocError>
+    requires room { start + size ≤ end }
+    requires within { end ≤ length text.old }
+    ensures { OnOk result ((front back new rest : List ℕ) → text.old ≡ front ++ (back ++ (new ++ rest)) → length front ≡ start → length new ≡ size → start + length back + size ≡ end
+        → text.new ≡ front ++ (new ++ (back ++ rest))) }
+{
+    if start + size == end {
+        return Ok(());
+    }
+    turn(text, start, end, end - size, buffer)
+}
+
+// Puts the bytes from the middle on before the others.
+#[inline(never)]
+fn turn(
+    text: &mut [u8],
+    start: usize,
+    end: usize,
+    middle: usize,
+    buffer: &mut Vec<u8>,
+) -> Result<(), AllocError>
+    requires order { (start ≤ middle) × (middle ≤ end) }
+    requires within { end ≤ length text.old }
+    ensures { OnOk result ((front back new rest : List ℕ) → text.old ≡ front ++ (back ++ (new ++ rest)) → length front ≡ start → length front + length back ≡ middle → middle + length new ≡ end
+        → text.new ≡ front ++ (new ++ (back ++ rest))) }
+{
+    fill(buffer, &text[middle..end], &text[start..middle])?;
+    text[start..end].copy_from_slice(buffer.as_slice());
+    Ok(())
+}
+
+#[inline(always)]
+fn fill(buffer: &mut Vec<u8>, front: &[u8], back: &[u8]) -> Result<(), AllocError>
+    ensures { OnOk result (buffer.new.items ≡ front.now ++ back.now) }
+{
+    buffer.clear();
+    buffer.extend_from_slice(front)?;
+    buffer.extend_from_slice(back)
 }

@@ -26,8 +26,8 @@ use Rattle.objects.specs.declared.meta.Meta.{Meta}
 use Rattle.objects.specs.declared.object.Object as declared
 use Rattle.compact_prints.specs.Merging.{held_with, is_set, object_with, uid_data, without}
 use Rattle.compact_prints.specs.Seaming.{metadata_with}
-use Rattle.compact_prints.specs.declared.part.Part.{Part}
-use Rattle.compact_prints.specs.declared.part.Part.TheVariants.{Metadata, Object}
+use Rattle.compact_prints.specs.declared.merge.Part.{Part}
+use Rattle.compact_prints.specs.declared.merge.Part.TheVariants.{Metadata, Object}
 use Rattle.compact_prints.proofs.Merging.{above_trans, before_some, before_without, put_before, some_past}
 use Rattle.compact_prints.proofs.Printable.{AreWritable, writable_without}
 

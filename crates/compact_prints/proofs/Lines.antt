@@ -14,7 +14,7 @@ use Rattle.trees.specs.Reading.{tree_reading}
 use Rattle.trees.proofs.PutOrder.{canonical_found}
 use Rattle.compact.specs.Notes.{IsLine, OfMembers}
 use Rattle.compact.specs.Reads.{IsTaken}
-use Rattle.compact.specs.declared.tables.Tables.{Tables}
+use Rattle.compact.specs.declared.scanner.Tables.{Tables}
 use Rattle.objects.specs.Reading.{most_bytes, reading_of_data}
 use Rattle.compact_drafts.specs.Drafts.{IsDraftOf}
 use Rattle.compact_drafts.specs.declared.draft.CompactDraft.{CompactDraft}

@@ -9,7 +9,7 @@ use Rattle.json.specs.Print.{escape_byte}
 use Rattle.serde_json.specs.Data.{Data, number, string, unsigned, object, Members, no_members, member, put}
 use Rattle.serde_json.specs.Written.{compact_text, members_text}
 use Rattle.trees.specs.Building.{put_some}
-use Rattle.compact.specs.declared.entry.Entry.{Entry}
+use Rattle.compact.specs.declared.table.Entry.{Entry}
 use Rattle.objects.specs.Key.{KeyParts}
 use Rattle.objects.specs.Merged.{puts}
 use Rattle.objects.specs.Meta.{MetaParts}
@@ -17,7 +17,7 @@ use Rattle.objects.specs.Object.{is_held, without_held}
 use Rattle.objects.specs.Text.{unless_zero}
 use Rattle.compact_prints.specs.Merging.{WritesBelow, WritesStep, held_with, rest_text, some_text, without}
 use Rattle.compact_prints.specs.Seaming.{WritesToVersion, member_with, members_with, metadata_with}
-use Rattle.compact_prints.specs.declared.part.Part.TheVariants.{Metadata}
+use Rattle.compact_prints.specs.declared.merge.Part.TheVariants.{Metadata}
 use Rattle.compact_prints.proofs.Merging.{key_text}
 
 -- ---- the brace of a map

@@ -14,10 +14,10 @@ use Rattle.trees.proofs.EntryPositions.{before_put}
 use Rattle.trees.proofs.PutOrder.{before_next, equal_texts}
 use Rattle.compact.specs.Fields.{IsFirst, IsLeft}
 use Rattle.compact.specs.Notes.{AreEntries, entries_of, entry_of}
-use Rattle.compact.specs.declared.entry.Entry.{Entry}
+use Rattle.compact.specs.declared.table.Entry.{Entry}
 use Rattle.objects.specs.Merged.{IsBelowAll, puts}
 use Rattle.compact_prints.specs.Merging.{AreBelow, IsKept, WritesBelow, WritesStep, field_text, is_set, other_text, rest_text, some_text, without}
-use Rattle.compact_prints.specs.declared.part.Part.{Part}
+use Rattle.compact_prints.specs.declared.merge.Part.{Part}
 
 abbrev Set : Type 0
 Set = List (List ℕ × Option Data)

@@ -17,7 +17,7 @@ use Rattle.objects.specs.Uid.{twelve_digits, uid_prefix, uid_text}
 use Rattle.compact_prints.specs.Merging.{held_key, is_set, some_text, uid_data}
 use Rattle.compact_prints.specs.declared.held.Held.{Held}
 use Rattle.compact_prints.specs.declared.held.Held.TheVariants.{DeletionTimestamp, Generation, Name, Namespace, Uid}
-use Rattle.compact_prints.specs.declared.part.Part.TheVariants.{Metadata}
+use Rattle.compact_prints.specs.declared.merge.Part.TheVariants.{Metadata}
 use Rattle.compact_prints.proofs.PlainNames.{label_plain, name_plain, plain_bytes}
 
 pub same_plain : (k l : List ℕ) → escape l ≡ l → k ≡ l → escape k ≡ k

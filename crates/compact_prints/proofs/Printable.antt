@@ -27,7 +27,7 @@ use Rattle.objects.specs.Text.{unless_zero}
 use Rattle.objects.specs.Uid.{uid_text}
 use Rattle.objects.proofs.SeamTexts.{printable-append}
 use Rattle.compact_prints.specs.Merging.{held_with, is_set, uid_data, without}
-use Rattle.compact_prints.specs.declared.part.Part.{Part}
+use Rattle.compact_prints.specs.declared.merge.Part.{Part}
 
 -- ---- numbers
 

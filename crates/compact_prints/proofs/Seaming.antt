@@ -7,14 +7,14 @@ use Rattle.serde_json.specs.Data.{Data, object, Members, no_members, member}
 use Rattle.serde_json.specs.Find.{get_member}
 use Rattle.serde_json.specs.Written.{compact_text, members_text}
 use Rattle.trees.specs.Building.{put_some}
-use Rattle.compact.specs.declared.entry.Entry.{Entry}
+use Rattle.compact.specs.declared.table.Entry.{Entry}
 use Rattle.objects.specs.Key.{KeyParts}
 use Rattle.objects.specs.Meta.{MetaParts}
 use Rattle.objects.specs.Seams.{spec_text, status_text, version_text}
 use Rattle.objects.proofs.SplicedTexts.{with_end}
 use Rattle.compact_prints.specs.Merging.{AreBelow, WritesBelow, object_with, rest_text, uid_data, without}
 use Rattle.compact_prints.specs.Seaming.{HasSpecAlone, HasSpecAtEnd, IsEnd, IsSpecAlone, WritesFront, WritesObject, WritesToVersion, member_with, metadata_with}
-use Rattle.compact_prints.specs.declared.part.Part.TheVariants.{Metadata, Object}
+use Rattle.compact_prints.specs.declared.merge.Part.TheVariants.{Metadata, Object}
 use Rattle.compact_prints.proofs.Maps.{begun_text, behind, has_put, some_behind, with_next}
 use Rattle.compact_prints.proofs.Merging.{key_text}
 

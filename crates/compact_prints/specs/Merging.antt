@@ -10,7 +10,7 @@ use Rattle.serde_json.specs.Written.{compact_text, members_text}
 use Rattle.trees.specs.Tree.{AreAscending, ComesBefore}
 use Rattle.compact.specs.Fields.{IsLeft}
 use Rattle.compact.specs.Notes.{AreEntries}
-use Rattle.compact.specs.declared.entry.Entry.{Entry}
+use Rattle.compact.specs.declared.table.Entry.{Entry}
 use Rattle.objects.specs.Key.{KeyParts}
 use Rattle.objects.specs.Merged.{IsBelowAll, puts}
 use Rattle.objects.specs.Meta.{MetaParts}
@@ -19,8 +19,8 @@ use Rattle.objects.specs.Text.{unless_zero}
 use Rattle.objects.specs.Uid.{uid_text}
 use Rattle.compact_prints.specs.declared.held.Held.{Held}
 use Rattle.compact_prints.specs.declared.held.Held.TheVariants.{DeletionTimestamp, Generation, Name, Namespace, Uid}
-use Rattle.compact_prints.specs.declared.part.Part.{Part}
-use Rattle.compact_prints.specs.declared.part.Part.TheVariants.{Metadata, Object}
+use Rattle.compact_prints.specs.declared.merge.Part.{Part}
+use Rattle.compact_prints.specs.declared.merge.Part.TheVariants.{Metadata, Object}
 
 -- the store sets the member of that key
 abbrev pub is_set : Part → List ℕ → Bool

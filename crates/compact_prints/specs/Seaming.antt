@@ -6,14 +6,14 @@ use Rattle.serde_json.specs.Written.{compact_text, members_text}
 use Rattle.trees.specs.Tree.{AreAscending}
 use Rattle.compact.specs.Fields.{IsLeft}
 use Rattle.compact.specs.Notes.{AreEntries}
-use Rattle.compact.specs.declared.entry.Entry.{Entry}
+use Rattle.compact.specs.declared.table.Entry.{Entry}
 use Rattle.objects.specs.Key.{KeyParts}
 use Rattle.objects.specs.Merged.{puts}
 use Rattle.objects.specs.Meta.{MetaParts}
 use Rattle.objects.specs.Object.{without_held}
 use Rattle.objects.specs.Seams.{spec_text, status_text, version_text}
 use Rattle.compact_prints.specs.Merging.{AreBelow, IsKept, held_with, object_with, rest_text, some_text, uid_data, without}
-use Rattle.compact_prints.specs.declared.part.Part.TheVariants.{Metadata, Object}
+use Rattle.compact_prints.specs.declared.merge.Part.TheVariants.{Metadata, Object}
 
 -- These members are left, and the text has been written up to the resource version, whatever version and UID come next.
 pub record WritesToVersion (whole : Data → Option Data → List ℕ) (left : List ℕ) (entries : List Entry) (old new : List ℕ) : Type 0 where

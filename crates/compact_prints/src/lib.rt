@@ -3,13 +3,9 @@
 #![tactic(auto)]
 
 mod held;
-mod line;
 mod merge;
-mod metadata;
-mod part;
 mod plain_text;
 mod print;
 mod seams;
 
-pub use line::draft_of_line;
-pub use print::indexed;
+pub use print::{draft_of_line, indexed};

@@ -5,17 +5,48 @@ ghost use Rattle.serde_json.specs.Written.{members_text};
 ghost use Rattle.trees.specs.Tree.{AreAscending};
 ghost use Rattle.compact.specs.Fields.{IsFirst, IsLeft};
 ghost use Rattle.compact.specs.Notes.{AreEntries};
-ghost use Rattle.compact.specs.declared.entry.Entry.{Entry};
+ghost use Rattle.compact.specs.declared.table.Entry.{Entry};
 ghost use Rattle.compact_prints.specs.Merging.{field_text, held_data, held_key, is_set, other_text, without, WritesBelow, WritesStep};
-ghost use Rattle.compact_prints.specs.declared.part.Part.TheVariants.{Metadata as MetadataPart};
+ghost use Rattle.compact_prints.specs.declared.merge.Part.TheVariants.{Metadata as MetadataPart};
+ghost use Rattle.objects.specs.Object.{is_held};
 
 use crate::held::{Held, write_held};
-use crate::part::{Part, is_set};
 use compact::{Fields, compare_keys};
 use std::alloc::{AllocError, Global};
 use std::cmp::Ordering;
 
-/// Writes the member of that key as it stands, with a comma before it, unless the store sets it.
+/// Which map: an object, or its metadata.
+#[derive(Clone, Copy, Drop)]
+pub(crate) enum Part {
+    Object,
+    Metadata,
+}
+
+// Whether the store sets the member of that key.
+fn is_set(part: Part, key: &[u8]) -> bool
+    ensures { result ≡ is_set part key.now }
+{
+    match part {
+        Part::Object => "metadata".as_bytes() == key || "status".as_bytes() == key,
+        Part::Metadata => is_held(key),
+    }
+}
+
+// Whether the store sets the member of that key in the metadata. The first byte tells of most other keys.
+fn is_held(key: &[u8]) -> bool
+    ensures { result ≡ is_held key.now }
+{
+    match key.first() {
+        Some(b'd') => key == "deletionTimestamp".as_bytes(),
+        Some(b'g') => key == "generation".as_bytes(),
+        Some(b'n') => key == "name".as_bytes() || key == "namespace".as_bytes(),
+        Some(b'r') => key == "resourceVersion".as_bytes(),
+        Some(b'u') => key == "uid".as_bytes(),
+        _ => false,
+    }
+}
+
+// Writes the member of that key as it stands, with a comma before it, unless the store sets it.
 fn write_other(part: Part, key: &[u8], member: &[u8], out: &mut Vec<u8>) -> Result<(), AllocError>
     ensures { (value : List ℕ) → 44 ∷ member.now ≡ field_text key.now value
         → OnOk result (out.new.items ≡ out.old.items ++ other_text part key.now value) }

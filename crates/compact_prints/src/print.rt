@@ -1,5 +1,5 @@
-// The text of an object, with its seams.
-ghost use Rattle.std.specs.Prelude.{◌≡◌, ◌≢◌, Option, None, Some, Ok, false, string_bytes, IfOk, IfSome};
+// The object of a line: its draft, and its text with its seams.
+ghost use Rattle.std.specs.Prelude.{◌≡◌, ◌≢◌, Option, None, Some, Ok, false, string_bytes, IfOk, IfSome, ℕ, List};
 ghost use Rattle.serde_json.specs.Data.{Data, Members, object as map_of};
 ghost use Rattle.serde_json.specs.Written.{has_float};
 ghost use Rattle.trees.specs.Canonical.{IsCanonical};
@@ -10,12 +10,30 @@ ghost use Rattle.json.specs.Print.{ArePrintableOrBad};
 ghost use Rattle.objects.specs.declared.object.Draft.{Draft};
 ghost use Rattle.compact_drafts.specs.Drafts.{IsDraftOf};
 ghost use Rattle.compact_prints.specs.Texts.{with_meta};
+ghost use Rattle.compact.specs.Reads.{IsTaken};
+ghost use Rattle.compact_prints.specs.Lines.{IsDraftOfLine};
 
 use crate::seams::{Seams, write_object};
+use compact::Tables;
 use compact_drafts::CompactDraft;
 use objects::{IndexedText, Memory, Meta};
 use simdutf8::basic::from_utf8;
 use std::alloc::Global;
+
+/// The draft of the object of a request, of whose line a scanner has made this text, with the tables of its members. None says
+/// nothing of the line.
+pub fn draft_of_line<'a>(
+    alloc: Global,
+    text: &'a [u8],
+    tables: &'a Tables,
+) -> Result<Option<CompactDraft<'a>>, Memory>
+    ensures { (line : List ℕ) → IsTaken line text.now tables.now → IfOk result (λ found. IfSome found (λ c. IsDraftOfLine c line)) }
+{
+    if !text.starts_with(b"{") {
+        return Ok(None);
+    }
+    CompactDraft::of(alloc, text, tables)
+}
 
 /// The text of the draft's object, with what the store knows of it, and with that end, from its status on; with its seams.
 /// None says nothing of the object: the line was no UTF-8, a member stands behind its status, or it has no resource version.

@@ -10,8 +10,7 @@ ghost use Rattle.requests.specs.Verdict.{born, has_status};
 ghost use Rattle.requests.specs.declared.request.Request.TheVariants.{Create};
 ghost use Rattle.compact_writes.specs.Told.{IsToldOf};
 
-use crate::next::{carry_out, next_number};
-use crate::preconditions::is_named;
+use crate::change::{carry_out, is_named, next_number};
 use compact_drafts::CompactDraft;
 use compact_prints::indexed;
 use objects::{Key, Memory, Meta, Printed};

@@ -2,11 +2,9 @@
 //! bytes, and no tree is made. Whatever needs one is not taken, and the store is as it was.
 #![tactic(auto)]
 
+mod change;
 mod creation;
-mod next;
-mod preconditions;
 mod replacement;
-mod spec;
 mod status;
 
 pub use creation::create;

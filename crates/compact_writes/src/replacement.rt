@@ -1,9 +1,9 @@
 // The update of an object as it is written.
-ghost use Rattle.std.specs.Prelude.{◌≡◌, ◌≢◌, ◌++◌, ◌<◌, ◌^◌, ℕ, List, codes, false, true, None, Option, option_map, string_bytes, IfOk, IfSome, OnErr};
+ghost use Rattle.std.specs.Prelude.{◌≡◌, ◌≢◌, ◌++◌, ◌<◌, ◌^◌, ℕ, List, codes, false, true, None, Option, option_map, string_bytes, IfOk, IfSome, OnErr, bytes_eq};
 ghost use Rattle.serde_json.specs.Data.{Data};
 ghost use Rattle.serde_json.specs.Written.{compact_text, has_float};
 ghost use Rattle.objects.specs.Rewrites.{generation_after};
-ghost use Rattle.objects.specs.Seams.{AreParts, IsCanonicalStatus, IsIndexedText, IsOpen};
+ghost use Rattle.objects.specs.Seams.{AreParts, IsCanonicalStatus, IsIndexedText, IsOpen, spec_text};
 ghost use Rattle.objects.specs.Status.{member_of, same_found};
 ghost use Rattle.objects.specs.declared.object.Draft.{Draft};
 ghost use Rattle.objects.specs.declared.object.Object.{Object as SpecObject};
@@ -15,12 +15,10 @@ ghost use Rattle.requests.specs.declared.request.Request.TheVariants.{Update};
 ghost use Rattle.compact_writes.specs.Told.{IsToldOf};
 ghost use Rattle.compact_writes.specs.Writes.{IsUpdateOf};
 
-use crate::next::{carry_out, next_number};
-use crate::preconditions::conflicts;
-use crate::spec::has_spec;
+use crate::change::{carry_out, conflicts, next_number};
 use compact_drafts::CompactDraft;
 use compact_prints::indexed;
-use objects::{IndexedText, Memory, Meta, Printed, generation_after, status_end};
+use objects::{IndexedText, Memory, Meta, Printed, generation_after, spec_bytes, status_end};
 use plain_store::{Plain, PrintedReply};
 use requests::{ChangeKind, Reason, has_status};
 use std::alloc::Global;
@@ -115,4 +113,26 @@ fn may_be_same(old: &IndexedText, new: &IndexedText) -> bool
     let old = old.text.as_str().as_bytes();
     let new = new.text.as_str().as_bytes();
     new.starts_with(&old[..version]) && new.ends_with(&old[behind..])
+}
+
+/// Whether the object of the text has that spec, given as it is written, or none.
+fn has_spec(current: &IndexedText, spec: Option<&[u8]>) -> bool
+    requires { (o : SpecObject) × IsIndexedText o current.now × IsOpen o current.now }
+    ensures { (o : SpecObject) (value : Option Data) → IsIndexedText o current.now → IsOpen o current.now → lent spec.entry ≡ option_map compact_text value
+        → IsCanonicalStatus value → IfSome value (λ d. has_float d ≡ false) → result ≡ same_found (member_of (codes "spec") o.body) value }
+{
+    is_spec(spec_bytes(current), spec)
+}
+
+/// Whether these bytes are that spec behind its comma and its name, or none.
+fn is_spec(bytes: &[u8], spec: Option<&[u8]>) -> bool
+    ensures { (value : Option Data) → lent spec.entry ≡ option_map compact_text value → result ≡ bytes_eq bytes.now (spec_text value) }
+{
+    let Some(spec) = spec else {
+        return bytes.is_empty();
+    };
+    match bytes.strip_prefix(b",\"spec\":") {
+        Some(value) => value == spec,
+        None => false,
+    }
 }

@@ -11,8 +11,7 @@ ghost use Rattle.requests.specs.declared.request.Request.TheVariants.{UpdateStat
 ghost use Rattle.compact_writes.specs.Told.{IsToldOf};
 ghost use Rattle.compact_writes.specs.Writes.{IsStatusChangeOf};
 
-use crate::next::{carry_out, next_number};
-use crate::preconditions::conflicts;
+use crate::change::{carry_out, conflicts, next_number};
 use compact_drafts::CompactDraft;
 use objects::{Memory, Printed, Printer, ends_so, spliced};
 use plain_store::{Plain, PrintedReply};

@@ -8,7 +8,7 @@ use Rattle.serde_json.specs.Find.{get_member}
 use Rattle.serde_json.specs.Written.{compact_text}
 use Rattle.compact.specs.Notes.{IsLine, OfMembers}
 use Rattle.compact.specs.Reads.{IsTaken}
-use Rattle.compact.specs.declared.tables.Tables.{Tables}
+use Rattle.compact.specs.declared.scanner.Tables.{Tables}
 use Rattle.compact_drafts.specs.Maps.{IsMap}
 use Rattle.compact_drafts.specs.declared.draft.CompactDraft.{CompactDraft}
 use Rattle.compact_prints.specs.Lines.{IsDraftOfLine}

@@ -1,9 +1,7 @@
 //! Lines: how input is cut into them, the request that one is, and the reply to it.
 
 mod answer;
-pub(crate) mod backoff;
-mod compact_get;
-mod compact_write;
+mod compact_line;
 pub(crate) mod line_reader;
 pub(crate) mod members;
 mod reply_line;

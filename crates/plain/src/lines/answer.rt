@@ -9,8 +9,7 @@ ghost use Rattle.plain_store.specs.Store.{step};
 ghost use Rattle.objects.specs.declared.fault.ReadError.TheVariants.{Memory as out_of_memory};
 ghost use Rattle.plain.specs.declared.lines.request_error.RequestError.TheVariants.{Read};
 
-use crate::lines::compact_get::compact_get;
-use crate::lines::compact_write::compact_write;
+use crate::lines::compact_line::{compact_get, compact_write};
 use crate::lines::line_reader::LineReader;
 use crate::lines::reply_line::{error_line, printed_line, stored_line};
 use crate::lines::request_error::RequestError;

@@ -1,14 +1,59 @@
 // What reads lines, one after another, in memory that it keeps from line to line.
-ghost use Rattle.std.specs.Prelude.{◌≡◌, ◌≤◌, IsTrue, length, true, IfOk};
+ghost use Rattle.std.specs.Prelude.{◌≡◌, ◌≤◌, IsTrue, length, true, IfOk, ◌-◌, cond, nat_eq};
 ghost use Rattle.std.specs.Str.{is_utf8};
 ghost use Rattle.compact.specs.Reads.{IsTaken};
 ghost use Rattle.objects.specs.Reading.{most_bytes};
 
-use crate::lines::backoff::Backoff;
 use compact::Scanner;
 use objects::{Printer, TreeReader};
 use simdutf8::basic::from_utf8;
 use std::alloc::{AllocError, Global};
+
+/// The most tries that are left out in a row.
+const MOST: u32 = 63;
+
+/// How many tries are left out: after each that fails, one more than twice as many as after the one before. Who writes lines
+/// with spaces writes more of them, so that trying each would cost time and gain none.
+#[derive(Drop)]
+pub(crate) struct Backoff {
+    left: u32,
+    next: u32,
+}
+
+impl Backoff {
+    /// The first is tried.
+    pub(crate) fn new() -> Backoff
+        ensures { result ≡ record { left = 0; next = 0 } }
+    {
+        Backoff { left: 0, next: 0 }
+    }
+
+    /// Whether to try now.
+    pub(crate) fn is_due(&mut self) -> bool
+        ensures due { result ≡ nat_eq self.old.left 0 }
+        ensures left { self.new.left ≡ self.old.left - 1 }
+        ensures next { self.new.next ≡ self.old.next }
+    {
+        if self.left == 0 {
+            return true;
+        }
+        self.left -= 1;
+        false
+    }
+
+    /// Notes how a try ended.
+    pub(crate) fn note(&mut self, has_passed: bool)
+        ensures left { self.new.left ≡ cond has_passed self.old.left self.old.next }
+        ensures passed { has_passed ≡ true → self.new.next ≡ 0 }
+    {
+        if has_passed {
+            self.next = 0;
+        } else {
+            self.left = self.next;
+            self.next = MOST.min(self.next.saturating_mul(2).saturating_add(1));
+        }
+    }
+}
 
 /// The most bytes that a line may have; a longer one is TooLong.
 const MAX_BYTES: usize = 1_048_576;

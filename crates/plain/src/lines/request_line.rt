@@ -7,7 +7,7 @@ ghost use Rattle.objects.specs.Tree.{data_of};
 ghost use Rattle.plain.specs.Requests.{Answers, request_in, request_of, object_draft, list_in, exact_in, deletion_in, compaction_in, named_in, field_text, stored_number};
 ghost use Rattle.plain.specs.Verbs.{request_by};
 
-use crate::lines::compact_get::compact_get;
+use crate::lines::compact_line::compact_get;
 use crate::lines::request_error::RequestError;
 use crate::lines::verb::{Verb, verb_in};
 use objects::{

@@ -1,6 +1,6 @@
 use Rattle.std.proofs.Common.{ap, ◌∙◌}
 use Rattle.compact_prints.specs.Merging.{is_set}
-use Rattle.compact_prints.specs.declared.part.Part.TheVariants.{Metadata}
+use Rattle.compact_prints.specs.declared.merge.Part.TheVariants.{Metadata}
 use Rattle.compact_prints.proofs.Merging.{below_at, step_written}
 use Rattle.compact_prints.proofs.PlainTexts.{held_is_set}
 use Rattle.compact_prints.proofs.merge.write_step.Goals as goal
