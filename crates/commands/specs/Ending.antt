@@ -1,6 +1,7 @@
 -- What a run of the program that was asked for the stores in which controllers may end has written, and what it refuses.
 use Rattle.std.specs.Prelude.{◌≡◌, ◌≢◌, ◌⊎◌, ◌≤◌, ◌<◌, ℕ, Bool, true, false, zero, suc, List, Option, Some, None, codes, map}
 use Rattle.std.specs.List.{All, AllPairs, Contains, slice_get}
+use Rattle.controller_outcomes.specs.Progress.{HasManyStates}
 use Rattle.controller_outcomes.specs.Races.{IsFinal, IsWhole, shown_after}
 use Rattle.controller_outcomes.specs.declared.race.FinalStore.{FinalStore}
 use Rattle.controller_outcomes.specs.declared.race.Race.{Race}
@@ -58,10 +59,10 @@ abbrev pub IsStoreRefusal : (choice : Option ℕ) → List FinalStore → (name 
 IsStoreRefusal None found name = ⊥
 IsStoreRefusal (Some number) found name = ((store_of number found ≡ None) × (name ≡ codes "NoSuchOutcome")) ⊎ (name ≡ codes "NoScript")
 
--- Nothing is said of when there are too many.
+-- the stores are not told, or the one of the choice is not
 abbrev pub IsRaceRefusal : (choice : Option ℕ) → Race → (name : List ℕ) → Type 0
 IsRaceRefusal choice race name = (IsBadCapacity race.capacity × (name ≡ codes "BadCapacity"))
-    ⊎ ((name ≡ codes "TooManyOutcomes") ⊎ ((found : List FinalStore) × AreFinals race found × IsStoreRefusal choice found name))
+    ⊎ ((HasManyStates race × (name ≡ codes "TooManyOutcomes")) ⊎ ((found : List FinalStore) × AreFinals race found × IsStoreRefusal choice found name))
 
 -- The input is refused as BadScript exactly where it is no race of controllers.
 abbrev pub IsStoresRefusal : (choice : Option ℕ) → (input name : List ℕ) → Type 0

@@ -11,6 +11,7 @@ use Rattle.outcome_lines.specs.declared.fault.ScriptingError.{ScriptingError}
 use Rattle.outcome_lines.specs.declared.fault.ScriptingError.TheVariants as scripting
 use Rattle.outcomes.specs.Found.{AreFor, IsOutcome, told}
 use Rattle.outcomes.specs.Outcomes.{IsExplained}
+use Rattle.outcomes.specs.Progress.{HasManyParts}
 use Rattle.outcomes.specs.declared.litmus.Litmus.{Litmus}
 use Rattle.outcomes.specs.declared.outcome.Outcome.{Outcome}
 use Rattle.outcomes.specs.declared.outcome.OutcomesError.{OutcomesError}
@@ -79,10 +80,10 @@ abbrev pub IsChoiceRefusal : (choice : Option ℕ) → List Outcome → (name : 
 IsChoiceRefusal None found name = ⊥
 IsChoiceRefusal (Some number) found name = ((outcome_of number found ≡ None) × (name ≡ codes "NoSuchOutcome")) ⊎ (name ≡ codes "NoScript")
 
--- Nothing is said of when there are too many.
+-- the outcomes are not told, or the one of the choice is not
 abbrev pub IsFindingRefusal : (choice : Option ℕ) → Litmus → (name : List ℕ) → Type 0
 IsFindingRefusal choice litmus name = (IsBadCapacity litmus.capacity × (name ≡ codes "BadCapacity"))
-    ⊎ ((name ≡ codes "TooManyOutcomes") ⊎ ((found : List Outcome) × AreOutcomes litmus found × IsChoiceRefusal choice found name))
+    ⊎ ((HasManyParts litmus × (name ≡ codes "TooManyOutcomes")) ⊎ ((found : List Outcome) × AreOutcomes litmus found × IsChoiceRefusal choice found name))
 
 -- The input is refused as BadScript exactly where it is no litmus test.
 abbrev pub IsLitmusRefusal : (choice : Option ℕ) → (input name : List ℕ) → Type 0
