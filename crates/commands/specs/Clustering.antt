@@ -28,8 +28,8 @@ use Rattle.commands.specs.Grammar.{flag_text}
 use Rattle.commands.specs.Replaying.{IsSizeRefusal}
 use Rattle.commands.specs.Roles.{role_by}
 use Rattle.commands.specs.Running.{IsScriptRefusal, IsScriptText}
-use Rattle.commands.specs.declared.form.Form.{Form}
-use Rattle.commands.specs.declared.form.Form.TheVariants.{Lines, Picture, Trace, Writes}
+use Rattle.commands.specs.declared.options.Form.{Form}
+use Rattle.commands.specs.declared.options.Form.TheVariants.{Lines, Picture, Trace, Writes}
 
 -- the cluster of the script, after its events
 abbrev pub cluster_by : ClusterScript → Cluster

@@ -2,9 +2,9 @@
 use Rattle.std.specs.Prelude.{◌≡◌, ℕ, Bool, true, false, List, [], Option, Some, None, codes}
 use Rattle.std.specs.Option.{IfSome}
 use Rattle.clap.specs.Words.{Text}
-use Rattle.commands.specs.declared.form.Form.{Form}
+use Rattle.commands.specs.declared.options.Form.{Form}
 use Rattle.pictures.specs.declared.shown.Shown.TheVariants as shown
-use Rattle.commands.specs.declared.form.Form.TheVariants.{Lines, Picture, Trace, Writes}
+use Rattle.commands.specs.declared.options.Form.TheVariants.{Lines, Picture, Trace, Writes}
 
 -- whether a flag is given, by what `clap` has for it: `true` where it is, else `false` or nothing
 abbrev pub IsFlagBy : Option Text → Bool → Type 0

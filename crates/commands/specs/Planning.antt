@@ -13,8 +13,8 @@ use Rattle.set_views.specs.Set.{SetParts}
 use Rattle.set_views.specs.SetReading.{set_of}
 use Rattle.sets.specs.declared.action.Plan.{Plan}
 use Rattle.sets.specs.Plan.{IsPlan}
-use Rattle.plan_lines.specs.declared.format.Format.{Format}
-use Rattle.plan_lines.specs.declared.format.Format.TheVariants.{Brief, Json}
+use Rattle.plan_lines.specs.declared.output.Format.{Format}
+use Rattle.plan_lines.specs.declared.output.Format.TheVariants.{Brief, Json}
 use Rattle.plan_lines.specs.Formats.{actions_text}
 use Rattle.plan_lines.specs.Objects.{Lists, is_named, nothing, read_from}
 use Rattle.plan_lines.specs.RefusedLines.{refused_line_of}

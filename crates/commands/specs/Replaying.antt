@@ -23,8 +23,8 @@ use Rattle.commands.specs.Halts.{IsRefusedIn}
 use Rattle.commands.specs.Forms.{IsFormBy, WritesBy}
 use Rattle.commands.specs.Grammar.{flag_text}
 use Rattle.commands.specs.Running.{IsScriptRefusal, IsScriptText}
-use Rattle.commands.specs.declared.form.Form.{Form}
-use Rattle.commands.specs.declared.form.Form.TheVariants.{Lines, Picture, Trace, Writes}
+use Rattle.commands.specs.declared.options.Form.{Form}
+use Rattle.commands.specs.declared.options.Form.TheVariants.{Lines, Picture, Trace, Writes}
 use Rattle.replay_lines.specs.declared.fault.ScriptError.TheVariants.{BadScript, Memory}
 
 -- the replies of the run of these events, and its order

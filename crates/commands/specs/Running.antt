@@ -1,7 +1,7 @@
 -- What is printed of the run of a script, or why the input is refused, whatever kind of script it is.
 use Rattle.std.specs.Prelude.{◌≡◌, ◌⊎◌, Bool, ℕ, List, Option, Some, None, codes}
 use Rattle.commands.specs.Halts.{refused_as, told_line}
-use Rattle.commands.specs.declared.form.Form.{Form}
+use Rattle.commands.specs.declared.options.Form.{Form}
 
 -- the input is a script, and of its run such a text is shown in this form
 abbrev pub IsScriptText : {Parts Script : Type 0} → (script_of : List ℕ → Option Parts) → (parts : Script → Parts) → (IsShown : Form → Script → List ℕ → Type 0)

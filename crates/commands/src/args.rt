@@ -5,10 +5,11 @@ ghost use Rattle.commands.specs.Grammar.{IsCapacityBy, IsChoiceBy, IsDigitsBy, c
 ghost use Rattle.commands.specs.Asked.{IsAsked, IsFinding, IsOther, IsScriptBy, IsScripted, IsServing, IsSoughtBy};
 ghost use Rattle.commands.specs.Forms.{IsFlagBy};
 
-use crate::flags::{flag_arg, flag_in};
-use crate::form::{Form, form_in, picture_arg, trace_arg, writes_arg};
 use crate::help::{CLUSTER_END, OUTCOMES_END, PLAN_END, REPLAY_END, SERVE_END};
-use crate::numbers::{from_1_to_64, from_1_to_20000, number_arg, number_in};
+use crate::options::{
+    Form, flag_arg, flag_in, form_in, from_1_to_64, from_1_to_20000, number_arg, number_in,
+    picture_arg, trace_arg, writes_arg,
+};
 use crate::race_words::{RaceWords, race_grammar, race_words};
 use clap::{Arg, ArgMatches, Command, Error, value_parser};
 use plain::MAX_REVISIONS;

@@ -1,5 +1,5 @@
-//! What the words of the command line ask for, done over any readers and writers: `serve`, `replay`, `cluster`, `plan` and `race`. The
-//! program hands it the standard streams.
+//! What the words of the command line ask for, done over any readers and writers: `serve`, `replay`, `cluster`, `plan`, `outcomes` and
+//! `race`. The program hands it the standard streams.
 #![tactic(auto)]
 
 mod answering;
@@ -9,11 +9,9 @@ mod cluster_roles;
 mod ending;
 mod explain;
 mod finding;
-mod flags;
-mod form;
 mod halt;
 mod help;
-mod numbers;
+mod options;
 mod plan;
 mod program;
 mod race;

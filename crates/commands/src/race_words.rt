@@ -5,9 +5,10 @@ ghost use Rattle.commands.specs.Asked.{IsRaceBy};
 ghost use Rattle.commands.specs.Grammar.{race_app, sized_app};
 ghost use Rattle.race_log.specs.Limits.{is_race};
 
-use crate::flags::{flag_arg, flag_in};
 use crate::help::RACE_END;
-use crate::numbers::{from_0_to_64, from_1_to_64, from_1_to_1024, number_arg, number_in};
+use crate::options::{
+    flag_arg, flag_in, from_0_to_64, from_1_to_64, from_1_to_1024, number_arg, number_in,
+};
 use clap::{ArgMatches, Command};
 use race_log::RaceSpec;
 use std::alloc::{AllocError, Global};

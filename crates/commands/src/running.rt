@@ -6,8 +6,8 @@ ghost use Rattle.replay_lines.specs.Events.{Fails};
 
 use crate::answering::Answer;
 use crate::args::ScriptWords;
-use crate::form::Form;
 use crate::halt::{Halt, halt_at};
+use crate::options::Form;
 use objects::Memory;
 use pictures::Shown;
 use replay_lines::ScriptError;
@@ -18,7 +18,7 @@ use std::marker::PhantomData;
 pub(crate) trait Runnable: Drop {
     ghost use Rattle.std.specs.Prelude.{◌≡◌, ℕ, List, Option, false, IfOk, IfErr, IfSome};
     ghost use Rattle.commands.specs.Halts.{is_read, name_of};
-    ghost use Rattle.commands.specs.declared.form.Form.{Form};
+    ghost use Rattle.commands.specs.declared.options.Form.{Form};
     ghost use Rattle.replay_lines.specs.Events.{Reads};
 
     /// A script as definitions have it.

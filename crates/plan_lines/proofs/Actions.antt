@@ -5,8 +5,8 @@ use Rattle.plain.specs.Streams.{PutsPart}
 use Rattle.plain.specs.ValueLines.{text_lines}
 use Rattle.plain.proofs.Flows.{PutsPart-after, Puts-then}
 use Rattle.sets.specs.declared.action.Action.{Action}
-use Rattle.plan_lines.specs.declared.format.Format.{Format}
-use Rattle.plan_lines.specs.declared.format.Format.TheVariants.{Json, Brief}
+use Rattle.plan_lines.specs.declared.output.Format.{Format}
+use Rattle.plan_lines.specs.declared.output.Format.TheVariants.{Json, Brief}
 use Rattle.plan_lines.specs.Actions.{action_data}
 use Rattle.plan_lines.specs.Brief.{brief_line, brief_text}
 use Rattle.plan_lines.specs.Formats.{action_text, actions_text}

@@ -3,8 +3,8 @@ use Rattle.std.specs.Prelude.{ℕ, List, map}
 use Rattle.serde_json.specs.Written.{compact_text}
 use Rattle.plain.specs.ValueLines.{text_lines}
 use Rattle.sets.specs.declared.action.Action.{Action}
-use Rattle.plan_lines.specs.declared.format.Format.{Format}
-use Rattle.plan_lines.specs.declared.format.Format.TheVariants.{Json, Brief}
+use Rattle.plan_lines.specs.declared.output.Format.{Format}
+use Rattle.plan_lines.specs.declared.output.Format.TheVariants.{Json, Brief}
 use Rattle.plan_lines.specs.Actions.{action_data}
 use Rattle.plan_lines.specs.Brief.{brief_line, brief_text}
 

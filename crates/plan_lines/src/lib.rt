@@ -3,14 +3,12 @@
 
 mod action_line;
 mod brief;
-mod format;
 mod listed;
 mod output;
 mod refusal;
 mod wrong_line;
 
-pub use format::Format;
 pub use listed::{Listed, named_set, read_objects};
-pub use output::{OutputFault, write_actions};
+pub use output::{Format, OutputFault, write_actions};
 pub use refusal::plan_error_name;
 pub use wrong_line::refused_object_line;

@@ -3,7 +3,7 @@ use Rattle.clap.specs.Words.{found_of, one_text}
 use Rattle.clap.proofs.WalkLemmas.{one_text-rows}
 use Rattle.commands.specs.Forms.{IsFlagBy}
 use Rattle.commands.proofs.Serving.{flag_by}
-use Rattle.commands.proofs.flags.flag_in.Goals as goal
+use Rattle.commands.proofs.options.flag_in.Goals as goal
 
 pub returns : goal.returns
 returns c =

@@ -5,7 +5,7 @@ use Rattle.clap.specs.Words.{found_of, one_text}
 use Rattle.clap.proofs.WalkLemmas.{one_text-rows}
 use Rattle.commands.specs.Grammar.{IsNumberBy}
 use Rattle.commands.proofs.Ranges.{read_number}
-use Rattle.commands.proofs.numbers.number_in.Goals as goal
+use Rattle.commands.proofs.options.number_in.Goals as goal
 
 pub returns-clause-by : goal.returns-clause-by
 returns-clause-by c =
