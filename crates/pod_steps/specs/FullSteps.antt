@@ -14,7 +14,8 @@ use Rattle.pod_steps.specs.declared.step.Revision.{Revision}
 use Rattle.pod_steps.specs.declared.step.Revision.TheVariants.{Current, Update}
 use Rattle.pod_steps.specs.declared.step.Step.{Step}
 use Rattle.pod_steps.specs.declared.step.Step.TheVariants.{MakeClaims, KeepClaims, ReleaseClaims, CreatePod, DeletePod, Wait}
-use Rattle.pod_steps.specs.Replicas.{Pods, is_out_of_range, is_due, is_failed, is_healthy_replica, lacks_healthy, ordinals, pod_at}
+use Rattle.pod_steps.specs.Replicas.{Pods, is_out_of_range, is_due, is_failed, lacks_healthy, ordinals, pod_at}
+use Rattle.set_views.specs.Predicates.{is_healthy}
 use Rattle.pod_steps.specs.Step.{is_of_pod}
 
 -- the revision of a new pod: below the partition of a rolling update the current one, else the update revision
@@ -60,7 +61,7 @@ gap_steps set i (Some pod) =
     if pod.terminating then wait_for i pod ∷ [] else if is_failed pod.readiness then DeletePod i pod.uid ∷ [] else wait_for i pod ∷ []
 
 abbrev pub is_other_unhealthy : SetParts → ℕ → ℕ × Replica → Bool
-is_other_unhealthy set highest e = is_out_of_range set e && not (e.0 == highest) && not (is_healthy_replica e.1)
+is_other_unhealthy set highest e = is_out_of_range set e && not (e.0 == highest) && not (is_healthy e.1.readiness e.1.terminating)
 
 -- the highest condemned pod goes, once no other keeps it
 abbrev pub removal_steps_unless : ℕ × Replica → Option (ℕ × Replica) → List Step

@@ -31,18 +31,19 @@ is_failed Ready = false
 is_failed NotReady = false
 is_failed Failed = true
 
-abbrev pub is_healthy_replica : Replica → Bool
-is_healthy_replica pod = is_healthy pod.readiness pod.terminating
-
 abbrev pub has_healthy_pod : Pods → ℕ → Bool
-has_healthy_pod pods i = option_map_or is_healthy_replica (pod_at pods i) false
+has_healthy_pod pods i = option_map_or (λ (pod : Replica). is_healthy pod.readiness pod.terminating) (pod_at pods i) false
 
 abbrev pub lacks_healthy : Pods → ℕ → Bool
 lacks_healthy pods i = not (has_healthy_pod pods i)
 
 -- the pod is at the update revision and healthy
 abbrev pub is_settled : Replica → Bool
-is_settled pod = pod.updated && is_healthy_replica pod
+is_settled pod = pod.updated && is_healthy pod.readiness pod.terminating
+
+-- the same rule of a replica, by the name that proofs use
+abbrev pub is_healthy_replica : Replica → Bool
+is_healthy_replica pod = is_healthy pod.readiness pod.terminating
 
 -- a rolling update down to that partition has still to do with the ordinal
 abbrev pub is_due : ℕ → Pods → ℕ → Bool

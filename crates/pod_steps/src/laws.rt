@@ -3,12 +3,12 @@ ghost use Rattle.std.specs.Prelude.{◌≡◌, ◌≤◌, ◌<◌, ◌++◌, ◌
 ghost use Rattle.std.specs.List.{Contains, list_any};
 ghost use Rattle.set_views.specs.Pod.{PodParts};
 ghost use Rattle.set_views.specs.Set.{SetParts};
-ghost use Rattle.set_views.specs.Predicates.{in_range, owns_pod};
+ghost use Rattle.set_views.specs.Predicates.{in_range, is_healthy, owns_pod};
 ghost use Rattle.pod_steps.specs.declared.replica.Replica.{Replica};
 ghost use Rattle.pod_steps.specs.declared.step.Revision.{Revision};
 ghost use Rattle.pod_steps.specs.declared.step.Step.{Step};
 ghost use Rattle.pod_steps.specs.Listed.{by_ordinal, is_named, replica_of, replicas_in};
-ghost use Rattle.pod_steps.specs.Replicas.{Pods, has_healthy_pod, is_failed, is_healthy_replica, is_settled, pod_at};
+ghost use Rattle.pod_steps.specs.Replicas.{Pods, has_healthy_pod, is_failed, is_settled, pod_at};
 ghost use Rattle.pod_steps.specs.Step.{truncated, is_of_pod, pod_steps};
 ghost use Rattle.pod_steps.specs.FullSteps.{full_steps, update_steps};
 
@@ -81,7 +81,7 @@ pub fn creates_are_of_free_names()
 pub fn no_healthy_pod_goes_on_delete()
     ensures { (set : SetParts) (update current : List ℕ) (listed : List PodParts) (pods : Pods) (i uid : ℕ) (pod : Replica)
         → replicas_in set update current listed ≡ Ok pods → set.strategy ≡ Strategy.OnDelete
-        → Contains (full_steps set pods) (Step.DeletePod i uid) → in_range set i ≡ true → pod_at pods i ≡ Some pod → is_healthy_replica pod ≡ false }
+        → Contains (full_steps set pods) (Step.DeletePod i uid) → in_range set i ≡ true → pod_at pods i ≡ Some pod → is_healthy pod.readiness pod.terminating ≡ false }
 {}
 
 /// A truncated list is a beginning of the full one. It is the full list, or has 1,024 steps that are no steps on claims;

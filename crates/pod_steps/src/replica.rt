@@ -3,8 +3,8 @@ ghost use Rattle.std.specs.Prelude.{◌≡◌};
 ghost use Rattle.set_views.specs.Pod.{pod_parts};
 ghost use Rattle.set_views.specs.Set.{set_parts};
 ghost use Rattle.pod_steps.specs.Listed.{has_revision, replica_of};
-ghost use Rattle.pod_steps.specs.Replicas.{is_failed, is_healthy_replica, is_settled};
-ghost use Rattle.set_views.specs.Predicates.{is_ready};
+ghost use Rattle.pod_steps.specs.Replicas.{is_failed, is_settled};
+ghost use Rattle.set_views.specs.Predicates.{is_healthy, is_ready};
 
 use set_views::{PodView, Readiness, Set};
 
@@ -39,7 +39,7 @@ impl Replica {
 
     /// Whether the pod is running and ready, and not on its way out.
     pub(crate) fn is_healthy(&self) -> bool
-        ensures { result ≡ is_healthy_replica self.now }
+        ensures { result ≡ is_healthy self.now.readiness self.now.terminating }
     {
         self.is_ready() && !self.terminating
     }
