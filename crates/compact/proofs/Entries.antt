@@ -15,6 +15,10 @@ pub ended_joined : (fs gs : Members) → ended_text (joined fs gs) ≡ ended_tex
 ended_joined no_members gs = refl
 ended_joined (member k d fs) gs = ap (λ l. ended_member k d ++ l) (ended_joined fs gs) ∙ sym (append_assoc (ended_member k d) (ended_text fs) (ended_text gs))
 
+-- an entry of two lengths
+pub entry_is : (e : Entry) (key size : ℕ) → e.key ≡ key → e.size ≡ size → e ≡ record { key = key; size = size }
+entry_is e key size a b = λ j. record { key = a j; size = b j }
+
 pub entries_joined : (fs gs : Members) → entries_of (joined fs gs) ≡ entries_of fs ++ entries_of gs
 entries_joined no_members gs = refl
 entries_joined (member k d fs) gs = ap (λ l. entry_of k d ∷ l) (entries_joined fs gs)

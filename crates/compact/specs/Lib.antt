@@ -2,9 +2,9 @@
 pub mod Notes
 pub mod Reads
 pub mod Fields
+pub mod Plain
 -- ---- what only proofs use
 pub mod Levels
-pub mod Plain
 pub mod Texts
 pub mod Begins
 pub mod Ended

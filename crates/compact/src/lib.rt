@@ -12,3 +12,4 @@ mod texts;
 pub use place::compare_keys;
 pub use scanner::{Scanner, Tables};
 pub use table::{Entry, Field, Fields, Table};
+pub use texts::plain_end;

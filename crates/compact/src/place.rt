@@ -39,7 +39,7 @@ pub(crate) fn place_of(
         return Some((0, at));
     };
     let new = key_at(text, at, key)?;
-    let other = key_at(text, at.checked_sub(last.size)?, last.key)?;
+    let other = key_at(text, at.checked_sub(last.size as usize)?, last.key as usize)?;
     match compare_keys(new, other) {
         Ordering::Less => slot_of(text, entries, at, key),
         Ordering::Equal => None,
@@ -57,13 +57,13 @@ fn slot_of(text: &[u8], entries: &[Entry], at: usize, key: usize) -> Option<(usi
     let mut start: usize = 0;
     let mut left = entries;
     'slots: while let Some((entry, behind)) = left.split_first() {
-        let other = key_at(text, start, entry.key)?;
+        let other = key_at(text, start, entry.key as usize)?;
         match compare_keys(new, other) {
             Ordering::Less => return Some((index, start)),
             Ordering::Equal => return None,
             Ordering::Greater => {}
         }
-        start = start.checked_add(entry.size)?;
+        start = start.checked_add(entry.size as usize)?;
         index = index.checked_add(1)?;
         left = behind;
     }

@@ -200,13 +200,8 @@ fn members_end(text: &mut [u8], depth: usize, level: Level, scanner: &mut Scanne
         let Ok(()) = move_back(text, start, end + 1, size + 1, &mut scanner.moved) else {
             return None;
         };
-        table.insert(
-            index,
-            Entry {
-                key,
-                size: size + 1,
-            },
-        );
+        let entry = Entry::of(key, size + 1)?;
+        table.insert(index, entry);
         at = end + 1;
         if byte == b'}' {
             text[end] = b'}';

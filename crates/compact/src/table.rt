@@ -14,8 +14,20 @@ use std::marker::Model;
 /// that ends it.
 #[derive(Clone, Copy, Drop)]
 pub struct Entry {
-    pub key: usize,
-    pub size: usize,
+    pub key: u32,
+    pub size: u32,
+}
+
+impl Entry {
+    /// The entry of those two lengths, if they are below 4 GiB.
+    #[inline(always)]
+    pub(crate) fn of(key: usize, size: usize) -> Option<Entry>
+        ensures { IfSome result (λ entry. (entry.key ≡ key) × (entry.size ≡ size)) }
+    {
+        let key = u32::try_from(key).ok()?;
+        let size = u32::try_from(size).ok()?;
+        Some(Entry { key, size })
+    }
 }
 
 /// The most members that a map may have.
@@ -27,8 +39,8 @@ pub struct Table {
     entries: [Entry; MOST],
     count: usize,
     // The lengths of the shortest and of the longest key.
-    shortest: usize,
-    longest: usize,
+    shortest: u32,
+    longest: u32,
 }
 
 impl Model for Table {
@@ -53,7 +65,7 @@ impl Table {
         Table {
             entries: [Entry { key: 0, size: 0 }; MOST],
             count: 0,
-            shortest: usize::MAX,
+            shortest: u32::MAX,
             longest: 0,
         }
     }
@@ -79,7 +91,7 @@ impl Table {
     pub(crate) fn may_have(&self, size: usize) -> bool
         ensures { result ≡ false → All (λ e. e.key ≢ size) self.now }
     {
-        self.shortest <= size && size <= self.longest
+        self.shortest as usize <= size && size <= self.longest as usize
     }
 
     /// Puts a member at a place; those behind it move up.
@@ -120,12 +132,13 @@ impl<'t, 'e> Fields<'t, 'e> {
         ensures fewer { IfSome result (λ p. length p.1.entries.now < length self.entry.entries.now) }
     {
         let (entry, entries) = self.entries.split_first()?;
-        let key = part(self.left, 1, entry.key.saturating_sub(1));
-        let behind = rest_from(self.left, entry.key);
-        let size = entry.size.saturating_sub(entry.key);
-        let value = part(behind, 1, size.saturating_sub(1));
-        let left = rest_from(self.left, entry.size);
-        Some((Field { key, value }, Fields { left, entries }))
+        let key = entry.key as usize;
+        let size = entry.size as usize;
+        let name = part(self.left, 1, key.saturating_sub(1));
+        let behind = rest_from(self.left, key);
+        let value = part(behind, 1, size.saturating_sub(key).saturating_sub(1));
+        let left = rest_from(self.left, size);
+        Some((Field { key: name, value }, Fields { left, entries }))
     }
 }
 
@@ -157,14 +170,14 @@ impl Table {
         let mut at: usize = 1;
         'members: while let Some((entry, others)) = entries.split_first() {
             // Most members are told by the length of their key, which has its quotes in the table.
-            if entry.key == size {
+            if entry.key as usize == size {
                 let left = rest_from(text, at);
                 let (field, _others) = Fields { left, entries }.split_first()?;
                 if field.key == name {
                     return Some(field.value);
                 }
             }
-            at = at.wrapping_add(entry.size);
+            at = at.wrapping_add(entry.size as usize);
             entries = others;
         }
         None

@@ -108,9 +108,9 @@ fn plain_end_slowly(text: &[u8], from: usize) -> usize
     at
 }
 
-// How many bytes stand before the first quote, backslash or control byte.
+/// How many bytes stand before the first quote, backslash or control byte.
 #[inline(always)]
-fn plain_end(text: &[u8]) -> usize
+pub fn plain_end(text: &[u8]) -> usize
     ensures value { result ≡ prefix_len is_plain text.now }
     ensures within { result ≤ length text.now }
 {

@@ -1,11 +1,14 @@
 -- A text is passed over byte by byte, up to its closing quote.
-use Rattle.std.proofs.Common.{codes, ap₂, ◌≡◌, ℕ, List, [], ◌∷◌, ◌++◌, Bool, true, false, cond, nat_lt, ◌/◌, ◌%◌, refl, sym, ap, ◌∙◌, append_assoc, arith}
+use Rattle.std.proofs.Common.{codes, ap₂, ◌≡◌, ℕ, suc, ◌+◌, ◌==◌, drop, List, [], ◌∷◌, ◌++◌, Bool, true, false, cond, nat_lt, ◌/◌, ◌%◌, refl, sym, ap, ◌∙◌, append_assoc, arith}
 use Rattle.std.specs.Prelude.{⊤}
+use Rattle.std.specs.List.{prefix_len}
+use Rattle.std.proofs.lemmas.Bool.{or_parts, not-true, eqb-false}
 use Rattle.std.proofs.lemmas.List.{append_cancel_left}
 use Rattle.std.specs.Char.{digit_char}
 use Rattle.json.specs.Print.{escape, escape_byte, escape_letter, quoted}
 use Rattle.serde_json.specs.Data.{Num, Data, null, boolean, number, string, array, object}
 use Rattle.serde_json.specs.Written.{compact_text, number_text}
+use Rattle.compact.specs.Plain.{is_plain, is_stop}
 use Rattle.compact_drafts.specs.Cursors.{BeginsNot, EndsValue, IsTextBefore}
 use Rattle.compact_drafts.proofs.Texts.{append_differs, number_differs, text_begun}
 
@@ -139,3 +142,18 @@ same_key (y ∷ p) [] a b plain is = absurd (plain.0 (sym (first_is 34 y a _ is)
 same_key (y ∷ p) (x ∷ k) a b plain is =
     by_escape (x ∷ k ≡ y ∷ p) x (λ t e. absurd (plain.1 (sym (first_is 92 y _ _ (sym (opened (escape_byte x) (escape k) (34 ∷ a) (92 ∷ t) e) ∙ is)))))
     (λ e. (let whole = sym (opened (escape_byte x) (escape k) (34 ∷ a) (x ∷ []) e) ∙ is in ap₂ (λ z s. z ∷ s) (first_is x y _ _ whole) (same_key p k a b plain.2 (behind_is x y _ _ whole))))
+
+-- ---- by a run of plain bytes
+
+run_at : (b : Bool) (x : ℕ) (xs rest behind : List ℕ) → is_plain x ≡ b → (drop (prefix_len is_plain xs) xs ≡ 34 ∷ behind → Inside xs rest → behind ≡ rest)
+    → drop (cond b (1 + prefix_len is_plain xs) 0) (x ∷ xs) ≡ 34 ∷ behind → Inside (x ∷ xs) rest → behind ≡ rest
+run_at true x xs rest behind plain later ends inside =
+    let one : 1 + prefix_len is_plain xs ≡ suc (prefix_len is_plain xs) = omega arith in
+    let none = or_parts _ _ (not-true (is_stop x) plain) in
+    let tests = or_parts (x == 34) _ none.0 in
+    later (sym (ap (λ m. drop m (x ∷ xs)) one) ∙ ends) (passed (x ∷ xs) rest xs x inside refl (eqb-false x 34 tests.0) (eqb-false x 92 tests.1))
+run_at false x xs rest behind plain later ends inside = sym (behind_is x 34 xs behind ends) ∙ ended (x ∷ xs) rest xs x inside refl (first_is x 34 xs behind ends)
+
+pub run_ends : (left rest behind : List ℕ) → drop (prefix_len is_plain left) left ≡ 34 ∷ behind → Inside left rest → behind ≡ rest
+run_ends [] rest behind ends inside = absurd cc
+run_ends (x ∷ xs) rest behind ends inside = run_at (is_plain x) x xs rest behind refl (run_ends xs rest behind) ends inside

@@ -6,6 +6,7 @@ ghost use Rattle.serde_json.specs.Written.{compact_text};
 ghost use Rattle.json.specs.Print.{quoted};
 ghost use Rattle.compact_drafts.specs.Cursors.{BeginsNot, EndsValue, IsTextBefore};
 
+use compact::plain_end;
 use std::str::{from_utf8, from_utf8_unchecked};
 
 /// What stands between the quotes of a value that is a text, given as it is written.
@@ -66,18 +67,10 @@ pub(crate) fn quoted_rest(text: &[u8]) -> Option<&[u8]>
     ensures quote { IfSome result (λ found. (behind : List ℕ) × (text.now ≡ 34 ∷ behind)) }
     ensures shorter { IfSome result (λ found. length found.now < length text.now) }
 {
-    let mut left = text.strip_prefix(b"\"")?;
-    'bytes: loop {
-        let (byte, behind) = left.split_first()?;
-        let byte = *byte;
-        if byte == b'"' {
-            return Some(behind);
-        }
-        if byte == b'\\' {
-            return None;
-        }
-        left = behind;
-    }
+    let inside = text.strip_prefix(b"\"")?;
+    let (_plain, end) = inside.split_at(plain_end(inside));
+    let rest = end.strip_prefix(b"\"")?;
+    Some(rest)
 }
 
 /// What stands behind a member whose value is a text, if it has no escape.

@@ -65,7 +65,7 @@ fn first_text<'t>(fields: Fields<'t, '_>) -> &'t [u8]
         → 44 ∷ result.now ≡ field_text key value }
 {
     match fields.entries.first() {
-        Some(entry) => front_of(fields.left, entry.size.saturating_sub(1)),
+        Some(entry) => front_of(fields.left, (entry.size as usize).saturating_sub(1)),
         None => &[],
     }
 }

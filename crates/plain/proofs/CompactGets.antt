@@ -1,5 +1,5 @@
 -- A get line in compact form is read as its request.
-use Rattle.std.proofs.Common.{◌≡◌, ℕ, ◌≤◌, List, [], ◌∷◌, ◌++◌, length, take, drop, Bool, true, false, nat_eq, nat_lt, not, cond, codes, None, Some, Ok, unwrap_or, take-append-drop, refl, sym, ap, ◌∙◌, append_assoc, length-append, arith}
+use Rattle.std.proofs.Common.{◌≡◌, ℕ, ◌≤◌, List, [], ◌∷◌, ◌++◌, length, take, drop, Bool, true, false, nat_eq, nat_lt, cond, codes, None, Some, Ok, unwrap_or, take-append-drop, refl, sym, ap, ◌∙◌, append_assoc, length-append, arith}
 use Rattle.std.specs.Str.{IsUtf8}
 use Rattle.std.proofs.lemmas.Bool.{and_parts, leb-true, lt-ltb}
 use Rattle.std.proofs.lemmas.Slice.Eq.{bytes_eq-Decides}
@@ -150,13 +150,6 @@ get_named kind name namespace line key made a b is = named_by _ kind name namesp
 pub stripped : (line front rest : List ℕ) → pointwise nat_eq (take (length front) line) front ≡ true → rest ≡ drop (length front) line → line ≡ front ++ rest
 stripped line front rest same is = sym (take-append-drop (length front) line) ∙ ap (λ x. x ++ drop (length front) line) ((bytes_eq-Decides (take (length front) line) front).0 same) ∙ ap (λ x. front ++ x) (sym is)
 
-pub parts_joined : (line kind name namespace r1 r2 r3 r4 r5 r6 : List ℕ) → line ≡ codes "{\"do\":\"get\",\"kind\":\"" ++ r1 → r1 ≡ kind ++ 34 ∷ r2 → r2 ≡ codes ",\"name\":\"" ++ r3 → r3 ≡ name ++ 34 ∷ r4 → r4 ≡ codes ",\"namespace\":\"" ++ r5
-    → r5 ≡ namespace ++ 34 ∷ r6 → r6 ≡ 125 ∷ [] → line ≡ get_text kind name namespace
-parts_joined line kind name namespace r1 r2 r3 r4 r5 r6 a b c d e f g = rw (a, b, c, d, e, f, g) refl
-
-same_by : (found : Bool) (xs ys : List ℕ) → pointwise nat_eq xs ys ≡ found → not found ≡ false → xs ≡ ys
-same_by true xs ys is same = (bytes_eq-Decides xs ys).0 is
-same_by false xs ys is same = absurd cc
-
-pub not_apart : (xs ys zs : List ℕ) (apart : Bool) → apart ≡ not (pointwise nat_eq xs ys) → apart ≡ false → ys ≡ zs → xs ≡ zs
-not_apart xs ys zs apart is same last = same_by _ xs ys refl (sym is ∙ same) ∙ last
+pub parts_joined : (line kind name namespace r1 r2 r3 r4 r5 : List ℕ) → line ≡ codes "{\"do\":\"get\",\"kind\":\"" ++ r1 → r1 ≡ kind ++ 34 ∷ r2 → r2 ≡ codes ",\"name\":\"" ++ r3 → r3 ≡ name ++ 34 ∷ r4 → r4 ≡ codes ",\"namespace\":\"" ++ r5
+    → r5 ≡ namespace ++ codes "\"}" → line ≡ get_text kind name namespace
+parts_joined line kind name namespace r1 r2 r3 r4 r5 a b c d e f = rw (a, b, c, d, e, f) refl

@@ -22,11 +22,10 @@ ghost use Rattle.plain.specs.Requests.{request_of};
 
 use crate::lines::line_reader::LineReader;
 use crate::lines::verb::Verb;
-use compact::Tables;
+use compact::{Tables, plain_end};
 use compact_drafts::{CompactDraft, as_text, kind_named, text_of};
 use compact_prints::draft_of_line;
 use compact_writes::{create, update, update_status};
-use memchr::memchr;
 use objects::{Key, Kind, Memory, Printer, ReadError};
 use plain_store::{Plain, PrintedReply};
 use std::alloc::{AllocError, Global};
@@ -120,10 +119,7 @@ fn named_by(line: &[u8]) -> Option<Named<'_>>
     let rest = rest.strip_prefix(b",\"name\":\"")?;
     let (name, rest) = split_at_quote(rest)?;
     let rest = rest.strip_prefix(b",\"namespace\":\"")?;
-    let (namespace, rest) = split_at_quote(rest)?;
-    if rest != b"}".as_slice() {
-        return None;
-    }
+    let namespace = rest.strip_suffix(b"\"}")?;
     let kind = kind_named(kind)?;
     let name = as_text(name)?;
     let namespace = as_text(namespace)?;
@@ -134,10 +130,11 @@ fn named_by(line: &[u8]) -> Option<Named<'_>>
     })
 }
 
-// What stands before the first quotation mark, and behind it.
+// What stands before the first quotation mark, and behind it, unless a backslash or a control byte comes first.
 fn split_at_quote(bytes: &[u8]) -> Option<(&[u8], &[u8])>
     ensures { IfSome result (λ p. bytes.now ≡ p.0.now ++ 34 ∷ p.1.now) }
 {
-    let at = memchr(b'"', bytes)?;
-    Some((&bytes[..at], &bytes[at + 1..]))
+    let (before, rest) = bytes.split_at(plain_end(bytes));
+    let behind = rest.strip_prefix(b"\"")?;
+    Some((before, behind))
 }

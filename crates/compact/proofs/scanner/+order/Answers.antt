@@ -1,10 +1,10 @@
-use Rattle.std.proofs.Common.{rules, ◌≡◌, ◌∙◌, ◌+◌, ◌-◌, ◌≤◌, [], length, refl, subst, sym, ap, arith}
+use Rattle.std.proofs.Common.{rules, ◌≡◌, ◌∙◌, ◌+◌, ◌-◌, ◌≤◌, ◌++◌, ◌∷◌, [], length, refl, subst, sym, ap, arith}
 use borrow.Rule.Slice.PartMut.{mid_of}
 use Rattle.compact.specs.Ended.{ended_text, ended_member}
 use Rattle.compact.specs.Levels.{below}
 use Rattle.compact.specs.Notes.{entries_of, IsNoted}
 use Rattle.compact.specs.Ordered.{IsOrdered}
-use Rattle.compact.proofs.Entries.{slot_text, slot_size, slot_entries, entries_count}
+use Rattle.compact.proofs.Entries.{entry_is, slot_text, slot_size, slot_entries, entries_count}
 use Rattle.compact.proofs.Items.{no_item_is, items_end, item_passed}
 use Rattle.compact.proofs.Values.{scalar_is, plain_is, list_is, map_is, member_is}
 use Rattle.compact.proofs.Maps.{no_member_is, members_begin, read_member, next_state, members_end}
@@ -67,7 +67,7 @@ members_end-returns-then-byte-eq125-clause-ordered t c =
     let h = place.slot in
     let end_is : c.in_ok-index.start + length (ended_text h.above) + (c.in_ok-key.size + 1) ≡ c.members.at + c.in_ok-key.size + 1 = omega (arith, slot_size r.k s.ms c.in_ok-index.index c.in_ok-index.start c.members.at h s.at_is) in
     let moved = c.in-Ok.ensures (ended_text h.below) (ended_text h.above) (ended_member r.k r.d) after (slot_text r.k s.ms c.in_ok-index.index c.in_ok-index.start h _ _ r.text_is) h.start_is r.long end_is in
-    let entries = c.insert.ensures (entries_of h.below) (entries_of h.above) (slot_entries r.k s.ms c.in_ok-index.index c.in_ok-index.start h _ s.entries_are) (entries_count h.below ∙ h.index_is) in
+    let entries = c.insert.ensures (entries_of h.below) (entries_of h.above) (slot_entries r.k s.ms c.in_ok-index.index c.in_ok-index.start h _ s.entries_are) (entries_count h.below ∙ h.index_is) ∙ ap (λ e. entries_of h.below ++ e ∷ entries_of h.above) (entry_is c.in_ok-entry.entry c.in_ok-key.key (c.in_ok-key.size + 1) c.in_ok-entry.ensures.0 c.in_ok-entry.ensures.1) in
     members_end c.args.depth c.args.level c.args.scanner.now.tables c.members.scanner.tables c.member_end.new.scanner.tables c.keep-then-byte-eq125.new.self.tables c.args.text.now c.members.text _ c.move_back.new.text after c.members.table c.insert.new.self c.members.at c.in_ok-key.key c.in_ok-key.size c.in_ok-index.index c.in_ok-index.start c.in_ok-byte.byte.now s r h place.last_of c.if-byte-eq125.true moved entries c.keep-then-byte-eq125.ensures
 
 pub members_end-members-preserved : goal.members_end-members-preserved
@@ -79,7 +79,7 @@ members_end-members-preserved t c =
     let h = place.slot in
     let end_is : c.in_ok-index.start + length (ended_text h.above) + (c.in_ok-key.size + 1) ≡ c.members.at + c.in_ok-key.size + 1 = omega (arith, slot_size r.k s.ms c.in_ok-index.index c.in_ok-index.start c.members.at h s.at_is) in
     let moved = c.in-Ok.ensures (ended_text h.below) (ended_text h.above) (ended_member r.k r.d) after (slot_text r.k s.ms c.in_ok-index.index c.in_ok-index.start h _ _ r.text_is) h.start_is r.long end_is in
-    let entries = c.insert.ensures (entries_of h.below) (entries_of h.above) (slot_entries r.k s.ms c.in_ok-index.index c.in_ok-index.start h _ s.entries_are) (entries_count h.below ∙ h.index_is) in
+    let entries = c.insert.ensures (entries_of h.below) (entries_of h.above) (slot_entries r.k s.ms c.in_ok-index.index c.in_ok-index.start h _ s.entries_are) (entries_count h.below ∙ h.index_is) ∙ ap (λ e. entries_of h.below ++ e ∷ entries_of h.above) (entry_is c.in_ok-entry.entry c.in_ok-key.key (c.in_ok-key.size + 1) c.in_ok-entry.ensures.0 c.in_ok-entry.ensures.1) in
     record {
       state = next_state c.args.depth c.args.level c.args.scanner.now.tables c.members.scanner.tables c.member_end.new.scanner.tables c.args.text.now c.members.text _ c.move_back.new.text after c.members.table c.insert.new.self c.members.at c.in_ok-key.key c.in_ok-key.size c.in_ok-index.index c.in_ok-index.start c.in_ok-byte.byte.now s r h place.last_of c.if-byte-ne44.false moved entries;
       within = search rules;
