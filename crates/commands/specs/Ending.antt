@@ -2,6 +2,7 @@
 use Rattle.std.specs.Prelude.{◌≡◌, ◌≢◌, ◌⊎◌, ◌≤◌, ◌<◌, ℕ, Bool, true, false, zero, suc, List, Option, Some, None, codes, map}
 use Rattle.std.specs.List.{All, AllPairs, Contains, slice_get}
 use Rattle.controller_outcomes.specs.Progress.{HasManyStates}
+use Rattle.controller_outcomes.specs.declared.race.Move.{Move}
 use Rattle.controller_outcomes.specs.Races.{IsFinal, IsWhole, shown_after}
 use Rattle.controller_outcomes.specs.declared.race.FinalStore.{FinalStore}
 use Rattle.controller_outcomes.specs.declared.race.Race.{Race}
@@ -20,7 +21,7 @@ shown_in found = map (λ f. f.shown.items) found
 -- twice.
 pub record AreFinals (race : Race) (found : List FinalStore) : Type 0 where
   pub each : All (IsFinal race) found
-  pub all : (order : List ℕ) → IsWhole race order → Contains (shown_in found) (shown_after race order)
+  pub all : (order : List Move) → IsWhole race order → Contains (shown_in found) (shown_after race order)
   pub once : AllPairs (λ x y. x ≢ y) (shown_in found)
 
 -- the lines of all, without versions and UIDs where the words of the command line ask for it

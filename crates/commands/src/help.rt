@@ -108,6 +108,7 @@ Whole input of `stsctl outcomes --final < FILE`, of two controllers that make a 
 {"controller":{"name":"web"},"rounds":1}
 {"controller":{"name":"web"},"rounds":1}
 They leave the set and its revision, or a pod too
+With "crash":true in its line a controller may crash once, and begins its round anew
 
 Exit status:
   0  all was answered

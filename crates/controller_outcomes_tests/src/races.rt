@@ -1,7 +1,8 @@
 //! Races of two controllers of one set of two replicas. A round over a new set makes its revision, and nothing else; the next
 //! one makes `web-0`, and then writes the status. So where each makes one round, and both list the revisions before there is
-//! one, the store is left at 2 with no pod; where one comes after the other, at 4 with a pod. An independent model of
-//! controllers and of the store finds these two as well.
+//! one, the store is left at 2 with no pod; where one comes after the other, at 4 with a pod. So it is with one controller that
+//! crashes where it has called the create of the revision: the round that it makes anew finds the revision, or does not. An
+//! independent model of controllers and of the store finds these two as well.
 use controller_outcomes::{FinalStore, OutcomesError, Race, Racer, final_stores};
 use controllers::SetSpec;
 use objects::{Kind, Memory, Text};
@@ -38,16 +39,20 @@ fn beginning(alloc: Global) -> Result<Vec<Request>, Memory> {
     Ok(beginning)
 }
 
-fn racer(alloc: Global, rounds: u64) -> Result<Racer, Memory> {
+fn racer(alloc: Global, rounds: u64, may_crash: bool) -> Result<Racer, Memory> {
     let set = set(alloc)?;
-    Ok(Racer { set, rounds })
+    Ok(Racer {
+        set,
+        rounds,
+        may_crash,
+    })
 }
 
-/// Two controllers, which make so many rounds each.
-fn racers(alloc: Global, first: u64, second: u64) -> Result<Vec<Racer>, Memory> {
+/// Two controllers, which make so many rounds each. The first may crash, or not.
+fn racers(alloc: Global, first: u64, second: u64, may_crash: bool) -> Result<Vec<Racer>, Memory> {
     let mut racers = Vec::new(alloc);
-    racers.push(racer(alloc, first)?)?;
-    racers.push(racer(alloc, second)?)?;
+    racers.push(racer(alloc, first, may_crash)?)?;
+    racers.push(racer(alloc, second, false)?)?;
     Ok(racers)
 }
 
@@ -60,9 +65,9 @@ fn looks(alloc: Global) -> Result<Vec<Request>, Memory> {
     Ok(looks)
 }
 
-fn race(alloc: Global, first: u64, second: u64) -> Result<Race, Memory> {
+fn race(alloc: Global, first: u64, second: u64, may_crash: bool) -> Result<Race, Memory> {
     let beginning = beginning(alloc)?;
-    let racers = racers(alloc, first, second)?;
+    let racers = racers(alloc, first, second, may_crash)?;
     let looks = looks(alloc)?;
     Ok(Race {
         capacity: 100,
@@ -72,8 +77,13 @@ fn race(alloc: Global, first: u64, second: u64) -> Result<Race, Memory> {
     })
 }
 
-fn found(alloc: Global, first: u64, second: u64) -> Result<Vec<FinalStore>, OutcomesError> {
-    let race = race(alloc, first, second)?;
+fn found(
+    alloc: Global,
+    first: u64,
+    second: u64,
+    may_crash: bool,
+) -> Result<Vec<FinalStore>, OutcomesError> {
+    let race = race(alloc, first, second, may_crash)?;
     let found = final_stores(alloc, &race);
     drop(race);
     found
@@ -98,7 +108,7 @@ fn has(found: &[FinalStore], wanted: (usize, u64)) -> bool {
 
 #[test]
 fn one_round_ends_in_two_stores(rt: HostRuntime) {
-    let found = found(rt.alloc(), 1, 1).expect(&rt, "the search ends");
+    let found = found(rt.alloc(), 1, 1, false).expect(&rt, "the search ends");
     assert!(rt; found.len() == 2);
     assert!(rt; has(found.as_slice(), (0, 2)));
     assert!(rt; has(found.as_slice(), (1, 4)));
@@ -106,14 +116,22 @@ fn one_round_ends_in_two_stores(rt: HostRuntime) {
 
 #[test]
 fn no_rounds_leave_the_beginning(rt: HostRuntime) {
-    let found = found(rt.alloc(), 0, 0).expect(&rt, "the search ends");
+    let found = found(rt.alloc(), 0, 0, false).expect(&rt, "the search ends");
     assert!(rt; found.len() == 1);
     assert!(rt; has(found.as_slice(), (0, 1)));
 }
 
 #[test]
 fn one_round_of_one_controller_makes_the_revision(rt: HostRuntime) {
-    let found = found(rt.alloc(), 0, 1).expect(&rt, "the search ends");
+    let found = found(rt.alloc(), 0, 1, false).expect(&rt, "the search ends");
     assert!(rt; found.len() == 1);
     assert!(rt; has(found.as_slice(), (0, 2)));
+}
+
+#[test]
+fn a_round_that_crashes_ends_in_two_stores(rt: HostRuntime) {
+    let found = found(rt.alloc(), 1, 0, true).expect(&rt, "the search ends");
+    assert!(rt; found.len() == 2);
+    assert!(rt; has(found.as_slice(), (0, 2)));
+    assert!(rt; has(found.as_slice(), (1, 4)));
 }

@@ -1,6 +1,6 @@
 -- The race of controllers that a text is: its first line has the capacity of the store, and each other line is a request before
 -- anybody races, or a controller that races.
-use Rattle.std.specs.Prelude.{ℕ, is_some, List, [], ◌∷◌, ◌++◌, codes, map, Option, Some, None, option_map, if◌then◌else◌}
+use Rattle.std.specs.Prelude.{ℕ, Bool, true, false, is_some, List, [], ◌∷◌, ◌++◌, codes, map, Option, Some, None, option_map, if◌then◌else◌}
 use Rattle.serde_json.specs.Data.{Members}
 use Rattle.serde_json.specs.Find.{get_member}
 use Rattle.plain.specs.Lines.{lines}
@@ -13,15 +13,16 @@ use Rattle.outcome_lines.specs.declared.line.Line.{Line}
 use Rattle.outcome_lines.specs.declared.line.Line.TheVariants.{Before, Race as Asks}
 use Rattle.outcome_lines.specs.declared.race_line.RaceLine.{RaceLine}
 use Rattle.outcome_lines.specs.declared.race_line.RaceLine.TheVariants as line
-use Rattle.outcome_lines.specs.Litmus.{line_in}
+use Rattle.outcome_lines.specs.Litmus.{crash_in, line_in}
 
 -- what a `Racer` says
 pub record RacerParts : Type 0 where
   pub set : SetParts
   pub rounds : ℕ
+  pub may_crash : Bool
 
 abbrev pub racer_parts : Racer → RacerParts
-racer_parts r = record { set = set_parts r.set; rounds = r.rounds }
+racer_parts r = record { set = set_parts r.set; rounds = r.rounds; may_crash = r.may_crash }
 
 -- a race by its lists
 pub record RaceParts : Type 0 where
@@ -43,13 +44,15 @@ abbrev pub line_parts : RaceLine → LineParts
 line_parts (line.Before request) = Begins request
 line_parts (line.Controller racer) = Races (racer_parts racer)
 
--- `{"controller":{"digits":H,"moment":T,"name":N,"namespace":S},"rounds":R}`, the set as a script of a cluster has it
+-- `{"controller":{"digits":H,"moment":T,"name":N,"namespace":S},"crash":B,"rounds":R}`, the set as a script of a cluster has it;
+-- nothing says that it does not crash
 abbrev pub racer_in : Members → Option RacerParts
 racer_in ms = do
   rounds ← count_in (codes "rounds") ms
+  may_crash ← crash_in ms
   controller ← get_member (codes "controller") ms
   set ← set_of controller
-  Some (record { set = set; rounds = rounds })
+  Some (record { set = set; rounds = rounds; may_crash = may_crash })
 
 -- nobody races but controllers
 abbrev pub begun_by : Line → Option LineParts
@@ -72,10 +75,19 @@ abbrev pub with_begun : (racers : List RacerParts) → RaceParts → Request →
 with_begun [] p request = Some (record p { beginning = p.beginning ++ request ∷ [] })
 with_begun (r ∷ racers) p request = None
 
+-- the same controller, started again
+abbrev pub heir_of : RacerParts → RacerParts
+heir_of r = record { set = r.set; rounds = 0; may_crash = false }
+
+-- Behind one that may crash stands the one that takes over.
+abbrev pub heirs_of : (may_crash : Bool) → RacerParts → List RacerParts
+heirs_of true r = heir_of r ∷ []
+heirs_of false r = []
+
 -- The beginning stands before all controllers.
 abbrev pub with_race_line : RaceParts → LineParts → Option RaceParts
 with_race_line p (Begins request) = with_begun p.racers p request
-with_race_line p (Races racer) = Some (record p { racers = p.racers ++ racer ∷ [] })
+with_race_line p (Races racer) = Some (record p { racers = (p.racers ++ racer ∷ []) ++ heirs_of racer.may_crash racer })
 
 abbrev pub with_race_lines : RaceParts → List (List ℕ) → Option RaceParts
 with_race_lines p [] = Some p

@@ -44,7 +44,7 @@ pub(crate) fn line_in(alloc: Global, members: Members) -> Result<Line, ScriptErr
 }
 
 /// Whether the caller crashes within the request; nothing says that it does not.
-fn crash_in(members: &Members) -> Option<bool>
+pub(crate) fn crash_in(members: &Members) -> Option<bool>
     ensures { result ≡ crash_in members.now }
 {
     match members.get("crash") {

@@ -3,7 +3,7 @@ ghost use Rattle.std.specs.Prelude.{◌≡◌};
 ghost use Rattle.outcome_lines.specs.Race.{begun_by, begun_in, line_parts, race_line_in, race_line_of, racer_in, racer_parts};
 ghost use Rattle.replay_lines.specs.Events.{Reads};
 
-use crate::line::{Line, line_in};
+use crate::line::{Line, crash_in, line_in};
 use cluster_scripts::set_of;
 use controller_outcomes::Racer;
 use objects::{Members, TreeReader};
@@ -42,7 +42,7 @@ fn race_line_in(alloc: Global, members: Members) -> Result<RaceLine, ScriptError
     }
 }
 
-/// The controller that a line names, and its rounds.
+/// The controller that a line names, its rounds, and whether it may crash.
 #[tactic(auto, using(replay_lines::proofs::Readings::fails_bind))]
 fn racer_in(alloc: Global, members: &Members) -> Result<Racer, ScriptError>
     ensures { Reads racer_parts result (racer_in members.now) }
@@ -50,11 +50,18 @@ fn racer_in(alloc: Global, members: &Members) -> Result<Racer, ScriptError>
     let Some(rounds) = count_in(members, "rounds") else {
         return Err(ScriptError::BadScript);
     };
+    let Some(may_crash) = crash_in(members) else {
+        return Err(ScriptError::BadScript);
+    };
     let Some(controller) = members.get("controller") else {
         return Err(ScriptError::BadScript);
     };
     let set = set_of(alloc, controller)?;
-    Ok(Racer { set, rounds })
+    Ok(Racer {
+        set,
+        rounds,
+        may_crash,
+    })
 }
 
 /// A request of the beginning, as a line of a litmus test says it.

@@ -1,4 +1,5 @@
-ghost use Rattle.std.specs.Prelude.{◌≡◌, IfOk, Some, map};
+ghost use Rattle.std.specs.Prelude.{◌≡◌, IfOk, Some, false, map};
+ghost use Rattle.cluster_scripts.specs.Sets.{set_parts};
 ghost use Rattle.plain.specs.Lines.{lines};
 ghost use Rattle.outcome_lines.specs.Looks.{looks_of};
 ghost use Rattle.outcome_lines.specs.Race.{line_parts, race_of, race_opened, race_parts, racer_parts, with_begun, with_race_line, with_race_lines};
@@ -8,15 +9,16 @@ ghost use Rattle.replay_lines.specs.Events.{Reads};
 use crate::looks::looks_of;
 use crate::race_line::{RaceLine, read_race_line};
 use controller_outcomes::{Race, Racer};
-use objects::TreeReader;
+use controllers::SetSpec;
+use objects::{Memory, TreeReader};
 use plain::{Request, split_line};
 use replay_lines::{ScriptError, count_in, read_members};
 use std::alloc::Global;
 
 /// The race of controllers that a text is. Its first line is `{"capacity":C}`. Then come lines `{"request":L}`, requests that are
 /// taken in turn before anybody races, L as a request line of `serve`; and then lines `{"controller":S,"rounds":N}`, a
-/// controller of the set S, as a script of `stsctl cluster` names it, which makes N rounds. Other members are passed over, and of
-/// members of one name the last counts. C and N are whole numbers below 2^64; neither is bounded here. What is looked at in the
+/// controller of the set S, as a script of `stsctl cluster` names it, which makes N rounds. With `"crash":true` it may crash once:
+/// behind it stands the one that then takes over. Other members are passed over, and of members of one name the last counts. C and N are whole numbers below 2^64; neither is bounded here. What is looked at in the
 /// end is a list of each kind in each namespace that these lines name.
 ///
 /// # Errors
@@ -73,18 +75,18 @@ fn read_race_lines(
     'lines: while let Some(cut) = split_line(rest) {
         let (line, after) = cut;
         let said = read_race_line(alloc, reader, line)?;
-        race = with_race_line(race, said)?;
+        race = with_race_line(alloc, race, said)?;
         rest = after;
     }
     Ok(race)
 }
 
-fn with_race_line(race: Race, line: RaceLine) -> Result<Race, ScriptError>
+fn with_race_line(alloc: Global, race: Race, line: RaceLine) -> Result<Race, ScriptError>
     ensures { Reads race_parts result (with_race_line (race_parts race) (line_parts line)) }
 {
     match line {
         RaceLine::Before(request) => with_begun(race, request),
-        RaceLine::Controller(racer) => with_racer(race, racer),
+        RaceLine::Controller(racer) => with_racer(alloc, race, racer),
     }
 }
 
@@ -103,13 +105,37 @@ fn with_begun(race: Race, request: Request) -> Result<Race, ScriptError>
     }
 }
 
-/// The race with one more controller.
-fn with_racer(race: Race, racer: Racer) -> Result<Race, ScriptError>
+/// The race with one more controller, and the one that takes over from it.
+fn with_racer(alloc: Global, race: Race, racer: Racer) -> Result<Race, ScriptError>
     ensures { Reads race_parts result (with_race_line (race_parts race) (line_parts (Controller racer))) }
 {
     let mut longer = race;
-    longer.racers.push(racer)?;
+    if racer.may_crash {
+        let heir = heir_of(alloc, &racer.set)?;
+        longer.racers.push(racer)?;
+        longer.racers.push(heir)?;
+    } else {
+        longer.racers.push(racer)?;
+    }
     Ok(longer)
+}
+
+/// The controller of a set, started again.
+fn heir_of(alloc: Global, set: &SetSpec) -> Result<Racer, Memory>
+    ensures { IfOk result (λ heir. racer_parts heir ≡ record { set = set_parts set.now; rounds = 0; may_crash = false }) }
+{
+    let set = SetSpec::new(
+        alloc,
+        set.namespace.as_str(),
+        set.name.as_str(),
+        set.digits,
+        set.moment.as_str(),
+    )?;
+    Ok(Racer {
+        set,
+        rounds: 0,
+        may_crash: false,
+    })
 }
 
 /// The race with what is looked at in the end.

@@ -1,17 +1,18 @@
 // Lines of the script of `stsctl cluster` in which a race goes by an order.
 use cluster_scripts::write_request;
-use controller_outcomes::{Race, Racer};
+use controller_outcomes::{Move, Race, Racer};
 use controllers::SetSpec;
 use json::Writer;
 use plain::{Request, end_line, write_integer_member, write_text_member};
 use std::alloc::{AllocError, Global};
 
 /// The script in which the caller asks the beginning, the controllers ask in that order, each request carried to its reply, and
-/// the caller asks the looks.
+/// the caller asks the looks. A controller that crashes stands still once it has called, as far as the store can tell; a late
+/// write is then carried to its reply.
 pub(crate) fn script_of_race(
     alloc: Global,
     race: &Race,
-    order: &[usize],
+    order: &[Move],
     looker: u64,
 ) -> Result<Vec<u8>, AllocError> {
     let header = put_header(race, Vec::new(alloc))?;
@@ -67,13 +68,23 @@ fn put_ask(caller: u64, request: &Request, out: Vec<u8>) -> Result<Vec<u8>, Allo
     end_line(writer)
 }
 
-fn put_order(order: &[usize], out: Vec<u8>) -> Result<Vec<u8>, AllocError> {
+fn put_order(order: &[Move], out: Vec<u8>) -> Result<Vec<u8>, AllocError> {
     let mut text = out;
-    for controller in order {
-        let called = put_turn("next", *controller, text)?;
-        text = put_turn("run", *controller, called)?;
+    for happens in order {
+        text = put_move(*happens, text)?;
     }
     Ok(text)
+}
+
+fn put_move(happens: Move, out: Vec<u8>) -> Result<Vec<u8>, AllocError> {
+    match happens {
+        Move::Ask(controller) => {
+            let called = put_turn("next", controller, out)?;
+            put_turn("run", controller, called)
+        }
+        Move::Crash(controller) => put_turn("next", controller, out),
+        Move::Late(controller) => put_turn("run", controller, out),
+    }
 }
 
 fn put_turn(event: &str, controller: usize, out: Vec<u8>) -> Result<Vec<u8>, AllocError> {

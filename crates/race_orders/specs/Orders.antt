@@ -1,59 +1,96 @@
--- What one plain store takes of controllers that race, none of which crashes, and how that ends.
-use Rattle.std.specs.Prelude.{◌≡◌, ◌<◌, ◌++◌, ℕ, List, [], ◌∷◌, Option, None, Some, length, slice_get}
-use Rattle.std.specs.List.{AllByRecursion, AllZip}
+-- What one plain store takes of controllers that race, and how that ends. Each racer asks as an incarnation of its own.
+use Rattle.std.specs.Prelude.{◌≡◌, ◌≢◌, ◌<◌, ◌+◌, ◌++◌, ℕ, false, List, [], ◌∷◌, Some, length, slice_get, ⊤}
+use Rattle.std.specs.List.{AllByRecursion}
 use Rattle.plain_store.specs.Run.{after, replies}
-use Rattle.plain_store.specs.Store.{Store, opening, step}
-use Rattle.requests.specs.declared.request.Request.{Request}
-use Rattle.rounds.specs.Phase.{asks}
+use Rattle.plain_store.specs.Store.{Store, opening}
+use Rattle.requests.specs.Verdict.{is_write}
+use Rattle.rounds.specs.declared.event.WholeEvent.{WholeEvent}
+use Rattle.rounds.specs.declared.event.WholeEvent.TheVariants as event
+use Rattle.rounds.specs.Before.{entries_before}
+use Rattle.rounds.specs.Phase.{asks, reading_set}
 use Rattle.rounds.specs.Reconciler.{Reconciler}
-use Rattle.rounds.specs.Transcript.{Entry, requests_of}
+use Rattle.rounds.specs.Transcript.{Entry, Incarnation, requests_of}
+use Rattle.rounds.specs.World.{run, start as idle}
 use Rattle.controllers.specs.Cluster.{reconciler_named}
-use Rattle.controller_outcomes.specs.Races.{Place, System, left_by, moved, sets_of, shown_after, start}
+use Rattle.controller_outcomes.specs.Races.{Place, System, begun, left_by, moved, sets_of, shown_after, start}
+use Rattle.controller_outcomes.specs.declared.race.Move.{Move}
+use Rattle.controller_outcomes.specs.declared.race.Move.TheVariants.{Ask, Crash, Late}
 use Rattle.controller_outcomes.specs.declared.race.Race.{Race}
 
--- the requests of the race's beginning, which no controller asks
-pub record IsBeginning (race : Race) (entries : List Entry) : Type 0 where
-  pub others : AllByRecursion (λ (e : Entry). e.0 ≡ None) entries
-  pub requests : requests_of entries ≡ race.beginning.items
+-- the incarnations as which the racers ask: no two as one, and each of a controller with its reconciler
+pub record AreCast (race : Race) (reconcilers : ℕ → Reconciler) (who : ℕ → Incarnation) : Type 0 where
+  pub made : (n : ℕ) → n < length race.racers.items → reconcilers (who n).controller ≡ reconciler_named (sets_of race) n
+  pub apart : (n m : ℕ) → n < length race.racers.items → m < length race.racers.items → who n ≡ who m → n ≡ m
 
--- a controller of the race asks, which has not crashed
-pub record IsAsked (race : Race) (e : Entry) (controller : ℕ) : Type 0 where
-  pub by : e.0 ≡ Some (record { controller = controller; crashes = 0 })
-  pub there : controller < length race.racers.items
+-- a racer asks
+pub record IsAsked (race : Race) (who : ℕ → Incarnation) (e : Entry) (n : ℕ) : Type 0 where
+  pub by : e.0 ≡ Some (who n)
+  pub there : n < length race.racers.items
 
--- first the beginning, and then what the controllers ask, in this order
-pub record IsRaceIn (race : Race) (entries : List Entry) (order : List ℕ) : Type 0 where
-  pub first : List Entry
+-- the racers ask in that order; a crash asks nothing
+abbrev pub AreAsked : Race → (who : ℕ → Incarnation) → List Entry → (order : List Move) → Type 0
+AreAsked race who entries [] = entries ≡ []
+AreAsked race who entries (Ask n ∷ order) = (first : Entry) × ((rest : List Entry) × ((entries ≡ first ∷ rest) × (IsAsked race who first n × AreAsked race who rest order)))
+AreAsked race who entries (Crash n ∷ order) = AreAsked race who entries order
+AreAsked race who entries (Late n ∷ order) = (first : Entry) × ((rest : List Entry) × ((entries ≡ first ∷ rest) × (IsAsked race who first n × AreAsked race who rest order)))
+
+abbrev pub AreNo : Move → List Move → Type 0
+AreNo m order = AllByRecursion (λ (x : Move). x ≢ m) order
+
+-- A racer that has crashed asks nothing later, and only what it had called, a write, comes late. The one behind it begins a round.
+pub record IsCut (race : Race) (s : System) (n : ℕ) (later : List Move) : Type 0 where
+  pub place : Place
+  pub is : slice_get s.places n ≡ Some place
+  pub heir : Place
+  pub heir_is : slice_get s.places (n + 1) ≡ Some heir
+  pub begins : heir.phase ≡ reading_set
+  pub silent : AreNo (Ask n) later
+  pub writes : is_write (asks (reconciler_named (sets_of race) n) place.phase) ≡ false → AreNo (Late n) later
+
+-- so is each that crashes, and what comes late comes once
+abbrev pub AreCut : Race → System → (order : List Move) → Type 0
+AreCut race s [] = ⊤
+AreCut race s (Ask n ∷ order) = AreCut race (moved (reconciler_named (sets_of race)) s (Ask n)) order
+AreCut race s (Crash n ∷ order) = IsCut race s n order × AreCut race (moved (reconciler_named (sets_of race)) s (Crash n)) order
+AreCut race s (Late n ∷ order) = (AreNo (Ask n) order × AreNo (Late n) order) × AreCut race (moved (reconciler_named (sets_of race)) s (Late n)) order
+
+-- first the beginning, which no controller asks, and then what the racers ask, in this order
+pub record IsRaceIn (race : Race) (who : ℕ → Incarnation) (entries : List Entry) (order : List Move) : Type 0 where
   pub rest : List Entry
-  pub are : entries ≡ first ++ rest
-  pub begins : IsBeginning race first
-  pub asked : AllZip (IsAsked race) rest order
+  pub are : entries ≡ entries_before (opening race.capacity) race.beginning.items ++ rest
+  pub asked : AreAsked race who rest order
+  pub cut : AreCut race (start race) order
 
 -- what the entries leave
 abbrev pub end_of : Race → List Entry → Store
 end_of race entries = after (opening race.capacity) (requests_of entries)
 
 -- the entries leave what the order leaves, so the looks are answered as behind it
-pub record EndsAs (race : Race) (entries : List Entry) (order : List ℕ) : Type 0 where
+pub record EndsAs (race : Race) (entries : List Entry) (order : List Move) : Type 0 where
   pub store : end_of race entries ≡ (left_by race order).store
   pub shown : replies (end_of race entries) race.looks.items ≡ shown_after race order
 
--- ---- what an order asks of a plain store
+-- ---- what an order asks of a plain store, where each racer is a controller of that number
 
--- requests that no controller asks
-abbrev pub of_nobody : Store → List Request → List Entry
-of_nobody s [] = []
-of_nobody s (r ∷ requests) = (None, r, (step s r).1) ∷ of_nobody (step s r).0 requests
+abbrev pub alone : ℕ → Incarnation
+alone n = record { controller = n; crashes = 0 }
 
--- what a controller of that place asks, before the rest
-abbrev pub asked_from : Reconciler → Store → (number : ℕ) → Option Place → (rest : List Entry) → List Entry
-asked_from c s n None rest = rest
-asked_from c s n (Some p) rest = (Some (record { controller = n; crashes = 0 }), asks c p.phase, (step s (asks c p.phase)).1) ∷ rest
+abbrev pub events_of : (order : List Move) → List WholeEvent
+events_of [] = []
+events_of (Ask n ∷ order) = event.Ask n ∷ events_of order
+events_of (Crash n ∷ order) = events_of order
+events_of (Late n ∷ order) = event.Ask n ∷ events_of order
 
-abbrev pub asked_by : (ℕ → Reconciler) → System → (order : List ℕ) → List Entry
-asked_by reconcilers s [] = []
-asked_by reconcilers s (n ∷ order) = asked_from (reconcilers n) s.store n (slice_get s.places n) (asked_by reconcilers (moved reconcilers s n) order)
+-- the beginning, and what the racers ask
+abbrev pub entries_of : Race → (order : List Move) → List Entry
+entries_of race order = entries_before (opening race.capacity) race.beginning.items
+    ++ (run (length race.racers.items) (reconciler_named (sets_of race)) (idle (begun race)) (events_of order)).entries
 
--- the beginning, and what each controller asks in its turn
-abbrev pub entries_of : Race → (order : List ℕ) → List Entry
-entries_of race order = of_nobody (opening race.capacity) race.beginning.items ++ asked_by (reconciler_named (sets_of race)) (start race) order
+-- each move is of a racer that is there
+abbrev pub mover : Move → ℕ
+mover (Ask n) = n
+mover (Crash n) = n
+mover (Late n) = n
+
+abbrev pub AreThere : Race → (order : List Move) → Type 0
+AreThere race order = AllByRecursion (λ (m : Move). mover m < length race.racers.items) order

@@ -4,6 +4,4 @@
 
 mod laws;
 
-pub use laws::{
-    orders_are_transcripts, orders_keep_promises, runs_end_as_orders, transcripts_are_orders,
-};
+pub use laws::{orders_are_transcripts, runs_end_as_orders, transcripts_are_orders};
