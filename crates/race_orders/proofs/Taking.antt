@@ -45,25 +45,23 @@ module _ (race : Race) where
   abbrev entry : World → ℕ → Entry
   entry w n = (Some (incarnation_of w n), asks (rules n) (w.phases n), (step w.store (asks (rules n) (w.phases n))).1)
 
+  -- one more request; it is asked late as it is asked in its turn
+  asked_first : (w : World) (n : ℕ) (order : List Move) → Asks (with_ask rules w n) order → n < count → w.crashes n ≡ 0 → Asks w (Ask n ∷ order)
+  asked_first w n order h lt none =
+      let one : IsAsked race alone (entry w n) n = record { by = ap (λ k. Some (record { controller = n; crashes = k })) none; there = lt } in
+      record {
+        rest = entry w n ∷ h.rest;
+        are = ap (λ t. (run count rules t (events_of order)).entries) (asks_one w n lt) ∙ h.are ∙ append_assoc w.entries (entry w n ∷ []) h.rest;
+        asked = (entry w n, (h.rest, (refl, (one, h.asked))));
+      }
+
   all_asked : (w : World) (order : List Move) → AreThere race order → ((c : ℕ) → w.crashes c ≡ 0) → Asks w order
   all_asked w [] there none = record { rest = []; are = sym (append-nil w.entries); asked = refl }
   all_asked w (Crash n ∷ order) there none = let h = all_asked w order there.1 none in record { rest = h.rest; are = h.are; asked = h.asked }
-  all_asked w (Ask n ∷ order) there none =
-      let h = all_asked (with_ask rules w n) order there.1 none in
-      let one : IsAsked race alone (entry w n) n = record { by = ap (λ k. Some (record { controller = n; crashes = k })) (none n); there = there.0 } in
-      record {
-        rest = entry w n ∷ h.rest;
-        are = ap (λ t. (run count rules t (events_of order)).entries) (asks_one w n there.0) ∙ h.are ∙ append_assoc w.entries (entry w n ∷ []) h.rest;
-        asked = (entry w n, (h.rest, (refl, (one, h.asked))));
-      }
+  all_asked w (Ask n ∷ order) there none = asked_first w n order (all_asked (with_ask rules w n) order there.1 none) there.0 (none n)
   all_asked w (Late n ∷ order) there none =
-      let h = all_asked (with_ask rules w n) order there.1 none in
-      let one : IsAsked race alone (entry w n) n = record { by = ap (λ k. Some (record { controller = n; crashes = k })) (none n); there = there.0 } in
-      record {
-        rest = entry w n ∷ h.rest;
-        are = ap (λ t. (run count rules t (events_of order)).entries) (asks_one w n there.0) ∙ h.are ∙ append_assoc w.entries (entry w n ∷ []) h.rest;
-        asked = (entry w n, (h.rest, (refl, (one, h.asked))));
-      }
+      let h = asked_first w n order (all_asked (with_ask rules w n) order there.1 none) there.0 (none n) in
+      record { rest = h.rest; are = h.are; asked = h.asked }
 
   pub race_in : (order : List Move) → AreThere race order → AreCut race (start race) order → IsRaceIn race alone (entries_of race order) order
   race_in order there cut =

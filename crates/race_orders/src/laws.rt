@@ -18,8 +18,8 @@ ghost use Rattle.rounds.specs.Transcript.{Entry, Incarnation};
 use interleavings::runs_are_linearizable;
 use rounds::runs_keep_promises;
 
-/// Behind the race's beginning, whatever one plain store takes of its controllers is an order of the race: the store ends as that
-/// order leaves it. One that crashed and begins again is a racer of its own, and what was cut off comes late or never. Where
+/// Behind the race's beginning, what one plain store takes of its controllers in an order of the race leaves the store as that
+/// order does. One that crashed and begins again is a racer of its own, and a write that was cut off comes late or never. Where
 /// each controller has made its rounds, `final_stores` finds that end.
 pub fn transcripts_are_orders()
     ensures { (race : Race) (reconcilers : ℕ → Reconciler) (who : ℕ → Incarnation) (entries : List Entry) (order : List Move) → AreCast race reconcilers who
@@ -39,8 +39,8 @@ pub fn orders_are_transcripts()
     runs_keep_promises();
 }
 
-/// Where controllers share the interleaved store, over any shards and however their steps and crashes are mixed: what it takes
-/// in each legal order of its run, behind the race's beginning, is an order of the race, and ends as that does.
+/// Where controllers share the interleaved store, over any shards and however their steps and crashes are mixed: if what it takes
+/// in a legal order of its run, behind the race's beginning, is an order of the race, it ends as that does.
 pub fn runs_end_as_orders()
     ensures { (race : Race) (size : Size) (count : ℕ) (reconcilers : ℕ → Reconciler) (who : ℕ → Incarnation) (events : List ClusterEvent) (places : List ℕ) (order : List Move)
         → 0 < size.shards → 1 ≤ size.capacity → size.capacity ≤ most_revisions → size.capacity ≡ race.capacity → AreCast race reconcilers who
