@@ -1,2 +1,6 @@
+mod Asking
+mod Behind
+mod Sparing
 mod Taken
 mod Taking
+mod Wholes

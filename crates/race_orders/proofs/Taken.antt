@@ -25,12 +25,12 @@ use Rattle.outcomes.proofs.Told.{get_there, mapped_from}
 use Rattle.race_orders.specs.Orders.{AreAsked, AreCast, AreCut, AreNo, EndsAs, IsAsked, IsCut, IsRaceIn, end_of}
 
 -- ---- one place of a list is written
-written_here : (ps : List Place) (n : ℕ) (p q : Place) → slice_get (slice_set ps n p) n ≡ Some q → q ≡ p
+pub written_here : (ps : List Place) (n : ℕ) (p q : Place) → slice_get (slice_set ps n p) n ≡ Some q → q ≡ p
 written_here [] n p q is = absurd cc
 written_here (x ∷ ps) zero p q is = cc
 written_here (x ∷ ps) (suc n) p q is = written_here ps n p q is
 
-written_elsewhere : (ps : List Place) (n m : ℕ) (p q : Place) → m ≢ n → slice_get (slice_set ps n p) m ≡ Some q → slice_get ps m ≡ Some q
+pub written_elsewhere : (ps : List Place) (n m : ℕ) (p q : Place) → m ≢ n → slice_get (slice_set ps n p) m ≡ Some q → slice_get ps m ≡ Some q
 written_elsewhere [] n m p q apart is = absurd cc
 written_elsewhere (x ∷ ps) zero zero p q apart is = absurd (apart refl)
 written_elsewhere (x ∷ ps) zero (suc m) p q apart is = is

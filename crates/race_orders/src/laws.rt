@@ -1,4 +1,4 @@
-ghost use Rattle.std.specs.Prelude.{◌≡◌, ◌≤◌, ◌<◌, ℕ, List};
+ghost use Rattle.std.specs.Prelude.{◌≡◌, ◌≤◌, ◌<◌, ℕ, List, Some};
 ghost use Rattle.cluster_runs.specs.declared.event.ClusterEvent.{ClusterEvent};
 ghost use Rattle.cluster_runs.specs.Cluster.{run, start};
 ghost use Rattle.cluster_runs.specs.Ordered.{entries_in};
@@ -6,16 +6,23 @@ ghost use Rattle.controller_outcomes.specs.Races.{sets_of, start as start_of};
 ghost use Rattle.controller_outcomes.specs.declared.race.Move.{Move};
 ghost use Rattle.controller_outcomes.specs.declared.race.Race.{Race};
 ghost use Rattle.controllers.specs.Cluster.{reconciler_named};
+ghost use Rattle.interleavings.specs.declared.event.Event.{Event};
 ghost use Rattle.interleavings.specs.Linearization.{IsLegal};
 ghost use Rattle.interleavings.specs.Trace.{trace};
 ghost use Rattle.interleavings.specs.World.{Size};
+ghost use Rattle.outcomes.specs.Outcomes.{exchanges_by};
 ghost use Rattle.plain_store.specs.Reached.{most_revisions};
+ghost use Rattle.plain_store.specs.Run.{after};
+ghost use Rattle.plain_store.specs.Store.{opening};
 ghost use Rattle.race_orders.specs.Orders.{AreCast, AreCut, AreThere, EndsAs, IsRaceIn, alone, entries_of};
+ghost use Rattle.race_orders.specs.Runs.{Asks, ComesBehind, IsEndOf, IsRunOf};
+ghost use Rattle.rounds.specs.Phase.{reading_set};
 ghost use Rattle.rounds.specs.Promises.{IsTranscript, KeepsPromises};
 ghost use Rattle.rounds.specs.Reconciler.{Reconciler};
 ghost use Rattle.rounds.specs.Transcript.{Entry, Incarnation};
 
 use interleavings::runs_are_linearizable;
+use plain_store::reads_change_nothing;
 use rounds::runs_keep_promises;
 
 /// Behind the race's beginning, what one plain store takes of its controllers in an order of the race leaves the store as that
@@ -47,6 +54,32 @@ pub fn runs_end_as_orders()
         → let cluster = run size count reconcilers (start count) events in
         IsLegal size.capacity (trace size cluster.events) places
         → IsRaceIn race who (entries_in size cluster places) order → EndsAs race (entries_in size cluster places) order }
+{
+    runs_are_linearizable();
+}
+
+/// Where racers ask the interleaved store, over any shards and however their steps are mixed, make their rounds, and crash at any
+/// moment where they may: in each legal order of the run, the store ends as it does in an order of the race in which each makes
+/// its rounds. So `final_stores` finds that end.
+pub fn races_end_as_whole_orders()
+    ensures { (race : Race) (size : Size) (events : List Event) (places : List ℕ) (beginner : ℕ) (callers : ℕ → ℕ)
+        → 0 < size.shards → size.capacity ≡ race.capacity → (legal : IsLegal size.capacity (trace size events) places)
+        → IsRunOf race (trace size events) beginner callers → IsEndOf race (after (opening race.capacity) legal.requests) }
+{
+    runs_are_linearizable();
+    reads_change_nothing();
+}
+
+/// Controllers of a cluster ask as racers do. Each incarnation asks what its controller has it ask, by what it was told before;
+/// and one that is started again calls nothing before the last reply to what it was before it crashed.
+pub fn controllers_ask_as_racers()
+    ensures asked { (size : Size) (count : ℕ) (reconcilers : ℕ → Reconciler) (events : List ClusterEvent) (n : ℕ) (one : Incarnation) → 0 < size.shards
+        → let cluster = run size count reconcilers (start count) events in
+        cluster.incarnations n ≡ Some one → Asks (reconcilers one.controller) reading_set (exchanges_by n (trace size cluster.events)) }
+    ensures behind { (size : Size) (count : ℕ) (reconcilers : ℕ → Reconciler) (events : List ClusterEvent) (n m : ℕ) (one later : Incarnation) → 0 < size.shards
+        → let cluster = run size count reconcilers (start count) events in
+        cluster.incarnations n ≡ Some one → cluster.incarnations m ≡ Some later → one.controller ≡ later.controller → one.crashes < later.crashes
+        → ComesBehind (trace size cluster.events) n m }
 {
     runs_are_linearizable();
 }

@@ -4,4 +4,7 @@
 
 mod laws;
 
-pub use laws::{orders_are_transcripts, runs_end_as_orders, transcripts_are_orders};
+pub use laws::{
+    controllers_ask_as_racers, orders_are_transcripts, races_end_as_whole_orders,
+    runs_end_as_orders, transcripts_are_orders,
+};
