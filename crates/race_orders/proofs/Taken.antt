@@ -1,12 +1,12 @@
 -- What is taken of racers goes as their order does.
-use Rattle.std.proofs.Common.{◌≡◌, ◌≢◌, ◌<◌, ◌+◌, ◌++◌, ◌==◌, ℕ, zero, suc, Bool, true, false, cond, nat_eq, List, [], ◌∷◌, Some, length, get_or, refl, sym, ap, subst, ◌∙◌, arith}
+use Rattle.std.proofs.Common.{◌≡◌, ◌≢◌, ◌<◌, ◌+◌, ◌++◌, ◌==◌, ℕ, zero, suc, Bool, true, false, cond, List, [], ◌∷◌, Some, length, get_or, refl, sym, ap, subst, ◌∙◌, arith}
 use Rattle.std.specs.Prelude.{slice_set}
 use Rattle.std.specs.List.{slice_get}
 use Rattle.std.proofs.lemmas.Bool.{and_parts, eqb-true}
-use Rattle.std.proofs.lemmas.Bool.Decides.{Decides-eqb}
 use Rattle.std.proofs.lemmas.List.{length-map, length-set}
 use Rattle.requests.specs.Verdict.{is_write}
 use Rattle.requests.specs.declared.request.Request.{Request}
+use Rattle.interleavings.proofs.Basics.{Compared, same, other, compare}
 use Rattle.plain_store.specs.Run.{after, replies}
 use Rattle.plain_store.specs.Store.{Store, opening, step}
 use Rattle.rounds.specs.Before.{entries_before}
@@ -17,7 +17,7 @@ use Rattle.rounds.specs.Reconciler.{Reconciler}
 use Rattle.rounds.specs.Transcript.{Entry, Incarnation, is_by, of_incarnation, requests_of}
 use Rattle.rounds.proofs.Entries.{IsStepwise, own_incarnation, stepwise}
 use Rattle.controllers.specs.Cluster.{reconciler_named}
-use Rattle.controller_outcomes.specs.Races.{Place, System, crashed_from, cut_off, first_place, gone, left_by, moved, passed, sets_of, start, taking_over, turned_from}
+use Rattle.controller_outcomes.specs.Races.{Place, System, at_rest, crashed_from, cut_off, first_place, gone, left_by, moved, passed, sets_of, start, taking_over, turned_from}
 use Rattle.controller_outcomes.specs.declared.race.Move.{Move}
 use Rattle.controller_outcomes.specs.declared.race.Move.TheVariants.{Ask, Crash, Late}
 use Rattle.controller_outcomes.specs.declared.race.Race.{Race}
@@ -25,12 +25,12 @@ use Rattle.outcomes.proofs.Told.{get_there, mapped_from}
 use Rattle.race_orders.specs.Orders.{AreAsked, AreCast, AreCut, AreNo, EndsAs, IsAsked, IsCut, IsRaceIn, end_of}
 
 -- ---- one place of a list is written
-pub written_here : (ps : List Place) (n : ℕ) (p q : Place) → slice_get (slice_set ps n p) n ≡ Some q → q ≡ p
+written_here : (ps : List Place) (n : ℕ) (p q : Place) → slice_get (slice_set ps n p) n ≡ Some q → q ≡ p
 written_here [] n p q is = absurd cc
 written_here (x ∷ ps) zero p q is = cc
 written_here (x ∷ ps) (suc n) p q is = written_here ps n p q is
 
-pub written_elsewhere : (ps : List Place) (n m : ℕ) (p q : Place) → m ≢ n → slice_get (slice_set ps n p) m ≡ Some q → slice_get ps m ≡ Some q
+written_elsewhere : (ps : List Place) (n m : ℕ) (p q : Place) → m ≢ n → slice_get (slice_set ps n p) m ≡ Some q → slice_get ps m ≡ Some q
 written_elsewhere [] n m p q apart is = absurd cc
 written_elsewhere (x ∷ ps) zero zero p q apart is = absurd (apart refl)
 written_elsewhere (x ∷ ps) zero (suc m) p q apart is = is
@@ -41,6 +41,17 @@ inside : (ps : List Place) (n : ℕ) (p : Place) → slice_get ps n ≡ Some p �
 inside [] n p is = absurd cc
 inside (x ∷ ps) zero p is = omega arith
 inside (x ∷ ps) (suc n) p is = let less = inside ps n p is in omega (arith, less)
+
+-- what is so of each racer is so with a place written anew
+pub by_place : (P : ℕ → Place → Type 0) (places : List Place) (n : ℕ) (q : Place) → P n q → ((m : ℕ) (x : Place) → m ≢ n → slice_get places m ≡ Some x → P m x)
+    → (m : ℕ) (x : Place) → slice_get (slice_set places n q) m ≡ Some x → P m x
+by_place P places n q here there m x at = go (compare m n)
+  where
+    go : Compared m n → P m x
+    go (same e b) =
+        let it : x ≡ q = written_here places n q x (ap (slice_get (slice_set places n q)) (sym e) ∙ at) in
+        subst (λ k. P k x) (sym e) (subst (P n) (sym it) here)
+    go (other ne b) = there m x ne (written_elsewhere places n m q x ne at)
 
 -- ---- the beginning comes first
 after_before : (s : Store) (requests : List Request) (rest : List Entry) → after s (requests_of (entries_before s requests ++ rest)) ≡ after (after s requests) (requests_of rest)
@@ -56,11 +67,11 @@ own_behind who s [] rest = refl
 own_behind who s (r ∷ requests) rest = own_behind who (step s r).0 requests rest
 
 -- ---- whose an entry is
-same_incarnation : (one other : Incarnation) → is_by one (Some other) ≡ true → one ≡ other
-same_incarnation one other is =
-    let parts = and_parts (one.controller == other.controller) (one.crashes == other.crashes) is in
-    let controller : one.controller ≡ other.controller = eqb-true _ _ parts.0 in
-    let crashes : one.crashes ≡ other.crashes = eqb-true _ _ parts.1 in
+same_incarnation : (one two : Incarnation) → is_by one (Some two) ≡ true → one ≡ two
+same_incarnation one two is =
+    let parts = and_parts (one.controller == two.controller) (one.crashes == two.crashes) is in
+    let controller : one.controller ≡ two.controller = eqb-true _ _ parts.0 in
+    let crashes : one.crashes ≡ two.crashes = eqb-true _ _ parts.1 in
     λ j. record { controller = controller j; crashes = crashes j }
 
 module _ (race : Race) (reconcilers : ℕ → Reconciler) (who : ℕ → Incarnation) (cast : AreCast race reconcilers who) where
@@ -103,23 +114,6 @@ module _ (race : Race) (reconcilers : ℕ → Reconciler) (who : ℕ → Incarna
   abbrev AreFollowed : List Entry → List Place → Type 0
   AreFollowed entries places = (n : ℕ) (p : Place) → n < count → slice_get places n ≡ Some p → Follows (rules n) p.phase (of_incarnation (who n) entries)
 
-  nowhere : Place
-  nowhere = record { phase = reading_set; left = 0; may_crash = false; late = false }
-
-  -- what is so of each racer is so with a place written anew
-  by_place : (P : ℕ → Place → Type 0) (places : List Place) (n : ℕ) (q : Place) → P n q → ((m : ℕ) (x : Place) → m ≢ n → slice_get places m ≡ Some x → P m x)
-      → (m : ℕ) (x : Place) → slice_get (slice_set places n q) m ≡ Some x → P m x
-  by_place P places n q here there m x at = go (nat_eq m n) refl
-    where
-      go : (b : Bool) → nat_eq m n ≡ b → P m x
-      go true same =
-          let one : m ≡ n = (Decides-eqb m n).0 same in
-          let it : x ≡ q = written_here places n q x (ap (slice_get (slice_set places n q)) (sym one) ∙ at) in
-          subst (λ k. P k x) (sym one) (subst (P n) (sym it) here)
-      go false other =
-          let apart : m ≢ n = λ same. let no : true ≡ false = sym ((Decides-eqb m n).1 same) ∙ other in absurd cc in
-          there m x apart (written_elsewhere places n m q x apart at)
-
   -- behind an entry of a racer, which then stands elsewhere
   followed_on : (e : Entry) (entries : List Entry) (places : List Place) (n : ℕ) (q : Place) → n < count → e.0 ≡ Some (who n) → Follows (rules n) q.phase (of_incarnation (who n) entries)
       → AreFollowed (e ∷ entries) places → AreFollowed entries (slice_set places n q)
@@ -143,13 +137,13 @@ module _ (race : Race) (reconcilers : ℕ → Reconciler) (who : ℕ → Incarna
       })
     where
       p : Place
-      p = get_or s.places n nowhere
+      p = get_or s.places n at_rest
 
       next : Phase
       next = takes (rules n) p.phase (step s.store (asks (rules n) p.phase)).1
 
       there : slice_get s.places n ≡ Some p
-      there = get_there s.places n nowhere (let less = one.there in omega (arith, less, many))
+      there = get_there s.places n at_rest (let less = one.there in omega (arith, less, many))
 
       own : Follows (rules n) p.phase ((e.1, e.2) ∷ of_incarnation (who n) entries)
       own = subst (Follows (rules n) p.phase) (own_here n e entries one.by) (followed n p one.there there)

@@ -1,8 +1,9 @@
 -- Racers that go by their controllers' rules, make their rounds and crash where they may, leave the store as a whole order does.
-use Rattle.std.proofs.Common.{◌≡◌, ◌≢◌, ◌<◌, ◌≤◌, ◌+◌, ◌⊎◌, inl, inr, ℕ, zero, suc, Bool, true, false, List, [], ◌∷◌, Option, Some, None, length, get_or, add-one, refl, sym, ap, subst, ◌∙◌, arith}
+use Rattle.std.proofs.Common.{◌≡◌, ◌≢◌, ◌<◌, ◌≤◌, ◌+◌, ◌⊎◌, inl, inr, ℕ, zero, suc, Bool, true, false, List, [], ◌∷◌, Option, Some, None, length, get_or, add-one, refl, sym, ap, subst, ◌∙◌, true≢false, arith}
 use Rattle.std.specs.Prelude.{slice_set}
 use Rattle.std.specs.List.{AllByRecursion, slice_get}
 use Rattle.std.proofs.lemmas.List.{length-map, length-set}
+use Rattle.std.proofs.lemmas.Option.{same_Some}
 use Rattle.requests.specs.Verdict.{is_write}
 use Rattle.requests.specs.declared.request.Request.{Request}
 use Rattle.requests.specs.declared.reply.Reply.{Reply}
@@ -24,7 +25,7 @@ use Rattle.controller_outcomes.specs.declared.race.Race.{Race}
 use Rattle.controller_outcomes.specs.declared.race.Racer.{Racer}
 use Rattle.race_orders.specs.Runs.{ByReply, ComesBehind, Goes, IsCrash, IsRunOf, WasBefore, takes_over}
 use Rattle.race_orders.proofs.Sparing.{Spares, reads, spares_now, spares_on}
-use Rattle.race_orders.proofs.Taken.{written_elsewhere, written_here}
+use Rattle.race_orders.proofs.Taken.{by_place}
 use Rattle.outcomes.proofs.Walked.{AreTaken, IsNext}
 
 -- ---- lists
@@ -32,9 +33,6 @@ use Rattle.outcomes.proofs.Walked.{AreTaken, IsNext}
 all_there : {A : Type 0} (P : A → Type 0) (xs : List A) → ((n : ℕ) (x : A) → slice_get xs n ≡ Some x → P x) → AllByRecursion P xs
 all_there P [] each = tt
 all_there P (x ∷ xs) each = (each 0 x refl, all_there P xs (λ n y is. each (suc n) y is))
-
-get_apart : {A : Type 0} (x y : A) (o : Option A) → o ≡ Some x → o ≡ Some y → x ≡ y
-get_apart x y o is also = let one : Some x ≡ Some y = sym is ∙ also in cc
 
 -- ---- what a racer goes through
 
@@ -109,25 +107,11 @@ module _ (race : Race) (items : List Item) (beginner : ℕ) (callers : ℕ → �
     many : length t.places ≡ count
     standing : AreStanding away left t.places
 
-  nowhere : Place
-  nowhere = at_rest
-
   abbrev place_at : System → ℕ → Place
-  place_at t n = get_or t.places n nowhere
+  place_at t n = get_or t.places n at_rest
 
   there : (t : System) (n : ℕ) → length t.places ≡ count → n < count → slice_get t.places n ≡ Some (place_at t n)
-  there t n many lt = get_there t.places n nowhere (omega (arith, many, lt))
-
-  -- ---- what is so of each racer, where one place is written
-  by_place : (P : ℕ → Place → Type 0) (places : List Place) (n : ℕ) (q : Place) → P n q → ((m : ℕ) (x : Place) → m ≢ n → slice_get places m ≡ Some x → P m x)
-      → (m : ℕ) (x : Place) → slice_get (slice_set places n q) m ≡ Some x → P m x
-  by_place P places n q here apart m x at = go (compare m n)
-    where
-      go : Compared m n → P m x
-      go (same e b) =
-          let it : x ≡ q = written_here places n q x (ap (slice_get (slice_set places n q)) (sym e) ∙ at) in
-          subst (λ k. P k x) (sym e) (subst (P n) (sym it) here)
-      go (other ne b) = apart m x ne (written_elsewhere places n m q x ne at)
+  there t n many lt = get_there t.places n at_rest (omega (arith, many, lt))
 
   -- ---- a crash
 
@@ -135,9 +119,14 @@ module _ (race : Race) (items : List Item) (beginner : ℕ) (callers : ℕ → �
     may : MayMove t (Crash m)
     racing : AreRacing s left (moved rules t (Crash m)) (changed away m true)
 
+  -- whoever crashed before a racer began has still crashed
+  still_started : (away : ℕ → Bool) (m k : ℕ) → k ≢ m + 1 → ((i : ℕ) → k ≡ i + 1 → run.crashes i ≡ true → away i ≡ true)
+      → (i : ℕ) → k ≡ i + 1 → run.crashes i ≡ true → changed away m true i ≡ true
+  still_started away m k behind started i e c = changed-other away m true i (λ f. behind (e ∙ ap (λ j. j + 1) f)) ∙ started i e c
+
   -- others stand as they stood
-  stand_still : (away : ℕ → Bool) (m : ℕ) → run.crashes m ≡ true → (k : ℕ) (q : Place) (xs : List Exchange) → k ≢ m → k ≢ m + 1 → Stand away k q xs → Stand (changed away m true) k q xs
-  stand_still away m crashes k q xs ne behind (waits w) = waits (record {
+  stand_still : (away : ℕ → Bool) (m k : ℕ) (q : Place) (xs : List Exchange) → k ≢ m → k ≢ m + 1 → Stand away k q xs → Stand (changed away m true) k q xs
+  stand_still away m k q xs ne behind (waits w) = waits (record {
     here = changed-other away m true k ne ∙ w.here;
     before = w.before;
     is = w.is;
@@ -148,21 +137,18 @@ module _ (race : Race) (items : List Item) (beginner : ℕ) (callers : ℕ → �
     whole = w.whole;
     goes = w.goes;
   })
-  stand_still away m crashes k q xs ne behind (goes g) = goes (record {
+  stand_still away m k q xs ne behind (goes g) = goes (record {
     here = changed-other away m true k ne ∙ g.here;
-    started = λ i e c. changed-other away m true i (λ f. behind (e ∙ ap (λ j. j + 1) f)) ∙ g.started i e c;
+    started = still_started away m k behind g.started;
     whole = g.whole;
     spares = g.spares;
     goes = g.goes;
   })
-  stand_still away m crashes k q xs ne behind (is_away a) = is_away (record {
+  stand_still away m k q xs ne behind (is_away a) = is_away (record {
     gone = changed-other away m true k ne ∙ a.gone;
-    started = λ i e c. changed-other away m true i (λ f. behind (e ∙ ap (λ j. j + 1) f)) ∙ a.started i e c;
+    started = still_started away m k behind a.started;
     left = a.left;
   })
-
-  not_both : (b : Bool) → b ≡ true → b ≡ false → ⊥
-  not_both b is also = let e : true ≡ false = sym is ∙ also in absurd cc
 
   cut_at : (away : ℕ → Bool) (n : ℕ) (q : Place) (xs : List Exchange) → IsGoing away n q xs → AreUnanswered xs → q ≡ run.ends n → IsCutAt n (cut_off (is_write (asks (rules n) q.phase)) q) xs
   cut_at away n q [] g un stands = cut_left (is_write (asks (rules n) q.phase)) q
@@ -179,8 +165,8 @@ module _ (race : Race) (items : List Item) (beginner : ℕ) (callers : ℕ → �
   -- the one behind who is to crash waits
   waiting : (away : ℕ → Bool) (m : ℕ) (q : Place) (xs : List Exchange) → run.crashes m ≡ true → away m ≡ false → Stand away (m + 1) q xs → IsWaiting away (m + 1) q xs
   waiting away m q xs crashes still (waits w) = w
-  waiting away m q xs crashes still (goes g) = absurd (not_both (away m) (g.started m refl crashes) still)
-  waiting away m q xs crashes still (is_away a) = absurd (not_both (away m) (a.started m refl crashes) still)
+  waiting away m q xs crashes still (goes g) = absurd (true≢false (sym (g.started m refl crashes) ∙ still))
+  waiting away m q xs crashes still (is_away a) = absurd (true≢false (sym (a.started m refl crashes) ∙ still))
 
   heir_there : (m : ℕ) → m < count → run.crashes m ≡ true → m + 1 < count
   heir_there m lt crashes = let c = run.crashed m lt crashes in get_inside race.racers.items (m + 1) c.heir c.heir_is
@@ -194,7 +180,7 @@ module _ (race : Race) (items : List Item) (beginner : ℕ) (callers : ℕ → �
       many = length-set (slice_set t.places m cut) (m + 1) anew ∙ length-set t.places m cut ∙ h.many;
       standing = λ k less x at. by_place (λ i y. i < count → Stand (changed away m true) i y (left (callers i))) (slice_set t.places m cut) (m + 1) anew (λ less. heirs)
           (λ i y apart is. by_place (λ j z. j ≢ m + 1 → j < count → Stand (changed away m true) j z (left (callers j))) t.places m cut (λ behind less. own)
-          (λ j z ne was behind less. stand_still away m crashes j z (left (callers j)) ne behind (h.standing j less z was)) i y is apart) k x at less;
+          (λ j z ne was behind less. stand_still away m j z (left (callers j)) ne behind (h.standing j less z was)) i y is apart) k x at less;
     });
   }
     where
@@ -316,7 +302,7 @@ module _ (race : Race) (items : List Item) (beginner : ℕ) (callers : ℕ → �
           where
             stands : (k : ℕ) → k < count → (y : Place) → slice_get t.places k ≡ Some y → Compared k n → Stand away k y (next.later (callers k))
             stands k less y at (same e b) =
-                let it : y ≡ q = get_apart y q (slice_get t.places n) (ap (slice_get t.places) (sym e) ∙ at) q_is in
+                let it : y ≡ q = same_Some y q (sym (ap (slice_get t.places) (sym e) ∙ at) ∙ q_is) in
                 let rests : y ≡ at_rest = it ∙ cut.place ∙ ap (λ b. cut_off b (run.ends n)) forgets in
                 subst (λ i. Stand away i y (next.later (callers i))) (sym e) (subst (Stand away n y) (sym later_is) (subst (λ p. Stand away n p xs) (sym rests) none_left))
             stands k less y at (other ne b) = subst (Stand away k y) (sym (others_left k less ne)) (h.standing k less y at)
@@ -370,8 +356,8 @@ module _ (race : Race) (items : List Item) (beginner : ℕ) (callers : ℕ → �
                 first t (Crash n) c.may (late v (changed away n true) c.racing (place_at v n) r_is (subst (IsAway (changed away n true) n (place_at v n)) left_is (is_cut (place_at v n) (c.racing.standing n lt (place_at v n) r_is))))
               where
                 is_cut : (r : Place) → Stand (changed away n true) n r (left (callers n)) → IsAway (changed away n true) n r (left (callers n))
-                is_cut r (waits w) = absurd (not_both (changed away n true n) (changed-same away n true) w.here)
-                is_cut r (goes g) = absurd (not_both (changed away n true n) (changed-same away n true) g.here)
+                is_cut r (waits w) = absurd (true≢false (sym (changed-same away n true) ∙ w.here))
+                is_cut r (goes g) = absurd (true≢false (sym (changed-same away n true) ∙ g.here))
                 is_cut r (is_away a) = a
 
   -- ---- whoever is to take over begins
@@ -408,7 +394,7 @@ module _ (race : Race) (items : List Item) (beginner : ℕ) (callers : ℕ → �
 
           going : (gone : ℕ → Bool) (q : Place) → ((k : ℕ) → m ≤ k → gone k ≡ away k) → IsUp gone m q (left (callers m)) → IsGoing gone m q (left (callers m))
           going gone q kept (up g) = g
-          going gone q kept (out a) = absurd (not_both (away m) (sym (kept m (omega arith)) ∙ a.gone) (ap away (sym is_before) ∙ w.still))
+          going gone q kept (out a) = absurd (true≢false (sym (sym (kept m (omega arith)) ∙ a.gone) ∙ ap away (sym is_before) ∙ w.still))
 
           begun : (v : System) (gone : ℕ → Bool) → AreRacing s left v gone → ((k : ℕ) → m ≤ k → gone k ≡ away k) → IsGoing gone m (place_at v m) (left (callers m)) → Ends v
           begun v gone racing kept g =
@@ -420,9 +406,9 @@ module _ (race : Race) (items : List Item) (beginner : ℕ) (callers : ℕ → �
               stands : (q : Place) → Stand (changed gone m true) (suc m) q (left (callers (suc m))) → IsUp (changed gone m true) (suc m) q (left (callers (suc m)))
               stands q (waits v) =
                   let same_one : v.before ≡ m = (let is = v.is in omega (arith, is)) in
-                  absurd (not_both (changed gone m true v.before) (ap (changed gone m true) same_one ∙ changed-same gone m true) v.still)
+                  absurd (true≢false (sym (ap (changed gone m true) same_one ∙ changed-same gone m true) ∙ v.still))
               stands q (goes g) = up g
-              stands q (is_away a) = absurd (not_both (away (suc m)) (sym (kept (suc m) (omega arith)) ∙ sym (changed-other gone m true (suc m) (λ e. absurd (omega (arith, e)))) ∙ a.gone) w.here)
+              stands q (is_away a) = absurd (true≢false (sym (sym (kept (suc m) (omega arith)) ∙ sym (changed-other gone m true (suc m) (λ e. absurd (omega (arith, e)))) ∙ a.gone) ∙ w.here))
 
   -- ---- the end
 
@@ -508,7 +494,7 @@ module _ (race : Race) (items : List Item) (beginner : ℕ) (callers : ℕ → �
       by : (n : ℕ) → n < count → (q : Place) → (r : Racer) → slice_get race.racers.items n ≡ Some r → first_place r ≡ q → (b : Bool) → takes_over run.crashes n ≡ b → Stand (λ n. false) n q (left (callers n))
       by n lt q r is stands false begins = goes (record {
         here = refl;
-        started = λ m e crashes. absurd (not_both (takes_over run.crashes n) (ap (takes_over run.crashes) (e ∙ add-one m) ∙ crashes) begins);
+        started = λ m e crashes. absurd (true≢false (sym (ap (takes_over run.crashes) (e ∙ add-one m) ∙ crashes) ∙ begins));
         whole = ap (λ (p : Place). p.late) (sym stands);
         spares = subst (λ (p : Place). Spares p.phase) stands tt;
         goes = subst (λ (p : Place). Goes (rules n) p (left (callers n)) (run.ends n)) (run.starts n r is begins ∙ stands) (whole_way n lt);
@@ -517,7 +503,7 @@ module _ (race : Race) (items : List Item) (beginner : ℕ) (callers : ℕ → �
       by (suc m) lt q r is stands true crashes =
           let low : m < count = omega (arith, lt) in
           let c = run.crashed m low crashes in
-          let heir : c.heir ≡ r = get_apart c.heir r (slice_get race.racers.items (suc m)) (ap (slice_get race.racers.items) (sym (add-one m)) ∙ c.heir_is) is in
+          let heir : c.heir ≡ r = same_Some c.heir r (sym (ap (slice_get race.racers.items) (sym (add-one m)) ∙ c.heir_is) ∙ is) in
           waits (record {
             here = refl;
             before = m;
