@@ -46,15 +46,25 @@ pub(crate) fn staged(
         replay: Replay::new(alloc, 1, litmus.capacity)?,
         events: Vec::new(alloc),
     };
-    stage.begin(beginner, litmus.beginning.as_slice())?;
-    stage.go_on(litmus.asks.as_slice(), outcome.order.as_slice())?;
-    stage.end(litmus.asks.as_slice(), outcome.order.as_slice())?;
+    stage.play(beginner, litmus, outcome)?;
     let Stage { replay, events } = stage;
     drop(replay);
     Ok(events)
 }
 
 impl Stage {
+    fn play(
+        &mut self,
+        beginner: u64,
+        litmus: &Litmus,
+        outcome: &Outcome,
+    ) -> Result<(), ScriptingError> {
+        let (asks, order) = (litmus.asks.as_slice(), outcome.order.as_slice());
+        self.begin(beginner, litmus.beginning.as_slice())?;
+        self.go_on(asks, order)?;
+        self.end(asks, order)
+    }
+
     fn begin(&mut self, beginner: u64, beginning: &[Request]) -> Result<(), ScriptingError> {
         for request in beginning {
             self.call(beginner, request)?;
@@ -94,11 +104,17 @@ impl Stage {
     }
 
     fn happen(&mut self, event: Event) -> Result<(), ScriptingError> {
+        self.step(&event)?;
+        self.events.push(event)?;
+        Ok(())
+    }
+
+    /// Lets the event happen, unless there were too many.
+    fn step(&mut self, event: &Event) -> Result<(), ScriptingError> {
         if MOST_EVENTS <= self.replay.events() {
             return Err(ScriptingError::NoScript);
         }
-        drop(self.replay.step(&event)?);
-        self.events.push(event)?;
+        drop(self.replay.step(event)?);
         Ok(())
     }
 
