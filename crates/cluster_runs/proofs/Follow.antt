@@ -7,11 +7,11 @@ use Rattle.interleavings.specs.declared.trace.Item.TheVariants as item
 use Rattle.interleavings.specs.Linearization.{Answers, Has, IsHistory}
 use Rattle.interleavings.proofs.Basics.{Compared, same, other, compare, Least, atmost, above, least}
 use Rattle.interleavings.proofs.Histories.{caller_of}
+use Rattle.interleavings.proofs.Places.{one_item}
 use Rattle.rounds.specs.Incarnation.{Follows}
 use Rattle.rounds.specs.Phase.{Phase, takes}
 use Rattle.rounds.specs.Reconciler.{Reconciler}
 use Rattle.cluster_runs.proofs.Heard.{HasAsked, asked_at, heard_before, heard_later, heard_once}
-use Rattle.cluster_runs.proofs.Items.{same_item}
 use Rattle.cluster_runs.proofs.Own.{AreUpward, Placed, exchanges_in}
 
 module _ (c : Reconciler) (n : ℕ) (phase : Phase) (items : List Item) (asked : HasAsked c n phase items) (history : IsHistory items) where
@@ -24,7 +24,7 @@ module _ (c : Reconciler) (n : ℕ) (phase : Phase) (items : List Item) (asked :
 
   -- ---- who is answered
   by_caller : (at p : ℕ) (r : Request) (a : Reply) (answers : Answers items at p a) → Has (item.Call p n r) items → answers.caller ≡ n
-  by_caller at p r a answers called = ap caller_of (same_item items (item.Call p answers.caller answers.request) (item.Call p n r) history.rising answers.called called refl)
+  by_caller at p r a answers called = ap caller_of (one_item items (item.Call p answers.caller answers.request) (item.Call p n r) history.rising answers.called called refl)
 
   record HasReplied (at p : ℕ) (a : Reply) : Type 0 where
     answers : Answers items at p a
@@ -34,14 +34,14 @@ module _ (c : Reconciler) (n : ℕ) (phase : Phase) (items : List Item) (asked :
   replied at a there =
       let found = history.paired at n a there in
       let answers : Answers items at found.0 a = found.1 in
-      (found.0, record { answers = answers; by = ap caller_of (same_item items (item.Reply at answers.caller a) (item.Reply at n a) history.rising answers.replied there refl) })
+      (found.0, record { answers = answers; by = ap caller_of (one_item items (item.Reply at answers.caller a) (item.Reply at n a) history.rising answers.replied there refl) })
 
   reply_at : (at p : ℕ) (a : Reply) → HasReplied at p a → Has (item.Reply at n a) items
   reply_at at p a h = subst (λ m. Has (item.Reply at m a) items) h.by h.answers.replied
 
   -- no reply is at a call's place
   not_there : (p x : ℕ) (r : Request) (b : Reply) → Has (item.Call p n r) items → Has (item.Reply x n b) items → p ≡ x → ⊥
-  not_there p x r b called there is = let one : item.Call p n r ≡ item.Reply x n b = same_item items (item.Call p n r) (item.Reply x n b) history.rising called there is in absurd cc
+  not_there p x r b called there is = let one : item.Call p n r ≡ item.Reply x n b = one_item items (item.Call p n r) (item.Reply x n b) history.rising called there is in absurd cc
 
   -- ---- one call after another
   module _ (x y : Placed) (xs : List Placed) (calls : AreCalls (x ∷ y ∷ xs)) (upward : AreUpward (x ∷ y ∷ xs)) (all : HasAnswered x.0 (x ∷ y ∷ xs)) where

@@ -3,19 +3,9 @@ use Rattle.std.proofs.Common.{◌≡◌, ◌==◌, inl, inr, ℕ, Bool, true, co
 use Rattle.requests.specs.declared.request.Request.{Request}
 use Rattle.interleavings.specs.declared.trace.Item.{Item}
 use Rattle.interleavings.specs.declared.trace.Item.TheVariants as item
-use Rattle.interleavings.specs.Linearization.{AreRising, Before, Has, place_of}
+use Rattle.interleavings.specs.Linearization.{AreRising, Has}
 use Rattle.interleavings.proofs.Basics.{Compared, same, other, compare, eq_self}
 use Rattle.cluster_runs.specs.Ordered.{called_at}
-
--- a place has one item
-pub same_item : (items : List Item) (i j : Item) → AreRising items → Has i items → Has j items → place_of i ≡ place_of j → i ≡ j
-same_item [] i j rising at there e = absurd at
-same_item (x ∷ items) i j rising (inl e) (inl f) is = e ∙ sym f
-same_item (x ∷ items) i j rising (inl e) (inr there) is = let low = rising.0 j there in let here : place_of i ≡ place_of x = ap place_of e in absurd (omega (arith, low, here, is))
-same_item (x ∷ items) i j rising (inr at) (inl f) is = let low = rising.0 i at in let here : place_of j ≡ place_of x = ap place_of f in absurd (omega (arith, low, here, is))
-same_item (x ∷ items) i j rising (inr at) (inr there) is = same_item items i j rising.1 at there is
-
--- ---- the call at a place
 
 found_if : (m : ℕ) (r : Request) (b : Bool) (o : Option (ℕ × Request)) → b ≡ true → cond b (Some (m, r)) o ≡ Some (m, r)
 found_if m r b o is = ap (λ c. cond c (Some (m, r)) o) is
@@ -44,10 +34,3 @@ called_has (item.Call x m r ∷ items) p call is = go (compare x p) (called_has 
         inl (ap (λ (c : ℕ × Request). item.Call p c.0 c.1) (sym one) ∙ ap (λ q. item.Call q m r) (sym e))
     go (other ne b) rest = inr (rest (sym (ap (λ c. cond c (Some (m, r)) (called_at items p)) b) ∙ is))
 called_has (item.Reply x m a ∷ items) p call is = inr (called_has items p call is)
-
--- ---- orders
-
-pub before_has : (p q : ℕ) (ps : List ℕ) → Before p q ps → Has q ps
-before_has p q [] h = absurd h
-before_has p q (x ∷ ps) (inl h) = inr h.1
-before_has p q (x ∷ ps) (inr h) = inr (before_has p q ps h)

@@ -9,9 +9,10 @@ use Rattle.interleavings.specs.declared.trace.Item.{Item}
 use Rattle.interleavings.specs.declared.trace.Item.TheVariants as item
 use Rattle.interleavings.specs.Linearization.{AreCalled, AreOnce, AreRising, Before, Has}
 use Rattle.interleavings.proofs.Basics.{Compared, same, other, compare, Least, atmost, above, least}
+use Rattle.interleavings.proofs.Places.{before_has, one_item}
 use Rattle.rounds.specs.Transcript.{Exchange, Incarnation, exchanges_of, is_by, of_incarnation, requests_of}
 use Rattle.cluster_runs.specs.Ordered.{called_at, entries_of, then_entries}
-use Rattle.cluster_runs.proofs.Items.{before_has, called_has, called_there, same_item}
+use Rattle.cluster_runs.proofs.Items.{called_has, called_there}
 
 -- the place, the request and the reply
 abbrev pub Placed : Type 0
@@ -96,7 +97,7 @@ module _ (mine : ℕ → Bool) (items : List Item) where
       go rest (inl e) later =
           let place : p ≡ x = ap (λ (y : ℕ × Reply). y.0) e in
           let reply : a ≡ (step s q).1 = ap (λ (y : ℕ × Reply). y.1) e in
-          let one : item.Call p n r ≡ item.Call x called.0.0 q = same_item items (item.Call p n r) (item.Call x called.0.0 q) rising at called.0.1 place in
+          let one : item.Call p n r ≡ item.Call x called.0.0 q = one_item items (item.Call p n r) (item.Call x called.0.0 q) rising at called.0.1 place in
           let caller : n ≡ called.0.0 = cc in
           let request : r ≡ q = cc in
           let first : Placed = (p, (r, a)) in

@@ -1,4 +1,5 @@
 pub mod Basics
+pub mod Places
 pub mod Values
 pub mod Filed
 pub mod Plainly

@@ -18,6 +18,7 @@ use Rattle.order_check.specs.Lookup.{Lookup}
 use Rattle.order_check.specs.Pairing.{AreFound}
 use Rattle.interleavings.proofs.Basics.{Compared, same, other, compare, Least, atmost, above, least}
 use Rattle.interleavings.proofs.Lists.{has_at}
+use Rattle.interleavings.proofs.Places.{before_has, zip_has}
 
 -- the reply to the call at a place is among the items, and that call is not in the order yet
 pub record IsLeft (items : List Item) (s : Standing) (at p : ℕ) (reply : Reply) : Type 0 where
@@ -173,17 +174,6 @@ module _ (items : List Item) where
         };
   }
 
-  in_order : (p : ℕ) (y : Reply) (ps : List ℕ) (ys : List Reply) → Has (p, y) (zip ps ys) → Has p ps
-  in_order p y [] ys h = absurd h
-  in_order p y (q ∷ ps) [] h = absurd h
-  in_order p y (q ∷ ps) (z ∷ ys) (inl e) = inl (ap (λ (x : ℕ × Reply). x.0) e)
-  in_order p y (q ∷ ps) (z ∷ ys) (inr h) = inr (in_order p y ps ys h)
-
-  has_second : (p q : ℕ) (xs : List ℕ) → Before p q xs → Has q xs
-  has_second p q [] b = absurd b
-  has_second p q (x ∷ xs) (inl w) = inr w.1
-  has_second p q (x ∷ xs) (inr b) = inr (has_second p q xs b)
-
   -- what was called at a place with an index is one request
   one_request : (m : Option ℕ) (p : ℕ) (q r : Request) → IsCalled items m p q → IsCalled items m p r → q ≡ r
   one_request None p q r h k = absurd h
@@ -206,7 +196,7 @@ module _ (items : List Item) where
 
       is_recorded : (y : Reply) → Has (p, y) (zip (p ∷ ps) (replies s.store (r ∷ rs))) → y ≡ recorded
       is_recorded y (inl e) = ap (λ (x : ℕ × Reply). x.1) e
-      is_recorded y (inr m) = absurd (h.once.0 (in_order p y ps (replies (step s.store r).0 rs) m))
+      is_recorded y (inr m) = absurd (h.once.0 (zip_has p y ps (replies (step s.store r).0 rs) m))
 
       answered_at : (m : Option ℕ) → s.answers p ≡ m → IsAnswered items m s.latest recorded
       answered_at None e = tt
@@ -244,7 +234,7 @@ module _ (items : List Item) where
 
       no_later : (q at : ℕ) → q ≢ p → ((x : ℕ) → Has x (p ∷ ps) → at < x → Before q x (p ∷ ps)) → Least p at → p ≤ at
       no_later q at ne in_time (atmost l b) = l
-      no_later q at ne in_time (above l b) = absurd (h.once.0 (has_second q p ps (behind q p ne (in_time p (inl refl) l))))
+      no_later q at ne in_time (above l b) = absurd (h.once.0 (before_has q p ps (behind q p ne (in_time p (inl refl) l))))
 
       due : (q i : ℕ) → t.answers q ≡ Some i → Compared q p → IsDue items t ps rs q i
       due q i e (same d b) = let all : None ≡ Some i = sym (ap t.answers d ∙ k.answers.gone) ∙ e in absurd cc

@@ -11,6 +11,7 @@ use Rattle.interleavings.proofs.Basics.{Compared, same, other, compare}
 use Rattle.interleavings.proofs.Histories.{all_answered, all_answered_more, answers_before_call, answers_by_reply, answers_more, called_history, called_last, last_call_more, replied_history}
 use Rattle.interleavings.proofs.Invariant.{AllAnswered, IsLastCall}
 use Rattle.interleavings.proofs.Lists.{has_back, has_front, has_last}
+use Rattle.interleavings.proofs.Places.{one_item}
 
 abbrev pub IsUpTo : Option ℕ → ℕ → Type 0
 IsUpTo None place = ⊥
@@ -50,18 +51,10 @@ up_to_now now last trace new e here dated i m = subst (λ l. IsUpTo l (place_of 
     go (inl h) = let l = dated i h in omega arith
     go (inr k) = let l : place_of i ≡ now = ap place_of k ∙ here in omega arith
 
--- one item stands at a place
-one_item : (trace : List Item) → AreRising trace → (i j : Item) → Has i trace → Has j trace → place_of i ≡ place_of j → i ≡ j
-one_item [] rising i j m n e = absurd m
-one_item (x ∷ xs) rising i j (inl d) (inl f) e = d ∙ sym f
-one_item (x ∷ xs) rising i j (inl d) (inr n) e = let l : place_of x < place_of j = rising.0 j n in let k : place_of i ≡ place_of x = ap place_of d in absurd (omega arith)
-one_item (x ∷ xs) rising i j (inr m) (inl f) e = let l : place_of x < place_of i = rising.0 i m in let k : place_of j ≡ place_of x = ap place_of f in absurd (omega arith)
-one_item (x ∷ xs) rising i j (inr m) (inr n) e = one_item xs rising.1 i j m n e
-
 -- a call that still awaits its reply was not answered
 not_answered : (trace : List Item) → IsHistory trace → (c p at : ℕ) (r : Reply) → IsLastCall trace c p → Answers trace at p r → ⊥
 not_answered trace history c p at r latest a =
-    let one : item.Call p a.caller a.request ≡ item.Call p c latest.request = one_item trace history.rising _ _ a.called latest.called refl in
+    let one : item.Call p a.caller a.request ≡ item.Call p c latest.request = one_item trace _ _ history.rising a.called latest.called refl in
     let own : a.caller ≡ c = cc in
     let l : at < p = latest.no_reply at r (subst (λ d. Has (item.Reply at d r) trace) own a.replied) in
     let b = a.before in
@@ -202,7 +195,7 @@ module _ (items trace rest : List Item) (s : Seen) (h : IsPaired items trace s) 
       let full = trace ++ item.Call now c q ∷ rest in
       let l : p < now = before_next trace rest (item.Call now c q) (item.Call p c latest.request) history.rising latest.called in
       let a = history.sequential p now c latest.request q (has_front _ trace _ latest.called) (has_back _ trace _ (inl refl)) l in
-      let one : item.Call p a.1.1.0.caller a.1.1.0.request ≡ item.Call p c latest.request = one_item full history.rising _ _ a.1.1.0.called (has_front _ trace _ latest.called) refl in
+      let one : item.Call p a.1.1.0.caller a.1.1.0.request ≡ item.Call p c latest.request = one_item full _ _ history.rising a.1.1.0.called (has_front _ trace _ latest.called) refl in
       let own : a.1.1.0.caller ≡ c = cc in
       let m : Has (item.Reply a.0 a.1.1.0.caller a.1.0) trace = came_before trace rest _ _ history.rising a.1.1.0.replied a.1.1.1 in
       let no : a.0 < p = latest.no_reply a.0 a.1.0 (subst (λ d. Has (item.Reply a.0 d a.1.0) trace) own m) in
@@ -214,11 +207,11 @@ module _ (items trace rest : List Item) (s : Seen) (h : IsPaired items trace s) 
   no_reply now c r history e =
       let full = trace ++ item.Reply now c r ∷ rest in
       let a = history.paired now c r (has_back _ trace _ (inl refl)) in
-      let one : item.Reply now a.1.caller r ≡ item.Reply now c r = one_item full history.rising _ _ a.1.replied (has_back _ trace _ (inl refl)) refl in
+      let one : item.Reply now a.1.caller r ≡ item.Reply now c r = one_item full _ _ history.rising a.1.replied (has_back _ trace _ (inl refl)) refl in
       let own : a.1.caller ≡ c = cc in
       let m : Has (item.Call a.0 a.1.caller a.1.request) trace = came_before trace rest _ _ history.rising a.1.called a.1.before in
       let o = h.idle c e a.0 a.1.request (subst (λ d. Has (item.Call a.0 d a.1.request) trace) own m) in
-      let two : item.Call a.0 o.1.1.caller o.1.1.request ≡ item.Call a.0 a.1.caller a.1.request = one_item full history.rising _ _ (has_front _ trace _ o.1.1.called) a.1.called refl in
+      let two : item.Call a.0 o.1.1.caller o.1.1.request ≡ item.Call a.0 a.1.caller a.1.request = one_item full _ _ history.rising (has_front _ trace _ o.1.1.called) a.1.called refl in
       let same_caller : o.1.1.caller ≡ a.1.caller = cc in
       let l : o.0 < now = before_next trace rest _ _ history.rising o.1.1.replied in
       let late : now ≤ o.0 = a.1.first o.0 o.1.0 (subst (λ d. Has (item.Reply o.0 d o.1.0) full) same_caller (has_front _ trace _ o.1.1.replied)) o.1.1.before in

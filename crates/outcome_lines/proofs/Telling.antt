@@ -202,7 +202,7 @@ shows_outcome l replies text s b run is size_is of shown =
         events = s.events.items;
         begun = h.begun;
         answered = h.answered;
-        first = λ at place caller reply request replied called apart. h.first place caller request called apart at reply replied;
+        first = λ caller apart at place reply request replied called. h.first place caller request called apart at reply replied;
         shown = all_told l replies b items h;
       };
       script = is;

@@ -1,5 +1,5 @@
 -- What is taken of racers goes as their order does.
-use Rattle.std.proofs.Common.{◌≡◌, ◌≢◌, ◌<◌, ◌+◌, ◌++◌, ◌==◌, ℕ, zero, suc, Bool, true, false, cond, List, [], ◌∷◌, Some, length, get_or, refl, sym, ap, subst, ◌∙◌, arith}
+use Rattle.std.proofs.Common.{◌≡◌, ◌≢◌, ◌<◌, ◌+◌, ◌++◌, ◌==◌, ℕ, Bool, true, false, cond, List, [], ◌∷◌, Some, length, get_or, refl, sym, ap, subst, ◌∙◌, arith}
 use Rattle.std.specs.Prelude.{slice_set}
 use Rattle.std.specs.List.{slice_get}
 use Rattle.std.proofs.lemmas.Bool.{and_parts, eqb-true}
@@ -21,27 +21,11 @@ use Rattle.controller_outcomes.specs.Races.{Place, System, at_rest, crashed_from
 use Rattle.controller_outcomes.specs.declared.race.Move.{Move}
 use Rattle.controller_outcomes.specs.declared.race.Move.TheVariants.{Ask, Crash, Late}
 use Rattle.controller_outcomes.specs.declared.race.Race.{Race}
-use Rattle.outcomes.proofs.Told.{get_there, mapped_from}
 use Rattle.race_orders.specs.Orders.{AreAsked, AreCast, AreCut, AreNo, EndsAs, IsAsked, IsCut, IsRaceIn, end_of}
+use Rattle.outcomes.proofs.Lists.{get_there, mapped_from}
+use Rattle.controller_outcomes.proofs.Lists.{set_here, set_there}
 
 -- ---- one place of a list is written
-written_here : (ps : List Place) (n : ℕ) (p q : Place) → slice_get (slice_set ps n p) n ≡ Some q → q ≡ p
-written_here [] n p q is = absurd cc
-written_here (x ∷ ps) zero p q is = cc
-written_here (x ∷ ps) (suc n) p q is = written_here ps n p q is
-
-written_elsewhere : (ps : List Place) (n m : ℕ) (p q : Place) → m ≢ n → slice_get (slice_set ps n p) m ≡ Some q → slice_get ps m ≡ Some q
-written_elsewhere [] n m p q apart is = absurd cc
-written_elsewhere (x ∷ ps) zero zero p q apart is = absurd (apart refl)
-written_elsewhere (x ∷ ps) zero (suc m) p q apart is = is
-written_elsewhere (x ∷ ps) (suc n) zero p q apart is = is
-written_elsewhere (x ∷ ps) (suc n) (suc m) p q apart is = written_elsewhere ps n m p q (λ e. apart (ap suc e)) is
-
-inside : (ps : List Place) (n : ℕ) (p : Place) → slice_get ps n ≡ Some p → n < length ps
-inside [] n p is = absurd cc
-inside (x ∷ ps) zero p is = omega arith
-inside (x ∷ ps) (suc n) p is = let less = inside ps n p is in omega (arith, less)
-
 -- what is so of each racer is so with a place written anew
 pub by_place : (P : ℕ → Place → Type 0) (places : List Place) (n : ℕ) (q : Place) → P n q → ((m : ℕ) (x : Place) → m ≢ n → slice_get places m ≡ Some x → P m x)
     → (m : ℕ) (x : Place) → slice_get (slice_set places n q) m ≡ Some x → P m x
@@ -49,9 +33,9 @@ by_place P places n q here there m x at = go (compare m n)
   where
     go : Compared m n → P m x
     go (same e b) =
-        let it : x ≡ q = written_here places n q x (ap (slice_get (slice_set places n q)) (sym e) ∙ at) in
+        let it : x ≡ q = set_here places n q x (ap (slice_get (slice_set places n q)) (sym e) ∙ at) in
         subst (λ k. P k x) (sym e) (subst (P n) (sym it) here)
-    go (other ne b) = there m x ne (written_elsewhere places n m q x ne at)
+    go (other ne b) = there m x ne (set_there places n m q x ne at)
 
 -- ---- the beginning comes first
 after_before : (s : Store) (requests : List Request) (rest : List Entry) → after s (requests_of (entries_before s requests ++ rest)) ≡ after (after s requests) (requests_of rest)

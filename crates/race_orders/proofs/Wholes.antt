@@ -1,7 +1,7 @@
 -- Racers that go by their controllers' rules, make their rounds and crash where they may, leave the store as a whole order does.
 use Rattle.std.proofs.Common.{◌≡◌, ◌≢◌, ◌<◌, ◌≤◌, ◌+◌, ◌⊎◌, inl, inr, ℕ, zero, suc, Bool, true, false, List, [], ◌∷◌, Option, Some, None, length, get_or, add-one, refl, sym, ap, subst, ◌∙◌, true≢false, arith}
 use Rattle.std.specs.Prelude.{slice_set}
-use Rattle.std.specs.List.{AllByRecursion, slice_get}
+use Rattle.std.specs.List.{slice_get}
 use Rattle.std.proofs.lemmas.List.{length-map, length-set}
 use Rattle.std.proofs.lemmas.Option.{same_Some}
 use Rattle.requests.specs.Verdict.{is_write}
@@ -12,8 +12,9 @@ use Rattle.plain_store.specs.Store.{Store, step}
 use Rattle.interleavings.specs.declared.trace.Item.{Item}
 use Rattle.interleavings.specs.World.{changed}
 use Rattle.interleavings.proofs.Basics.{Compared, same, other, compare, changed-same, changed-other}
-use Rattle.outcomes.specs.Outcomes.{AreUnanswered, Exchange, IsTold, exchanges_by}
-use Rattle.outcomes.proofs.Told.{get_inside, get_there, mapped_from}
+use Rattle.outcomes.specs.Outcomes.{AreUnanswered, ComesBehind, Exchange, IsTold, exchanges_by}
+use Rattle.outcomes.proofs.Lists.{get_inside, get_there, mapped_from}
+use Rattle.controller_outcomes.proofs.Lists.{all_from}
 use Rattle.rounds.specs.Phase.{asks, takes}
 use Rattle.rounds.specs.Reconciler.{Reconciler}
 use Rattle.controllers.specs.Cluster.{reconciler_named}
@@ -23,16 +24,10 @@ use Rattle.controller_outcomes.specs.declared.race.Move.{Move}
 use Rattle.controller_outcomes.specs.declared.race.Move.TheVariants.{Ask, Crash, Late}
 use Rattle.controller_outcomes.specs.declared.race.Race.{Race}
 use Rattle.controller_outcomes.specs.declared.race.Racer.{Racer}
-use Rattle.race_orders.specs.Runs.{ByReply, ComesBehind, Goes, IsCrash, IsRunOf, WasBefore, takes_over}
+use Rattle.race_orders.specs.Runs.{ByReply, Goes, IsCrash, IsRunOf, WasBefore, takes_over}
 use Rattle.race_orders.proofs.Sparing.{Spares, reads, spares_now, spares_on}
 use Rattle.race_orders.proofs.Taken.{by_place}
 use Rattle.outcomes.proofs.Walked.{AreTaken, IsNext}
-
--- ---- lists
-
-all_there : {A : Type 0} (P : A → Type 0) (xs : List A) → ((n : ℕ) (x : A) → slice_get xs n ≡ Some x → P x) → AllByRecursion P xs
-all_there P [] each = tt
-all_there P (x ∷ xs) each = (each 0 x refl, all_there P xs (λ n y is. each (suc n) y is))
 
 -- ---- what a racer goes through
 
@@ -229,7 +224,7 @@ module _ (race : Race) (items : List Item) (beginner : ℕ) (callers : ℕ → �
         here = changed-other away m true (m + 1) (λ e. absurd (omega (arith, e))) ∙ w.here;
         started = λ i e cr. ap (changed away m true) (let one : i ≡ m = omega (arith, e) in one) ∙ changed-same away m true;
         whole = refl;
-        spares = tt;
+        spares = (false, tt);
         goes = subst (λ (p : Place). Goes (rules (m + 1)) p (left (callers (m + 1))) (run.ends (m + 1))) begins w.goes;
       })
 
@@ -414,7 +409,7 @@ module _ (race : Race) (items : List Item) (beginner : ℕ) (callers : ℕ → �
 
   -- where nothing is left that is answered, nobody has a round left
   rests : (s : Store) (left : ℕ → List Exchange) (t : System) (away : ℕ → Bool) → AreRacing s left t away → ((c : ℕ) → AreUnanswered (left c)) → IsOver t
-  rests s left t away h un = all_there (λ (p : Place). p.left ≡ 0) t.places (λ n q is. let lt = get_inside t.places n q is in let many = h.many in let less : n < count = omega (arith, many, lt) in by n less q (h.standing n less q is))
+  rests s left t away h un = all_from (λ (p : Place). p.left ≡ 0) t.places (λ n q is. let lt = get_inside t.places n q is in let many = h.many in let less : n < count = omega (arith, many, lt) in by n less q (h.standing n less q is))
     where
       -- who has crashed in the run has crashed
       crashed : (fuel n : ℕ) → count ≤ n + fuel → n < count → run.crashes n ≡ true → away n ≡ false → ⊥
@@ -496,7 +491,7 @@ module _ (race : Race) (items : List Item) (beginner : ℕ) (callers : ℕ → �
         here = refl;
         started = λ m e crashes. absurd (true≢false (sym (ap (takes_over run.crashes) (e ∙ add-one m) ∙ crashes) ∙ begins));
         whole = ap (λ (p : Place). p.late) (sym stands);
-        spares = subst (λ (p : Place). Spares p.phase) stands tt;
+        spares = subst (λ (p : Place). Spares p.phase) stands (false, tt);
         goes = subst (λ (p : Place). Goes (rules n) p (left (callers n)) (run.ends n)) (run.starts n r is begins ∙ stands) (whole_way n lt);
       })
       by zero lt q r is stands true later = absurd cc

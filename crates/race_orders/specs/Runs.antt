@@ -8,7 +8,7 @@ use Rattle.plain_store.specs.Store.{Store}
 use Rattle.interleavings.specs.declared.trace.Item.{Item}
 use Rattle.interleavings.specs.declared.trace.Item.TheVariants as item
 use Rattle.interleavings.specs.Linearization.{Has}
-use Rattle.outcomes.specs.Outcomes.{AreAnswered, Exchange, exchanges_by, requests_in}
+use Rattle.outcomes.specs.Outcomes.{AreAnswered, ComesBehind, Exchange, exchanges_by, requests_in}
 use Rattle.rounds.specs.Phase.{Phase, asks, takes}
 use Rattle.rounds.specs.Reconciler.{Reconciler}
 use Rattle.controllers.specs.Cluster.{reconciler_named}
@@ -16,10 +16,6 @@ use Rattle.controller_outcomes.specs.Races.{IsWhole, Place, first_place, left_by
 use Rattle.controller_outcomes.specs.declared.race.Move.{Move}
 use Rattle.controller_outcomes.specs.declared.race.Race.{Race}
 use Rattle.controller_outcomes.specs.declared.race.Racer.{Racer}
-
--- one caller calls nothing before the last reply to the other
-abbrev pub ComesBehind : List Item → (earlier later : ℕ) → Type 0
-ComesBehind items earlier later = (at place : ℕ) (reply : Reply) (request : Request) → Has (item.Reply at earlier reply) items → Has (item.Call place later request) items → at < place
 
 -- a request without a reply, or what is so by the reply
 abbrev pub ByReply : Option Reply → (cut_off : Type 0) → (told : Reply → Type 0) → Type 0

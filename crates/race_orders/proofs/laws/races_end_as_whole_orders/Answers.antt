@@ -3,12 +3,12 @@ use Rattle.plain_store.specs.Run.{after, replies}
 use Rattle.plain_store.specs.Store.{Store, opening}
 use Rattle.interleavings.specs.Trace.{trace}
 use Rattle.interleavings.proofs.Basics.{same, other, compare}
-use Rattle.outcomes.specs.Outcomes.{exchanges_by, requests_in}
+use Rattle.outcomes.specs.Outcomes.{ComesBehind, exchanges_by, requests_in}
 use Rattle.outcomes.proofs.Placed.{none_taken}
 use Rattle.controller_outcomes.specs.Races.{IsWhole, left_by}
 use Rattle.controller_outcomes.specs.declared.race.Move.{Move}
 use Rattle.controller_outcomes.specs.declared.race.Race.{Race}
-use Rattle.race_orders.specs.Runs.{ComesBehind, IsEndOf}
+use Rattle.race_orders.specs.Runs.{IsEndOf}
 use Rattle.outcomes.proofs.Walked.{begins, called_by, left, walked}
 use Rattle.race_orders.proofs.Wholes.{AreRacers, ends}
 use Rattle.race_orders.proofs.laws.races_end_as_whole_orders.Goals as goal
