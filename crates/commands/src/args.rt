@@ -1,7 +1,7 @@
 //! What the words of the command line ask for.
-ghost use Rattle.std.specs.Prelude.{◌≡◌, ◌≤◌, [], false, codes, map, unwrap_or, IfOk};
-ghost use Rattle.clap.specs.Words.{FailsBy, app_of, first_of, found_of, one_of, rows_of, rule_of, subcommand_rows_of};
-ghost use Rattle.commands.specs.Grammar.{IsCapacityBy, IsChoiceBy, IsDigitsBy, cluster_app, faults_of, flag_rule, outcomes_app, plan_app, replay_app, rows_under, serve_app, stsctl_app};
+ghost use Rattle.std.specs.Prelude.{◌≡◌, ◌≤◌, [], true, false, codes, map, unwrap_or, IfOk};
+ghost use Rattle.clap.specs.Words.{App, FailsBy, app_of, first_of, found_of, one_of, rows_of, rule_of, subcommand_rows_of, with_subcommand};
+ghost use Rattle.commands.specs.Grammar.{IsCapacityBy, IsChoiceBy, IsDigitsBy, cluster_app, faults_of, flag_rule, namespace_rule, outcomes_app, plan_app, replay_app, rows_under, serve_app, set_rule, stsctl_app};
 ghost use Rattle.commands.specs.Asked.{IsAsked, IsFinding, IsOther, IsScriptBy, IsScripted, IsServing, IsSoughtBy};
 ghost use Rattle.commands.specs.Forms.{IsFlagBy};
 
@@ -73,19 +73,31 @@ pub(crate) enum Asked<'a> {
 fn grammar<'a>(alloc: Global) -> Result<Command<'a>, AllocError>
     ensures { IfOk result (λ c. app_of c ≡ stsctl_app) }
 {
-    Command::new(alloc, "stsctl")
+    let command = Command::new(alloc, "stsctl")
         .bin_name("stsctl")?
         .version("0.3.0 (rattle-kit-13f logic dac8208d650f15bf)")
         .about(
             "A plain in-memory store of Kubernetes objects, replays of racing callers and all that they can be told, plans of StatefulSets, and clusters and races of their controllers",
         )
-        .subcommand_required(true)
-        .subcommand(serve_grammar(alloc)?)?
-        .subcommand(replay_grammar(alloc)?)?
-        .subcommand(cluster_grammar(alloc)?)?
-        .subcommand(plan_grammar(alloc)?)?
-        .subcommand(race_grammar(alloc)?)?
-        .subcommand(outcomes_grammar(alloc)?)
+        .subcommand_required(true);
+    let command = with_word(command, serve_grammar(alloc))?;
+    let command = with_word(command, replay_grammar(alloc))?;
+    let command = with_word(command, cluster_grammar(alloc))?;
+    let command = with_word(command, plan_grammar(alloc))?;
+    let command = with_word(command, race_grammar(alloc))?;
+    with_word(command, outcomes_grammar(alloc))
+}
+
+/// The command with one word more. What was made of it so far is let go here alone, where that word is not made.
+fn with_word<'a>(
+    command: Command<'a>,
+    word: Result<Command<'a>, AllocError>,
+) -> Result<Command<'a>, AllocError>
+    ensures { (app : App) → IfOk word.entry (λ w. app_of w ≡ app) → app.top.is_plain ≡ true
+        → IfOk result (λ c. app_of c ≡ with_subcommand (app_of command.entry) app.top) }
+{
+    let made = word?;
+    command.subcommand(made)
 }
 
 fn serve_grammar<'a>(alloc: Global) -> Result<Command<'a>, AllocError>
@@ -133,62 +145,48 @@ fn cluster_grammar<'a>(alloc: Global) -> Result<Command<'a>, AllocError>
 fn outcomes_grammar<'a>(alloc: Global) -> Result<Command<'a>, AllocError>
     ensures { IfOk result (λ c. app_of c ≡ outcomes_app) }
 {
-    let script = number_arg(
-        alloc,
-        "script",
-        "K",
-        from_1_to_20000(),
-        "Print a script of `replay` (with --final of `cluster`) that shows the outcome of line K, from 1 to 20000",
-    );
-    let brief = flag_arg(
-        alloc,
-        "brief",
-        "Print outcomes in words instead, without versions and UIDs, those that are then alike as one",
-    );
-    let finals = flag_arg(
-        alloc,
-        "final",
-        "Print instead each store in which the controllers on standard input may end",
-    );
     Command::new(alloc, "outcomes")
         .about("Prints all that the callers of the litmus test on standard input can be told")
         .after_help(OUTCOMES_END)
-        .arg(script)?
-        .arg(brief)?
-        .arg(finals)
+        .arg(number_arg(
+            alloc,
+            "script",
+            "K",
+            from_1_to_20000(),
+            "Print a script of `replay` (with --final of `cluster`) that shows the outcome of line K, from 1 to 20000",
+        ))?
+        .arg(flag_arg(
+            alloc,
+            "brief",
+            "Print outcomes in words instead, without versions and UIDs, those that are then alike as one",
+        ))?
+        .arg(flag_arg(
+            alloc,
+            "final",
+            "Print instead each store in which the controllers on standard input may end",
+        ))
 }
 
 fn plan_grammar<'a>(alloc: Global) -> Result<Command<'a>, AllocError>
     ensures { IfOk result (λ c. app_of c ≡ plan_app) }
 {
-    let set = Arg::new(alloc, "set")
-        .long("set")
-        .value_name("NAME")
-        .required(true)
-        .help("The name of the set that is planned");
-    let namespace = Arg::new(alloc, "namespace")
-        .long("namespace")
-        .value_name("NS")
-        .help("The namespace of the set [default: default]");
-    let digits = number_arg(
-        alloc,
-        "digits",
-        "H",
-        from_1_to_64(),
-        "How many hex digits of its hash the name of a new revision gets, from 1 to 64 [default: 10]",
-    );
-    let brief = flag_arg(
-        alloc,
-        "brief",
-        "Print each action in words instead, as `Create Pod web-0`",
-    );
     Command::new(alloc, "plan")
         .about("Prints the actions that the objects on standard input call for, each on a line")
         .after_help(PLAN_END)
-        .arg(set)?
-        .arg(namespace)?
-        .arg(digits)?
-        .arg(brief)?
+        .arg(set_arg(alloc))?
+        .arg(namespace_arg(alloc))?
+        .arg(number_arg(
+            alloc,
+            "digits",
+            "H",
+            from_1_to_64(),
+            "How many hex digits of its hash the name of a new revision gets, from 1 to 64 [default: 10]",
+        ))?
+        .arg(flag_arg(
+            alloc,
+            "brief",
+            "Print each action in words instead, as `Create Pod web-0`",
+        ))?
         .arg(where_arg(alloc))
 }
 
@@ -252,6 +250,29 @@ fn script_words(matches: &ArgMatches<'_>) -> ScriptWords
         form: form_in(matches),
         place: flag_in(matches, "where"),
     }
+}
+
+/// The option `--set`.
+fn set_arg<'a>(alloc: Global) -> Arg<'a>
+    ensures rule { rule_of result ≡ set_rule }
+    ensures own { result.global ≡ false }
+{
+    Arg::new(alloc, "set")
+        .long("set")
+        .value_name("NAME")
+        .required(true)
+        .help("The name of the set that is planned")
+}
+
+/// The option `--namespace`.
+fn namespace_arg<'a>(alloc: Global) -> Arg<'a>
+    ensures rule { rule_of result ≡ namespace_rule }
+    ensures own { result.global ≡ false }
+{
+    Arg::new(alloc, "namespace")
+        .long("namespace")
+        .value_name("NS")
+        .help("The namespace of the set [default: default]")
 }
 
 /// The flag `--where`.

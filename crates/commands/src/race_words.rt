@@ -35,60 +35,56 @@ pub(crate) struct RaceWords {
 pub(crate) fn race_grammar<'a>(alloc: Global) -> Result<Command<'a>, AllocError>
     ensures { IfOk result (λ c. app_of c ≡ race_app) }
 {
-    let operator = flag_arg(
-        alloc,
-        "operator",
-        "Let an operator change the set meanwhile",
-    );
-    let history = flag_arg(
-        alloc,
-        "history",
-        "Print each call, reply and the order before the report",
-    );
-    sized_grammar(alloc)?.arg(operator)?.arg(history)
+    sized_grammar(alloc)?
+        .arg(flag_arg(
+            alloc,
+            "operator",
+            "Let an operator change the set meanwhile",
+        ))?
+        .arg(flag_arg(
+            alloc,
+            "history",
+            "Print each call, reply and the order before the report",
+        ))
 }
 
 /// The options that say how large the race is.
 fn sized_grammar<'a>(alloc: Global) -> Result<Command<'a>, AllocError>
     ensures { IfOk result (λ c. app_of c ≡ sized_app) }
 {
-    let controllers = number_arg(
-        alloc,
-        "controllers",
-        "N",
-        from_1_to_64(),
-        "How many controllers race, from 1 to 64 [default: 4]",
-    );
-    let shards = number_arg(
-        alloc,
-        "shards",
-        "N",
-        from_1_to_64(),
-        "How many shards the store has, from 1 to 64 [default: 8]",
-    );
-    let rounds = number_arg(
-        alloc,
-        "rounds",
-        "N",
-        from_1_to_1024(),
-        "How many rounds each controller makes, from 1 to 1024 [default: 16]",
-    );
-    let replicas = number_arg(
-        alloc,
-        "replicas",
-        "N",
-        from_0_to_64(),
-        "How many pods the set asks for, from 0 to 64 [default: 3]",
-    );
     Command::new(alloc, "race")
         .about(
             "Lets controllers of one set race over a store that threads share, and prints a report",
         )
         .after_help(RACE_END)
-        .arg(controllers)?
-        .arg(shards)?
-        .arg(rounds)?
-        .arg(replicas)
+        .arg(number_arg(
+            alloc,
+            "controllers",
+            "N",
+            from_1_to_64(),
+            "How many controllers race, from 1 to 64 [default: 4]",
+        ))?
+        .arg(number_arg(
+            alloc,
+            "shards",
+            "N",
+            from_1_to_64(),
+            "How many shards the store has, from 1 to 64 [default: 8]",
+        ))?
+        .arg(number_arg(
+            alloc,
+            "rounds",
+            "N",
+            from_1_to_1024(),
+            "How many rounds each controller makes, from 1 to 1024 [default: 16]",
+        ))?
+        .arg(number_arg(
+            alloc,
+            "replicas",
+            "N",
+            from_0_to_64(),
+            "How many pods the set asks for, from 0 to 64 [default: 3]",
+        ))
 }
 
 /// What the words after `race` say.

@@ -8,12 +8,12 @@ use Rattle.commands.proofs.args.outcomes_grammar.Goals as goal
 
 pub returns : goal.returns
 returns c =
-    let script = c.number_arg-script.ensures in
-    let script_is : rule_of c.number_arg-script.result ≡ option_rule (codes "script") (parsers.Unsigned 1 20000) =
+    let script = c.number_arg.ensures in
+    let script_is : rule_of c.number_arg.result ≡ option_rule (codes "script") (parsers.Unsigned 1 20000) =
     script.rule ∙ ap (option_rule (codes "script")) c.from_1_to_20000.ensures in
     let top_is : app_of c.after_help.result ≡ new_app (codes "outcomes") = ap app_of_fields c.after_help.ensures ∙ ap app_of_fields c.about.ensures ∙ c.new.ensures.app in
     let one_is = c.in_ok-arg.ensures.shape script.own ∙ ap₂ with_rule top_is script_is in
-    let brief = c.flag_arg-brief.ensures in
+    let brief = c.flag_arg.ensures in
     let two_is = c.in_ok-arg-2.ensures.shape brief.own ∙ ap₂ with_rule one_is brief.rule in
-    let finals = c.flag_arg-finals.ensures in
+    let finals = c.flag_arg-2.ensures in
     IfOk-weaker c.arg-3.result _ _ (λ r h. h.shape finals.own ∙ ap₂ with_rule two_is finals.rule) c.arg-3.ensures
