@@ -1,7 +1,6 @@
 -- What is written of a cluster's run, line by line, and the tokens of a call.
 use Rattle.std.proofs.Common.{◌≡◌, ℕ, ◌+◌, ◌<◌, List, [], ◌∷◌, ◌++◌, codes, length, get_or, drop, Option, Some, None, refl, sym, ap, ◌∙◌, append_assoc}
 use Rattle.json.specs.Token as token
-use Rattle.json.specs.Token.{Token}
 use Rattle.json.specs.Tree.{json_tokens}
 use Rattle.serde_json.specs.Written.{compact_text, outline}
 use Rattle.requests.specs.declared.request.Request.{Request}

@@ -1,6 +1,5 @@
 -- What a run of the program that was asked to run a cluster has done, where the devices tell.
-use Rattle.std.specs.Prelude.{◌≡◌, ◌⊎◌, Bool, ℕ, List, [], length, Option, Some, None, codes}
-use Rattle.std.specs.Option.{IfSome}
+use Rattle.std.specs.Prelude.{◌≡◌, Bool, ℕ, List, length, Option, Some, None, codes}
 use Rattle.cluster_runs.specs.Cluster.{Cluster}
 use Rattle.cluster_runs.specs.Ran.{IsClusterRun, cluster_after, owner_in}
 use Rattle.cluster_runs.specs.Turns.{ends_of_turns}

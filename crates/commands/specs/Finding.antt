@@ -1,7 +1,6 @@
 -- What a run of the program that was asked for outcomes has done, where the devices tell.
-use Rattle.std.specs.Prelude.{◌≡◌, ◌≢◌, ◌⊎◌, ◌≤◌, ◌<◌, ℕ, Bool, true, false, zero, suc, List, [], Option, Some, None, codes, map}
+use Rattle.std.specs.Prelude.{◌≡◌, ◌≢◌, ◌⊎◌, ℕ, Bool, true, false, zero, suc, List, Option, Some, None, codes, map}
 use Rattle.std.specs.List.{All, AllPairs, Contains, slice_get}
-use Rattle.std.specs.Option.{IfSome}
 use Rattle.clap.specs.Words.{Text}
 use Rattle.outcome_lines.specs.Litmus.{litmus_of, parts_of}
 use Rattle.outcome_lines.specs.Brief.{outcomes_brief_text}

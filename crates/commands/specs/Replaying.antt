@@ -1,6 +1,5 @@
 -- What a run of the program that was asked to replay has done, where the devices tell.
-use Rattle.std.specs.Prelude.{◌≡◌, ◌⊎◌, Bool, ◌≤◌, ◌<◌, ℕ, List, [], Option, Some, None, codes}
-use Rattle.std.specs.Option.{IfSome}
+use Rattle.std.specs.Prelude.{◌≡◌, ◌⊎◌, Bool, ◌≤◌, ◌<◌, ℕ, List, Option, Some, None, codes}
 use Rattle.plain_store.specs.Reached.{most_revisions}
 use Rattle.history.specs.After.{IsRunOf}
 use Rattle.history.specs.Named.{callers}
@@ -15,7 +14,6 @@ use Rattle.replay_lines.specs.declared.fault.ScriptError.{ScriptError}
 use Rattle.clap.specs.Words.{Text}
 use Rattle.pictures.specs.Heading.{no_role}
 use Rattle.pictures.specs.Picture.{picture_text}
-use Rattle.pictures.specs.declared.shown.Shown.{Shown}
 use Rattle.stories.specs.Story.{story_text}
 use Rattle.traces.specs.Traced.{trace_text}
 use Rattle.replay_lines.specs.Refusals.{refused_line_of}

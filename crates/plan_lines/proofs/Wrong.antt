@@ -1,9 +1,6 @@
 -- An input of which a line is no object.
-use Rattle.std.proofs.Common.{◌≡◌, ℕ, ◌+◌, List, [], ◌∷◌, Option, Some, None, Result, Ok, Err, true, refl, sym, ap, ◌∙◌}
-use Rattle.std.proofs.lemmas.Option.{none-some}
+use Rattle.std.proofs.Common.{◌≡◌, ℕ, ◌+◌, List, [], ◌∷◌, Option, Some, Result, Ok, Err, true, ap}
 use Rattle.std.specs.Prelude.{IfErr, is_ok, is_some, if◌then◌else◌}
-use Rattle.objects.specs.declared.fault.ReadError.{ReadError}
-use Rattle.objects.specs.declared.object.Draft.{Draft}
 use Rattle.objects.specs.Reading.{reading}
 use Rattle.objects.specs.Steps.{◌>>=◌}
 use Rattle.replay_lines.specs.Refusals.{first_refused}

@@ -1,5 +1,5 @@
 -- Controllers stand where the replies to their callers have taken them.
-use Rattle.std.proofs.Common.{◌≡◌, ◌≢◌, ◌<◌, ◌≤◌, ◌==◌, inl, inr, ℕ, Bool, true, false, cond, List, [], ◌∷◌, ◌++◌, Option, Some, None, refl, sym, ap, ◌∙◌, length, eq-eqb, ne_eqb, true≢false, arith}
+use Rattle.std.proofs.Common.{◌≡◌, ◌≢◌, ◌<◌, ◌==◌, inl, inr, ℕ, Bool, true, false, cond, List, [], ◌∷◌, Option, Some, None, refl, sym, ap, ◌∙◌, length, eq-eqb, ne_eqb, true≢false, arith}
 use Rattle.std.specs.Prelude.{nat_lt, ◌&&◌, option_map, slice_get}
 use Rattle.std.specs.Option.{option_map_or}
 use Rattle.std.proofs.lemmas.Option.{none-some, slice_get_cases}
@@ -14,13 +14,13 @@ use Rattle.interleavings.specs.declared.trace.Item.TheVariants as item
 use Rattle.interleavings.specs.Trace.{after, trace}
 use Rattle.interleavings.specs.World.{Size, opening}
 use Rattle.interleavings.proofs.Basics.{Compared, same, other, compare}
-use Rattle.rounds.specs.Phase.{Phase, asks, reading_set, takes}
+use Rattle.rounds.specs.Phase.{asks, reading_set, takes}
 use Rattle.rounds.specs.Reconciler.{Reconciler}
 use Rattle.rounds.specs.Transcript.{Incarnation}
 use Rattle.rounds.specs.World.{put}
 use Rattle.cluster_runs.specs.declared.event.ClusterEvent.{ClusterEvent}
 use Rattle.cluster_runs.specs.declared.event.ClusterEvent.TheVariants.{Next, Outside, Step, Crash}
-use Rattle.cluster_runs.specs.Cluster.{Cluster, controller_at, delivered, hand, hand_if, happens, hears, is_idle, is_nobody, is_used, lowest_unused, run, start, with_crash, with_outside, with_step, with_used}
+use Rattle.cluster_runs.specs.Cluster.{Cluster, controller_at, delivered, hand, hand_if, happens, hears, is_idle, is_nobody, is_used, lowest_unused, run, start, with_crash, with_outside, with_step}
 use Rattle.cluster_runs.specs.Ran.{cluster_after, owner}
 use Rattle.cluster_runs.proofs.Calling.{among_later}
 use Rattle.cluster_runs.proofs.Heard as replies
