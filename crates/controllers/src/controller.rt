@@ -8,6 +8,7 @@ use crate::progress::Progress;
 use objects::{Key, Kind, Memory, Text};
 use sets::PlanError;
 use std::alloc::Global;
+use std::mem;
 
 /// The controller of one StatefulSet: it goes round and round, one request at a time (Kubernetes, "Controllers").
 #[derive(Drop)]
@@ -76,7 +77,7 @@ impl Controller {
         ensures reconciler { reconciler_of self.new ≡ reconciler_of self.old }
         ensures refusals { refusals_of self.new ≡ refusals_of self.old }
     {
-        self.progress = Progress::ReadingSet;
+        drop(mem::replace(&mut self.progress, Progress::ReadingSet));
         self.waits = false;
         self.refusal = None;
     }

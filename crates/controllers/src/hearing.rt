@@ -163,8 +163,8 @@ pub(crate) fn listed(reply: &Reply) -> Option<(&Listing, u64)>
 fn listing_pods(set: &Object, revisions: &Listing) -> Result<Progress, AllocError>
     ensures { IfOk result (λ p. phase_at p ≡ phases.listing_pods set.now revisions.now) }
 {
-    let set = set.clone()?;
     let revisions = revisions.clone()?;
+    let set = set.clone()?;
     Ok(Progress::ListingPods { set, revisions })
 }
 
@@ -172,9 +172,9 @@ fn listing_pods(set: &Object, revisions: &Listing) -> Result<Progress, AllocErro
 fn listing_claims(set: &Object, revisions: &Listing, pods: &Listing) -> Result<Progress, AllocError>
     ensures { IfOk result (λ p. phase_at p ≡ phases.listing_claims set.now revisions.now pods.now) }
 {
-    let set = set.clone()?;
     let revisions = revisions.clone()?;
     let pods = pods.clone()?;
+    let set = set.clone()?;
     Ok(Progress::ListingClaims {
         set,
         revisions,
