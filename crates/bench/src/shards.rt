@@ -80,8 +80,24 @@ fn pods(alloc: Global, count: u64) -> Result<Vec<Key>> {
     Ok(keys)
 }
 
-/// How many records are left of so many pushes at the numbers from 1 on, which go over so many keys in turn; with a
-/// compaction to each number, or with none.
+/// Pushes at the numbers from 1 on, which go over the keys in turn; with a compaction to each number, or with none.
+fn push_all(
+    rising: &mut Rising,
+    keys: &[Key],
+    object: &Object,
+    pushes: u64,
+    compacts: bool,
+) -> Result<()> {
+    for (number, key) in (1..=pushes).zip(keys.iter().cycle()) {
+        rising.push(number, key, object)?;
+        if compacts {
+            rising.compact(number);
+        }
+    }
+    Ok(())
+}
+
+/// How many records are left of so many pushes over so many keys.
 fn records_after(
     alloc: Global,
     object: &Object,
@@ -91,26 +107,28 @@ fn records_after(
 ) -> Result<usize> {
     let keys = pods(alloc, keys)?;
     let mut rising = Rising::new(alloc);
-    for (number, key) in (1..=pushes).zip(keys.iter().cycle()) {
-        rising.push(number, key, object)?;
-        if compacts {
-            rising.compact(number);
-        }
-    }
-    Ok(rising.shard().records())
+    let pushed = push_all(&mut rising, keys.as_slice(), object, pushes, compacts);
+    let records = rising.shard().records();
+    drop(rising);
+    pushed?;
+    Ok(records)
 }
 
 /// How many readings of one key with so many versions find an object, at numbers spread over all of them.
 fn found_in(alloc: Global, object: &Object, versions: u64, readings: u64) -> Result<u64> {
-    let key = Key::of(alloc, Kind::Pod, "default", "web-0")?;
+    let keys = pods(alloc, 1)?;
     let mut rising = Rising::new(alloc);
-    for number in 1..=versions {
-        rising.push(number, &key, object)?;
-    }
-    Ok(found(rising.shard(), &key, versions, readings))
+    let pushed = push_all(&mut rising, keys.as_slice(), object, versions, false);
+    let found = found(rising.shard(), keys.as_slice(), versions, readings);
+    drop(rising);
+    pushed?;
+    Ok(found)
 }
 
-fn found(shard: &Shard, key: &Key, versions: u64, readings: u64) -> u64 {
+fn found(shard: &Shard, keys: &[Key], versions: u64, readings: u64) -> u64 {
+    let Some(key) = keys.first() else {
+        return 0;
+    };
     if versions == 0 {
         return 0;
     }
@@ -144,11 +162,20 @@ fn readings(rt: &HostRuntime, object: &Object, count: u64) -> Result<()> {
     report(rt, "readings", count, elapsed)
 }
 
+fn pod(alloc: Global) -> Result<Object> {
+    let draft = read_object(alloc, OBJECT.as_bytes())?;
+    Ok(draft.object)
+}
+
+fn measure_all(rt: &HostRuntime, object: &Object, count: u64) -> Result<()> {
+    pushes(rt, object, "pushes with compactions", count, true)?;
+    pushes(rt, object, "pushes without", count, false)?;
+    readings(rt, object, count)
+}
+
 pub(crate) fn measure(rt: &HostRuntime, asked: Option<u64>) -> Result<()> {
-    let count = asked.unwrap_or(COUNT);
-    let draft = read_object(rt.alloc(), OBJECT.as_bytes())?;
-    let object = draft.object;
-    pushes(rt, &object, "pushes with compactions", count, true)?;
-    pushes(rt, &object, "pushes without", count, false)?;
-    readings(rt, &object, count)
+    let object = pod(rt.alloc())?;
+    let measured = measure_all(rt, &object, asked.unwrap_or(COUNT));
+    drop(object);
+    measured
 }

@@ -30,9 +30,21 @@ pub(crate) fn packed(
     before: Option<&Packed>,
 ) -> Result<Packed, ReadError> {
     let (key, printed) = printed(alloc, text)?;
-    match packer.pack_in_set(&key, &printed)? {
+    let packed = packed_of(packer, &key, &printed, before);
+    drop(key);
+    drop(printed);
+    Ok(packed?)
+}
+
+fn packed_of(
+    packer: &mut Packer,
+    key: &Key,
+    printed: &Printed,
+    before: Option<&Packed>,
+) -> Result<Packed, Memory> {
+    match packer.pack_in_set(key, printed)? {
         Some(packed) => Ok(packed),
-        None => Ok(packer.pack(&key, &printed, before)?),
+        None => packer.pack(key, printed, before),
     }
 }
 
@@ -40,19 +52,41 @@ pub(crate) fn packed(
 fn is_packed_as(alloc: Global, packed: &Packed, text: &str) -> Result<bool, Memory> {
     let mut reader = TreeReader::new(alloc);
     let mut printer = Printer::new(alloc);
+    Ok(
+        has_bytes(alloc, packed, text)?
+            && comes_back(alloc, &mut reader, &mut printer, packed, text)?,
+    )
+}
+
+fn has_bytes(alloc: Global, packed: &Packed, text: &str) -> Result<bool, Memory> {
     let mut bytes = Vec::new(alloc);
     packed.write_text(&mut bytes)?;
-    let printed = packed.printed(&mut reader, &mut printer)?;
-    let object = packed.object(&mut reader, &mut printer)?;
+    Ok(bytes.as_slice() == text.as_bytes())
+}
+
+fn comes_back(
+    alloc: Global,
+    reader: &mut TreeReader,
+    printer: &mut Printer,
+    packed: &Packed,
+    text: &str,
+) -> Result<bool, Memory> {
+    let printed = packed.printed(reader, printer)?;
+    let again = printed_again(alloc, reader, printer, packed)?;
+    Ok(printed.as_str() == text && again.as_str() == text && printed.uid() == again.uid())
+}
+
+/// The object, read back, and printed.
+fn printed_again(
+    alloc: Global,
+    reader: &mut TreeReader,
+    printer: &mut Printer,
+    packed: &Packed,
+) -> Result<Printed, Memory> {
+    let object = packed.object(reader, printer)?;
     let again = Printed::of(alloc, &object);
     drop(object);
-    let again = again?;
-    Ok(
-        bytes.as_slice() == text.as_bytes()
-            && printed.as_str() == text
-            && again.as_str() == text
-            && printed.uid() == again.uid(),
-    )
+    Ok(again?)
 }
 
 #[test]
