@@ -128,7 +128,7 @@ impl Cluster {
             (asked_while (is_meant meant) most_requests number) (λ done. nothing) self.old self.new controllers.old controllers.new result }
     {
         for _ in 0..MOST_REQUESTS {
-            self.ask_next(controllers, number)?;
+            drop(self.ask_next(controllers, number)?);
             let more = self.is_next(controllers, number, meant)?;
             if !more {
                 return Ok(());
