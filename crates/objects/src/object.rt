@@ -46,10 +46,8 @@ impl Object {
         requires fits { metadata_fits metadata ≡ true }
         ensures { IfOk result (λ object. object ≡ new_object key metadata members) }
     {
-        let version = Text::copy_of(alloc, key.kind.api_version())?;
-        let kind = Text::copy_of(alloc, key.kind.name())?;
-        let versioned = members.with("apiVersion", Some(Tree::Text(version)))?;
-        let named = versioned.with("kind", Some(Tree::Text(kind)))?;
+        let versioned = members.with_text(alloc, "apiVersion", key.kind.api_version())?;
+        let named = versioned.with_text(alloc, "kind", key.kind.name())?;
         let whole = named.with("metadata", Some(Tree::Map(metadata)))?;
         Ok(Object {
             key,

@@ -66,26 +66,39 @@ impl Printed {
         ensures same { self.now.key ≡ object.key → IfOk result (λ new. new.is_same ≡ same_data self.now.body new.text.body) }
     {
         let mut object = object;
-        let Ok(found) = self.replaced_by_text(printer, &mut object) else {
-            drop(object);
-            return Err(Memory);
-        };
-        if let Some(text) = found {
-            drop(object);
-            return Ok(Replacement {
-                text,
-                is_same: false,
-            });
+        match self.replaced_by_text(printer, &mut object) {
+            Ok(None) => self.replaced_by_tree(reader, printer, object),
+            Ok(Some(text)) => {
+                drop(object);
+                Ok(Replacement {
+                    text,
+                    is_same: false,
+                })
+            }
+            Err(error) => {
+                drop(object);
+                Err(error)
+            }
         }
+    }
+
+    /// What an update with that object makes of this one, whose text is read back.
+    fn replaced_by_tree(
+        &self,
+        reader: &mut TreeReader,
+        printer: &mut Printer,
+        object: Object,
+    ) -> Result<Replacement, Memory>
+        ensures text { IfOk result (λ new. new.text ≡ replaced self.now object) }
+        ensures same { IfOk result (λ new. new.is_same ≡ same_data self.now.body new.text.body) }
+    {
         let Ok(current) = self.object(reader) else {
             drop(object);
             return Err(Memory);
         };
-        let object = object.replacing(&current)?;
-        Ok(Replacement {
-            is_same: current.body.is_same(&object.body),
-            text: printer.print(&object)?,
-        })
+        let replacement = replacement_of(printer, &current, object);
+        drop(current);
+        replacement
     }
 
     /// The text of what an update with that object makes of this one, if that can be found without reading this one's text
@@ -124,6 +137,25 @@ impl Printed {
         }
         Ok(Some(Printed::of_indexed(alloc_of(indexed), new)?))
     }
+}
+
+/// What an update with the object makes of the current one.
+fn replacement_of(
+    printer: &mut Printer,
+    current: &Object,
+    object: Object,
+) -> Result<Replacement, Memory>
+    ensures text { IfOk result (λ new. new.text ≡ replaced current.now object) }
+    ensures same { IfOk result (λ new. new.is_same ≡ same_data current.now.body new.text.body) }
+{
+    let object = object.replacing(current)?;
+    let is_same = current.body.is_same(&object.body);
+    let text = printer.print(&object);
+    drop(object);
+    Ok(Replacement {
+        text: text?,
+        is_same,
+    })
 }
 
 /// The object as it is once it has taken the place of the indexed text's object, printed with its own status. None where the

@@ -59,11 +59,11 @@ pub(crate) fn new_revision(
     requires template { data_of template ≡ data_with set.now.template }
     ensures { IfOk result (λ object. object ≡ new_revision (set_parts set.now) name.now number) }
 {
-    let key = revision_key(alloc, set.object.key.namespace.as_str(), name)?;
-    let metadata = owned_metadata(alloc, set)?;
     let members = Members::none(alloc)?
         .with("data", Some(template))?
         .with_number("revision", number)?;
+    let metadata = owned_metadata(alloc, set)?;
+    let key = revision_key(alloc, set.object.key.namespace.as_str(), name)?;
     Ok(Object::of(alloc, key, metadata, members)?)
 }
 
