@@ -23,8 +23,8 @@ const BEHIND: usize = 12;
 /// than the reach, so the time of all of them has a bound, whatever the texts are.
 pub(crate) const PATIENCE: usize = 1_024;
 
-/// How many bytes are looked at one by one for a quote: most values are no longer, and a search for more costs more to begin.
-const NEAR: usize = 16;
+/// How many bytes are compared at a time.
+const LANES: usize = 16;
 
 /// A place in the text and one in the base, how many bytes of the base lie between it and what was copied last, and how many
 /// more quotes may be looked for in vain.
@@ -114,20 +114,21 @@ fn quote_from(bytes: &[u8], place: usize) -> usize
     requires { place ≤ length bytes.now }
     ensures { result ≤ length bytes.now }
 {
-    let (near, far) = bytes[place..].split_at(NEAR.min(bytes.len() - place));
-    for (skipped, byte) in near.iter().enumerate() {
-        if *byte == b'"' {
-            return place + skipped;
+    let rest = &bytes[place..];
+    // Most values are no longer than a vector, and a search for more costs more to begin.
+    if rest.len() >= LANES {
+        let quotes = u8x16::from_slice(rest)
+            .simd_eq(u8x16::splat(b'"'))
+            .to_bitmask();
+        if quotes != 0 {
+            return bytes.len().min(place + quotes.trailing_zeros() as usize);
         }
     }
-    match memchr(b'"', far) {
-        Some(skipped) => place + near.len() + skipped,
+    match memchr(b'"', rest) {
+        Some(skipped) => place + skipped,
         None => bytes.len(),
     }
 }
-
-/// How many bytes are compared at a time.
-const LANES: usize = 16;
 
 /// How many bytes both begin with alike.
 pub(crate) fn common_length(left: &[u8], right: &[u8]) -> usize
