@@ -2,6 +2,7 @@
 from clusters import ACCEPTED, COLLECTION, LISTS, PLAN, POD, REVISION, SET, is_marked, is_ready
 from judging import get_of, word_of
 from plans import delete_of, planned
+from store_of_maps import number_of
 
 WEB = SET, "default", "web"
 READY = {"conditions": [{"status": "True", "type": "Ready"}], "phase": "Running"}
@@ -28,7 +29,7 @@ def controller(rounds):
 
 
 def a_round():
-    """From the read of the set to the next one (docs/CLUSTERS.md). There are no claims to collect."""
+    """From the read of the set to the next one (docs/CLUSTERS.md). A refused delete of a claim is passed over."""
     read = yield get_of(WEB)
     if word_of(read) == "Found":
         listed = {}
@@ -38,8 +39,21 @@ def a_round():
             reply = yield request
             if word_of(reply) not in ACCEPTED[request["do"]]:
                 return
+    lists = []
     for kind in LISTS[PLAN:COLLECTION]:
-        yield list_of(kind)
+        lists.append((yield list_of(kind)))
+    yield from collection(*lists)
+
+
+def collection(claims, *owners):
+    """The deletes of the listed claims whose every owner is gone for good: its UID, whose number is that of its create, was given
+    before all these lists of owners were read, and none of them has it."""
+    read_at = min(int(reply["resourceVersion"]) for reply in owners)
+    here = {held["metadata"]["uid"] for reply in owners for held in reply["items"]}
+    for claim in claims["items"]:
+        uids = [owner["uid"] for owner in claim["metadata"].get("ownerReferences", [])]
+        if uids and all(uid not in here and number_of(uid) <= read_at for uid in uids):
+            yield delete_of(claim, resourceVersion=claim["metadata"]["resourceVersion"])
 
 
 def kubelet():

@@ -29,6 +29,11 @@ def uid_of(number):
     return f"00000000-0000-4000-8000-{number:012x}"
 
 
+def number_of(uid):
+    """The number of a UID that a store gave."""
+    return int(uid.rpartition("-")[2], 16)
+
+
 def key_of(request):
     """The kind, the namespace and the name that a request names."""
     named = request.get("object", request)
