@@ -9,6 +9,7 @@ use objects::{Kind, Memory, Text};
 use plain::read_request;
 use requests::{Reply, Request};
 use std::alloc::Global;
+use std::process::Abort;
 
 const SET: &str =
     r#"{"do":"create","object":{"kind":"StatefulSet","metadata":{"name":"web"},"spec":{"replicas":2,"template":{}}}}"#;
@@ -33,12 +34,6 @@ fn list_of(alloc: Global, kind: Kind) -> Result<Request, Memory> {
     })
 }
 
-fn beginning(alloc: Global) -> Result<Vec<Request>, Memory> {
-    let mut beginning = Vec::new(alloc);
-    beginning.push(request_of(alloc, SET)?)?;
-    Ok(beginning)
-}
-
 fn racer(alloc: Global, rounds: u64, may_crash: bool) -> Result<Racer, Memory> {
     let set = set(alloc)?;
     Ok(Racer {
@@ -48,45 +43,40 @@ fn racer(alloc: Global, rounds: u64, may_crash: bool) -> Result<Racer, Memory> {
     })
 }
 
-/// Two controllers, which make so many rounds each. The first may crash, or not.
-fn racers(alloc: Global, first: u64, second: u64, may_crash: bool) -> Result<Vec<Racer>, Memory> {
-    let mut racers = Vec::new(alloc);
-    racers.push(racer(alloc, first, may_crash)?)?;
-    racers.push(racer(alloc, second, false)?)?;
-    Ok(racers)
+/// Adds two controllers, which make so many rounds each. The first may crash, or not.
+fn add_racers(
+    alloc: Global,
+    rounds: (u64, u64),
+    may_crash: bool,
+    racers: &mut Vec<Racer>,
+) -> Result<(), Memory> {
+    racers.push(racer(alloc, rounds.0, may_crash)?)?;
+    racers.push(racer(alloc, rounds.1, false)?)?;
+    Ok(())
 }
 
-fn looks(alloc: Global) -> Result<Vec<Request>, Memory> {
-    let mut looks = Vec::new(alloc);
+fn add_looks(alloc: Global, looks: &mut Vec<Request>) -> Result<(), Memory> {
     looks.push(list_of(alloc, Kind::StatefulSet)?)?;
     looks.push(list_of(alloc, Kind::Pod)?)?;
     looks.push(list_of(alloc, Kind::PersistentVolumeClaim)?)?;
     looks.push(list_of(alloc, Kind::ControllerRevision)?)?;
-    Ok(looks)
+    Ok(())
 }
 
-fn race(alloc: Global, first: u64, second: u64, may_crash: bool) -> Result<Race, Memory> {
-    let beginning = beginning(alloc)?;
-    let racers = racers(alloc, first, second, may_crash)?;
-    let looks = looks(alloc)?;
-    Ok(Race {
-        capacity: 100,
-        beginning,
-        racers,
-        looks,
-    })
+fn fill(alloc: Global, rounds: (u64, u64), may_crash: bool, race: &mut Race) -> Result<(), Memory> {
+    race.beginning.push(request_of(alloc, SET)?)?;
+    add_racers(alloc, rounds, may_crash, &mut race.racers)?;
+    add_looks(alloc, &mut race.looks)
 }
 
 fn found(
     alloc: Global,
-    first: u64,
-    second: u64,
+    rounds: (u64, u64),
     may_crash: bool,
+    race: &mut Race,
 ) -> Result<Vec<FinalStore>, OutcomesError> {
-    let race = race(alloc, first, second, may_crash)?;
-    let found = final_stores(alloc, &race);
-    drop(race);
-    found
+    fill(alloc, rounds, may_crash, race)?;
+    final_stores(alloc, race)
 }
 
 /// How many pods a look shows, and the resource version of the store.
@@ -106,32 +96,86 @@ fn has(found: &[FinalStore], wanted: (usize, u64)) -> bool {
     false
 }
 
-#[test]
-fn one_round_ends_in_two_stores(rt: HostRuntime) {
-    let found = found(rt.alloc(), 1, 1, false).expect(&rt, "the search ends");
-    assert!(rt; found.len() == 2);
-    assert!(rt; has(found.as_slice(), (0, 2)));
-    assert!(rt; has(found.as_slice(), (1, 4)));
+fn are(found: &[FinalStore], wanted: &[(usize, u64)]) -> bool {
+    for one in wanted {
+        if !has(found, *one) {
+            return false;
+        }
+    }
+    found.len() == wanted.len()
+}
+
+fn is_so(found: Result<Vec<FinalStore>, OutcomesError>, wanted: &[(usize, u64)]) -> bool {
+    match found {
+        Ok(found) => {
+            let is_so = are(found.as_slice(), wanted);
+            drop(found);
+            is_so
+        }
+        Err(_) => false,
+    }
+}
+
+/// Whether the race ends in just these stores.
+fn ends_in(alloc: Global, row: &Row) -> bool {
+    let mut race = Race {
+        capacity: 100,
+        beginning: Vec::new(alloc),
+        racers: Vec::new(alloc),
+        looks: Vec::new(alloc),
+    };
+    let is_so = is_so(
+        found(alloc, row.rounds, row.may_crash, &mut race),
+        row.stores,
+    );
+    drop(race);
+    is_so
+}
+
+struct Row {
+    idea: &'static str,
+    /// Of each controller.
+    rounds: (u64, u64),
+    /// Whether the first one may.
+    may_crash: bool,
+    /// How many pods each store has, and its resource version.
+    stores: &'static [(usize, u64)],
+}
+
+static ROWS: [Row; 4] = [
+    Row {
+        idea: "one round each",
+        rounds: (1, 1),
+        may_crash: false,
+        stores: &[(0, 2), (1, 4)],
+    },
+    Row {
+        idea: "no round leaves the beginning",
+        rounds: (0, 0),
+        may_crash: false,
+        stores: &[(0, 1)],
+    },
+    Row {
+        idea: "one round of one controller makes the revision",
+        rounds: (0, 1),
+        may_crash: false,
+        stores: &[(0, 2)],
+    },
+    Row {
+        idea: "one round that may crash",
+        rounds: (1, 0),
+        may_crash: true,
+        stores: &[(0, 2), (1, 4)],
+    },
+];
+
+fn assert_so(rt: &impl Abort, is_so: bool, row: &str) {
+    assert!(rt; is_so, "of {row}");
 }
 
 #[test]
-fn no_rounds_leave_the_beginning(rt: HostRuntime) {
-    let found = found(rt.alloc(), 0, 0, false).expect(&rt, "the search ends");
-    assert!(rt; found.len() == 1);
-    assert!(rt; has(found.as_slice(), (0, 1)));
-}
-
-#[test]
-fn one_round_of_one_controller_makes_the_revision(rt: HostRuntime) {
-    let found = found(rt.alloc(), 0, 1, false).expect(&rt, "the search ends");
-    assert!(rt; found.len() == 1);
-    assert!(rt; has(found.as_slice(), (0, 2)));
-}
-
-#[test]
-fn a_round_that_crashes_ends_in_two_stores(rt: HostRuntime) {
-    let found = found(rt.alloc(), 1, 0, true).expect(&rt, "the search ends");
-    assert!(rt; found.len() == 2);
-    assert!(rt; has(found.as_slice(), (0, 2)));
-    assert!(rt; has(found.as_slice(), (1, 4)));
+fn races_end_where_a_model_says(rt: HostRuntime) {
+    for row in ROWS.iter() {
+        assert_so(&rt, ends_in(rt.alloc(), row), row.idea);
+    }
 }
