@@ -2,7 +2,7 @@
 //! test of this file comes to, it has to pass: one call may want memory, and the same call after it is ample.
 ghost use Rattle.std.specs.Prelude.{IfSome};
 
-use crate::asking::{has_reply, write_of};
+use crate::asking::{assert_so, has_reply, write_of};
 use crate::scenes::{Scene, assert_on};
 use racing::SharedStore;
 use requests::Reply;
@@ -133,11 +133,11 @@ pub(crate) fn assert_ample<S: SharedStore, R: Wait + Abort>(
     // a create that memory was refused has drawn no number, so that the next one has it
     for (line, number) in CREATES.iter() {
         let created = created(rt, alloc, store, &mut caller, *line);
-        assert!(rt; created == Some((*number, *number)), "of {line}");
+        assert_so(rt, created == Some((*number, *number)), *line);
     }
     for (line, expected) in READS.iter() {
         let is_so = is_read(rt, alloc, store, &mut caller, *line, *expected);
-        assert!(rt; is_so, "of {line}");
+        assert_so(rt, is_so, *line);
     }
     Ok(())
 }

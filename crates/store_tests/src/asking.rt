@@ -59,6 +59,15 @@ pub(crate) fn has_reply<S: SharedStore, R: Wait>(
     is_so.ok()
 }
 
+/// A message of parts is proved anew wherever it stands, so it stands here.
+pub(crate) fn assert_so(rt: &impl Abort, is_so: bool, what: &str) {
+    assert!(rt; is_so, "of {what}");
+}
+
+pub(crate) fn assert_numbered(rt: &impl Abort, is_so: bool, what: &str, number: usize) {
+    assert!(rt; is_so, "of {what} {number}");
+}
+
 pub(crate) fn assert_reply<S: SharedStore, R: Wait + Abort>(
     rt: &R,
     alloc: Global,
@@ -68,7 +77,7 @@ pub(crate) fn assert_reply<S: SharedStore, R: Wait + Abort>(
     expected: &str,
 ) {
     let is_so = has_reply(rt, alloc, store, caller, line, expected);
-    assert!(rt; is_so == Some(true), "of {line}");
+    assert_so(rt, is_so == Some(true), line);
 }
 
 /// Asserts the replies of a store to a new caller.

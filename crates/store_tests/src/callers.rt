@@ -1,4 +1,5 @@
 // How many callers a store has.
+use crate::asking::assert_numbered;
 use std::process::Abort;
 use std::sync::Wait;
 use std::test::Fail;
@@ -17,7 +18,7 @@ pub(crate) fn assert_callers<H: Sharding, N: Naming, R: Wait + Abort>(
             }
             Err(error) => error == StoreError::TooManyCallers,
         };
-        assert_eq!(rt; refused, number == 4097, "the caller {number}");
+        assert_numbered(rt, refused == (number == 4097), "the caller", number);
     }
     Ok(())
 }

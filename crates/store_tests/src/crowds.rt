@@ -1,5 +1,5 @@
 // Eight threads at once, whose log is judged.
-use crate::asking::{printed, request_of};
+use crate::asking::{assert_numbered, assert_so, printed, request_of};
 use race_log::{Log, RaceSpec, judged};
 use racing::{SharedStore, answered};
 use requests::{Reason, Reply, Request};
@@ -190,8 +190,8 @@ fn assert_legal<R: Abort>(rt: &R, alloc: Global, log: Log) -> Result<(), Fail> {
         operator: false,
     };
     let report = judged(alloc, CAPACITY, &size, log)?.report;
-    assert!(rt; report.legal, "the order is legal");
-    assert_eq!(rt; report.twice, 0, "pods that were created twice");
+    assert_so(rt, report.legal, "an order that is legal");
+    assert_so(rt, report.twice == 0, "no pod that was created twice");
     Ok(())
 }
 
@@ -226,11 +226,12 @@ where
         &|index: usize| { work(rt, alloc, store, noted, index as u64).is_some() },
     )?;
     for (index, is_done) in done.iter().enumerate() {
-        assert!(rt; *is_done, "the thread {index}");
+        assert_numbered(rt, *is_done, "the thread", index);
     }
-    assert!(rt;
+    assert_so(
+        rt,
         is_full(rt, alloc, store) == Some(true),
-        "the store is full"
+        "a store that is full",
     );
     assert_legal(rt, alloc, log.into_inner())
 }

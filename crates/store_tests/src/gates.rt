@@ -3,7 +3,7 @@
 ghost use Rattle.std.specs.Prelude.{◌≡◌, true};
 ghost use Rattle.requests.specs.Verdict.{is_write};
 
-use crate::asking::{TURNS, has_reply, is_printed, write_of};
+use crate::asking::{TURNS, assert_so, has_reply, is_printed, write_of};
 use racing::SharedStore;
 use requests::{Reply, Request};
 use std::alloc::Global;
@@ -303,10 +303,12 @@ where
         || writers(rt, alloc, store, one, two, lines, made),
         || waiters(rt, alloc, store, three, four, made),
     );
-    assert!(rt; placed, "the first create is of the number 1");
-    assert_eq!(rt; steps.late.load(Ordering::SeqCst), 0);
-    assert!(rt; answered == Some(true), "the reply to the other create");
-    assert!(rt; compacted, "the reply to the compaction");
-    assert!(rt; refused, "the replies to the list");
+    let in_time = steps.late.load(Ordering::SeqCst) == 0;
+    drop(steps);
+    assert_so(rt, placed, "the number 1 of the first create");
+    assert_so(rt, in_time, "a step that is in time");
+    assert_so(rt, answered == Some(true), "the reply to the other create");
+    assert_so(rt, compacted, "the reply to the compaction");
+    assert_so(rt, refused, "the replies to the list");
     Ok(())
 }

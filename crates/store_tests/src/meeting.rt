@@ -1,5 +1,5 @@
 // Two callers that meet.
-use crate::asking::{assert_reply, request_of};
+use crate::asking::{assert_reply, assert_so, request_of};
 use racing::{SharedStore, answered};
 use std::alloc::Global;
 use std::process::Abort;
@@ -37,13 +37,10 @@ fn meet_after_a_create<H: Sharding, N: Naming, R: Wait + Abort>(
     second: &mut Caller<H, N>,
 ) {
     let place = place_of_a(rt, alloc, store, first);
-    assert_eq!(rt; place, 1, "the place of the create of a");
-    assert_eq!(rt; second.seen(), 0, "what the second has seen before");
+    assert_so(rt, place == 1, "the place of the create of a");
+    assert_so(rt, second.seen() == 0, "what the second has seen before");
     store.meet(first, second);
-    assert!(rt;
-        second.seen() >= 1,
-        "the second has seen what the first has"
-    );
+    assert_so(rt, second.seen() >= 1, "what the second has seen then");
 }
 
 /// Whose turn it is: the second caller's, or else the first's.

@@ -5,7 +5,7 @@ ghost use Rattle.line.specs.Seat.{AreShards};
 ghost use Rattle.store.specs.Callers.{IsLine};
 
 use crate::allocation_failures::assert_ample;
-use crate::asking::assert_rows;
+use crate::asking::{assert_rows, assert_so};
 use crate::callers::assert_callers;
 use crate::crowds::assert_replies_are_legal;
 use crate::gates::{A_IS_HELD, B_IS_HELD, assert_steps};
@@ -68,8 +68,12 @@ fn assert_on_line<
     match Store::<H, N>::new(alloc, ends) {
         Ok(store) => assert_scene(rt, alloc, &store, scene),
         Err(error) => {
-            assert_eq!(rt; error, StoreError::Memory, "why there is no store");
-            assert!(rt; scene == Scene::AllocationFailures, "memory for a store");
+            let is_so = error == StoreError::Memory && scene == Scene::AllocationFailures;
+            assert_so(
+                rt,
+                is_so,
+                "a store that is refused for want of memory alone",
+            );
             Ok(())
         }
     }
@@ -87,8 +91,8 @@ fn assert_on_shards<H: Sharding + Send + Sync, R: Threads + Wait + Abort + Sync>
     match Line::<Writing, ByShards<H>>::new(alloc, capacity, shards) {
         Ok(ends) => assert_on_line::<H, Brand, R>(rt, alloc, ends, scene),
         Err(error) => {
-            assert_eq!(rt; error, LineError::Memory, "why there is no line");
-            assert!(rt; scene == Scene::AllocationFailures, "memory for a line");
+            let is_so = error == LineError::Memory && scene == Scene::AllocationFailures;
+            assert_so(rt, is_so, "a line that is refused for want of memory alone");
             Ok(())
         }
     }
