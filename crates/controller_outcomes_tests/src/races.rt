@@ -105,7 +105,7 @@ fn are(found: &[FinalStore], wanted: &[(usize, u64)]) -> bool {
     found.len() == wanted.len()
 }
 
-fn is_so(found: Result<Vec<FinalStore>, OutcomesError>, wanted: &[(usize, u64)]) -> bool {
+fn answer_is(found: Result<Vec<FinalStore>, OutcomesError>, wanted: &[(usize, u64)]) -> bool {
     match found {
         Ok(found) => {
             let is_so = are(found.as_slice(), wanted);
@@ -124,7 +124,7 @@ fn ends_in(alloc: Global, row: &Row) -> bool {
         racers: Vec::new(alloc),
         looks: Vec::new(alloc),
     };
-    let is_so = is_so(
+    let is_so = answer_is(
         found(alloc, row.rounds, row.may_crash, &mut race),
         row.stores,
     );
