@@ -1,9 +1,9 @@
 // Lines, and the texts of their objects as the store would keep them.
+use crate::scanned::assert_so;
 use compact::Scanner;
 use compact_prints::{draft_of_line, indexed};
 use objects::{IndexedText, Memory, Meta};
 use std::alloc::Global;
-use std::process::Abort;
 use trees::Text;
 
 const CREATE: &[u8] =
@@ -66,10 +66,6 @@ fn knows(found: &Option<IndexedText>, spec: u32, generation: u32) -> bool {
         Some(found) => found.spec == spec && found.generation == generation,
         None => false,
     }
-}
-
-fn assert_so(rt: &impl Abort, is_so: bool, row: &str) {
-    assert!(rt; is_so, "of {row}");
 }
 
 #[test]

@@ -1,9 +1,10 @@
+// What a scanner leaves of a line, and what a row has to be.
 use compact::Scanner;
 use std::alloc::{AllocError, Global};
 use std::process::Abort;
 
 /// The text that a scanner leaves of a line, if it takes it.
-pub fn scanned(
+pub(crate) fn scanned(
     alloc: Global,
     scanner: &mut Scanner,
     line: &str,
@@ -16,6 +17,6 @@ pub fn scanned(
     }
 }
 
-pub fn assert_so(rt: &impl Abort, is_so: bool, row: &str) {
+pub(crate) fn assert_so(rt: &impl Abort, is_so: bool, row: &str) {
     assert!(rt; is_so, "of {row}");
 }

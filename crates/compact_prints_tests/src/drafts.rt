@@ -1,9 +1,9 @@
 // Lines whose object is told, and lines whose object is not.
+use crate::scanned::assert_so;
 use compact::Scanner;
 use compact_drafts::CompactDraft;
 use objects::{Key, Kind, Memory};
 use std::alloc::Global;
-use std::process::Abort;
 
 // What a row shows, and a line whose object is a pod `web-0`.
 const TOLD: [(&str, &str); 6] = [
@@ -76,10 +76,6 @@ fn key_told(alloc: Global, line: &str) -> Result<Option<Key>, Memory> {
         return Ok(None);
     }
     Ok(CompactDraft::of(alloc, &text, scanner.tables())?.map(|draft| draft.key))
-}
-
-fn assert_so(rt: &impl Abort, is_so: bool, row: &str) {
-    assert!(rt; is_so, "of {row}");
 }
 
 #[test]
