@@ -1,10 +1,10 @@
-//! Allocation failures. `checks/allocations` refuses each allocation of each test in turn, and each has to pass. A test says nothing
-//! where what it needs itself is refused.
+//! Allocation failures. `checks/allocations` refuses each allocation of each test in turn, and each test has to pass. A
+//! test says nothing if its own setup is refused memory.
 use crate::sample::{GET_SET, LIST_CLAIMS, LIST_PODS, LIST_REVISIONS, LIST_SETS, STATUS};
 use crate::turns::{Turn, happen};
 use crate::{clusters, wholes};
 
-/// Of two runs one is refused no allocation, and comes to its end.
+/// One of two runs is refused no allocation, and reaches its end.
 #[test]
 fn a_run_ends_at_an_allocation_failure(rt: HostRuntime) {
     let (Ok(first), Ok(second)) = (wholes::ran(rt.alloc()), wholes::ran(rt.alloc())) else {
@@ -14,7 +14,7 @@ fn a_run_ends_at_an_allocation_failure(rt: HostRuntime) {
     assert!(rt; first.1 || second.1);
 }
 
-/// Of two runs one is refused no allocation.
+/// One of two runs is refused no allocation.
 #[test]
 fn a_cluster_ends_at_an_allocation_failure(rt: HostRuntime) {
     let first = clusters::ran(rt.alloc());
@@ -28,7 +28,7 @@ const MAKE: &str =
 
 const DELETE: &str = r#"{"do":"delete","kind":"StatefulSet","name":"web"}"#;
 
-/// The first two rounds of a set with a claim; the round after it is gone, and how the next one begins.
+/// The first two rounds of a set with a claim, the round after its deletion, and the start of the next one.
 static PHASES: [Turn; 4] = [
     Turn::Line(MAKE),
     Turn::Asks(&[

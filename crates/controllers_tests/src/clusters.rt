@@ -5,9 +5,9 @@ use history::Event;
 use objects::Memory;
 use std::alloc::Global;
 
-/// What happens, and to which controller or caller. Three of these are not enabled: there is one controller, which waits for a
-/// reply, and the caller 0 was it. The others have the places from 0 to 13. The first get has read nothing when its caller goes,
-/// and the second one, of the caller 1, finds what was created.
+/// What happens, and to which controller or caller. Three of these are not enabled: there is one controller, which
+/// waits for a reply, and it was caller 0. The others have the indices from 0 to 13. The first get has read nothing
+/// when its caller crashes, and the second one, of caller 1, finds what was created.
 static EVENTS: [(&str, u64); 17] = [
     ("next", 1),
     ("next", 0),
@@ -65,7 +65,7 @@ fn spec(alloc: Global) -> Result<ClusterSpec, Memory> {
     })
 }
 
-/// What was handed on, the order, and whose the callers are.
+/// What was passed to the store, the order, and whose the callers are.
 fn is_right(found: &ClusterRun) -> bool {
     let owners = &found.owners;
     found.events.len() == 14
@@ -95,7 +95,7 @@ fn ran_over(alloc: Global, events: &[ClusterEvent]) -> Result<bool, Memory> {
     found
 }
 
-/// Whether the run comes to what it should; or memory ran out.
+/// Whether the run is what it should be; or memory ran out.
 pub(crate) fn ran(alloc: Global) -> Result<bool, Memory> {
     let mut events = Vec::new(alloc);
     let found = match add_events(alloc, &mut events) {

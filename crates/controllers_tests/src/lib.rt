@@ -1,5 +1,5 @@
-//! What only a call shows of controllers: replies that no store gives, refused plans, and what is left after a refused
-//! allocation. What they ask over lines is in `examples/cluster` and `checks/stories.txt`.
+//! What only calls show of controllers: replies that no store gives, refused plans, and what is left after a refused
+//! allocation. What they send over lines is in `examples/cluster` and `checks/stories.txt`.
 #![tactic(auto)]
 
 #[cfg(test)]

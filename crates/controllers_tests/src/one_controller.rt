@@ -1,4 +1,4 @@
-//! What one controller asks, and where replies take it that a store does not give, or that nobody waits for.
+//! What one controller sends, and what it does after replies that a store does not give, or that it does not wait for.
 use crate::sample::{Asked, GET_SET, LIST_CLAIMS, LIST_SETS, ONE, STATUS};
 use crate::turns::{Turn, happen};
 use std::process::Abort;
@@ -27,8 +27,8 @@ const DELETE_DATA: Asked = ("delete", "PersistentVolumeClaim", "data-web-0");
 
 const DELETE_LOGS: Asked = ("delete", "PersistentVolumeClaim", "logs-web-0");
 
-/// The idea, and what happens. Where the set is not there, a controller has listed the claims after two requests, and waits
-/// for the list of sets.
+/// The idea, and what happens. If the set does not exist, a controller has listed the claims after two requests, and
+/// waits for the list of sets.
 static ROWS: [(&str, &[Turn]); 4] = [
     (
         "a reply is taken once; one of another kind ends the round, and so does a crash",
@@ -73,7 +73,7 @@ static ROWS: [(&str, &[Turn]); 4] = [
         ],
     ),
     (
-        // Ten requests make the revision, and eleven the pod and the status. The store never hears of the deletes.
+        // Ten requests make the revision, and eleven the pod and the status. The deletes are not passed to the store.
         "a pod may be removed, be marked or stay as it is",
         &[
             Turn::Line(ONE),

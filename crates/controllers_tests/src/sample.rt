@@ -5,7 +5,8 @@ ghost use Rattle.controllers.specs.Phase.{reading_set};
 
 use controllers::Controller;
 use objects::{Key, Memory};
-use plain::{Plain, Request, read_request};
+use plain::{Request, read_request};
+use plain_store::Trees;
 use std::alloc::Global;
 
 pub(crate) const MOMENT: &str = "2024-01-01T00:00:00Z";
@@ -38,9 +39,9 @@ pub(crate) fn controller(alloc: Global) -> Result<Controller, Memory>
 }
 
 /// A new store.
-pub(crate) fn store(alloc: Global) -> Result<Plain, Memory> {
-    match Plain::new(alloc, 10_000) {
-        Ok(plain) => Ok(plain),
+pub(crate) fn store(alloc: Global) -> Result<Trees, Memory> {
+    match Trees::new(alloc, 10_000) {
+        Ok(store) => Ok(store),
         Err(_) => Err(Memory),
     }
 }

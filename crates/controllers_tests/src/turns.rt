@@ -1,8 +1,9 @@
-//! What happens to one controller, turn by turn. Where an allocation is refused, the controller is asked once more.
+//! What happens to one controller, turn by turn. If an allocation is refused, the call is repeated once.
 use crate::sample::{Asked, controller, is_asked, request_of, store};
 use controllers::Controller;
 use objects::{Memory, Object};
-use plain::{Plain, Reason, Reply, Request};
+use plain::{Reason, Reply, Request};
+use plain_store::Trees;
 use sets::PlanError;
 use std::alloc::Global;
 
@@ -10,22 +11,22 @@ use std::alloc::Global;
 pub(crate) enum Turn {
     /// Its next request is this one.
     Next(Asked),
-    /// It asks these, and the store answers.
+    /// It sends these, and the store replies.
     Asks(&'static [Asked]),
-    /// The store answers so many of its requests.
+    /// The store replies to so many of its requests.
     Goes(u8),
-    /// It is told that nothing is there, or of a compaction, or that what it asked to delete is removed, is marked, or stays as
-    /// it is.
+    /// Its reply says that nothing is there, or that it is a compaction's, or that what it asked to delete is removed,
+    /// is marked, or stays as it is.
     Told(&'static str),
     Crash,
-    /// Somebody else asks the request of this line.
+    /// Another client sends the request of this line.
     Line(&'static str),
-    /// Its last plan was refused as this; or it was not, `none`.
+    /// Its last plan was refused for this; or it was not, `none`.
     Refused(&'static str),
 }
 
-/// The next request. Where memory was short a second call has it, and a reply between them, which would end the round, is not
-/// waited for.
+/// The next request. Out of memory, a second call has it, and a reply between the calls, which would end the round, is
+/// not awaited.
 fn next_at_last(web: &mut Controller) -> Option<Request> {
     match web.next() {
         Ok(request) => Some(request),
@@ -53,7 +54,7 @@ fn is_next(web: &mut Controller, wanted: &Asked) -> bool {
     is_so
 }
 
-fn goes_on(plain: &mut Plain, web: &mut Controller) -> Result<bool, Memory> {
+fn goes_on(plain: &mut Trees, web: &mut Controller) -> Result<bool, Memory> {
     let Some(request) = next_at_last(web) else {
         return Ok(false);
     };
@@ -61,7 +62,7 @@ fn goes_on(plain: &mut Plain, web: &mut Controller) -> Result<bool, Memory> {
     Ok(takes_at_last(web, reply))
 }
 
-fn goes(plain: &mut Plain, web: &mut Controller, times: u8) -> Result<bool, Memory> {
+fn goes(plain: &mut Trees, web: &mut Controller, times: u8) -> Result<bool, Memory> {
     for _ in 0..times {
         if !goes_on(plain, web)? {
             return Ok(false);
@@ -70,8 +71,9 @@ fn goes(plain: &mut Plain, web: &mut Controller, times: u8) -> Result<bool, Memo
     Ok(true)
 }
 
-/// It is asked once: a second `next` that is refused memory would leave the request open, and the reply between would end the round.
-fn asks_next(plain: &mut Plain, web: &mut Controller, wanted: &Asked) -> Result<bool, Memory> {
+/// It is called once: a second `next` that is refused memory would leave the request open, and the reply between would
+/// end the round.
+fn asks_next(plain: &mut Trees, web: &mut Controller, wanted: &Asked) -> Result<bool, Memory> {
     let Some(request) = next_at_last(web) else {
         return Ok(false);
     };
@@ -83,7 +85,7 @@ fn asks_next(plain: &mut Plain, web: &mut Controller, wanted: &Asked) -> Result<
     Ok(takes_at_last(web, reply))
 }
 
-fn asks(plain: &mut Plain, web: &mut Controller, wanted: &[Asked]) -> Result<bool, Memory> {
+fn asks(plain: &mut Trees, web: &mut Controller, wanted: &[Asked]) -> Result<bool, Memory> {
     for asked in wanted {
         if !asks_next(plain, web, asked)? {
             return Ok(false);
@@ -92,7 +94,7 @@ fn asks(plain: &mut Plain, web: &mut Controller, wanted: &[Asked]) -> Result<boo
     Ok(true)
 }
 
-/// What a delete is answered with here.
+/// The object in the reply to a delete here.
 fn pod(alloc: Global) -> Result<Object, Memory> {
     let line = r#"{"do":"create","object":{"kind":"Pod","metadata":{"name":"web-0"}}}"#;
     match request_of(alloc, line)? {
@@ -120,14 +122,14 @@ fn refusal_name(web: &Controller) -> &'static str {
     }
 }
 
-fn takes_line(alloc: Global, plain: &mut Plain, line: &str) -> Result<bool, Memory> {
+fn takes_line(alloc: Global, plain: &mut Trees, line: &str) -> Result<bool, Memory> {
     drop(plain.take(request_of(alloc, line)?)?);
     Ok(true)
 }
 
 fn happens(
     alloc: Global,
-    plain: &mut Plain,
+    plain: &mut Trees,
     web: &mut Controller,
     turn: &Turn,
 ) -> Result<bool, Memory> {
@@ -147,7 +149,7 @@ fn happens(
 
 fn all_happen(
     alloc: Global,
-    plain: &mut Plain,
+    plain: &mut Trees,
     web: &mut Controller,
     turns: &[Turn],
 ) -> Result<bool, Memory> {
@@ -159,14 +161,14 @@ fn all_happen(
     Ok(true)
 }
 
-fn happen_over(alloc: Global, plain: &mut Plain, turns: &[Turn]) -> Result<bool, Memory> {
+fn happen_over(alloc: Global, plain: &mut Trees, turns: &[Turn]) -> Result<bool, Memory> {
     let mut web = controller(alloc)?;
     let are_so = all_happen(alloc, plain, &mut web, turns);
     drop(web);
     are_so
 }
 
-/// Whether the turns go as they say, with a new controller and a new store.
+/// Whether the turns happen as they say, with a new controller and a new store.
 pub(crate) fn happen(alloc: Global, turns: &[Turn]) -> Result<bool, Memory> {
     let mut plain = store(alloc)?;
     let are_so = happen_over(alloc, &mut plain, turns);

@@ -1,4 +1,4 @@
-//! A run of one controller over a plain store, and what the store takes.
+//! A run of one controller over a plain store, and what the store handles.
 ghost use Rattle.std.specs.Prelude.{◌≡◌, IfOk};
 ghost use Rattle.std.specs.List.{AllByRecursion};
 ghost use Rattle.controllers.specs.Controller.{phase_of};
@@ -10,7 +10,8 @@ use crate::sample::{
 };
 use controllers::{Controller, Taken, WholeEvent, WholeRun, run_whole};
 use objects::Memory;
-use plain::{Plain, Reply};
+use plain::Reply;
+use plain_store::Trees;
 use std::alloc::Global;
 
 const CREATE_SET: Asked = ("create", "StatefulSet", "web");
@@ -19,8 +20,8 @@ const CREATE_REVISION: Asked = ("create", "ControllerRevision", "web-10203acf9b"
 
 const CREATE_POD: Asked = ("create", "Pod", "web-0");
 
-/// Whether the controller asked, what, and the reply, with the version of its object or with how many it lists. The controller
-/// crashes before its third round.
+/// Whether the controller sent it, what, and the reply, with the version of its object or with how many it lists. The
+/// controller crashes before its third round.
 static TAKEN: [(bool, Asked, &str, u64); 21] = [
     (false, CREATE_SET, "Created", 1),
     (true, GET_SET, "Found", 1),
@@ -67,7 +68,7 @@ fn controllers(alloc: Global) -> Result<Vec<Controller>, Memory>
     Ok(controllers)
 }
 
-fn run_over(alloc: Global, plain: &mut Plain, events: &[WholeEvent]) -> Result<WholeRun, Memory> {
+fn run_over(alloc: Global, plain: &mut Trees, events: &[WholeEvent]) -> Result<WholeRun, Memory> {
     let mut controllers = controllers(alloc)?;
     let run = run_whole(alloc, plain, controllers.as_mut_slice(), events);
     drop(controllers);
@@ -118,7 +119,7 @@ fn are_entries(taken: &[Taken]) -> bool {
     taken.len() <= 21
 }
 
-/// Whether what a run takes is right as far as it comes, and whether it comes to its end.
+/// Whether what a run handles is right as far as it gets, and whether it reaches its end.
 pub(crate) fn ran(alloc: Global) -> Result<(bool, bool), Memory> {
     let run = run(alloc)?;
     let is_right = are_entries(run.taken.as_slice());

@@ -128,7 +128,7 @@ is_object (number n) ms h = absurd cc
 is_object (string s) ms h = absurd cc
 is_object (array ds) ms h = absurd cc
 
--- a member that is set or taken away leaves what a body has to say, unless it says that
+-- setting or removing a member keeps what a body has to say, unless the member says that
 body_with : (k : List ℕ) (kind : Kind) (value : Option Data) (body : Data) → codes "kind" ≢ k → codes "apiVersion" ≢ k → codes "metadata" ≢ k → IsBody kind body → IsBody kind (with_member k value body)
 body_with k kind value body not_kind not_version not_metadata h =
     subst (λ b. IsBody kind (with_member k value b)) (sym h.made_of) (record {

@@ -1,4 +1,4 @@
--- A body's member where one member is set or taken away, and the members of a body of whole numbers.
+-- A body's member when one member is set or removed, and the members of a body of whole numbers.
 use Rattle.std.proofs.Common.{◌≡◌, ℕ, List, Bool, true, false, cond, bytes_eq, Option, Some, None, IfSome, refl, ◌∙◌}
 use Rattle.std.specs.Ordering.{nat_cmp, match_ordering}
 use Rattle.std.specs.declared.cmp.Ordering.{Ordering}
@@ -30,7 +30,7 @@ set_found k (Some d) ms = get_member-put k d ms
 pub member_of-with_member : (k : List ℕ) (value : Option Data) (ms : Members) → member_of k (with_member k value (object ms)) ≡ value
 member_of-with_member k value ms = set_found k value ms
 
--- no body has a member that was taken away
+-- no body has a member that was removed
 pub member_of-without : (k : List ℕ) (body : Data) → member_of k (with_member k None body) ≡ None
 member_of-without k null = refl
 member_of-without k (boolean b) = refl

@@ -60,7 +60,7 @@ text_by : (none : Bool) (s : List ℕ) → cond none None (Some (string s)) ≡ 
 text_by true s = refl
 text_by false s = refl
 
--- a text that is put only where its number is not 0
+-- a text that is put only if its number is not 0
 optional_unless : (e : ReadError) (n : ℕ) (s : List ℕ) → optional_text e (unless_zero n (string s)) ≡ Ok (text_unless_zero n s)
 optional_unless e n s = ap (optional_text e) (text_by (n == 0) s) ∙ optional_string e (text_unless_zero n s)
 

@@ -29,12 +29,12 @@ without_put_at Equal k l d e ms is held later =
     ap (λ h. cond h (without_held ms) (member l d (without_held ms))) l_held ∙ sym (ap (λ h. cond h (without_held ms) (member l e (without_held ms))) l_held)
 without_put_at Greater k l d e ms is held later = ap (λ w. cond (is_held l) w (member l e w)) later
 
--- a held member that is put is taken out again
+-- a held member that is put is removed again
 pub without_put : (k : List ℕ) (d : Data) (ms : Members) → is_held k ≡ true → without_held (put k d ms) ≡ without_held ms
 without_put k d no_members held = ap (λ h. cond h no_members (member k d no_members)) held
 without_put k d (member l e ms) held = without_put_at (slice_cmp nat_cmp k l) k l d e ms refl held (without_put k d ms held)
 
--- where none is held, none is taken out
+-- if none is held, none is removed
 pub without_none : (ms : Members) → has_held ms ≡ false → without_held ms ≡ ms
 without_none no_members h = refl
 without_none (member k d ms) h =
@@ -47,7 +47,7 @@ held_missing_at Less q l e ms is held other later = later
 held_missing_at Equal q l e ms is held other later = absurd (let l_held : is_held l ≡ true = subst (λ t. is_held t ≡ true) (equal_texts q l is) held in let clash : true ≡ false = sym l_held ∙ other in cc)
 held_missing_at Greater q l e ms is held other later = later
 
--- where none is held, a held name is not found
+-- if none is held, a held name is not found
 pub held_missing : (q : List ℕ) (ms : Members) → is_held q ≡ true → has_held ms ≡ false → get_member q ms ≡ None
 held_missing q no_members held h = refl
 held_missing q (member l e ms) held h =
@@ -65,7 +65,7 @@ kept_at : (held : Bool) (q l : List ℕ) (e : Data) (ms : Members) → is_held l
 kept_at true q l e ms is other later = kept_past (slice_cmp nat_cmp q l) q l e ms refl other is later
 kept_at false q l e ms is other later = ap (λ found. match_ordering (slice_cmp nat_cmp q l) found (Some e) found) later
 
--- a name that is not held is found as before where the held ones are taken out
+-- a name that is not held is found as before once the held ones are removed
 pub unheld_found : (q : List ℕ) (ms : Members) → is_held q ≡ false → get_member q (without_held ms) ≡ get_member q ms
 unheld_found q no_members other = refl
 unheld_found q (member l e ms) other = kept_at (is_held l) q l e ms refl other (unheld_found q ms other)
@@ -82,12 +82,12 @@ ascending_without_at : (held : Bool) (l : List ℕ) (d : Data) (ms : Members) �
 ascending_without_at true l d ms before later = later
 ascending_without_at false l d ms before later = (before, later)
 
--- members that are taken out leave the order
+-- removing members keeps the order
 pub ascending_without : (ms : Members) → AreAscending ms → AreAscending (without_held ms)
 ascending_without no_members h = tt
 ascending_without (member l d ms) h = ascending_without_at (is_held l) l d ms (before_without l ms h.0 h.1) (ascending_without ms h.1)
 
--- ---- what is put only where it is there
+-- ---- what is put only if it is there
 
 without_put_some : (k : List ℕ) (o : Option Data) (ms : Members) → is_held k ≡ true → without_held (put_some k o ms) ≡ without_held ms
 without_put_some k None ms held = refl

@@ -15,6 +15,7 @@ pub mod PlainDigits
 pub mod SeamTexts
 pub mod SpecTexts
 pub mod SplicedTexts
+mod Around
 pub mod ReplacedTexts
 pub mod ObjectTokens
 pub mod PrintedObjects

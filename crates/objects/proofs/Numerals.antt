@@ -26,7 +26,7 @@ by_tests s (Err e) v first true true a b c h some = absurd (h (sym b, some, ltb-
 by_tests s (Err e) v first true false a b c h some = rw a refl
 by_tests s (Err e) v first false fits a b c h some = rw a refl
 
--- what parsing gives, or 0, where the first byte is above `0`
+-- what parsing gives, or 0, if the first byte is above `0`
 pub version_by : {E : Type 0} (s : List ℕ) (r : Result ℕ E) → 48 < get_or s 0 0 → ParsesUnsigned 64 10 s r → result_unwrap_or r 0 ≡ version_number s
 unfolding version_number
 version_by s r above h =

@@ -1,4 +1,4 @@
--- A body whose owner references are set or taken away.
+-- A body whose owner references are set or removed.
 use Rattle.std.proofs.Common.{◌≡◌, ℕ, List, Bool, true, false, cond, Option, Some, None, refl, sym, ap, ◌∙◌, subst}
 use Rattle.std.specs.Prelude.{codes, bytes_eq, option_map, option_and_then, unwrap_or}
 use Rattle.std.specs.Ordering.{nat_cmp, match_ordering}
@@ -61,7 +61,7 @@ body_with_owners kind owners body fit h =
     (ap labels_fit (get_member-set_member (codes "labels") (codes "ownerReferences") value h.metadata (λ e. absurd cc)) ∙ h.labels_member)
     (ap owners_fit (set_found (codes "ownerReferences") value h.metadata) ∙ fit))
 
--- the metadata once the owners are set or taken away
+-- the metadata once the owners are set or removed
 metadata_of-with_owners : (owners : Option Items) (ms : Members)
     → metadata_of (with_owners owners (object ms)) ≡ Some (set_member (codes "ownerReferences") (option_map array owners) (unwrap_or (metadata_of (object ms)) no_members))
 metadata_of-with_owners owners ms =

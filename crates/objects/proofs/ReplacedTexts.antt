@@ -1,4 +1,4 @@
--- What an update makes of an object, told from texts.
+-- What an update makes of an object, found from texts.
 use Rattle.std.proofs.Common.{◌≡◌, ◌≢◌, ℕ, ◌+◌, ◌-◌, ◌≤◌, ◌<◌, ◌^◌, List, ◌++◌, length, take, drop, Bool, true, false, bytes_eq, codes, Option, Some, None, IfSome, string_bytes, refl, sym, ap, ◌∙◌, subst, append_assoc, length-append, arith}
 use Rattle.std.proofs.Math.Seq.{take-append_seam, drop-append_seam}
 use Rattle.std.proofs.lemmas.Slice.Eq.{bytes_eq-Decides}
@@ -27,13 +27,13 @@ use Rattle.objects.proofs.SplicedTexts.{apart_by, found_equal, parts_at, canonic
 
 -- ---- the bytes of the spec
 
--- a list that stands between others
+-- a list between others
 pub between : (t lead part rest : List ℕ) (begin end : ℕ) → t ≡ lead ++ (part ++ rest) → begin ≡ length lead → end ≡ length lead + length part → take (end - begin) (drop begin t) ≡ part
 between t lead part rest begin end is here there =
     let left : end - begin ≡ length part = omega (arith, here, there) in
     rw (left, here, is) (ap (take (length part)) (drop-append_seam lead (part ++ rest)) ∙ take-append_seam part rest)
 
--- where the spec stands in the text of an indexed text
+-- where the spec is in the text of an indexed text
 pub record IsSpecIn (o : Object) (s : IndexedText) : Type 0 where
   pub lead : List ℕ
   pub rest : List ℕ
@@ -74,7 +74,7 @@ spec_fits o s h =
     ap length h.text ∙ length-append h.lead (bytes ++ h.rest) ∙ ap (λ n. length h.lead + n) (length-append bytes h.rest) in
     (omega (arith, h.size, h.status), omega (arith, h.status, whole))
 
--- ---- the text of a spec tells it
+-- ---- the text of a spec determines it
 
 read_again : (d : Data) (t : List ℕ) → IsCanonical d → ArePrintableOrBad (spec_tokens (Some d)) → t ≡ compact_text d → read_within (length t) t ≡ Some d
 read_again d t canonical printable is =
@@ -106,27 +106,25 @@ same_texts_by true a b p q g h is =
 same_texts_by false a b p q g h is =
     sym (apart_by (same_found a b) (λ same. let both : true ≡ false = sym ((bytes_eq-Decides (spec_text a) (spec_text b)).1 (ap spec_text (found_equal a b same))) ∙ is in absurd cc))
 
--- the texts of two specs are the same exactly where the specs are
+-- the texts of two specs are the same exactly if the specs are
 pub same_texts : (o p : Object) (s t : IndexedText) → IsOpen o s → IsOpen p t
     → bytes_eq (spec_text (member_of (codes "spec") o.body)) (spec_text (member_of (codes "spec") p.body)) ≡ same_found (member_of (codes "spec") o.body) (member_of (codes "spec") p.body)
 same_texts o p s t left right =
     same_texts_by _ (member_of (codes "spec") o.body) (member_of (codes "spec") p.body) (spec_canonical o s.version s.status s.spec left.spec) (spec_canonical p t.version t.status t.spec right.spec) left.spec.printable right.spec.printable refl
 
--- ---- the object in the place of the other
+-- ---- the object that replaces the other
 
--- the text with the status of the other is that of what the update makes
-pub replaced_indexed : (o u p : Object) (found : Option Object) (s t new : IndexedText) (made : Option IndexedText) (end : List ℕ) (indexed : IsIndexedText o s) → IfSome found (λ (q : Object). q ≡ record { key = u.key; meta = meta_after o u; body = u.body }) → found ≡ Some p
-    → IsIndexedText p t → (some : s.version ≢ 0) → end ≡ (indexed_parts o s indexed some).rest → IfSome made (IsSpliced t end s.revision) → made ≡ Some new → IsIndexedText (replaced o u) new
-replaced_indexed o u p found s t new made end indexed told found_is printed some ends spliced made_is =
+-- the text with the status of the other is that of what the update makes, at another number
+pub replaced_indexed : (o u p : Object) (found : Option Object) (s t new : IndexedText) (made : Option IndexedText) (end : List ℕ) (n : ℕ) (indexed : IsIndexedText o s) → IfSome found (λ (q : Object). q ≡ record { key = u.key; meta = meta_after o u; body = u.body }) → found ≡ Some p
+    → IsIndexedText p t → (some : s.version ≢ 0) → n < 2 ^ 64 → end ≡ (indexed_parts o s indexed some).rest → IfSome made (IsSpliced t end n) → made ≡ Some new → IsIndexedText (at_version (replaced o u) n) new
+replaced_indexed o u p found s t new made end n indexed told found_is printed some small ends spliced made_is =
     let at = indexed.seams some in
     let seams = at.seams in
     let own : Object = record { key = u.key; meta = meta_after o u; body = u.body } in
     let own_indexed : IsIndexedText own t = subst (λ q. IsIndexedText q t) (subst (λ f. IfSome f (λ q. q ≡ own)) found_is told) printed in
-    let small : s.revision < 2 ^ 64 = subst (λ n. n < 2 ^ 64) (sym indexed.revision) seams.rules.meta.revision in
-    let h : IsSpliced t end s.revision new = subst (λ f. IfSome f (IsSpliced t end s.revision)) made_is spliced in
-    subst (λ n. IsIndexedText (at_version (with_status (member_of (codes "status") o.body) own) n) new) indexed.revision
-    (subst (λ v. IsIndexedText (at_version (with_status v own) s.revision) new) (sym (status_of_seams o at.front at.middle seams))
-    (spliced_indexed own t seams.status end s.revision new own_indexed small seams.printable (status_canonical o at.front at.middle seams) ends h))
+    let h : IsSpliced t end n new = subst (λ f. IfSome f (IsSpliced t end n)) made_is spliced in
+    subst (λ v. IsIndexedText (at_version (with_status v own) n) new) (sym (status_of_seams o at.front at.middle seams))
+    (spliced_indexed own t seams.status end n new own_indexed small seams.printable (status_canonical o at.front at.middle seams) ends h)
 
 as_it_was : (o : Object) (k : Key) (g : ℕ) (b : Data) → o.key ≡ k → g ≡ o.meta.generation → o.body ≡ b
     → record { key = k; meta = record { uid = o.meta.uid; revision = o.meta.revision; generation = g; deletion = o.meta.deletion }; body = b } ≡ o
@@ -140,8 +138,17 @@ replaced_same o u s known key body =
     let told : same_found (member_of (codes "spec") o.body) (member_of (codes "spec") u.body) ≡ true = subst (λ x. same_found (member_of (codes "spec") o.body) x ≡ true) spec (same_spec (member_of (codes "spec") o.body) known.spec.printable) in
     as_it_was o u.key _ _ key (ap (generation_after o.meta.generation) told) body
 
--- another text is that of another key or another body
-pub replaced_apart : (o u : Object) (s new : IndexedText) → IsIndexedText o s → IsOpen o s → IsIndexedText (replaced o u) new → (string_bytes new.text ≡ string_bytes s.text → ⊥) → o.key ≡ u.key → same_data o.body (replaced o u).body ≡ false
-replaced_apart o u s new indexed known made differ key = apart_by _ (λ same.
+-- the text of an object at another number
+text_at : (o : Object) (s : IndexedText) (indexed : IsIndexedText o s) (some : s.version ≢ 0) (n : ℕ) → n ≢ 0 → n < 2 ^ 64
+    → text (at_version o n) ≡ (indexed_parts o s indexed some).front ++ (version_text n ++ ((indexed_parts o s indexed some).middle ++ (indexed_parts o s indexed some).rest))
+text_at o s indexed some n written small =
+    let seams = (indexed.seams some).seams in
+    ap (λ b. text (at_version (record { key = o.key; meta = o.meta; body = b }) n)) seams.body ∙ seams.texts n seams.status written small
+
+-- a text that is not the old one with another version is that of another body
+pub replaced_apart : (o u : Object) (s new : IndexedText) (indexed : IsIndexedText o s) (some : s.version ≢ 0) (n : ℕ) → IsOpen o s → o.key ≡ u.key → n ≢ 0 → n < 2 ^ 64 → IsIndexedText (at_version (replaced o u) n) new
+    → ((version : List ℕ) → string_bytes new.text ≡ (indexed_parts o s indexed some).front ++ (version ++ ((indexed_parts o s indexed some).middle ++ (indexed_parts o s indexed some).rest)) → ⊥)
+    → same_data o.body (replaced o u).body ≡ false
+replaced_apart o u s new indexed some n known key written small made differ = apart_by _ (λ same.
     let whole : replaced o u ≡ o = replaced_same o u s known key (same-equal o.body (replaced o u).body same) in
-    differ (made.text.text ∙ ap text whole ∙ sym indexed.text.text))
+    differ (version_text n) (made.text.text ∙ ap (λ p. text (at_version p n)) whole ∙ text_at o s indexed some n written small))

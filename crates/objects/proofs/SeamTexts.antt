@@ -49,7 +49,7 @@ pub get_front : (k : List ℕ) (es : List (List ℕ × Tree)) (ms : Members) →
 get_front k [] ms h = refl
 get_front k (e ∷ es) ms h = rw h.0 (get_front k es ms h.1)
 
--- ---- a status behind members of lower keys
+-- ---- a status after members of lower keys
 
 abbrev alone : Option Data → Members
 alone None = no_members
@@ -216,7 +216,7 @@ printable_text d h =
 
 -- ---- an object that was written in parts
 
--- what stands between the version and the status
+-- what is between the version and the status
 abbrev pub between : Object → List (List ℕ × Tree) → List (List ℕ × Tree) → List Token
 between o versioned mid = after_version o versioned ++ entry_tokens mid
 

@@ -1,4 +1,4 @@
--- The spec of an object, as it stands in the object's text between the metadata and the status.
+-- The spec of an object, as the object's text has it between the metadata and the status.
 use Rattle.std.proofs.Common.{◌≡◌, ◌⊎◌, inl, inr, ℕ, zero, suc, ◌≤◌, ◌-◌, List, [], ◌∷◌, ◌++◌, length, take, drop, true, codes, decimal, Option, Some, None, refl, sym, ap, ◌∙◌, subst, append_assoc, append-nil, take-append-drop, length-append, length-drop, arith}
 use Rattle.std.specs.Ordering.{nat_cmp}
 use Rattle.std.specs.declared.cmp.Ordering.{Ordering}
@@ -94,7 +94,7 @@ between_written after tail old begun before new start ts front is same empty las
       canonical = front.canonical;
     }
 
--- what stands between the version and the status, in two parts
+-- what is between the version and the status, in two parts
 pub between_parts : (o : Object) (versioned mid : List (List ℕ × Tree)) → print_from true (between o versioned mid) ≡ print_from true (after_version o versioned) ++ print_from true (entry_tokens mid)
 between_parts o versioned mid =
     print_from-append true (after_version o versioned) (entry_tokens mid) ∙ ap (λ c. print_from true (after_version o versioned) ++ print_from c (entry_tokens mid)) (ends_after_version o versioned)

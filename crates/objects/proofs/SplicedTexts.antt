@@ -167,7 +167,7 @@ spec_stays o front middle seams n value =
     ap (member_of (codes "spec")) seams.body ∙ get_member-set_member (codes "spec") (codes "status") seams.status seams.others (λ same. absurd cc)
     ∙ sym (get_member-set_member (codes "spec") (codes "status") value seams.others (λ same. absurd cc))
 
--- and where it stands
+-- and where it is
 pub spliced_spec : (o : Object) (version status size : ℕ) (spec : IsSpecAt o version status size) (n : ℕ) (value : Option Data) (here there : ℕ) → n ≢ 0 → n < 2 ^ 64 → ArePrintableOrBad (status_tokens value)
     → IsCanonicalStatus value → here ≡ length spec.at.front → there ≡ length (spec.at.front ++ (version_text n ++ spec.at.middle)) → IsSpecAt (at_version (with_status value o) n) here there size
 spliced_spec o version status size spec n value here there some small printable one here_is there_is =
@@ -283,7 +283,7 @@ parts_at o s indexed at =
 abbrev pub indexed_parts : (o : Object) (s : IndexedText) (indexed : IsIndexedText o s) → s.version ≢ 0 → AreParts (string_bytes s.text) s.revision s.version s.status
 indexed_parts o s indexed some = parts_at o s indexed (indexed.seams some)
 
--- a spliced indexed text knows the spec and the generation where the old one does
+-- a spliced indexed text knows the spec and the generation if the old one does
 spliced_known : (o : Object) (s : IndexedText) (value : Option Data) (end : List ℕ) (n : ℕ) (new : IndexedText) → IsIndexedText o s → n < 2 ^ 64 → ArePrintableOrBad (status_tokens value) → IsCanonicalStatus value
     → IsSpliced s end n new → new.version ≢ 0 → new.generation ≢ 0 → IsOpen (at_version (with_status value o) n) new
 spliced_known o s value end n new indexed small printable one h some told =
@@ -316,7 +316,7 @@ spliced_again o s end n new indexed small ends h =
     subst (λ p. IsIndexedText p new) (status_kept o at.front at.middle at.seams n)
     (spliced_indexed o s at.seams.status end n new indexed small at.seams.printable (status_canonical o at.front at.middle at.seams) (ends h.seams) h)
 
--- the text ends as one with that status exactly where the object has it
+-- the text ends as one with that status exactly if the object has it
 ends_by : (b : Bool) (o : Object) (s : IndexedText) (indexed : IsIndexedText o s) (some : s.version ≢ 0) (value : Option Data) → ArePrintableOrBad (status_tokens value) → IsCanonicalStatus value
     → bytes_eq (status_text (indexed.seams some).seams.status) (status_text value) ≡ b → b ≡ same_found (member_of (codes "status") o.body) value
 ends_by true o s indexed some value printable one is =

@@ -80,7 +80,7 @@ unfolding uid_number
 uid_number-uid_text n some small =
     by_value (uid_text n) (hex_value (drop 24 (uid_text n))) n (ap (λ s. hex_value (drop 24 s)) (uid_text-some n some) ∙ hex_value-twelve_digits n small) refl some small
 
--- where a number is found, the tests say what the text is
+-- if a number is found, the tests say what the text is
 found_by : (low small same : Bool) (s : List ℕ) (v n : ℕ) → (low ≡ true → 0 < v) → (small ≡ true → v < 2 ^ 48) → (same ≡ true → s ≡ uid_text v)
     → cond (low && small && same) (Some v) None ≡ Some n → (uid_text n ≡ s) × (0 < n) × (n < 2 ^ 48)
 found_by true true true s v n some fits text found =
@@ -97,7 +97,7 @@ uid_text-uid_number s n found =
     found_by (nat_lt 0 v) (nat_lt v (2 ^ 48)) (bytes_eq s (uid_text v)) s v n
     (ltb-true 0 v) (ltb-true v (2 ^ 48)) (bytes_eq-Decides s (uid_text v)).0 found
 
--- ---- where 0 stands for none
+-- ---- when 0 stands for none
 
 pub length-decimal : (n : ℕ) → 0 < n → n < 2 ^ 64 → 0 < length (decimal n)
 length-decimal n some small = decimal_nonempty n small

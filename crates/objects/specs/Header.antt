@@ -1,4 +1,4 @@
--- What is kept of a printed object beside its text.
+-- What is kept of a printed object besides its text.
 use Rattle.std.specs.Prelude.{◌≡◌, ◌≢◌, ℕ, List, string_bytes}
 use Rattle.std.specs.Str.{IsUtf8}
 use Rattle.objects.specs.declared.header.Header.{Header}

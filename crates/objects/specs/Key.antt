@@ -19,7 +19,7 @@ pub record KeyParts : Type 0 where
 abbrev pub key_parts : Kind → List ℕ → List ℕ → KeyParts
 key_parts kind namespace name = record { kind = kind; namespace = namespace; name = name }
 
--- the place of a kind in the order of kinds
+-- the index of a kind in the order of kinds
 abbrev pub kind_index : Kind → ℕ
 kind_index StatefulSet = 0
 kind_index Pod = 1

@@ -13,7 +13,7 @@ use Rattle.objects.specs.Key.{KeyParts, key_cmp, key_fed, kind_index, kind_at, k
 pub key_cmp_total : IsTotalOrder key_cmp
 key_cmp_total = search (comparing, rules)
 
--- kinds that stand at one place are one
+-- kinds with the same index are one
 exact_kinds : CmpEqualImpliesEq (on kind_index nat_cmp)
 exact_kinds a b tie = sym (kind_at-kind_index a) ∙ ap kind_at (exact_unsigned (kind_index a) (kind_index b) tie) ∙ kind_at-kind_index b
 

@@ -26,7 +26,7 @@ label_of body name = option_and_then (text_at name) (option_and_then (object_at 
 abbrev pub owner_references : Data → Option Items
 owner_references body = option_and_then (items_at (codes "ownerReferences")) (metadata_of body)
 
--- the same, none where there is no list
+-- the same, none if there is no list
 abbrev pub owners_of : Data → Items
 owners_of body = unwrap_or (owner_references body) no_items
 

@@ -26,6 +26,6 @@ most_label = 63
 unfoldable pub is_dns_label : List ℕ → Bool
 is_dns_label s = is_name_of most_label is_label_byte s
 
--- at most 253 bytes, with `-` and `.` inside; leniently, a `.` may stand beside a `-` or another `.`
+-- at most 253 bytes, with `-` and `.` inside; leniently, a `.` may be next to a `-` or another `.`
 unfoldable pub is_subdomain_name : List ℕ → Bool
 is_subdomain_name s = is_name_of 253 is_subdomain_byte s

@@ -16,6 +16,6 @@ abbrev pub new_body : Kind → Members → Members → Data
 new_body kind metadata members =
     object (put (codes "metadata") (object metadata) (put (codes "kind") (string (kind_name kind)) (put (codes "apiVersion") (string (api_version kind)) members)))
 
--- the object of that key, with that metadata beside its name and namespace
+-- the object of that key, with that metadata besides its name and namespace
 abbrev pub new_object : KeyParts → Members → Members → Object
 new_object key metadata members = record { key = key; meta = no_meta; body = new_body key.kind metadata members }

@@ -77,7 +77,7 @@ generation_of (Some (boolean b)) = Err BadMeta
 generation_of (Some (array ds)) = Err BadMeta
 generation_of (Some (object ms)) = Err BadMeta
 
--- the members of `metadata` that the store sets, as they stood
+-- the members of `metadata` that the store sets, as they were read
 pub record DraftMeta : Type 0 where
   pub uid : Option (List ℕ)
   pub version : Option (List ℕ)
@@ -95,7 +95,7 @@ draft_meta_in ms = do
   generation ← generation_of (get_member (codes "generation") ms)
   Ok (draft_meta (unless_empty uid) (unless_empty version) generation deletion)
 
--- the numbers of a UID and a version are theirs where they are of the store's form, else 0
+-- the numbers of a UID and a version are theirs if they are of the store's form, else 0
 abbrev pub meta_of : DraftMeta → MetaParts
 meta_of s = record {
   uid = unwrap_or (option_and_then uid_number s.uid) 0;

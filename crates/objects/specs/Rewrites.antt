@@ -1,4 +1,4 @@
--- An object as a write leaves it: at another resource version, with another status, or with another object in its place.
+-- An object as a write leaves it: at another resource version, with another status, or replaced by another object.
 use Rattle.std.specs.Prelude.{ℕ, ◌+◌, ◌^◌, nat_lt, Bool, Option, codes, if◌then◌else◌}
 use Rattle.serde_json.specs.Data.{Data}
 use Rattle.objects.specs.declared.meta.Meta.{Meta}
@@ -21,14 +21,13 @@ with_status status o = record { key = o.key; meta = o.meta; body = with_member (
 abbrev pub generation_after : ℕ → Bool → ℕ
 generation_after g same_spec = if same_spec then g else if nat_lt (g + 1) (2 ^ 63) then g + 1 else g
 
--- what the store knows of an object once an update has put the new one in its place
+-- what the store knows of an object once an update has replaced it by another, whose spec is the same or not
+abbrev pub meta_by : Object → Bool → Meta
+meta_by o same_spec = record { uid = o.meta.uid; revision = o.meta.revision; generation = generation_after o.meta.generation same_spec; deletion = o.meta.deletion }
+
+-- the same of the new object
 abbrev pub meta_after : Object → Object → Meta
-meta_after o new = record {
-  uid = o.meta.uid;
-  revision = o.meta.revision;
-  generation = generation_after o.meta.generation (same_found (member_of (codes "spec") o.body) (member_of (codes "spec") new.body));
-  deletion = o.meta.deletion;
-}
+meta_after o new = meta_by o (same_found (member_of (codes "spec") o.body) (member_of (codes "spec") new.body))
 
 -- what an update with the new object makes of one that has a status, which stays
 abbrev pub replaced : Object → Object → Object

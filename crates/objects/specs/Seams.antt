@@ -29,7 +29,7 @@ abbrev pub AreBelowStatus : Members → Type 0
 AreBelowStatus no_members = ⊤
 AreBelowStatus (member k d ms) = (slice_cmp nat_cmp (codes "status") k ≡ Greater) × AreBelowStatus ms
 
--- a resource version as it stands in a text
+-- a resource version as a text has it
 abbrev pub version_text : ℕ → List ℕ
 version_text n = 34 ∷ (decimal n ++ 34 ∷ [])
 
@@ -46,7 +46,8 @@ status_tokens (Some d) = key (codes "status") ∷ (json_tokens (outline d) ++ en
 abbrev pub rewritten : Object → Members → ℕ → Option Data → Object
 rewritten o others n status = at_version (record { key = o.key; meta = o.meta; body = object (set_member (codes "status") status others) }) n
 
--- The text has the version between the front and the middle, and the status behind these; so it has with each other one.
+-- The text has the version between the front and the middle, and the status after these; the same holds for each other
+-- version and status.
 pub record HasSeams (o : Object) (front middle : List ℕ) : Type 0 where
   pub others : Members
   pub status : Option Data
@@ -83,7 +84,7 @@ pub record WritesHead (o : Object) (versioned after : List (List ℕ × Tree)) (
       → old ++ begin_object ∷ (entry_tokens first ++ key (codes "metadata") ∷ begin_object ∷ (members_tokens (members_outline (full_metadata (at_version o n) metadata)) ++ next))
       ≡ (new ++ key (codes "resourceVersion") ∷ []) ++ string_token (decimal n) ∷ (after_version o versioned ++ next)
 
--- the entries up to the status were written behind those bytes
+-- the entries up to the status were written after those bytes
 pub record WritesBetween (after tail : List (List ℕ × Tree)) (old new : List ℕ) : Type 0 where
   pub count : ℕ
   pub left : tail ≡ drop count after
@@ -119,7 +120,7 @@ abbrev pub comma_before : List (List ℕ × Tree) → List ℕ
 comma_before [] = []
 comma_before (e ∷ es) = 44 ∷ []
 
--- the spec as it stands behind the metadata, with the comma before it
+-- the spec as a text has it after the metadata, with the comma before it
 abbrev pub spec_text : Option Data → List ℕ
 spec_text None = []
 spec_text (Some d) = codes ",\"spec\":" ++ compact_text d

@@ -1,5 +1,5 @@
--- Members of an object's body by their keys, and members that are set or taken away: `status` is written by a request
--- of its own, and kept by all others (Kubernetes API conventions, "Spec and Status").
+-- Members of an object's body by their keys, and members that are set or removed: `status` is written by a request of
+-- its own, and kept by all others (Kubernetes API conventions, "Spec and Status").
 use Rattle.std.specs.Prelude.{ℕ, Bool, true, false, ◌||◌, List, codes, bytes_eq, Option, Some, None, option_and_then}
 use Rattle.serde_json.specs.Data.{Data, object}
 use Rattle.serde_json.specs.Find.{get_member, as_object}
@@ -10,7 +10,7 @@ use Rattle.trees.specs.Same.{same_data}
 abbrev pub member_of : List ℕ → Data → Option Data
 member_of k body = option_and_then (get_member k) (as_object body)
 
--- a body with that member set or taken away; what is no object stays as it is
+-- a body with that member set or removed; what is no object stays as it is
 abbrev pub with_member : List ℕ → Option Data → Data → Data
 with_member k value (object ms) = object (set_member k value ms)
 with_member k value d = d

@@ -28,7 +28,7 @@ is_memory errors.BadMeta = false
 is_memory errors.TooLong = false
 is_memory errors.Memory = true
 
--- reading refuses with e; nothing is said where memory ran out
+-- reading refuses with e; nothing is said if memory ran out
 abbrev pub Fails : {A : Type 0} → ReadError → Result A ReadError → Type 0
 Fails e read = FailsUnless is_memory e read
 

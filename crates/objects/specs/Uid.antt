@@ -27,7 +27,7 @@ uid_number s =
     let n = hex_value (drop 24 s) in
     if nat_lt 0 n && nat_lt n (2 ^ 48) && bytes_eq s (uid_text n) then Some n else None
 
--- the number of a resource version, or 0 where the text has another form
+-- the number of a resource version, or 0 if the text has another form
 unfoldable pub version_number : List ℕ → ℕ
 version_number s =
     if nat_lt 48 (slice_index s 0) && all_ascii_digits s && nat_lt (digits_value 10 s) (2 ^ 64) then digits_value 10 s else 0

@@ -109,7 +109,7 @@ fn generation_of(found: Option<&Tree>) -> Result<u64, ReadError>
     }
 }
 
-// The members of `metadata` that the store sets, as they stood.
+// The members of `metadata` that the store sets, as they were read.
 #[derive(Drop)]
 struct DraftMeta {
     uid: Option<Text>,

@@ -1,4 +1,4 @@
-// What is kept of a printed object beside its text, where the text is kept in another form.
+// What is kept of a printed object besides its text, when the text is kept in another form.
 ghost use Rattle.std.specs.Prelude.{◌≡◌, ◌≢◌, IfOk, IfSome};
 ghost use Rattle.objects.specs.Header.{IsHeader, SameNumbers};
 ghost use Rattle.objects.specs.PrintedText.{object_of_text};
@@ -9,7 +9,7 @@ use simdutf8::basic::from_utf8;
 use std::alloc::Global;
 use trees::{Memory, TreeReader};
 
-/// What is known of a text without reading it, in fewer bits; all are 0 where one does not fit.
+/// What is known of a text without reading it, in fewer bits; all are 0 if one does not fit.
 #[derive(Clone, Copy, Drop)]
 pub struct Header {
     pub(crate) uid: u32,
@@ -21,7 +21,7 @@ pub struct Header {
 }
 
 impl Printed {
-    /// The text, and what is to be kept beside it, so that the object is known from both.
+    /// The text, and what has to be kept with it so that the object is known from both.
     pub fn parts(&self) -> (&[u8], Header)
         ensures text { result.0.now ≡ text self.now }
         ensures header { IsHeader result.0.now result.1 }
@@ -65,7 +65,7 @@ impl Printed {
     }
 }
 
-/// The numbers of an indexed text in fewer bits, or 0 where they do not fit.
+/// The numbers of an indexed text in fewer bits, or 0 if they do not fit.
 fn header_of(indexed: &IndexedText) -> Header
     ensures { result.version ≢ 0 → SameNumbers result indexed.now }
 {

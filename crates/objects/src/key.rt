@@ -13,6 +13,8 @@ use trees::Text;
 ///
 /// The namespace is a DNS label (1 to 63 bytes of `a-z`, `0-9` and `-`, the first and the last a letter or a digit).
 /// So is a StatefulSet's name; other names have 1 to 253 bytes of the same and `.`.
+///
+/// Keys are totally ordered by kind, namespace and name, texts in byte order, and equal keys hash alike.
 #[derive(Drop)]
 pub struct Key {
     pub kind: Kind,
@@ -42,7 +44,7 @@ impl Key {
     ///
     /// # Errors
     ///
-    /// BadName where the namespace is no DNS label, or the name is none that an object of the kind may have.
+    /// BadName if the namespace is no DNS label, or the name is none that an object of the kind may have.
     pub fn of(alloc: Global, kind: Kind, namespace: &str, name: &str) -> Result<Key, ReadError>
         ensures kind { IfOk result (λ key. key.kind ≡ kind) }
         ensures key { Gives (λ key. key) result

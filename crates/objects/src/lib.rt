@@ -39,7 +39,7 @@ pub use pod_names::{
 pub use print::{print_object, write_object};
 pub use printed::{IndexedText, Printed, Printer};
 pub use read::{read_collection, read_draft, read_key, read_object};
-pub use replace::{Replacement, generation_after, spec_bytes};
+pub use replace::{generation_after, may_be_same, spec_bytes};
 pub use rewrite::same_found;
 pub use shape::{are_owners, are_texts};
 pub use shard::shard_of;

@@ -4,16 +4,17 @@ use std::alloc::AllocError;
 use std::marker::Model;
 use trees::Text;
 
-/// What the store knows of an object (Kubernetes `ObjectMeta`). 0 stands for none.
+/// What the store knows of an object (Kubernetes `ObjectMeta`). 0 stands for none. The UID is below 2^48, the revision
+/// below 2^64, the generation below 2^63.
 #[derive(Drop)]
 pub struct Meta {
     /// The number of `uid`, below 2^48: the revision that created the object.
     pub uid: u64,
     /// The number of `resourceVersion`: the revision that wrote the object last.
     pub revision: u64,
-    /// `generation`, below 2^63: it goes up as `spec` changes.
+    /// `generation`, below 2^63: it rises as `spec` changes.
     pub generation: u64,
-    /// `deletionTimestamp`: the text that a graceful deletion handed in.
+    /// `deletionTimestamp`: the text that a graceful deletion passed.
     pub deletion: Option<Text>,
 }
 

@@ -1,3 +1,4 @@
+// The labels and the owner references of an object.
 ghost use Rattle.std.specs.Prelude.{◌≡◌, ◌≢◌, ℕ, List, Option, Some, option_map, option_and_then, codes, unwrap_or, IfOk, true};
 ghost use Rattle.serde_json.specs.Data.{Data, Items as DataItems, Members as DataMembers, array, no_items, object};
 ghost use Rattle.serde_json.specs.Find.{get_member};
@@ -13,7 +14,7 @@ use trees::{Items, Members, Tree};
 
 impl Object {
     /// The value of a label: the text of that name in `metadata.labels` (Kubernetes API reference, ObjectMeta). There
-    /// is none where `labels` or the label is missing or `null`, where `labels` is no map, or the label no text.
+    /// is none if `labels` or the label is missing or `null`, if `labels` is no map, or if the label is no text.
     pub fn label(&self, name: &str) -> Option<&str>
         ensures { option_map (λ s. s.now) result ≡ label_of self.now.body name.now }
     {
@@ -25,7 +26,7 @@ impl Object {
     }
 
     /// The items of `metadata.ownerReferences` (Kubernetes API reference, ObjectMeta), in order: the objects that this
-    /// one depends on, each a map with a text `uid`. There are none where it is missing or `null`.
+    /// one depends on, each a map with a text `uid`. There are none if it is missing or `null`.
     pub fn owners(&self) -> &[Tree]
         ensures items { items_of result.now ≡ owners_of self.now.body }
         ensures fit { are_owners (items_of result.now) ≡ true }
@@ -37,7 +38,8 @@ impl Object {
     }
 
     /// The object whose `metadata.ownerReferences` are these, in order, or that has none. Each is a map with a text
-    /// `uid`, which `are_owners` tests. The members of `metadata` are copied, and what their values hold never.
+    /// `uid`, which `are_owners` tests. The members of `metadata` are copied, but never what their values hold. The
+    /// key, the meta and all other members stay.
     pub fn with_owners(self, owners: Option<Items>) -> Result<Object, AllocError>
         requires { owners_fit (option_map array owners) ≡ true }
         ensures key { IfOk result (λ object. object.key ≡ self.key) }
@@ -78,7 +80,7 @@ fn owner_references(body: &Tree) -> Option<&Items>
     metadata_of(body)?.get("ownerReferences")?.as_list()
 }
 
-/// Owners that are set are there, and where they are taken away there are none; all other members of `metadata` and of the
+/// Owners that are set are there, and if they are removed there are none; all other members of `metadata` and of the
 /// body stay as they were.
 pub fn only_the_owners_change()
     ensures set { (owners : Option DataItems) (members : DataMembers)

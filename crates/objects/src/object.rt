@@ -9,10 +9,10 @@ use std::alloc::{AllocError, Global};
 use std::marker::Model;
 use trees::{Members, Text, Tree};
 
-/// An object. The body holds all members as they were read, `kind` among them, but the six of `metadata` that the
-/// key and the meta hold: `name`, `namespace`, `uid`, `resourceVersion`, `generation` and `deletionTimestamp`.
-/// In `metadata`, `labels` is a map of texts and `ownerReferences` is a list of maps that each have a text `uid`;
-/// either may be missing or `null`.
+/// An object. The body holds all members as they were read, `kind` among them, except the six of `metadata` that the
+/// key and the meta hold: `name`, `namespace`, `uid`, `resourceVersion`, `generation` and `deletionTimestamp`. In
+/// `metadata`, `labels` is a map of texts and `ownerReferences` is a list of maps that each have a text `uid`; either
+/// may be missing or `null`. The body's kind is the key's, and if it has an API version, that is the kind's.
 #[derive(Drop)]
 pub struct Object {
     pub key: Key,
@@ -74,7 +74,7 @@ impl Clone for Object {
     }
 }
 
-/// An object as it was read, with the texts of its UID and its resource version as they stood. An empty text is none.
+/// An object as it was read, with the texts of its UID and its resource version unchanged. An empty text is none.
 #[derive(Drop)]
 pub struct Draft {
     pub object: Object,

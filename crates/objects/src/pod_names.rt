@@ -37,7 +37,7 @@ pub fn split_pod_name(name: &str) -> Option<(&str, u32)>
     Some((set, ordinal))
 }
 
-/// Pods of two sets, or with two ordinals that `pod_name` takes, have two names.
+/// Pods of two sets, or with two ordinals below 2^32, as `pod_name` has them, have two names.
 pub fn pod_names_differ()
     ensures { (s t : List ℕ) (i j : ℕ) → i < 2 ^ 32 → j < 2 ^ 32 → pod_name s i ≡ pod_name t j → (s ≡ t) × (i ≡ j) }
 {}

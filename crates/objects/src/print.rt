@@ -33,7 +33,7 @@ enum Held<'a> {
     Integer(u64),
 }
 
-// Writes the entries whose keys are below the key, and answers the others.
+// Writes the entries whose keys are below the key, and returns the others.
 pub(crate) fn write_front<'a>(
     entries: &'a [(Text, Tree)],
     key: &str,
@@ -71,7 +71,7 @@ fn write_held(key: &str, value: Option<Held<'_>>, out: &mut Writer) -> Result<()
     }
 }
 
-// Writes the entries below the key and then the held member, and answers the entries that are left.
+// Writes the entries below the key and then the held member, and returns the entries that are left.
 fn write_step<'a>(
     entries: &'a [(Text, Tree)],
     key: &str,
@@ -137,8 +137,8 @@ fn held_uid<'a>(text: &'a [u8; 36], number: u64) -> Option<Held<'a>>
     }
 }
 
-// Writes the metadata up to the resource version, with the members that the key and the meta hold, and answers the entries
-// that are left.
+// Writes the metadata up to the resource version, with the members that the key and the meta hold, and returns the
+// entries that are left.
 pub(crate) fn write_to_version<'a>(
     object: &Object,
     entries: &'a [(Text, Tree)],
@@ -171,7 +171,7 @@ pub(crate) fn write_to_version<'a>(
     Ok(rest)
 }
 
-// Writes the entries below the key, and answers the others.
+// Writes the entries below the key, and returns the others.
 fn write_step_front<'a>(
     entries: &'a [(Text, Tree)],
     key: &str,
@@ -254,7 +254,8 @@ fn write_members(
     write_entries(after, out)
 }
 
-/// Writes the object in the place of a value: its members in byte order of their keys.
+/// Writes the object where a value is expected: its members in byte order of their keys. What was written before stays.
+/// The object keeps its rules: those of names and of the ranges of numbers, and numbers that read back.
 pub fn write_object(object: &Object, out: &mut Writer) -> Result<(), AllocError>
     ensures tokens { OnOk result (out.new.tokens ≡ out.old.tokens ++ json_tokens (outline (printed object.now))) }
     ensures before { out.new.before ≡ out.old.before }
@@ -281,8 +282,9 @@ pub(crate) fn print_into(object: &Object, out: Vec<u8>) -> Result<Vec<u8>, Alloc
     Ok(writer.into_inner())
 }
 
-/// The object as compact JSON, its keys in byte order. `read_object` gives it back, where the text is short enough
-/// and nests at most 127 deep.
+/// The object as compact JSON, its keys in byte order: what the key and the meta hold is back in `metadata`, without
+/// what is 0 or none. `read_object` gives the object back, with the texts of its UID and version, if the text has at
+/// most 1,048,576 bytes and nests at most 127 deep.
 pub fn print_object(alloc: Global, object: &Object) -> Result<String, Memory>
     ensures text { IfOk result (λ s. string_bytes s ≡ text object.now) }
     ensures reads_back { IfOk result (λ s. length (string_bytes s) ≤ most_bytes → depth (printed object.now) ≤ max_depth

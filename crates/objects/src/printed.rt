@@ -23,18 +23,19 @@ pub struct Printed {
     indexed: Arc<IndexedText>,
 }
 
-/// A text of an object, and what is known of the object without reading the text. Who puts a text together out of parts of
-/// others makes one, and has to show that it says what is true of the object.
+/// A text of an object, and what is known of the object without reading the text. Code that puts a text together out of
+/// parts of others makes one, and has to show that it says what is true of the object.
 #[derive(Drop)]
 pub struct IndexedText {
     pub text: String,
     pub uid: u64,
     pub revision: u64,
-    /// The seams of the text, in bytes: before the resource version and before the status. The first is 0 where there are none.
+    /// The seams of the text, in bytes: before the resource version and before the status. The first is 0 if there are
+    /// none.
     pub version: u32,
     pub status: u32,
-    /// How many bytes of the spec end at the status, and the object's generation: 0 where other members stand there too,
-    /// where the object has a time of deletion, or where it is not known.
+    /// How many bytes of the spec end at the status, and the object's generation: 0 if other members are there too, if
+    /// the object has a time of deletion, or if it is not known.
     pub spec: u32,
     pub generation: u32,
 }
@@ -62,7 +63,8 @@ impl Printed {
         Printer::new(alloc).print(object)
     }
 
-    /// The object of an indexed text.
+    /// The object of an indexed text. The caller has to show that its text is that of an object, with its seams and
+    /// numbers; then it is that object, printed.
     pub fn of_indexed(alloc: Global, indexed: IndexedText) -> Result<Printed, Memory>
         requires { (o : SpecObject) × IsIndexedText o indexed }
         ensures { (o : SpecObject) → IsIndexedText o indexed → IfOk result (λ printed. printed ≡ o) }
@@ -100,7 +102,7 @@ impl Printed {
         self.indexed.revision
     }
 
-    /// The object, read back from its text.
+    /// The object, read back from its text. That works at any length and depth.
     pub fn object(&self, reader: &mut TreeReader) -> Result<Object, Memory>
         ensures { IfOk result (λ object. object ≡ self.now) }
     {
@@ -182,7 +184,7 @@ impl Printer {
         self.buffer = bytes;
     }
 
-    /// Whether the next update is taken to leave the spec as it is, because the last one did.
+    /// Whether the next update is expected to leave the spec as it is, because the last one did.
     pub(crate) fn expects_same_spec(&self) -> bool {
         self.expects_same_spec
     }
@@ -235,7 +237,7 @@ fn numbers_of(object: &Object) -> (u64, u64)
     (object.meta.uid, object.meta.revision)
 }
 
-// The seams in fewer bits, or 0 and 0 where there are none or they do not fit.
+// The seams in fewer bits, or 0 and 0 if there are none or they do not fit.
 pub(crate) fn short_offsets(seams: Option<Seams>) -> (u32, u32)
     ensures { result.0 ≢ 0 → IsSomeAnd seams (λ seams. (result.0 ≡ seams.version) × (result.1 ≡ seams.status)) }
 {
@@ -251,7 +253,7 @@ pub(crate) fn short_offsets(seams: Option<Seams>) -> (u32, u32)
     (version, status)
 }
 
-// How many bytes the spec takes, and the generation, or 0 and 0 where they are not known, do not fit, or the object has a
+// How many bytes the spec takes, and the generation, or 0 and 0 if they are not known, do not fit, or the object has a
 // time of deletion.
 fn short_spec(object: &Object, seams: Option<Seams>) -> (u32, u32)
     ensures { result.1 ≢ 0 → IsSomeAnd seams (λ seams. seams.spec ≡ Some result.0) × (result.1 ≡ object.now.meta.generation) × (object.now.meta.deletion ≡ None) }

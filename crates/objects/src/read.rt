@@ -1,3 +1,4 @@
+// Objects, keys and collections, read from bytes and from values.
 ghost use Rattle.objects.specs.Steps.{Gives};
 ghost use Rattle.trees.specs.Tree.{data_of};
 ghost use Rattle.objects.specs.Reading.{reading, draft_of, key_in, collection_in};
@@ -24,7 +25,8 @@ pub fn read_object(alloc: Global, bytes: &[u8]) -> Result<Draft, ReadError>
     read_draft(alloc, tree)
 }
 
-/// The object that a value is.
+/// The object that a value is. The six members of `metadata` that the key and the meta hold leave the body; the texts
+/// of `uid` and `resourceVersion` are kept as they are, an empty one as none.
 ///
 /// # Errors
 ///
@@ -52,8 +54,8 @@ pub fn read_key(alloc: Global, members: &Members) -> Result<Key, ReadError>
     key_of(alloc, kind, members)
 }
 
-/// The kind and the namespace that the members `kind` and `namespace` say: those of the objects that a list is asked
-/// for (Kubernetes API concepts, resource collections).
+/// The kind and the namespace that the members `kind` and `namespace` say: those of the objects that a list requests
+/// (Kubernetes API concepts, resource collections).
 ///
 /// # Errors
 ///

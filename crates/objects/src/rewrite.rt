@@ -15,7 +15,7 @@ use trees::{Memory, Tree, TreeReader};
 const END_ROOM: usize = 256;
 
 impl Printed {
-    /// The object at another resource version. Its text is copied, and not read, where the object has a resource version
+    /// The object at another resource version. Its text is copied, and not read, if the object has a resource version
     /// and no member after its status.
     pub fn at_version(
         &self,
@@ -32,8 +32,8 @@ impl Printed {
         printer.print(&object)
     }
 
-    /// The object with that status or without one, at another resource version. Its text is copied, and not read, where the
-    /// object has a resource version and no member after its status.
+    /// The object with that status or without one, at another resource version. Its text is copied, and not read, if
+    /// the object has a resource version and no member after its status.
     pub fn with_status(
         &self,
         reader: &mut TreeReader,
@@ -94,7 +94,7 @@ impl Printed {
         }
     }
 
-    /// Whether the object has that status, or none. Its text is compared, and not read, where the object has a resource
+    /// Whether the object has that status, or none. Its text is compared, and not read, if the object has a resource
     /// version and no member after its status.
     pub fn has_status(&self, reader: &mut TreeReader, status: Option<&Tree>) -> Result<bool, Memory>
         ensures { IfOk result (λ same. same ≡ same_found (member_of (codes "status") self.now.body) (option_map (λ t. data_of t.now) status.entry)) }
@@ -121,7 +121,7 @@ pub(crate) fn alloc_of(indexed: &IndexedText) -> Global {
     *indexed.text.allocator()
 }
 
-fn at_version(object: Object, revision: u64) -> Object
+pub(crate) fn at_version(object: Object, revision: u64) -> Object
     ensures { result ≡ at_version object revision }
 {
     let Object { key, meta, body } = object;

@@ -32,7 +32,7 @@ pub(crate) struct SeamedText {
 pub(crate) struct Seams {
     pub(crate) version: usize,
     pub(crate) status: usize,
-    /// How many bytes of the spec end at the status, with the comma before it; none where other members stand there.
+    /// How many bytes of the spec end at the status, with the comma before it; none if other members are there.
     pub(crate) spec: Option<usize>,
 }
 
@@ -109,7 +109,7 @@ fn begin_between(after: &[(Text, Tree)], mut bytes: Vec<u8>) -> Result<Vec<u8>, 
     Ok(bytes)
 }
 
-// Writes the entries behind the metadata up to the status.
+// Writes the entries after the metadata up to the status.
 fn write_between<'a>(after: &'a [(Text, Tree)], bytes: Vec<u8>) -> Result<Between<'a>, AllocError>
     ensures { IfOk result (λ between. WritesBetween after.now between.tail.now bytes.items between.bytes.items) }
 {
@@ -143,7 +143,7 @@ fn write_tail(tail: &[(Text, Tree)], bytes: Vec<u8>) -> Result<Vec<u8>, AllocErr
     Ok(writer.into_inner())
 }
 
-// The seams, where the text ends with no entry but the status.
+// The seams, if the text ends with no entry but the status.
 fn seams_before(
     tail: &[(Text, Tree)],
     version: usize,
@@ -173,7 +173,7 @@ fn is_status_alone(tail: &[(Text, Tree)]) -> bool
     }
 }
 
-// How many bytes the spec takes, where nothing else stands between the metadata and the last entries.
+// How many bytes the spec takes, if nothing else is between the metadata and the last entries.
 fn spec_between(
     after: &[(Text, Tree)],
     tail: &[(Text, Tree)],

@@ -79,7 +79,7 @@ pub fn status_end(indexed: &IndexedText) -> &[u8]
     &indexed.text.as_str().as_bytes()[indexed.status as usize..]
 }
 
-/// Whether the text ends so from its status on, if it has seams.
+/// Whether the text ends with these bytes from its status on, if it has seams.
 pub fn ends_so(indexed: &IndexedText, end: &[u8]) -> Option<bool>
     requires { indexed.now.version ≢ 0 → AreParts (string_bytes indexed.now.text) indexed.now.revision indexed.now.version indexed.now.status }
     ensures { IfSome result (λ same. (indexed.now.version ≢ 0)
@@ -91,7 +91,7 @@ pub fn ends_so(indexed: &IndexedText, end: &[u8]) -> Option<bool>
     Some(status_end(indexed) == end)
 }
 
-// Writes the text with another resource version and another end, from its status on, and answers where that is.
+// Writes the text with another resource version and another end, from its status on, and returns where that is.
 fn splice(
     text: &[u8],
     seams: Seams,

@@ -51,7 +51,7 @@ pub fn is_version_text(text: &str, revision: u64) -> bool
     text == itoa::Buffer::new().format(revision)
 }
 
-/// The number of a UID's text, if the text is of the store's form.
+/// The number of a UID's text, if the text is of the store's form. It is never 0.
 #[tactic(auto, unfolding(crate::specs::Uid::uid_number))]
 pub fn uid_number(text: &str) -> Option<u64>
     ensures value { result ≡ uid_number text.now }
@@ -93,8 +93,8 @@ fn digit_value(digit: u8) -> u8
     }
 }
 
-/// The number of a resource version, or 0 where the text has another form: a decimal from 1 to
-/// 18,446,744,073,709,551,615 without leading zeros is one.
+/// The number of a resource version, or 0 if the text has another form: a decimal from 1 to 18,446,744,073,709,551,615
+/// without leading zeros is one.
 #[tactic(auto, unfolding(crate::specs::Uid::version_number))]
 pub fn version_number(text: &str) -> u64
     ensures { result ≡ version_number text.now }

@@ -1,11 +1,12 @@
-//! Allocation failures. `rt try --test --fail-alloc N` refuses the Nth allocation of each test. From 1 on, up to an N that no
-//! test of this file comes to, each has to pass: one call may want memory, and the same call after it is ample.
+//! Allocation failures. `rt try --test --fail-alloc N` refuses the Nth allocation of each test. From 1 on, up to an N
+//! that no test of this file reaches, each has to pass: one call may run out of memory, and the same call after it has
+//! enough.
 use crate::asserts::{printed, read};
 use objects::{Printed, Printer, ReadError, TreeReader, print_object};
 use std::alloc::Global;
 use std::process::Abort;
 
-/// A pod with each kind of value, and a map of more members than go to their places by steps.
+/// A pod with each kind of value, and a map of more members than are put in order one by one.
 static TEXT: &str =
     r#"{"kind":"Pod","spec":{"r":"\n","q":1,"p":1,"o":1,"n":1,"m":1,"l":1,"k":1,"j":1,"i":1,"h":[[1],[2,3]],"g":"","f":true,"e":null,"d":{},"c":[],"b":-2,"a":1},"metadata":{"uid":"00000000-0000-4000-8000-0000000000ff","resourceVersion":"7","deletionTimestamp":"d","generation":3,"labels":{"tier":"\u00e9","app":"web"},"name":"a","ownerReferences":[{"uid":"x"}]},"status":[1,{"x":"y"}],"apiVersion":"v1"}"#;
 
@@ -34,7 +35,7 @@ fn printed_and_read_back(
     read_back(alloc, reader, &printed)
 }
 
-/// Asserts that the answer is `PRINTED`, or that memory ran out; whether it is `PRINTED`.
+/// Asserts that the result is `PRINTED`, or that memory ran out; returns whether it is `PRINTED`.
 fn is_ample(rt: &impl Abort, answer: Result<String, ReadError>) -> bool {
     match answer {
         Ok(found) => {
@@ -48,7 +49,7 @@ fn is_ample(rt: &impl Abort, answer: Result<String, ReadError>) -> bool {
     }
 }
 
-/// Whether the printing by that printer, or by none, was ample.
+/// Whether the printing by that printer, or without one, had enough memory.
 fn is_ample_by(
     rt: &impl Abort,
     alloc: Global,

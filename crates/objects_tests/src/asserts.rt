@@ -9,7 +9,7 @@ pub(crate) fn read(alloc: Global, text: &str) -> Result<Object, ReadError> {
     Ok(draft.object)
 }
 
-/// Whether that is printed of the object.
+/// Whether the object is printed so.
 pub(crate) fn is_printed(
     alloc: Global,
     object: &Object,
@@ -19,7 +19,7 @@ pub(crate) fn is_printed(
     Ok(text.as_str() == expected)
 }
 
-/// The object as its text, by a printer, or by none.
+/// The object as its text, by a printer, or without one.
 pub(crate) fn printed(
     alloc: Global,
     printer: Option<&mut Printer>,
@@ -33,7 +33,7 @@ pub(crate) fn printed(
     Ok(printed?)
 }
 
-/// Asserts that what was asked of a row is so.
+/// Asserts that the condition of a row holds.
 pub(crate) fn assert_so(rt: &impl Abort, answer: Result<bool, ReadError>, row: &str) {
     match answer {
         Ok(is_so) => assert!(rt; is_so, "of {row}"),

@@ -1,4 +1,4 @@
-//! Keys as a hash map takes them: no word of the program has one.
+//! Keys in a hash map: no command has one.
 use crate::asserts::assert_so;
 use objects::{Key, Kind, ReadError};
 use std::alloc::{AllocError, Global};

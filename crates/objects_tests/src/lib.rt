@@ -1,5 +1,5 @@
-//! What only a call of `objects` and `trees` shows: objects that no line hands in, allocation failures, and what is too long
-//! or too deep for a line. What goes in as a line and comes out as a line stands in `examples/serve/`.
+//! What only a call of `objects` and `trees` shows: objects that no line brings in, allocation failures, and what is
+//! too long or too deep for a line. What lines show is in `examples/serve/`.
 #![tactic(auto)]
 
 #[cfg(test)]

@@ -1,10 +1,11 @@
-//! What is too long or too deep for a line: each call has to answer, and none may say that memory ran out. `checks/limits` has
-//! lines at their limits.
+//! What is too long or too deep for a line: each call has to return, and none may say that memory ran out.
+//! `checks/limits` has lines at their limits.
 use crate::asserts::{assert_so, is_printed, printed, read};
 use objects::{Items, Object, ReadError, Tree, TreeReader, claim_name, pod_name};
 use std::alloc::{AllocError, Global};
 
-/// Whether the pod and the claim `t` of a set of a million letters have the set's name, and the greatest ordinal behind it.
+/// Whether the pod and the claim `t` of a set of a million letters have the set's name, followed by the greatest
+/// ordinal.
 fn are_named(alloc: Global) -> Result<bool, ReadError> {
     let set = "a".repeat(alloc, 1_000_000)?;
     let pod = pod_name(alloc, set.as_str(), u32::MAX)?;

@@ -1,5 +1,4 @@
-//! What a store knows of an object, as it is read and printed. Of an object that is created none of it is kept, so no reply
-//! shows it.
+//! What a store knows of an object, as it is read and printed. A created object keeps none of it, so no reply shows it.
 use crate::asserts::{assert_so, is_printed, read};
 use objects::ReadError;
 use std::alloc::{AllocError, Global};

@@ -70,7 +70,7 @@ module _ (items : List Item) where
   called s [] f = tt
   called s (p ∷ ps) f = (was_called (s.calls p) p f.1.0.may.request f.1.0.may.called, called f.0 ps f.1.1)
 
-  -- what stands in the order was listed
+  -- what is in the order was listed
   listed : (s : Standing) (ps : List ℕ) → Follows items s ps → (q : ℕ) → Has q ps → s.calls q ≢ None
   listed s [] f q h = absurd h
   listed s (p ∷ ps) f q (inl e) = λ n. has_index (s.calls p) p f.1.0.may.request f.1.0.may.called (sym (ap s.calls e) ∙ n)
@@ -147,7 +147,7 @@ module _ (items : List Item) where
       left : (at p : ℕ) (reply : Reply) → Answers items at p reply → IsLeft items s at p reply
       left at p reply a = let h = found.replied at p reply a in record { index = h.0; caller = h.1.0; index_is = h.1.1.0; is = h.1.1.1 }
 
-  -- ---- the other way round
+  -- ---- the converse
   begun_with : (s : Standing) (ps : List ℕ) (rs : List Request) → AreFound items items s.calls s.answers → AreCalled items ps rs → AreCallsAt items s.calls ps rs
   begun_with s [] [] found a = tt
   begun_with s [] (r ∷ rs) found a = a

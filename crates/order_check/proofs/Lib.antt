@@ -1,3 +1,4 @@
+pub mod Changes
 pub mod Followed
 pub mod Paired
 pub mod ReplyMarks

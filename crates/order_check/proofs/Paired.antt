@@ -17,7 +17,7 @@ abbrev pub IsUpTo : Option ℕ → ℕ → Type 0
 IsUpTo None place = ⊥
 IsUpTo (Some last) place = place ≤ last
 
--- so far has the trace been read
+-- the trace has been read so far
 pub record IsPaired (items trace : List Item) (s : Seen) : Type 0 where
   pub dated : (i : Item) → Has i trace → IsUpTo s.last (place_of i)
   pub ends : (l : ℕ) → s.last ≡ Some l → (i : Item) × (Has i trace × (place_of i ≡ l))
@@ -51,7 +51,7 @@ up_to_now now last trace new e here dated i m = subst (λ l. IsUpTo l (place_of 
     go (inl h) = let l = dated i h in omega arith
     go (inr k) = let l : place_of i ≡ now = ap place_of k ∙ here in omega arith
 
--- a call that still awaits its reply was not answered
+-- a call that still waits for its reply was not answered
 not_answered : (trace : List Item) → IsHistory trace → (c p at : ℕ) (r : Reply) → IsLastCall trace c p → Answers trace at p r → ⊥
 not_answered trace history c p at r latest a =
     let one : item.Call p a.caller a.request ≡ item.Call p c latest.request = one_item trace _ _ history.rising a.called latest.called refl in
@@ -170,13 +170,13 @@ module _ (items trace : List Item) (s t : Seen) (h : IsPaired items trace s) whe
   put index (item.Call now c q) is k = put_call index now c q is k
   put index (item.Reply now c r) is k = put_reply index now c r is k
 
--- ---- where a history goes on with an item, it may come
+-- ---- an item that continues a history may come
 before_next : (trace rest : List Item) (i j : Item) → AreRising (trace ++ i ∷ rest) → Has j trace → place_of j < place_of i
 before_next [] rest i j rising m = absurd m
 before_next (x ∷ xs) rest i j rising (inl e) = subst (λ k. place_of k < place_of i) (sym e) (rising.0 i (has_back i xs _ (inl refl)))
 before_next (x ∷ xs) rest i j rising (inr m) = before_next xs rest i j rising.1 m
 
--- what stands at an earlier place came before it
+-- what is at an earlier place came before it
 came_before : (trace rest : List Item) (i j : Item) → AreRising (trace ++ i ∷ rest) → Has j (trace ++ i ∷ rest) → place_of j < place_of i → Has j trace
 came_before [] rest i j rising (inl e) l = let k : place_of j ≡ place_of i = ap place_of e in absurd (omega arith)
 came_before [] rest i j rising (inr m) l = let k : place_of i < place_of j = rising.0 j m in absurd (omega arith)
@@ -188,7 +188,7 @@ module _ (items trace rest : List Item) (s : Seen) (h : IsPaired items trace s) 
   above i rising None e = tt
   above i rising (Some l) e = let w = h.ends l e in let b : place_of w.0 < place_of i = before_next trace rest i w.0 rising w.1.0 in let k = w.1.1 in omega arith
 
-  -- who awaits a reply does not call
+  -- a caller that waits for a reply does not call
   no_call : (now c : ℕ) (q : Request) → IsHistory (trace ++ item.Call now c q ∷ rest) → (p : ℕ) → s.awaited c ≡ Some p → ⊥
   no_call now c q history p e =
       let latest = h.awaited c p e in
@@ -202,7 +202,7 @@ module _ (items trace rest : List Item) (s : Seen) (h : IsPaired items trace s) 
       let b : p < a.0 = a.1.1.0.before in
       omega arith
 
-  -- who gets a reply awaits one
+  -- a caller that gets a reply waits for one
   no_reply : (now c : ℕ) (r : Reply) → IsHistory (trace ++ item.Reply now c r ∷ rest) → s.awaited c ≡ None → ⊥
   no_reply now c r history e =
       let full = trace ++ item.Reply now c r ∷ rest in

@@ -1,11 +1,11 @@
--- What a call is answered, by the reply of the item that answers it.
+-- The reply to a call is that of the item that answers it.
 use Rattle.std.proofs.Common.{◌≡◌, ◌↔◌, ℕ, Bool, false, IsTrue, List, Option, Some, None, sym, subst}
 use Rattle.std.proofs.lemmas.Bool.{false≢true}
 use Rattle.requests.specs.declared.reply.Reply.{Reply}
 use Rattle.interleavings.specs.declared.trace.Item.{Item}
 use Rattle.order_check.specs.Following.{IsAnswered}
 
--- the recorded reply alone is the answer, so a comparison with it tells
+-- only the recorded reply is the answer, so comparing with it decides
 pub answered_by : (items : List Item) (answer : Option ℕ) (index latest : ℕ) (recorded reply : Reply) → answer ≡ Some index → IsAnswered items (Some index) latest recorded → ((r : Reply) → IsAnswered items (Some index) latest r → Some recorded ≡ Some r)
     → (same : Bool) → (IsTrue same ↔ (recorded ≡ reply)) → IsTrue same ↔ IsAnswered items answer latest reply
 answered_by items answer index latest recorded reply is answer_fits only same h = (to, from)

@@ -1,4 +1,4 @@
--- Objects that say the same are equal.
+-- Objects that are the same by their trees are equal.
 use Rattle.std.proofs.Common.{◌≡◌, true, ap}
 use Rattle.objects.specs.declared.object.Object.{Object}
 use Rattle.requests.specs.declared.reply.Reply.{Reply}

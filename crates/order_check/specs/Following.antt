@@ -1,4 +1,4 @@
--- How an order is followed: one place after another, each request taken by a plain store, and its reply compared.
+-- How an order is followed: one place after another, each request handled by a plain store, and its reply compared.
 use Rattle.std.specs.Prelude.{◌≡◌, ℕ, ◌<◌, ◌≤◌, List, [], ◌∷◌, Option, Some, None, zip}
 use Rattle.std.specs.BTreeMap.{get}
 use Rattle.std.specs.Ordering.{nat_cmp}
@@ -13,8 +13,8 @@ use Rattle.order_check.specs.declared.walk.Walk.{Walk}
 use Rattle.interleavings.specs.Linearization.{AreOnce, Before, Has}
 use Rattle.order_check.specs.Lookup.{Lookup, IsWithout}
 
--- by the places of their calls, the calls and the replies that are still to come; the plain store so far; and the largest
--- place so far
+-- by the places of their calls, the calls and the replies that are still to come; the plain store so far; and the
+-- largest place so far
 pub record Standing : Type 0 where
   pub calls : Lookup
   pub answers : Lookup
@@ -29,12 +29,12 @@ abbrev pub IsCalled : List Item → Option ℕ → ℕ → Request → Type 0
 IsCalled items None place request = ⊥
 IsCalled items (Some i) place request = (caller : ℕ) × (slice_get items i ≡ Some (item.Call place caller request))
 
--- where there is an index, its item has this reply, and comes after all calls so far
+-- if there is an index, its item has this reply, and comes after all calls so far
 abbrev pub IsAnswered : List Item → Option ℕ → (latest : ℕ) → Reply → Type 0
 IsAnswered items None latest reply = Unit {0}
 IsAnswered items (Some i) latest reply = (at : ℕ) × ((caller : ℕ) × ((slice_get items i ≡ Some (item.Reply at caller reply)) × (latest ≤ at)))
 
--- a request was called at the place, and is answered as the store answers
+-- a request was called at the place, and its reply is the store's
 pub record MayTake (items : List Item) (s : Standing) (place : ℕ) : Type 0 where
   pub request : Request
   pub called : IsCalled items (s.calls place) place request
@@ -49,7 +49,7 @@ pub record Takes (items : List Item) (s : Standing) (place : ℕ) (t : Standing)
   pub reached : place ≤ t.latest
   pub least : (n : ℕ) → s.latest ≤ n → place ≤ n → t.latest ≤ n
 
--- all are taken, and no reply is left
+-- all are done, and no reply is left
 abbrev pub Follows : List Item → Standing → List ℕ → Type 0
 Follows items s [] = (p : ℕ) → s.answers p ≡ None
 Follows items s (p ∷ ps) = (t : Standing) × (Takes items s p t × Follows items t ps)
@@ -61,7 +61,7 @@ AreCallsAt items calls (p ∷ ps) (r ∷ rs) = IsCalled items (calls p) p r × A
 AreCallsAt items calls [] (r ∷ rs) = ⊥
 AreCallsAt items calls (p ∷ ps) [] = ⊥
 
--- the reply with that index is the store's to the call at p, and no call after it stands before that one
+-- the reply with that index is the store's to the call at p, and no call after it comes before p in the order
 pub record IsDue (items : List Item) (s : Standing) (places : List ℕ) (requests : List Request) (p index : ℕ) : Type 0 where
   pub at : ℕ
   pub caller : ℕ

@@ -11,8 +11,8 @@ use Rattle.interleavings.specs.declared.trace.Item.TheVariants as item
 use Rattle.interleavings.specs.Linearization.{Answers, Has}
 use Rattle.order_check.specs.Lookup.{Lookup, IsWith, IsWithout}
 
--- the place of the last item; by its caller, the place of each call that has no reply yet; by its place, the index of each
--- call; by the place of its call, the index of each reply
+-- the place of the last item; by its caller, the place of each call that has no reply yet; by its place, the index of
+-- each call; by the place of its call, the index of each reply
 pub record Seen : Type 0 where
   pub last : Option ℕ
   pub awaited : Lookup
@@ -27,7 +27,7 @@ abbrev pub IsAfter : Option ℕ → ℕ → Type 0
 IsAfter None place = Unit {0}
 IsAfter (Some last) place = last < place
 
--- a history may go on with the item: its caller awaits no reply where it calls, and awaits one where it gets one
+-- the item may continue a history: its caller waits for no reply if it calls, and waits for one if it gets one
 abbrev pub MayCome : Item → Seen → Type 0
 MayCome (item.Call place caller request) s = IsAfter s.last place × (s.awaited caller ≡ None)
 MayCome (item.Reply place caller reply) s = IsAfter s.last place × (s.awaited caller ≢ None)
@@ -41,7 +41,7 @@ pub record IsCall (index place caller : ℕ) (s t : Seen) : Type 0 where
   pub calls : IsWith place index s.calls t.calls
   pub answers : t.answers ≡ s.answers
 
--- a reply at its place, whose item has that index, to a caller that awaits one
+-- a reply at its place, whose item has that index, to a caller that waits for one
 pub record IsReply (index place caller : ℕ) (s t : Seen) : Type 0 where
   pub called : ℕ
   pub rises : IsAfter s.last place

@@ -7,19 +7,19 @@ ghost use Rattle.interleavings.specs.Linearization.{IsHistory, IsLegal};
 ghost use Rattle.order_check.specs.Pairing.{AreFound};
 
 use crate::pairs::Pairs;
-use crate::tree_store::Trees;
 use crate::walk::Walk;
 use interleavings::{Item, Trace};
 use objects::{Memory, Printer};
+use plain_store::Trees;
 use std::alloc::Global;
 
-/// Whether the order, by the places of the calls, explains the trace: a yes means that the trace is a history, and that
-/// the order is a legal one of it, and at a capacity that a plain store has a no means that one of both is not so. So the
-/// answer is no where places do not rise, where a caller calls again before its reply or gets a reply that it does not
-/// await, and where the order has a place at which nothing was called; places may have gaps, and a call without a reply
-/// may be left out of the order. Whoever made the trace and the order is not trusted.
+/// Whether the order, by the places of the calls, explains the trace. A yes means that the trace is a history, and that
+/// the order is a legal one of it. At a capacity that a plain store may have, a no means that one of the two does not
+/// hold. So the answer is no if places do not rise, if a caller calls again before its reply or gets a reply that it
+/// does not wait for, or if the order has a place at which nothing was called. Places may have gaps, and the order may
+/// leave out a call without a reply. Neither the trace nor the order is trusted, whoever made them.
 ///
-/// One plain store takes the requests in that order. The time of all else is within n log n.
+/// One plain store handles the requests in that order. All else takes time within n log n.
 pub fn check_order(alloc: Global, trace: &Trace, order: &[u64]) -> Result<bool, Memory>
     ensures history { IfOk result (λ yes. IsTrue yes → IsHistory trace.now.items.items) }
     ensures legal { IfOk result (λ yes. IsTrue yes → IsLegal trace.now.capacity trace.now.items.items order.now) }
@@ -27,12 +27,12 @@ pub fn check_order(alloc: Global, trace: &Trace, order: &[u64]) -> Result<bool, 
         → IfOk result (λ yes. IsHistory trace.now.items.items → IsLegal trace.now.capacity trace.now.items.items order.now → IsTrue yes) }
 {
     match Trees::new(alloc, trace.capacity) {
-        Some(store) => explains(alloc, store, trace.items.as_slice(), order),
-        None => Ok(false),
+        Ok(store) => explains(alloc, store, trace.items.as_slice(), order),
+        Err(_) => Ok(false),
     }
 }
 
-/// As `check_order`, by a store that is not used yet.
+/// As `check_order`, by a store that has handled nothing yet.
 fn explains(alloc: Global, store: Trees, items: &[Item], order: &[u64]) -> Result<bool, Memory>
     ensures history { IfOk result (λ yes. IsTrue yes → IsHistory items.now) }
     ensures legal { (capacity : ℕ) → store ≡ opening capacity → IfOk result (λ yes. IsTrue yes → IsLegal capacity items.now order.now) }

@@ -1,35 +1,34 @@
 // Whether a reply is the one that a store gives. Objects are compared by their trees, which copies nothing.
-ghost use Rattle.std.specs.Prelude.{◌≡◌, ◌↔◌, true, IfOk, IsTrue, length, map};
+ghost use Rattle.std.specs.Prelude.{◌≡◌, ◌↔◌, true, false, IfOk, IsTrue, length, map};
 ghost use Rattle.std.specs.Option.{option_copied};
-ghost use Rattle.plain_store.specs.PrintedReplies.{is_to_write};
-ghost use Rattle.plain_store.specs.Store.{Store, compacted_to, found};
-ghost use Rattle.requests.specs.declared.reply.Reply.TheVariants.{Listed, Refused as RefusedReply};
+ghost use Rattle.plain_store.specs.Store.{found};
+ghost use Rattle.requests.specs.declared.reply.Reply.TheVariants.{Compacted as CompactedReply, Listed, Refused as RefusedReply};
 ghost use Rattle.requests.specs.Same.{same_meta, same_object, same_time};
-ghost use Rattle.order_check.specs.Recorded.{Fits};
+ghost use Rattle.order_check.specs.Recorded.{Fits, is_to_read};
 
 use objects::{Memory, Meta, Object, Printed, Printer, Text};
 use requests::{Reason, Reply};
 
-/// Whether the reply to a write is the recorded one, if there is one.
-pub(crate) fn is_written(
+/// Whether the reply to a write or a compaction is the recorded one, if there is one.
+pub(crate) fn is_change(
     printer: &mut Printer,
     recorded: Option<&Reply>,
-    written: &Reply,
+    given: &Reply,
 ) -> Result<bool, Memory>
-    requires { is_to_write written.now ≡ true }
-    ensures { IfOk result (λ yes. IsTrue yes ↔ Fits (option_copied recorded.entry) written.now) }
+    requires { is_to_read given.now ≡ false }
+    ensures { IfOk result (λ yes. IsTrue yes ↔ Fits (option_copied recorded.entry) given.now) }
 {
     match recorded {
-        Some(recorded) => is_reply(printer, recorded, written),
+        Some(recorded) => is_reply(printer, recorded, given),
         None => Ok(true),
     }
 }
 
-fn is_reply(printer: &mut Printer, recorded: &Reply, written: &Reply) -> Result<bool, Memory>
-    requires { is_to_write written.now ≡ true }
-    ensures { IfOk result (λ yes. IsTrue yes ↔ (recorded.now ≡ written.now)) }
+fn is_reply(printer: &mut Printer, recorded: &Reply, given: &Reply) -> Result<bool, Memory>
+    requires { is_to_read given.now ≡ false }
+    ensures { IfOk result (λ yes. IsTrue yes ↔ (recorded.now ≡ given.now)) }
 {
-    match written {
+    match given {
         Reply::Created(stored) => match recorded {
             Reply::Created(object) => is_object(printer, object, stored),
             _ => Ok(false),
@@ -50,27 +49,21 @@ fn is_reply(printer: &mut Printer, recorded: &Reply, written: &Reply) -> Result<
             Reply::Removed(object) => is_object(printer, object, stored),
             _ => Ok(false),
         },
+        Reply::Compacted { revision } => Ok(is_compacted(recorded, *revision)),
         Reply::Refused(reason) => Ok(is_refused(recorded, *reason)),
         Reply::Found(_)
         | Reply::Listed {
             objects: _,
             revision: _,
-        }
-        | Reply::Compacted { revision: _ } => unreachable!(),
+        } => unreachable!(),
     }
 }
 
-/// Whether the reply to a compaction is the recorded one, if there is one.
-pub(crate) fn is_compacted(recorded: Option<&Reply>, denial: Option<Reason>, to: u64) -> bool
-    ensures { (store : Store) → IsTrue result ↔ Fits (option_copied recorded.entry) (compacted_to store to denial).1 }
+/// Whether the reply says that the store was compacted to that number.
+fn is_compacted(recorded: &Reply, to: u64) -> bool
+    ensures { IsTrue result ↔ (recorded.now ≡ CompactedReply to) }
 {
-    let Some(recorded) = recorded else {
-        return true;
-    };
-    match denial {
-        Some(reason) => is_refused(recorded, reason),
-        None => matches!(recorded, Reply::Compacted { revision } if *revision == to),
-    }
+    matches!(recorded, Reply::Compacted { revision } if *revision == to)
 }
 
 /// Whether the reply is a refusal for that reason.
@@ -80,7 +73,7 @@ pub(crate) fn is_refused(recorded: &Reply, reason: Reason) -> bool
     matches!(recorded, Reply::Refused(other) if *other == reason)
 }
 
-/// Whether the reply is what a get of that object, or of none, is answered.
+/// Whether the reply is that of a get that finds this object, or none.
 pub(crate) fn is_found(
     printer: &mut Printer,
     recorded: &Reply,
@@ -146,8 +139,8 @@ fn are_objects(
     Ok(true)
 }
 
-/// Whether two objects are equal, found by their trees. Where those differ their texts decide: that two objects of one text
-/// always have trees that are found the same is nowhere promised.
+/// Whether two objects are equal, found by their trees. If those differ, the texts decide: nothing promises that two
+/// objects of one text always have trees that are found the same.
 fn is_object(printer: &mut Printer, recorded: &Object, stored: &Object) -> Result<bool, Memory>
     ensures { IfOk result (λ yes. IsTrue yes ↔ (recorded.now ≡ stored.now)) }
 {
@@ -159,7 +152,7 @@ fn is_object(printer: &mut Printer, recorded: &Object, stored: &Object) -> Resul
     Ok(are_same_texts(&recorded, &stored))
 }
 
-/// Whether two objects are equal, which they are where their texts are.
+/// Whether two objects are equal, which they are if their texts are.
 fn are_same_texts(left: &Printed, right: &Printed) -> bool
     ensures { IsTrue result ↔ (left.now ≡ right.now) }
 {
@@ -168,7 +161,7 @@ fn are_same_texts(left: &Printed, right: &Printed) -> bool
     left_text == right_text
 }
 
-/// Whether two objects say the same. Where they do, they are equal.
+/// Whether two objects have the same content. If so, they are equal.
 #[tactic(auto, using(crate::proofs::SameObjects::objects_equal))]
 fn are_same(left: &Object, right: &Object) -> bool
     ensures { IsTrue result → left.now ≡ right.now }

@@ -1,4 +1,4 @@
-// A walk through an order, beside one plain store.
+// A walk through an order, next to one plain store.
 ghost use Rattle.std.specs.Prelude.{◌≡◌, ◌↔◌, IfOk, IfSome, IsSome, IsTrue, List, Some};
 ghost use Rattle.std.specs.List.{slice_get};
 ghost use Rattle.std.specs.Option.{option_copied};
@@ -7,13 +7,14 @@ ghost use Rattle.requests.specs.declared.reply.Reply.{Reply as SpecReply};
 ghost use Rattle.requests.specs.declared.request.Request.{Request as SpecRequest};
 ghost use Rattle.order_check.specs.Following.{Follows, IsCalled, IsRest, IsAnswered, MayTake, Takes, standing};
 
-use crate::tree_store::Trees;
+use crate::recorded::take;
 use interleavings::Item;
 use objects::{Memory, Printer};
+use plain_store::Trees;
 use requests::{Reply, Request};
 use std::collections::BTreeMap;
 
-/// What of a trace is not yet in the order, and the store after what is.
+/// What part of a trace is not yet in the order, and the store after what is.
 #[derive(Drop)]
 pub(crate) struct Walk {
     /// By its place, the index of each call.
@@ -41,7 +42,7 @@ impl Walk {
         Ok(self.answers.is_empty())
     }
 
-    /// Gives the store the request that was called at the place, and says whether its reply is as the trace has it.
+    /// Sends the store the request that was called at the place, and says whether its reply is as the trace has it.
     fn take(&mut self, items: &[Item], place: u64) -> Result<bool, Memory>
         ensures takes { IfOk result (λ yes. IsTrue yes → Takes items.now (standing self.old) place (standing self.new)) }
         ensures complete { IfOk result (λ yes. MayTake items.now (standing self.old) place → IsTrue yes) }
@@ -58,7 +59,7 @@ impl Walk {
         Ok(answer_fits)
     }
 
-    /// Gives the store the request, and says whether its reply is the one of the item with that index.
+    /// Sends the store the request, and says whether its reply is the one of the item with that index.
     fn hear(
         &mut self,
         items: &[Item],
@@ -70,10 +71,10 @@ impl Walk {
         ensures stays { (self.new.calls ≡ self.old.calls) × (self.new.answers ≡ self.old.answers) × (self.new.latest ≡ self.old.latest) }
     {
         let Some(index) = answer else {
-            return self.store.take(&mut self.printer, request, None);
+            return take(&mut self.store, &mut self.printer, request, None);
         };
         match reply_at(items, index, self.latest) {
-            Some(recorded) => self.store.take(&mut self.printer, request, Some(recorded)),
+            Some(recorded) => take(&mut self.store, &mut self.printer, request, Some(recorded)),
             None => Ok(false),
         }
     }

@@ -25,7 +25,7 @@ use Rattle.objects.specs.declared.fault.ReadError.TheVariants.{BadName, UnknownK
 use Rattle.objects.specs.Steps.{as_read, guarded, required}
 use Rattle.objects.specs.Reading.{key_in, key_of, kind_in, namespace_in}
 use Rattle.objects.proofs.KeyTexts.{key_name_length, key_namespace_length}
-use Rattle.compact_prints.proofs.PlainNames.{label_plain, name_plain}
+use Rattle.compact_objects.proofs.PlainNames.{label_plain, name_plain}
 use Rattle.requests.specs.declared.request.Request.TheVariants.{Get}
 use Rattle.plain.specs.CompactGets.{get_text}
 use Rattle.plain.specs.Requests.{request_in, request_of}

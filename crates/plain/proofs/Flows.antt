@@ -1,4 +1,4 @@
--- What was taken from a reader and put into a writer, one part after another.
+-- What was read from a reader and put into a writer, one part after another.
 use Rattle.std.proofs.Common.{◌≡◌, ℕ, ◌+◌, ◌-◌, ◌≤◌, List, [], ◌++◌, length, take, drop, refl, sym, ◌∙◌, ap, subst, arith, append_assoc, append-nil, length-drop, length-take-le, length-append, take_all, take-append-drop, Option, Some, None}
 use Rattle.std.specs.Option.{IfSome}
 use Rattle.plain.specs.Streams.{Takes, Puts, PutsPart, UsesRoom}
@@ -13,7 +13,7 @@ Puts-then (Some w) b c x y p q =
     let r : c ≡ Some ((w ++ x) ++ y) = subst (λ o. Puts o y c) p q in
     r ∙ ap Some (append_assoc w x y)
 
--- what stands before the rest was put
+-- what is before the rest was put
 abbrev pub PutsBefore : Option (List ℕ) → List ℕ → List ℕ → Option (List ℕ) → Type 0
 PutsBefore old bytes rest new = (text : List ℕ) × (bytes ≡ text ++ rest) × Puts old text new
 
@@ -31,7 +31,7 @@ UsesRoom-then (Some r) None c m n p q = elim p [ ]
 UsesRoom-then (Some r) (Some s) None m n p q = elim q [ ]
 UsesRoom-then (Some r) (Some s) (Some t) m n p q = omega arith
 
--- what stands before the rest used this much of the room
+-- what is before the rest used this much of the room
 abbrev pub RoomBefore : Option ℕ → List ℕ → List ℕ → Option ℕ → Type 0
 RoomBefore old bytes rest new = (text : List ℕ) × (bytes ≡ text ++ rest) × UsesRoom old (length text) new
 
@@ -67,7 +67,7 @@ Takes-end input consumed left (rest, e, p) none =
     let nil : rest ≡ [] = subst (λ o. IfSome o (λ l. l ≡ [])) p none in
     p ∙ ap Some nil
 
--- nothing was taken
+-- nothing was read
 pub Takes-nothing : (a b : Option (List ℕ)) (piece : List ℕ) → piece ≡ [] → a ≡ Some [] → Takes a piece b → b ≡ Some []
 Takes-nothing a b piece none e h =
     let r : Takes (Some []) [] b = subst (λ o. Takes o [] b) e (subst (λ t. Takes a t b) none h) in

@@ -96,7 +96,7 @@ pub request_of-too_long : (a b : List ℕ) → most_bytes < length a → most_by
 unfolding request_of tree_reading
 request_of-too_long a b la lb = grind (arith, common_steps)
 
--- so its beginning answers for it
+-- so its first bytes give its answer
 request_of-splitter : (k b : List ℕ) (n : ℕ) → n ≡ most_bytes + 1 - length k → (n < length b) ⊎ (length b ≤ n) → request_of (k ++ take n b) ≡ request_of (k ++ b)
 request_of-splitter k b n e (inr le) = ap (λ t. request_of (k ++ t)) (take_all n b le)
 request_of-splitter k b n e (inl lt) =
@@ -107,7 +107,7 @@ answer-pending s k b =
     let n : ℕ = most_bytes + 1 - length k in
     ap (answered s) (request_of-splitter k b n refl (cases_lt n (length b)))
 
--- what a kept beginning comes to does not turn on what was passed over
+-- what a kept prefix yields does not depend on what was passed over
 answers-onto : (s : Store) (n : ℕ) (k b : List ℕ) (ls : List (List ℕ)) → n ≡ most_bytes + 1 - length k → n < length b → answers s (onto (k ++ take n b) ls) ≡ answers s (onto (k ++ b) ls)
 answers-onto s n k b [] e lt =
     ap (λ r. (answered s r).1 ++ 10 ∷ []) (request_of-splitter k b n e (inl lt))
@@ -172,7 +172,7 @@ LeadsTo-line s l rest text n f =
       count = λ more. ap (λ ls. n + length ls) (e more) ∙ omega arith;
     }
 
--- what a kept line answers
+-- the answer to a kept line
 pub text-pending : (s : Store) (k b pending line out new : List ℕ) → pending ≡ with_pending k b → line ≡ pending → new ≡ out ++ ((answer s line).1 ++ 10 ∷ []) → new ≡ out ++ ((answer s (k ++ b)).1 ++ 10 ∷ [])
 text-pending s k b pending line out new e w h =
     h ∙ (ap (λ l. out ++ ((answer s l).1 ++ 10 ∷ [])) (w ∙ e) ∙ ap (λ (a : Store × List ℕ). out ++ (a.1 ++ 10 ∷ [])) (answer-pending s k b))
@@ -180,7 +180,7 @@ text-pending s k b pending line out new e w h =
 pub store-pending : (s t : Store) (k b pending line : List ℕ) → pending ≡ with_pending k b → line ≡ pending → t ≡ (answer s line).0 → t ≡ (answer s (k ++ b)).0
 store-pending s t k b pending line e w h = h ∙ (ap (λ l. (answer s l).0) (w ∙ e) ∙ ap (λ (a : Store × List ℕ). a.0) (answer-pending s k b))
 
--- no line feed is where the search found none
+-- if the search found none, there is no line feed
 pub NoFeed-nowhere : (xs : List ℕ) → Nowhere (Passes (is_byte 10) xs) 0 (length xs) → NoFeed xs
 NoFeed-nowhere xs h = NoFeed-by_index xs (λ k l e. h k (omega arith) l (eq-eqb (get_or xs k 0) 10 e))
 
@@ -194,7 +194,7 @@ pub at_feed : (xs : List ℕ) (at : ℕ) → at < length xs → Passes (is_byte 
 at_feed xs at lt is =
     sym (take-append-drop at xs) ∙ ap (λ t. take at xs ++ t) (drop-cons xs at 0 lt ∙ grind (arith, common_steps))
 
--- the first line, where a line feed ends it and where the text does
+-- the first line, if a line feed ends it and if the text does
 pub first-line : (text later : List ℕ) (at : ℕ) → NoneBefore (Passes (is_byte 10) text) 0 (length text) at → Passes (is_byte 10) text at
     → later ≡ take (length text - (at + 1)) (drop (at + 1) text) → lines text ≡ take at text ∷ lines later
 first-line text later at before is e =
@@ -207,7 +207,7 @@ pub only-line : (text : List ℕ) → 0 < length text → Nowhere (Passes (is_by
 only-line [] some none = absurd (omega arith)
 only-line (b ∷ bs) some none = lines-last b bs (NoFeed-nowhere (b ∷ bs) none)
 
--- a last line is answered with no line feed behind it
+-- a last line is answered with no line feed after it
 pub text-last : (s : Store) (k end old new : List ℕ) → 0 < length k → NoFeed k → end ≡ [] → new ≡ old ++ ((answer s (k ++ end)).1 ++ 10 ∷ []) → new ≡ old ++ answers s (lines k)
 text-last s [] end old new l f e h = absurd (omega arith)
 text-last s (b ∷ bs) end old new l f e h =
@@ -257,7 +257,7 @@ LeadsTo-end p s k pending rest text n h f none e =
 pub NoFeed-end : (k pending rest : List ℕ) → NoFeed k → Nowhere (Passes (is_byte 10) rest) 0 (length rest) → pending ≡ with_pending k rest → NoFeed pending
 NoFeed-end k pending rest f none e = subst NoFeed (sym e) (NoFeed-pending k rest f (NoFeed-nowhere rest none))
 
--- each line takes a byte at least
+-- each line takes at least one byte
 pub shorter-next : (rest later : List ℕ) (at : ℕ) → at < length rest → later ≡ take (length rest - (at + 1)) (drop (at + 1) rest) → length later < length rest
 shorter-next rest later at lt e = rw e (simp length-take (omega arith))
 

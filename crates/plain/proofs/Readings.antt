@@ -50,7 +50,7 @@ value_request d = refl
 answers_at : (v w : Verb) (ms : Members) (result : Result Request RequestError) → v ≡ w → Answers result (request_by w ms) → Answers result (request_by v ms)
 answers_at v w ms result is h = subst (λ x. Answers result (request_by x ms)) (sym is) h
 
--- The request of a verb is made of one part of the members, and is refused where the part is.
+-- The request of a verb is made of one part of the members, and is refused if the part is.
 abbrev pub IsMadeOf : {A : Type 0} → Verb → Members → Result A ReadError → (A → Request) → Type 0
 IsMadeOf v ms part make = request_by v ms ≡ (lifted part >>= λ x. Ok (make x))
 

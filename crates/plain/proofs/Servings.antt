@@ -26,11 +26,11 @@ none_served r ended all had before = on_err _ r ([], none had, inl (PutsPart-non
     none None = tt
     none (Some left) = (left, refl, refl)
 
--- a beginning of the bytes is one of more bytes
+-- a prefix of the bytes is one of more bytes
 pub PutsPart-more : (old new : Option (List ℕ)) (bytes more : List ℕ) → PutsPart old bytes new → PutsPart old (bytes ++ more) new
 PutsPart-more old new bytes more (text, rest, e, p) = (text, rest ++ more, ap (λ b. b ++ more) e ∙ append_assoc text rest more, p)
 
--- where a part of the replies was written
+-- if a part of the replies was written
 pub PutsPart-replies : (s t : Store) (bytes start pending text slice : List ℕ) (n m : ℕ) (old new : Option (List ℕ)) → start ≡ [] → LeadsTo (record { store = s; waiting = bytes; text = start; count = n }) (record { store = t; waiting = pending; text = text; count = m }) → slice ≡ text → PutsPart old slice new → PutsPart old (answers s (ended_lines bytes)) new
 PutsPart-replies s t bytes start pending text slice n m old new none r e p =
     let all : answers s (ended_lines bytes) ≡ slice ++ answers t (ended_lines (pending ++ [])) =
@@ -114,7 +114,7 @@ Serving-ended s t had left later before after pending n h begun none =
       subst (λ b. Puts before b after) (sym all) h.answered.put,
     )
 
--- where nothing was left, nothing is
+-- if nothing was left, nothing is
 over_still : (had left later : Option (List ℕ)) (consumed : List ℕ) → Takes had consumed left → IfSome left (λ l. l ≡ []) → Takes left [] later → IfSome had (λ _. later ≡ Some [])
 over_still None left later consumed taken over none = tt
 over_still (Some input) left later consumed taken over none = Takes-nothing left later [] refl (Takes-end input consumed left taken over) none

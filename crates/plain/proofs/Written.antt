@@ -22,11 +22,11 @@ use Rattle.plain.specs.Replies.{error_name, printed_items, with_items, with_obje
 abbrev pub code_text : ℕ → List ℕ
 code_text code = codes "{\"code\":" ++ decimal code
 
--- what ends each line, from the beginning of its last member on
+-- what ends each line, from the start of its last member on
 abbrev pub last_text : List ℕ → List ℕ → List ℕ
 last_text front t = front ++ (t ++ codes "\"}\n")
 
--- a line feed goes behind what comes last
+-- a line feed goes after what comes last
 feed_last : (a xs ys : List ℕ) → xs ≡ ys ++ 10 ∷ [] → a ++ xs ≡ (a ++ ys) ++ 10 ∷ []
 feed_last a xs ys is = ap (λ x. a ++ x) is ∙ sym (append_assoc a ys (10 ∷ []))
 

@@ -1,5 +1,5 @@
--- Which fault ended a serving or the reading of an input: a failure of the reader or of the writer is counted where the
--- fault says so, and nowhere else.
+-- Which fault ended a serving or the reading of an input: a failure of the reader or of the writer is counted if the
+-- fault says so, and not otherwise.
 use Rattle.std.specs.Prelude.{◌≡◌, ◌<◌, ℕ, Result, Ok, Err}
 use Rattle.plain.specs.declared.devices.input.InputFault.{InputFault}
 use Rattle.plain.specs.declared.devices.input.InputFault.TheVariants as input

@@ -15,7 +15,7 @@ abbrev pub onto_ended : ℕ → List (List ℕ) → List (List ℕ)
 onto_ended b [] = []
 onto_ended b (l ∷ ls) = (b ∷ l) ∷ ls
 
--- the lines that end: a last line without its line feed may go on
+-- the lines that end: a last line without its line feed may continue
 abbrev pub ended_lines : List ℕ → List (List ℕ)
 ended_lines [] = []
 ended_lines (b ∷ bs) = if b == 10 then [] ∷ ended_lines bs else onto_ended b (ended_lines bs)

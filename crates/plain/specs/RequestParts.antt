@@ -38,7 +38,7 @@ field_text (Some (object ms)) = Err errors.BadField
 abbrev pub stored_number : List ℕ → Result ℕ RequestError
 stored_number s = if version_number s == 0 then Err errors.BadField else Ok (version_number s)
 
--- the exact resource version of a list, 0 for none: "0" asks for none, as a missing one does
+-- the exact resource version of a list, 0 for none: "0" requests none, as a missing one does
 abbrev pub exact_number : Option (List ℕ) → Result ℕ RequestError
 exact_number None = Ok 0
 exact_number (Some s) = if bytes_eq s (codes "0") then Ok 0 else stored_number s

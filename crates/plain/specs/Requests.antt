@@ -22,7 +22,7 @@ request_in d = do
 unfoldable pub request_of : List ℕ → Result Request RequestError
 request_of line = lifted (reading_of_data line) >>= request_in
 
--- reading refuses with e; nothing is said where memory ran out
+-- reading refuses with e; nothing is said if memory ran out
 abbrev pub Refuses : {A : Type 0} → RequestError → Result A RequestError → Type 0
 Refuses (errors.Read read.Memory) reading = ⊤
 Refuses e reading = reading ≡ Err e

@@ -25,6 +25,6 @@ answers s (line ∷ rest) = (answer s line).1 ++ 10 ∷ answers (answer s line).
 abbrev pub served : ℕ → List ℕ → List ℕ
 served capacity input = answers (opening capacity) (lines input)
 
--- what it writes while the input may go on
+-- what it writes while the input may continue
 abbrev pub served_so_far : ℕ → List ℕ → List ℕ
 served_so_far capacity input = answers (opening capacity) (ended_lines input)

@@ -12,7 +12,7 @@ requests [] = []
 requests (Ok r ∷ rest) = r ∷ requests rest
 requests (Err _ ∷ rest) = requests rest
 
--- The text for what the lines are, where these are the replies to the requests among them: each request has the next
+-- The text for what the lines are, if these are the replies to the requests among them: each request has the next
 -- reply, and a line that is none has its refusal.
 abbrev pub reply_lines : List (Result Request RequestError) → List Reply → List ℕ
 reply_lines [] _ = []

@@ -1,5 +1,5 @@
--- Lines are answered as their bytes come. Some bytes wait for the end of their line, and of a line that is too long only
--- its beginning is kept.
+-- Lines are answered as their bytes come. Some bytes wait for the end of their line, and of a line that is too long
+-- only a prefix is kept.
 use Rattle.std.specs.Prelude.{◌≡◌, ◌≢◌, ◌<◌, ◌⊎◌, ℕ, ◌+◌, ◌-◌, List, [], ◌∷◌, ◌++◌, length, take}
 use Rattle.objects.specs.Reading.{most_bytes}
 use Rattle.plain_store.specs.Store.{Store}
@@ -15,7 +15,7 @@ NoFeed (b ∷ bs) = (b ≢ 10) × NoFeed bs
 abbrev pub with_pending : List ℕ → List ℕ → List ℕ
 with_pending pending bytes = pending ++ take (most_bytes + 1 - length pending) bytes
 
--- where the answering of an input stands: the store, the bytes that wait, the text of the replies so far and the
+-- how far the answering of an input has come: the store, the bytes that wait, the text of the replies so far and the
 -- number of the lines so far
 pub record Progress : Type 0 where
   pub store : Store
@@ -35,7 +35,7 @@ ended_with p more = p.text ++ answers p.store (ended_lines (p.waiting ++ more))
 abbrev pub count_with : Progress → List ℕ → ℕ
 count_with p more = p.count + length (lines (p.waiting ++ more))
 
--- all come to the same, whatever follows
+-- all are the same, whatever follows
 pub record LeadsTo (p q : Progress) : Type 0 where
   pub text : (more : List ℕ) → text_with p more ≡ text_with q more
   pub ended : (more : List ℕ) → ended_with p more ≡ ended_with q more

@@ -1,8 +1,8 @@
--- What a reader has left and what a writer was given, where the device tells.
+-- What a reader has left and what a writer was given, if the device says.
 use Rattle.std.specs.Prelude.{◌≡◌, ◌≤◌, ◌<◌, ◌+◌, ◌⊎◌, ℕ, List, [], ◌++◌, length, Option, Some, None, ⊤}
 use Rattle.std.specs.Option.{IfSome}
 
--- these bytes were taken from the front of what was left
+-- these bytes were read from the front of what was left
 abbrev pub Takes : Option (List ℕ) → List ℕ → Option (List ℕ) → Type 0
 Takes None taken new = ⊤
 Takes (Some left) taken new = (rest : List ℕ) × (left ≡ taken ++ rest) × (new ≡ Some rest)
@@ -12,7 +12,7 @@ abbrev pub Puts : Option (List ℕ) → List ℕ → Option (List ℕ) → Type 
 Puts None put new = ⊤
 Puts (Some written) put new = new ≡ Some (written ++ put)
 
--- a beginning of these bytes was put after what was there
+-- a prefix of these bytes was put after what was there
 abbrev pub PutsPart : Option (List ℕ) → List ℕ → Option (List ℕ) → Type 0
 PutsPart old bytes new = (text : List ℕ) × (more : List ℕ) × (bytes ≡ text ++ more) × Puts old text new
 
@@ -33,12 +33,12 @@ IsFull None bytes = ⊤
 IsFull (Some room) bytes = (room ≡ 0) × (0 < length bytes)
 
 -- A serving that ended early, from what the reader had and has left and what the writer had and has. Of the bytes that
--- were read a beginning of the replies was written: of those to the lines that ended, or of those to all lines where the
+-- were read a prefix of the replies was written: of those to the lines that ended, or of those to all lines if the
 -- reader has come to its end.
 abbrev pub ServesPart : (ended all : List ℕ → List ℕ) → Option (List ℕ) → Option (List ℕ) → Option (List ℕ) → Option (List ℕ) → Type 0
 ServesPart ended all had left before after =
     (consumed : List ℕ) × Takes had consumed left × (PutsPart before (ended consumed) after ⊎ (IfSome had (λ _. left ≡ Some []) × PutsPart before (all consumed) after))
 
--- the same where all lines that ended are answered, and nothing else
+-- the same if all lines that ended are answered, and nothing else
 abbrev pub ServesEnded : (List ℕ → List ℕ) → Option (List ℕ) → Option (List ℕ) → Option (List ℕ) → Option (List ℕ) → Type 0
 ServesEnded ended had left before after = (consumed : List ℕ) × Takes had consumed left × Puts before (ended consumed) after

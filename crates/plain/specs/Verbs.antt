@@ -1,8 +1,9 @@
--- What a request's `do` asks for.
+-- The operation that a request's `do` names.
 use Rattle.std.specs.Prelude.{ℕ, List, codes, bytes_eq, Option, Some, None, option_and_then, Result, Ok, if◌then◌else◌}
 use Rattle.serde_json.specs.Data.{Members}
 use Rattle.serde_json.specs.Find.{as_str, get_member}
 use Rattle.objects.specs.Reading.{key_in}
+use Rattle.objects.specs.declared.object.Draft.{Draft}
 use Rattle.requests.specs.declared.request.Request.{Request}
 use Rattle.requests.specs.declared.request.Request.TheVariants.{Create, Get, Update, UpdateStatus}
 use Rattle.plain.specs.declared.lines.request_error.RequestError.{RequestError}
@@ -36,3 +37,13 @@ request_by verb.Update ms = lifted (object_draft (get_member (codes "object") ms
 request_by verb.Status ms = lifted (object_draft (get_member (codes "object") ms)) >>= λ d. Ok (UpdateStatus d)
 request_by verb.Delete ms = deletion_in ms
 request_by verb.Compact ms = compaction_in ms
+
+-- the write that a verb makes of a draft, if it makes one
+abbrev pub write_of : Verb → Draft → Option Request
+write_of verb.Create d = Some (Create d)
+write_of verb.Get d = None
+write_of verb.List d = None
+write_of verb.Update d = Some (Update d)
+write_of verb.Status d = Some (UpdateStatus d)
+write_of verb.Delete d = None
+write_of verb.Compact d = None

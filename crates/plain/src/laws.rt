@@ -7,7 +7,7 @@ ghost use Rattle.plain_store.specs.Run.{replies};
 ghost use Rattle.plain_store.specs.Store.{Store};
 
 /// The replies that `serve` writes are those of one run of the plain store by the requests among the lines, in their
-/// order, with the refusals of the other lines at their places.
+/// order, with the refusals of the other lines in between, each at its line.
 pub fn lines_are_one_run()
     ensures { (s : Store) (lines : List (List ℕ)) → let readings = list_map request_of lines in
         answers s lines ≡ reply_lines readings (replies s (requests readings)) }

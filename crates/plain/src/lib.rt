@@ -1,5 +1,5 @@
-//! The plain store on lines: the request that a line is, the line of a reply, and `serve`, which answers the lines of a
-//! reader on a writer. The requests and the store itself, which stand in crates below, are handed on.
+//! The plain store on lines: the request that a line is, the line of a reply, and `serve`, which reads lines and writes
+//! the replies to them. The requests and the store itself, which are in crates below, are re-exported.
 #![tactic(auto)]
 
 mod devices;

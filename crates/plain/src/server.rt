@@ -121,7 +121,7 @@ fn answer_read<W: Sink>(
     Ok(splitter)
 }
 
-/// Answers the last line, if its line feed has not come, and writes the reply. Answers how many lines there were.
+/// Answers the last line, if its line feed has not come, and writes the reply. Returns how many lines there were.
 fn answer_rest<W: Sink>(
     alloc: Global,
     plain: &mut Plain,
@@ -184,16 +184,16 @@ fn serve_store<R: Source, W: Sink>(
 }
 
 /// Answers each line of the reader's bytes with a line to the writer, as the plain store with room for `capacity`
-/// revisions answers them, and says how many lines there were. The bytes are cut at line feeds, and a last line may lack
-/// its line feed. Replies are written once they come to 65,536 bytes, and else before the next read. At any time it holds
-/// one piece of a read (64 KiB at most), at most 1,048,577 bytes of a line that the piece's end cuts, a copy of one line,
-/// the reply to one line, and less than 65,536 bytes of other replies.
+/// revisions answers them, and returns how many lines there were. The bytes are cut at line feeds, and a last line may
+/// lack its line feed. Replies are written once they have 65,536 bytes, and else before the next read. At any time it
+/// holds one piece of a read (64 KiB at most), at most 1,048,577 bytes of a line that the piece's end cuts, a copy of
+/// one line, the reply to one line, and less than 65,536 bytes of other replies.
 ///
 /// # Errors
 ///
-/// Where the capacity is out of range, nothing was read or written. Where the reader failed, the lines that had ended by
-/// then are answered, and a line that was cut off is not. Where the writer failed or memory ran out, what was written is a
-/// beginning of these replies, or of those to all lines once the input has ended.
+/// If the capacity is out of range, nothing was read or written. If the reader failed, the lines that had ended by then
+/// are answered, and a line that was cut off is not. If the writer failed or memory ran out, what was written is a
+/// prefix of these replies, or of those to all lines once the input has ended.
 pub fn serve<R: Source, W: Sink>(
     alloc: Global,
     reader: &mut R,

@@ -22,7 +22,7 @@ use Rattle.plain_store.specs.Store.{Objects, collection, is_of}
 use Rattle.version_map.proofs.Rows.{all_weaker}
 use Rattle.plain_store.proofs.FoundEntries.{IsIn, all_in, kept_in}
 
--- ---- what stands in a list
+-- ---- what is in a list
 
 later : {X : Type 0} (x y : X) (xs : List X) → Contains xs x → Contains (y ∷ xs) x
 later x y xs at = Contains-append_right (y ∷ []) xs x at

@@ -1,4 +1,4 @@
--- Each step draws one number, which it writes, or none, and then changes nothing.
+-- Each step allocates one number, which it writes, or none, and then changes nothing.
 use Rattle.std.proofs.Common.{◌≡◌, ◌≢◌, ◌≤◌, ◌<◌, ◌+◌, ◌==◌, ℕ, Bool, true, false, cond, List, [], ◌∷◌, length, Option, Some, None, MatchOption, refl, subst, arith}
 use Rattle.objects.specs.declared.key.Key.{Key}
 use Rattle.requests.specs.declared.request.Request.{Request}

@@ -1,4 +1,4 @@
--- Requests and their replies tell of the objects of a key as of one life after another.
+-- Requests and their replies show the objects of a key as one life after another.
 use Rattle.std.proofs.Common.{◌≡◌, ◌+◌, ◌==◌, ℕ, Bool, true, false, cond, List, [], ◌∷◌, ◌++◌, Option, Some, None, refl, sym, ap, subst, ◌∙◌}
 use Rattle.std.specs.Prelude.{option_map, filter, flat_map}
 use Rattle.std.specs.List.{AllByRecursion}
@@ -36,14 +36,14 @@ about q = filter (is_about q)
 abbrev at : Store → Key → Option Object
 at s q = map.get s.objects q
 
--- what a reply tells of the key goes before what is told from the store that the step leaves
+-- what a reply shows of the key comes before what is shown from the store that the step leaves
 abbrev TellsOf : Key → Store → Store → List Event → Type 0
 TellsOf q s t told = (later : List Event) → AreLives (at t q) (about q later) → AreLives (at s q) (about q (told ++ later))
 
 abbrev Tells : Key → Store → Store × Reply → Type 0
 Tells q s end = TellsOf q s end.0 (reply_events end.1)
 
--- where an object of the key is told of, by whether it is
+-- what is shown of an object of the key, by whether it is there
 lasts_by : (b : Bool) (current : Option Object) (o : Object) (later : List Event) → (b ≡ true → current ≡ Some o) → AreLives current later
     → AreLives current (cond b (lasts o ∷ later) later)
 lasts_by true current o later is lives = (is refl, lives)
@@ -83,7 +83,7 @@ listed_tells q s [] n filed there = λ later lives. lives
 listed_tells q s (e ∷ es) n filed there = λ later lives.
     lasts_tells q s e.0 e.1 filed there.0 (reply_events (Listed (values_of es) n) ++ later) (listed_tells q s es n filed there.1 later lives)
 
--- what the map has at a key after an object is put there or taken away, by the key that the object has
+-- what the map has at a key after an object is put there or removed, by the key that the object has
 inserted_at : (m : FinMap key_cmp Object) (k q : Key) (p : Object) → p.key ≡ k → map.get (map.insert m k p) q ≡ cond (eq_by_cmp key_cmp q p.key) (Some p) (map.get m q)
 inserted_at m k q p named = get-insert key_cmp_total m k p q ∙ ap (λ x. cond (eq_by_cmp key_cmp q x) (Some p) (map.get m q)) (sym named)
 
@@ -93,11 +93,11 @@ taken_at m k q p named = get-remove key_cmp_total m k q ∙ ap (λ x. cond (eq_b
 abbrev Writing : Store → Key → Verdict → Type 0
 Writing s k v = Writes (IsNew (s.counter + 1)) (IsNext (s.counter + 1)) (s.counter + 1) k (at s k) v
 
--- the object that has the key has the UID of the one that takes its place, or is taken away
+-- the object that has the key has the UID of the one that replaces it, or is removed
 uid_at : (s : Store) (q : Key) (o p : Object) → Has s q o → p.meta.uid ≡ o.meta.uid → HasUidOf p (at s q)
 uid_at s q o p there uid = ap (option_map (λ (x : Object). x.meta.uid)) there ∙ ap Some (sym uid)
 
--- an object that takes the place of another
+-- an object that replaces another
 replaced_tells : (q : Key) (s : Store) (k : Key) (p : Object) → AreFiled s.objects → Replaces (IsNext (s.counter + 1)) k (at s k) p → (later : List Event)
     → AreLives (map.get (map.insert s.objects k p) q) (about q later) → AreLives (at s q) (about q (changes p ∷ later))
 replaced_tells q s k p filed new later lives =
@@ -150,7 +150,7 @@ lives_from : (q : Key) (s : Store) (rs : List Request) → AreFiled s.objects �
 lives_from q s [] filed = tt
 lives_from q s (r ∷ rs) filed = step_tells q s r filed (flat_map events (exchanges (step s r).0 rs)) (lives_from q (step s r).0 rs (filed_after s r filed))
 
--- the exchanges with a store that was opened tell of one life after another
+-- the exchanges with a store that was opened show one life after another
 pub lives_in_run : (capacity : ℕ) (rs : List Request) (q : Key) → AreLives None (events_of q (exchanges (opening capacity) rs))
 lives_in_run capacity rs q =
     subst (λ o. AreLives o (events_of q (exchanges (opening capacity) rs))) (get-empty key_cmp q) (lives_from q (opening capacity) rs (filed_in_run capacity []))

@@ -18,7 +18,7 @@ use Rattle.plain_store.proofs.Verdicts.{Allows, by_turn, left, made}
 abbrev spec : Data → Option Data
 spec = member_of (codes "spec")
 
--- ---- `spec` stays where another member is set
+-- ---- `spec` stays when another member is set
 
 with_other_status : (b : Bool) (value : Option Data) (body : Data) → spec (cond b (with_member (codes "status") value body) body) ≡ spec body
 with_other_status true value body = member_of-with_other (codes "spec") (codes "status") value body (λ e. absurd cc)
@@ -31,7 +31,7 @@ found-itself (Some d) whole = same-itself d whole
 spec-itself : (body : Data) → has_float body ≡ false → same_member (codes "spec") body body ≡ true
 spec-itself body whole = found-itself (spec body) (member_of-integral (codes "spec") body whole)
 
--- where `spec` is the same, the generation stays
+-- if `spec` is the same, the generation stays
 generation_stays : (g : ℕ) (before after : Data) → has_float before ≡ false → spec after ≡ spec before → g ≡ generation_after g (same_member (codes "spec") before after)
 generation_stays g before after whole same =
     sym (ap (λ x. generation_after g (same_found (spec before) x)) same ∙ ap (generation_after g) (spec-itself before whole))

@@ -101,7 +101,7 @@ filed_by s t k q p filed (was o there how) = key_kept s t q o p how (filed q o t
 pub filed_after : (s : Store) (r : Request) → AreFiled s.objects → AreFiled (step s r).0.objects
 filed_after s r filed = steps s r (λ t. AreFiled t.objects) (λ k t c q p there. filed_by s t k q p filed (came s t k q p c there))
 
--- the UID of an object was drawn when it was made, and its version then or later
+-- the UID of an object was allocated when it was made, and its version then or later
 abbrev IsDrawn : ℕ → Object → Type 0
 IsDrawn counter o = (1 ≤ o.meta.uid) × (o.meta.uid ≤ o.meta.revision) × (o.meta.revision ≤ counter)
 
@@ -137,7 +137,7 @@ drawn_after s r drawn = steps s r AreDrawn (λ k t c q p there. drawn_by s t k q
 abbrev AreApart : Store → Type 0
 AreApart s = (q k : Key) (o p : Object) → Has s q o → Has s k p → o.meta.uid ≡ p.meta.uid → q ≡ k
 
--- an object that was there has a UID below the one that is drawn
+-- an object that was there has a UID below the one that is allocated
 older : (s t : Store) (q : Key) (o p : Object) → AreDrawn s → Has s q o → Kept s t q o p → p.meta.uid ≡ s.counter + 1 → ⊥
 older s t q o p drawn there how new =
     let same : p.meta.uid ≡ o.meta.uid = uid_kept s t q o p how in

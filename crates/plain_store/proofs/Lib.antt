@@ -18,3 +18,4 @@ pub mod Generations
 pub mod StaleVersions
 pub mod TakenObjects
 pub mod CompleteLists
+mod Judged

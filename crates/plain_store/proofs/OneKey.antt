@@ -1,4 +1,4 @@
--- A step writes or takes away under the key that its request names, and under no other.
+-- A step writes or removes under the key that its request names, and under no other.
 use Rattle.std.proofs.Common.{◌≡◌, ◌+◌, ◌==◌, ℕ, Bool, true, false, cond, not, ◌||◌, List, bytes_eq, decimal, Option, Some, None, refl, sym, ap, ◌∙◌}
 use Rattle.std.proofs.Math.Bool.{or-true}
 use Rattle.std.specs.BTreeMap.{is_at}

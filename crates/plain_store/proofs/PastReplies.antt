@@ -1,4 +1,4 @@
--- What lists at a number and compactions answer.
+-- The replies to lists at a number and to compactions.
 use Rattle.std.proofs.Common.{◌≡◌, ◌≤◌, ◌<◌, ◌+◌, ◌==◌, ℕ, Bool, true, false, cond, List, [], ◌∷◌, ◌++◌, ◌⊎◌, inl, inr, Option, Some, None, refl, sym, ap, subst, ◌∙◌, arith}
 use Rattle.std.specs.Prelude.{nat_lt}
 use Rattle.std.specs.List.{Contains}
@@ -31,7 +31,7 @@ use Rattle.plain_store.proofs.Steps.{compaction_step, list_at_step, list_step}
 
 -- ---- lists
 
--- a list of a version answers what there was at it
+-- the reply to a list of a version has what there was at it
 record IsOf (s : Store) (kind : Kind) (namespace : List ℕ) (os : List Object) (n : ℕ) : Type 0 where
   are : os ≡ collection (map_at s n) kind namespace
   from : s.floor ≤ n

@@ -97,7 +97,7 @@ status_stays s r q o p other has there =
 
 -- ---- a status request
 
--- a verdict that an `Updated` answers
+-- a verdict to which the reply is an `Updated`
 record WasUpdate (s : Store) (k : Key) (v : Verdict) (t : Store) (p : Object) : Type 0 where
   new : Object
   verdict : v ≡ Write (updates new)
@@ -124,7 +124,7 @@ was_update s k (Refuse reason) t p is = let e : Refused reason ≡ Updated p = a
 was_update s k (Same o) t p is = absurd (let e = ap (λ (x : Store × Reply). x.1) is in cc)
 was_update s k (Write c) t p is = write_update s k c (s.counter == s.capacity) t p is
 
--- of two verdicts, the one that is no write of this object was not taken
+-- of two verdicts, the one that is no write of this object was not chosen
 other_way : (b : Bool) (v w : Verdict) (new : Object) (P : Type 0) → (v ≡ Write (updates new) → P) → (w ≡ Write (updates new) → P) → cond b v w ≡ Write (updates new) → P
 other_way true v w new P p q is = p is
 other_way false v w new P p q is = q is

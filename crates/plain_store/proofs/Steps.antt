@@ -1,4 +1,4 @@
--- A step by a write request goes by its verdict, and the others by what they are about.
+-- A step by a write request has the effect of its verdict, and the others that of what they are about.
 use Rattle.std.proofs.Common.{◌≡◌, ◌==◌, ℕ, List, true, false, cond, is_some, Option, Some, None, IfSome, refl, sym, ap, subst, ◌∙◌, arith}
 use Rattle.std.specs.FinMap as map
 use Rattle.std.proofs.lemmas.Bool.Decides.{nat_tests}

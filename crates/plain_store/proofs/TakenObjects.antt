@@ -1,4 +1,4 @@
--- A delete marks or takes away the object that is under its key.
+-- A delete marks or removes the object that is under its key.
 use Rattle.std.proofs.Common.{◌≡◌, ◌==◌, ◌+◌, ℕ, Bool, true, false, cond, List, Option, Some, None, refl, sym, ap}
 use Rattle.std.specs.Prelude.{is_some}
 use Rattle.std.specs.FinMap as map

@@ -32,14 +32,14 @@ use Rattle.plain_store.specs.Route.{Route, compacts, gets, lists, lists_at, rout
 use Rattle.plain_store.specs.AtKey.{Has, HasNone}
 use Rattle.plain_store.proofs.Routes.{counter_stays, names_its_key, objects_stay}
 
--- a fact of an object that is made under a key, and a fact of a key's object and what takes its place
+-- a fact of an object that is made under a key, and a fact of a key's object and what replaces it
 abbrev pub OfMade : Type 1
 OfMade = Key → Object → Type 0
 
 abbrev pub OfChanged : Type 1
 OfChanged = Key → Object → Object → Type 0
 
--- there is an object, and this one takes its place
+-- there is an object, and this one replaces it
 pub record Replaces (U : OfChanged) (k : Key) (current : Option Object) (new : Object) : Type 0 where
   pub old : Object
   pub there : current ≡ Some old
@@ -54,7 +54,7 @@ Writes C U n k current (Write (updates o)) = Replaces U k current (stamp (update
 Writes C U n k current (Write (marks o)) = Replaces U k current (stamp (marks o) n)
 Writes C U n k current (Write (removes o)) = current ≡ Some o
 
--- the changes that a request can come to have the facts
+-- the changes that a request can make have the facts
 abbrev pub Allows : OfMade → OfChanged → ℕ → Request → Type 0
 Allows C U n (Get k) = ⊤
 Allows C U n (request.List kind namespace exact) = ⊤
@@ -122,7 +122,7 @@ writing C U n (Compact to) k current is allowed = tt
 
 -- ---- what is left under each key
 
--- an object and what stands in its place after a step that may have written under the key k
+-- an object and what is in its place after a step that may have written under the key k
 abbrev pub Turn : OfMade → OfChanged → Key → Key → Option Object → Option Object → Type 0
 Turn C U k q None None = ⊤
 Turn C U k q None (Some p) = (q ≡ k) × C k p
@@ -137,7 +137,7 @@ goes : (C : OfMade) (U : OfChanged) (k q : Key) (o : Option Object) → Turn C U
 goes C U k q None = tt
 goes C U k q (Some o) = tt
 
--- an object that is there where none was, or in the place of another
+-- an object that is there where none was, or that replaces another
 comes : (C : OfMade) (U : OfChanged) (k : Key) (current : Option Object) (p : Object) → current ≡ None → C k p → Turn C U k k current (Some p)
 comes C U k current p none made = subst (λ o. Turn C U k k o (Some p)) (sym none) (refl, made)
 
@@ -167,7 +167,7 @@ changed_turn C U n k q m (updates o) wrote = put_turn C U k q m (stamp (updates 
 changed_turn C U n k q m (marks o) wrote = put_turn C U k q m (stamp (marks o) n) (replaces C U k (map.get m k) (stamp (marks o) n) wrote)
 changed_turn C U n k q m (removes o) wrote = take_turn C U k q m
 
--- a step that leaves all objects as they were, or draws the next number for what it changes
+-- a step that leaves all objects as they were, or allocates the next number for what it changes
 pub data Carried (C : OfMade) (U : OfChanged) (s : Store) (k : Key) (t : Store) : Type 0 where
   idle : t.objects ≡ s.objects → t.counter ≡ s.counter → Carried C U s k t
   moves : t.counter ≡ s.counter + 1 → ((q : Key) → Turn C U k q (map.get s.objects q) (map.get t.objects q)) → Carried C U s k t
@@ -212,13 +212,13 @@ new : (C : OfMade) (U : OfChanged) (k q : Key) (was is : Option Object) (p : Obj
 new C U k q was is p turn before after =
     subst (λ x. Turn C U k q None x) after (subst (λ x. Turn C U k q x is) before turn)
 
--- the object is the same, or changed by the number drawn
+-- the object is the same, or changed by the number allocated
 pub left : (C : OfMade) (U : OfChanged) (s t : Store) (k q : Key) (o p : Object) → Carried C U s k t → Has s q o → Has t q p → (p ≡ o) ⊎ ((t.counter ≡ s.counter + 1) × U q o p)
 left C U s t k q o p (idle is counted) before after = inl (same_Some p o (sym after ∙ ap (λ m. map.get m q) is ∙ before))
 left C U s t k q o p (moves counted turns) before after =
     elim (turned C U k q (map.get s.objects q) (map.get t.objects q) o p (turns q) before after) [ inl e ↦ inl e | inr u ↦ inr (counted, u) ]
 
--- the object is made by the number drawn, under the key that was written
+-- the object is made by the number allocated, under the key that was written
 pub made : (C : OfMade) (U : OfChanged) (s t : Store) (k q : Key) (p : Object) → Carried C U s k t → HasNone s q → Has t q p → (t.counter ≡ s.counter + 1) × (q ≡ k) × C k p
 made C U s t k q p (idle is counted) before after = absurd (none-some p (sym before ∙ ap (λ m. map.get m q) (sym is) ∙ after))
 made C U s t k q p (moves counted turns) before after =

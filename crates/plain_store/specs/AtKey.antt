@@ -12,10 +12,10 @@ Has s key o = map.get s.objects key ≡ Some o
 abbrev pub HasNone : Store → Key → Type 0
 HasNone s key = map.get s.objects key ≡ None
 
--- The request comes upon the one object under the key, and leaves the other one there. They may be the same.
+-- The request finds the one object under the key, and leaves the other one there. They may be the same.
 abbrev pub Leaves : Store → Request → Key → Object → Object → Type 0
 Leaves s request key before after = Has s key before × Has (step s request).0 key after
 
--- The request comes upon no object under the key, and leaves one there.
+-- The request finds no object under the key, and leaves one there.
 abbrev pub Makes : Store → Request → Key → Object → Type 0
 Makes s request key made = HasNone s key × Has (step s request).0 key made

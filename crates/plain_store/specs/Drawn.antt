@@ -1,9 +1,9 @@
--- The numbers that the replies of a run say were drawn.
+-- The numbers that the replies of a run say were allocated.
 use Rattle.std.specs.Prelude.{◌≡◌, ◌<◌, ◌+◌, ℕ, List, [], ◌∷◌, Option, Some, None, ⊤}
 use Rattle.requests.specs.declared.reply.Reply.{Reply}
 use Rattle.requests.specs.declared.reply.Reply.TheVariants.{Created, Found, Listed, Updated, Unchanged, Marked, Removed, Compacted, Refused}
 
--- the resource version of what the reply says was written or taken away
+-- the resource version of what the reply says was written or removed
 abbrev pub version_drawn : Reply → Option ℕ
 version_drawn (Created o) = Some o.meta.revision
 version_drawn (Updated o) = Some o.meta.revision
@@ -44,7 +44,7 @@ abbrev pub AreNext : ℕ → List ℕ → Type 0
 AreNext n [] = ⊤
 AreNext n (m ∷ ms) = (m ≡ n + 1) × AreNext m ms
 
--- the first is above n, and each above the one before it, so none stands twice
+-- the first is above n, and each above the one before it, so none occurs twice
 abbrev pub AreRising : ℕ → List ℕ → Type 0
 AreRising n [] = ⊤
 AreRising n (m ∷ ms) = (n < m) × AreRising m ms

@@ -1,4 +1,4 @@
--- Each object stands under its own key.
+-- Each object is under its own key.
 use Rattle.std.specs.Prelude.{◌≡◌, Some}
 use Rattle.std.specs.FinMap as map
 use Rattle.std.specs.FinMap.{FinMap}

@@ -2,6 +2,7 @@
 pub mod AtKey
 pub mod Drawn
 pub mod Filed
+pub mod Judged
 pub mod Lives
 pub mod Past
 pub mod PrintedReplies
@@ -20,7 +21,6 @@ pub use Rattle.requests.specs.ChangeKinds
 pub use Rattle.requests.specs.Judgments
 pub use Rattle.requests.specs.Keys
 pub use Rattle.requests.specs.Reasons
-pub use Rattle.requests.specs.TextJudgments
 pub use Rattle.requests.specs.Verdict
 pub use Rattle.version_map.specs.Keyed
 pub use Rattle.version_map.specs.Keys as KeyRuns

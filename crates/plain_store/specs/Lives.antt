@@ -1,4 +1,4 @@
--- The lives of the objects of one key, as a run's requests and their replies tell of them (Kubernetes API concepts: a name
+-- The lives of the objects of one key, as a run's requests and their replies show them (Kubernetes API concepts: a name
 -- is given to one object at a time, and a UID to one object ever).
 use Rattle.std.specs.Prelude.{◌≡◌, Bool, List, [], ◌∷◌, filter, flat_map, map, Option, Some, None, option_map, ⊤}
 use Rattle.std.specs.Ordering.{eq_by_cmp}
@@ -10,7 +10,8 @@ use Rattle.requests.specs.declared.reply.Reply.{Reply}
 use Rattle.requests.specs.declared.reply.Reply.TheVariants.{Created, Found, Listed, Updated, Unchanged, Marked, Removed, Compacted, Refused}
 use Rattle.plain_store.specs.Route.{Route, compacts, gets, lists, lists_at, route, writes}
 
--- what a reply says of an object: that its life begins with it as it is here, that it is written anew or read, that it ends
+-- what a reply says of an object: that its life begins with it as it is here, that it is written again or read, that it
+-- ends
 pub data Event : Type 0 where
   begins : Object → Event
   changes : Object → Event
@@ -36,7 +37,7 @@ events_by (writes key) reply = reply_events reply
 events_by (lists_at kind namespace number) reply = []
 events_by (compacts to) reply = []
 
--- what a request and its reply tell: a list at an exact resource version is no witness of now
+-- what a request and its reply show: a list at an exact resource version is no witness of now
 abbrev pub events : Request × Reply → List Event
 events e = events_by (route e.0) e.1
 
@@ -46,7 +47,7 @@ is_about key (changes o) = eq_by_cmp key_cmp key o.key
 is_about key (lasts o) = eq_by_cmp key_cmp key o.key
 is_about key (ends o) = eq_by_cmp key_cmp key o.key
 
--- what they tell of the objects of that key, in order
+-- what they show of the objects of that key, in order
 abbrev pub events_of : Key → List (Request × Reply) → List Event
 events_of key es = filter (is_about key) (flat_map events es)
 
@@ -55,7 +56,7 @@ abbrev pub HasUidOf : Object → Option Object → Type 0
 HasUidOf o current = option_map (λ (x : Object). x.meta.uid) current ≡ Some o.meta.uid
 
 -- One life after another, where `current` is the object that lives, if one does, as it was written last. A life begins
--- only where there is none; what is read is what was written last; what is written anew, or ends, has the UID of the one
+-- only if there is none; what is read is what was written last; what is written again, or ends, has the UID of the one
 -- that lives.
 abbrev pub AreLives : Option Object → List Event → Type 0
 AreLives current [] = ⊤

@@ -1,4 +1,4 @@
--- What requests ask of the past, and what a run did to it.
+-- What requests name of the past, and what a run did to it.
 use Rattle.std.specs.Prelude.{◌≡◌, ◌<◌, ◌++◌, ℕ, List, Option, Some, None}
 use Rattle.std.specs.List.{Contains}
 use Rattle.requests.specs.declared.request.Request.{Request}
@@ -20,7 +20,7 @@ asked_by (compacts to) = Some to
 abbrev pub asked : Request → Option ℕ
 asked r = asked_by (route r)
 
--- a first part of the requests had drawn so many numbers
+-- some first requests had allocated so many numbers
 pub record WasAt (capacity : ℕ) (requests : List Request) (number : ℕ) : Type 0 where
   pub first : List Request
   pub more : List Request

@@ -1,5 +1,5 @@
 -- Replies whose objects are kept as texts, as the replies that they are.
-use Rattle.std.specs.Prelude.{Bool, true, false, Option, Some, None, map}
+use Rattle.std.specs.Prelude.{Option, Some, None, map}
 use Rattle.objects.specs.declared.object.Object.{Object}
 use Rattle.requests.specs.declared.reply.Reply.{Reply}
 use Rattle.requests.specs.declared.reply.Reply.TheVariants as reply
@@ -8,14 +8,14 @@ use Rattle.plain_store.specs.declared.printed_reply.PrintedReply.TheVariants as 
 use Rattle.plain_store.specs.declared.stored_reply.StoredReply.{StoredReply}
 use Rattle.plain_store.specs.declared.stored_reply.StoredReply.TheVariants as stored
 
--- what is answered to a request that is no write
+-- the reply to a request that is no write
 abbrev pub reply_stored : StoredReply → Reply
 reply_stored (stored.Found o) = reply.Found o.now
 reply_stored (stored.Listed objects revision) = reply.Listed (map (λ o. o.now) objects.items) revision
 reply_stored (stored.Compacted revision) = reply.Compacted revision
 reply_stored (stored.Refused reason) = reply.Refused reason
 
--- what is answered to a write
+-- the reply to a write
 abbrev pub reply_printed : PrintedReply → Reply
 reply_printed (printed.Created o) = reply.Created o
 reply_printed (printed.Updated o) = reply.Updated o
@@ -35,15 +35,3 @@ reply_object (reply.Marked o) = Some o
 reply_object (reply.Removed o) = Some o
 reply_object (reply.Compacted revision) = None
 reply_object (reply.Refused reason) = None
-
--- the reply is one to a write
-abbrev pub is_to_write : Reply → Bool
-is_to_write (reply.Created o) = true
-is_to_write (reply.Found o) = false
-is_to_write (reply.Listed os revision) = false
-is_to_write (reply.Updated o) = true
-is_to_write (reply.Unchanged o) = true
-is_to_write (reply.Marked o) = true
-is_to_write (reply.Removed o) = true
-is_to_write (reply.Compacted revision) = false
-is_to_write (reply.Refused reason) = true

@@ -4,7 +4,7 @@ use Rattle.requests.specs.declared.request.Request.{Request}
 use Rattle.plain_store.specs.Store.{Store, opening}
 use Rattle.plain_store.specs.Run.{after}
 
--- the most revisions that a store may draw
+-- the most revisions that a store may allocate
 abbrev pub most_revisions : ℕ
 most_revisions = 1048576
 

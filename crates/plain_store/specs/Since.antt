@@ -13,6 +13,6 @@ HadUidOf s key o = (p : Object) × Has s key p × (p.meta.uid ≡ o.meta.uid)
 abbrev pub IsUidSince : Store → Key → Object → Type 0
 IsUidSince s key o = (s.counter < o.meta.uid) ⊎ HadUidOf s key o
 
--- the object was written later, or was there as it is
+-- the object was written later, or was there unchanged
 abbrev pub IsVersionSince : Store → Key → Object → Type 0
 IsVersionSince s key o = (s.counter < o.meta.revision) ⊎ Has s key o

@@ -1,5 +1,5 @@
--- The plain store: a map from keys to objects as it is now, the maps of the past that may still be read, a counter of the
--- numbers drawn, and a capacity for them. It takes one whole request at a time.
+-- The plain store: a map from keys to objects as it is now, the maps of the past that may still be read, a counter of
+-- the numbers allocated, and a capacity for them. It handles one whole request at a time.
 use Rattle.std.specs.Prelude.{ℕ, ◌+◌, ◌-◌, ◌==◌, nat_lt, List, [], ◌∷◌, ◌++◌, get_or, drop, Option, Some, None, refl, if◌then◌else◌}
 use Rattle.std.specs.Coded.{Coded, code_by, coded×, coded_list, coded_ℕ}
 use Rattle.std.specs.FinMap as map
@@ -41,7 +41,7 @@ store_coded =
     (λ s. (s.objects, (s.counter, (s.capacity, (s.floor, s.past)))))
     (λ p. record { objects = p.0; counter = p.1.0; capacity = p.1.1.0; floor = p.1.1.1.0; past = p.1.1.1.1 }) (λ _. refl)
 
--- as the store opens: nothing is there, and no number is drawn
+-- as the store opens: nothing is there, and no number is allocated
 abbrev pub opening : ℕ → Store
 opening capacity = record { objects = map.empty; counter = 0; capacity = capacity; floor = 0; past = [] }
 
@@ -49,7 +49,7 @@ opening capacity = record { objects = map.empty; counter = 0; capacity = capacit
 abbrev pub map_at : Store → ℕ → Objects
 map_at s n = get_or s.past (n - s.floor) s.objects
 
--- why a number can't be asked for: it is not drawn yet, or else it is below the floor
+-- why a number can't be requested: it is not allocated yet, or else it is below the floor
 unfoldable pub denied : (floor counter number : ℕ) → Option Reason
 denied floor counter n = if nat_lt counter n then Some TooLarge else if nat_lt n floor then Some Expired else None
 
@@ -65,13 +65,13 @@ with_next s k now = record { objects = put_at s.objects k now; counter = s.count
 abbrev pub with_change : Store → Key → Change → Store
 with_change s k c = with_next s k (kept c (s.counter + 1))
 
--- A write draws the next number, unless all are drawn. Nothing else draws one.
+-- A write allocates the next number, unless all are allocated. Nothing else allocates one.
 abbrev pub carried_out : Store → Key → Verdict → Store × Reply
 carried_out s k (Refuse reason) = (s, Refused reason)
 carried_out s k (Same o) = (s, Unchanged o)
 carried_out s k (Write c) = if s.counter == s.capacity then (s, Refused StoreFull) else (with_change s k c, accepted c (stamp c (s.counter + 1)))
 
--- a write request goes by its verdict over the object that now has its key
+-- a write request has the effect of its verdict over the object that now has its key
 abbrev pub written : Store → Key → Request → Store × Reply
 written s k r = carried_out s k (verdict r (map.get s.objects k))
 
@@ -89,7 +89,7 @@ abbrev pub compacted_to : Store → ℕ → Option Reason → Store × Reply
 compacted_to s n (Some reason) = (s, Refused reason)
 compacted_to s n None = (with_floor s n, Compacted n)
 
--- what becomes of a request, by what it is about
+-- the effect of a request, by what it is about
 abbrev pub routed : Store → Request → Route → Store × Reply
 routed s r (gets k) = (s, found (map.get s.objects k))
 routed s r (lists kind namespace) = (s, Listed (collection s.objects kind namespace) s.counter)

@@ -1,4 +1,4 @@
--- What an accepted delete marks or takes away.
+-- What an accepted delete marks or removes.
 use Rattle.std.specs.Prelude.{◌≡◌, ℕ, false, List, Option, Some, None}
 use Rattle.objects.specs.declared.key.Key.{Key}
 use Rattle.objects.specs.declared.object.Object.{Object}
@@ -20,7 +20,7 @@ taken (Unchanged o) = None
 taken (Compacted revision) = None
 taken (Refused reason) = None
 
--- the object that was under the key has the UID and the resource version that were given, and is the one that is answered
+-- the object that was under the key has the UID and the resource version that were given, and is the one in the reply
 pub record Takes (s : Store) (key : Key) (uid version : Option (List ℕ)) (o : Object) : Type 0 where
   pub current : Object
   pub there : Has s key current

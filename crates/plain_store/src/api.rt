@@ -4,6 +4,7 @@ ghost use Rattle.plain_store.specs.Store.{Store, step};
 ghost use Rattle.plain_store.specs.declared.api.ApiFault.TheVariants.{Memory as OutOfMemory};
 
 use crate::store::Plain;
+use crate::tree_store::Trees;
 use objects::Memory;
 use requests::{Reply, Request};
 use thiserror::Error;
@@ -23,9 +24,9 @@ impl From<Memory> for ApiFault {
     }
 }
 
-/// Who answers requests as a plain store does, one whole request at a time.
+/// What replies to requests as a plain store does, one whole request at a time.
 pub trait Api {
-    /// The plain store that stands behind it.
+    /// The plain store that it replies as.
     ghost store: { Self → Store };
 
     /// The reply to a request. At a fault nothing has changed.
@@ -37,6 +38,14 @@ pub trait Api {
 
 impl Api for Plain {
     ghost store = { λ plain. plain };
+
+    fn ask(&mut self, request: Request) -> Result<Reply, ApiFault> {
+        Ok(self.take(request)?)
+    }
+}
+
+impl Api for Trees {
+    ghost store = { λ trees. trees };
 
     fn ask(&mut self, request: Request) -> Result<Reply, ApiFault> {
         Ok(self.take(request)?)

@@ -1,12 +1,12 @@
-//! The plain store: one map of objects that takes whole requests, one at a time, and the laws of its runs.
+//! The plain store: one map of objects that handles whole requests, one at a time, and the laws of its runs.
 #![tactic(auto)]
 
 mod api;
 mod laws;
-mod object_reply;
 mod printed_reply;
 mod store;
 mod stored_reply;
+mod tree_store;
 
 pub use api::{Api, ApiFault};
 pub use laws::changes::{
@@ -30,3 +30,4 @@ pub use laws::runs::{
 pub use printed_reply::PrintedReply;
 pub use store::{MAX_REVISIONS, Plain, PlainError};
 pub use stored_reply::StoredReply;
+pub use tree_store::Trees;

@@ -1,13 +1,13 @@
-ghost use Rattle.std.specs.Prelude.{◌≡◌};
+ghost use Rattle.std.specs.Prelude.{◌≡◌, Some, IfSome};
 ghost use Rattle.std.specs.Option.{option_copied};
 ghost use Rattle.plain_store.specs.PrintedReplies.{reply_object, reply_printed};
 ghost use Rattle.requests.specs.Change.{accepted};
 ghost use Rattle.requests.specs.ChangeKinds.{change_by};
 
-use objects::Printed;
-use requests::{ChangeKind, Reason};
+use objects::{Object, Printed};
+use requests::{ChangeKind, Reason, Reply};
 
-/// What a write is answered, with the text of the object that it is about.
+/// The reply to a write, with the text of the object that it is about.
 #[derive(Drop)]
 pub enum PrintedReply {
     Created(Printed),
@@ -44,6 +44,37 @@ impl PrintedReply {
             | PrintedReply::Marked(text)
             | PrintedReply::Removed(text) => Some(text),
             PrintedReply::Refused(_) => None,
+        }
+    }
+
+    /// The reply with that object instead of its text.
+    pub(crate) fn with_object(self, object: Option<Object>) -> Reply
+        requires { IfSome (reply_object (reply_printed self)) (λ o. object ≡ Some o) }
+        ensures { result ≡ reply_printed self }
+    {
+        match object {
+            Some(object) => self.with_some(object),
+            None => match self {
+                PrintedReply::Refused(reason) => Reply::Refused(reason),
+                _ => unreachable!(),
+            },
+        }
+    }
+
+    fn with_some(self, object: Object) -> Reply
+        requires { IfSome (reply_object (reply_printed self)) (λ o. object ≡ o) }
+        ensures { result ≡ reply_printed self }
+    {
+        match self {
+            PrintedReply::Created(_) => Reply::Created(object),
+            PrintedReply::Updated(_) => Reply::Updated(object),
+            PrintedReply::Unchanged(_) => Reply::Unchanged(object),
+            PrintedReply::Marked(_) => Reply::Marked(object),
+            PrintedReply::Removed(_) => Reply::Removed(object),
+            PrintedReply::Refused(reason) => {
+                drop(object);
+                Reply::Refused(reason)
+            }
         }
     }
 }

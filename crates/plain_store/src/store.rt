@@ -5,10 +5,9 @@ ghost use Rattle.plain_store.specs.PrintedReplies.{reply_stored};
 ghost use Rattle.requests.specs.Verdict.{is_write};
 ghost use Rattle.requests.specs.declared.request.Request.TheVariants.{Compact};
 
-mod by_object;
-mod by_text;
 mod next_number;
 mod reads;
+mod writes;
 
 use crate::stored_reply::StoredReply;
 use objects::{Memory, Printer, TreeReader};
@@ -19,7 +18,7 @@ use std::marker::Model;
 use thiserror::Error;
 use version_map::VersionMap;
 
-/// The most revisions that a store may draw.
+/// The most revisions that a store may allocate.
 pub const MAX_REVISIONS: u64 = 1_048_576;
 
 #[derive(Clone, Copy, Debug, PartialEq, Eq, Error)]
@@ -29,8 +28,8 @@ pub enum PlainError {
     BadCapacity,
 }
 
-/// The plain store: what each key was at each number from a floor on, each object as its text; a counter of the revisions
-/// drawn, and a capacity for them.
+/// The plain store: what each key was at each number from a floor on, each object as its text; a counter of the
+/// revisions allocated, and a capacity for them.
 #[derive(Drop)]
 pub struct Plain {
     versions: VersionMap<Packed>,
@@ -78,7 +77,7 @@ impl Plain {
         })
     }
 
-    /// Takes one whole request. Where memory runs out, nothing has changed.
+    /// Handles one whole request. If memory runs out, nothing has changed.
     pub fn take(&mut self, request: Request) -> Result<Reply, Memory>
         ensures reached { IsReached self.old }
         ensures step { IfOk result (λ reply. (self.new, reply) ≡ step self.old request) }
@@ -86,14 +85,14 @@ impl Plain {
     {
         let _ = &self.versions;
         if request.is_write() {
-            return Ok(self.write_by_object(request)?.into_reply());
+            return self.take_write(request);
         }
         let reply = self.answer(&request);
         drop(request);
         reply
     }
 
-    /// Answers a request that is no write.
+    /// The reply to a request that is no write.
     fn answer(&mut self, request: &Request) -> Result<Reply, Memory>
         requires { is_write request.now ≡ false }
         ensures step { IfOk result (λ reply. (self.new, reply) ≡ step self.old request.now) }
@@ -125,9 +124,9 @@ impl Plain {
         }
     }
 
-    /// Gives up the past below a number, and drops what only it needs: no later list reads there. Names whose last removal
-    /// is not above the floor are forgotten. It takes no memory, and its time is that of the versions dropped, of those
-    /// that have come up to the floor, and of the names forgotten, each of which is looked at once. A number above the
+    /// Drops the past below a number, and what only it needs: no later list reads there. Names whose last removal is
+    /// not above the floor are forgotten. It allocates nothing, and its time is that of the versions dropped, of those
+    /// that the floor has reached, and of the names forgotten, each of which is looked at once. A number above the
     /// counter is TooLarge, and one below the floor Expired; then nothing changes.
     pub fn compact(&mut self, to: u64) -> StoredReply<'static>
         ensures { (self.new, reply_stored result) ≡ step self.old (Compact to) }
@@ -138,7 +137,7 @@ impl Plain {
         }
     }
 
-    /// Raises the floor to a number, or answers why it can't be asked for.
+    /// Raises the floor to a number, or returns why it can't be requested.
     fn raise_floor(&mut self, to: u64) -> Option<Reason>
         ensures denied { result ≡ denied self.old.floor self.old.counter to }
         ensures raised { self.new ≡ (compacted_to self.old to result).0 }
@@ -152,7 +151,7 @@ impl Plain {
         None
     }
 
-    /// Why a number can't be asked for: it is not drawn yet, or else it is below the floor.
+    /// Why a number can't be requested: it is not allocated yet, or else it is below the floor.
     fn denied(&self, number: u64) -> Option<Reason>
         ensures { result ≡ denied self.now.floor self.now.counter number }
     {

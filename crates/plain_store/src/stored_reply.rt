@@ -6,7 +6,7 @@ use packed::Packed;
 use requests::{Listing, Reason, Reply};
 use std::alloc::Global;
 
-/// What is answered to a request that is no write, its objects as the store keeps them.
+/// The reply to a request that is no write, its objects as the store keeps them.
 #[derive(Drop)]
 pub enum StoredReply<'a> {
     Found(&'a Packed),

@@ -1,5 +1,5 @@
-//! What a serving and a store answer where an allocation is refused. By `rt try --test --fail-alloc N` the Nth allocation is; without
-//! it none is, and the answer is the ample one.
+//! What a serving and a store return if an allocation is refused. With `rt try --test --fail-alloc N` the Nth
+//! allocation is; without it none is, and there is enough memory.
 use crate::calls::asked;
 use crate::story::{LINES, REPLIES};
 use json::Writer;
@@ -7,7 +7,7 @@ use objects::Memory;
 use plain::{BufferSink, Plain, Reply, ServeFault, SliceSource, end_line, serve, write_reply};
 use std::alloc::{AllocError, Global};
 
-/// Whether all replies are written, or, where memory runs out, a beginning of them.
+/// Whether all replies are written, or, if memory runs out, a prefix of them.
 fn serves_or_stops(alloc: Global, lines: &str, replies: &str) -> Result<bool, AllocError> {
     let mut reader = SliceSource::new(lines.as_bytes());
     let mut writer = BufferSink::with_room(alloc, replies.len())?;
@@ -19,7 +19,7 @@ fn serves_or_stops(alloc: Global, lines: &str, replies: &str) -> Result<bool, Al
     }
 }
 
-/// The test says nothing where what it needs itself is refused.
+/// The test says nothing if its own setup is refused memory.
 #[test]
 fn a_serving_ends_at_an_allocation_failure(rt: HostRuntime) {
     let is_so = serves_or_stops(rt.alloc(), LINES, REPLIES) != Ok(false);
@@ -34,7 +34,7 @@ fn is_printed(alloc: Global, reply: &Reply, line: &str) -> Result<bool, AllocErr
     Ok(text.as_slice().strip_suffix(b"\n") == Some(line.as_bytes()))
 }
 
-/// Whether a line has that reply. It is asked once more where an allocation is refused, and the reply is printed once more.
+/// Whether a line has that reply. It is sent again if an allocation is refused, and the reply is printed again.
 fn has_reply(alloc: Global, plain: &mut Plain, line: &str, expected: &str) -> bool {
     let reply = match asked(alloc, plain, line) {
         Ok(reply) => Ok(reply),
@@ -64,8 +64,8 @@ fn first_wrong<'a>(
     None
 }
 
-/// A request that was refused an allocation has changed nothing, so that, taken once more, it is answered as if it came for the
-/// first time, and all later ones are too.
+/// A request that was refused an allocation has changed nothing, so that, sent again, it gets the reply of a first
+/// time, and so do all later ones.
 #[test]
 fn a_store_is_as_before_an_allocation_failure(rt: HostRuntime) {
     let Ok(mut plain) = Plain::new(rt.alloc(), 100) else {

@@ -1,4 +1,4 @@
-//! Requests to a store that is known as an `Api` alone, and one that no line makes.
+//! Requests to a store known only as an `Api`, and one that no line makes.
 use objects::{Kind, Memory, ReadError, Text};
 use plain::{Api, ApiFault, Plain, Reason, Reply, Request, RequestError, read_request};
 use std::alloc::Global;

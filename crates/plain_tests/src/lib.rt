@@ -1,6 +1,6 @@
-//! What crate `plain` answers, call by call, where no line shows it: a store that is known as an `Api` alone, streams that
-//! fail, and refused allocations. What a line shows is a transcript in `examples/serve`, a long run a row of `checks/limits`,
-//! and `checks/model` has a slow store beside this one.
+//! What crate `plain` returns, call by call, if no line shows it: a store known only as an `Api`, streams that fail,
+//! and refused allocations. What a line shows is a transcript in `examples/serve`, a long run is a row of
+//! `checks/limits`, and `checks/model` compares with a slow store.
 #![tactic(auto)]
 
 #[cfg(test)]

@@ -1,7 +1,7 @@
 //! A story of one store in lines, with the lines of its replies. They were worked out by hand.
 
-/// The pod `p` is made, read, left as it is, given a status, changed, not changed by a stale version, listed with another pod,
-/// marked and taken away. Then the past is listed, compacted away, and denied.
+/// The pod `p` is created, read, left as it is, given a status, changed, not changed by a stale version, listed with
+/// another pod, marked and removed. Then the past is listed, compacted away, and refused.
 pub(crate) static LINES: &str =
     r#"{"do":"create","object":{"spec":{"b":[1,-2,null,true,{"z":"","a":{}}],"a":"q\"\\\n\u00e9/"},"kind":"Pod","metadata":{"labels":{"b":"2","a":"1"},"name":"p"}}}
 {"do":"get","kind":"Pod","name":"p"}

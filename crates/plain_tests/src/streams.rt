@@ -1,4 +1,4 @@
-//! Serving from a reader that fails in the middle, and to a writer that takes little at a time, and then nothing.
+//! Serving from a reader that fails in the middle, and to a writer that accepts little at a time, and then nothing.
 use plain::{BufferSink, InputFault, ReadSource, ServeFault, Sink, SliceSource, read_all, serve};
 use std::alloc::{AllocError, Global};
 use std::io::{self, Read};
@@ -6,7 +6,7 @@ use std::test::Fail;
 
 const NO_VERB: &[u8] = b"{\"code\":400,\"reason\":\"NoVerb\"}\n";
 
-/// A reader of std that fails once its bytes are given.
+/// A reader of std that fails after its bytes.
 #[derive(Drop)]
 struct Torn<'a> {
     left: &'a [u8],
@@ -21,7 +21,7 @@ impl Read for Torn<'_> {
     }
 }
 
-/// Takes one byte at a time.
+/// Accepts one byte at a time.
 #[derive(Drop)]
 struct Slow {
     inner: BufferSink,
@@ -37,7 +37,7 @@ impl Sink for Slow {
     }
 }
 
-/// Whether a serving ends with `Read` where the reader fails behind this text, and answers that by then.
+/// Whether a serving ends with `Read` if the reader fails after this text, with these replies before.
 fn is_torn(alloc: Global, text: &[u8], expected: &[u8]) -> Result<bool, AllocError> {
     let mut sink = BufferSink::with_room(alloc, 100)?;
     let mut source = ReadSource::new(Torn { left: text });
@@ -45,7 +45,7 @@ fn is_torn(alloc: Global, text: &[u8], expected: &[u8]) -> Result<bool, AllocErr
     Ok(ends == Err(ServeFault::Read) && sink.bytes() == expected)
 }
 
-/// Whether a serving of that text ends so, and has written so much by then, where a writer has room for ten bytes.
+/// Whether a serving of that text ends so, and has written so much by then, if a writer has room for ten bytes.
 fn is_cut(
     alloc: Global,
     text: &[u8],
@@ -63,7 +63,7 @@ fn is_cut(
 #[test]
 fn lines_that_ended_before_a_failure_are_answered(rt: HostRuntime) -> Result<(), Fail> {
     assert!(rt; is_torn(rt.alloc(), b"{}\n", NO_VERB)?);
-    // A line that is cut off is not.
+    // A line that is cut off gets no reply.
     assert!(rt; is_torn(rt.alloc(), b"{}\n{}", NO_VERB)?);
     assert!(rt; is_torn(rt.alloc(), b"{}", b"")?);
     assert!(rt; is_torn(rt.alloc(), b"", b"")?);

@@ -1,5 +1,5 @@
--- What an accepted request writes, but for the number that it draws (Kubernetes API concepts: resource versions, UIDs,
--- generation).
+-- What an accepted request writes, except for the number that it is given (Kubernetes API concepts: resource versions,
+-- UIDs, generation).
 use Rattle.std.specs.Prelude.{◌≡◌, ℕ, ◌==◌, Option, Some, None, refl, if◌then◌else◌}
 use Rattle.std.specs.Coded.{Coded, code_by, coded×, coded_ℕ}
 use Rattle.objects.specs.declared.object.Object.{Object}
@@ -10,7 +10,7 @@ use Rattle.requests.specs.declared.reply.Reply.TheVariants.{Created, Updated, Ma
 use Rattle.requests.specs.declared.version.Version.{Version}
 
 -- an object that is made, one that is changed, a pod that is marked with the time of its deletion, an object that is
--- taken away
+-- removed
 pub data Change : Type 0 where
   creates : Object → Change
   updates : Object → Change
@@ -23,7 +23,7 @@ change_object (updates o) = o
 change_object (marks o) = o
 change_object (removes o) = o
 
--- changes as codes: the place of the kind, and the object
+-- changes as codes: the index of the kind, and the object
 abbrev pub form_index : Change → ℕ
 form_index (creates o) = 0
 form_index (updates o) = 1
@@ -42,8 +42,8 @@ change_at-form_index (removes o) = refl
 abbrev pub change_coded : Coded Change
 change_coded = code_by (ℕ × Object) (coded× coded_ℕ object_coded) (λ c. (form_index c, change_object c)) (λ p. change_at p.0 p.1) change_at-form_index
 
--- The object of a change that draws the number n: a creation has n as its UID too, generation 1 and no deletion. What is
--- taken away is answered at the number of its removal.
+-- The object of a change that is given the number n: a creation has n as its UID too, generation 1 and no deletion. The
+-- reply to a removal has the object at the number of its removal.
 abbrev pub stamp : Change → ℕ → Object
 stamp (creates o) n = record { key = o.key; meta = record { uid = n; revision = n; generation = 1; deletion = None }; body = o.body }
 stamp (updates o) n = at_version o n
@@ -64,6 +64,6 @@ accepted (updates o) written = Updated written
 accepted (marks o) written = Marked written
 accepted (removes o) written = Removed written
 
--- the record of a change that draws the number n
+-- the record of a change that is given the number n
 abbrev pub version_of : Change → ℕ → Version
 version_of c n = record { key = (change_object c).key; state = kept c n }

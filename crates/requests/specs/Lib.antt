@@ -1,4 +1,5 @@
 -- ---- what public clauses cite
+pub mod Admission
 pub mod Change
 pub mod ChangeKinds
 pub mod DrawnRevisions
@@ -7,5 +8,4 @@ pub mod Keys
 pub mod Lists
 pub mod Reasons
 pub mod Same
-pub mod TextJudgments
 pub mod Verdict

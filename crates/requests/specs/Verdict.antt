@@ -1,5 +1,5 @@
--- What a request comes to, given the object that now has its key (Kubernetes API concepts: resource versions,
--- UIDs, and the preconditions of a write).
+-- What a request does, given the object that now has its key (Kubernetes API concepts: resource versions, UIDs, and the
+-- preconditions of a write).
 use Rattle.std.specs.Prelude.{ℕ, Bool, true, false, not, ◌||◌, ◌&&◌, List, [], ◌∷◌, bytes_eq, codes, decimal, Option, Some, None, is_some, if◌then◌else◌}
 use Rattle.std.specs.Option.{option_map_or}
 use Rattle.objects.specs.declared.kind.Kind.{Kind}
@@ -63,7 +63,7 @@ on_create d current =
     else if is_some current then Refuse AlreadyExists
     else Write (creates (born d.object))
 
--- what an update makes of the current object: its UID, deletion and status stay, and all else is what is handed in
+-- what an update makes of the current object: its UID, deletion and status stay, and all else is what is passed
 abbrev pub updated : Object → Draft → Object
 updated o d = record {
   key = d.object.key;
@@ -86,7 +86,7 @@ on_update d (Some o) =
     else if changes_data d o then Refuse Invalid
     else unless_same o (updated o d)
 
--- what a status request makes of the current object: its status is the one that is handed in, a missing one takes it away
+-- what a status request makes of the current object: its status is the one that is passed; a missing one removes it
 abbrev pub with_status_of : Object → Draft → Object
 with_status_of o d = record { key = o.key; meta = o.meta; body = with_member (codes "status") (member_of (codes "status") d.object.body) o.body }
 
@@ -109,14 +109,14 @@ marked at o = record {
   body = o.body;
 }
 
--- Only a pod is deleted gracefully; for the other kinds a time is passed over.
+-- Only a pod is deleted gracefully; for the other kinds a time is ignored.
 abbrev pub graceful : Kind → Option (List ℕ) → Option (List ℕ)
 graceful StatefulSet at = None
 graceful Pod at = nonempty at
 graceful PersistentVolumeClaim at = None
 graceful ControllerRevision at = None
 
--- A graceful deletion marks the object, once, with the time that is handed in. Any other takes it away, a marked one too.
+-- A graceful deletion marks the object, once, with the time that is passed. Any other removes it, a marked one too.
 abbrev pub deleted : Option (List ℕ) → Object → Verdict
 deleted None o = Write (removes o)
 deleted (Some at) o = if is_some o.meta.deletion then Same o else Write (marks (marked at o))
@@ -126,7 +126,7 @@ abbrev pub on_delete : Option (List ℕ) → Option (List ℕ) → Option (List 
 on_delete version uid at None = Refuse NotFound
 on_delete version uid at (Some o) = if conflicts version uid o then Refuse Conflict else deleted (graceful o.key.kind at) o
 
--- Reads and compactions have no verdict: they draw no resource version.
+-- Reads and compactions have no verdict: they allocate no resource version.
 abbrev pub is_write : Request → Bool
 is_write (Create d) = true
 is_write (Get k) = false
@@ -136,7 +136,7 @@ is_write (UpdateStatus d) = true
 is_write (Delete k uid version at) = true
 is_write (Compact to) = false
 
--- The table: what a request comes to, given the object that now has its key. Reads and compactions are never asked.
+-- The table: what a request does, given the object that now has its key. It is never used for reads and compactions.
 abbrev pub verdict : Request → Option Object → Verdict
 verdict (Create d) current = on_create d current
 verdict (Get k) current = Refuse Invalid

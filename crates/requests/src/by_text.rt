@@ -1,149 +1,244 @@
-// The verdicts on updates, status requests and deletes, by the text of the object that now has the key.
-ghost use Rattle.std.specs.Prelude.{◌≡◌, true, None, IfOk, IfSome};
+// The verdicts on writes, by the text of the object that now has the key. What is written is printed at the number that
+// it will get.
+ghost use Rattle.std.specs.Prelude.{◌≡◌, ◌<◌, ◌^◌, true, None, Some, IfOk, IfSome};
 ghost use Rattle.std.specs.Option.{option_copied};
-ghost use Rattle.requests.specs.TextJudgments.{removal_verdict, status_verdict, update_verdict};
-ghost use Rattle.requests.specs.Verdict.{has_status, on_delete, status_unless_same, unless_same, verdict};
-ghost use Rattle.requests.specs.declared.request.Request.TheVariants.{Update, UpdateStatus};
+ghost use Rattle.requests.specs.Judgments.{judged_at, verdict_of};
+ghost use Rattle.requests.specs.Verdict.{has_status, is_write, on_delete, status_unless_same, unless_same, verdict};
+ghost use Rattle.requests.specs.Keys.{key_named};
+ghost use Rattle.requests.specs.declared.request.Request.TheVariants.{Delete, Update, UpdateStatus};
 ghost use Rattle.objects.specs.Rewrites.{replaced};
 
+use crate::admission::found;
+use crate::change_kind::ChangeKind;
 use crate::outcomes::object_of;
-use crate::preconditions::{conflicts_with, has_status};
+use crate::preconditions::{borrowed, has_status, is_graceful};
 use crate::reply::Reason;
-use objects::{Draft, Memory, Object, Printed, Printer, Replacement, Text, Tree, TreeReader};
-use std::alloc::AllocError;
+use crate::request::Request;
+use crate::table::{found_by, judge};
+use crate::verdict::Judgment;
+use objects::{Draft, Key, Memory, Object, Printed, Printer, Text, TreeReader};
 
-/// What an update comes to.
-#[derive(Drop)]
-pub enum UpdateJudgment {
-    Refuse(Reason),
-    /// The update would change nothing: this is the object as it is.
-    Same(Printed),
-    /// The object as the update leaves it, at the resource version that it has now.
-    Write(Printed),
-}
-
-/// What a status request comes to.
-#[derive(Drop)]
-pub enum StatusJudgment {
-    Refuse(Reason),
-    /// The request would change nothing: this is the object as it is.
-    Same(Printed),
-    /// The object as it is, and the status that it gets.
-    Write(Printed, Option<Tree>),
-}
-
-/// What a delete that is not graceful comes to.
-#[derive(Drop)]
-pub enum RemovalJudgment {
-    Refuse(Reason),
-    /// The object as it is.
-    Remove(Printed),
-}
-
-/// What an update of an object that may have a status comes to, given the text of the object that now has its key, if there
-/// is one.
-pub fn judge_update(
+/// What a write does, given the text of the object that now has its key, if there is one. What it writes has the
+/// resource version `number`, which is the next one of the store.
+#[tactic(auto, using(crate::proofs::Denials::timeless))]
+pub fn judge_printed(
     current: Option<&Printed>,
-    draft: Draft,
+    request: Request,
+    number: u64,
     reader: &mut TreeReader,
     printer: &mut Printer,
-) -> Result<UpdateJudgment, Memory>
+) -> Result<Judgment<Printed>, Memory>
+    requires write { is_write request ≡ true }
+    requires key { IfSome (option_copied current) (λ o. Some o.key ≡ key_named request) }
+    requires number { number < 2 ^ 48 }
+    ensures { IfOk result (λ judged. judged ≡ judged_at number (verdict request (option_copied current.entry))) }
+{
+    match request {
+        Request::Update(draft) => {
+            if has_status(draft.object.key.kind) {
+                judge_update(current, draft, number, reader, printer)
+            } else {
+                judge_by_tree(current, Request::Update(draft), number, reader, printer)
+            }
+        }
+        Request::UpdateStatus(draft) => {
+            let judged = judge_status(current, &draft, number, reader, printer);
+            drop(draft);
+            judged
+        }
+        Request::Delete {
+            key,
+            uid,
+            version,
+            at,
+        } => judge_delete(current, key, uid, version, at, number, reader, printer),
+        request => judge_by_tree(current, request, number, reader, printer),
+    }
+}
+
+/// What a delete does. Only a graceful one needs the object read back.
+#[tactic(auto, using(crate::proofs::Denials::timeless))]
+fn judge_delete(
+    current: Option<&Printed>,
+    key: Key,
+    uid: Option<Text>,
+    version: Option<Text>,
+    at: Option<Text>,
+    number: u64,
+    reader: &mut TreeReader,
+    printer: &mut Printer,
+) -> Result<Judgment<Printed>, Memory>
+    requires key { IfSome (option_copied current) (λ o. o.key ≡ key) }
+    requires number { number < 2 ^ 48 }
+    ensures { IfOk result (λ judged. judged ≡ judged_at number (verdict (Delete key uid version at) (option_copied current.entry))) }
+{
+    if is_graceful(key.kind, at.as_ref()) {
+        let request = Request::Delete {
+            key,
+            uid,
+            version,
+            at,
+        };
+        return judge_by_tree(current, request, number, reader, printer);
+    }
+    drop(key);
+    drop(at);
+    let judged = judge_removal(
+        current,
+        version.as_ref(),
+        uid.as_ref(),
+        number,
+        reader,
+        printer,
+    );
+    drop(version);
+    drop(uid);
+    judged
+}
+
+/// What a write does to the object read back.
+fn judge_by_tree(
+    current: Option<&Printed>,
+    request: Request,
+    number: u64,
+    reader: &mut TreeReader,
+    printer: &mut Printer,
+) -> Result<Judgment<Printed>, Memory>
+    requires write { is_write request ≡ true }
+    requires number { number < 2 ^ 48 }
+    ensures { IfOk result (λ judged. judged ≡ judged_at number (verdict request (option_copied current.entry))) }
+{
+    let Ok(current) = read_back(current, reader) else {
+        drop(request);
+        return Err(Memory);
+    };
+    let judged = judge(current.as_ref(), request);
+    drop(current);
+    printed_at(judged?, number, printer)
+}
+
+fn read_back(current: Option<&Printed>, reader: &mut TreeReader) -> Result<Option<Object>, Memory>
+    ensures { IfOk result (λ object. object ≡ option_copied current.entry) }
+{
+    match current {
+        Some(current) => Ok(Some(current.object(reader)?)),
+        None => Ok(None),
+    }
+}
+
+/// The judgment, its object printed as the number leaves it.
+#[tactic(auto, using(crate::proofs::Denials::kind_by))]
+fn printed_at(
+    judged: Judgment<Object>,
+    number: u64,
+    printer: &mut Printer,
+) -> Result<Judgment<Printed>, Memory>
+    requires { number < 2 ^ 48 }
+    ensures { IfOk result (λ printed. printed ≡ judged_at number (verdict_of judged)) }
+{
+    match judged {
+        Judgment::Refuse(reason) => Ok(Judgment::Refuse(reason)),
+        Judgment::Same(object) => Ok(Judgment::Same(printer.print(&object)?)),
+        Judgment::Write(kind, object) => {
+            let object = kind.stamped(object, number);
+            Ok(Judgment::Write(kind, printer.print(&object)?))
+        }
+    }
+}
+
+/// What an update of an object that may have a status does, given the text of the object that now has its key, if there
+/// is one.
+#[tactic(auto, using(crate::proofs::Denials::update_denied))]
+fn judge_update(
+    current: Option<&Printed>,
+    draft: Draft,
+    number: u64,
+    reader: &mut TreeReader,
+    printer: &mut Printer,
+) -> Result<Judgment<Printed>, Memory>
     requires status { has_status draft.object.key.kind ≡ true }
     requires key { IfSome (option_copied current) (λ o. o.key ≡ draft.object.key) }
-    ensures { IfOk result (λ judged. update_verdict judged ≡ verdict (Update draft) (option_copied current.entry)) }
+    ensures { IfOk result (λ judged. judged ≡ judged_at number (verdict (Update draft) (option_copied current.entry))) }
 {
-    let Some(current) = current else {
-        drop(draft);
-        return Ok(UpdateJudgment::Refuse(Reason::NotFound));
-    };
-    if conflicts_with(
-        draft.version.as_ref(),
-        draft.uid.as_ref(),
-        current.revision(),
-        current.uid(),
-    ) {
-        drop(draft);
-        return Ok(UpdateJudgment::Refuse(Reason::Conflict));
+    match found_by(current, &draft) {
+        Ok(current) => update_unless_same(current, object_of(draft), number, reader, printer),
+        Err(reason) => {
+            drop(draft);
+            Ok(Judgment::Refuse(reason))
+        }
     }
-    update_unless_same(current, object_of(draft), reader, printer)
 }
 
 fn update_unless_same(
     current: &Printed,
     object: Object,
+    number: u64,
     reader: &mut TreeReader,
     printer: &mut Printer,
-) -> Result<UpdateJudgment, Memory>
+) -> Result<Judgment<Printed>, Memory>
     requires { current.now.key ≡ object.key }
-    ensures { IfOk result (λ judged. update_verdict judged ≡ unless_same current.now (replaced current.now object)) }
+    ensures { IfOk result (λ judged. judged ≡ judged_at number (unless_same current.now (replaced current.now object))) }
 {
-    let Replacement { text, is_same } = current.replaced(reader, printer, object)?;
-    if is_same {
-        drop(text);
-        return Ok(UpdateJudgment::Same(current.clone()?));
+    match current.replaced(reader, printer, object, number)? {
+        Some(text) => Ok(Judgment::Write(ChangeKind::Update, text)),
+        None => Ok(Judgment::Same(current.clone()?)),
     }
-    Ok(UpdateJudgment::Write(text))
 }
 
-/// What a status request comes to, given the text of the object that now has its key, if there is one.
-pub fn judge_status(
+/// What a status request does, given the text of the object that now has its key, if there is one.
+#[tactic(auto, using(crate::proofs::Denials::status_denied))]
+fn judge_status(
     current: Option<&Printed>,
     draft: &Draft,
+    number: u64,
     reader: &mut TreeReader,
-) -> Result<StatusJudgment, Memory>
-    ensures { IfOk result (λ judged. status_verdict judged ≡ verdict (UpdateStatus draft.now) (option_copied current.entry)) }
+    printer: &mut Printer,
+) -> Result<Judgment<Printed>, Memory>
+    ensures { IfOk result (λ judged. judged ≡ judged_at number (verdict (UpdateStatus draft.now) (option_copied current.entry))) }
 {
     if !has_status(draft.object.key.kind) {
-        return Ok(StatusJudgment::Refuse(Reason::Invalid));
+        return Ok(Judgment::Refuse(Reason::Invalid));
     }
-    let Some(current) = current else {
-        return Ok(StatusJudgment::Refuse(Reason::NotFound));
-    };
-    if conflicts_with(
-        draft.version.as_ref(),
-        draft.uid.as_ref(),
-        current.revision(),
-        current.uid(),
-    ) {
-        return Ok(StatusJudgment::Refuse(Reason::Conflict));
+    match found_by(current, draft) {
+        Ok(current) => status_unless_same(current, draft, number, reader, printer),
+        Err(reason) => Ok(Judgment::Refuse(reason)),
     }
-    status_unless_same(current, draft, reader)
 }
 
 fn status_unless_same(
     current: &Printed,
     draft: &Draft,
+    number: u64,
     reader: &mut TreeReader,
-) -> Result<StatusJudgment, Memory>
-    ensures { IfOk result (λ judged. status_verdict judged ≡ status_unless_same current.now draft.now) }
+    printer: &mut Printer,
+) -> Result<Judgment<Printed>, Memory>
+    ensures { IfOk result (λ judged. judged ≡ judged_at number (status_unless_same current.now draft.now)) }
 {
     if current.has_status(reader, draft.object.member("status"))? {
-        return Ok(StatusJudgment::Same(current.clone()?));
+        return Ok(Judgment::Same(current.clone()?));
     }
-    let status = draft.object.status()?;
-    match current.clone() {
-        Ok(current) => Ok(StatusJudgment::Write(current, status)),
-        Err(_) => {
-            drop(status);
-            Err(Memory)
-        }
-    }
+    let text = current.with_status(reader, printer, draft.object.status()?, number)?;
+    Ok(Judgment::Write(ChangeKind::Update, text))
 }
 
-/// What a delete that is not graceful comes to, given the text of the object that now has its key, if there is one.
-pub fn judge_removal(
+/// What a delete that is not graceful does, given the text of the object that now has its key, if there is one.
+#[tactic(auto, using(crate::proofs::Denials::delete_denied))]
+fn judge_removal(
     current: Option<&Printed>,
     version: Option<&Text>,
     uid: Option<&Text>,
-) -> Result<RemovalJudgment, AllocError>
-    ensures { IfOk result (λ judged. removal_verdict judged
-        ≡ on_delete (option_copied version.entry) (option_copied uid.entry) None (option_copied current.entry)) }
+    number: u64,
+    reader: &mut TreeReader,
+    printer: &mut Printer,
+) -> Result<Judgment<Printed>, Memory>
+    ensures { IfOk result (λ judged. judged ≡ judged_at number
+        (on_delete (option_copied version.entry) (option_copied uid.entry) None (option_copied current.entry))) }
 {
-    let Some(current) = current else {
-        return Ok(RemovalJudgment::Refuse(Reason::NotFound));
-    };
-    if conflicts_with(version, uid, current.revision(), current.uid()) {
-        return Ok(RemovalJudgment::Refuse(Reason::Conflict));
+    match found(current, borrowed(version), borrowed(uid)) {
+        Ok(current) => Ok(Judgment::Write(
+            ChangeKind::Removal,
+            current.at_version(reader, printer, number)?,
+        )),
+        Err(reason) => Ok(Judgment::Refuse(reason)),
     }
-    Ok(RemovalJudgment::Remove(current.clone()?))
 }

@@ -9,8 +9,8 @@ use objects::{Key, Object};
 use std::alloc::AllocError;
 use std::marker::Model;
 
-/// What an accepted request writes, but for the number that it draws. What it holds is ready to be stored and to be
-/// answered, so that `stamp` takes no memory.
+/// What an accepted request writes, except for the number that it is given. All that it holds is ready to be stored and
+/// to be sent as the reply, so that `stamp` allocates nothing.
 #[derive(Drop)]
 pub struct Change {
     kind: ChangeKind,
@@ -34,7 +34,7 @@ impl Model for Change {
 }
 
 impl Change {
-    /// The change of that kind that leaves the object, or takes it away.
+    /// The change of that kind that leaves the object, or removes it.
     pub(crate) fn of(kind: ChangeKind, object: Object) -> Result<Change, AllocError>
         ensures { IfOk result (λ change. change ≡ change_by kind object) }
     {
@@ -59,8 +59,8 @@ impl Change {
         &self.key
     }
 
-    /// The change at the number that it draws: what to store, and the reply. A creation has the number as its UID too
-    /// (Kubernetes `ObjectMeta`: uid, resourceVersion, generation).
+    /// The change at the number that it is given: what to store, and the reply. A creation has the number as its UID
+    /// too (Kubernetes `ObjectMeta`: uid, resourceVersion, generation).
     pub fn stamp(self, number: u64) -> (Version, Reply)
         requires { (1 ≤ number) × (number < 2 ^ 48) }
         ensures version { result.0 ≡ version_of self number }
@@ -83,7 +83,7 @@ impl Change {
     }
 }
 
-/// What a change holds beside the object: its key, and what is to be stored.
+/// What a change holds besides the object: its key, and what is to be stored.
 fn held_by(kind: ChangeKind, object: &Object) -> Result<(Key, Option<Object>), AllocError>
     ensures { IfOk result (λ held. (held.0 ≡ object.now.key) × (held.1 ≡ stored_by kind object.now)) }
 {

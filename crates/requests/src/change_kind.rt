@@ -16,8 +16,8 @@ pub enum ChangeKind {
 }
 
 impl ChangeKind {
-    /// The object of a change of this kind that draws the number. A creation has the number as its UID too (Kubernetes
-    /// `ObjectMeta`: uid, resourceVersion, generation).
+    /// The object of a change of this kind that is given the number. A creation has the number as its UID too
+    /// (Kubernetes `ObjectMeta`: uid, resourceVersion, generation).
     pub fn stamped(self, object: Object, number: u64) -> Object
         requires { number < 2 ^ 48 }
         ensures { result ≡ stamp (change_by self object) number }

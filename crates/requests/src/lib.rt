@@ -1,6 +1,7 @@
-//! Requests to a store of objects, what they come to, and the replies to them.
+//! Requests to a store of objects, what they do, and the replies to them.
 #![tactic(auto)]
 
+mod admission;
 mod by_text;
 mod change;
 mod change_kind;
@@ -14,9 +15,8 @@ mod table;
 mod verdict;
 mod version;
 
-pub use by_text::{
-    RemovalJudgment, StatusJudgment, UpdateJudgment, judge_removal, judge_status, judge_update,
-};
+pub use admission::{Kept, create_denied, found};
+pub use by_text::judge_printed;
 pub use change::Change;
 pub use change_kind::ChangeKind;
 pub use listing::Listing;

@@ -43,7 +43,7 @@ pub(crate) fn object_of(draft: Draft) -> Object
     object
 }
 
-/// The current object with the status of the one that is handed in.
+/// The current object with the status of the one that is passed.
 pub(crate) fn with_status_of(draft: &Draft, current: &Object) -> Result<Object, AllocError>
     ensures { IfOk result (λ changed. changed ≡ with_status_of current.now draft.now) }
 {

@@ -1,4 +1,4 @@
-// What the verdicts turn on: the preconditions of a request, and whether it would change anything.
+// What the verdicts depend on: the preconditions of a request, and whether it would change anything.
 ghost use Rattle.std.specs.Prelude.{◌≡◌, ◌<◌, ◌^◌, IfOk, Option, is_some, option_map, decimal};
 ghost use Rattle.std.specs.Option.{option_copied};
 ghost use Rattle.requests.specs.Verdict.{changes_data, conflicts, conflicts_with, differs, graceful, has_status, same_member, nonempty};
@@ -17,13 +17,13 @@ pub(crate) fn nonempty(text: Option<&Text>) -> Option<&str>
     unless_empty(borrowed(text))
 }
 
-fn borrowed(text: Option<&Text>) -> Option<&str>
+pub(crate) fn borrowed(text: Option<&Text>) -> Option<&str>
     ensures { option_map (λ s. s.now) result ≡ option_copied text.entry }
 {
     Some(text?.as_str())
 }
 
-fn unless_empty(text: Option<&str>) -> Option<&str>
+pub(crate) fn unless_empty(text: Option<&str>) -> Option<&str>
     ensures { option_map (λ s. s.now) result ≡ nonempty (option_map (λ s. s.now) text.entry) }
 {
     let text = text?;
@@ -135,7 +135,7 @@ pub(crate) fn graceful(current: &Object, at: Option<Text>) -> Option<Text>
     }
 }
 
-/// Whether a delete with that time leaves an object of the kind, marked with the time. Only pods are deleted so.
+/// Whether a delete with that time leaves an object of the kind, marked with the time. Only pods are deleted that way.
 pub fn is_graceful(kind: Kind, at: Option<&Text>) -> bool
     ensures { result ≡ is_some (graceful kind (option_copied at.entry)) }
 {

@@ -17,9 +17,9 @@ pub enum Reason {
     Conflict,
     /// 422: the request may not be made so.
     Invalid,
-    /// 507: all revisions of the store are drawn.
+    /// 507: all revisions of the store are allocated.
     StoreFull,
-    /// 410: the resource version has been compacted away (`metav1.StatusReasonExpired`). List anew without one.
+    /// 410: the resource version has been compacted away (`metav1.StatusReasonExpired`). List again without one.
     Expired,
     /// 504: the store has not reached that resource version (the cause `ResourceVersionTooLarge` of the API server).
     TooLarge,
@@ -64,7 +64,7 @@ pub enum Reply {
     /// 200: the object as it is.
     Found(Object),
     /// 200: the objects of the kind in the namespace, in byte order of their names, and the resource version of the
-    /// store at which they were read: the exact one that was asked for, else that of the last write, 0 where there was
+    /// store at which they were read: the exact one that was requested, else that of the last write, 0 if there was
     /// none.
     Listed { objects: Listing, revision: u64 },
     /// 200: the object as the update left it.
@@ -81,7 +81,7 @@ pub enum Reply {
 }
 
 impl Reply {
-    /// Whether it is the reply to a write that drew a revision.
+    /// Whether it is the reply to a write that allocated a revision.
     pub fn drew_revision(&self) -> bool
         ensures { result ≡ drew_revision self.now }
     {

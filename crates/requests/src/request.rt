@@ -23,14 +23,14 @@ pub enum Request {
     /// Writes the `status` of the draft's object, and nothing else.
     UpdateStatus(Draft),
     /// A UID or a resource version that is given has to be the object's. With a time `at`, a pod is marked with it and
-    /// goes by a later delete without one (graceful deletion); for the other kinds it is passed over.
+    /// is removed by a later delete without one (graceful deletion); for the other kinds the time is ignored.
     Delete {
         key: Key,
         uid: Option<Text>,
         version: Option<Text>,
         at: Option<Text>,
     },
-    /// Gives up the past below the resource version `to` (etcd's compaction): no later list reads there, and what lists
+    /// Drops the past below the resource version `to` (etcd's compaction): no later list reads there, and what lists
     /// read from `to` on stays as it is.
     Compact {
         to: u64,
@@ -38,7 +38,7 @@ pub enum Request {
 }
 
 impl Request {
-    /// Whether the request goes by a verdict, and draws a resource version where it is accepted: a create, an update, a
+    /// Whether the request has a verdict, and allocates a resource version if it is accepted: a create, an update, a
     /// status request or a delete.
     pub fn is_write(&self) -> bool
         ensures { result ≡ is_write self.now }

@@ -7,7 +7,7 @@ use crate::reply::Reply;
 use objects::{Meta, Object, Text};
 
 impl Reply {
-    /// Whether the other reply says the same of the same objects. Where it does, they are equal.
+    /// Whether the other reply says the same of the same objects. If it does, they are equal.
     #[tactic(auto, using(crate::proofs::Sameness::replies_equal))]
     pub fn is_same(&self, other: &Reply) -> bool
         ensures value { result ≡ same_reply self.now other.now }

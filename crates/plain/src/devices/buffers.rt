@@ -4,7 +4,7 @@ use crate::devices::failures::Failures;
 use crate::devices::stream::Sink;
 use std::alloc::{AllocError, Global};
 
-/// Writes into a buffer whose room was made beforehand. It fails exactly where it is full and there is a byte to write.
+/// Writes into a buffer whose room was made beforehand. It fails exactly if it is full and there is a byte to write.
 #[derive(Drop)]
 pub struct BufferSink {
     bytes: Vec<u8>,

@@ -5,9 +5,9 @@ use crate::devices::failures::Failures;
 use crate::devices::stream::{Sink, Source};
 use std::io::{Read, Write};
 
-/// Reads from one of std's readers: what it has left is what std's reader tells of it, and nothing where that tells
+/// Reads from one of std's readers: what it has left is what std's reader says, and nothing is said if that says
 /// nothing, as of a file. An error of the reader is a failure, also an interruption, and so is a read past the first
-/// 2^64 - 1 bytes, which takes none.
+/// 2^64 - 1 bytes, which reads none.
 #[derive(Drop)]
 pub struct ReadSource<R> {
     inner: R,
@@ -54,8 +54,8 @@ impl<R: Read> Source for ReadSource<R> {
     ghost finite = { λ s. Prim.search rules };
 }
 
-/// Writes to one of std's writers: what it holds is what std's writer tells of it, and nothing where that tells nothing,
-/// as of a file. An error of the writer is a failure, also an interruption, and so is a write that takes none of the
+/// Writes to one of std's writers: what it holds is what std's writer says, and nothing is said if that says nothing,
+/// as of a file. An error of the writer is a failure, also an interruption, and so is a write that writes none of the
 /// bytes.
 #[derive(Drop)]
 pub struct WriteSink<W> {

@@ -19,7 +19,7 @@ use plain_store::{Plain, PrintedReply, StoredReply};
 use requests::Request;
 use std::alloc::Global;
 
-/// Answers a line: the reply's text and a line feed come after what `out` holds.
+/// Answers a line: the reply's text and a line feed are appended to `out`.
 pub(crate) fn answer_line(
     alloc: Global,
     plain: &mut Plain,

@@ -1,11 +1,11 @@
-// Lines that are compact JSON, taken with no tree of them: a create, an update or a status request, however its members
-// stand, and a get whose members stand in byte order, as this program writes JSON.
-ghost use Rattle.std.specs.Prelude.{◌≡◌, codes, None, Ok, IfOk, IfSome, ◌++◌, ◌∷◌};
+// Lines that are compact JSON, handled with no tree of them: a create, an update or a status request, whatever the
+// order of its members, and a get whose members are in byte order, as this program writes JSON.
+ghost use Rattle.std.specs.Prelude.{◌≡◌, codes, None, Some, Ok, IfOk, IfSome, ◌++◌, ◌∷◌};
 ghost use Rattle.serde_json.specs.Data.{Members};
 ghost use Rattle.serde_json.specs.Find.{get_member};
 ghost use Rattle.serde_json.specs.Written.{compact_text};
-ghost use Rattle.compact_drafts.specs.Maps.{IsMap};
-ghost use Rattle.compact_writes.specs.Told.{IsToldOf};
+ghost use Rattle.compact_objects.specs.Maps.{IsMap};
+ghost use Rattle.compact_objects.specs.Told.{IsToldOf};
 ghost use Rattle.objects.specs.declared.object.Draft.{Draft};
 ghost use Rattle.plain_store.specs.PrintedReplies.{reply_printed};
 ghost use Rattle.plain_store.specs.Store.{step};
@@ -13,25 +13,28 @@ ghost use Rattle.requests.specs.declared.request.Request.{Request};
 ghost use Rattle.plain.specs.Replies.{reply_data};
 ghost use Rattle.plain.specs.RequestParts.{object_draft};
 ghost use Rattle.plain.specs.Served.{answer};
-ghost use Rattle.plain.specs.Verbs.{request_by, verb_in};
 ghost use Rattle.std.specs.Str.{IsUtf8};
 ghost use Rattle.objects.specs.Kind.{kind_name};
 ghost use Rattle.requests.specs.declared.request.Request.TheVariants.{Get};
 ghost use Rattle.plain.specs.CompactGets.{get_text};
 ghost use Rattle.plain.specs.Requests.{request_of};
+ghost use Rattle.plain.specs.Verbs.{verb_in, write_of};
+ghost use Rattle.plain_store.specs.Judged.{IsJudged};
 
 use crate::lines::line_reader::LineReader;
 use crate::lines::verb::Verb;
 use compact::{Tables, plain_end};
-use compact_drafts::{CompactDraft, as_text, kind_named, text_of};
-use compact_prints::draft_of_line;
-use compact_writes::{create, update, update_status};
-use objects::{Key, Kind, Memory, Printer, ReadError};
+use compact_objects::{
+    CompactDraft, as_text, draft_of_line, judge_create, judge_status, judge_update, kind_named,
+    text_of,
+};
+use objects::{Key, Kind, Memory, Printed, Printer, ReadError};
 use plain_store::{Plain, PrintedReply};
+use requests::Judgment;
 use std::alloc::{AllocError, Global};
 
-/// Takes the write that a line asks for, if it is of that form, and answers the reply. None says nothing of the line, and
-/// nothing has changed.
+/// Carries out the write that a line requests, if it is of that form, and returns the reply. None says nothing of the
+/// line, and nothing has changed.
 pub(crate) fn compact_write(
     alloc: Global,
     plain: &mut Plain,
@@ -66,7 +69,7 @@ fn verb_of(text: &[u8], tables: &Tables) -> Option<Verb>
     Verb::named(text_of(tables.line.find(text, b"do")?)?)
 }
 
-/// Takes the write of that verb, if it is one.
+/// Carries out the write of that verb, if it is one.
 fn write_by(
     alloc: Global,
     plain: &mut Plain,
@@ -75,14 +78,47 @@ fn write_by(
     draft: &CompactDraft<'_>,
 ) -> Result<Option<PrintedReply>, Memory>
     requires { (d : Draft) × IsToldOf draft.now d }
-    ensures step { (ms : Members) (d : Draft) → object_draft (get_member (codes "object") ms) ≡ Ok d → IsToldOf draft.now d
-        → IfOk result (λ found. IfSome found (λ printed. (r : Request) × (request_by verb ms ≡ Ok r) × ((plain.new, reply_printed printed) ≡ step plain.old r))) }
+    ensures step { (d : Draft) → IsToldOf draft.now d
+        → IfOk result (λ found. IfSome found (λ printed. (r : Request) × (write_of verb d ≡ Some r) × ((plain.new, reply_printed printed) ≡ step plain.old r))) }
     ensures none { IfOk result (λ found. found ≡ None → plain.new ≡ plain.old) }
 {
+    match judged_by(alloc, plain, printer, verb, draft)? {
+        Some(judged) => Ok(Some(plain.carry_out(&draft.key, judged)?)),
+        None => Ok(None),
+    }
+}
+
+/// What the write of that verb does to what now has the draft's key, if it is one.
+fn judged_by(
+    alloc: Global,
+    plain: &mut Plain,
+    printer: &mut Printer,
+    verb: Verb,
+    draft: &CompactDraft<'_>,
+) -> Result<Option<Judgment<Printed>>, Memory>
+    requires { (d : Draft) × IsToldOf draft.now d }
+    ensures judged { (d : Draft) → IsToldOf draft.now d
+        → IfOk result (λ found. IfSome found (λ judged. (r : Request) × (write_of verb d ≡ Some r) × IsJudged plain.old r draft.now.key judged)) }
+    ensures same { plain.new ≡ plain.old }
+{
+    let number = plain.next_number();
     match verb {
-        Verb::Create => create(alloc, plain, draft),
-        Verb::Update => update(alloc, plain, draft),
-        Verb::Status => update_status(alloc, plain, printer, draft),
+        Verb::Create => {
+            let is_there = plain.is_there(&draft.key);
+            judge_create(alloc, is_there, draft, number)
+        }
+        Verb::Update => {
+            let current = plain.printed_at(&draft.key)?;
+            let judged = judge_update(alloc, current.as_ref(), draft, number);
+            drop(current);
+            judged
+        }
+        Verb::Status => {
+            let current = plain.printed_at(&draft.key)?;
+            let judged = judge_status(alloc, printer, current.as_ref(), draft, number);
+            drop(current);
+            judged
+        }
         Verb::Get | Verb::List | Verb::Delete | Verb::Compact => Ok(None),
     }
 }
@@ -95,8 +131,8 @@ struct Named<'a> {
     name: &'a str,
 }
 
-/// The key that a line asks for, if it is a get of that form: `{"do":"get","kind":"Pod","name":"web-0","namespace":"default"}`.
-/// None says nothing of the line.
+/// The key that a line requests, if it is a get of that form:
+/// `{"do":"get","kind":"Pod","name":"web-0","namespace":"default"}`. None says nothing of the line.
 pub(crate) fn compact_get(alloc: Global, line: &[u8]) -> Result<Option<Key>, AllocError>
     ensures { IfOk result (λ found. IfSome found (λ key. request_of line.now ≡ Ok (Get key))) }
 {
@@ -130,7 +166,7 @@ fn named_by(line: &[u8]) -> Option<Named<'_>>
     })
 }
 
-// What stands before the first quotation mark, and behind it, unless a backslash or a control byte comes first.
+// What is before the first quotation mark, and after it, unless a backslash or a control byte comes first.
 fn split_at_quote(bytes: &[u8]) -> Option<(&[u8], &[u8])>
     ensures { IfSome result (λ p. bytes.now ≡ p.0.now ++ 34 ∷ p.1.now) }
 {

@@ -12,8 +12,8 @@ use std::alloc::{AllocError, Global};
 /// The most tries that are left out in a row.
 const MOST: u32 = 63;
 
-/// How many tries are left out: after each that fails, one more than twice as many as after the one before. Who writes lines
-/// with spaces writes more of them, so that trying each would cost time and gain none.
+/// How many tries are left out: after each that fails, one more than twice as many as after the one before. A client
+/// that writes lines with spaces writes more of them, so that trying each would cost time and gain none.
 #[derive(Drop)]
 pub(crate) struct Backoff {
     left: u32,
@@ -83,8 +83,8 @@ impl LineReader {
         }
     }
 
-    /// Puts a copy of the line into byte order, if that can be told of it with no tree and it is the line's turn to be tried. If
-    /// not, nothing is said of the line.
+    /// Puts a copy of the line into byte order, if that can be done with no tree of it and it is the line's turn to be
+    /// tried. If not, nothing is said of the line.
     pub(crate) fn put_in_order(&mut self, line: &[u8]) -> Result<bool, AllocError>
         ensures taken { IfOk result (λ is_taken. IsTrue is_taken → IsTaken line.now self.new.text.items self.new.scanner.tables) }
         ensures short { IfOk result (λ is_taken. IsTrue is_taken → length line.now ≤ most_bytes) }

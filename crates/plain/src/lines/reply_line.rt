@@ -14,13 +14,13 @@ use plain_store::{PrintedReply, StoredReply};
 use requests::Reason;
 use std::alloc::AllocError;
 
-/// What begins the line of a reply with an object that the request made.
+/// The start of the line of a reply with an object that the request made.
 const MADE: &str = "{\"code\":201,\"object\":";
 
-/// What begins that of any other reply with an object.
+/// The start of the line of any other reply with an object.
 const DONE: &str = "{\"code\":200,\"object\":";
 
-/// Writes the line of what a write is answered.
+/// Writes the line of the reply to a write.
 pub(crate) fn printed_line(printed: &PrintedReply, out: &mut Vec<u8>) -> Result<(), AllocError>
     ensures { OnOk result (out.new.items ≡ out.old.items ++ (compact_text (reply_data (reply_printed printed.now)) ++ 10 ∷ [])) }
 {
@@ -36,7 +36,7 @@ pub(crate) fn printed_line(printed: &PrintedReply, out: &mut Vec<u8>) -> Result<
     }
 }
 
-/// Writes the line of what a request that is no write is answered.
+/// Writes the line of the reply to a request that is no write.
 pub(crate) fn stored_line(stored: &StoredReply, out: &mut Vec<u8>) -> Result<(), AllocError>
     ensures { OnOk result (out.new.items ≡ out.old.items ++ (compact_text (reply_data (reply_stored stored.now)) ++ 10 ∷ [])) }
 {
@@ -125,7 +125,7 @@ fn put_code(code: u16, out: &mut Vec<u8>) -> Result<(), AllocError>
     put(buffer.format(code), out)
 }
 
-// Writes the beginning of the last member, its text and all that ends a line.
+// Writes the start of the last member, its text and all that ends a line.
 fn put_last(front: &str, text: &str, out: &mut Vec<u8>) -> Result<(), AllocError>
     ensures { OnOk result (out.new.items ≡ out.old.items ++ (front.now ++ (text.now ++ codes "\"}\n"))) }
 {

@@ -12,7 +12,7 @@ use objects::{Object, write_object};
 use requests::{Reason, Reply};
 use std::alloc::AllocError;
 
-/// Writes the value that a reply line of `serve` is, in the place of a value.
+/// Writes the value that a reply line of `serve` is, where a value is expected.
 pub fn write_reply(reply: &Reply, out: &mut Writer) -> Result<(), AllocError>
     ensures tokens { OnOk result (out.new.tokens ≡ out.old.tokens ++ json_tokens (outline (reply_data reply.now))) }
     ensures before { out.new.before ≡ out.old.before }

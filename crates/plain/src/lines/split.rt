@@ -3,8 +3,8 @@ ghost use Rattle.plain.specs.Lines.{lines};
 
 use memchr::memchr;
 
-/// The first line of a text, without its line end, and what comes after it; none where nothing is left. A line ends with
-/// a line feed, or where the text ends.
+/// The first line of a text, without its line end, and what comes after it; none if nothing is left. A line ends with a
+/// line feed, or at the end of the text.
 pub fn split_line(text: &[u8]) -> Option<(&[u8], &[u8])>
     ensures none { IfNone result (text.now ≡ []) }
     ensures first { IfSome result (λ p. lines text.now ≡ p.0.now ∷ lines p.1.now) }

@@ -17,12 +17,13 @@ const MAX_PENDING: usize = 1_048_577;
 /// How many bytes of replies are enough to be written before another line is answered.
 const ENOUGH: usize = 65_536;
 
-/// Where the splitting of an input into lines stands.
+/// How far the splitting of an input into lines has come.
 #[derive(Drop)]
 pub(crate) struct Splitter {
-    /// Reads each line in the memory of the lines before it. It lies apart, since it is large and a splitter is moved often.
+    /// Reads each line in the memory of the lines before it. It is boxed, since it is large and a splitter is moved
+    /// often.
     pub(crate) reader: Box<LineReader>,
-    /// The beginning of the line whose end has not come yet.
+    /// The first bytes of the line whose end has not come yet.
     pub(crate) pending: Vec<u8>,
     /// The replies that are not written yet.
     pub(crate) replies: Vec<u8>,
@@ -38,8 +39,8 @@ pub(crate) struct Paused<'a> {
     pub(crate) rest: &'a [u8],
 }
 
-/// Appends bytes to the beginning of a line whose end has not come. Of a line that is too long, no more is held than what
-/// shows that it is too long.
+/// Appends bytes to the first ones of a line whose end has not come. Of a line that is too long, no more is held than
+/// what shows that it is too long.
 fn append_pending(mut pending: Vec<u8>, bytes: &[u8]) -> Result<Vec<u8>, Memory>
     ensures { IfOk result (λ v. v.items ≡ with_pending pending.items bytes.now) }
 {
@@ -89,8 +90,8 @@ fn answer_end(
     })
 }
 
-/// Answers the lines that end in the piece, up to the one at which the replies in hand are enough to be written. Where
-/// no line is left, it keeps what comes after them.
+/// Answers the lines that end in the piece, up to the one at which the replies in hand are enough to be written. If no
+/// line is left, it keeps what comes after them.
 pub(crate) fn answer_piece<'a>(
     alloc: Global,
     plain: &mut Plain,

@@ -5,7 +5,7 @@ ghost use Rattle.plain.specs.Verbs.{verb_named, verb_in};
 use crate::lines::request_error::RequestError;
 use objects::Members;
 
-/// What a request asks for.
+/// The operation that a request names.
 #[derive(Clone, Copy)]
 pub(crate) enum Verb {
     Create,

@@ -1,5 +1,5 @@
-//! Laws of the plain store about what one request may change of an object: its status, its generation, and nothing
-//! where it names a resource version of the past.
+//! Laws of the plain store about what one request may change of an object: its status, its generation, and nothing if
+//! it names a resource version of the past.
 ghost use Rattle.std.specs.Prelude.{◌≡◌, ◌≢◌, ◌≤◌, ℕ, List, Option, Some, None, codes, decimal, true, false, if◌then◌else◌};
 ghost use Rattle.serde_json.specs.Written.{has_float};
 ghost use Rattle.objects.specs.declared.key.Key.{Key};

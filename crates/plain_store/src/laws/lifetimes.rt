@@ -11,19 +11,20 @@ ghost use Rattle.plain_store.specs.Since.{IsUidSince, IsVersionSince};
 ghost use Rattle.plain_store.specs.Store.{Store, opening, step};
 
 /// No two objects live under one name at a time, and what is read is what was written last: for each key, a `Created`
-/// comes only where none lives; what is found, unchanged or in a list of now is the object as it was written last; what is
-/// updated, marked or removed has the UID of the one that was created last; and between two `Created` stands a `Removed`.
+/// comes only if none lives; what is found, unchanged or in a list of now is the object as it was written last; what is
+/// updated, marked or removed has the UID of the one that was created last; and between two `Created` there is a
+/// `Removed`.
 pub fn names_live_once()
     ensures { (capacity : ℕ) (requests : List Request) (key : Key) → AreLives None (events_of key (exchanges (opening capacity) requests)) }
 {}
 
-/// The objects of a store that was opened stand under their own keys.
+/// The objects of a store that was opened are under their own keys.
 pub fn objects_stand_under_their_keys()
     ensures { (capacity : ℕ) (requests : List Request) → AreFiled (after (opening capacity) requests).objects }
 {}
 
-/// In a store that was opened no two objects have one UID, and each object's UID and resource version were drawn: the
-/// UID first, from 1 on, and the version then or later.
+/// In a store that was opened no two objects have one UID, and each object's UID and resource version were allocated:
+/// the UID first, from 1 on, and the version then or later.
 pub fn uids_name_one_key()
     ensures apart { (capacity : ℕ) (requests : List Request) (key other : Key) (o p : Object) → let s = after (opening capacity) requests in
         Has s key o → Has s other p → o.meta.uid ≡ p.meta.uid → key ≡ other }
@@ -31,8 +32,9 @@ pub fn uids_name_one_key()
         Has s key o → (1 ≤ o.meta.uid) × (o.meta.uid ≤ o.meta.revision) × (o.meta.revision ≤ s.counter) }
 {}
 
-/// An object keeps its UID as long as it lives. Each request that changes it gives it the number that it draws as its
-/// resource version, so the version never falls; an object that is made has that number as its UID too.
+/// An object keeps its UID as long as it lives. Each request that changes it gives it the number that the request
+/// allocates as its resource version, so the version never falls; an object that is made has that number as its UID
+/// too.
 pub fn uids_stay()
     ensures uid { (s : Store) (request : Request) (key : Key) (before after : Object)
         → Leaves s request key before after → after.meta.uid ≡ before.meta.uid }
@@ -45,7 +47,7 @@ pub fn uids_stay()
 {}
 
 /// What is there after any further requests was made since, or was there before them under the same key; and it was
-/// written since, or was there as it is.
+/// written since, or was there unchanged.
 pub fn old_objects_were_there()
     ensures uid { (s : Store) (requests : List Request) (key : Key) (o : Object) → Has (after s requests) key o → IsUidSince s key o }
     ensures version { (s : Store) (requests : List Request) (key : Key) (o : Object) → Has (after s requests) key o → IsVersionSince s key o }

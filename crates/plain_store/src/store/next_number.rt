@@ -1,4 +1,4 @@
-// How a change draws its number, and what is kept of it.
+// How a change gets its number, and what is kept of it.
 ghost use Rattle.std.specs.Prelude.{◌≡◌, ◌≢◌, ◌≤◌, ◌==◌, IfOk, OnOk, OnErr};
 ghost use Rattle.plain_store.specs.Reached.{IsReached};
 ghost use Rattle.plain_store.specs.Store.{with_next};
@@ -11,8 +11,8 @@ use requests::ChangeKind;
 use version_map::VersionMap;
 
 impl Plain {
-    /// Draws the next number for a change of that kind, which leaves this text under its key, or nothing. All that may be
-    /// refused memory comes before it.
+    /// Allocates the next number for a change of that kind, which leaves this text under its key, or nothing. All
+    /// allocations of memory that may fail come before it.
     pub(super) fn put(&mut self, kind: ChangeKind, key: &Key, text: &Printed) -> Result<(), Memory>
         requires room { self.old.counter ≢ self.old.capacity }
         requires reached { IsReached (with_next self.old key.now (stored_by kind text.now)) }
@@ -34,7 +34,7 @@ impl Plain {
         Ok(())
     }
 
-    /// Gives the key a tombstone where the change is its removal, so that a list of what is there does not come upon it.
+    /// Gives the key a tombstone if the change is its removal, so that a list of what is there does not walk over it.
     fn set_tombstone_if_removed(&mut self, kind: ChangeKind, key: &Key)
         ensures { self.new ≡ self.old }
     {
@@ -45,14 +45,14 @@ impl Plain {
         }
     }
 
-    /// The newest revision, 0 where none is drawn.
+    /// The newest revision, 0 if none is allocated.
     pub fn revision(&self) -> u64
         ensures { result ≡ self.now.counter }
     {
         self.counter
     }
 
-    /// Whether all revisions are drawn.
+    /// Whether all revisions are allocated.
     pub fn is_full(&self) -> bool
         ensures { result ≡ (self.now.counter == self.now.capacity) }
     {
@@ -60,8 +60,8 @@ impl Plain {
     }
 }
 
-/// What a change of that kind leaves of the text of its object, packed beside others of its set, or else beside what its
-/// key was at a number.
+/// What a change of that kind leaves of the text of its object, packed over the base of its set, or else over that of
+/// what its key was at a number.
 fn stored(
     packer: &mut Packer,
     versions: &VersionMap<Packed>,

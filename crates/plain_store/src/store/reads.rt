@@ -15,8 +15,8 @@ use packed::Packed;
 use requests::{Reason, Request};
 
 impl Plain {
-    /// Answers a get or a list, which change nothing, with the objects that the store keeps. A list at an exact resource
-    /// version is refused as TooLarge above the counter, and as Expired below the floor.
+    /// The reply to a get or a list, which change nothing, with the objects that the store keeps. A list at an exact
+    /// resource version is refused as TooLarge above the counter, and as Expired below the floor.
     pub fn read(&self, request: &Request) -> Result<StoredReply<'_>, Memory>
         requires { is_read request.now ≡ true }
         ensures { IfOk result (λ stored. (self.now, reply_stored stored) ≡ step self.now request.now) }
@@ -28,7 +28,7 @@ impl Plain {
                 namespace,
                 exact,
             } => {
-                // 0 asks for the list as it is now.
+                // 0 requests the list as it is now.
                 if *exact == 0 {
                     self.list_now(*kind, namespace)
                 } else {

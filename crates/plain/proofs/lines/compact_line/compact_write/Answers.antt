@@ -1,6 +1,6 @@
 use Rattle.std.proofs.Common.{subst}
 use Rattle.std.specs.Prelude.{IfSome}
-use Rattle.compact_prints.specs.Lines.{IsDraftOfLine}
+use Rattle.compact_objects.specs.Lines.{IsDraftOfLine}
 use Rattle.plain.proofs.CompactWrites.{answered_by, taken_as}
 use Rattle.plain.proofs.lines.compact_line.compact_write.Goals as goal
 

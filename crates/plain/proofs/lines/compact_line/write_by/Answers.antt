@@ -1,14 +1,21 @@
-use Rattle.requests.specs.declared.request.Request.TheVariants as request
-use Rattle.plain.specs.declared.lines.verb.Verb.TheVariants as verb
-use Rattle.plain.proofs.CompactWrites.{taken_by}
-use Rattle.plain.proofs.Readings.{of_create, of_status, of_update}
+use Rattle.std.proofs.Common.{sym, ap, ◌∙◌, subst}
+use Rattle.plain_store.specs.Judged.{IsJudged}
+use Rattle.plain_store.specs.Store.{Store, step}
+use Rattle.plain.proofs.CompactWrites.{IsJudgedBy, found_by}
 use Rattle.plain.proofs.lines.compact_line.write_by.Goals as goal
 
-pub returns-in-Create-clause-step : goal.returns-in-Create-clause-step
-returns-in-Create-clause-step c ms d drafted told = taken_by c.args.verb verb.Create ms d request.Create _ _ c.create.result (of_create ms) c.in-Create.is drafted (c.create.ensures.step d told)
+pub carry_out-requires : goal.carry_out-requires
+carry_out-requires c =
+    let key = c.args.draft.now.key in
+    let is = found_by (IsJudgedBy c.args.verb c.requires.0 c.args.plain.now key) c.in_ok-judged.field-0 c.in-Some.judged c.in-Some.is (c.in_ok-judged.ensures.judged c.requires.0 c.requires.1) in
+    (is.0, subst (λ (s : Store). IsJudged s is.0 key c.in-Some.judged) (sym c.in_ok-judged.ensures.same) is.2)
 
-pub returns-in-Update-clause-step : goal.returns-in-Update-clause-step
-returns-in-Update-clause-step c ms d drafted told = taken_by c.args.verb verb.Update ms d request.Update _ _ c.update.result (of_update ms) c.in-Update.is drafted (c.update.ensures.step d told)
-
-pub returns-in-Status-clause-step : goal.returns-in-Status-clause-step
-returns-in-Status-clause-step c ms d drafted told = taken_by c.args.verb verb.Status ms d request.UpdateStatus _ _ c.update_status.result (of_status ms) c.in-Status.is drafted (c.update_status.ensures.step d told)
+pub returns-in_ok-carry_out-in-Some-clause-step : goal.returns-in_ok-carry_out-in-Some-clause-step
+returns-in_ok-carry_out-in-Some-clause-step c d told =
+    let key = c.args.draft.now.key in
+    let is = found_by (IsJudgedBy c.args.verb d c.args.plain.now key) c.in_ok-judged.field-0 c.in-Some.judged c.in-Some.is (c.in_ok-judged.ensures.judged d told) in (
+      is.0,
+      is.1,
+      c.in_ok-carry_out-in-Some.ensures.step is.0 (subst (λ (s : Store). IsJudged s is.0 key c.in-Some.judged) (sym c.in_ok-judged.ensures.same) is.2)
+          ∙ ap (λ (s : Store). step s is.0) c.in_ok-judged.ensures.same,
+    )

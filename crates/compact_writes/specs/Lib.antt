@@ -1,4 +1,0 @@
--- ---- what public clauses cite
-pub mod Told
--- ---- what only proofs use
-pub mod Writes
