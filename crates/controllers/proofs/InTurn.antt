@@ -1,4 +1,4 @@
--- A create of a pod that a controller asks for is an action of its plan, and so comes in turn.
+-- A create of a pod that a controller sends is an action of its plan, and so comes in turn.
 use Rattle.std.proofs.Common.{◌≡◌, inl, inr, ℕ, ◌^◌, ◌<◌, ◌≤◌, ◌+◌, Bool, true, false, cond, List, [], ◌∷◌, Option, Some, None, Result, Ok, Err, filter, find, length, length-append, refl, sym, ap, ◌∙◌, subst, true≢false, arith}
 use Rattle.std.specs.Prelude.{⊤, ◌==◌, nat_le, nat_lt, option_and_then, if◌then◌else◌, reverse}
 use Rattle.std.specs.List.{AllByRecursion, Contains, cons_option, filter_map}
@@ -68,7 +68,7 @@ use Rattle.controllers.specs.InTurn.{IsInTurn, is_on_pod}
 all_reversed : {X : Type 0} (P : X → Type 0) (xs : List X) → AllByRecursion P xs → AllByRecursion P (reverse xs)
 all_reversed P xs all = recursion_from_All P (reverse xs) (All-permutation P xs (reverse xs) (IsPermutation-reverse xs) (All-from_recursion P xs all))
 
--- ---- beside the pods a plan creates nothing that is a pod
+-- ---- a plan creates no other object that is a pod
 
 abbrev IsOther : Object → Type 0
 IsOther o = is_kind kinds.Pod o.key.kind ≡ false
@@ -175,8 +175,9 @@ module _ (set : SetParts) (held : List ℕ → Bool) (digits : ℕ) (owned : Lis
   revision_is_other : AllByRecursion IsOther owned → IsRevisionPlan (plan_of set held digits owned)
   unfolding plan_of
   revision_is_other all =
-      elim (revision_plans.are_sound set owned) as (λ b. IsRevisionPlan (cond b (Ok owned) (Err errors.BadSpec) >>= λ sound. revision_plans.plan_by set held digits sound (choice_of (data_with set.template) sound))) [
-        | true ↦ other_by_choice (choice_of (data_with set.template) owned) (choice_is_other (data_with set.template) (reverse owned) (all_reversed IsOther owned all))
+      let x = choice_of (data_with set.template) owned in
+      elim (revision_plans.is_sound set owned x) as (λ b. IsRevisionPlan (cond b (Ok x) (Err errors.BadSpec) >>= λ y. revision_plans.plan_by set held digits owned y)) [
+        | true ↦ other_by_choice x (choice_is_other (data_with set.template) (reverse owned) (all_reversed IsOther owned all))
         | false ↦ tt
       ]
 
@@ -274,7 +275,7 @@ module _ (d : Draft) where
   no_write true o kind other is = other_request o kind other is
   no_write false o kind other is = cc
 
-  -- what asks for a pod is an action that creates it
+  -- a request for a pod is an action that creates it
   asks : (Q : Object → Type 0) (actions : List Action) (namespace moment : List ℕ) (a : Action) → ((pod : Object) → Contains actions (CreatePod pod) → Q pod) → is_kind kinds.Pod d.object.key.kind ≡ true
       → IsApart a → Contains actions a → Has (Create d) (request_of namespace moment a) → Q d.object
   asks Q actions namespace moment (CreateClaim o) each kind other at h = absurd (other_request o kind other (only (Create (draft o)) h))

@@ -1,4 +1,4 @@
--- What is known of the actions of a plan, and of the requests that they come to.
+-- What is known of the actions of a plan, and of their requests.
 use Rattle.std.proofs.Common.{◌≡◌, inl, inr, ℕ, Bool, true, false, List, [], ◌∷◌, ◌++◌, Option, Some, None, Result, Ok, Err, map, not, take, refl, sym, subst}
 use Rattle.std.specs.Prelude.{if◌then◌else◌, slice_index_or}
 use Rattle.std.specs.List.{All, AllByRecursion, Contains, flat_map, list_any}
@@ -77,7 +77,8 @@ module _ (P : Action → Type 0) (set : SetParts) (claims : Claims) (views : Lis
   of_status each None = All-nil P
   of_status each (Some o) = All-cons P (WriteStatus o) [] (each o) (All-nil P)
 
-  -- it holds of each action of a plan, if it does of those of each step, of the deletes of revisions and of the writes of the status
+  -- it holds of each action of a plan, if it does of those of each step, of the deletes of revisions and of the writes
+  -- of the status
   pub of_plan : (actions : List Action) → ((s : Step) → All P (actions_of set claims current update s)) → All (λ o. P (deletion o)) owned → ((o : Object) → P (WriteStatus o))
       → plan_of_pods set claims views owned current update ≡ Ok actions → All P actions
   unfolding full_plan

@@ -138,8 +138,9 @@ chosen set held digits owned choice.to_create = created_only owned (revision_pla
 planned_owned : (set : SetParts) (held : List ℕ → Bool) (digits : ℕ) (owned : List Object) → owned_in owned (plan_of set held digits owned) ≡ owned
 unfolding plan_of owned_in
 planned_owned set held digits owned =
-    elim (revision_plans.are_sound set owned) as (λ b. owned_in owned (cond b (Ok owned) (Err errors.BadSpec) >>= λ sound. revision_plans.plan_by set held digits sound (choice.choice_of (choice.data_with set.template) sound)) ≡ owned) [
-      | true ↦ chosen set held digits owned (choice.choice_of (choice.data_with set.template) owned)
+    let x = choice.choice_of (choice.data_with set.template) owned in
+    elim (revision_plans.is_sound set owned x) as (λ b. owned_in owned (cond b (Ok x) (Err errors.BadSpec) >>= λ y. revision_plans.plan_by set held digits owned y) ≡ owned) [
+      | true ↦ chosen set held digits owned x
       | false ↦ refl
     ]
 

@@ -1,4 +1,4 @@
--- The requests that the plan of a set comes to, over what was listed (Kubernetes, "StatefulSets"; "Controllers").
+-- The requests of the plan of a set, over what was listed (Kubernetes, "StatefulSets"; "Controllers").
 use Rattle.std.specs.Prelude.{ℕ, ◌^◌, ◌==◌, nat_lt, List, [], ◌∷◌, Option, Some, None, Result, Ok, Err, if◌then◌else◌}
 use Rattle.std.specs.List.{flat_map}
 use Rattle.objects.specs.declared.key.Key.{Key}
@@ -29,7 +29,8 @@ as_read o = draft_again_of o
 abbrev pub key_of : Kind → List ℕ → List ℕ → Option Key
 key_of kind namespace name = if is_key (key_parts kind namespace name) then Some (key_parts kind namespace name) else None
 
--- The delete of the object of a key, if it still has the UID. There is none of what no store holds: it has no key, or no UID.
+-- The delete of the object of a key, if it still has the UID. There is none of what no store holds: it has no key, or
+-- no UID.
 abbrev pub deletions : Option Key → ℕ → Option (List ℕ) → Option (List ℕ) → List Request
 deletions None uid version at = []
 deletions (Some key) uid version at = if nat_lt uid (2 ^ 48) then Delete key (Some (uid_text uid)) version at ∷ [] else []
@@ -60,7 +61,7 @@ requested_for set digits moment revisions pods claims =
 unfoldable pub requested : Object → ℕ → List ℕ → List Object → List Object → List Object → Result (List Request) PlanError
 requested o digits moment revisions pods claims = set_of o >>= λ set. requested_for set digits moment revisions pods claims
 
--- none where there is no plan
+-- none if there is no plan
 abbrev pub or_none : Result (List Request) PlanError → List Request
 or_none (Ok requests) = requests
 or_none (Err e) = []

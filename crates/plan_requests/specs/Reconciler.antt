@@ -5,8 +5,8 @@ use Rattle.collector.specs.Collectable.{collection}
 use Rattle.rounds.specs.Reconciler.{Reconciler}
 use Rattle.plan_requests.specs.Planned.{or_none, requested}
 
--- The controller of a set: it asks the plan of the set, and collects claims. The names of new revisions have that many
--- digits, and pods are marked with that moment.
+-- The controller of a set: it sends the requests of the plan of the set, and collects claims. The names of new
+-- revisions have that many digits, and pods are marked with that moment.
 abbrev pub reconciler_with : Key → ℕ → List ℕ → Reconciler
 reconciler_with set digits moment = record {
   set = set;

@@ -1,4 +1,4 @@
-// The requests that the actions of a plan come to.
+// The requests of the actions of a plan.
 ghost use Rattle.std.specs.Prelude.{◌≡◌, ◌≢◌, ◌++◌, ◌∷◌, [], ◌<◌, ◌^◌, ◌==◌, decimal, IfOk, IsErr, OnOk, Some, None, if◌then◌else◌};
 ghost use Rattle.objects.specs.Again.{text_unless_zero};
 ghost use Rattle.objects.specs.Uid.{uid_text};
@@ -219,7 +219,7 @@ fn put_status(requests: &mut Vec<Request>, alloc: Global, set: Object) -> Result
     put(requests, Request::UpdateStatus(draft))
 }
 
-/// Adds the write of a revision: a create where it has no UID yet.
+/// Adds the write of a revision: a create if it has no UID yet.
 fn put_revision(requests: &mut Vec<Request>, alloc: Global, revision: Object) -> Result<(), Memory>
     ensures { OnOk result (requests.new.items
         ≡ requests.old.items ++ (if revision.meta.uid == 0 then Create (draft revision) else Update (as_read revision)) ∷ []) }

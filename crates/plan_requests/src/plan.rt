@@ -46,7 +46,10 @@ fn requested_for(
     Ok(requests_of(alloc, namespace, moment, plan.actions)?)
 }
 
-/// The requests of the plan of a set.
+/// The requests of the plan of a set, in the order of its actions. Creates are of claims, pods and new revisions.
+/// Updates, of a claim, a revision or the set's status, name the UID and the resource version that were read. A pod is
+/// deleted by its UID, with the moment; a revision by its UID and resource version. A wait is no request, nor is what
+/// no store can hold.
 #[tactic(auto, using(set_views::proofs::Chains::fails_then), unfolding(crate::specs::Planned::requested))]
 pub fn requested(
     alloc: Global,

@@ -25,7 +25,7 @@ or_false : (b : Bool) → (b || false) ≡ b
 or_false true = refl
 or_false false = refl
 
--- two names were put among none
+-- two names are put into an empty set
 pub two_names : (q : List ℕ) (k l : Bor (List ℕ)) (none one two : List (Bor (List ℕ))) → none ≡ [] → one ≡ insert_key by_bytes none k → two ≡ insert_key by_bytes one l
     → has_name q two ≡ (bytes_eq q l.now || bytes_eq q k.now)
 two_names q k l none one two none_is one_is two_is =
@@ -65,7 +65,7 @@ others_passed p rs done after i r inside is fails after_is =
     ap (λ l. objects_of done ++ filter p (objects_of l)) (rest_from rs i r inside is)
     ∙ (ap (λ b. objects_of done ++ cond b (r.object.now ∷ rest) rest) fails ∙ ap (λ l. objects_of l ++ rest) (sym after_is))
 
--- all but the last were taken
+-- all but the last were visited
 pub expired_is : (set : SetParts) (pods : List PodParts) (current update : List ℕ) (names : List (Bor (List ℕ))) (owned others gone : List RevisionView) (n : ℕ)
     → ((q : List ℕ) → has_name q names ≡ is_live set pods current update q) → objects_of others ≡ filter (λ o. not (has_name o.key.name names)) (objects_of owned)
     → gone ≡ take n others → n ≡ length others - set.history_limit → objects_of gone ≡ expired_revisions set pods current update (objects_of owned)

@@ -62,7 +62,7 @@ new_name_fits k text digits count valid some most short =
     let long : length h ≡ digits = length-take-le digits (encode_lower digest) (omega (arith, length-encode_with lower_digits digest, length-sha256 (text ++ decimal count))) in
     rw (parts.0, joined_name k.name h (begins_names k.kind k.name parts.1) (all_taken is_alphanumeric digits (encode_lower digest) (digits_are digest (sha256_bytes (text ++ decimal count)))) (omega (arith, long)) (omega (arith, long))) refl
 
--- so is each name that is answered
+-- so is each name that is found
 pub made_fits : {E : Type 0} (result : Result (String Global) E) (k : KeyParts) (set text : List ℕ) (digits : ℕ) → set ≡ k.name → is_key k ≡ true → 1 ≤ digits → digits ≤ 64 → length k.name + 1 + digits ≤ 63
     → IfOk result (λ name. (count : ℕ) × (string_bytes name ≡ revision_name set text digits count))
     → IfOk result (λ name. is_key (key_parts ControllerRevision k.namespace (string_bytes name)) ≡ true)

@@ -1,5 +1,5 @@
--- The ControllerRevisions that a plan writes (Kubernetes API reference, apps/v1, ControllerRevision; "Garbage Collection":
--- "Owners and dependents").
+-- The ControllerRevisions that a plan writes (Kubernetes API reference, apps/v1, ControllerRevision; "Garbage
+-- Collection": "Owners and dependents").
 use Rattle.std.specs.Prelude.{ℕ, true, List, codes, Some}
 use Rattle.serde_json.specs.Data.{Data, boolean, number, unsigned, string, array, object, no_items, item, Members, no_members, member}
 use Rattle.objects.specs.declared.object.Object.{Object}

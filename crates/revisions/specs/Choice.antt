@@ -1,6 +1,6 @@
--- Which revision a set's pods are to come to (Kubernetes, "StatefulSets": "Rolling Updates"; API reference, apps/v1,
--- ControllerRevision: `data` never changes, and the greatest `revision` is the newest). Lists of revisions are in order,
--- the newest last.
+-- Which revision a set's pods are to get (Kubernetes, "StatefulSets": "Rolling Updates"; API reference, apps/v1,
+-- ControllerRevision: `data` never changes, and the greatest `revision` is the newest). Lists of revisions are in
+-- order, the newest last.
 use Rattle.std.specs.Prelude.{ℕ, Bool, false, List, [], ◌∷◌, codes, bytes_eq, reverse, Option, option_and_then, if◌then◌else◌}
 use Rattle.std.specs.List.{find}
 use Rattle.std.specs.Option.{option_map_or}
@@ -40,13 +40,13 @@ abbrev pub first_number : List Object → ℕ
 first_number [] = 0
 first_number (newest ∷ older) = number_of newest
 
--- the number of the newest, or 0 where there is none
+-- the number of the newest, or 0 if there is none
 abbrev pub greatest : List Object → ℕ
 greatest owned = first_number (reverse owned)
 
--- the largest number that the API's integers of 64 bits with a sign hold
+-- the largest number of a revision, so that the API's integers of 64 bits with a sign hold a next one
 abbrev pub most_number : ℕ
-most_number = 9223372036854775807
+most_number = 9223372036854775806
 
 abbrev pub named_among : List Object → List ℕ → Option Object
 named_among os name = find (λ o. bytes_eq name o.key.name) os

@@ -1,5 +1,5 @@
--- Which revisions a set lets go of (Kubernetes API reference, apps/v1, StatefulSetSpec: revisionHistoryLimit; "StatefulSets":
--- "Revision history").
+-- Which revisions a plan deletes for a set (Kubernetes API reference, apps/v1, StatefulSetSpec: revisionHistoryLimit;
+-- "StatefulSets": "Revision history").
 use Rattle.std.specs.Prelude.{ℕ, ◌-◌, Bool, false, not, ◌&&◌, ◌||◌, List, length, take, bytes_eq}
 use Rattle.std.specs.List.{filter, list_any}
 use Rattle.std.specs.Option.{option_map_or}
@@ -23,6 +23,6 @@ history set pods current update owned = filter (λ o. not (is_live set pods curr
 abbrev pub all_but_last : ℕ → List Object → List Object
 all_but_last n os = take (length os - n) os
 
--- of which all go but the last in their order, as many as the limit
+-- all of these are deleted but the last in their order, as many as the limit
 abbrev pub expired_revisions : SetParts → List PodParts → List ℕ → List ℕ → List Object → List Object
 expired_revisions set pods current update owned = all_but_last set.history_limit (history set pods current update owned)

@@ -1,5 +1,5 @@
--- The names of new revisions: a set's name and the first digits of a hash of the template (this project's own rule, in
--- the place of the hash of Kubernetes; SHA-256 as FIPS 180-4 has it).
+-- The names of new revisions: a set's name and the first digits of a hash of the template (this project's own rule,
+-- instead of the hash of Kubernetes; SHA-256 as FIPS 180-4 has it).
 use Rattle.std.specs.Prelude.{ℕ, Bool, not, List, ◌++◌, map, codes, decimal, take, Option}
 use Rattle.std.specs.List.{find, range_with_len}
 use Rattle.hex.specs.Hex.{encode_lower}

@@ -1,5 +1,5 @@
 -- The plan of a set's revisions: what is written before any pod is looked at, or the revisions that pods are made from.
-use Rattle.std.specs.Prelude.{ℕ, ◌+◌, Bool, true, ◌&&◌, nat_le, nat_lt, List, length, map, unwrap_or, Result, Ok, Err, ⊤}
+use Rattle.std.specs.Prelude.{ℕ, ◌+◌, Bool, true, ◌&&◌, nat_le, List, length, map, unwrap_or, Result, Ok, Err, ⊤}
 use Rattle.std.specs.Option.{is_some, option_map_or}
 use Rattle.serde_json.specs.Written.{compact_text}
 use Rattle.objects.specs.declared.object.Object.{Object}
@@ -46,17 +46,26 @@ plan_by set held digits owned (in_place update) = Ok (settled owned (unwrap_or (
 plan_by set held digits owned (to_renumber o) = Ok (renumbered (with_number o (greatest owned + 1)))
 plan_by set held digits owned to_create = creation set held digits (greatest owned + 1) >>= λ o. Ok (created o)
 
--- the next number is one of the API, and pods can be made from the current revision
-abbrev pub are_sound : SetParts → List Object → Bool
-are_sound set owned = nat_lt (greatest owned) most_number && option_map_or (λ o. is_some (template_of o)) (named_current set owned) true
+-- the greatest number once this choice is carried out
+abbrev pub greatest_after : List Object → Choice → ℕ
+greatest_after owned (in_place update) = greatest owned
+greatest_after owned (to_renumber o) = greatest owned + 1
+greatest_after owned to_create = greatest owned + 1
 
--- of the owned revisions in order, where those names are held
+-- no number is too large, neither a listed one nor one that is written, and pods can be made from the current revision
+abbrev pub is_sound : SetParts → List Object → Choice → Bool
+is_sound set owned choice = nat_le (greatest_after owned choice) most_number && option_map_or (λ o. is_some (template_of o)) (named_current set owned) true
+
+abbrev pub sound_choice : SetParts → List Object → Choice → Result Choice PlanError
+sound_choice set owned choice = guarded BadSpec (is_sound set owned choice) choice
+
+-- of the owned revisions in order, when those names are in use
 unfoldable pub plan_of : SetParts → (List ℕ → Bool) → ℕ → List Object → Result PlanParts PlanError
 plan_of set held digits owned = do
-  sound ← guarded BadSpec (are_sound set owned) owned
-  plan_by set held digits sound (choice_of (data_with set.template) sound)
+  choice ← sound_choice set owned (choice_of (data_with set.template) owned)
+  plan_by set held digits owned choice
 
--- what is planned of the revisions among these objects; nothing is said where memory ran out
+-- what is planned of the revisions among these objects; nothing is said if memory ran out
 abbrev pub IsPlan : SetParts → List Object → ℕ → Result RevisionPlan PlanError → Type 0
 IsPlan set os digits (Err errors.Memory) = ⊤
 IsPlan set os digits result = (owned : List Object) × AreOwned set os owned × Gives plan_parts result (plan_of set (is_held (listed set os)) digits owned)

@@ -36,8 +36,9 @@ fn owner_reference(alloc: Global, set: &Set) -> Result<Tree, Memory>
     Ok(Tree::Map(owner))
 }
 
-/// The metadata of what the set owns, beside its name and namespace: one owner reference, with the set as the controller
-/// that keeps its UID until its dependents are gone (Kubernetes, "Owners and Dependents": `blockOwnerDeletion`).
+/// The metadata of what the set owns, except its name and namespace: one owner reference, with the set as the
+/// controller, which keeps its UID until its dependents are deleted (Kubernetes, "Owners and Dependents":
+/// `blockOwnerDeletion`).
 pub fn owned_metadata(alloc: Global, set: &Set) -> Result<Members, Memory>
     ensures { IfOk result (λ metadata. metadata ≡ owned_metadata (set_parts set.now)) }
 {
@@ -74,7 +75,7 @@ fn revision_key(alloc: Global, namespace: &str, name: &str) -> Result<Key, Memor
     match Key::of(alloc, Kind::ControllerRevision, namespace, name) {
         Ok(key) => Ok(key),
         Err(ReadError::Memory) => Err(Memory),
-        // The caller knows that the name makes a key, so memory alone can be wanting.
+        // The caller knows that the name makes a key, so only memory can run out.
         Err(_) => unreachable!(),
     }
 }

@@ -1,19 +1,19 @@
-// Which revision a set's pods are to come to.
-ghost use Rattle.std.specs.Prelude.{◌≡◌, option_map, reverse, true};
+// Which revision a set's pods are to get.
+ghost use Rattle.std.specs.Prelude.{◌≡◌, nat_le, option_map, reverse, true};
 ghost use Rattle.std.specs.List.{find};
 ghost use Rattle.std.specs.Option.{is_some, option_map_or};
 ghost use Rattle.objects.specs.Tree.{data_of};
 ghost use Rattle.set_views.specs.Set.{set_parts};
 ghost use Rattle.revisions.specs.Chosen.{chosen};
-ghost use Rattle.revisions.specs.Choice.{choice_of, greatest, has_data, named_among, named_current, template_of};
-ghost use Rattle.revisions.specs.Plan.{are_sound, objects_of};
+ghost use Rattle.revisions.specs.Choice.{choice_of, greatest, has_data, most_number, named_among, named_current, template_of};
+ghost use Rattle.revisions.specs.Plan.{greatest_after, is_sound, objects_of};
 
 use crate::view::RevisionView;
 use objects::Tree;
 use set_views::Set;
 
-/// The largest number that the API's integers of 64 bits with a sign hold.
-const MAX_NUMBER: u64 = 9_223_372_036_854_775_807;
+/// The largest number of a revision, so that the API's integers of 64 bits with a sign hold a next one.
+const MAX_NUMBER: u64 = 9_223_372_036_854_775_806;
 
 #[derive(Clone, Copy)]
 pub(crate) enum Chosen<'a> {
@@ -62,7 +62,7 @@ pub(crate) fn choice_of<'a>(owned: &[RevisionView<'a>], template: &Tree) -> Chos
     }
 }
 
-/// The number of the newest of these revisions, or 0 where there is none.
+/// The number of the newest of these revisions, or 0 if there is none.
 pub(crate) fn greatest(owned: &[RevisionView<'_>]) -> u64
     ensures { result ≡ greatest (objects_of owned.now) }
 {
@@ -103,9 +103,20 @@ fn has_template(current: Option<RevisionView<'_>>) -> bool
     }
 }
 
-/// Whether there is a next number, and pods can be made from the current revision.
-pub(crate) fn are_sound(set: &Set, owned: &[RevisionView<'_>]) -> bool
-    ensures { result ≡ are_sound (set_parts set.now) (objects_of owned.now) }
+/// Whether the greatest number is not too large, once this choice is carried out.
+fn numbers_fit(owned: &[RevisionView<'_>], choice: Chosen<'_>) -> bool
+    ensures { result ≡ nat_le (greatest_after (objects_of owned.now) (chosen choice.entry)) most_number }
 {
-    greatest(owned) < MAX_NUMBER && has_template(named_current(set, owned))
+    match choice {
+        Chosen::InPlace(_) => greatest(owned) <= MAX_NUMBER,
+        Chosen::Renumber(_) | Chosen::Create => greatest(owned) < MAX_NUMBER,
+    }
+}
+
+/// Whether no number is too large, neither a listed one nor one that is written, and pods can be made from the current
+/// revision.
+pub(crate) fn is_sound(set: &Set, owned: &[RevisionView<'_>], choice: Chosen<'_>) -> bool
+    ensures { result ≡ is_sound (set_parts set.now) (objects_of owned.now) (chosen choice.entry) }
+{
+    numbers_fit(owned, choice) && has_template(named_current(set, owned))
 }

@@ -14,8 +14,8 @@ use set_views::{PodView, Set};
 use std::alloc::{AllocError, Global};
 use std::collections::BTreeSet;
 
-/// The revisions that the set lets go of, from the oldest on (Kubernetes API reference, StatefulSetSpec:
-/// `revisionHistoryLimit`): of those that are neither that of this name, which is the current one, nor the update
+/// The revisions that are deleted for the set, from the oldest on (Kubernetes API reference, StatefulSetSpec:
+/// `revisionHistoryLimit`): of those that are neither the one of this name, which is the current one, nor the update
 /// revision, nor one that a pod of the set was made from, all but the newest, as many as the limit. The pods are those
 /// of the set's namespace.
 pub fn expired_revisions<'a>(

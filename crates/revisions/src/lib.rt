@@ -1,4 +1,4 @@
-//! The ControllerRevisions of a StatefulSet: which are the set's, in which order, and which one its pods are to come to.
+//! The ControllerRevisions of a StatefulSet: which are the set's, in which order, and which one its pods are to get.
 #![tactic(auto)]
 
 mod built;

@@ -22,7 +22,7 @@ pub(crate) struct Listed<'a> {
 }
 
 impl<'a> Listed<'a> {
-    /// Takes one more object of the list.
+    /// Adds one more object of the list.
     fn take(&mut self, set: &Set, object: &'a Object) -> Result<(), AllocError>
         ensures names { OnOk result ((q : List ℕ) → has_name q self.new.names.keys
             ≡ (has_name q self.old.names.keys || (in_namespace (set_parts set.now) ControllerRevision object.now && bytes_eq q object.now.key.name))) }

@@ -43,7 +43,8 @@ fn revision_name(
     Ok(name)
 }
 
-/// The first name that is none of these, by counts from one on. The text that the hasher holds is not read again for each.
+/// The first name that is none of these, by counts from one on. The text that the hasher holds is not hashed again for
+/// each.
 fn free_name(
     alloc: Global,
     names: &BTreeSet<&str>,
@@ -76,7 +77,8 @@ pub(crate) fn name_of(set: &Set) -> &str
     set.object.key.name.as_str()
 }
 
-/// The first free name of a revision with that `data`, which is that of the set's template. It is one that a ControllerRevision may have.
+/// The first free name of a revision with that `data`, which is that of the set's template. It is one that a
+/// ControllerRevision may have.
 pub(crate) fn new_name(
     alloc: Global,
     set: &Set,

@@ -7,7 +7,7 @@ ghost use Rattle.revisions.specs.Listing.{has_name};
 ghost use Rattle.revisions.specs.Plan.{creation, objects_of, plan_of, plan_parts, IsPlan};
 
 use crate::built::{data_with, new_revision, with_number};
-use crate::choice::{Chosen, are_sound, choice_of, greatest, named_current};
+use crate::choice::{Chosen, choice_of, greatest, is_sound, named_current};
 use crate::listed::{Listed, read_revisions};
 use crate::name::{name_of, new_name};
 use crate::view::RevisionView;
@@ -32,20 +32,22 @@ pub struct Revisions<'a> {
 pub enum RevisionPlan<'a> {
     /// This ControllerRevision is to be created. Nothing else is planned until it is there.
     Create(Object),
-    /// This one is to be updated: it has a new number. Nothing else is planned until it does.
+    /// This one is to be updated: it has a new number. Nothing else is planned until it is.
     Renumber(Object),
     /// Nothing is due.
     Settled(Revisions<'a>),
 }
 
 /// What is due of the set's revisions among these objects, by the documentation of StatefulSets ("Rolling Updates") and
-/// of ControllerRevisions (API reference, apps/v1). Objects of other kinds and namespaces are passed over, and of several
-/// with one name the first counts. Where the newest revision has the set's template, nothing is due. Where an older one
-/// has it, that one gets the next number. Else a new one is made, whose name is the set's and so many hexadecimal digits
-/// of the digest of its `data` and the collision count; while a listed revision has that name the count goes up.
+/// of ControllerRevisions (API reference, apps/v1). Objects of other kinds and namespaces are ignored, and of several
+/// with one name the first counts. The newest is the last by number, and of one number by name. If the newest revision
+/// has the set's template, nothing is due. If an older one has it, that one gets the next number. Else a new one is
+/// made, whose name is the set's and so many hexadecimal digits of the digest of its `data` and the collision count;
+/// while a listed revision has that name the count goes up.
 ///
-/// It is BadSpec where there is no next number, or the current revision has no template to make pods from; NameTooLong
-/// where the new name has more than 63 bytes; and NoRevisionName where the names of 1,024 counts are taken.
+/// It is BadSpec if the greatest number is above 9,223,372,036,854,775,806, or would be with the one that is due, or if the
+/// current revision has no template to make pods from; NameTooLong if the new name has more than 63 bytes; and
+/// NoRevisionName if the names of 1,024 counts are in use.
 pub fn revision_plan<'a>(
     alloc: Global,
     set: &Set,
@@ -72,13 +74,15 @@ fn plan_of<'a>(
     ensures { Gives plan_parts result (plan_of (set_parts set.now) (λ q. has_name q found.entry.names.keys) digits (objects_of found.entry.owned.items)) }
 {
     let Listed { names, owned } = found;
-    if !are_sound(set, &owned) {
+    let template = data_with(alloc, &set.template)?;
+    let choice = choice_of(&owned, &template);
+    if !is_sound(set, &owned, choice) {
+        drop(template);
         drop(names);
         drop(owned);
         return Err(PlanError::BadSpec);
     }
-    let template = data_with(alloc, &set.template)?;
-    match choice_of(&owned, &template) {
+    match choice {
         Chosen::InPlace(update) => {
             let current = current_or(set, &owned, update);
             Ok(RevisionPlan::Settled(Revisions {
@@ -98,7 +102,7 @@ fn plan_of<'a>(
     }
 }
 
-/// The current revision, or that one where `status.currentRevision` names none.
+/// The current revision, or that one if `status.currentRevision` names none.
 fn current_or<'a>(
     set: &Set,
     owned: &[RevisionView<'a>],

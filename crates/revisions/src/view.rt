@@ -5,11 +5,12 @@ ghost use Rattle.revisions.specs.Revision.{data_in, number_of};
 
 use objects::{Members, Object, Tree};
 
-/// A ControllerRevision as a plan sees it: what was read of it once. It borrows the object.
+/// A ControllerRevision as a plan sees it, read once. It borrows the object.
 #[derive(Clone, Copy)]
 pub struct RevisionView<'a> {
     pub name: &'a str,
-    /// `revision`: of a set's revisions the greatest is the newest. What is no whole number from 0 up counts as 0.
+    /// `revision`: of a set's revisions the greatest is the newest. A value that is no whole number from 0 up counts as
+    /// 0.
     pub number: u64,
     /// The ControllerRevision itself, with its UID and version.
     pub object: &'a Object,
@@ -51,7 +52,7 @@ fn number_of(revision: &Object) -> u64
 {
     match revision.member("revision") {
         Some(Tree::Integer(number)) => number.as_u64().unwrap_or(0),
-        // A revision that states no number is put among the oldest.
+        // A revision that has no number is put among the oldest.
         _ => 0,
     }
 }
