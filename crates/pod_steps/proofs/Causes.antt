@@ -1,4 +1,4 @@
--- Why a step stands in a plan.
+-- Why a step is in a plan.
 use Rattle.std.proofs.Common.{◌≡◌, ◌≢◌, ◌==◌, ◌&&◌, ◌⊎◌, inl, inr, ℕ, zero, suc, ◌+◌, ◌-◌, ◌≤◌, ◌<◌, Bool, true, false, not, cond, if◌then◌else◌, List, [], ◌∷◌, ◌++◌, length, nat_le, Option, Some, None, find, reverse, arith, refl, sym, ap, ◌∙◌, subst}
 use Rattle.std.proofs.lemmas.Bool.{eq-eqb, eqb-true}
 use Rattle.std.proofs.lemmas.Bool.Decides.{nat_tests}
@@ -26,75 +26,8 @@ use Rattle.pod_steps.specs.FullSteps.{parallel_steps, removal_steps_unless, orde
 use Rattle.pod_steps.proofs.ParallelPlans.{alone, creates_exactly, from_scaled, nowhere, rest, second, stays_there, update_creates_none, was_there}
 use Rattle.pod_steps.proofs.Entries.{at_head, at_tail, from_back}
 use Rattle.pod_steps.proofs.Found.{found_below, last_range}
+use Rattle.pod_steps.proofs.Searches.{entry_is_there, found_above, found_in, found_in_back, none_found, passes_in}
 use Rattle.pod_steps.proofs.OrderedReadyPlans.{after_keep_steps, bounds, inside, not_false}
-
--- ---- what a search has found
-pub found_in : (p : ℕ → Bool) (a n i : ℕ) → find p (range_with_len a n) ≡ Some i → (a ≤ i) × (i < a + n)
-found_in p a zero i e = absurd (cc)
-found_in p a (suc n) i e =
-    elim (p a) as (λ b. cond b (Some a) (find p (range_with_len (a + 1) n)) ≡ Some i → (a ≤ i) × (i < a + suc n)) [
-      | true ↦ λ h. let same : a ≡ i = cc in (omega arith, omega arith)
-      | false ↦ λ h. let r = found_in p (a + 1) n i h in (omega (arith, r.0), omega (arith, r.1))
-    ] e
-
-none_found : (p : ℕ → Bool) (a n j : ℕ) → find p (range_with_len a n) ≡ None → a ≤ j → j < a + n → p j ≡ false
-none_found p a zero j e from to = absurd (omega arith)
-none_found p a (suc n) j e from to =
-    elim (p a) as (λ b. p a ≡ b → cond b (Some a) (find p (range_with_len (a + 1) n)) ≡ None → p j ≡ false) [
-      | true ↦ λ t h. absurd (cc)
-      | false ↦ λ t h. elim (a == j) as (λ b. a == j ≡ b → p j ≡ false) [
-        | true ↦ λ s. ap p (sym (eqb-true a j s)) ∙ t
-        | false ↦ λ s. let apart : a ≢ j = λ same. (let u : a == j ≡ true = eq-eqb a j same in absurd (cc)) in none_found p (a + 1) n j h (omega arith) (omega arith)
-      ] refl
-    ] refl e
-
-passes_in : {X : Type 0} (p : X → Bool) (xs : List X) (x : X) → find p xs ≡ Some x → p x ≡ true
-passes_in p [] x e = absurd (cc)
-passes_in p (y ∷ xs) x e =
-    elim (p y) as (λ b. p y ≡ b → cond b (Some y) (find p xs) ≡ Some x → p x ≡ true) [
-      | true ↦ λ t h. let same : y ≡ x = cc in ap p (sym same) ∙ t
-      | false ↦ λ t h. passes_in p xs x h
-    ] refl e
-
--- from the back nothing above what is found passes
-found_above : (p : ℕ → Bool) (a n i j : ℕ) → find p (reverse (range_with_len a n)) ≡ Some i → i < j → j < a + n → p j ≡ false
-found_above p a zero i j e from to = absurd (cc)
-found_above p a (suc n) i j e from to =
-    let top : cond (p (a + n)) (Some (a + n)) (find p (reverse (range_with_len a n))) ≡ Some i = sym (ap (find p) (last_range a n)) ∙ e in
-    elim (p (a + n)) as (λ b. p (a + n) ≡ b → cond b (Some (a + n)) (find p (reverse (range_with_len a n))) ≡ Some i → p j ≡ false) [
-      | true ↦ λ t h. let same : a + n ≡ i = cc in absurd (omega arith)
-      | false ↦ λ t h. elim (a + n == j) as (λ b. a + n == j ≡ b → p j ≡ false) [
-        | true ↦ λ s. ap p (sym (eqb-true (a + n) j s)) ∙ t
-        | false ↦ λ s. let apart : a + n ≢ j = λ same. (let u : a + n == j ≡ true = eq-eqb (a + n) j same in absurd (cc)) in found_above p a n i j h from (omega arith)
-      ] refl
-    ] refl top
-
-found_in_back : (p : ℕ → Bool) (a n i : ℕ) → find p (reverse (range_with_len a n)) ≡ Some i → (a ≤ i) × (i < a + n)
-found_in_back p a zero i e = absurd (cc)
-found_in_back p a (suc n) i e =
-    let top : cond (p (a + n)) (Some (a + n)) (find p (reverse (range_with_len a n))) ≡ Some i = sym (ap (find p) (last_range a n)) ∙ e in
-    elim (p (a + n)) as (λ b. cond b (Some (a + n)) (find p (reverse (range_with_len a n))) ≡ Some i → (a ≤ i) × (i < a + suc n)) [
-      | true ↦ λ h. let same : a + n ≡ i = cc in (omega arith, omega arith)
-      | false ↦ λ h. let r = found_in_back p a n i h in (r.0, omega (arith, r.1))
-    ] top
-
--- an entry that is found from the back is at its ordinal
-entry_is_there : (q : ℕ × Replica → Bool) (es : Pods) (e : ℕ × Replica) → AreInOrder es → find q (reverse es) ≡ Some e → pod_at es e.0 ≡ Some e.1
-entry_is_there q [] e sorted found = absurd (cc)
-entry_is_there q (x ∷ es) e sorted found =
-    let parts : option_or (find q (reverse es)) (find q (x ∷ [])) ≡ Some e = sym (from_back q x es) ∙ found in
-    elim (find q (reverse es)) as (λ o. find q (reverse es) ≡ o → option_or o (find q (x ∷ [])) ≡ Some e → pod_at (x ∷ es) e.0 ≡ Some e.1) [
-      | Some y ↦ λ h k.
-          let same : y ≡ e = cc in
-          at_tail x es e.0 e.1 sorted (entry_is_there q es e (sorted_tail nat_cmp x.0 (keys_of es) sorted) (h ∙ ap Some same))
-      | None ↦ λ h k. elim (q x) as (λ b. cond b (Some x) None ≡ Some e → pod_at (x ∷ es) e.0 ≡ Some e.1) [
-        | true ↦ λ m.
-            let same : x ≡ e = cc in
-            let P : ℕ × Replica → Type 0 = λ z. pod_at (x ∷ es) z.0 ≡ Some z.1 in
-            subst P same (at_head x es)
-        | false ↦ λ m. absurd (cc)
-      ] k
-    ] refl parts
 
 -- ---- what a plan of OrderedReady has
 past_keep_steps : (ns : List ℕ) (ys : List Step) (a : Step) → is_of_pod a ≡ true → Contains (flat_map keep_steps ns ++ ys) a → Contains ys a
@@ -102,10 +35,10 @@ past_keep_steps ns ys a t h =
     let P : List Step → Type 0 = λ l. Contains l a in
     (was_there is_of_pod ys a (subst P (after_keep_steps ns ys) (stays_there is_of_pod (flat_map keep_steps ns ++ ys) a h t))).0
 
-abbrev gap_of : SetParts → Pods → Option ℕ
+abbrev pub gap_of : SetParts → Pods → Option ℕ
 gap_of set pods = find (lacks_healthy pods) (ordinals set)
 
-abbrev highest_of : SetParts → Pods → Option (ℕ × Replica)
+abbrev pub highest_of : SetParts → Pods → Option (ℕ × Replica)
 highest_of set pods = find (is_out_of_range set) (reverse pods)
 
 -- the step is at a gap, or there is none and it scales down or updates
@@ -163,7 +96,7 @@ created_gap set pods i revision h =
       ]
     ]
 
-healthy_unless : (b : Bool) → not b ≡ false → b ≡ true
+pub healthy_unless : (b : Bool) → not b ≡ false → b ≡ true
 healthy_unless true h = refl
 healthy_unless false h = sym h
 
@@ -233,7 +166,7 @@ settled_unless : (partition j : ℕ) (here : Option Replica) (pod : Replica) →
 settled_unless partition j here pod due reached e =
     healthy_unless (is_settled pod) (sym (λ k. reached k && option_map_or (λ x. not (is_settled x)) (e k) false) ∙ due)
 
-both_true : (a b : Bool) → (a && b) ≡ true → (a ≡ true) × (b ≡ true)
+pub both_true : (a b : Bool) → (a && b) ≡ true → (a ≡ true) × (b ≡ true)
 both_true true b h = (refl, h)
 both_true false b h = absurd (cc)
 
@@ -277,8 +210,8 @@ replaced_from_partition set pods partition i uid rolling h =
     let found = (rolling_update_is partition set pods i uid (subst P rolling h)).0 in
     (both_true (nat_le partition i) (option_map_or (λ x. not (is_settled x)) (pod_at pods i) false) (passes_in (is_due partition pods) (reverse (ordinals set)) i found)).0
 
--- ---- deletes
--- the pod is failed and in range, or condemned, or the update deletes it and, under OrderedReady, no ordinal lacks a healthy pod
+-- ---- deletes the pod is failed and in range, or condemned, or the update deletes it and, under OrderedReady, no
+-- ordinal lacks a healthy pod
 abbrev IsCause : SetParts → Pods → ℕ → ℕ → Replica → Type 0
 IsCause set pods i uid pod = ((in_range set i ≡ true) × (is_failed pod.readiness ≡ true)) ⊎ ((in_range set i ≡ false) ⊎ (Contains (update_steps set pods) (DeletePod i uid) × (set.policy ≡ OrderedReady → gap_of set pods ≡ None)))
 
@@ -367,12 +300,12 @@ deleted set pods i uid sorted h =
       | Parallel ↦ λ e k. deleted_parallel set pods i uid e sorted k
     ] refl h
 
-failed_is_unhealthy : (readiness : Readiness) (terminating : Bool) → is_failed readiness ≡ true → (is_ready readiness && not terminating) ≡ false
+pub failed_is_unhealthy : (readiness : Readiness) (terminating : Bool) → is_failed readiness ≡ true → (is_ready readiness && not terminating) ≡ false
 failed_is_unhealthy Ready terminating h = absurd (cc)
 failed_is_unhealthy NotYetReady terminating h = refl
 failed_is_unhealthy Failed terminating h = refl
 
--- under OnDelete no healthy pod in range goes
+-- under OnDelete no healthy pod in range is deleted
 pub kept_on_delete : (set : SetParts) (pods : Pods) (i uid : ℕ) (pod : Replica) → AreInOrder pods → set.strategy ≡ OnDelete → Contains (full_steps set pods) (DeletePod i uid) → in_range set i ≡ true → pod_at pods i ≡ Some pod → is_healthy_replica pod ≡ false
 unfolding update_steps
 kept_on_delete set pods i uid pod sorted strategy h within here =
@@ -389,7 +322,7 @@ kept_on_delete set pods i uid pod sorted strategy h within here =
       ]
     ]
 
--- under OrderedReady a pod in range that has not failed goes only where each ordinal has a healthy pod
+-- under OrderedReady a pod in range that has not failed is deleted only if each ordinal has a healthy pod
 pub replaced_where_all_healthy : (set : SetParts) (pods : Pods) (i uid j : ℕ) (pod : Replica) → AreInOrder pods → set.policy ≡ OrderedReady → Contains (full_steps set pods) (DeletePod i uid) → in_range set i ≡ true → pod_at pods i ≡ Some pod → is_failed pod.readiness ≡ false → in_range set j ≡ true → has_healthy_pod pods j ≡ true
 replaced_where_all_healthy set pods i uid j pod sorted policy h within here staying other =
     let r = deleted set pods i uid sorted h in

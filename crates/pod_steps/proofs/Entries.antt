@@ -31,7 +31,7 @@ at_other i k apart =
       | false ↦ λ e. refl
     ] refl
 
--- what stands after a key is above it
+-- what is after a key is above it
 pub above : (k j : ℕ) (es : Pods) (y : Replica) → AllByRecursion (λ z. nat_cmp k z ≡ Less) (keys_of es) → pod_at es j ≡ Some y → k < j
 above k j [] y all here = absurd (cc)
 above k j (e ∷ es) y all here =
@@ -48,14 +48,14 @@ at_tail e es j y sorted here =
     let l : e.0 < j = above e.0 j es y (sorted_head nat_cmp e.0 (keys_of es) sorted) here in
     ap (λ b. cond b (Some e.1) (pod_at es j)) (at_other j e.0 (omega arith)) ∙ here
 
--- none is found where no pod passes
+-- none is found if no pod passes
 pub none_passes : (q : ℕ × Replica → Bool) (es : Pods) → AreInOrder es → ((j : ℕ) (y : Replica) → pod_at es j ≡ Some y → q (j, y) ≡ false) → find q es ≡ None
 none_passes q [] sorted none = refl
 none_passes q (e ∷ es) sorted none =
     ap (λ b. cond b (Some e) (find q es)) (none e.0 e.1 (at_head e es))
     ∙ none_passes q es (sorted_tail nat_cmp e.0 (keys_of es) sorted) (λ j y h. none j y (at_tail e es j y sorted h))
 
--- where none is found, no pod passes
+-- if none is found, no pod passes
 pub none_passed : (q : ℕ × Replica → Bool) (es : Pods) (j : ℕ) (y : Replica) → find q es ≡ None → pod_at es j ≡ Some y → q (j, y) ≡ false
 none_passed q [] j y none here = absurd (cc)
 none_passed q (e ∷ es) j y none here =

@@ -55,7 +55,7 @@ all_filtered P p (e ∷ es) all =
       | false ↦ all_filtered P p es all.1
     ]
 
-filtered_in_order : (p : ℕ × Replica → Bool) (es : Pods) → AreInOrder es → AreInOrder (filter p es)
+pub filtered_in_order : (p : ℕ × Replica → Bool) (es : Pods) → AreInOrder es → AreInOrder (filter p es)
 unfolding IsStrictlySortedBy
 filtered_in_order p [] s = s
 filtered_in_order p (e ∷ es) s =

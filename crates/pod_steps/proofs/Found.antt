@@ -5,7 +5,7 @@ use Rattle.std.proofs.lemmas.List.{reverse-append}
 use Rattle.std.specs.List.{range_with_len}
 use Rattle.pod_steps.proofs.Walks.{split_range}
 
-cases_eq : (a b : ℕ) → a ≤ b → (a ≡ b) ⊎ (a < b)
+pub cases_eq : (a b : ℕ) → a ≤ b → (a ≡ b) ⊎ (a < b)
 cases_eq a b l = elim (cases_lt a b) [ inl h ↦ inr h | inr h ↦ inl (omega arith) ]
 
 -- what the first is
@@ -27,7 +27,7 @@ find_least p a (suc n) i from to passes below =
           ∙ find_least p (a + 1) n i (omega arith) (omega arith) passes (λ j f t. below j (omega arith) t)
     ]
 
--- none is found where none passes
+-- none is found if none passes
 pub find_none : (p : ℕ → Bool) (a n : ℕ) → ((j : ℕ) → a ≤ j → j < a + n → p j ≡ false) → find p (range_with_len a n) ≡ None
 find_none p a zero none = refl
 find_none p a (suc n) none =

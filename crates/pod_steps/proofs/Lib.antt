@@ -3,6 +3,7 @@ pub mod Walks
 pub mod Backward
 pub mod Found
 pub mod Entries
+pub mod Searches
 pub mod OrderedReadyPlans
 pub mod ParallelPlans
 pub mod Causes

@@ -44,7 +44,7 @@ any_of p (x ∷ xs) a h t =
       | inr k ↦ elim (p x) as (λ b. (b || list_any p xs) ≡ true) [ true ↦ refl | false ↦ any_of p xs a k t ]
     ]
 
-some_of : {X : Type 0} (p : X → Bool) (xs : List X) → list_any p xs ≡ true → (a : X) × Contains xs a × (p a ≡ true)
+pub some_of : {X : Type 0} (p : X → Bool) (xs : List X) → list_any p xs ≡ true → (a : X) × Contains xs a × (p a ≡ true)
 some_of p [] t = absurd (cc)
 some_of p (x ∷ xs) t =
     elim (p x) as (λ b. p x ≡ b → (b || list_any p xs) ≡ true → (a : _) × Contains (x ∷ xs) a × (p a ≡ true)) [
@@ -60,7 +60,7 @@ none_of p (x ∷ xs) t =
       | false ↦ λ h. none_of p xs h
     ] t
 
--- ---- what stands among the steps on pods
+-- ---- what is among the steps on pods
 pub was_there : {X : Type 0} (p : X → Bool) (xs : List X) (a : X) → Contains (filter p xs) a → Contains xs a × (p a ≡ true)
 was_there p [] a h = absurd (nowhere a h)
 was_there p (x ∷ xs) a h =
@@ -86,7 +86,7 @@ stays_there p (x ∷ xs) a h t =
       ]
     ]
 
--- ---- what stands in a walk over a range stands at one of its ordinals
+-- ---- what is in a walk over a range is at one of its ordinals
 pub in_walk : (f : ℕ → List Step) (s n : ℕ) (a : Step) → Contains (flat_map f (range_with_len s n)) a → (j : ℕ) × (s ≤ j) × (j < s + n) × Contains (f j) a
 in_walk f s zero a h = absurd (nowhere a h)
 in_walk f s (suc n) a h =
@@ -251,7 +251,7 @@ uncalled_is_untouched set pods sorted none =
       | inr h ↦ none (inr (h.0, (h.1.0, h.1.1)))
     ])
 
--- where scaling calls for nothing, the plan is the update
+-- if scaling calls for nothing, the plan is the update
 pub uncalled_updates : (set : SetParts) (pods : Pods) → AreInOrder pods → ¬ CallsForScaling set pods → pod_steps (parallel_steps set pods) ≡ pod_steps (update_steps set pods)
 uncalled_updates set pods sorted none =
     let t = uncalled_is_untouched set pods sorted none in
@@ -276,7 +276,7 @@ creates_exactly set pods i revision sorted h =
       ] k
     ]
 
--- where scaling calls for anything, the plan is what it calls for
+-- if scaling calls for anything, the plan is what it calls for
 only_scaled : (set : SetParts) (pods : Pods) → CallsForScaling set pods → (a : Step) → Contains (parallel_steps set pods) a → Contains (parallel_scaling_steps set pods) a
 only_scaled set pods calls a h =
     let P : Bool → Type 0 = λ b. Contains (parallel_scaling_steps set pods ++ rest set pods b) a in

@@ -1,4 +1,4 @@
--- What is known of the pods of a set where one in range goes that has not failed.
+-- What is known of the pods of a set when one in range that has not failed is deleted.
 use Rattle.std.proofs.Common.{◌≡◌, inl, inr, ℕ, ◌≤◌, true, false, not, List, [], ◌∷◌, length, find, reverse, Option, Some, None, refl, sym, ap, ◌∙◌, subst}
 use Rattle.std.specs.List.{Contains}
 use Rattle.std.specs.Option.{option_map_or}
@@ -18,7 +18,7 @@ use Rattle.pod_steps.specs.FullSteps.{parallel_steps, full_steps, full_steps_by,
 use Rattle.pod_steps.proofs.ParallelPlans.{alone, nowhere, scales_parallel, stays_there, uncalled_updates}
 use Rattle.pod_steps.proofs.Causes.{deleted, one_at_a_time, one_update, replaced_where_all_healthy}
 
--- the update deletes a pod at another revision that is not on its way out
+-- the update deletes a pod at another revision that is not terminating
 outdated_here : (i k uid : ℕ) (pod : Replica) (here : Option Replica) → here ≡ Some pod → Contains (replacement_steps k here) (DeletePod i uid) → (pod.updated ≡ false) × (pod.terminating ≡ false)
 outdated_here i k uid pod None e h = absurd (nowhere (DeletePod i uid) h)
 outdated_here i k uid pod (Some x) e h =
@@ -53,7 +53,7 @@ replaced_is_outdated set pods i uid pod here h =
       | OnDelete ↦ λ m. absurd (nowhere (DeletePod i uid) m)
     ] h
 
--- ---- a pod in range that goes and has not failed
+-- ---- a pod in range that is deleted and has not failed
 pub record IsReplaced (set : SetParts) (pods : Pods) (i uid : ℕ) (pod : Replica) : Type 0 where
   pub there : Contains (full_steps set pods) (DeletePod i uid)
   pub within : in_range set i ≡ true

@@ -1,4 +1,4 @@
--- What is planned over goes by the first pod of each name alone.
+-- What is planned over depends on the first pod of each name alone.
 use Rattle.std.proofs.Common.{◌≡◌, ℕ, ◌≤◌, ◌<◌, true, false, cond, List, [], ◌∷◌, Some, None, find, option_map, arith, refl, sym, ap, ◌∙◌}
 use Rattle.std.proofs.lemmas.Map.Keys.{sorted_head, sorted_tail}
 use Rattle.std.specs.BTreeMap.{is_at}
@@ -12,21 +12,21 @@ use Rattle.pod_steps.specs.Replicas.{AreInOrder, Pods, pod_at}
 use Rattle.pod_steps.proofs.Entries.{above, at_head, at_same}
 use Rattle.pod_steps.proofs.Firsts.{first_counts, listed_in_order}
 
-from_head : (e : ℕ × Replica) (es : Pods) (j : ℕ) (y : Replica) → AreInOrder (e ∷ es) → pod_at (e ∷ es) j ≡ Some y → e.0 ≤ j
+pub from_head : (e : ℕ × Replica) (es : Pods) (j : ℕ) (y : Replica) → AreInOrder (e ∷ es) → pod_at (e ∷ es) j ≡ Some y → e.0 ≤ j
 from_head e es j y s here =
     elim (is_at (nat_cmp j) e.0) as (λ b. is_at (nat_cmp j) e.0 ≡ b → cond b (Some e.1) (pod_at es j) ≡ Some y → e.0 ≤ j) [
       | true ↦ λ t k. let same : j ≡ e.0 = at_same j e.0 t in omega arith
       | false ↦ λ t k. let up : e.0 < j = above e.0 j es y (sorted_head nat_cmp e.0 (keys_of es) s) k in omega arith
     ] refl here
 
-head_is_once : (e : ℕ × Replica) (es : Pods) → AreInOrder (e ∷ es) → pod_at es e.0 ≡ None
+pub head_is_once : (e : ℕ × Replica) (es : Pods) → AreInOrder (e ∷ es) → pod_at es e.0 ≡ None
 head_is_once e es s =
     elim (pod_at es e.0) as (λ o. pod_at es e.0 ≡ o → o ≡ None) [
       | None ↦ λ h. refl
       | Some y ↦ λ h. let up : e.0 < e.0 = above e.0 e.0 es y (sorted_head nat_cmp e.0 (keys_of es) s) h in absurd (omega arith)
     ] refl
 
-same_pods : (es fs : Pods) → AreInOrder es → AreInOrder fs → ((i : ℕ) → pod_at es i ≡ pod_at fs i) → es ≡ fs
+pub same_pods : (es fs : Pods) → AreInOrder es → AreInOrder fs → ((i : ℕ) → pod_at es i ≡ pod_at fs i) → es ≡ fs
 same_pods [] [] s t same = refl
 same_pods [] (f ∷ fs) s t same = let clash : None ≡ Some f.1 = same f.0 ∙ at_head f fs in absurd (cc)
 same_pods (e ∷ es) [] s t same = let clash : Some e.1 ≡ None = sym (at_head e es) ∙ same e.0 in absurd (cc)

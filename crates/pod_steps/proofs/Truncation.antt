@@ -1,4 +1,4 @@
--- What is held of a list that is truncated, as more comes to it.
+-- What is held of a list that is truncated, as more is added to it.
 use Rattle.std.proofs.Common.{◌≡◌, ℕ, zero, suc, ◌+◌, ◌≤◌, List, [], ◌∷◌, ◌++◌, length, filter, cond, if◌then◌else◌, arith, refl, sym, ap, ◌∙◌, append_assoc, length-append, Bool, true, false, IsTrue, ◌↔◌, ◌⊎◌, ◌||◌, inl, inr, subst}
 use Rattle.std.proofs.lemmas.Bool.{cases_lt}
 use Rattle.std.proofs.lemmas.List.{append-nil}
@@ -20,7 +20,7 @@ pub truncated_nil : truncated [] ≡ []
 unfolding truncated
 truncated_nil = up_to-nil 1024
 
--- truncated before more comes, a list loses nothing
+-- a list that is truncated before more is added loses nothing
 up_to-again : (n : ℕ) (xs ys : List Step) → up_to n (up_to n xs ++ ys) ≡ up_to n (xs ++ ys)
 unfolding up_to
 up_to-again zero xs ys = refl
@@ -35,7 +35,7 @@ count_of_first : (x : Step) (xs : List Step) → count (x ∷ xs) ≡ (if is_of_
 count_of_first x xs =
     elim (is_of_pod x) as (λ b. length (cond b (x ∷ filter is_of_pod xs) (filter is_of_pod xs)) ≡ (if b then suc (count xs) else count xs)) [ true ↦ refl | false ↦ refl ]
 
--- nothing comes to a full list
+-- nothing is added to a full list
 up_to-filled : (n : ℕ) (xs ys : List Step) → n ≤ count xs → up_to n (xs ++ ys) ≡ up_to n xs
 unfolding up_to
 up_to-filled zero xs ys h = refl
@@ -48,7 +48,7 @@ room_for : (b : Bool) (n k : ℕ) → (if b then suc k else k) + 1 ≤ suc n →
 room_for true n k h = omega arith
 room_for false n k h = h
 
--- a list with room takes one more
+-- a list with room holds one more
 up_to-room : (n : ℕ) (xs : List Step) (a : Step) → count xs + 1 ≤ n → up_to n (xs ++ a ∷ []) ≡ up_to n xs ++ a ∷ []
 unfolding up_to
 up_to-room zero xs a h = absurd (omega arith)
@@ -101,7 +101,7 @@ filled : (ys ns : List Step) → 1024 ≤ count ys → truncated (ys ++ ns) ≡ 
 unfolding truncated
 filled ys ns full = up_to-filled 1024 ys ns full
 
--- a full list stays as it is, whatever comes
+-- a full list is unchanged, whatever is added
 pub adds_past : (xs ys ms ns : List Step) → Adds xs ys ms → 1024 ≤ count ys → Adds xs ys (ms ++ ns)
 adds_past xs ys ms ns f full =
     let still : truncated ys ≡ ys = ap truncated f ∙ (truncated-truncated (xs ++ ms) ∙ sym f) in
@@ -114,7 +114,7 @@ pub nothing_truncated : (ys ms : List Step) → Adds [] ys ms → count ys + 1 �
 unfolding truncated
 nothing_truncated ys ms f room = f ∙ up_to-all 1024 ms (subst (λ (l : List Step). count l + 1 ≤ 1024) f room)
 
--- it comes to the same in parts and at once
+-- adding in parts and at once gives the same
 pub coming_more : (xs ys ms ns : List Step) → Adds xs ys ms → truncated (ys ++ ns) ≡ truncated (xs ++ (ms ++ ns))
 unfolding truncated
 coming_more xs ys ms ns f = ap (λ l. up_to 1024 (l ++ ns)) f ∙ (up_to-again 1024 (xs ++ ms) ns ∙ ap (up_to 1024) (append_assoc xs ms ns))
@@ -124,7 +124,7 @@ pub room_left : (full : Bool) (n : ℕ) → (IsTrue full ↔ (1024 ≤ n)) → f
 room_left true n says e = absurd (cc)
 room_left false n says e = elim (cases_lt n 1024) [ inl h ↦ omega arith | inr h ↦ (let t : IsTrue false = says.1 h in absurd (cc)) ]
 
--- ---- a truncated list is a beginning of the full one
+-- ---- a truncated list is a prefix of the full one
 beginning : (n : ℕ) (xs : List Step) → (more : List Step) × (xs ≡ up_to n xs ++ more)
 unfolding up_to
 beginning zero xs = (xs, refl)

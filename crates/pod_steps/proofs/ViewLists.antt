@@ -22,7 +22,7 @@ view_added p os views o view all counts it =
     let P : List Object → Type 0 = λ l. AreViews l (views ++ view ∷ []) in
     subst P (sym kept) (one_more (first_of_each (filter p os)) views o view all it)
 
--- one that is passed over
+-- one that is ignored
 pub view_passed : (p : Object → Bool) (os : List Object) (views : List PodView) (o : Object) → AreViews (first_of_each (filter p os)) views
     → (p o && not (is_held (filter p os) o.key.name)) ≡ false → AreViews (first_of_each (filter p (os ++ o ∷ []))) views
 view_passed p os views o all passed =
@@ -31,6 +31,6 @@ view_passed p os views o all passed =
     let P : List Object → Type 0 = λ l. AreViews l views in
     subst P (sym same) all
 
--- the names that are held stay where an object is passed over
+-- the names that are held stay when an object is ignored
 pub names_left : (p : Object → Bool) (os : List Object) (o : Object) (q : List ℕ) → p o ≡ false → is_held (filter p (os ++ o ∷ [])) q ≡ is_held (filter p os) q
 names_left p os o q is = ap (λ l. is_held l q) (kept_more p os o ∙ (ap (λ b. filter p os ++ last_if b o) is ∙ append-nil (filter p os)))

@@ -1,5 +1,5 @@
--- The steps of a plan on a set's pods, before they are truncated: the walk of the StatefulSet controller over the ordinals in
--- range, then over the condemned pods, then the rolling update.
+-- The steps of a plan on a set's pods, before they are truncated: the walk of the StatefulSet controller over the
+-- ordinals in range, then over the condemned pods, then the rolling update.
 use Rattle.std.specs.Prelude.{◌-◌, ◌==◌, ℕ, List, [], ◌∷◌, ◌++◌, Option, Some, None, Bool, not, ◌&&◌, ◌||◌, nat_le, find, reverse, if◌then◌else◌}
 use Rattle.std.specs.List.{flat_map, list_any, range_with_len}
 use Rattle.set_views.specs.declared.policies.Policy.{Policy}
@@ -38,7 +38,7 @@ removal_steps i pod = ReleaseClaims i pod.uid ∷ DeletePod i pod.uid ∷ []
 abbrev pub wait_for : ℕ → Replica → Step
 wait_for i pod = Wait i (if pod.terminating then Terminating else NotReady)
 
--- the update's step on a pod that it has still to do with
+-- the update's step on a pod that is due
 abbrev pub replacement_steps : ℕ → Option Replica → List Step
 replacement_steps i None = []
 replacement_steps i (Some pod) = if not pod.updated && not pod.terminating then DeletePod i pod.uid ∷ [] else wait_for i pod ∷ []
@@ -63,7 +63,7 @@ gap_steps set i (Some pod) =
 abbrev pub is_other_unhealthy : SetParts → ℕ → ℕ × Replica → Bool
 is_other_unhealthy set highest e = is_out_of_range set e && not (e.0 == highest) && not (is_healthy e.1.readiness e.1.terminating)
 
--- the highest condemned pod goes, once no other keeps it
+-- the highest condemned pod is deleted, unless another one is waited for
 abbrev pub removal_steps_unless : ℕ × Replica → Option (ℕ × Replica) → List Step
 removal_steps_unless highest None = removal_steps highest.0 highest.1
 removal_steps_unless highest (Some other) = wait_for other.0 other.1 ∷ []
@@ -74,12 +74,12 @@ scale_down_steps set pods highest =
     then wait_for highest.0 highest.1 ∷ []
     else removal_steps_unless highest (find (is_other_unhealthy set highest.0) pods)
 
--- all ordinals in range have healthy pods; here is the highest condemned pod, if there is one
+-- all ordinals in range have healthy pods; the argument is the highest condemned pod, if there is one
 abbrev pub scale_down_or_update_steps : SetParts → Pods → Option (ℕ × Replica) → List Step
 scale_down_or_update_steps set pods None = update_steps set pods
 scale_down_or_update_steps set pods (Some highest) = scale_down_steps set pods highest
 
--- here is the least ordinal in range without a healthy pod, if there is one
+-- the argument is the least ordinal in range without a healthy pod, if there is one
 abbrev pub ordered_ready_steps_at : SetParts → Pods → Option ℕ → List Step
 ordered_ready_steps_at set pods (Some i) = flat_map keep_steps (range_with_len set.start (i - set.start)) ++ gap_steps set i (pod_at pods i)
 ordered_ready_steps_at set pods None = flat_map keep_steps (ordinals set) ++ scale_down_or_update_steps set pods (find (is_out_of_range set) (reverse pods))

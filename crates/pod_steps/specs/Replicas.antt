@@ -1,5 +1,5 @@
--- The pods of a set by their ordinals (Kubernetes, "StatefulSets": "Ordinal Index"), and the predicates of a walk over them.
--- They are pairs of an ordinal and its pod, in the order of ordinals.
+-- The pods of a set by their ordinals (Kubernetes, "StatefulSets": "Ordinal Index"), and the predicates of a walk over
+-- them. They are pairs of an ordinal and its pod, in the order of ordinals.
 use Rattle.std.specs.Prelude.{ℕ, List, Option, Bool, true, false, not, ◌&&◌, nat_le}
 use Rattle.std.specs.BTreeMap.{is_at}
 use Rattle.std.specs.List.{range_with_len}
@@ -45,7 +45,7 @@ is_settled pod = pod.updated && is_healthy pod.readiness pod.terminating
 abbrev pub is_healthy_replica : Replica → Bool
 is_healthy_replica pod = is_healthy pod.readiness pod.terminating
 
--- a rolling update down to that partition has still to do with the ordinal
+-- a rolling update down to that partition has still to replace the ordinal's pod, or to wait for it
 abbrev pub is_due : ℕ → Pods → ℕ → Bool
 is_due partition pods i = nat_le partition i && option_map_or (λ pod. not (is_settled pod)) (pod_at pods i) false
 

@@ -1,5 +1,5 @@
--- What scaling does to pods (Kubernetes, "StatefulSets": "Deployment and Scaling Guarantees" and "Pod Management Policies"),
--- by the least and the largest ordinals that matter. All of it is about the steps that are not on claims.
+-- What scaling does to pods (Kubernetes, "StatefulSets": "Deployment and Scaling Guarantees" and "Pod Management
+-- Policies"), by the least and the largest ordinals that matter. All of it is about the steps that are not on claims.
 use Rattle.std.specs.Prelude.{◌≡◌, ◌≢◌, ◌↔◌, ◌⊎◌, ℕ, List, [], ◌∷◌, Option, Some, None, true, false, IsSome}
 use Rattle.std.specs.List.{Contains}
 use Rattle.set_views.specs.Set.{SetParts}
@@ -35,7 +35,8 @@ pub record ClosesGap (set : SetParts) (i : ℕ) (here : Option Replica) (steps :
   pub failed : (pod : Replica) → here ≡ Some pod → pod.terminating ≡ false → is_failed pod.readiness ≡ true → steps ≡ DeletePod i pod.uid ∷ []
   pub not_ready : (pod : Replica) → here ≡ Some pod → pod.terminating ≡ false → is_failed pod.readiness ≡ false → steps ≡ Wait i NotReady ∷ []
 
--- the highest condemned pod is deleted once every other one is healthy; else what it waits for is waited for
+-- the highest condemned pod is deleted once every other one is healthy; until then, or while it is terminating itself,
+-- the plan waits
 pub record ScalesDown (set : SetParts) (pods : Pods) (i : ℕ) (pod : Replica) (steps : List Step) : Type 0 where
   pub terminating : pod.terminating ≡ true → steps ≡ Wait i Terminating ∷ []
   pub held : pod.terminating ≡ false → (j : ℕ) (other : Replica) → IsLeast (IsHolding set pods i) j → pod_at pods j ≡ Some other → steps ≡ wait_for j other ∷ []
@@ -46,10 +47,10 @@ pub record ScalesOrderedReady (set : SetParts) (pods : Pods) (steps : List Step)
   -- "Before a scaling operation is applied to a Pod, all of its predecessors must be Running and Ready": the least
   -- ordinal in range without a healthy pod is the only one where anything is done
   pub gap : (i : ℕ) → IsLeast (IsGap set pods) i → ClosesGap set i (pod_at pods i) steps
-  -- "Before a Pod is terminated, all of its successors must be completely shutdown": where there is none, it is the
+  -- "Before a Pod is terminated, all of its successors must be completely shutdown": if there is none, it is the
   -- highest condemned pod
   pub condemned : ((i : ℕ) → ¬ IsGap set pods i) → (i : ℕ) (pod : Replica) → IsGreatest (HasCondemned set pods) i → pod_at pods i ≡ Some pod → ScalesDown set pods i pod steps
-  -- where no pod is condemned either, the update alone does anything
+  -- if no pod is condemned either, the update alone does anything
   pub neither : ((i : ℕ) → ¬ IsGap set pods i) → ((i : ℕ) → ¬ HasCondemned set pods i) → Updates set pods steps
 
 -- an ordinal in range that has no pod
@@ -73,5 +74,5 @@ pub record ScalesParallel (set : SetParts) (pods : Pods) (steps : List Step) : T
   -- the deletes are exactly the failed pods in range and the condemned ones, of those that are not terminating
   pub deletes : CallsForScaling set pods → (i uid : ℕ) → Contains steps (DeletePod i uid) ↔ ((pod : Replica) × IsDismissed set pods i pod × (pod.uid ≡ uid))
   pub waits : CallsForScaling set pods → (i : ℕ) (cause : Cause) → ¬ Contains steps (Wait i cause)
-  -- where there is none of either, the update alone does anything
+  -- if there is none of either, the update alone does anything
   pub neither : ¬ CallsForScaling set pods → Updates set pods steps

@@ -14,7 +14,7 @@ use Rattle.pod_steps.specs.Replicas.{Pods, is_due, pod_at}
 abbrev pub IsDue : SetParts → ℕ → Pods → ℕ → Type 0
 IsDue set partition pods i = (in_range set i ≡ true) × (is_due partition pods i ≡ true)
 
--- a pod at another revision is deleted; one that is on its way out, or new and not ready, is waited for
+-- a pod at another revision is deleted; one that is terminating, or new and not ready, is waited for
 pub record Replaces (i : ℕ) (pod : Replica) (steps : List Step) : Type 0 where
   pub outdated : pod.updated ≡ false → pod.terminating ≡ false → steps ≡ DeletePod i pod.uid ∷ []
   pub terminating : pod.terminating ≡ true → steps ≡ Wait i Terminating ∷ []

@@ -22,8 +22,8 @@ pub fn the_first_pod_of_a_name_counts()
         → pod_at (by_ordinal set update current listed) i ≡ option_map (replica_of set update current) (find (is_named set i) listed) }
 {}
 
-/// A plan goes by the first listed pod of each of the set's names alone: neither the order of the list nor any other pod
-/// matters. So equal lists give equal plans.
+/// A plan depends on the first listed pod of each of the set's names alone: neither the order of the list nor any other
+/// pod matters. So equal lists give equal plans.
 #[tactic(auto, using(crate::proofs::Same::same_replicas))]
 pub fn plans_go_by_first_pods()
     ensures { (set : SetParts) (update current : List ℕ) (listed others : List PodParts)
@@ -31,7 +31,7 @@ pub fn plans_go_by_first_pods()
         → replicas_in set update current listed ≡ replicas_in set update current others }
 {}
 
-/// Under OrderedReady a pod is created only where each lower ordinal in range has a healthy pod.
+/// Under OrderedReady a pod is created only if each lower ordinal in range has a healthy pod.
 pub fn creates_follow_healthy_pods()
     ensures { (set : SetParts) (pods : Pods) (i j : ℕ) (revision : Revision) → set.policy ≡ Policy.OrderedReady
         → Contains (full_steps set pods) (Step.CreatePod i revision) → in_range set j ≡ true → j < i → has_healthy_pod pods j ≡ true }
@@ -43,8 +43,8 @@ pub fn one_pod_at_a_time()
     ensures { (set : SetParts) (pods : Pods) → set.policy ≡ Policy.OrderedReady → length (pod_steps (full_steps set pods)) ≤ 1 }
 {}
 
-/// A rolling update deletes or waits for one pod at most. It deletes none below the partition, and only where each pod
-/// in range with a larger ordinal is at the update revision and healthy.
+/// A rolling update deletes or waits for one pod at most. It deletes none below the partition, and only if each pod in
+/// range with a larger ordinal is at the update revision and healthy.
 #[tactic(auto, using(crate::proofs::Causes::one_update))]
 pub fn replacements_go_downward()
     ensures one { (set : SetParts) (pods : Pods) → length (pod_steps (update_steps set pods)) ≤ 1 }
@@ -55,7 +55,7 @@ pub fn replacements_go_downward()
         → in_range set j ≡ true → i < j → pod_at pods j ≡ Some pod → is_settled pod ≡ true }
 {}
 
-/// Under OrderedReady a pod in range that has not failed is deleted only where each ordinal in range has a healthy pod.
+/// Under OrderedReady a pod in range that has not failed is deleted only if each ordinal in range has a healthy pod.
 pub fn replacements_wait_for_all_in_order()
     ensures { (set : SetParts) (update current : List ℕ) (listed : List PodParts) (pods : Pods) (i uid j : ℕ) (pod : Replica)
         → replicas_in set update current listed ≡ Ok pods
@@ -84,8 +84,8 @@ pub fn no_healthy_pod_goes_on_delete()
         → Contains (full_steps set pods) (Step.DeletePod i uid) → in_range set i ≡ true → pod_at pods i ≡ Some pod → is_healthy pod.readiness pod.terminating ≡ false }
 {}
 
-/// A truncated list is a beginning of the full one. It is the full list, or has 1,024 steps that are no steps on claims;
-/// and it has none of these only where the full list has none.
+/// A truncated list is a prefix of the full one. It is the full list, or has 1,024 steps that are no steps on claims;
+/// and it has none of these only if the full list has none.
 #[tactic(auto, using(crate::proofs::Truncation::truncated_is_a_beginning, crate::proofs::Truncation::truncated_is_all_or_at_limit, crate::proofs::Truncation::truncated_keeps_quiet))]
 pub fn plans_are_truncated_at_the_limit()
     ensures beginning { (steps : List Step) → (more : List Step) × (steps ≡ truncated steps ++ more) }

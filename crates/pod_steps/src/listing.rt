@@ -70,9 +70,9 @@ fn retain_owned(pods: &mut BTreeMap<u32, Replica>)
     pods.retain(|_, pod| pod.owned);
 }
 
-/// The set's pods by their ordinals, found in a list of pods of its namespace, given the names of its update and current
-/// revisions. Of several with one name the first counts. It is Foreign where the pod of an ordinal in range is not the
-/// set's, with the name of the least such pod (Kubernetes, "StatefulSets": "Pod Identity").
+/// The set's pods by their ordinals, found in a list of pods of its namespace, given the names of its update and
+/// current revisions. Of several with one name the first counts. It is Foreign if the pod of an ordinal in range is not
+/// the set's, with the name of the least such pod (Kubernetes, "StatefulSets": "Pod Identity").
 pub fn replicas_of(
     alloc: Global,
     set: &Set,

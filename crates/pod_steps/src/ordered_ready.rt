@@ -38,7 +38,7 @@ pub(crate) fn add_ordered_ready_steps(
     }
 }
 
-/// Brings about a healthy pod at an ordinal that has none.
+/// Adds the step towards a healthy pod at an ordinal that has none.
 fn close_gap(
     steps: &mut Steps,
     set: &Set,
@@ -70,7 +70,7 @@ fn highest_condemned<'a>(
         .find(|(ordinal, _)| !set.has_in_range(**ordinal))
 }
 
-/// The least condemned pod that is not healthy, beside the highest.
+/// The least condemned pod, other than the highest, that is not healthy.
 fn first_unhealthy<'a>(
     set: &Set,
     pods: &'a BTreeMap<u32, Replica>,

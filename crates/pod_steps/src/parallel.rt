@@ -15,7 +15,7 @@ use set_views::Set;
 use std::alloc::AllocError;
 use std::collections::BTreeMap;
 
-/// Adds the steps of Parallel: scales the set at once, and updates it where there is nothing to scale.
+/// Adds the steps of Parallel: scales the set at once, and updates it if there is nothing to scale.
 pub(crate) fn add_parallel_steps(
     steps: &mut Steps,
     set: &Set,
@@ -34,7 +34,7 @@ pub(crate) fn add_parallel_steps(
     update(steps, set, pods)
 }
 
-/// Brings about each pod in range, and deletes each condemned one.
+/// Adds the steps towards each pod in range, and deletes each condemned one.
 #[tactic(auto, using(crate::proofs::Truncation::adds_more), unfolding(crate::specs::FullSteps::parallel_scaling_steps))]
 fn scale(steps: &mut Steps, set: &Set, pods: &BTreeMap<u32, Replica>) -> Result<(), AllocError>
     ensures { OnOk result (Adds steps.old.list.items steps.new.list.items (parallel_scaling_steps (set_parts set.now) pods.now.entries)) }
@@ -43,8 +43,8 @@ fn scale(steps: &mut Steps, set: &Set, pods: &BTreeMap<u32, Replica>) -> Result<
     delete_all_condemned(steps, set, pods)
 }
 
-/// Brings about each pod in range. It stops where the steps are full, since the range may be far longer than the list
-/// of pods.
+/// Adds the steps towards each pod in range. It stops when the steps are full, since the range may be far longer than
+/// the list of pods.
 fn ensure_pods(
     steps: &mut Steps,
     set: &Set,
@@ -61,7 +61,7 @@ fn ensure_pods(
     Ok(())
 }
 
-/// Brings about a pod at an ordinal in range.
+/// Adds the step towards a pod at an ordinal in range.
 #[tactic(auto, using(crate::proofs::Truncation::adds_none))]
 fn ensure_pod(
     steps: &mut Steps,

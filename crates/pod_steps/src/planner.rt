@@ -14,9 +14,15 @@ use std::alloc::{AllocError, Global};
 use std::collections::BTreeMap;
 
 /// The steps of a plan on the pods of a set, as `replicas_of` gives them, up to the 1,024th that is no step on claims:
-/// a plan has at most 1,024 actions, and these come to as many, or are the full list. It scales as the set's
-/// `podManagementPolicy` has it, and updates as its `updateStrategy` has it (Kubernetes, "StatefulSets": "Deployment and
-/// Scaling Guarantees", "Update strategies"). It takes time by the pods that there are, and not by `replicas`.
+/// a plan has at most 1,024 actions, and these have as many, or are the full list. It scales by the set's
+/// `podManagementPolicy`, and updates by its `updateStrategy` (Kubernetes, "StatefulSets": "Deployment and Scaling
+/// Guarantees", "Update strategies"). Its time depends on the pods that exist, and not on `replicas`.
+///
+/// Under OrderedReady only the least ordinal in range without a healthy pod is handled; if there is none, the highest
+/// condemned pod is scaled down; if there is none either, the update alone acts. Under Parallel all missing pods are
+/// created, all failed and condemned ones that are not terminating are deleted, and nothing is waited for; if there are
+/// none of these, the update alone acts. A rolling update replaces the largest ordinal that is due, down to the
+/// partition, and OnDelete none.
 pub fn pod_steps(
     alloc: Global,
     set: &Set,
@@ -35,7 +41,7 @@ pub fn pod_steps(
     Ok(steps.list)
 }
 
-/// Adds the steps as the set's policy has it.
+/// Adds the steps by the set's policy.
 fn add_by_policy(
     steps: &mut Steps,
     set: &Set,

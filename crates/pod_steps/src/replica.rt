@@ -37,7 +37,7 @@ impl Replica {
         matches!(self.readiness, Readiness::Failed)
     }
 
-    /// Whether the pod is running and ready, and not on its way out.
+    /// Whether the pod is running and ready, and not terminating.
     pub(crate) fn is_healthy(&self) -> bool
         ensures { result ≡ is_healthy self.now.readiness self.now.terminating }
     {

@@ -10,17 +10,17 @@ use crate::replica::Replica;
 use set_views::{Set, Strategy};
 use std::collections::BTreeMap;
 
-/// The numbers of a StatefulSet's `status` (Kubernetes API reference, apps/v1, StatefulSetStatus), of the pods as listed.
+/// The numbers of a StatefulSet's `status` (Kubernetes API reference, apps/v1, StatefulSetStatus), of the pods as
+/// listed.
 #[derive(Clone, Copy)]
 pub struct Counts {
     /// `replicas`: all pods with names of the set.
     pub replicas: usize,
-    /// `readyReplicas`: those that are ready, on their way out or not.
+    /// `readyReplicas`: those that are ready, terminating or not.
     pub ready: usize,
-    /// `currentReplicas`: those at the revision that the status then has as its current one, without those on their way
-    /// out.
+    /// `currentReplicas`: those at the revision that the status then has as its current one, without terminating ones.
     pub current: usize,
-    /// `updatedReplicas`: those at the update revision, without those on their way out.
+    /// `updatedReplicas`: those at the update revision, without terminating ones.
     pub updated: usize,
 }
 
@@ -79,8 +79,8 @@ fn count_current(pods: &BTreeMap<u32, Replica>) -> usize
         .count()
 }
 
-/// Counts the pods for the set's status. Where the rolling update is done the current revision is the update revision,
-/// and its pods are counted as current.
+/// Counts the pods for the set's status. If the rolling update is done the current revision is the update revision, and
+/// its pods are counted as current.
 pub fn counts_of(set: &Set, pods: &BTreeMap<u32, Replica>) -> Counts
     ensures { result ≡ counts_of (set_parts set.now) pods.now.entries }
 {

@@ -8,7 +8,7 @@ use std::alloc::{AllocError, Global};
 /// What a plan waits for.
 #[derive(Clone, Copy)]
 pub enum Cause {
-    /// The pod is on its way out.
+    /// The pod is terminating.
     Terminating,
     /// The pod is not ready.
     NotReady,
@@ -21,8 +21,8 @@ pub enum Revision {
     Update,
 }
 
-/// A step of a plan. The pod of an ordinal has the set's name and the ordinal as its name. A step on claims stands
-/// where the claims of that ordinal are due, and comes to no request where they are as wanted.
+/// A step of a plan. The pod of an ordinal has the set's name and the ordinal as its name. A step on claims is added
+/// whenever the claims of that ordinal are to be checked, and becomes no request if they are as wanted.
 #[derive(Clone, Copy)]
 pub enum Step {
     /// Creates the missing claims of a pod that is then created, and updates the others.
@@ -32,7 +32,7 @@ pub enum Step {
     /// Updates the claims of a condemned pod with that UID, which is then deleted.
     ReleaseClaims { ordinal: u32, uid: u64 },
     CreatePod { ordinal: u32, revision: Revision },
-    /// Deletes the pod with that UID, 0 where none was read.
+    /// Deletes the pod with that UID, 0 if none was read.
     DeletePod { ordinal: u32, uid: u64 },
     Wait { ordinal: u32, cause: Cause },
 }
@@ -71,7 +71,7 @@ impl Steps {
         }
     }
 
-    /// Whether whatever comes after these steps is left to the next plan.
+    /// Whether whatever is added after these steps is left to the next plan.
     pub fn is_full(&self) -> bool
         ensures { IsTrue result ↔ (1024 ≤ length (pod_steps self.now.list.items)) }
     {

@@ -13,7 +13,7 @@ use set_views::{Set, Strategy};
 use std::alloc::AllocError;
 use std::collections::BTreeMap;
 
-/// Whether a rolling update down to that partition has still to do with the ordinal's pod.
+/// Whether a rolling update down to that partition has still to replace the ordinal's pod, or to wait for it.
 fn is_due(pods: &BTreeMap<u32, Replica>, partition: u32, ordinal: u32) -> bool
     ensures { result ≡ is_due partition pods.now.entries ordinal }
 {
@@ -23,7 +23,7 @@ fn is_due(pods: &BTreeMap<u32, Replica>, partition: u32, ordinal: u32) -> bool
     }
 }
 
-/// The largest ordinal that a rolling update has still to do with.
+/// The largest ordinal whose pod a rolling update has still to replace, or to wait for.
 fn last_due(set: &Set, pods: &BTreeMap<u32, Replica>, partition: u32) -> Option<u32>
     ensures { result ≡ find (is_due partition pods.now.entries) (reverse (ordinals (set_parts set.now))) }
 {

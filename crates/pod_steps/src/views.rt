@@ -14,8 +14,8 @@ fn name_of(object: &Object) -> &str
     object.key.name.as_str()
 }
 
-/// Reads the pods of the set's namespace, in the order of the list. Objects of other kinds and namespaces are passed
-/// over; of several pods with one name the first counts.
+/// Reads the pods of the set's namespace, in the order of the list. Objects of other kinds and namespaces are ignored;
+/// of several pods with one name the first counts.
 pub fn views_of<'a>(
     alloc: Global,
     set: &Set,

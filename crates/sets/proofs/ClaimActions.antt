@@ -70,7 +70,7 @@ in_templates h (c ∷ cs) change there =
       ]
     ] refl there
 
--- and a change of a template stands among all
+-- and a change of a template is among all
 pub from_template : (h : Claim → Option ClaimChange) (cs : List Claim) (c : Claim) (change : ClaimChange) → Contains cs c → h c ≡ Some change → Contains (filter_map h cs) change
 from_template h [] c change there is = absurd (nowhere c there)
 from_template h (x ∷ cs) c change there is =

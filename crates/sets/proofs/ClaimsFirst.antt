@@ -1,4 +1,4 @@
--- The create of a pod stands after the creates of its claims.
+-- The create of a pod is after the creates of its claims.
 use Rattle.std.proofs.Common.{◌≡◌, inl, inr, ℕ, zero, suc, ◌+◌, ◌-◌, ◌^◌, ◌≤◌, ◌<◌, Bool, true, false, if◌then◌else◌, List, [], ◌∷◌, ◌++◌, append_assoc, map, take, find, reverse, Option, Some, None, Ok, arith, refl, sym, ap, subst}
 use Rattle.std.proofs.lemmas.Grind.{flat_map-append}
 use Rattle.std.proofs.lemmas.List.{append-nil}
@@ -24,7 +24,7 @@ use Rattle.pod_steps.specs.Replicas.{Pods, is_out_of_range, is_due, is_failed, l
 use Rattle.pod_steps.specs.Step.{is_of_pod}
 use Rattle.pod_steps.specs.FullSteps.{all_target_steps, parallel_steps, target_steps, removal_steps_unless, ordered_ready_steps, ordered_ready_steps_at, is_other_unhealthy, keep_steps, condemned_steps, creation_steps, gap_steps, full_steps, full_steps_by, removal_steps, replacement_steps, scale_down_steps, scale_down_or_update_steps, revision_at, rolling_update_steps, parallel_scaling_steps, update_steps, update_steps_by, wait_for}
 use Rattle.pod_steps.proofs.ParallelPlans.{alone, nowhere, single}
-use Rattle.pod_steps.proofs.Causes.{found_in}
+use Rattle.pod_steps.proofs.Searches.{found_in}
 use Rattle.pod_steps.proofs.OrderedReadyPlans.{bounds, inside}
 use Rattle.manifests.specs.BuiltClaim.{built_claim}
 use Rattle.manifests.specs.BuiltStatus.{built_status}

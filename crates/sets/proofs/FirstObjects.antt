@@ -1,4 +1,4 @@
--- A plan goes by the first listed pod and claim of each name.
+-- A plan depends on the first listed pod and claim of each name.
 use Rattle.std.proofs.Common.{◌≡◌, ℕ, Bool, true, false, List, [], ◌∷◌, ◌++◌, Result, Ok, Err, filter, find, map, take, not, refl, sym, ap, ◌∙◌, subst}
 use Rattle.std.specs.List.{flat_map, list_any}
 use Rattle.std.specs.Prelude.{◌||◌, bytes_eq, if◌then◌else◌}

@@ -33,7 +33,7 @@ found_in_map p (o ∷ os) pod is =
       | false ↦ λ e h. let r = found_in_map p os pod h in (r.0, inr r.1, r.2, r.3)
     ] refl is
 
-missed_in_map : (p : PodParts → Bool) (os : List Object) (q : Object) → find p (map view_of os) ≡ None → Has q os → p (view_of q) ≡ false
+pub missed_in_map : (p : PodParts → Bool) (os : List Object) (q : Object) → find p (map view_of os) ≡ None → Has q os → p (view_of q) ≡ false
 missed_in_map p [] q is at = absurd at
 missed_in_map p (o ∷ os) q is at =
     elim (p (view_of o)) as (λ b. p (view_of o) ≡ b → cond b (Some (view_of o)) (find p (map view_of os)) ≡ None → p (view_of q) ≡ false) [
@@ -106,7 +106,7 @@ named_is set i o h =
 
 -- ---- the first of a name
 
-kept_among : (p : Object → Bool) (x : Object) (xs : List Object) → p x ≡ true → Has x xs → Has x (filter p xs)
+pub kept_among : (p : Object → Bool) (x : Object) (xs : List Object) → p x ≡ true → Has x xs → Has x (filter p xs)
 kept_among p x [] holds at = absurd at
 kept_among p x (y ∷ ys) holds (inl is) = subst (λ b. Has x (cond b (y ∷ filter p ys) (filter p ys))) (sym holds ∙ ap p is) (inl is)
 kept_among p x (y ∷ ys) holds (inr at) =

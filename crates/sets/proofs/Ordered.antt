@@ -1,4 +1,4 @@
--- A list has one order, where no two of its elements tie.
+-- A list has one order, if no two of its elements tie.
 use Rattle.std.proofs.Common.{◌≡◌, inl, inr, ◌+◌, ℕ, suc, true, false, cond, List, [], ◌∷◌, refl, sym, ap, ◌∙◌, arith, add-one, Ordering, Less, Equal, Greater, is_lt, IsPermutation, IsSorted, true≢false}
 use Rattle.std.specs.List.{AllByRecursion, sum_by}
 use Rattle.std.specs.Cmp.{IsTotalOrder}
@@ -108,7 +108,7 @@ module _ {X : Type 0} (cmp : X → X → Ordering) (total : IsTotalOrder cmp) wh
 
   -- ---- one order
 
-  -- one, where it is less than x
+  -- one, if it is less than x
   abbrev count_less : X → X → ℕ
   count_less x z = cond (is_lt (cmp z x)) 1 0
 

@@ -304,7 +304,7 @@ no_more_in_take n xs =
     ap (λ l. length (filter is_on_pod l)) (sym (take-append-drop n xs)) ∙ (ap length (filter-append is_on_pod (take n xs) (drop n xs)) ∙ length-append (filter is_on_pod (take n xs)) (filter is_on_pod (drop n xs))) in
     omega arith
 
--- few steps on pods come to few actions on pods
+-- few steps on pods become few actions on pods
 pub few_on_pods : (set : SetParts) (claims : Claims) (listed : List PodParts) (owned : List Object) (current update : Object) (actions : List Action) (pods : Pods) → IsOver set claims listed owned current update actions pods → length (pod_steps (full_steps set pods)) ≤ 1 → length (filter is_on_pod actions) ≤ 1
 few_on_pods set claims listed owned current update actions pods over few =
     let all : length (filter is_on_pod (full_plan set claims listed owned current update pods)) ≡ length (pod_steps (full_steps set pods)) = count_of_full_plan set claims listed owned current update pods in

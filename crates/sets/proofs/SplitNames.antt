@@ -49,7 +49,7 @@ not_below name (suc m) k none low =
 own : IsNumeralModel (λ ds. all_ascii_digits ds ≡ true) (digits_value 10)
 own = numerals_by_value (λ ds. all_ascii_digits ds ≡ true) tells_all_ascii_digits
 
--- a pod's name is split behind its set
+-- a pod's name is split after its set
 is_split_there : (name set : List ℕ) (i : ℕ) → IsPodName name set i → is_split name (length set) ≡ true
 is_split_there name set i is =
     let k = length set in

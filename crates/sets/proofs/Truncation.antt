@@ -1,4 +1,4 @@
--- What is held of a list of actions, as more come to it.
+-- What is held of a list of actions, as more are added to it.
 use Rattle.std.proofs.Common.{◌≡◌, ℕ, zero, suc, ◌+◌, ◌≤◌, ◌<◌, List, [], ◌∷◌, ◌++◌, length, take, arith, refl, sym, ap, ◌∙◌, append_assoc, length-append}
 use Rattle.std.proofs.lemmas.List.{append-nil, get_or_default, map-append, take_all, take_more, take-append-le, take-map, take-take}
 use Rattle.std.proofs.Math.Seq.{take-append-add}
@@ -13,7 +13,7 @@ use Rattle.sets.specs.declared.action.Action.{Action}
 use Rattle.sets.specs.Actions.{claim_action, claim_actions}
 use Rattle.sets.specs.Truncation.{Adds}
 
--- truncated before more comes, a list loses nothing
+-- a list that is truncated before more is added loses nothing
 take_again : (n : ℕ) (xs ys : List Action) → take n (take n xs ++ ys) ≡ take n (xs ++ ys)
 take_again zero xs ys = refl
 take_again (suc n) [] ys = refl
@@ -27,11 +27,11 @@ adds_one xs a room =
     let long : length (xs ++ a ∷ []) ≡ length xs + 1 = length-append xs (a ∷ []) in
     sym (take_all 1024 (xs ++ a ∷ []) (omega arith))
 
--- a full list stays as it is, whatever comes
+-- a full list is unchanged, whatever is added
 pub adds_past : (xs ms : List Action) → length xs ≤ 1024 → 1024 ≤ length xs → Adds xs xs ms
 adds_past xs ms few full = sym (take-append-le 1024 xs ms full ∙ take_all 1024 xs few)
 
--- of what comes, no more than there is room for matters
+-- of what is added, no more than there is room for matters
 pub adds_first : (xs ys ms : List Action) (n : ℕ) → n + length xs ≡ 1024 → Adds xs ys (take n ms) → Adds xs ys ms
 adds_first xs ys ms n room h =
     let all : length xs + n ≡ 1024 = omega arith in
@@ -52,7 +52,7 @@ take_alike m [] xs ys h = h m (omega arith)
 take_alike zero (a ∷ front) xs ys h = refl
 take_alike (suc m) (a ∷ front) xs ys h = ap (λ l. a ∷ l) (take_alike m front xs ys (λ j le. h j (omega arith)))
 
--- each step on a pod comes to an action
+-- each step on a pod becomes an action
 abbrev pub ActsOnPods : (Step → List Action) → Type 0
 ActsOnPods f = (x : Step) → is_of_pod x ≡ true → 1 ≤ length (f x)
 
@@ -111,6 +111,6 @@ pub none_gone : (b : Bool) (gone xs : List Action) → not b ≡ false → lengt
 none_gone true gone xs h few = adds_none xs few
 none_gone false gone xs h few = absurd (cc)
 
--- it comes to the same in parts and at once
+-- adding in parts and at once gives the same
 pub coming_more : (xs ys ms rest : List Action) → Adds xs ys ms → take 1024 (ys ++ rest) ≡ take 1024 (xs ++ (ms ++ rest))
 coming_more xs ys ms rest f = ap (λ l. take 1024 (l ++ rest)) f ∙ (take_again 1024 (xs ++ ms) rest ∙ ap (take 1024) (append_assoc xs ms rest))

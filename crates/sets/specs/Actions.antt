@@ -1,4 +1,4 @@
--- What the steps of a plan come to (Kubernetes, "StatefulSets": "Pod Identity", "Deployment and Scaling Guarantees").
+-- The actions of the steps of a plan (Kubernetes, "StatefulSets": "Pod Identity", "Deployment and Scaling Guarantees").
 use Rattle.std.specs.Prelude.{ℕ, ◌==◌, List, [], ◌∷◌, decimal, map, Option, Result, Ok, Err, if◌then◌else◌}
 use Rattle.objects.specs.declared.object.Object.{Object}
 use Rattle.objects.specs.PodNames.{pod_name}
@@ -40,7 +40,7 @@ claim_action (Change o) = UpdateClaim o
 abbrev pub claim_actions : List ClaimChange → List Action
 claim_actions changes = map claim_action changes
 
--- a pod whose name is too long is not created: the plan is refused before
+-- a pod whose name is too long is not created: the plan is refused earlier
 abbrev pub changes_in : Result (List ClaimChange) PlanError → List ClaimChange
 changes_in (Ok changes) = changes
 changes_in (Err e) = []

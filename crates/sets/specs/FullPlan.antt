@@ -18,15 +18,16 @@ use Rattle.sets.specs.declared.action.Action.{Action}
 use Rattle.sets.specs.declared.action.Action.TheVariants.{DeleteRevision, WriteStatus}
 use Rattle.sets.specs.Actions.{Claims, actions_of}
 
--- the name that the status has for the current revision: once a rolling update is done it is that of the update revision
+-- the name that the status has for the current revision: once a rolling update is done it is that of the update
+-- revision
 abbrev pub current_name : SetParts → Pods → Object → Object → List ℕ
 current_name set pods current update = if is_rolled_out set pods then update.key.name else current.key.name
 
--- the revision that was listed goes
+-- the revision that was listed is deleted
 abbrev pub deletion : Object → Action
 deletion o = DeleteRevision o.key.name o.meta.uid o.meta.revision
 
--- the revisions that go, unless one of these steps creates, deletes or waits for a pod
+-- the revisions that are deleted, unless one of these steps creates, deletes or waits for a pod
 abbrev pub deletions : SetParts → List PodParts → List Object → List ℕ → List ℕ → List Step → List Action
 deletions set listed owned current update steps = if list_any is_of_pod steps then [] else map deletion (expired_revisions set listed current update owned)
 
@@ -44,12 +45,12 @@ status_with counts current update = record {
 abbrev pub status_of : SetParts → Pods → List ℕ → List ℕ → StatusParts
 status_of set pods current update = status_with (counts_of set pods) current update
 
--- the status, where it differs from the one that the set has
+-- the status, if it differs from the one that the set has
 abbrev pub status_write : SetParts → StatusParts → List Action
 status_write set status = option_map_or (λ o. WriteStatus o ∷ []) (built_status set status) []
 
--- all actions, given the listed claims, the listed pods, the owned revisions with the current and the update one, and the set's pods among
--- the listed ones
+-- all actions, given the listed claims, the listed pods, the owned revisions with the current and the update one, and
+-- the set's pods among the listed ones
 unfoldable pub full_plan : SetParts → Claims → List PodParts → List Object → Object → Object → Pods → List Action
 full_plan set claims listed owned current update pods = let name = current_name set pods current update in
     flat_map (actions_of set claims current update) (full_steps set pods)

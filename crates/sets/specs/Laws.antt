@@ -1,4 +1,4 @@
--- Words of the laws of plans.
+-- Definitions that the laws of plans use.
 use Rattle.std.specs.Prelude.{◌≡◌, ◌≤◌, ◌<◌, ◌⊎◌, ◌||◌, ℕ, Bool, true, false, List, Some, None, filter, find}
 use Rattle.std.specs.List.{Contains, list_any}
 use Rattle.serde_json.specs.Data.{Data}
@@ -40,8 +40,8 @@ is_on_pod (Wait cause name) = true
 abbrev pub HasUpdatedTarget : SetParts → List ℕ → List PodParts → ℕ → Type 0
 HasUpdatedTarget set update listed i = (pod : PodParts) × IsPodAt set listed i pod × (owns_pod set pod ≡ true) × (has_revision update pod ≡ true) × (is_healthy pod.readiness pod.terminating ≡ true)
 
--- A rolling update down to that partition replaces the pod of that ordinal by one of the revision of that name ("Rolling
--- Updates": "from the largest ordinal to the smallest", each once its predecessor is running and ready).
+-- A rolling update down to that partition replaces the pod of that ordinal by one of the revision of that name
+-- ("Rolling Updates": "from the largest ordinal to the smallest", each once its predecessor is running and ready).
 pub record IsNextToUpdate (set : SetParts) (update : List ℕ) (listed : List PodParts) (partition i : ℕ) (pod : PodParts) : Type 0 where
   pub reached : partition ≤ i
   pub outdated : has_revision update pod ≡ false
@@ -58,8 +58,8 @@ CreateMissingClaims set claims before i =
 abbrev pub KeepsAll : (Data → Bool) → List Data → List Data → Type 0
 KeepsAll p old new = filter p new ≡ filter p old
 
--- The claim is a listed one of the ordinal's pod with these owner references. Of those that it had, only such as name the
--- set, the pod or the owner that retention gives it, in range or condemned, are other ones now.
+-- The claim is a listed one of the ordinal's pod with these owner references. Of those that it had, only such as name
+-- the set, the pod or the owner that retention gives it, in range or condemned, may have changed.
 pub record IsUpdatedClaim (set : SetParts) (claims : Claims) (i : ℕ) (claim : Object) (entries : List Data) (changed : Object) : Type 0 where
   pub listed : (c : Claim) × Contains set.claims c × (claims (claim_name c.0 set.object.key.name i) ≡ Some claim)
   pub owners : changed ≡ with_owner_entries claim entries

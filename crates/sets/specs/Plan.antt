@@ -30,35 +30,35 @@ most_actions = 1024
 abbrev pub names_fit : SetParts → Bool
 names_fit set = (set.replicas == 0) || nat_le (length (name_at set (set.start + set.replicas - 1))) most_label
 
--- the set's pods among the listed ones, given the names of its update and current revisions; NameTooLong is tested before
--- Foreign
+-- the set's pods among the listed ones, given the names of its update and current revisions; NameTooLong is tested
+-- before Foreign
 unfoldable pub fitting_pods : SetParts → List ℕ → List ℕ → List PodParts → Result Pods PlanError
 fitting_pods set update current pods = do
   fit ← guarded NameTooLong (names_fit set) pods
   replicas_in set update current fit
 
--- where no update revision is in place the pods are looked at for their refusals alone
+-- if no update revision is in place the pods are examined for their refusals alone
 abbrev pub unless_refused : {A : Type 0} → SetParts → List PodParts → Result A PlanError → Result A PlanError
 unless_refused set pods answer = fitting_pods set [] [] pods >>= λ _. answer
 
--- where the revisions are refused
+-- if the revisions are refused
 abbrev pub refusal : SetParts → List PodParts → PlanError → Result (List Action) PlanError
 refusal set pods NoRevisionName = unless_refused set pods (Err NoRevisionName)
 refusal set pods e = Err e
 
--- where the update revision is in place
+-- if the update revision is in place
 unfoldable pub plan_of_pods : SetParts → Claims → List PodParts → List Object → Object → Object → Result (List Action) PlanError
 plan_of_pods set claims pods owned current update =
     fitting_pods set update.key.name current.key.name pods >>= λ replicas. Ok (take most_actions (full_plan set claims pods owned current update replicas))
 
--- given what is planned of the revisions: where one is written there is nothing else
+-- given what is planned of the revisions: if one is written there is nothing else
 unfoldable pub plan_by : SetParts → Claims → List PodParts → Result PlanParts PlanError → Result (List Action) PlanError
 plan_by set claims pods (Ok (created o)) = unless_refused set pods (Ok (WriteRevision o ∷ []))
 plan_by set claims pods (Ok (renumbered o)) = unless_refused set pods (Ok (WriteRevision o ∷ []))
 plan_by set claims pods (Ok (settled owned current update)) = plan_of_pods set claims pods owned current update
 plan_by set claims pods (Err e) = refusal set pods e
 
--- what is planned over these listed objects; nothing is said where memory ran out
+-- what is planned over these listed objects; nothing is said if memory ran out
 abbrev pub IsPlan : SetParts → List Object → List Object → List Object → ℕ → Result Plan PlanError → Type 0
 IsPlan set pods claims revisions digits (Err errors.Memory) = ⊤
 IsPlan set pods claims revisions digits result =

@@ -3,11 +3,11 @@ use Rattle.std.specs.Prelude.{ℕ, zero, suc, ◌+◌, Bool, ◌&&◌, nat_lt, n
 use Rattle.std.specs.Str.Parse.{digits_value}
 use Rattle.objects.specs.PodNames.{most_ordinal, pod_name}
 
--- the number that stands behind the byte at k
+-- the number after the byte at k
 abbrev pub number_behind : List ℕ → ℕ → ℕ
 number_behind name k = digits_value 10 (drop (k + 1) name)
 
--- the name is that of the pod with the number behind k, of the set that stands before k
+-- the name is that of the pod with the number after k, of the set whose name is before k
 abbrev pub is_split : List ℕ → ℕ → Bool
 is_split name k =
     nat_lt 0 (length (take k name)) && (nat_le (number_behind name k) most_ordinal && bytes_eq name (pod_name (take k name) (number_behind name k)))

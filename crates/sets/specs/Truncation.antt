@@ -1,4 +1,4 @@
--- What is held of a list of actions, as more come to it, and the steps that they come from.
+-- What is held of a list of actions, as more are added to it, and the steps that they come from.
 use Rattle.std.specs.Prelude.{◌≡◌, Bool, true, List, ◌++◌, length, nat_le, take}
 use Rattle.std.specs.List.{All}
 use Rattle.set_views.specs.Set.{SetParts}
@@ -9,7 +9,7 @@ use Rattle.sets.specs.declared.action.Action.{Action}
 use Rattle.sets.specs.Actions.{name_at}
 use Rattle.sets.specs.Plan.{most_actions}
 
--- what is held after `more` comes to `old`
+-- what is held after `more` is added to `old`
 abbrev pub Adds : List Action → List Action → List Action → Type 0
 Adds old new more = new ≡ take most_actions (old ++ more)
 

@@ -25,14 +25,14 @@ impl Actions {
         }
     }
 
-    /// Whether whatever comes after these actions is left to the next plan.
+    /// Whether whatever is added after these actions is left to the next plan.
     pub fn is_full(&self) -> bool
         ensures { IsTrue result ↔ (1024 ≤ length self.now.list.items) }
     {
         self.list.len() >= MAX_ACTIONS
     }
 
-    /// How many more actions it takes.
+    /// How many more actions it can hold.
     pub fn room(&self) -> usize
         ensures { result + length self.now.list.items ≡ 1024 }
     {

@@ -76,7 +76,7 @@ pub(crate) fn add_history(
     Ok(())
 }
 
-/// Adds the write of the status, where it differs from the set's.
+/// Adds the write of the status, if it differs from the set's.
 pub(crate) fn add_status(
     actions: &mut Actions,
     alloc: Global,

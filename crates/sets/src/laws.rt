@@ -42,7 +42,7 @@ pub fn plans_create_free_names()
         → (i : ℕ) × (pod.key.name ≡ name_at set i) × (in_range set i ≡ true) × (find (is_named set i) listed ≡ None) }
 {}
 
-/// Under OrderedReady a plan creates a pod only where each lower ordinal in range has a healthy pod of the set's.
+/// Under OrderedReady a plan creates a pod only if each lower ordinal in range has a healthy pod of the set's.
 pub fn plans_create_in_turn()
     ensures { (set : SetParts) (claims : Claims) (listed : List PodParts)
         (owned : List Object) (current update : Object) (actions : List Action) (pod : Object) → set.policy ≡ OrderedReady
@@ -64,8 +64,8 @@ pub fn plans_keep_healthy_pods_on_delete()
         → (i : ℕ) × (name ≡ name_at set i) × ((pod : PodParts) × IsPodAt set listed i pod × (in_range set i ≡ true → is_healthy pod.readiness pod.terminating ≡ false)) }
 {}
 
-/// A pod in range that has not failed is deleted by an update alone, and then no other pod is created, deleted or waited
-/// for. So an update deletes one pod of a plan at most.
+/// A pod in range that has not failed is deleted by an update alone, and then no other pod is created, deleted or
+/// waited for. So an update deletes one pod of a plan at most.
 pub fn plans_replace_one_pod()
     ensures { (set : SetParts) (claims : Claims) (listed : List PodParts)
         (owned : List Object) (current update : Object) (actions : List Action) (name : List ℕ) (uid : ℕ)
@@ -74,8 +74,8 @@ pub fn plans_replace_one_pod()
         × (in_range set i ≡ true → is_failed pod.readiness ≡ false → length (filter is_on_pod actions) ≤ 1)) }
 {}
 
-/// Under a rolling update such a pod has an ordinal from the partition on, was made from another revision than the update
-/// revision, and is not on its way out; and each larger ordinal in range has a healthy pod at the update revision.
+/// Under a rolling update such a pod has an ordinal from the partition on, was made from another revision than the
+/// update revision, and is not terminating; and each larger ordinal in range has a healthy pod at the update revision.
 pub fn plans_update_downward()
     ensures { (set : SetParts) (claims : Claims) (listed : List PodParts) (owned : List Object) (current update : Object)
         (actions : List Action) (name : List ℕ) (uid partition : ℕ) → set.strategy ≡ RollingUpdate partition
@@ -84,7 +84,7 @@ pub fn plans_update_downward()
         × (in_range set i ≡ true → is_failed pod.readiness ≡ false → IsNextToUpdate set update.key.name listed partition i pod)) }
 {}
 
-/// Under OrderedReady such a pod is deleted only where each ordinal in range has a healthy pod of the set's.
+/// Under OrderedReady such a pod is deleted only if each ordinal in range has a healthy pod of the set's.
 pub fn plans_update_healthy_sets_in_order()
     ensures { (set : SetParts) (claims : Claims) (listed : List PodParts) (owned : List Object)
         (current update : Object) (actions : List Action) (name : List ℕ) (uid : ℕ) → set.policy ≡ OrderedReady
@@ -93,7 +93,7 @@ pub fn plans_update_healthy_sets_in_order()
         × (in_range set i ≡ true → is_failed pod.readiness ≡ false → (j : ℕ) → in_range set j ≡ true → HasHealthyTarget set listed j)) }
 {}
 
-/// The create of a pod is preceded by the creates of all claims that it misses. The last ordinal in range is one that the
+/// The create of a pod comes after the creates of all claims that it lacks. The last ordinal in range is one that the
 /// API has, as that of each set that is read.
 pub fn plans_make_claims_before_their_pod()
     ensures { (set : SetParts) (claims : Claims) (listed : List PodParts) (owned : List Object)
@@ -102,8 +102,8 @@ pub fn plans_make_claims_before_their_pod()
         → (i : ℕ) × (pod.key.name ≡ name_at set i) × (in_range set i ≡ true) × CreateMissingClaims set claims before i }
 {}
 
-/// A plan updates only listed claims of pods of the set. It sets their `ownerReferences` and nothing else, and of these it
-/// leaves all as they stood, in their order, that name neither the set, nor the claim's pod, nor the owner by retention.
+/// A plan updates only listed claims of pods of the set. It sets their `ownerReferences` and nothing else, and of these
+/// it leaves all unchanged, in their order, that name neither the set, nor the claim's pod, nor the owner by retention.
 pub fn plans_change_owners_alone()
     ensures { (set : SetParts) (claims : Claims)
         (listed : List PodParts) (owned : List Object) (current update : Object) (actions : List Action) (changed : Object)
@@ -111,7 +111,8 @@ pub fn plans_change_owners_alone()
         → (i : ℕ) × (claim : Object) × (entries : List Data) × IsUpdatedClaim set claims i claim entries changed }
 {}
 
-/// Under Retain for a set that is deleted and for one that is scaled, no claim of a plan has the set or its pod as an owner.
+/// Under Retain for a set that is deleted and for one that is scaled, no claim of a plan has the set or its pod as an
+/// owner.
 pub fn plans_retain_claims()
     ensures updated { (set : SetParts) (claims : Claims) (listed : List PodParts) (owned : List Object) (current update : Object)
         (actions : List Action) (changed : Object) → set.when_deleted ≡ Retain → set.when_scaled ≡ Retain
@@ -123,8 +124,8 @@ pub fn plans_retain_claims()
         → (i : ℕ) × (c : Claim) × (entries : List Data) × (claim ≡ built_claim set i (items_of entries) c) × (name_set_or_pod set i entries ≡ false) }
 {}
 
-/// A plan goes by the first listed pod and the first listed claim of each name of the set's namespace. So the order of pods
-/// and of claims does not matter but among those of one name, and the later ones of a name are as good as not there.
+/// A plan depends on the first listed pod and the first listed claim of each name of the set's namespace. So the order
+/// of pods and of claims does not matter except among those of one name, and the later ones of a name do not count.
 pub fn plans_go_by_first_objects()
     ensures pods { (set : SetParts) (pods others claims revisions : List Object) (digits : ℕ) (result : Result Plan PlanError)
         → ((name : List ℕ) → listed_pod set pods name ≡ listed_pod set others name)
@@ -142,8 +143,8 @@ pub fn revisions_are_written_alone()
         → plan_by set claims listed (Ok (renumbered o)) ≡ Ok actions → actions ≡ WriteRevision o ∷ [] }
 {}
 
-/// With equal lists the plan is equal: a set, and the pods, claims and revisions that were listed, have one list of actions,
-/// or one refusal, whenever they are planned and memory does not run out.
+/// With equal lists the plan is equal: a set, and the pods, claims and revisions that were listed, have one list of
+/// actions, or one refusal, whenever they are planned and memory does not run out.
 pub fn plans_are_equal()
     ensures actions { (set : SetParts) (pods claims revisions : List Object) (digits : ℕ) (one other : Plan)
         → IsPlan set pods claims revisions digits (Ok one) → IsPlan set pods claims revisions digits (Ok other)

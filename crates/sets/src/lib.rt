@@ -1,5 +1,5 @@
-//! The plan of a StatefulSet: what its controller asks of the API, given the set and the objects of its namespace. What
-//! the plan reads, and the collector of claims, stand in crates below and are handed on.
+//! The plan of a StatefulSet: what its controller sends to the API, given the set and the objects of its namespace.
+//! What the plan reads, and the collector of claims, are re-exported from the crates below.
 #![tactic(auto)]
 
 mod action;

@@ -53,7 +53,7 @@ fn fitting_pods(
     }
 }
 
-/// What is planned where the update revision is in place, over the set's pods.
+/// What is planned when the update revision is in place, over the set's pods.
 fn actions_over(
     alloc: Global,
     set: &Set,
@@ -82,7 +82,7 @@ fn actions_over(
     Ok(actions.list)
 }
 
-/// What is planned where the update revision is in place.
+/// What is planned when the update revision is in place.
 fn plan_of_pods(
     alloc: Global,
     set: &Set,
@@ -132,7 +132,7 @@ fn write_alone(
     Ok(Plan { actions })
 }
 
-/// The refusal where no revision can be named: what the pods refuse comes before it.
+/// The refusal when no revision can be named: what the pods refuse comes before it.
 #[tactic(auto, using(set_views::proofs::Chains::fails_then))]
 fn no_name_refusal(alloc: Global, set: &Set, views: &[PodView<'_>]) -> Result<Plan, PlanError>
     ensures { Gives (λ plan. plan.actions.items) result (unless_refused (set_parts set.now) (map pod_parts views.now) (Err NoRevisionName)) }
@@ -180,17 +180,18 @@ fn plan_by(
     }
 }
 
-/// Plans what is to be done for a set, given the pods, claims and revisions that were listed (Kubernetes, "StatefulSets").
-/// Objects of other kinds and namespaces are passed over, and of several with one name the first counts.
+/// Plans what is to be done for a set, given the pods, claims and revisions that were listed (Kubernetes,
+/// "StatefulSets"). Objects of other kinds and namespaces are ignored, and of several with one name the first counts.
 ///
-/// Where a revision is to be made or to get a new number, its write is all of the plan. Else come the actions on pods, as
-/// the set's `podManagementPolicy` and `updateStrategy` have them; where there is none of these, the deletions of
-/// revisions that are history, by `revisionHistoryLimit`; and last the set with its new `status`, where that differs.
+/// If a revision is to be made or to get a new number, its write is all of the plan. Else come the actions on pods, by
+/// the set's `podManagementPolicy` and `updateStrategy`; if there are none of these, the deletions of revisions that
+/// are history, by `revisionHistoryLimit`; and last the set with its new `status`, if that differs. Of all actions
+/// these are the first 1,024. The changes of a pod's claims come before its create.
 ///
-/// The refusals are tested in the order BadSpec, NameTooLong, Foreign, NoRevisionName. BadSpec comes where the revisions
-/// have no next number or no template to make pods from; NameTooLong where the name of the last pod in range, or of a
-/// revision to be made, has more than 63 bytes; Foreign where a listed pod with an ordinal in range is not the set's, with
-/// the name of the least; and NoRevisionName where the names of 1,024 collision counts are taken.
+/// The refusals are tested in the order BadSpec, NameTooLong, Foreign, NoRevisionName. It is BadSpec if the revisions
+/// have no next number or no template to make pods from; NameTooLong if the name of the last pod in range, or of a
+/// revision to be made, has more than 63 bytes; Foreign if a listed pod with an ordinal in range is not the set's, with
+/// the name of the least; and NoRevisionName if the names of 1,024 collision counts are in use.
 pub fn plan(
     alloc: Global,
     set: &Set,

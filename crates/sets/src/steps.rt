@@ -1,4 +1,4 @@
-// What the steps on a set's pods come to.
+// The actions of the steps on a set's pods.
 ghost use Rattle.std.specs.Prelude.{◌≡◌, true, IfOk, OnOk, length, nat_le, take};
 ghost use Rattle.std.specs.List.{flat_map};
 ghost use Rattle.set_views.specs.declared.fault.PlanError.TheVariants.{Memory as OutOfMemory};
@@ -113,8 +113,8 @@ fn add_changes(actions: &mut Actions, changes: Vec<ClaimChange>) -> Result<(), M
     Ok(())
 }
 
-/// The first so many changes of the claims of a pod that is then created. There are none where its name is too long, which
-/// the plan is refused for before.
+/// The first changes, at most so many, of the claims of a pod that is then created. There are none if its name is too
+/// long, for which the plan is refused earlier.
 fn make_claim_changes(
     alloc: Global,
     set: &Set,

@@ -20,7 +20,7 @@ at_gap set pods i gap xs ys zs found claims last =
     let P : Option ℕ → Type 0 = λ g. Adds xs zs (ordered_ready_steps_at set pods g) in
     subst P found (adds_more xs ys zs _ _ claims last)
 
--- or there is none, and it goes on to the highest condemned pod or the update
+-- or there is none, and it continues with the highest condemned pod or the update
 past_all : (set : SetParts) (pods : Pods) (end : ℕ) (gap : Option ℕ) (highest : Option (ℕ × Replica)) (xs ys zs : List Step) → None ≡ gap → end ≡ set.start + set.replicas → highest ≡ find (is_out_of_range set) (reverse pods) → Adds xs ys (flat_map keep_steps (range_with_len set.start (end - set.start))) → Adds ys zs (scale_down_or_update_steps set pods highest) → Adds xs zs (ordered_ready_steps_at set pods gap)
 past_all set pods end gap highest xs ys zs none at_end same claims last =
     let all : end - set.start ≡ set.replicas = omega arith in

@@ -1,0 +1,12 @@
+pub mod Sums
+pub mod Counts
+pub mod Moves
+pub mod Falls
+pub mod Kept
+pub mod Silent
+pub mod Parallel
+pub mod SilentParallel
+pub mod Stopped
+pub mod Comes
+pub mod Going
+pub mod Standing

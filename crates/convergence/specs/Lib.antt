@@ -1,0 +1,5 @@
+-- ---- what public clauses cite
+pub mod Rounds
+pub mod Standing
+pub mod Left
+pub mod Stopped

@@ -1,0 +1,5 @@
+pub mod Empty
+pub mod Lists
+pub mod Still
+pub mod Turns
+pub mod TurnsOnPods
