@@ -8,7 +8,7 @@ five old one two_of three_of four_of new a b c d e first second third fourth fif
     fifth ∙ ap (λ t. t ++ e) (four old one two_of three_of four_of a b c d first second third fourth) ∙ append_assoc old (a ++ (b ++ (c ++ d))) e
     ∙ ap (λ t. old ++ t) (append_assoc a (b ++ (c ++ d)) e ∙ ap (λ t. a ++ t) (append_assoc b (c ++ d) e ∙ ap (λ t. b ++ t) (append_assoc c d e)))
 
--- who asked
+-- the caller
 pub asker_put : (old one two_of new role : List ℕ) (place caller : ℕ) → one ≡ old ++ (decimal place ++ codes ": ") → two_of ≡ one ++ role
     → new ≡ two_of ++ (codes "caller " ++ (decimal caller ++ codes ": "))
     → new ≡ old ++ (decimal place ++ (codes ": " ++ (role ++ (codes "caller " ++ (decimal caller ++ codes ": ")))))

@@ -1,21 +1,15 @@
--- What was written in a run: a line for each reply to a write, as
--- `856: web, controller 0, caller 2: delete Pod/default/web-2: Removed, version 20`. Of who asked, of what was asked and of
--- what came of it, it says what a picture of the run says.
-use Rattle.std.specs.Prelude.{ℕ, Bool, true, false, List, [], ◌∷◌, ◌++◌, Option, Some, None, codes, decimal, if◌then◌else◌, ◌==◌}
+-- The writes of a run: a line for each reply to a write, as
+-- `856: web, controller 0, caller 2: delete Pod/default/web-2: Removed, version 20`. It names the caller, the request
+-- and the reply as a picture of the run does.
+use Rattle.std.specs.Prelude.{ℕ, List, [], ◌∷◌, ◌++◌, Option, Some, None, codes, decimal, if◌then◌else◌, ◌==◌}
 use Rattle.requests.specs.declared.request.Request.{Request}
-use Rattle.requests.specs.declared.request.Request.TheVariants as request
 use Rattle.requests.specs.declared.reply.Reply.{Reply}
 use Rattle.interleavings.specs.declared.trace.Item.{Item}
 use Rattle.interleavings.specs.declared.trace.Item.TheVariants as item
 use Rattle.pictures.specs.Labels.{reply_words, request_words}
+use Rattle.requests.specs.Verdict.{is_write}
 
--- whether a request may change the store. A compaction does: it takes past revisions away
-abbrev pub is_write : Request → Bool
-is_write (request.Get key) = false
-is_write (request.List kind namespace exact) = false
-is_write _ = true
-
--- ---- what each caller asked last
+-- ---- each caller's last request
 abbrev pub LastAsked : Type 0
 LastAsked = ℕ → Option Request
 
@@ -26,7 +20,7 @@ abbrev pub asked_after : LastAsked → Item → LastAsked
 asked_after asked (item.Call place caller request) = λ c. if caller == c then Some request else asked c
 asked_after asked (item.Reply place caller reply) = asked
 
--- ---- the line of a reply to a write; of one to a read there is none. `role` is what a caller is called before its number
+-- ---- the line of a reply to a write; a reply to a read has none. `role` gives the words before a caller's number
 abbrev pub asker : (role : ℕ → List ℕ) → (place caller : ℕ) → List ℕ
 asker role place caller = decimal place ++ (codes ": " ++ (role caller ++ (codes "caller " ++ (decimal caller ++ codes ": "))))
 
@@ -42,7 +36,7 @@ abbrev pub item_line : (role : ℕ → List ℕ) → LastAsked → Item → List
 item_line role asked (item.Call place caller request) = []
 item_line role asked (item.Reply place caller reply) = reply_line role place caller (asked caller) reply
 
--- ---- the lines of a trace, of which this was asked before
+-- ---- the lines of a trace, after these requests
 abbrev pub lines_of : (role : ℕ → List ℕ) → LastAsked → List Item → List ℕ
 lines_of role asked [] = []
 lines_of role asked (i ∷ items) = item_line role asked i ++ lines_of role (asked_after asked i) items

@@ -1,4 +1,4 @@
-//! Runs told to a person: the writes, one line for each, at its reply.
+//! Runs as text for a person: a line for each write, at its reply.
 #![tactic(auto)]
 
 mod telling;

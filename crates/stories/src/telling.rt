@@ -1,6 +1,6 @@
 ghost use Rattle.std.specs.Prelude.{◌≡◌, ◌++◌, ◌==◌, ℕ, Some, string_bytes, option_map, if◌then◌else◌, IfOk, OnOk};
 ghost use Rattle.stories.specs.Asked.{asked_in};
-ghost use Rattle.stories.specs.Story.{asked_after, asker, is_write, item_line, reply_line, story_text, write_line};
+ghost use Rattle.stories.specs.Story.{asked_after, asker, item_line, reply_line, story_text, write_line};
 
 use interleavings::Item;
 use pictures::{Roles, put_reply, put_request};
@@ -9,8 +9,8 @@ use std::alloc::{AllocError, Global};
 use std::collections::BTreeMap;
 
 /// The writes of a run as lines for a person, from its calls and replies: a line for each write, at its reply, as
-/// `856: web, controller 0, caller 2: delete Pod/default/web-2: Removed, version 20`. A compaction counts as a write. A write
-/// that is never answered has no line.
+/// `856: web, controller 0, caller 2: delete Pod/default/web-2: Removed, version 20`. Writes are creates, updates,
+/// status requests and deletes. A write without a reply has no line.
 pub fn story<R: Roles>(alloc: Global, items: &[Item], roles: &R) -> Result<Vec<u8>, AllocError>
     ensures { IfOk result (λ text. text.items ≡ story_text (R.role roles.now) items.now) }
 {
@@ -22,7 +22,7 @@ pub fn story<R: Roles>(alloc: Global, items: &[Item], roles: &R) -> Result<Vec<u
     Ok(text.into_bytes())
 }
 
-/// Puts the line of an item, if it has one, behind the text. `asked` has what each caller asked last.
+/// Appends the line of an item, if it has one. `asked` has the last request of each caller.
 fn put_item<'a, R: Roles>(
     item: &'a Item,
     roles: &R,
@@ -53,7 +53,7 @@ fn put_item<'a, R: Roles>(
     }
 }
 
-/// Notes what a caller asks, in place of what it asked before.
+/// Notes a caller's request, in place of the one before.
 fn note<'a>(
     asked: &mut BTreeMap<u64, &'a Request>,
     caller: u64,
@@ -79,25 +79,10 @@ fn put_answer<R: Roles>(
     let Some(request) = request else {
         return Ok(());
     };
-    if !is_write(request) {
+    if !request.is_write() {
         return Ok(());
     }
     put_write(place, caller, request, reply, roles, out)
-}
-
-/// Whether the request may change the store.
-fn is_write(request: &Request) -> bool
-    ensures { result ≡ is_write request.now }
-{
-    match request {
-        Request::Get(_)
-        | Request::List {
-            kind: _,
-            namespace: _,
-            exact: _,
-        } => false,
-        _ => true,
-    }
 }
 
 fn put_write<R: Roles>(

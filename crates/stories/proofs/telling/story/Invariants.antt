@@ -3,7 +3,7 @@ use Rattle.stories.specs.Asked.{asked_in}
 use Rattle.stories.specs.Story.{lines_of, story_text}
 use Rattle.stories.proofs.telling.story.Given as goal
 
--- what was put, and the lines of what is left, are all that is to be put
+-- what was appended, and the lines of the items that are left, are all of the text
 abbrev pub invariant-loop-item : goal.invariant-loop-item
 invariant-loop-item g l =
     let role = g.R.Roles.role l.roles in
