@@ -1,4 +1,4 @@
-// What the words of the command line ask for.
+// What the command line requests.
 
 /// What can be measured.
 #[derive(Clone, Copy, PartialEq, Eq)]
@@ -20,11 +20,11 @@ pub(crate) struct Counts {
 
 #[derive(Clone, Copy)]
 pub(crate) struct Asked {
-    /// The load that is asked for, where it is not all of them.
+    /// The requested load, if it is not all of them.
     load: Option<Load>,
-    /// How many pushes and how many readings a shard is to have, where the words say it.
+    /// How many pushes and how many readings a shard gets, if the arguments say it.
     pub(crate) pushes: Option<u64>,
-    /// How much the threads over a store are to do, where the words say it.
+    /// How much the threads over a store do, if the arguments say it.
     pub(crate) counts: Option<Counts>,
 }
 
@@ -47,7 +47,7 @@ fn named(word: &str) -> Option<Load> {
     }
 }
 
-/// What the words after the program's name ask for, if they ask for anything that can be measured.
+/// What the arguments after the program's name request, if they request anything that can be measured.
 pub(crate) fn read_words(words: &[String]) -> Option<Asked> {
     let (load, pushes, counts) = match words {
         [] => (None, None, None),

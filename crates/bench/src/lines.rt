@@ -21,7 +21,7 @@ type CallerSeat = line::CallerSeat<Blank>;
 
 const NUMBERS: u64 = 1_048_576;
 
-/// Draws and fills numbers until none is left, and answers how many.
+/// Draws and fills numbers until none is left, and returns how many.
 fn draw_all(line: &Line, mut seat: ShardSeat) -> u64
     requires line { seat.line ≡ line.now.name }
     requires pending { (seat.view.plain.pending ≡ None) × (seat.view.caller ≡ None) }
@@ -37,7 +37,7 @@ fn draw_all(line: &Line, mut seat: ShardSeat) -> u64
     count
 }
 
-/// Raises the frontier until it is at the last number, and answers how many raises that took.
+/// Raises the frontier until it is at the last number, and returns how many raises that took.
 fn raise_all(line: &Line, mut caller: CallerSeat, last: u64) -> u64
     requires { caller.line ≡ line.now.name }
 {

@@ -1,8 +1,8 @@
-//! How long those loads take that no word of the program shows: of a shard, of the line and of the running store. The first
-//! word says which load; with no word all of them are measured. `checks/bench` measures the program; `bench/line_plain.rs`
-//! is the yardstick of the line, in plain Rust.
+//! How long those loads take that no command of the program shows: of a shard, of the line and of the running store.
+//! The first argument names the load; without one all of them are measured. `checks/bench` measures the program;
+//! `bench/line_plain.rs` is the yardstick of the line, in plain Rust.
 //!
-//! Standard output has what was counted, which is the same on each run; the times go to standard error.
+//! Standard output has what was counted, which is the same on each run; the times are written to standard error.
 #![tactic(auto)]
 
 mod asked;
@@ -16,7 +16,7 @@ use asked::{LOADS, Load, read_words};
 use std::env;
 use std::process::ExitCode;
 
-/// The exit status for words that name no load.
+/// The exit status if the arguments name no load.
 const BAD_WORDS: u8 = 2;
 
 fn main(rt: HostRuntime) -> Result<ExitCode> {

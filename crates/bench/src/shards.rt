@@ -1,9 +1,9 @@
 // How long one shard takes for many pushes, with a compaction after each and with none, and for as many readings of one key
 // with a tenth as many versions.
 //
-// A compaction is to cost what it drops, and not a walk over all keys; the first load keeps 1,000 records, the second all
-// of them. A reading is to halve the records of its key, and not to go through them. All objects share one body, so that
-// what is measured is the shard.
+// A compaction should cost what it drops, and not a walk over all keys; the first load keeps 1,000 records, the second
+// all of them. A reading should halve the records of its key, and not walk through them. All objects share one body, so
+// that what is measured is the shard.
 ghost use Rattle.std.specs.Prelude.{◌+◌};
 ghost use Rattle.versions.specs.Records.{IsAbove};
 
@@ -18,7 +18,7 @@ use versions::Shard;
 const OBJECT: &str =
     r#"{"kind":"Pod","metadata":{"labels":{"app":"web"},"name":"web-0"},"spec":{"containers":[{"image":"web:1","name":"web"}],"nodeName":"node-1"}}"#;
 
-/// How many pushes and how many readings there are where the words do not say it.
+/// How many pushes and how many readings there are by default.
 const COUNT: u64 = 100_000;
 
 const KEYS: u64 = 1_000;
@@ -26,7 +26,7 @@ const KEYS: u64 = 1_000;
 /// There are so many readings for each version.
 const READ_AGAIN: u64 = 10;
 
-/// A step from one reading to the next, which comes to all numbers in turn where it has no factor in common with how many
+/// A step from one reading to the next, which reaches all numbers in turn if it has no factor in common with how many
 /// there are.
 const STEP: u64 = 61_803;
 
@@ -50,7 +50,7 @@ impl Rising {
         &self.shard
     }
 
-    /// Gives the key that object at a number. Answers whether it did: the number has to be above those of all records.
+    /// Gives the key that object at a number. Returns whether it did: the number has to be above those of all records.
     fn push(&mut self, number: u64, key: &Key, object: &Object) -> Result<bool, Memory> {
         if number <= self.last {
             return Ok(false);
@@ -80,7 +80,7 @@ fn pods(alloc: Global, count: u64) -> Result<Vec<Key>> {
     Ok(keys)
 }
 
-/// Pushes at the numbers from 1 on, which go over the keys in turn; with a compaction to each number, or with none.
+/// Pushes at the numbers from 1 on, which use the keys in turn; with a compaction to each number, or with none.
 fn push_all(
     rising: &mut Rising,
     keys: &[Key],

@@ -1,8 +1,9 @@
 // How many writes and reads a second threads make in a running store, at 1, 2, 4 and 8 threads over 8 and over 64 shards.
 //
-// A writer has pods of its own: it creates one, updates it at the version that it has four times, and deletes it. A reader
-// gets pods by chance from a store that has them all; in another load one read in fifty lists a namespace of a hundred. At
-// last there are as many writers as readers at once, over a store that is empty at first. A load's threads begin together.
+// A writer has pods of its own: it creates one, updates it at the version that it has four times, and deletes it. A
+// reader gets random pods from a store that has them all; in another load one read in fifty lists a namespace of a
+// hundred. At last there are as many writers as readers at once, over a store that is empty at first. A load's threads
+// begin together.
 ghost use Rattle.std.specs.Prelude.{◌≡◌, ◌<◌, vec_len};
 ghost use Rattle.line.specs.Seat.{AreShards};
 ghost use Rattle.store.specs.Callers.{IsLine};
@@ -30,7 +31,7 @@ use std::time::{Clock, Duration, Instant};
 use store::{ByShards, Naming, NoGate, Sharding, Store, Writing};
 use writers::{Share, make_all, write_all, write_made};
 
-/// How much is done where the words do not say it.
+/// How much is done by default.
 const COUNTS: Counts = Counts {
     writes: 12_000,
     reads: 24_000,
@@ -38,17 +39,17 @@ const COUNTS: Counts = Counts {
 
 const SHARDS: [usize; 2] = [8, 64];
 
-/// One read in so many is a list, where there are lists.
+/// One read in so many is a list, if there are lists.
 const LISTS: u64 = 50;
 
-/// Where there are lists, there are so many times fewer reads.
+/// If there are lists, there are so many times fewer reads.
 const FEWER: u64 = 4;
 
-/// How many seconds a thread waits for the others of its load. Where one cannot be made, another does its work.
+/// How many seconds a thread waits for the others of its load. If one cannot be made, another does its work.
 const PATIENCE: u64 = 10;
 
-/// How many threads write and how many read in each load; one read in how many is a list: none where that is 0; and whether
-/// all requests are made before.
+/// How many threads write and how many read in each load; one read in how many is a list: none if that is 0; and
+/// whether all requests are made before.
 const CREWS: [(usize, usize, u64, bool); 19] = [
     (1, 0, 0, false),
     (2, 0, 0, false),
@@ -116,7 +117,7 @@ impl Crew {
         }
     }
 
-    /// What the load is called.
+    /// The name of the load.
     fn name(self, alloc: Global) -> Result<String> {
         let (shards, writers, readers) = (self.shards, self.writers, self.readers);
         let name = match (writers, readers, self.lists) {
@@ -190,7 +191,7 @@ struct Start {
     arrived: AtomicU64,
 }
 
-/// Waits until all threads of a load are there, and answers when that was.
+/// Waits until all threads of a load are there, and returns when that was.
 fn begin<R: Clock>(rt: &R, start: &Start, crew: Crew) -> Result<Duration> {
     start.arrived.fetch_add(1, Ordering::SeqCst);
     for _ in 0..u64::MAX {
@@ -295,7 +296,7 @@ where
     Ok(works)
 }
 
-/// Prints what was counted, and how long it took. What readers find beside writers differs from run to run.
+/// Prints what was counted, and how long it took. What readers find while others write differs from run to run.
 fn tell(
     rt: &(impl Print + Eprint),
     alloc: Global,
@@ -322,7 +323,7 @@ fn tell(
     Ok(())
 }
 
-/// Runs a load over a store that nobody has used.
+/// Runs a load over an unused store.
 fn run<S: SharedStore + Sync, R: Threads + Wait + Clock + Print + Eprint + Sync>(
     rt: &R,
     alloc: Global,
@@ -368,7 +369,7 @@ fn run_on_shards<H: Sharding + Send + Sync, R: Threads + Wait + Clock + Print + 
     run_on_line::<H, Brand, R>(rt, alloc, ends, crew)
 }
 
-/// Runs a load. A store's markers are picked where its shards, and then its line, are known.
+/// Runs a load. A store's markers are picked once its shards, and then its line, are known.
 fn run_crew<R: Threads + Wait + Clock + Print + Eprint + Sync>(
     rt: &R,
     alloc: Global,

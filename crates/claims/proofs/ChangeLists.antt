@@ -47,7 +47,7 @@ enough h xs i n done is full =
 pub few : {B : Type 0} (n : ℕ) (done all : List B) → done ≡ all → length done ≤ n → done ≡ take n all
 few n done all is short = sym (take_all n done short) ∙ ap (take n) is
 
--- where there was room, one more change or none has room
+-- if there was room, there is room after one more change or none
 pub has_room : {B : Type 0} (done after : List B) (y : Option B) (n : ℕ) → after ≡ done ++ cons_option y [] → length done ≤ n → (length done ≡ n → ⊥) → length after ≤ n
 has_room done after None n is few other =
     let long : length after ≡ length done = ap length (is ∙ append-nil done) in omega arith

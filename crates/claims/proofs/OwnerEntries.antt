@@ -52,7 +52,7 @@ owned_fit : (set : SetParts) (pod : List ℕ) (owner : Option Owner) (ds : List 
 owned_fit set pod None ds h = h
 owned_fit set pod (Some owner) ds h = owned_at (list_any (is_of set owner) ds) set pod owner ds h
 
--- the entries that a claim is to have are owners, where those that it has are
+-- the entries that a claim is to have are owners, if those that it has are
 pub wanted_fit : (set : SetParts) (pod : List ℕ) (owner : Option Owner) (ds : List Data) → list_all is_owner ds ≡ true → list_all is_owner (wanted_entries set pod owner ds) ≡ true
 wanted_fit set pod owner ds h = owned_fit set pod owner (filter (stays set pod owner) ds) (all_kept is_owner (stays set pod owner) ds h)
 

@@ -36,7 +36,7 @@ items_or : {T : Type 0} (o : Option (Vec T)) (fresh : Vec T) → fresh.items ≡
 items_or None fresh is = is
 items_or (Some v) fresh is = refl
 
--- what was there is taken out, grows by one, and is put back
+-- what was there is removed, grows by one, and is put back
 pub added : {T : Type 0} (same : Bool) (there found : Option (Vec T)) (fresh held next : Vec T) (item : T)
     → (same ≡ true → found ≡ there) → held ≡ unwrap_or found fresh → fresh.items ≡ [] → next.items ≡ held.items ++ item ∷ []
     → items_of (cond same (Some next) (cond same None there)) ≡ items_of there ++ cond same (item ∷ []) []
@@ -106,7 +106,7 @@ both false true true to from = absurd (let clash : false ≡ true = from refl re
 both false true false to from = refl
 both false false c to from = refl
 
--- a name that is split is a pod's where both parts are
+-- a name that is split is a pod's if both parts are
 pub split_as : (name front digits stem : List ℕ) (i : ℕ) → i < 2 ^ 32 → IsSplit name front digits
     → bytes_eq (pod_name stem i) name ≡ (bytes_eq front stem && bytes_eq digits (decimal i))
 split_as name front digits stem i small cut =
@@ -133,7 +133,7 @@ pub picked : (digits : List ℕ) (claim : Bor (List ℕ) × Bor Object) (b : Boo
 picked digits claim true = one_if (bytes_eq claim.0.now digits) claim.1.now
 picked digits claim false = refl
 
--- one more claim is passed on to those under its digits
+-- one more claim is added to those under its digits
 pub all_more : (digits : List ℕ) (claims : List (Bor (List ℕ) × Bor Object)) (i : ℕ) (claim : Bor (List ℕ) × Bor Object)
     (start : List Object) (before after : List (Bor (List ℕ) × Bor Object))
     → i < length claims → claim ≡ get_or claims i claim → after ≡ before ++ cond (bytes_eq claim.0.now digits) (claim ∷ []) []

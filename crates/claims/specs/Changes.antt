@@ -1,4 +1,5 @@
--- The changes of claims that a plan makes (Kubernetes, "StatefulSets": "Stable Storage", "PersistentVolumeClaim retention").
+-- The changes of claims that a plan makes (Kubernetes, "StatefulSets": "Stable Storage", "PersistentVolumeClaim
+-- retention").
 use Rattle.std.specs.Prelude.{ℕ, nat_le, List, [], ◌∷◌, length, take, Option, Some, None, option_and_then, Result, if◌then◌else◌}
 use Rattle.std.specs.List.{filter_map}
 use Rattle.serde_json.specs.Data.{Data, Items}
@@ -19,7 +20,7 @@ use Rattle.claims.specs.declared.change.ClaimChange.TheVariants.{Create, Update}
 use Rattle.claims.specs.declared.owner.Owner.{Owner}
 use Rattle.claims.specs.Owners.{are_wanted, owner_in_range, owner_of_condemned, wanted_entries}
 
--- no entries are left out
+-- entries are left out if there are none
 abbrev pub items_if_any : List Data → Option Items
 items_if_any [] = None
 items_if_any (d ∷ ds) = Some (items_of (d ∷ ds))
@@ -31,7 +32,7 @@ with_owner_entries claim entries = record { key = claim.key; meta = claim.meta; 
 abbrev pub entries_of : Object → List Data
 entries_of claim = list_of (owners_of claim.body)
 
--- a claim of that pod that is there, where it is to have other entries than it has
+-- a claim of that pod that is there, if it is to have other entries than it has
 abbrev pub update : SetParts → List ℕ → Option Owner → Object → Option ClaimChange
 update set pod owner claim =
     if are_wanted set pod owner (entries_of claim) then None else Some (Update (with_owner_entries claim (wanted_entries set pod owner (entries_of claim))))
@@ -48,8 +49,8 @@ create_or_update set i c (Some claim) = update set (pod_name set.object.key.name
 abbrev pub all_creates_and_updates : SetParts → (List ℕ → Option Object) → ℕ → List Claim → List ClaimChange
 all_creates_and_updates set listed i claims = filter_map (λ c. create_or_update set i c (listed (claim_name c.0 set.object.key.name i))) claims
 
--- For a pod that is created: the creates of its missing claims, and the updates of the others, in the order of the templates.
--- `listed` gives the claim of a name. The pod's own name has at most 63 bytes.
+-- For a pod that is created: the creates of its missing claims, and the updates of the others, in the order of the
+-- templates. `listed` gives the claim of a name. The pod's own name has at most 63 bytes.
 abbrev pub make_claims : SetParts → (List ℕ → Option Object) → ℕ → Result (List ClaimChange) PlanError
 make_claims set listed i = guarded NameTooLong (nat_le (length (pod_name set.object.key.name i)) most_label) (all_creates_and_updates set listed i set.claims)
 

@@ -1,5 +1,5 @@
--- The owners that a claim is to have (Kubernetes, "StatefulSets": "PersistentVolumeClaim retention"): by its owner references
--- a claim goes with the set, with a pod that was scaled away, or is retained.
+-- The owners that a claim is to have (Kubernetes, "StatefulSets": "PersistentVolumeClaim retention"): by its owner
+-- references a claim is deleted with the set, or with a pod that was scaled away, or is retained.
 use Rattle.std.specs.Prelude.{ℕ, ◌^◌, nat_lt, Bool, true, not, ◌&&◌, ◌||◌, List, [], ◌∷◌, ◌++◌, filter, codes, Option, Some, None, if◌then◌else◌}
 use Rattle.std.specs.List.{list_all, list_any}
 use Rattle.serde_json.specs.Data.{Data, string, object, no_members, member}
@@ -16,7 +16,7 @@ abbrev pub unless_retained : Retention → Option Owner → Option Owner → Opt
 unless_retained Retain retained deleted = retained
 unless_retained Delete retained deleted = deleted
 
--- the claim of a pod in range goes with the set
+-- the claim of a pod in range is deleted with the set
 abbrev pub owner_in_range : SetParts → Option Owner
 owner_in_range set = unless_retained set.when_deleted None (Some owners.Set)
 
@@ -24,7 +24,7 @@ owner_in_range set = unless_retained set.when_deleted None (Some owners.Set)
 abbrev pub known_uid : ℕ → List ℕ
 known_uid n = uid_text (if nat_lt n (2 ^ 48) then n else 0)
 
--- that of a condemned pod with this UID goes with the pod, or else as if the pod were in range
+-- that of a condemned pod with this UID is deleted with the pod, or else treated as if the pod were in range
 abbrev pub owner_of_condemned : SetParts → ℕ → Option Owner
 owner_of_condemned set uid = unless_retained set.when_scaled (owner_in_range set) (Some (owners.Pod (known_uid uid)))
 
@@ -59,7 +59,7 @@ abbrev pub reference_to : SetParts → List ℕ → Owner → Data
 reference_to set pod owners.Set = reference (codes "apps/v1") (codes "StatefulSet") set.object.key.name (uid_text set.object.meta.uid)
 reference_to set pod (owners.Pod uid) = reference (codes "v1") (codes "Pod") pod uid
 
--- with a new entry at the end, where none has the owner's UID
+-- with a new entry at the end, if none has the owner's UID
 abbrev pub with_owner : SetParts → List ℕ → Option Owner → List Data → List Data
 with_owner set pod None entries = entries
 with_owner set pod (Some owner) entries = if list_any (is_of set owner) entries then entries else entries ++ reference_to set pod owner ∷ []

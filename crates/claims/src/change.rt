@@ -54,7 +54,7 @@ fn with_owner_entries(
     Ok(object)
 }
 
-/// The update of a claim of that pod, where it is to have other entries than it has.
+/// The update of a claim of that pod, if it is to have other entries than it has.
 fn update(
     alloc: Global,
     set: &Set,
@@ -95,7 +95,7 @@ fn create(
     Ok(ClaimChange::Create(claim))
 }
 
-/// What the claim of a template comes to for the pod of that ordinal and name, if it is created.
+/// What is done to the claim of a template for the pod of that ordinal and name, when that pod is created.
 fn create_or_update(
     alloc: Global,
     set: &Set,
@@ -218,11 +218,11 @@ fn updates(
 
 /// The changes of the claims of a pod of the set that is then created, in the order of the set's claim templates: the
 /// creates of those that are missing, and the updates of those that are there and are to have other owners (Kubernetes,
-/// "StatefulSets": "Stable Storage", "PersistentVolumeClaim retention"). Under `whenDeleted` Delete the set is an owner, and
-/// else it is none. No pod of that name is an owner. All other owners stay. Of more changes than `most` only the first so
-/// many are made.
+/// "StatefulSets": "Stable Storage", "PersistentVolumeClaim retention"). Under `whenDeleted` Delete the set is an
+/// owner, and else it is none. No pod of that name is an owner. All other owners stay. If there are more than `most`
+/// changes, only the first `most` are made.
 ///
-/// It is NameTooLong where the pod's own name has more than 63 bytes, as `pod_of` is.
+/// It is NameTooLong if the pod's own name has more than 63 bytes, as `pod_of` is.
 pub fn make_claims(
     alloc: Global,
     set: &Set,
@@ -241,8 +241,8 @@ pub fn make_claims(
     Ok(changes)
 }
 
-/// The updates of the claims of a healthy pod, which are to have the same owners as those of a pod that is created. The list
-/// is for this set. No template is looked up of which the pod has no claim.
+/// The updates of the claims of a healthy pod, which are to have the same owners as those of a pod that is created. The
+/// list is for this set. No template is looked up of which the pod has no claim.
 pub fn keep_claims(
     alloc: Global,
     set: &Set,
@@ -257,9 +257,9 @@ pub fn keep_claims(
     Ok(changes)
 }
 
-/// The updates of the claims of a condemned pod with that UID, 0 where none was read, which is then deleted. Under
-/// `whenScaled` Delete the pod is an owner and the set is none, so that the claims go with the pod. Under Retain they are to
-/// have the owners of a pod in range. The list is for this set.
+/// The updates of the claims of a condemned pod with that UID, 0 if none was read, which is then deleted. Under
+/// `whenScaled` Delete the pod is an owner and the set is none, so that the claims are deleted with the pod. Under
+/// Retain they are to have the owners of a pod in range. The list is for this set.
 pub fn release_claims(
     alloc: Global,
     set: &Set,

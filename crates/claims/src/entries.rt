@@ -144,7 +144,7 @@ fn staying_entries(
     Ok(kept)
 }
 
-/// The entries, with one of the owner at the end where none has its UID.
+/// The entries, with one of the owner at the end if none has its UID.
 fn with_owner(
     alloc: Global,
     set: &Set,

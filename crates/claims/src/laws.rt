@@ -13,8 +13,8 @@ use crate::change::ClaimChange;
 use set_views::Retention;
 
 /// An update leaves a claim its key, its meta and all of its body outside `metadata`, of which it sets
-/// `ownerReferences` alone. There it drops and adds entries of the set, of its pod and of the owner that retention gives
-/// the claim, and leaves all others as they stood, in their order.
+/// `ownerReferences` alone. There it drops and adds entries of the set, of its pod and of the owner that retention
+/// gives the claim, and leaves all others unchanged, in their order.
 pub fn only_owners_of_the_set_and_its_pod_change()
     ensures key { (set : SetParts) (pod : List ℕ) (owner : Option Owner) (claim changed : Object)
         → update set pod owner claim ≡ Some (ClaimChange.Update changed) → changed.key ≡ claim.key }
@@ -27,8 +27,8 @@ pub fn only_owners_of_the_set_and_its_pod_change()
         → filter (is_stranger set pod owner) (wanted_entries set pod owner entries) ≡ filter (is_stranger set pod owner) entries }
 {}
 
-/// Under Retain no owner of a claim is the set or a pod with the name of the claim's pod: under `whenDeleted` Retain while
-/// the pod is in range, and under `whenScaled` Retain too once it is condemned.
+/// Under Retain no owner of a claim is the set or a pod with the name of the claim's pod: under `whenDeleted` Retain
+/// while the pod is in range, and under `whenScaled` Retain too once it is condemned.
 pub fn retained_claims_have_no_such_owner()
     ensures in_range { (set : SetParts) (pod : List ℕ) (entries : List Data) → set.when_deleted ≡ Retention.Retain
         → list_any (λ entry. is_of_set set entry || is_of_pod pod entry) (wanted_entries set pod (owner_in_range set) entries) ≡ false }
@@ -37,7 +37,7 @@ pub fn retained_claims_have_no_such_owner()
         → list_any (λ entry. is_of_set set entry || is_of_pod pod entry) (wanted_entries set pod (owner_of_condemned set uid) entries) ≡ false }
 {}
 
-/// A claim is updated exactly where its entries differ from those that it is to have.
+/// A claim is updated exactly if its entries differ from those that it is to have.
 pub fn claims_as_wanted_are_left()
     ensures same { (set : SetParts) (pod : List ℕ) (owner : Option Owner) (entries : List Data)
         → are_wanted set pod owner entries ≡ true → wanted_entries set pod owner entries ≡ entries }

@@ -1,5 +1,5 @@
-//! The PersistentVolumeClaims of a StatefulSet's pods: which of them a plan creates, and which owners it gives to those that
-//! are there.
+//! The PersistentVolumeClaims of a StatefulSet's pods: which of them a plan creates, and which owners it gives to those
+//! that are there.
 #![tactic(auto)]
 
 mod change;

@@ -58,8 +58,9 @@ fn by_name<'a>(
 }
 
 impl<'a> ListedClaims<'a> {
-    /// The claims among these objects, for the plan of this set. Objects of other kinds and namespaces are passed over; of
-    /// several claims with one name the first counts.
+    /// The claims among these objects, for the plan of this set. Objects of other kinds and namespaces are ignored; of
+    /// several claims with one name the first counts. The claims of each pod of the set are found too, in the order of
+    /// the set's claim templates.
     pub fn of(
         alloc: Global,
         set: &Set,

@@ -7,12 +7,12 @@ use objects::{Memory, Text, uid_text};
 use set_views::{Retention, Set};
 use std::alloc::Global;
 
-/// With whom a claim goes.
+/// What a claim is deleted with.
 #[derive(Drop)]
 pub(crate) enum Owner {
     /// With the set.
     Set,
-    /// With the pod of this UID, an empty text where none was read.
+    /// With the pod of this UID, an empty text if none was read.
     Pod(Text),
 }
 

@@ -1,7 +1,7 @@
 // The listed claims of each pod of a set.
 //
-// A claim is called TEMPLATE-SET-ORDINAL. No decimal has a `-`, so a name that is split at its last `-` has the digits of an
-// ordinal after it, and before it what it shares with all claims of its template.
+// A claim is called TEMPLATE-SET-ORDINAL. No decimal has a `-`, so a name that is split at its last `-` has the digits
+// of an ordinal after it, and before it what it shares with all claims of its template.
 ghost use Rattle.std.specs.Prelude.{◌≡◌, ◌++◌, ◌∷◌, [], ℕ, ◌<◌, ◌^◌, List, bytes_eq, codes, decimal, string_bytes, if◌then◌else◌, IfOk, OnOk};
 ghost use Rattle.std.specs.List.{cons_option};
 ghost use Rattle.objects.specs.PodNames.{pod_name};
@@ -14,7 +14,7 @@ use set_views::Set;
 use std::alloc::{AllocError, Global};
 use std::collections::BTreeMap;
 
-/// A claim after what its name has behind the last `-`: the digits of an ordinal, if it is a pod's.
+/// A claim, preceded by what its name has after the last `-`: the digits of an ordinal, if it is a pod's.
 pub(crate) type Numbered<'a> = (&'a str, &'a Object);
 
 /// Claims under texts.

@@ -19,7 +19,7 @@ use Rattle.cluster_runs.specs.Ran.{owner_in}
 use Rattle.cluster_runs.specs.declared.callers.Callers.{Callers}
 use Rattle.cluster_runs.proofs.Lowest.{as_many, lowest_is}
 
--- ---- what the owners say of the callers
+-- ---- the owners and the callers
 
 module _ (count : ℕ) (k : Cluster) (callers : Callers) (are : AreCallers count k callers) where
   pub unused_lowest : (n : ℕ) → get nat_cmp callers.owners n ≡ None → is_used k n ≡ false
@@ -53,7 +53,7 @@ module _ (count : ℕ) (k : Cluster) (callers : Callers) (are : AreCallers count
       by (atmost le e) = used_by m (others m le low)
       by (above lt e) = are.below m lt
 
-  -- where each of the lowest callers was used, there are as many
+  -- if each of the lowest callers was used, there are as many
   pub all_used : ((m : ℕ) → callers.unused ≤ m → m < 4096 → is_some (get nat_cmp callers.owners m) ≡ true) → 4096 < suc (length k.used)
   all_used others = let many = as_many 4096 k.used (used_below 4096 others) in omega (arith, many)
 
@@ -142,7 +142,7 @@ renewed count k c n old new are there fresh lowest changed unused puts many few 
         by (other ne b) =
             ap (λ xs. get_or xs d 0) changed ∙ get_or-set_other old.present.items c d n 0 ne ∙ are.present_is d low ∙ sym (ap (λ b. cond b n (k.callers d)) b)
 
-    -- whoever has an incarnation was used
+    -- a caller with an incarnation was used
     had : (d : ℕ) → d < count → k.callers d ≢ n
     had d low e = none-some d (sym (ap (option_map (λ (l : Incarnation). l.controller)) (ap k.incarnations e ∙ are.unborn n fresh)) ∙ are.own d low)
 

@@ -18,11 +18,11 @@ module _ (c : Reconciler) (n : ℕ) (phase : Phase) (items : List Item) (asked :
   abbrev AreCalls : List Placed → Type 0
   AreCalls xs = (x : Placed) → Has x xs → Has (item.Call x.0 n x.1.0) items
 
-  -- each answered call of the caller, from the place on
+  -- each answered call of the caller, from the index on
   abbrev HasAnswered : ℕ → List Placed → Type 0
   HasAnswered from xs = (at p : ℕ) (a : Reply) (answers : Answers items at p a) → answers.caller ≡ n → from ≤ p → Has (p, (answers.request, a)) xs
 
-  -- ---- who is answered
+  -- ---- callers that got their replies
   by_caller : (at p : ℕ) (r : Request) (a : Reply) (answers : Answers items at p a) → Has (item.Call p n r) items → answers.caller ≡ n
   by_caller at p r a answers called = ap caller_of (one_item items (item.Call p answers.caller answers.request) (item.Call p n r) history.rising answers.called called refl)
 
@@ -39,7 +39,7 @@ module _ (c : Reconciler) (n : ℕ) (phase : Phase) (items : List Item) (asked :
   reply_at : (at p : ℕ) (a : Reply) → HasReplied at p a → Has (item.Reply at n a) items
   reply_at at p a h = subst (λ m. Has (item.Reply at m a) items) h.by h.answers.replied
 
-  -- no reply is at a call's place
+  -- no reply is at a call's index
   not_there : (p x : ℕ) (r : Request) (b : Reply) → Has (item.Call p n r) items → Has (item.Reply x n b) items → p ≡ x → ⊥
   not_there p x r b called there is = let one : item.Call p n r ≡ item.Reply x n b = one_item items (item.Call p n r) (item.Reply x n b) history.rising called there is in absurd cc
 

@@ -1,4 +1,4 @@
--- Turn by turn: where each comes, and by which kubelet.
+-- Turn by turn: which cluster each leads to, and with which kubelet.
 use Rattle.std.proofs.Common.{◌≡◌, ◌<◌, ◌≤◌, ◌+◌, ◌++◌, ◌∷◌, [], ℕ, Bool, List, length, drop, Option, None, refl, sym, ap, ◌∙◌, subst, append_assoc, get_or}
 use Rattle.std.proofs.lemmas.List.{append-nil, drop_all}
 use Rattle.requests.specs.declared.reply.Reply.{Reply}
@@ -25,7 +25,7 @@ not_many : OutOfMemory ≡ TooManyCallers → ⊥
 not_many many = cc
 
 module _ {X : Type 0} (reconciler : X → Reconciler) (phase : X → Phase) (is_waiting : X → Bool) (namespaces : List (List ℕ)) (turns : List Turn) where
-  -- some first turns have been gone, and have come so far
+  -- some first turns are done, and led to this
   pub record HasGone (z : Size) (count : ℕ) (reconcilers : ℕ → Reconciler) (k : Cluster) (i : ℕ) (kubelet : Option ℕ) (ends : List ℕ) (program : Program) (xs : List X) : Type 0 where
     pub come : HasCome (IsShownAs reconciler phase is_waiting program xs) z count reconcilers k (course_of_all None namespaces turns) (course_of_all kubelet namespaces (drop i turns))
     pub ends_are : ends_from None namespaces turns z count reconcilers k ≡ ends ++ ends_from kubelet namespaces (drop i turns) z count reconcilers (run z count reconcilers k come.done)
@@ -41,11 +41,11 @@ module _ {X : Type 0} (reconciler : X → Reconciler) (phase : X → Phase) (is_
       → Leads reconciler phase is_waiting (course_of_all None namespaces turns) (course_of_all kubelet namespaces (drop i turns)) old new before now
   gone_leads i kubelet ends old new before now gone z reconcilers k shows = (gone z reconcilers k shows).come
 
-  -- the kubelet as a turn goes
+  -- the kubelet after a turn
   abbrev pub IsKubelet : (before now : Option ℕ) → Turn → Program → List X → Type 0
   IsKubelet before now t program xs = (z : Size) (reconcilers : ℕ → Reconciler) (k : Cluster) → Shows reconciler phase is_waiting z reconcilers k program xs → kubelet_at before k t ≡ now
 
-  -- a turn and the ones behind it
+  -- a turn and the ones after it
   abbrev one_then : Option ℕ → Turn → List Turn → Course
   one_then now t ts = followed_by (course_of now namespaces t) (λ delivered. course_of_all now namespaces ts)
 
@@ -105,7 +105,7 @@ module _ {X : Type 0} (reconciler : X → Reconciler) (phase : X → Phase) (is_
               ∙ ap (λ w. (ends ++ e ∷ []) ++ ends_from now namespaces rest z n reconcilers w) (sym both);
         }
 
-  -- no memory for where a turn came
+  -- no memory to note how many events there are after a turn
   pub gone_stays : (i : ℕ) (kubelet : Option ℕ) (ends : List ℕ) (old new : Program) (before now : List X) → length now ≡ length before → Gone i kubelet ends old new before now
       → Halts reconciler phase is_waiting OutOfMemory (course_of_all None namespaces turns) old before now
   gone_stays i kubelet ends old new before now same gone =

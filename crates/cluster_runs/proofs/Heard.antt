@@ -1,4 +1,4 @@
--- What a caller has called and heard, and where the replies have taken the controller that asks as this caller.
+-- What a caller has called and which replies it got, and the phase that these give the controller whose caller it is.
 use Rattle.std.proofs.Common.{◌≡◌, ◌≢◌, ◌<◌, ◌≤◌, ◌==◌, inl, inr, ℕ, Bool, true, cond, List, [], ◌∷◌, ◌++◌, refl, sym, ap, subst, ◌∙◌, ne_eqb, arith}
 use Rattle.std.specs.Prelude.{nat_lt, ⊤}
 use Rattle.std.proofs.lemmas.Bool.{le-ltb, lt-ltb}
@@ -12,19 +12,19 @@ use Rattle.interleavings.proofs.Histories.{caller_of}
 use Rattle.rounds.specs.Phase.{Phase, asks, reading_set, takes}
 use Rattle.rounds.specs.Reconciler.{Reconciler}
 
--- where all replies to the caller take the controller
+-- the phase of the controller after all replies to the caller
 abbrev pub heard : Reconciler → ℕ → Phase → List Item → Phase
 heard c n phase [] = phase
 heard c n phase (item.Call x m r ∷ items) = heard c n phase items
 heard c n phase (item.Reply x m a ∷ items) = heard c n (cond (m == n) (takes c phase a) phase) items
 
--- the caller calls what the controller asks where the replies before have taken it
+-- the caller calls what the controller sends after the replies so far
 abbrev pub HasAsked : Reconciler → ℕ → Phase → List Item → Type 0
 HasAsked c n phase [] = ⊤
 HasAsked c n phase (item.Call x m r ∷ items) = (m ≡ n → r ≡ asks c phase) × HasAsked c n phase items
 HasAsked c n phase (item.Reply x m a ∷ items) = HasAsked c n (cond (m == n) (takes c phase a) phase) items
 
--- what the controller asks next
+-- what the controller sends next
 abbrev pub next_asked : Reconciler → ℕ → List Item → Request
 next_asked c n items = asks c (heard c n reading_set items)
 
@@ -65,7 +65,7 @@ asked_nothing c n phase [] none = tt
 asked_nothing c n phase (item.Call x m r ∷ items) none = (λ e. absurd (none (item.Call x m r) (inl refl) e), asked_nothing c n phase items (λ i at. none i (inr at)))
 asked_nothing c n phase (item.Reply x m a ∷ items) none = asked_nothing c n (cond (m == n) (takes c phase a) phase) items (λ i at. none i (inr at))
 
--- ---- what was heard before a place
+-- ---- the replies before an index
 
 abbrev taken_if : Reconciler → (mine early : Bool) → Phase → Reply → Phase
 taken_if c mine early phase a = cond mine (cond early (takes c phase a) phase) phase
@@ -87,7 +87,7 @@ heard_later c n t phase (item.Reply x m a ∷ items) late = ap (λ p. heard_befo
         ∙ ap (λ early. taken_if c true early phase a) (le-ltb x t (late x a (inl (ap (λ k. item.Reply x k a) (sym e)))))
     passed (other ne b) = ap (λ mine. taken_if c mine (nat_lt x t) phase a) b
 
--- what the caller called at the place is what the controller asks after what was heard before
+-- what the caller called at the index is what the controller sends after the replies before
 pub asked_at : (c : Reconciler) (n : ℕ) (phase : Phase) (items : List Item) (p : ℕ) (r : Request) → HasAsked c n phase items → AreRising items
     → Has (item.Call p n r) items → r ≡ asks c (heard_before c n p phase items)
 asked_at c n phase [] p r asked rising at = absurd at
@@ -102,7 +102,7 @@ asked_at c n phase (item.Reply x m a ∷ items) p r asked rising (inr at) =
     subst (λ early. r ≡ asks c (heard_before c n p (taken_if c (m == n) early phase a) items)) (sym (lt-ltb x p (rising.0 (item.Call p n r) at)))
     (asked_at c n (cond (m == n) (takes c phase a) phase) items p r asked rising.1 at)
 
--- from one place to a later one, with one reply between them
+-- from one index to a later one, with one reply between them
 pub heard_once : (c : Reconciler) (n : ℕ) (phase : Phase) (items : List Item) (p at q : ℕ) (a : Reply) → AreRising items → p ≤ at → at < q
     → Has (item.Reply at n a) items
     → ((x : ℕ) (b : Reply) → Has (item.Reply x n b) items → x < at → x < p)

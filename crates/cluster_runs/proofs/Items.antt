@@ -1,4 +1,4 @@
--- What stands in a trace, and at which place.
+-- What a trace has, and at which index.
 use Rattle.std.proofs.Common.{◌≡◌, ◌==◌, inl, inr, ℕ, Bool, true, cond, List, [], ◌∷◌, Option, Some, sym, ap, ◌∙◌, ne_eqb, arith}
 use Rattle.requests.specs.declared.request.Request.{Request}
 use Rattle.interleavings.specs.declared.trace.Item.{Item}

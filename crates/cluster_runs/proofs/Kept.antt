@@ -1,5 +1,6 @@
--- What is kept where controllers ask as callers: each caller with an incarnation has asked what its controller was to ask, each controller stands
--- where its caller's replies have taken it, no two callers have one incarnation, and a caller that was not used has done nothing.
+-- What holds while controllers send requests as callers: each caller with an incarnation has sent what its controller
+-- was to send, each controller's phase is that after its caller's replies, no two callers have one incarnation, and a
+-- caller that was not used has done nothing.
 use Rattle.std.proofs.Common.{◌≡◌, ◌≢◌, ◌≤◌, ◌<◌, ◌==◌, ◌+◌, inl, inr, ℕ, Bool, true, false, cond, List, [], ◌∷◌, ◌++◌, Option, Some, refl, sym, ap, subst, ◌∙◌, true≢false, ne_eqb, arith}
 use Rattle.std.specs.Prelude.{◌||◌}
 use Rattle.std.specs.List.{list_any}

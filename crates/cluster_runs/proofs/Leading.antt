@@ -33,7 +33,7 @@ module _ {X : Type 0} (reconciler : X → Reconciler) (phase : X → Phase) (is_
   pub self_leads : (a : Course) (old : Program) (before : List X) → Leads reconciler phase is_waiting a a old old before before
   self_leads a old before z reconcilers k shows = record { done = []; whole_is = refl; delivered_is = refl; holds = shows }
 
-  -- on, over the cluster that it has come to
+  -- onward, over the cluster that it led to
   pub come_on : (claim : Claim) (z : Size) (n : ℕ) (reconcilers : ℕ → Reconciler) (k : Cluster) (a b c : Course) (mid : Program) (between : List X) → length between ≡ n
       → HasCome (IsShownAs reconciler phase is_waiting mid between) z n reconcilers k a b → Comes reconciler phase is_waiting claim b c mid between → HasCome claim z n reconcilers k a c
   come_on claim z n reconcilers k a b c mid between same one comes =
@@ -133,7 +133,7 @@ module _ {X : Type 0} (reconciler : X → Reconciler) (phase : X → Phase) (is_
     },
   )
 
-  -- a fault that no shown cluster comes to
+  -- a fault that no shown cluster leads to
   pub never_halts : (fault : ClusterFault) (a : Course) (old : Program) (before now : List X)
       → ((z : Size) (reconcilers : ℕ → Reconciler) (k : Cluster) → Shows reconciler phase is_waiting z reconcilers k old before → ⊥) → Halts reconciler phase is_waiting fault a old before now
   never_halts fault a old before now none = (a, λ z reconcilers k shows. absurd (none z reconcilers k shows))
@@ -197,7 +197,7 @@ module _ {X : Type 0} (reconciler : X → Reconciler) (phase : X → Phase) (is_
     halts = subst (λ s. IfErr s (λ fault. Halts reconciler phase is_waiting fault a old before now)) (sym is) halts;
   }
 
-  -- a call that goes along a course, by another name of it
+  -- a call that follows a course, by another name of it
   pub goes_as : {T : Type 0} {b : Course} {left : T → Course} {old new : Program} {before now : List X} {r : Result T ClusterFault} (a : Course) → AreSame a b old before
       → GoesAlong reconciler phase is_waiting b left old new before now r → GoesAlong reconciler phase is_waiting a left old new before now r
   goes_as {T} {b} {left} {old} {new} {before} {now} {r} a same goes = record {
@@ -206,7 +206,7 @@ module _ {X : Type 0} (reconciler : X → Reconciler) (phase : X → Phase) (is_
     halts = IfErr-weaker r _ _ (λ fault. halts_as fault a b old before now same) goes.halts;
   }
 
-  -- a call that goes on along a course
+  -- a call that continues along a course
   pub goes_on : {T : Type 0} {b : Course} {left : T → Course} {old mid new : Program} {before between now : List X} {r : Result T ClusterFault} (a : Course)
       → length between ≡ length before → KeepsCallers old mid → Leads reconciler phase is_waiting a b old mid before between
       → GoesAlong reconciler phase is_waiting b left mid new between now r → GoesAlong reconciler phase is_waiting a left old new before now r
@@ -270,7 +270,7 @@ pub none_carried : (n : ℕ) → carried_in 0 n ≡ nothing
 unfolding carried_in
 none_carried n = refl
 
--- of a controller that is there, what its caller carries
+-- if the controller exists, the steps for its open request
 pub runs_carried : {X : Type 0} (reconciler : X → Reconciler) (phase : X → Phase) (is_waiting : X → Bool) (c n : ℕ) (old : Program) (before : List X) → c < length before
     → n ≡ get_or old.callers.present.items c n
     → (z : Size) (reconcilers : ℕ → Reconciler) (k : Cluster) → Shows reconciler phase is_waiting z reconcilers k old before

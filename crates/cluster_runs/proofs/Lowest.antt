@@ -35,7 +35,7 @@ lowest_is k n fresh below =
     high zero below = omega arith
     high (suc m) below = let less = below_greatest k.used m (below m (omega arith)) in omega arith
 
--- where each of the lowest numbers is in a list, it has as many
+-- if each of the lowest numbers is in a list, it has at least as many
 pub as_many : (n : ℕ) (used : List ℕ) → ((m : ℕ) → m < n → list_any (λ l. l == m) used ≡ true) → n ≤ length used
 as_many n used there =
     let many = length-range_with_len 0 n in

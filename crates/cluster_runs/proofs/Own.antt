@@ -1,4 +1,5 @@
--- What some of the callers have in an order: the places of their calls, with the requests and the plain store's replies.
+-- What some of the callers have in an order: the indices of their calls, with the requests and the plain store's
+-- replies.
 use Rattle.std.proofs.Common.{◌≡◌, ◌<◌, ◌⊎◌, inl, inr, ℕ, Bool, true, false, cond, List, [], ◌∷◌, Option, Some, None, zip, refl, sym, ap, subst, ◌∙◌, arith}
 use Rattle.std.specs.Prelude.{⊤}
 use Rattle.requests.specs.declared.request.Request.{Request}
@@ -14,7 +15,7 @@ use Rattle.rounds.specs.Transcript.{Exchange, Incarnation, exchanges_of, is_by, 
 use Rattle.cluster_runs.specs.Ordered.{called_at, entries_of, then_entries}
 use Rattle.cluster_runs.proofs.Items.{called_has, called_there}
 
--- the place, the request and the reply
+-- the index, the request and the reply
 abbrev pub Placed : Type 0
 Placed = ℕ × Exchange
 
@@ -26,7 +27,7 @@ abbrev pub AreUpward : List Placed → Type 0
 AreUpward [] = ⊤
 AreUpward (x ∷ xs) = ((y : Placed) → Has y xs → x.0 < y.0) × AreUpward xs
 
--- ---- what the store takes in the order is a run
+-- ---- what the store handles in the order is a run
 
 pub entries_run : (incarnations : ℕ → Option Incarnation) (items : List Item) (s : Store) (ps : List ℕ)
     → exchanges_of (entries_of incarnations items s ps) ≡ exchanges s (requests_of (entries_of incarnations items s ps))
@@ -78,7 +79,7 @@ module _ (mine : ℕ → Bool) (items : List Item) where
       go None found rest h = own_later p ps x (rest s h)
       go (Some call) found rest h = first call (mine call.0) refl found (rest (step s call.1).0) h
 
-  -- ---- what the order's store replies stands in the list
+  -- ---- what the order's store replies is in the list
   has_if : (b : Bool) (x y : Placed) (xs : List Placed) → Has x xs → Has x (cond b (y ∷ xs) xs)
   has_if true x y xs at = inr at
   has_if false x y xs at = at

@@ -26,7 +26,7 @@ drop_at xs i x low is = rw add-one (drop-cons xs i x low ∙ ap (λ y. y ∷ dro
 
 module _ {X : Type 0} (reconciler : X → Reconciler) (phase : X → Phase) (is_waiting : X → Bool) {A : Type 0} (each : List A → Course) (one : A → Course)
     (none : each [] ≡ nothing) (some : (x : A) (xs : List A) → each (x ∷ xs) ≡ followed_by (one x) (λ delivered. each xs)) (whole : Course) (xs : List A) where
-  -- so many parts have been gone
+  -- so many parts are done
   abbrev pub Walked : ℕ → (old new : Program) → (before now : List X) → Type 0
   Walked i old new before now = Leads reconciler phase is_waiting whole (each (drop i xs)) old new before now
 
@@ -50,7 +50,7 @@ module _ {X : Type 0} (reconciler : X → Reconciler) (phase : X → Phase) (is_
   pub walked_all : (i : ℕ) (old new : Program) (before now : List X) → length xs ≤ i → Walked i old new before now → Leads reconciler phase is_waiting whole nothing old new before now
   walked_all i old new before now past walked = subst (λ c. Leads reconciler phase is_waiting whole c old new before now) (ap each (drop_all i xs past) ∙ none) walked
 
--- ---- asking on
+-- ---- sending more requests
 
 pub asked_on : (such : Request → Bool) (requests c : ℕ) → asked_while such (suc requests) c ≡ followed_by (asked c) (λ delivered. if_next such c (asked_while such requests c) nothing)
 unfolding asked_while
@@ -80,7 +80,7 @@ module _ {X : Type 0} (reconciler : X → Reconciler) (phase : X → Phase) (is_
       let is = ap (λ b. cond b (one z (length before) reconcilers k) (other z (length before) reconcilers k)) peek.0 in
       record { done = []; whole_is = ap (λ (o : List _ × Option Reply). o.0) is; delivered_is = ap (λ (o : List _ × Option Reply). o.1) is; holds = peek.1 }
 
-  -- of a controller that is there, and of one that is not
+  -- for a controller that exists, and for one that does not
   pub is_there : (c : ℕ) (course : Course) (old : Program) (before : List X) → c < length before
       → (z : Size) (reconcilers : ℕ → Reconciler) (k : Cluster) → Shows reconciler phase is_waiting z reconcilers k old before
       → if_there c course z (length before) reconcilers k ≡ course z (length before) reconcilers k

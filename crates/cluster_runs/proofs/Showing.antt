@@ -42,7 +42,7 @@ use Rattle.cluster_runs.proofs.Calling.{among_first, among_later, not_among}
 use Rattle.cluster_runs.proofs.Naming.{all_more, all_named, few_callers}
 use Rattle.cluster_runs.proofs.Standing.{goes_on, idle_stays, others_stay, delivered_was_busy}
 
--- ---- the events that were taken
+-- ---- the events that were handled
 
 step_more : (z : Size) (events : List Event) (e : Event) (n : ℕ) → (after z opening (events ++ e ∷ [])).phase n ≡ (step z (after z opening events) e).phase n
 step_more z events e n = ap (λ (w : World). w.phase n) (after_more z events opening e)
@@ -119,7 +119,7 @@ gone_absent z count k n program some is = by (controller_at k n) some (is_used k
     by (Some c) some true = is
     by (Some c) some false = is
 
--- ---- somebody else's call
+-- ---- another client's call
 
 module _ (z : Size) (count : ℕ) (k : Cluster) (n : ℕ) (r : Request) where
   used_events : (items : List Event) (replay : Replay) (b : Bool) → HoldsEvents z k.events k.used items replay
@@ -331,7 +331,7 @@ module _ {X : Type 0} (reconciler : X → Reconciler) (phase : X → Phase) (is_
             (λ free. others_stay z (after z opening k.events) call (k.callers d) (λ f. apart_by (length xs) k old shows.0.1 c d low less apart (sym (same_Some _ _ f))) ∙ free) stands) shows.1,
       )
 
-  -- a controller that says what it asks next, and calls nothing
+  -- a controller that shows what it sends next, and calls nothing
   pub peeked_shows : (z : Size) (reconcilers : ℕ → Reconciler) (k : Cluster) (program : Program) (xs : List X) (c : ℕ) (x y : X) → slice_get xs c ≡ Some x
       → reconciler y ≡ reconciler x → phase y ≡ phase x → is_waiting y ≡ true → Shown z reconcilers k program xs → Shown z reconcilers k program (slice_set xs c y)
   peeked_shows z reconcilers k program xs c x y there kept stays waits shows =
@@ -407,9 +407,9 @@ module _ {X : Type 0} (reconciler : X → Reconciler) (phase : X → Phase) (is_
             shows.1,
       )
 
-  -- ---- somebody else
+  -- ---- another client
 
-  -- nobody is the owner of a caller that no incarnation has
+  -- a caller without an incarnation has no owner
   pub outside_shows : (z : Size) (reconcilers : ℕ → Reconciler) (k : Cluster) (old new : Program) (xs : List X) (n : ℕ) (r : Request) → Shown z reconcilers k old xs
       → IsCluster z (length xs) (with_outside k n r (k.incarnations n)) new → Shown z reconcilers (with_outside k n r (k.incarnations n)) new xs
   outside_shows z reconcilers k old new xs n r shows is = (is, by (k.incarnations n) refl)
@@ -448,14 +448,14 @@ module _ {X : Type 0} (reconciler : X → Reconciler) (phase : X → Phase) (is_
   goes_shows e when old new xs on means becomes =
       step_shows e when old new xs means (λ z count k are is c low idle. idle_stays z (after z opening k.events) e (k.callers c) on idle) becomes
 
-  -- the same where a call went well
+  -- the same if a call succeeded
   pub went_shows : {D E : Type 0} (r : Result D E) (e f : Event) (when : Cluster → Bool) (old new : Program) (xs : List X) → f ≡ e → goes_on e ≡ true
       → ((z : Size) (reconcilers : ℕ → Reconciler) (k : Cluster) → with_step z reconcilers k e ≡ hand_if (when k) k e)
       → OnOk r (Becomes (λ k. hand_if (when k) k e) old new) → OnOk r (Happens reconciler phase is_waiting (Step f) old new xs xs)
   went_shows r e f when old new xs is on means went =
       on_ok_by _ _ r (λ becomes. subst (λ i. Happens reconciler phase is_waiting (Step i) old new xs xs) (sym is) (goes_shows e when old new xs on means becomes)) went
 
-  -- all that is said of that call
+  -- all that is known of that call
   pub went_applies : {D : Type 0} (r : Result D ClusterFault) (e f : Event) (when : Cluster → Bool) (old new : Program) (xs : List X) → f ≡ e → goes_on e ≡ true
       → ((z : Size) (reconcilers : ℕ → Reconciler) (k : Cluster) → with_step z reconcilers k e ≡ hand_if (when k) k e)
       → new.callers ≡ old.callers → OnOk r (Follows new) → OnOk r (Becomes (λ k. hand_if (when k) k e) old new)
@@ -554,7 +554,7 @@ module _ {X : Type 0} (reconciler : X → Reconciler) (phase : X → Phase) (is_
       ∙ ap (λ o. hand (hears reconcilers k o reply) (event.Reply n)) (sym at)))
       (heard_shows z reconcilers k old new xs ys n who reply (sym at) used answer hands heard shows)
 
-  -- ---- the beginning
+  -- ---- the start
 
   fresh_by : (xs : List X) (rs : ℕ → Reconciler) (i n : ℕ) (z : Size) → AllByRecursion (λ x. phase x ≡ reading_set) xs → IfSome (slice_get xs i) (λ x. reconciler x ≡ rs i)
       → IfSome (slice_get xs i) (Stands reconciler phase is_waiting z [] (rs i) reading_set n)

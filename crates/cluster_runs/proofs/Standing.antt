@@ -1,4 +1,4 @@
--- Where a caller stands after an event: of another caller, of one that goes on, and of one that is replied to.
+-- A caller's phase after an event: of another caller, of one that moves, and of one that gets its reply.
 use Rattle.std.proofs.Common.{◌≡◌, ◌≢◌, ◌⊎◌, inl, inr, ℕ, Bool, true, false, List, [], ◌∷◌, ◌++◌, length, Option, Some, None, refl, sym, ap, ◌∙◌, arith, length-append}
 use Rattle.std.specs.Prelude.{nat_le, nat_lt}
 use Rattle.objects.specs.declared.key.Key.{Key}

@@ -167,7 +167,7 @@ module _ (z : Size) (reconcilers : ℕ → Reconciler) (count : ℕ) where
     stepped_kept (event.Crash n) =
         quiet_if (is_used k n && is_nobody (controller_at k n)) (event.Crash n) (crash_trace z w n (w.phase n))
 
-  -- ---- anybody else
+  -- ---- other clients
   outside_kept : (k : Cluster) → Keeps k → (n : ℕ) (r : Request) (incarnation : Option Incarnation) → k.incarnations n ≡ incarnation → Keeps (with_outside k n r incarnation)
   outside_kept k kept n r (Some incarnation) is = kept
   outside_kept k kept n r None is = go (is_used k n) refl
@@ -200,7 +200,7 @@ module _ (z : Size) (reconcilers : ℕ → Reconciler) (count : ℕ) where
   run_kept k kept [] = kept
   run_kept k kept (e ∷ es) = run_kept (happens z count reconcilers k e) (happens_kept k kept e) es
 
-  -- ---- the beginning
+  -- ---- the start
   record IsFirst (n : ℕ) (incarnation : Incarnation) : Type 0 where
     low : n < count
     incarnation_is : record { controller = n; crashes = 0 } ≡ incarnation

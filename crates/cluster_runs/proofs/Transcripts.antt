@@ -1,4 +1,4 @@
--- What one plain store takes in a legal order of a run is a transcript of the controllers.
+-- What one plain store handles in a legal order of a run is a transcript of the controllers.
 use Rattle.std.proofs.Common.{◌≡◌, ◌≤◌, ◌==◌, inl, ℕ, Bool, true, List, [], ◌∷◌, Option, Some, None, refl, sym, ap, subst, ◌∙◌, arith}
 use Rattle.std.proofs.lemmas.Bool.{and_parts}
 use Rattle.std.proofs.lemmas.Bool.Decides.{nat_tests}
@@ -18,7 +18,7 @@ use Rattle.cluster_runs.proofs.Follow.{follows_all}
 use Rattle.cluster_runs.proofs.Kept.{IsKept}
 use Rattle.cluster_runs.proofs.Own.{AreOrdered, AreUpward, IsOwn, Placed, entries_run, exchanges_in, own, own_called, own_has, own_incarnation, own_upward}
 
--- whoever has the incarnation is this caller
+-- the only caller with the incarnation is this one
 follows_by : (incarnation : Incarnation) (found : Option Incarnation) → is_by incarnation found ≡ true → found ≡ Some incarnation
 follows_by incarnation None is = absurd cc
 follows_by incarnation (Some found) is =

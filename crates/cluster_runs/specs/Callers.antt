@@ -1,4 +1,4 @@
--- What the program holds of the callers that were used.
+-- What the program keeps about the callers that were used.
 use Rattle.std.specs.Prelude.{◌≡◌, ◌==◌, ◌<◌, ◌≤◌, ℕ, false, true, List, length, Option, Some, None, slice_index, IfSome, if◌then◌else◌}
 use Rattle.std.specs.BTreeMap.{btree_map_len, get}
 use Rattle.std.specs.List.{list_any}
@@ -8,7 +8,7 @@ use Rattle.cluster_runs.specs.Cluster.{Cluster}
 use Rattle.cluster_runs.specs.declared.callers.Callers.{Callers}
 pub use Rattle.cluster_runs.specs.Ran.{owner}
 
--- Each controller's caller is its own, each owner is there, and a caller that was not used has no incarnation.
+-- Each controller's caller is its own, each owner exists, and a caller that was not used has no incarnation.
 pub record HoldsCallers (count : ℕ) (present : ℕ → ℕ) (used : List ℕ) (incarnations : ℕ → Option Incarnation) (callers : Callers) : Type 0 where
   pub count_is : length callers.present.items ≡ count
   pub present_is : (c : ℕ) → c < count → slice_index callers.present.items c ≡ present c

@@ -1,5 +1,5 @@
--- Controllers that ask the interleaved store, each as one of its callers, and anybody else beside them. A crash ends an incarnation:
--- the controller goes on as a caller that nobody used, and the one that it was is gone.
+-- Controllers that use the interleaved store, each as one of its callers, and other clients next to them. A crash ends
+-- an incarnation: the controller continues as a caller that was not used, and its former caller is gone.
 use Rattle.std.specs.Prelude.{ℕ, suc, max, Bool, true, false, not, ◌&&◌, ◌==◌, ◌+◌, nat_lt, List, [], ◌∷◌, ◌++◌, drop, length, Option, Some, None, unwrap_or, if◌then◌else◌}
 use Rattle.std.specs.List.{find, list_any, range_with_len}
 use Rattle.requests.specs.declared.request.Request.{Request}
@@ -17,13 +17,13 @@ use Rattle.cluster_runs.specs.declared.event.ClusterEvent.{ClusterEvent}
 use Rattle.cluster_runs.specs.declared.event.ClusterEvent.TheVariants.{Next, Outside, Step, Crash}
 
 pub record Cluster : Type 0 where
-  -- the events that were handed on to the store
+  -- the events that were passed to the store
   pub events : List Event
-  -- where each controller stands in its round, how often it crashed, and as which caller it asks
+  -- for each controller, its phase, how often it crashed, and its caller
   pub phases : ℕ → Phase
   pub crashes : ℕ → ℕ
   pub callers : ℕ → ℕ
-  -- the callers that were used, and whose incarnation each caller is or was; nobody's where somebody else asks
+  -- the callers that were used, and whose incarnation each caller is or was; none for another client
   pub used : List ℕ
   pub incarnations : ℕ → Option Incarnation
 
@@ -31,7 +31,7 @@ pub record Cluster : Type 0 where
 abbrev pub first_incarnation : ℕ → ℕ → Option Incarnation
 first_incarnation count n = if nat_lt n count then Some (record { controller = n; crashes = 0 }) else None
 
--- so many controllers that have read nothing, each a caller of its own number
+-- `count` controllers that have read nothing, each with the caller of its own number
 abbrev pub start : ℕ → Cluster
 start count = record { events = []; phases = λ c. reading_set; crashes = λ c. 0; callers = λ c. c; used = range_with_len 0 count; incarnations = first_incarnation count }
 
@@ -42,15 +42,15 @@ abbrev pub greatest : List ℕ → ℕ
 greatest [] = 0
 greatest (n ∷ ns) = max n (greatest ns)
 
--- the lowest caller that was not used; the one after the greatest was not
+-- the lowest caller that was not used; it is at most one above the greatest that was
 unfoldable pub lowest_unused : Cluster → ℕ
 lowest_unused k = unwrap_or (find (λ n. not (is_used k n)) (range_with_len 0 (suc (suc (greatest k.used))))) 0
 
--- the event is handed on to the store
+-- passes the event on to the store
 abbrev pub hand : Cluster → Event → Cluster
 hand k e = record k { events = k.events ++ e ∷ [] }
 
--- ---- Next: the controller calls what it asks next
+-- ---- Next: the controller calls its next request
 abbrev pub is_idle : callers.Phase → Bool
 is_idle callers.Idle = true
 is_idle phase = false
@@ -67,7 +67,7 @@ abbrev pub with_outside : Cluster → ℕ → Request → Option Incarnation →
 with_outside k n r None = hand (with_used k n) (event.Call n r)
 with_outside k n r (Some incarnation) = k
 
--- ---- Crash: the controller begins another incarnation, as a caller that nobody used
+-- ---- Crash: the controller begins another incarnation, as a caller that was not used
 abbrev pub incarnation_after : Cluster → ℕ → Incarnation
 incarnation_after k c = record { controller = c; crashes = k.crashes c + 1 }
 
@@ -81,8 +81,8 @@ with_crash k c = record {
   incarnations = put k.incarnations (lowest_unused k) (Some (incarnation_after k c));
 }
 
--- ---- Step: a caller that was used goes on, or the frontier does
--- the controller that asks as this caller now
+-- ---- Step: a caller that was used moves, or the frontier does
+-- the controller whose caller this now is
 abbrev pub controller_by : Cluster → ℕ → Option Incarnation → Option ℕ
 controller_by k n None = None
 controller_by k n (Some incarnation) = if k.callers incarnation.controller == n then Some incarnation.controller else None
@@ -90,11 +90,11 @@ controller_by k n (Some incarnation) = if k.callers incarnation.controller == n 
 abbrev pub controller_at : Cluster → ℕ → Option ℕ
 controller_at k n = controller_by k n (k.incarnations n)
 
--- the reply that an event gives, if it gives one
+-- the reply that an event gives, if any
 unfoldable pub delivered : Size → List Event → Event → Option Reply
 delivered z events e = reply_in (drop (length (trace z events)) (trace z (events ++ e ∷ [])))
 
--- the controller takes the reply
+-- the controller handles the reply
 abbrev pub hears : (ℕ → Reconciler) → Cluster → Option ℕ → Option Reply → Cluster
 hears reconcilers k (Some c) (Some reply) = record k { phases = put k.phases c (takes (reconcilers c) (k.phases c) reply) }
 hears reconcilers k c reply = k
@@ -121,7 +121,7 @@ with_step z reconcilers k (event.Reply n) =
 with_step z reconcilers k (event.Crash n) = hand_if (is_used k n && is_nobody (controller_at k n)) k (event.Crash n)
 
 -- ---- the run
--- The controllers that are there have the numbers below the count.
+-- The existing controllers have the numbers below the count.
 abbrev pub happens : Size → ℕ → (ℕ → Reconciler) → Cluster → ClusterEvent → Cluster
 happens z count reconcilers k (Next c) = if nat_lt c count then with_next z reconcilers k c else k
 happens z count reconcilers k (Outside n r) = with_outside k n r (k.incarnations n)

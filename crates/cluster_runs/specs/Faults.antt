@@ -1,4 +1,4 @@
--- The faults of a cluster that those of its store come to.
+-- Which fault of a cluster a fault of its store becomes.
 use Rattle.std.specs.Prelude.{◌≡◌, ◌⊎◌}
 use Rattle.history.specs.declared.replay_error.ReplayError.{ReplayError}
 use Rattle.history.specs.declared.replay_error.ReplayError.TheVariants as replay
@@ -11,6 +11,6 @@ fault_of replay.BadCapacity = cluster.BadCapacity
 fault_of replay.TooManyCallers = cluster.TooManyCallers
 fault_of replay.Memory = cluster.Memory
 
--- why a run that has begun goes no further
+-- why a run that has begun stops
 abbrev pub IsShort : ClusterFault → Type 0
 IsShort fault = (fault ≡ cluster.TooManyCallers) ⊎ (fault ≡ cluster.Memory)

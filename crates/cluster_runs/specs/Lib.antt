@@ -1,11 +1,11 @@
--- ---- what public clauses cite
+-- ---- cited by public clauses
 pub mod Cluster
 pub mod Examples
 pub mod Faults
 pub mod Ordered
 pub mod Ran
 pub mod Turns
--- ---- what only proofs use
+-- ---- used only by proofs
 pub mod Callers
 pub mod Leading
 pub mod Shown

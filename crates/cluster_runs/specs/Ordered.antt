@@ -1,4 +1,4 @@
--- The requests of an order, as one plain store takes them: whose incarnation asked each one, and the store's reply.
+-- The requests of an order, as one plain store handles them: whose incarnation sent each, and the store's reply.
 use Rattle.std.specs.Prelude.{ℕ, ◌==◌, List, [], ◌∷◌, Option, Some, None, if◌then◌else◌}
 use Rattle.requests.specs.declared.request.Request.{Request}
 use Rattle.plain_store.specs.Store.{Store, opening, step}
@@ -11,13 +11,13 @@ use Rattle.rounds.specs.Reconciler.{Reconciler}
 use Rattle.rounds.specs.Transcript.{Entry, Incarnation}
 use Rattle.cluster_runs.specs.Cluster.{Cluster}
 
--- the caller and the request that were called at the place
+-- the caller and the request that were called at this index
 abbrev pub called_at : List Item → ℕ → Option (ℕ × Request)
 called_at [] p = None
 called_at (item.Call place caller request ∷ items) p = if place == p then Some (caller, request) else called_at items p
 called_at (item.Reply place caller reply ∷ items) p = called_at items p
 
--- the store takes what was called, and then the rest
+-- the store handles what was called, and then the rest
 abbrev pub then_entries : (ℕ → Option Incarnation) → Store → Option (ℕ × Request) → (Store → List Entry) → List Entry
 then_entries incarnations s None rest = rest s
 then_entries incarnations s (Some call) rest = (incarnations call.0, call.1, (step s call.1).1) ∷ rest (step s call.1).0
@@ -26,7 +26,7 @@ abbrev pub entries_of : (ℕ → Option Incarnation) → List Item → Store →
 entries_of incarnations items s [] = []
 entries_of incarnations items s (p ∷ ps) = then_entries incarnations s (called_at items p) (λ t. entries_of incarnations items t ps)
 
--- what the store takes in this order
+-- what the store handles in this order
 abbrev pub entries_in : Size → Cluster → List ℕ → List Entry
 entries_in z k order = entries_of k.incarnations (trace z k.events) (opening z.capacity) order
 

@@ -1,4 +1,4 @@
--- What the program holds of a cluster, and what one event does to it.
+-- What the program keeps of a cluster, and what one event does to it.
 use Rattle.std.specs.Prelude.{◌≡◌, ◌≢◌, ◌==◌, ◌<◌, ◌++◌, ◌∷◌, [], ℕ, Bool, true, false, List, length, map, Option, Some, None, Result, slice_get, slice_set, IfErr, IfSome, IsErrOf, OnErr, OnOk, if◌then◌else◌}
 use Rattle.std.specs.List.{AllByRecursion, list_any}
 use Rattle.requests.specs.declared.reply.Reply.{Reply}
@@ -19,7 +19,7 @@ use Rattle.cluster_runs.specs.declared.fault.ClusterFault.TheVariants.{TooManyCa
 use Rattle.cluster_runs.specs.Callers.{AreCallers}
 use Rattle.cluster_runs.specs.Faults.{IsShort}
 
--- the store has taken the events, by callers that were used; any other caller is idle
+-- the store has handled the events, by callers that were used; any other caller is idle
 pub record HoldsEvents (z : Size) (events : List Event) (used : List ℕ) (items : List Event) (replay : Replay) : Type 0 where
   pub events_are : items ≡ events
   pub taken : IsAfter z events replay
@@ -29,7 +29,7 @@ pub record HoldsEvents (z : Size) (events : List Event) (used : List ℕ) (items
 abbrev pub IsCluster : Size → ℕ → Cluster → Program → Type 0
 IsCluster z count k program = HoldsEvents z k.events k.used program.events.items program.replay × AreCallers count k program.callers
 
--- the replay has taken these events
+-- the replay has handled these events
 unfoldable pub HasTaken : List Event → Replay → Type 0
 HasTaken events replay = (z : Size) × IsAfter z events replay
 
@@ -40,34 +40,35 @@ Follows program = HasTaken program.events.items program.replay
 abbrev pub HaveCallers : {X : Type 0} → List X → Program → Type 0
 HaveCallers xs program = length xs ≡ length program.callers.present.items
 
--- there are as many of them
+-- there are as many controllers and callers as before
 abbrev pub KeepsCallers : (old new : Program) → Type 0
 KeepsCallers old new = length new.callers.present.items ≡ length old.callers.present.items
 
--- what each step of a run rests on
+-- what each step of a run relies on
 pub record IsConsistent {X : Type 0} (xs : List X) (program : Program) : Type 0 where
   pub present : HaveCallers xs program
   pub follows : Follows program
 
--- It stays so; after a fault, which is a want of callers or of memory, there are as many controllers and callers.
+-- It stays consistent; after a fault (too many callers, or out of memory) there are as many controllers and callers as
+-- before.
 pub record StaysConsistent {X T : Type 0} (old new : Program) (before now : List X) (result : Result T ClusterFault) : Type 0 where
   pub many : length now ≡ length before
   pub present : KeepsCallers old new
   pub follows : OnOk result (Follows new)
   pub reasons : IfErr result IsShort
 
--- the store has taken one event more
+-- the store has handled one more event
 pub record Hands (e : Event) (old new : Program) : Type 0 where
   pub callers : new.callers ≡ old.callers
   pub events : new.events.items ≡ old.events.items ++ e ∷ []
   pub taken : (z : Size) (events : List Event) → IsAfter z events old.replay → IsAfter z (events ++ e ∷ []) new.replay
 
--- each controller is made of what it was made of, and stands where it stood
+-- each controller keeps its reconciler and its phase
 abbrev pub Stay : {X : Type 0} → (X → Reconciler) → (X → Phase) → (before now : List X) → Type 0
 Stay reconciler phase before now = (map reconciler now ≡ map reconciler before) × (map phase now ≡ map phase before)
 
 module _ {X : Type 0} (reconciler : X → Reconciler) (phase : X → Phase) (is_waiting : X → Bool) where
-  -- the controller is made of this, stands there, and waits where its caller does
+  -- the controller has this reconciler and this phase, and waits if its caller does
   pub record Stands (z : Size) (events : List Event) (r : Reconciler) (p : Phase) (n : ℕ) (x : X) : Type 0 where
     pub reconciler_is : reconciler x ≡ r
     pub phase_is : phase x ≡ p
@@ -87,19 +88,19 @@ module _ {X : Type 0} (reconciler : X → Reconciler) (phase : X → Phase) (is_
   Tells n reply old before = (z : Size) (reconcilers : ℕ → Reconciler) (k : Cluster) → Shows z reconcilers k old before
       → (if is_used k n then delivered z k.events (event.Reply n) else None) ≡ reply
 
-  -- more callers are used than there may be
+  -- the event would use too many callers
   abbrev pub Exceeds : ClusterEvent → Program → List X → Type 0
   Exceeds e old before = (z : Size) (reconcilers : ℕ → Reconciler) (k : Cluster) → Shows z reconcilers k old before
       → 4096 < length (happens z (length before) reconcilers k e).used
 
-  -- The event happens; at a fault each controller stands where it stood.
+  -- The event happens; at a fault each controller stays where it was.
   pub record Applies {T : Type 0} (e : ClusterEvent) (old new : Program) (before now : List X) (result : Result T ClusterFault) : Type 0 where
     pub consistent : StaysConsistent old new before now result
     pub shows : OnOk result (Happens e old new before now)
     pub stays : OnErr result (Stay reconciler phase before now)
     pub too_many : IsErrOf result TooManyCallers → Exceeds e old before
 
-  -- the controller has taken the reply
+  -- the controller has handled the reply
   pub record Heard (before now : List X) (c : ℕ) (reply : Reply) : Type 0 where
     pub old : X
     pub new : X

@@ -19,7 +19,8 @@ use requests::{Reply, Request};
 use rounds::ControlLoop;
 
 impl Cluster {
-    /// One event. One that is not enabled changes nothing. At a fault the controllers stand where they stood.
+    /// Applies one event. An event that is not enabled changes nothing. At a fault the controllers stay where they
+    /// were.
     pub(crate) fn apply_event<C: ControlLoop>(
         &mut self,
         controllers: &mut [C],
@@ -64,7 +65,7 @@ impl Cluster {
         self.forward_quietly(Event::Call(caller, request))
     }
 
-    /// Somebody else calls, beside the controllers.
+    /// Another client calls.
     pub(crate) fn outside<C: ControlLoop>(
         &mut self,
         controllers: &mut [C],
@@ -74,12 +75,12 @@ impl Cluster {
         requires { IsConsistent controllers.old self.old }
         ensures { Applies C.reconciler C.phase C.is_waiting (Outside caller request.now) self.old self.new controllers.old controllers.new result }
     {
-        // For the contract alone, which speaks of the controllers; it costs nothing.
+        // Only for the contract, which is about the controllers; it costs nothing.
         let _ = controllers.len();
         self.call_outside(caller, request)
     }
 
-    /// Somebody else calls, by a caller that no controller is or was.
+    /// Another client calls, as a caller that no controller is or was.
     fn call_outside(&mut self, caller: u64, request: &Request) -> Result<(), ClusterFault>
         requires { Follows self.old }
         ensures present { self.new.callers.present ≡ self.old.callers.present }
@@ -96,8 +97,8 @@ impl Cluster {
         self.forward_quietly(Event::Call(caller, request))
     }
 
-    /// The controller forgets its round, and goes on as another caller. It does so once the other one is there, so that at a
-    /// fault it stands where it stood.
+    /// The controller forgets its round, and continues as another caller. It does so once the other caller is there, so
+    /// that at a fault it stays where it was.
     fn crash<C: ControlLoop>(
         &mut self,
         controllers: &mut [C],
@@ -138,7 +139,7 @@ impl Cluster {
         }
     }
 
-    /// A caller that was used is replied to. The controller that it is takes the reply.
+    /// A caller that was used gets its reply. If it is a controller's caller, the controller handles the reply.
     fn reply<C: ControlLoop>(
         &mut self,
         controllers: &mut [C],
@@ -156,7 +157,7 @@ impl Cluster {
         }
     }
 
-    /// The same, and the reply that it got.
+    /// The same, and returns the reply.
     pub(crate) fn deliver_reply<C: ControlLoop>(
         &mut self,
         controllers: &mut [C],
@@ -181,7 +182,7 @@ impl Cluster {
         }
     }
 
-    /// A caller that was used goes on.
+    /// A step of a caller that was used.
     fn forward_if_known(&mut self, caller: u64, event: Event) -> Result<(), ClusterFault>
         requires named { named_by event ≡ Some caller }
         requires follows { Follows self.old }
@@ -214,7 +215,7 @@ impl Cluster {
         self.forward_if_known(caller, Event::Crash(caller))
     }
 
-    /// Hands on an event that gives no reply.
+    /// Passes an event on to the store, and drops its reply.
     fn forward_quietly(&mut self, event: Event) -> Result<(), ClusterFault>
         requires { Follows self.old }
         ensures callers { self.new.callers ≡ self.old.callers }
@@ -228,7 +229,7 @@ impl Cluster {
         Ok(())
     }
 
-    /// Hands an event on to the store, and gives the reply that it gives.
+    /// Passes an event on to the store, and returns the reply that it gives, if any.
     fn forward(&mut self, event: Event) -> Result<Option<Reply>, ClusterFault>
         requires { Follows self.old }
         ensures callers { self.new.callers ≡ self.old.callers }
@@ -257,7 +258,7 @@ impl Cluster {
     }
 }
 
-/// The controller of the number takes the reply.
+/// The controller with this number handles the reply.
 fn on_reply<C: ControlLoop>(
     controllers: &mut [C],
     number: Option<usize>,

@@ -15,16 +15,16 @@ use std::collections::BTreeMap;
 /// The callers that were used.
 #[derive(Drop)]
 pub(crate) struct Callers {
-    /// By each controller's number: as which caller it asks.
+    /// For each controller, by its number: its caller.
     pub present: Vec<u64>,
-    /// By each caller that was used: the number of the controller that it is or was, if it was one.
+    /// For each caller that was used: the number of the controller that it is or was, if any.
     pub owners: BTreeMap<u64, Option<usize>>,
     /// All callers below were used.
     pub unused: u64,
 }
 
 impl Callers {
-    /// So many controllers, each a caller of its own number.
+    /// The callers of `count` controllers, each with its own number.
     pub(crate) fn of(alloc: Global, count: usize) -> Result<Callers, ClusterFault>
         ensures callers { IfOk result (λ callers. AreCallers count (start count) callers) }
         ensures too_many { IsErrOf result ClusterFault.TooManyCallers → 4096 < count }
@@ -52,14 +52,14 @@ impl Callers {
         self.owners.contains_key(&caller)
     }
 
-    /// Whether a controller is or was that caller.
+    /// Whether a controller is or was this caller.
     pub(crate) fn is_controllers(&self, caller: u64) -> bool
         ensures { (count : ℕ) (k : Cluster) → AreCallers count k self.now → result ≡ is_some (k.incarnations caller) }
     {
         matches!(self.owners.get(&caller), Some(Some(_)))
     }
 
-    /// The controller that asks as that caller now.
+    /// The controller whose caller this now is.
     pub(crate) fn controller_at(&self, caller: u64) -> Option<usize>
         ensures there { IfSome result (λ c. c < length self.now.present.items) }
         ensures controller { (count : ℕ) (k : Cluster) → AreCallers count k self.now → result ≡ controller_at k caller }
@@ -72,7 +72,7 @@ impl Callers {
         }
     }
 
-    /// Somebody who is no controller uses the caller.
+    /// A client that is no controller uses the caller.
     pub(crate) fn admit(&mut self, caller: u64) -> Result<(), ClusterFault>
         ensures present { self.new.present ≡ self.old.present }
         ensures callers { OnOk result ((count : ℕ) (k : Cluster)
@@ -87,7 +87,7 @@ impl Callers {
         self.put(caller, None)
     }
 
-    /// The controller goes on as the lowest caller that was not used.
+    /// The controller continues as the lowest caller that was not used.
     pub(crate) fn renew(&mut self, number: usize) -> Result<(), ClusterFault>
         requires { number < length self.old.present.items }
         ensures count { length self.new.present.items ≡ length self.old.present.items }
@@ -115,7 +115,7 @@ impl Callers {
         (self.unused..limit).find(|caller| !self.owners.contains_key(caller))
     }
 
-    /// The caller that the kubelet is as the turn goes: the first turn that lets it go takes the lowest one that was not used.
+    /// The kubelet's caller in this turn: in the first turn that needs one, the lowest caller that was not used.
     pub(crate) fn kubelet_at(&self, kubelet: Option<u64>, turn: &Turn) -> Option<u64>
         ensures { (count : ℕ) (k : Cluster) → AreCallers count k self.now → result ≡ kubelet_at kubelet k turn.now }
     {
@@ -140,7 +140,7 @@ impl Callers {
         if wanted { self.fresh() } else { None }
     }
 
-    /// The lowest caller that was not used. There is one: no more than the most were used.
+    /// The lowest caller that was not used. There is one, since no more than the limit were used.
     fn fresh(&self) -> Option<u64>
         ensures { (count : ℕ) (k : Cluster) → AreCallers count k self.now → result ≡ Some (lowest_unused k) }
     {

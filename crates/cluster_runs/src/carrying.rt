@@ -1,4 +1,4 @@
-// A request is carried to its reply.
+// A request is stepped on to its reply.
 ghost use Rattle.std.specs.Prelude.{◌≡◌, ℕ, suc, IfOk, IfErr};
 ghost use Rattle.cluster_runs.specs.Leading.{GoesAlong, Halts, Leads, after_step};
 ghost use Rattle.cluster_runs.specs.Shown.{IsConsistent, StaysConsistent};
@@ -10,15 +10,15 @@ use interleavings::Event;
 use requests::Reply;
 use rounds::ControlLoop;
 
-/// More steps no request takes.
+/// No request needs more steps.
 const MOST_STEPS: u64 = 2_097_152;
 
-/// How far a step has led a caller on.
+/// What a step leaves to do for a caller.
 #[derive(Drop)]
 pub(crate) enum Advance {
-    /// There may be another one.
+    /// There may be another step.
     On,
-    /// There is none: it was the reply, or none leads on.
+    /// There is no further step: this was the reply, or no step helps.
     Over(Option<Reply>),
 }
 
@@ -33,7 +33,7 @@ fn reply_of(event: &Event) -> Option<u64>
 }
 
 impl Cluster {
-    /// The steps that carry the open request of the controller to its reply.
+    /// The steps that bring the controller's open request to its reply.
     pub(crate) fn run<C: ControlLoop>(
         &mut self,
         controllers: &mut [C],
@@ -49,7 +49,7 @@ impl Cluster {
         Ok(None)
     }
 
-    /// The steps that carry the open request of the caller to its reply, and the reply.
+    /// The steps that bring the caller's open request to its reply, and the reply.
     pub(crate) fn carry<C: ControlLoop>(
         &mut self,
         controllers: &mut [C],
@@ -68,7 +68,7 @@ impl Cluster {
         Ok(None)
     }
 
-    /// The next step of them.
+    /// The next of these steps.
     fn advance<C: ControlLoop>(
         &mut self,
         controllers: &mut [C],
@@ -89,7 +89,7 @@ impl Cluster {
         went
     }
 
-    /// That step.
+    /// Makes that step.
     fn make<C: ControlLoop>(
         &mut self,
         controllers: &mut [C],

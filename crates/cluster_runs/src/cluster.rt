@@ -2,11 +2,11 @@ use crate::callers::Callers;
 use history::Replay;
 use interleavings::Event;
 
-/// A cluster as it goes.
+/// A cluster during a run.
 #[derive(Drop)]
 pub(crate) struct Cluster {
     pub replay: Replay,
     pub callers: Callers,
-    /// What was handed on to the store.
+    /// The events that were passed to the store.
     pub events: Vec<Event>,
 }

@@ -1,4 +1,4 @@
-//! Short runs worked out by hand, which say that the definitions of a cluster mean what they are to mean.
+//! Short runs worked out by hand, which check that the definitions of a cluster mean what they should.
 ghost use Rattle.std.specs.Prelude.{◌≡◌, [], ◌∷◌, Some, None};
 ghost use Rattle.objects.specs.declared.kind.Kind.TheVariants.{PersistentVolumeClaim};
 ghost use Rattle.interleavings.specs.declared.event.Event.TheVariants.{Call, Crash, Part, Read, Reply};
@@ -6,7 +6,7 @@ ghost use Rattle.rounds.specs.Examples.{one_replica};
 ghost use Rattle.rounds.specs.Phase.{list_of};
 ghost use Rattle.cluster_runs.specs.Examples.{asked_by, beside_another, crash_in_a_read, get, handed_on, incarnation, nothing_but_a_call, reply_is_heard};
 
-/// What some short runs hand on to the store, and whose incarnations ask the requests of an order of their calls.
+/// What some short runs pass to the store, and whose incarnations sent the requests of an order of their calls.
 pub fn short_clusters()
     ensures crash_in_a_read { handed_on crash_in_a_read ≡ Call 0 get ∷ Read 0 ∷ Crash 0 ∷ Call 1 get ∷ [] }
     ensures beside_another { handed_on beside_another ≡ Call 1 get ∷ Call 0 get ∷ Crash 0 ∷ Call 2 get ∷ [] }

@@ -7,7 +7,7 @@ use objects::Memory;
 use std::alloc::{AllocError, AllocFailed};
 use thiserror::Error;
 
-/// Why there is no run of a cluster: the first of these that fits.
+/// Why there is no run of a cluster: the first of these that applies.
 #[derive(Clone, Copy, Debug, PartialEq, Eq, Error)]
 pub enum ClusterFault {
     /// The number of shards is not from 1 to 64.

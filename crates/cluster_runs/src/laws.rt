@@ -12,8 +12,8 @@ ghost use Rattle.rounds.specs.Sound.{IsSound};
 use interleavings::runs_are_linearizable;
 use rounds::transcripts_keep_promises;
 
-/// However the steps of controllers, of anybody else and of the store are mixed, and wherever controllers crash: in each
-/// legal order of the run, what one plain store takes keeps the promises.
+/// However the steps of controllers, of other clients and of the store are mixed, and whenever controllers crash: in
+/// each legal order of the run, what one plain store handles keeps the promises.
 pub fn clusters_keep_promises()
     ensures { (size : Size) (count : ℕ) (reconcilers : ℕ → Reconciler) (events : List ClusterEvent) (order : List ℕ)
         → 0 < size.shards → 1 ≤ size.capacity → size.capacity ≤ most_revisions → ((controller : ℕ) → IsSound (reconcilers controller))

@@ -1,5 +1,5 @@
-//! Clusters: controllers that race over the interleaved store, what holds of every legal order of what they and anybody else
-//! ask, and runs, event by event.
+//! Clusters: controllers that race over the interleaved store, what holds of every legal order of the requests of
+//! controllers and other clients, and runs, event by event.
 #![tactic(auto)]
 
 mod applying;

@@ -1,4 +1,4 @@
-// One controller makes its round, or goes up to its next write.
+// One controller makes its round, or the part of it before its next write.
 ghost use Rattle.std.specs.Prelude.{◌≡◌, ◌<◌, length, IfErr, IfOk, OnErr};
 ghost use Rattle.cluster_runs.specs.Leading.{GoesAlong, Peeks, is_meant};
 ghost use Rattle.cluster_runs.specs.Shown.{HaveCallers, IsConsistent, Stay};
@@ -10,17 +10,17 @@ use crate::fault::ClusterFault;
 use requests::{Reply, Request};
 use rounds::ControlLoop;
 
-/// A bound of the loop, so that it is proved to end: no round comes near it.
+/// A bound that proves that the loop ends: no round comes near it.
 const MOST_REQUESTS: u64 = 4_294_967_296;
 
-/// The requests that are meant.
+/// Which requests of a round are sent.
 #[derive(Clone, Copy)]
 pub(crate) enum Meant {
-    /// All but the one that a round begins with.
+    /// All but the first request of a round.
     Within,
     /// The reads among these.
     ReadWithin,
-    /// All that are no reads.
+    /// All that are not reads.
     Write,
 }
 
@@ -36,14 +36,14 @@ impl Meant {
     }
 }
 
-/// Whether a round begins with the request.
+/// Whether a round begins with this request.
 fn begins(request: &Request) -> bool
     ensures { result ≡ begins request.now }
 {
     matches!(request, Request::Get(_))
 }
 
-/// Whether it is a get or a list.
+/// Whether the request is a get or a list.
 fn is_read(request: &Request) -> bool
     ensures { result ≡ is_read request.now }
 {
@@ -51,7 +51,7 @@ fn is_read(request: &Request) -> bool
 }
 
 impl Cluster {
-    /// The round of the controller, if it is there.
+    /// The round of the controller, if it exists.
     pub(crate) fn round<C: ControlLoop>(
         &mut self,
         controllers: &mut [C],
@@ -67,7 +67,7 @@ impl Cluster {
         Ok(())
     }
 
-    /// What the controller asks before its next write, if it is there.
+    /// What the controller sends before its next write, if the controller exists.
     pub(crate) fn approach<C: ControlLoop>(
         &mut self,
         controllers: &mut [C],
@@ -83,7 +83,7 @@ impl Cluster {
         Ok(())
     }
 
-    /// The controller goes on until its round is over, or a reply does not come.
+    /// The controller continues until its round is over, or a reply does not come.
     pub(crate) fn make_round<C: ControlLoop>(
         &mut self,
         controllers: &mut [C],
@@ -97,7 +97,7 @@ impl Cluster {
         self.ask_while(controllers, number, Meant::Within)
     }
 
-    /// The controller goes on until it would call a write, or its round is over, or a reply does not come.
+    /// The controller continues until it would call a write, or its round is over, or a reply does not come.
     fn make_approach<C: ControlLoop>(
         &mut self,
         controllers: &mut [C],
@@ -115,7 +115,7 @@ impl Cluster {
         self.ask_while(controllers, number, Meant::ReadWithin)
     }
 
-    /// The controller asks its next request, and then on while the next one is meant.
+    /// The controller sends its next request, and then each further one that is meant.
     fn ask_while<C: ControlLoop>(
         &mut self,
         controllers: &mut [C],
@@ -137,7 +137,7 @@ impl Cluster {
         Ok(())
     }
 
-    /// The controller asks its next request.
+    /// The controller sends its next request.
     fn ask_next<C: ControlLoop>(
         &mut self,
         controllers: &mut [C],

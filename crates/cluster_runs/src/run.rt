@@ -19,27 +19,27 @@ use rounds::ControlLoop;
 use std::alloc::Global;
 use std::collections::BTreeMap;
 
-/// The events that were handed on to the store, in order, and the run of them. The places of the run count in these events.
+/// The events that were passed to the store, in order, and their run. Indices in the run count these events.
 #[derive(Drop)]
 pub struct ClusterRun {
     pub events: Vec<Event>,
     pub run: Run,
-    /// By each caller that was used: the number of the controller that it is or was, none where it is somebody else.
+    /// For each caller that was used: the number of the controller that it is or was, and none for another client.
     pub owners: BTreeMap<u64, Option<usize>>,
 }
 
-/// Lets the events happen, one after another. Each is handed on to the store as exactly one event, unless it is not enabled;
-/// then it changes nothing. What the store's run shows is explained by an order in which one plain store takes the requests
-/// whole, and in that order they keep the promises of sound controllers: between two accepted creates of one key stands an
-/// accepted removal of the first one's UID; what an accepted delete of a plan takes has the UID that was listed for the plan;
-/// each create of a controller comes from its plan over what was answered to it since its last crash, and in that round; each
-/// delete of a controller is of a pod or a revision and comes from such a plan, or it is of a claim and comes from a collection
-/// of that round; and when a controller's delete removes a claim, no object of its namespace has the UID of an owner of it,
-/// and none ever will.
+/// Applies the events, one after another. Each becomes exactly one event of the store, unless it is not enabled; then
+/// it changes nothing. The store's run is explained by an order in which one plain store handles whole requests, and in
+/// that order these keep the promises of sound controllers: between two accepted creates of one key is an accepted
+/// removal of the first one's UID; what an accepted delete of a plan marks or removes has the UID that was listed for
+/// the plan; each create of a controller comes from its plan over the replies that it got since its last crash, in that
+/// round; each delete of a controller is of a pod or a revision and comes from such a plan, or it is of a claim and
+/// comes from a collection of that round; and when a controller's delete removes a claim, no object of its namespace
+/// has the UID of an owner of it, and none ever will.
 ///
-/// Each controller keeps its reconciler, and stands where the events left it. At a fault it stands where those before the one
-/// that failed left it: with too many callers that is the event that brings the 4,097th. A fault that comes before the first
-/// event leaves the controllers as they were. So each of them can crash, and another run follow.
+/// Each controller keeps its reconciler, and is where the events left it. At a fault it is where the events before the
+/// failed one left it: `TooManyCallers` fails at the event that brings the 4,097th caller. A fault before the first
+/// event leaves the controllers as they were. So they can crash, and another run can follow.
 pub fn run_cluster<C: ControlLoop>(
     alloc: Global,
     shards: usize,

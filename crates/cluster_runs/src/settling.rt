@@ -15,7 +15,7 @@ use requests::{Reply, Request};
 use rounds::ControlLoop;
 use std::alloc::Global;
 
-/// The list of the pods of a namespace, as they are now.
+/// A list of the pods of a namespace, as they are now.
 fn list_of_pods(alloc: Global, namespace: &Text) -> Result<Request, Memory>
     ensures { IfOk result (λ r. r ≡ request.List Pod namespace.now 0) }
 {
@@ -26,7 +26,7 @@ fn list_of_pods(alloc: Global, namespace: &Text) -> Result<Request, Memory>
     })
 }
 
-/// What the kubelet asks after a list.
+/// What the kubelet sends after a list.
 fn requests_after(alloc: Global, delivered: &Option<Reply>) -> Result<Vec<Request>, Memory>
     ensures { IfOk result (λ requests. requests.items ≡ tends delivered.now) }
 {
@@ -42,7 +42,7 @@ fn requests_after(alloc: Global, delivered: &Option<Reply>) -> Result<Vec<Reques
 }
 
 impl Cluster {
-    /// So many times, each controller makes a round, and then the kubelet makes a turn, if there is one.
+    /// So many times, each controller makes a round, and then the kubelet, if there is one, makes a turn.
     pub(crate) fn settle<C: ControlLoop>(
         &mut self,
         controllers: &mut [C],
@@ -103,7 +103,7 @@ impl Cluster {
         Ok(())
     }
 
-    /// The kubelet's turn: what is still open is carried on, and then the pods of each namespace are tended.
+    /// The kubelet's turn: a request that is still open is continued, and then the pods of each namespace are tended.
     fn make_turn<C: ControlLoop>(
         &mut self,
         controllers: &mut [C],
@@ -122,7 +122,7 @@ impl Cluster {
         Ok(())
     }
 
-    /// The pods of the namespace are listed, and what the kubelet then asks for them is asked.
+    /// Lists the pods of the namespace, and sends what the kubelet requests for them.
     fn tend<C: ControlLoop>(
         &mut self,
         controllers: &mut [C],
@@ -146,7 +146,7 @@ impl Cluster {
         asked
     }
 
-    /// Somebody else asks these, one after another.
+    /// Another client sends these requests, one after another.
     fn ask_all<C: ControlLoop>(
         &mut self,
         controllers: &mut [C],
@@ -164,7 +164,7 @@ impl Cluster {
         Ok(())
     }
 
-    /// Somebody else asks, where the caller is idle.
+    /// Another client sends a request, if its caller is idle.
     pub(crate) fn ask<C: ControlLoop>(
         &mut self,
         controllers: &mut [C],

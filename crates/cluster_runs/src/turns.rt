@@ -23,17 +23,17 @@ use requests::Reply;
 use rounds::ControlLoop;
 use std::alloc::Global;
 
-/// A run by turns, and how far each turn came.
+/// A run by turns, and how many events there were after each turn.
 #[derive(Drop)]
 pub struct TurnsRun {
     pub run: ClusterRun,
-    /// For each turn, how many events had been handed on to the store as it was done.
+    /// For each turn, how many events had been passed to the store at its end.
     pub ends: Vec<usize>,
 }
 
-/// Lets the events happen that the turns stand for, one after another: each turn finds the cluster as the ones before left it.
-/// The namespaces are those whose pods a kubelet tends.
-/// All else is as of `run_cluster` over these events, but that memory may also run out between two events, or after the last.
+/// Applies the events of the turns, one after another: each turn finds the cluster as the ones before left it. The
+/// namespaces are those whose pods a kubelet tends. All else is as for `run_cluster` over these events, except that
+/// memory may also run out between two events, or after the last.
 pub fn run_turns<C: ControlLoop>(
     alloc: Global,
     shards: usize,
@@ -110,7 +110,7 @@ pub fn run_turns<C: ControlLoop>(
 }
 
 impl Cluster {
-    /// The events of all turns, and how far each turn came.
+    /// Makes the events of all turns, and notes how many there were after each.
     fn go<C: ControlLoop>(
         &mut self,
         controllers: &mut [C],
@@ -133,7 +133,7 @@ impl Cluster {
         Ok(ends)
     }
 
-    /// The events of one turn, and the reply that ends them, if one does.
+    /// Makes the events of one turn, and returns the reply that ends them, if any.
     fn turn<C: ControlLoop>(
         &mut self,
         controllers: &mut [C],

@@ -10,14 +10,14 @@ use Rattle.replay_lines.proofs.Lines.{at_drop}
 use Rattle.cluster_scripts.specs.Printing.{call_data_at, caller_tokens, item_shown, shown}
 use Rattle.cluster_scripts.specs.RequestLine.{request_data}
 
--- what is shown from an item on is its line, and what is shown of those behind it
+-- what is shown from an item on is its line, and what is shown of those after it
 shown_from : (owner : ℕ → Option ℕ) (items : List Item) (at : ℕ) (i : Item) → at < length items → i ≡ get_or items at i
     → text_lines (shown owner (drop at items)) ≡ (compact_text (item_shown owner i) ++ 10 ∷ []) ++ text_lines (shown owner (drop (at + 1) items))
 shown_from owner items at i inside is =
     ap (λ rest. text_lines (shown owner rest)) (at_drop items at i inside is)
     ∙ sym (append_assoc (compact_text (item_shown owner i)) (10 ∷ []) (text_lines (shown owner (drop (at + 1) items))))
 
--- what is written and what is left to write make the whole
+-- what is written and what is left to write are together the whole
 pub shown_next : (owner : ℕ → Option ℕ) (items : List Item) (at : ℕ) (i : Item) (old new all : List ℕ) → at < length items → i ≡ get_or items at i
     → old ++ text_lines (shown owner (drop at items)) ≡ all → new ≡ old ++ (compact_text (item_shown owner i) ++ 10 ∷ [])
     → new ++ text_lines (shown owner (drop (at + 1) items)) ≡ all

@@ -38,7 +38,7 @@ passed_by Less x y h = refl
 passed_by Equal x y h = absurd cc
 passed_by Greater x y h = refl
 
--- another member is passed over, whether it is there or not
+-- another member is ignored, whether it is there or not
 passed : (k l : List ℕ) (o : Option (List ℕ)) (ms : Members) → AreApart k l → get_member k (member_if l o ms) ≡ get_member k ms
 passed k l None ms h = refl
 passed k l (Some s) ms h = passed_by (slice_cmp nat_cmp k l) (get_member k ms) (Some (string s)) h

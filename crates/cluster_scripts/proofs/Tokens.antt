@@ -10,7 +10,7 @@ use Rattle.objects.specs.Key.{KeyParts}
 use Rattle.objects.specs.Kind.{kind_name}
 use Rattle.cluster_scripts.specs.RequestLine.{deletion_data, optional_tokens, key_members, key_tokens, list_data, member_if}
 
--- a text that is given, and the members behind it
+-- a text that is given, and the members after it
 optional_then : (k : List ℕ) (o : Option (List ℕ)) (ms : Members)
     → optional_tokens k o ++ members_tokens (members_outline ms) ≡ members_tokens (members_outline (member_if k o ms))
 optional_then k None ms = refl

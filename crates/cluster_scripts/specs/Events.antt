@@ -1,4 +1,4 @@
--- The turn that a line of a cluster's script is, if it is one: an event, or what stands for several.
+-- The turn of a line of a cluster's script, if it is one: one event or several.
 use Rattle.std.specs.Prelude.{List, ℕ, nat_le, ◌&&◌, codes, bytes_eq, Option, Some, None, option_map, if◌then◌else◌}
 use Rattle.serde_json.specs.Data.{Data, Members}
 use Rattle.serde_json.specs.Find.{get_member}
@@ -23,8 +23,8 @@ outside_in ms = do
 abbrev pub store_step_in : (word : List ℕ) → Members → Option ClusterEvent
 store_step_in word ms = option_map Step (step_in word ms)
 
--- `{"controller":I,"event":"crash"}` is the crash of that controller, and has to have its number; `{"caller":N,"event":"crash"}`,
--- with no member `controller` at all, is that of a caller.
+-- `{"controller":I,"event":"crash"}` is the crash of that controller, and must have its number;
+-- `{"caller":N,"event":"crash"}`, with no member `controller` at all, is that of a caller.
 abbrev pub crash_by : (controller : Option Data) → Members → Option ClusterEvent
 crash_by (Some controller) ms = option_map Crash (count_of controller)
 crash_by None ms = store_step_in (codes "crash") ms
@@ -32,15 +32,15 @@ crash_by None ms = store_step_in (codes "crash") ms
 abbrev pub crash_in : Members → Option ClusterEvent
 crash_in ms = crash_by (get_member (codes "controller") ms) ms
 
--- an event that brings no request
+-- an event without a request
 abbrev pub bare_event_in : (word : List ℕ) → Members → Option ClusterEvent
 bare_event_in word ms =
     if bytes_eq word (codes "next") then next_in ms
     else if bytes_eq word (codes "crash") then crash_in ms
     else store_step_in word ms
 
--- `{"controller":I,"event":"run"}`: the steps that carry the controller's open request to its reply; it has to have a number.
--- `{"caller":N,"event":"run"}`, with no member `controller` at all: those of a caller.
+-- `{"controller":I,"event":"run"}`: the steps that bring the controller's open request to its reply; it must have a
+-- number. `{"caller":N,"event":"run"}`, with no member `controller` at all: those of a caller.
 abbrev pub run_by : (controller : Option Data) → Members → Option Turn
 run_by (Some controller) ms = option_map turn.Run (count_of controller)
 run_by None ms = option_map turn.RunCaller (count_in (codes "caller") ms)
@@ -56,7 +56,7 @@ round_in ms = option_map turn.Round (count_in (codes "controller") ms)
 abbrev pub approach_in : Members → Option Turn
 approach_in ms = option_map turn.Approach (count_in (codes "controller") ms)
 
--- `{"caller":N,"event":"ask","request":L}`: what a line `outside` calls, carried to its reply
+-- `{"caller":N,"event":"ask","request":L}`: what a line `outside` calls, brought to its reply
 abbrev pub ask_in : Members → Option Turn
 ask_in ms = do
   caller ← count_in (codes "caller") ms
@@ -71,7 +71,7 @@ rounds_of n = if nat_le 1 n && nat_le n 1024 then Some n else None
 abbrev pub settle_in : Members → Option Turn
 settle_in ms = option_map turn.Settle (count_in (codes "rounds") ms >>= rounds_of)
 
--- several events that bring no request
+-- several events without a request
 abbrev pub bare_turn_in : (word : List ℕ) → Members → Option Turn
 bare_turn_in word ms =
     if bytes_eq word (codes "run") then run_in ms
@@ -86,7 +86,7 @@ turn_by word ms =
     else if bytes_eq word (codes "outside") then option_map turn.Event (outside_in ms)
     else bare_turn_in word ms
 
--- the turn that the member `event` says
+-- the turn that the member `event` names
 abbrev pub turn_in : Members → Option Turn
 turn_in ms = text_in (codes "event") ms >>= λ word. turn_by word ms
 

@@ -12,12 +12,12 @@ use Rattle.replay_lines.specs.Printing.{order_data, reply_data_at}
 pub use Rattle.cluster_runs.specs.Ran.{owner_in}
 use Rattle.cluster_scripts.specs.RequestLine.{request_data}
 
--- the number of a controller, where it is one
+-- the number of a controller, if there is one
 abbrev pub controller_if : Option ℕ → Members → Members
 controller_if None ms = ms
 controller_if (Some controller) ms = member (codes "controller") (number (unsigned controller)) ms
 
--- `{"at":P,"caller":N,"controller":I,"request":L}`; the controller is the one that is or was the caller, left out where none is
+-- `{"at":P,"caller":N,"controller":I,"request":L}`; the controller that is or was the caller, left out if there is none
 abbrev pub call_data_at : (place caller : ℕ) → Option ℕ → Request → Data
 call_data_at place caller controller request =
     object (member (codes "at") (number (unsigned place)) (member (codes "caller") (number (unsigned caller))

@@ -1,5 +1,5 @@
--- The request line of `serve` that says a request, as a value with its members in byte order; and which requests are read
--- back from it.
+-- A request as a request line of `serve`, a value with its members in byte order; and which requests are read back from
+-- it.
 use Rattle.std.specs.Prelude.{◌≡◌, ◌<◌, ◌^◌, ℕ, List, [], ◌∷◌, codes, decimal, length, true, Option, Some, None, IfSome}
 use Rattle.json.specs.Token as token
 use Rattle.json.specs.Token.{Token}
@@ -17,7 +17,7 @@ use Rattle.objects.specs.Text.{printed}
 use Rattle.requests.specs.declared.request.Request.{Request}
 use Rattle.requests.specs.declared.request.Request.TheVariants as request
 
--- a text, where it is given
+-- a text, if it is given
 abbrev pub member_if : List ℕ → Option (List ℕ) → Members → Members
 member_if k None ms = ms
 member_if k (Some s) ms = member k (string s) ms
@@ -26,7 +26,7 @@ member_if k (Some s) ms = member k (string s) ms
 abbrev pub with_object : List ℕ → Object → Data
 with_object verb o = object (member (codes "do") (string verb) (member (codes "object") (printed o) no_members))
 
--- `"kind":K,"name":N,"namespace":S`, and the members behind them
+-- `"kind":K,"name":N,"namespace":S`, and the members after them
 abbrev pub key_members : KeyParts → Members → Members
 key_members key ms =
     member (codes "kind") (string (kind_name key.kind)) (member (codes "name") (string key.name) (member (codes "namespace") (string key.namespace) ms))
@@ -35,14 +35,15 @@ key_members key ms =
 abbrev pub get_data : KeyParts → Data
 get_data key = object (member (codes "do") (string (codes "get")) (key_members key no_members))
 
--- `{"do":"list","kind":K,"namespace":S,"resourceVersion":V}`; the version is left out where it is 0, which asks for the newest
+-- `{"do":"list","kind":K,"namespace":S,"resourceVersion":V}`; the version is left out if it is 0, which means the
+-- newest
 abbrev pub list_data : Kind → List ℕ → ℕ → Data
 list_data kind namespace exact =
     object (member (codes "do") (string (codes "list")) (member (codes "kind") (string (kind_name kind)) (member (codes "namespace") (string namespace)
     (member_if (codes "resourceVersion") (text_unless_zero exact (decimal exact)) no_members))))
 
--- `{"at":T,"do":"delete","kind":K,"name":N,"namespace":S,"resourceVersion":V,"uid":U}`; the time, the version and the UID only
--- where they are given
+-- `{"at":T,"do":"delete","kind":K,"name":N,"namespace":S,"resourceVersion":V,"uid":U}`; the time, the version and the
+-- UID only if they are given
 abbrev pub deletion_data : KeyParts → (uid version at : Option (List ℕ)) → Data
 deletion_data key uid version at =
     object (member_if (codes "at") at (member (codes "do") (string (codes "delete"))
@@ -64,7 +65,7 @@ request_data (request.Compact to) = compaction_data to
 
 -- ---- what reads back
 
--- a UID and a resource version are given where the object has them, and then as the object's own
+-- a UID and a resource version are given if the object has them, and then as the object's own
 pub record IsOfItsObject (d : Draft) : Type 0 where
   pub again : d ≡ draft_again_of d.object
   pub rules : KeepsRules d.object

@@ -1,4 +1,4 @@
--- The script that a text is: its first line says what the cluster is made of, and each other line is a turn.
+-- The script in a text: its first line says what the cluster is made of, and each other line is a turn.
 use Rattle.std.specs.Prelude.{ℕ, List, map, Option, Some}
 use Rattle.serde_json.specs.Data.{Members}
 use Rattle.plain.specs.Lines.{lines}
@@ -12,7 +12,7 @@ use Rattle.cluster_scripts.specs.Events.{turn_of}
 use Rattle.cluster_scripts.specs.Sets.{SetParts, set_parts, sets_in}
 use Rattle.cluster_scripts.specs.declared.script.ClusterScript.{ClusterScript}
 
--- what a `ClusterSpec` says
+-- what a `ClusterSpec` has
 pub record ClusterParts : Type 0 where
   pub size : Size
   pub sets : List SetParts

@@ -1,4 +1,4 @@
--- The sets that the first line names: there is a controller for each.
+-- The sets in the first line: there is a controller for each.
 use Rattle.std.specs.Prelude.{ℕ, List, [], ◌∷◌, length, nat_le, ◌&&◌, codes, Option, Some, None, option_map, if◌then◌else◌}
 use Rattle.serde_json.specs.Data.{Data, Items, no_items, item, Members}
 use Rattle.serde_json.specs.Find.{as_array, as_object, as_str, get_member}
@@ -6,7 +6,7 @@ use Rattle.objects.specs.Names.{is_dns_label}
 use Rattle.controllers.specs.declared.set_spec.SetSpec.{SetSpec}
 use Rattle.replay_lines.specs.Events.{◌>>=◌, count_of}
 
--- what a `SetSpec` says
+-- what a `SetSpec` has
 pub record SetParts : Type 0 where
   pub namespace : List ℕ
   pub name : List ℕ
@@ -16,7 +16,7 @@ pub record SetParts : Type 0 where
 abbrev pub set_parts : SetSpec → SetParts
 set_parts s = record { namespace = s.namespace; name = s.name; digits = s.digits; moment = s.moment }
 
--- a member that may be missing, but that has to be one of these where it is there
+-- a member that may be missing, but must be one of these if it is there
 abbrev pub or_default : {A : Type 0} → (otherwise : A) → (Data → Option A) → Option Data → Option A
 or_default otherwise read None = Some otherwise
 or_default otherwise read (Some d) = read d
@@ -45,7 +45,7 @@ moment_of d = as_str d >>= λ s. if nat_le 1 (length s) then Some s else None
 abbrev pub moment_in : Members → Option (List ℕ)
 moment_in ms = or_default (codes "2024-01-01T00:00:00Z") moment_of (get_member (codes "moment") ms)
 
--- `{"digits":H,"moment":T,"name":N,"namespace":S}`, of which only `name` has to be there
+-- `{"digits":H,"moment":T,"name":N,"namespace":S}`, of which only `name` is required
 abbrev pub set_in : Members → Option SetParts
 set_in ms = do
   name ← name_in ms
@@ -62,6 +62,6 @@ abbrev pub sets_of : Items → Option (List SetParts)
 sets_of no_items = Some []
 sets_of (item d ds) = set_of d >>= λ set. option_map (λ sets. set ∷ sets) (sets_of ds)
 
--- the sets of the list that the member `sets` has to be
+-- the sets of the list in the member `sets`, which is required
 abbrev pub sets_in : Members → Option (List SetParts)
 sets_in ms = get_member (codes "sets") ms >>= λ d. as_array d >>= sets_of

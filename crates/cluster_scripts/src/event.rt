@@ -1,4 +1,4 @@
-// The turn that a line of a script is.
+// The turn of a line of a script.
 ghost use Rattle.std.specs.Prelude.{◌≡◌};
 ghost use Rattle.cluster_scripts.specs.Events.{approach_in, ask_in, bare_event_in, bare_turn_in, crash_in, next_in, outside_in, round_in, run_in, settle_in, store_step_in, turn_in};
 ghost use Rattle.replay_lines.specs.Events.{Reads};
@@ -12,7 +12,7 @@ use std::alloc::Global;
 /// The most rounds of a line `settle`.
 const MAX_ROUNDS: u64 = 1024;
 
-/// The turn that the members of a line are.
+/// The turn that these members give.
 pub(crate) fn turn_in(alloc: Global, members: Members) -> Result<Turn, ScriptError>
     ensures { Reads (λ turn. turn) result (turn_in members) }
 {
@@ -31,7 +31,7 @@ pub(crate) fn turn_in(alloc: Global, members: Members) -> Result<Turn, ScriptErr
     }
 }
 
-/// A turn that brings no request.
+/// A turn without a request.
 fn bare_turn_in(word: &str, members: &Members) -> Option<Turn>
     ensures { result ≡ bare_turn_in word.now members.now }
 {
@@ -48,7 +48,7 @@ fn bare_turn_in(word: &str, members: &Members) -> Option<Turn>
     }
 }
 
-/// The run of a controller, or of a caller where no controller is named.
+/// The run of a controller, or of a caller if no controller is named.
 fn run_in(members: &Members) -> Option<Turn>
     ensures { result ≡ run_in members.now }
 {
@@ -94,7 +94,7 @@ fn outside_in(alloc: Global, members: Members) -> Result<ClusterEvent, ScriptErr
     Ok(ClusterEvent::Outside(caller, request))
 }
 
-/// An event that brings no request.
+/// An event without a request.
 fn bare_event_in(word: &str, members: &Members) -> Option<ClusterEvent>
     ensures { result ≡ bare_event_in word.now members.now }
 {
@@ -126,7 +126,7 @@ fn next_in(members: &Members) -> Option<ClusterEvent>
     Some(ClusterEvent::Next(controller as usize))
 }
 
-/// The crash of a controller, or of a caller where no controller is named.
+/// The crash of a controller, or of a caller if no controller is named.
 fn crash_in(members: &Members) -> Option<ClusterEvent>
     ensures { result ≡ crash_in members.now }
 {

@@ -1,5 +1,5 @@
-//! Scripts of `stsctl cluster`: the cluster that the first line names, the events that the other lines are, and the lines of what
-//! a run of them shows.
+//! Scripts of `stsctl cluster`: the cluster in the first line, the events in the other lines, and the lines of what a
+//! run of them shows.
 #![tactic(auto)]
 
 mod event;

@@ -15,10 +15,10 @@ use replay_lines::{put_order, put_reply};
 use std::alloc::{AllocError, Global};
 use std::collections::BTreeMap;
 
-/// The lines of a run, in the order of their places: `{"at":P,"caller":N,"controller":I,"request":L}` for each call of a
-/// controller, L as a request line of `serve`, `{"at":P,"caller":N,"request":L}` for each call of anybody else, and
-/// `{"at":P,"caller":N,"reply":R}` for each reply, R as a reply line; last `{"order":[..]}` with the places of the calls in
-/// the order of the run.
+/// The lines of a run, in the order of their indices: `{"at":P,"caller":N,"controller":I,"request":L}` for each call of
+/// a controller, L as a request line of `serve`, `{"at":P,"caller":N,"request":L}` for each call of another client, and
+/// `{"at":P,"caller":N,"reply":R}` for each reply, R as a reply line; last `{"order":[..]}` with the indices of the
+/// calls in the order of the run.
 pub fn cluster_text(alloc: Global, run: &ClusterRun) -> Result<Vec<u8>, Memory>
     ensures { IfOk result (λ text. text.items ≡ cluster_text (owner_in run.now.owners) run.now.run.trace.items.items run.now.run.order.items) }
 {
@@ -100,7 +100,7 @@ fn write_call_at(
     out.end_object()
 }
 
-// Who calls, and where.
+// Who calls, and at which index.
 fn write_caller(
     place: u64,
     caller: u64,

@@ -7,7 +7,7 @@ use objects::Memory;
 use replay_lines::refused_line_by;
 use std::alloc::Global;
 
-/// The number of the first line, from 1, for which a text is no script of a cluster; none where it is one.
+/// The number of the first line, from 1, for which a text is no script of a cluster; none if it is one.
 #[tactic(auto, unfolding(crate::specs::Events::turn_of, crate::specs::Scripts::cluster_script_of))]
 pub fn refused_cluster_line(alloc: Global, text: &[u8]) -> Result<Option<u64>, Memory>
     ensures line { IfOk result (λ line. line ≡ refused_line_of text.now) }

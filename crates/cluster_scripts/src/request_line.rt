@@ -14,8 +14,8 @@ use objects::{Key, Kind, Object, Text};
 use plain::{Request, write_object_member, write_text_member};
 use std::alloc::AllocError;
 
-/// Writes the value of the request line of `serve` that says the request, in the place of a value. The UID and the resource
-/// version of a draft are written as those of its object, where it has them.
+/// Writes the request as a request line of `serve`, as a JSON value. The UID and the resource version of a draft are
+/// written as those of its object, if it has them.
 pub fn write_request(request: &Request, out: &mut Writer) -> Result<(), AllocError>
     ensures tokens { OnOk result (out.new.tokens ≡ out.old.tokens ++ json_tokens (outline (request_data request.now))) }
     ensures before { out.new.before ≡ out.old.before }
@@ -72,7 +72,7 @@ fn write_list(kind: Kind, namespace: &str, exact: u64, out: &mut Writer) -> Resu
     out.end_object()
 }
 
-// The resource version of a list; 0 asks for the newest, and is not written.
+// The resource version of a list; 0 means the newest, and is not written.
 fn write_exact(exact: u64, out: &mut Writer) -> Result<(), AllocError>
     ensures tokens { OnOk result (out.new.tokens
         ≡ out.old.tokens ++ optional_tokens (codes "resourceVersion") (text_unless_zero exact (decimal exact))) }
@@ -111,7 +111,7 @@ fn write_deletion(
     out.end_object()
 }
 
-// What a delete wants its object to have.
+// The preconditions of a delete.
 fn write_preconditions(
     uid: Option<&Text>,
     version: Option<&Text>,

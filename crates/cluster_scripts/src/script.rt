@@ -16,33 +16,34 @@ pub struct ClusterScript {
     pub turns: Vec<Turn>,
 }
 
-/// The script that a text is. Its first line is
-/// `{"capacity":C,"sets":[{"digits":H,"moment":T,"name":N,"namespace":S}],"shards":K}`: there is a controller for each set, in
-/// order and numbered from 0. Of a set only `name` has to be there, a DNS label (RFC 1123); `namespace` is one too, `default`
-/// where it is missing. `digits` is how many hex digits of its hash the name of a new revision has, from 1 to 64, 10 where it
-/// is missing. `moment` is what pods are marked with for deletion (`metadata.deletionTimestamp`), a text that is not empty,
-/// `2024-01-01T00:00:00Z` where it is missing.
+/// The script in a text. Its first line is
+/// `{"capacity":C,"sets":[{"digits":H,"moment":T,"name":N,"namespace":S}],"shards":K}`: there is a controller for each
+/// set, in order and numbered from 0. Of a set only `name` is required, a DNS label (RFC 1123); `namespace` is one too,
+/// by default `default`. `digits` is how many hex digits of its hash the name of a new revision has, from 1 to 64, by
+/// default 10. `moment` is what pods are marked with for deletion (`metadata.deletionTimestamp`), a text that is not
+/// empty, by default `2024-01-01T00:00:00Z`.
 ///
-/// Each other line is a turn: an event, or what stands for several:
+/// Each other line is a turn, which is one event or several:
 ///
 /// - `{"controller":I,"event":"next"}`: the controller calls its next request;
 /// - `{"controller":I,"event":"crash"}`: the controller crashes;
-/// - `{"caller":N,"event":"outside","request":L}`: anybody else calls, with L as a request line of `serve`;
+/// - `{"caller":N,"event":"outside","request":L}`: another client calls, with L as a request line of `serve`;
 /// - `{"caller":N,"event":E}`, E one of `check`, `reserve`, `publish`, `read`, `readat`, `compact`, `part`, `reply` and
 ///   `crash`, or `{"event":"raise"}`: a step of the store, as in a script of `stsctl replay`. A `crash` with a member
 ///   `controller` is that of a controller;
-/// - `{"controller":I,"event":"run"}`: the steps that carry the controller's open request to its reply, as `Turn::Run` says;
-///   `{"caller":N,"event":"run"}`, with no member `controller`: those of a caller, as `Turn::RunCaller` says;
-/// - `{"caller":N,"event":"ask","request":L}`: what `outside` calls, carried to its reply, as `Turn::Ask` says;
+/// - `{"controller":I,"event":"run"}`: the steps that bring the controller's open request to its reply, as `Turn::Run`
+///   says; `{"caller":N,"event":"run"}`, with no member `controller`: those of a caller, as `Turn::RunCaller` says;
+/// - `{"caller":N,"event":"ask","request":L}`: what `outside` calls, brought to its reply, as `Turn::Ask` says;
 /// - `{"controller":I,"event":"round"}`: a round of the controller, as `Turn::Round` says;
 /// - `{"controller":I,"event":"approach"}`: its round up to its next write, as `Turn::Approach` says;
 /// - `{"event":"settle","rounds":R}`, R from 1 to 1,024: rounds of all controllers and turns of a kubelet, as `Turn::Settle` says.
 ///
-/// Other members are passed over, and of members of one name the last counts. C, K, I and N are whole numbers below 2^64.
+/// Other members are ignored, and of members with the same name the last counts. C, K, I and N are whole numbers below
+/// 2^64.
 ///
 /// # Errors
 ///
-/// `BadScript` where a line is none of these, also one that is cut off or empty, or where there is no line.
+/// `BadScript` if a line is none of these, also if it is cut off or empty, or if there is no line.
 #[tactic(auto, unfolding(crate::specs::Events::turn_of, crate::specs::Scripts::cluster_script_of))]
 pub fn read_cluster_script(alloc: Global, text: &[u8]) -> Result<ClusterScript, ScriptError>
     ensures { Reads parts_of result (cluster_script_of text.now) }

@@ -1,4 +1,4 @@
-// The sets that the first line names.
+// The sets in the first line.
 ghost use Rattle.std.specs.Prelude.{◌≡◌, ◌<◌, ◌≤◌, true, length, map, option_map, IfSome};
 ghost use Rattle.objects.specs.Names.{is_dns_label};
 ghost use Rattle.objects.specs.Tree.{data_of, items_of};
@@ -14,7 +14,7 @@ use std::alloc::Global;
 /// The most hex digits that a hash has.
 const MAX_DIGITS: u64 = 64;
 
-/// The sets of the list that the member `sets` has to be.
+/// The sets of the list in the member `sets`, which is required.
 pub(crate) fn sets_in(alloc: Global, members: &Members) -> Result<Vec<SetSpec>, ScriptError>
     ensures { Reads (λ sets. map set_parts sets.items) result (sets_in members.now) }
 {
@@ -38,12 +38,12 @@ fn sets_of(alloc: Global, items: &[Tree]) -> Result<Vec<SetSpec>, ScriptError>
     Ok(sets)
 }
 
-/// The set that a value is, `{"digits":H,"moment":T,"name":N,"namespace":S}` as
-/// [`read_cluster_script`](crate::read_cluster_script) says it.
+/// The set in a value, `{"digits":H,"moment":T,"name":N,"namespace":S}` as
+/// [`read_cluster_script`](crate::read_cluster_script) describes it.
 ///
 /// # Errors
 ///
-/// `BadScript` where it is none.
+/// `BadScript` if it is none.
 pub fn set_of(alloc: Global, value: &Tree) -> Result<SetSpec, ScriptError>
     ensures { Reads set_parts result (set_of (data_of value.now)) }
 {

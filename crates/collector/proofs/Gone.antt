@@ -1,4 +1,4 @@
--- When an owner counts as gone: the same for tests that agree, and never for one that is listed or came later.
+-- When an owner counts as gone: the same for tests that agree, and never for one that is listed or was created later.
 use Rattle.std.proofs.Common.{◌≡◌, inl, inr, ℕ, ◌<◌, nat_le, nat_eq, [], ◌∷◌, length, Bool, true, false, not, ◌&&◌, Option, Some, None, refl, ◌∙◌, ap, arith}
 use Rattle.std.proofs.lemmas.Bool.Decides.{nat_tests}
 use Rattle.serde_json.specs.Data.{Items, no_items, item}

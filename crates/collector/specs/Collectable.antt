@@ -1,5 +1,5 @@
--- Which claims are collected (Kubernetes documentation, "Garbage Collection": a dependent goes once none of its owners is
--- there; "StatefulSets": PersistentVolumeClaim retention).
+-- Which claims are collected (Kubernetes documentation, "Garbage Collection": a dependent is deleted once none of its
+-- owners is there; "StatefulSets": PersistentVolumeClaim retention).
 use Rattle.std.specs.Prelude.{◌≡◌, ◌⊎◌, ℕ, ◌==◌, nat_le, Bool, true, false, not, ◌&&◌, List, map, filter, decimal, codes, Option, Some, None, option_and_then}
 use Rattle.std.specs.List.{list_any}
 use Rattle.serde_json.specs.Data.{Data, Items, no_items, item}
@@ -15,8 +15,8 @@ use Rattle.requests.specs.declared.request.Request.TheVariants.{Delete}
 abbrev pub owner_number : Data → Option ℕ
 owner_number owner = option_and_then uid_number (option_and_then as_str (get (codes "uid") owner))
 
--- An owner is gone for good where its UID is none that the store gives, or where it was given by the time of the lists and
--- no listed object has it.
+-- An owner is gone for good if its UID is none that the store gives, or if it was given by the time of the lists and no
+-- listed object has it.
 abbrev pub is_gone : ℕ → (ℕ → Bool) → Option ℕ → Bool
 is_gone listed_at is_listed None = true
 is_gone listed_at is_listed (Some n) = nat_le n listed_at && not (is_listed n)

@@ -10,13 +10,15 @@ use requests::{Request, uid_precondition, version_precondition};
 use std::alloc::Global;
 use std::collections::BTreeSet;
 
-/// The deletes of the claims that nobody owns any more: those that have an owner, and whose every owner is gone for good.
-/// `owners` are lists of all objects that may own a claim, of the namespace of the claims, and `listed_at` is the least
-/// resource version of these lists. An owner is gone where its UID has a number of at most `listed_at` and no listed object
-/// has it, or where it is none that the store gives. So an owner that was created after the lists were read keeps its claim.
+/// The deletes of the claims that no longer have an owner: those with owner references, each of whose owners is gone
+/// for good. `owners` are lists of all objects that may own a claim, of the namespace of the claims, and `listed_at` is
+/// the least resource version of these lists. An owner is gone if its UID has a number of at most `listed_at` and no
+/// listed object has it, or if it is none that the store gives. So an owner that was created after the lists were read
+/// keeps its claim.
 ///
-/// Each delete names the UID and the resource version of the claim as it was read, so it spares a claim that has changed
-/// since, or a successor of the same name. The cost is that of the owners and the claims, each read once.
+/// Each delete names the UID and the resource version of the claim as it was read, and no time, so it spares a claim
+/// that has changed since, or a successor of the same name. The cost is that of the owners and the claims, each read
+/// once.
 pub fn collect(
     alloc: Global,
     claims: &[Object],

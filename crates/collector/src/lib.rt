@@ -1,4 +1,4 @@
-//! The collector of claims: which PersistentVolumeClaims nobody owns any more, and the requests that delete them.
+//! The collector of claims: which PersistentVolumeClaims no longer have an owner, and the requests that delete them.
 #![tactic(auto)]
 
 mod deletes;

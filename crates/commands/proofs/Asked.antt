@@ -1,4 +1,4 @@
--- What a parse by the grammar says of the words.
+-- What a parse by the grammar says of the arguments.
 use Rattle.std.proofs.Common.{◌≡◌, Bool, true, false, ◌||◌, List, [], ◌∷◌, inl, inr, refl, ap, sym, subst, ◌∙◌}
 use Rattle.std.proofs.Math.Bool.{true-or, or-true}
 use Rattle.std.specs.List.{list_any}
@@ -21,13 +21,13 @@ list_any-among test kind (k ∷ ks) (inl same) holds =
 list_any-among test kind (k ∷ ks) (inr among) holds =
     ap (λ b. test k || b) (list_any-among test kind ks among holds) ∙ or-true (test k)
 
--- the kind of an error passes the test, which want of memory does not, so a kind of the words' does
+-- an error's kind passes the test, which out of memory does not, so a kind of the arguments' faults does
 pub list_any-kind : (test : ErrorKind → Bool) (error : Error) (kinds : Kinds) → (test OutOfMemory ≡ true → ⊥) → HasKind kinds error
     → test (kind_of error) ≡ true → list_any test kinds ≡ true
 list_any-kind test error kinds not_memory (inl memory) holds = absurd (not_memory (sym (ap test memory) ∙ holds))
 list_any-kind test error kinds not_memory (inr among) holds = list_any-among test (kind_of error) kinds among holds
 
--- the kind of an error does not pass a test that none of the words' kinds passes, and want of memory neither
+-- an error's kind does not pass a test that none of the arguments' faults passes, nor out of memory
 pub no_kind : (test : ErrorKind → Bool) (error : Error) (kinds : Kinds) → (test OutOfMemory ≡ true → ⊥) → HasKind kinds error
     → list_any test kinds ≡ false → test (kind_of error) ≡ false
 no_kind test error kinds not_memory has none = go (test (kind_of error)) refl
@@ -57,12 +57,12 @@ pub parsed : (app : App) (words : List Text) → app ≡ stsctl_app
     → (is_simple_and_free app ≡ true → fault_of app words ≡ []) → faults_of words ≡ []
 parsed app words same kinds = sym (faults_of-app app words same) ∙ kinds (is_free-of app same)
 
--- the word asks for work
+-- it is a command
 abbrev pub IsWork : Word → Type 0
 IsWork NoWork = ⊥
 IsWork _ = Unit {0}
 
--- words that ask for work have no fault
+-- arguments with a command have no fault
 no_fault : (words : List Text) (word : Word) → asked words ≡ word → IsWork word → faults_of words ≡ []
 unfolding asked
 no_fault words word is work = go (faults_of words) is
@@ -71,7 +71,7 @@ no_fault words word is work = go (faults_of words) is
     go [] same = refl
     go (kind ∷ kinds) same = absurd (subst IsWork (sym same) work)
 
--- where words that ask for work are not read, memory ran out
+-- if arguments with a command are not read, memory ran out
 pub only_memory : (error : Error) (words : List Text) (word : Word) → HasKind (faults_of words) error → asked words ≡ word → IsWork word
     → kind_of error ≡ OutOfMemory
 only_memory error words word has is work =
@@ -80,7 +80,7 @@ only_memory error words word has is work =
       | inr among ↦ absurd among
     ]
 
--- such words are neither a request for help nor bad
+-- such arguments are neither a request for help nor bad
 pub no_request : (error : Error) (words : List Text) (word : Word) → HasKind (faults_of words) error → asked words ≡ word → IsWork word
     → is_request (kind_of error) ≡ true → ⊥
 no_request error words word has is work request = false-true (sym (ap is_request (only_memory error words word has is work)) ∙ request)

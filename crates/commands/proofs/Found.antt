@@ -34,7 +34,7 @@ next_inside : (asks : List Ask) (taken : ℕ → Bool) (order : List ℕ) → Ar
 next_inside asks taken [] h = tt
 next_inside asks taken (i ∷ order) h = (slice_get_within asks i h.0.ask h.0.is, next_inside asks (changed taken i true) order h.1)
 
--- the orders name asks
+-- the orders name requests
 pub orders_name_asks : (l : Litmus) (found : List Outcome) → AreOutcomes l found → (o : Outcome) (i : ℕ) → Contains found o → Contains o.order.items i
     → i < length l.asks.items
 orders_name_asks l found h o i has at =

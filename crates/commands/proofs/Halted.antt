@@ -37,7 +37,7 @@ read-fails (RefusedAt name line) old new counts is = absurd (false-true is)
 same-less : (old new : ℕ) → new ≡ old → old < new → ⊥
 same-less old new same less = omega arith
 
--- where nothing was written, only the reader can have failed
+-- if nothing was written, only the reader can have failed
 pub spared-unwritten : (Same : Type 0) (halt : Halt) (old new wrote : ℕ) → CountsReads {A = ℕ} (Err halt) old new → (is_read halt ≡ true → Same)
     → (old < new) ⊎ (wrote < wrote) → Same
 spared-unwritten Same halt old new wrote counts same (inr write) = absurd (same-less wrote wrote refl write)
@@ -46,7 +46,7 @@ spared-unwritten Same Memory old new wrote counts same (inl read) = absurd (same
 spared-unwritten Same (Refused name) old new wrote counts same (inl read) = absurd (same-less old new counts read)
 spared-unwritten Same (RefusedAt name line) old new wrote counts same (inl read) = absurd (same-less old new counts read)
 
--- where the reader did not fail, the writer did
+-- if the reader did not fail, the writer did
 pub spared-read : (Same Wrote : Type 0) (old new : ℕ) → new ≡ old → (Wrote → Same) → (old < new) ⊎ Wrote → Same
 spared-read Same Wrote old new counts same (inl read) = absurd (same-less old new counts read)
 spared-read Same Wrote old new counts same (inr write) = same write

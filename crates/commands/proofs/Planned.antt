@@ -6,7 +6,7 @@ use Rattle.commands.specs.declared.args.PlanWords.{PlanWords}
 use Rattle.commands.specs.Forms.{WritesBy}
 use Rattle.commands.specs.Planning.{IsPlanOf, IsPlanText, actions_of}
 
--- all of the lines of its actions, or a beginning
+-- all of the lines of its actions, or a prefix
 pub plans : (puts : Option (List ℕ) → List ℕ → Option (List ℕ) → Type 0) (asked : PlanWords) (had left before after : Option (List ℕ)) (plan : Plan)
     → IfSome had (λ input. (left ≡ Some []) × IsPlanOf asked input plan) → puts before (actions_of asked plan) after
     → WritesBy puts (IsPlanText asked) had left before after

@@ -8,7 +8,7 @@ use Rattle.plain.specs.declared.devices.input.InputFault.TheVariants as input
 use Rattle.commands.specs.Forms.{WritesBy}
 use Rattle.commands.specs.Halts.{IsNamed, halt_of, name_of}
 
--- what was made of the input was written as it is shown, all of it or a beginning
+-- what was made of the input was written as it is shown, all of it or a prefix
 pub writes_by : (puts : Option (List ℕ) → List ℕ → Option (List ℕ) → Type 0) (IsText : List ℕ → List ℕ → Type 0)
     (had left before after : Option (List ℕ)) (text shown : List ℕ) → IfSome had (λ input. (left ≡ Some []) × IsText input text) → puts before shown after
     → shown ≡ text → WritesBy puts IsText had left before after

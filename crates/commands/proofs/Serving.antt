@@ -1,4 +1,4 @@
--- What `clap` found for a subcommand is what the words ask for.
+-- What `clap` found for a subcommand is what the arguments request.
 use Rattle.std.proofs.Common.{◌≡◌, ℕ, inl, Bool, true, false, List, [], Option, Some, None, Result, Ok, Err, codes, refl, sym, ap, ap₂, subst, ◌∙◌, MatchBool, MatchOption}
 use Rattle.std.specs.Prelude.{Box, option_map, unwrap_or, if◌then◌else◌}
 use Rattle.std.specs.Borrow.{Bor}
@@ -27,7 +27,7 @@ stsctl-is_simple : is_simple stsctl_app ≡ true
 unfolding clap_on_literals
 stsctl-is_simple = refl
 
--- the subcommand that was met is that of the words
+-- the subcommand that was found is that of the arguments
 pub met : (app : App) (words : List Text) (m : ArgMatches) → app ≡ stsctl_app → HasMatchesOf app words m → subcommand_rows_of m ≡ subcommand_of stsctl_app words
 met app words m same has =
     let Has : App → Type 0 = λ a. HasMatchesOf a words m in
@@ -48,7 +48,7 @@ not_true : (b : Bool) → (b ≡ true → ⊥) → b ≡ false
 not_true true not = absurd (not refl)
 not_true false not = refl
 
--- where it is that subcommand, its rows are those that are under it
+-- if it is that subcommand, its rows are those under it
 module _ {Z : Type 0} where
   here : (word : Text) (o : Option (Box SubCommand Z)) → option_map (λ b. (out-SubCommand (box_value b)).name.now) o ≡ Some word
       → is_under word (subcommand_rows o) ≡ true
@@ -98,7 +98,7 @@ word-is plan race replay cluster outcomes p a r c o plan_is race_is replay_is cl
     ap₂ (λ x y. word_by x y replay cluster outcomes) plan_is race_is ∙ ap₂ (λ x y. word_by p a x y outcomes) replay_is cluster_is
     ∙ ap (word_by p a r c) outcomes_is
 
--- what words without a fault ask for, by the subcommands that were met
+-- what arguments without a fault request, by the subcommands that were found
 asked-by : (words : List Text) (m : ArgMatches) (p a r c o : Bool) → faults_of words ≡ [] → subcommand_rows_of m ≡ subcommand_of stsctl_app words
     → is_under (codes "plan") (subcommand_rows_of m) ≡ p → is_under (codes "race") (subcommand_rows_of m) ≡ a
     → is_under (codes "replay") (subcommand_rows_of m) ≡ r → is_under (codes "cluster") (subcommand_rows_of m) ≡ c
@@ -142,7 +142,7 @@ pub outcomes-is : (words : List Text) (m : ArgMatches) (option : Text) → subco
 unfolding outcomes_text
 outcomes-is words m option same = ap (λ e. one_of option (rows_under (codes "outcomes") e)) same
 
--- what words without a plan, a race, a replay and a cluster ask for
+-- what arguments request that are no plan, race, replay and cluster
 pub found_serving : (m : ArgMatches) (found : Asked) → is_under (codes "cluster") (subcommand_rows_of m) ≡ false → IsFinding (subcommand_rows_of m) found
     → IsServing (subcommand_rows_of m) found
 found_serving m (say.Cluster form) cluster finding = absurd finding
@@ -152,7 +152,7 @@ found_serving m (say.Replay form) cluster finding = absurd finding
 found_serving m (say.Plan plan) cluster finding = absurd finding
 found_serving m (say.Race race) cluster finding = absurd finding
 
--- what words without a plan, a race and a replay ask for
+-- what arguments request that are no plan, race and replay
 pub served_scripted : (m : ArgMatches) (found : Asked) → is_under (codes "replay") (subcommand_rows_of m) ≡ false → IsServing (subcommand_rows_of m) found
     → IsScripted (subcommand_rows_of m) found
 served_scripted m (say.Replay form) replay serving = absurd serving.1
@@ -162,7 +162,7 @@ served_scripted m (say.Outcomes sought) replay serving = (replay, serving)
 served_scripted m (say.Plan plan) replay serving = absurd serving.1
 served_scripted m (say.Race race) replay serving = absurd serving.1
 
--- what words without a plan and without a race ask for
+-- what arguments request that are no plan and no race
 pub scripted_other : (m : ArgMatches) (found : Asked) → is_under (codes "race") (subcommand_rows_of m) ≡ false → IsScripted (subcommand_rows_of m) found
     → IsOther (subcommand_rows_of m) found
 scripted_other m (say.Race asked) race scripted = absurd scripted.1.1
@@ -172,7 +172,7 @@ scripted_other m (say.Cluster form) race scripted = (race, scripted)
 scripted_other m (say.Outcomes sought) race scripted = (race, scripted)
 scripted_other m (say.Plan plan) race scripted = absurd scripted.1.1
 
--- what words without a plan ask for
+-- what arguments request that are no plan
 pub other_asked : (words : List Text) (m : ArgMatches) (found : Asked) → faults_of words ≡ [] → subcommand_rows_of m ≡ subcommand_of stsctl_app words
     → is_under (codes "plan") (subcommand_rows_of m) ≡ false → IsOther (subcommand_rows_of m) found → IsAsked words found
 other_asked words m (say.Serve capacity) none same plan other = (

@@ -1,4 +1,4 @@
--- What the words ask for.
+-- What the arguments request.
 use Rattle.std.specs.Prelude.{◌≡◌, ◌≤◌, List, [], Option, true, false, codes, unwrap_or}
 use Rattle.clap.specs.Words.{Row, Text, one_of}
 use Rattle.commands.specs.declared.args.Asked.{Asked}
@@ -11,23 +11,23 @@ use Rattle.commands.specs.Forms.{IsFlagBy, IsFormBy}
 use Rattle.commands.specs.Grammar.{AsksFor, Cluster, IsCapacityBy, IsChoiceBy, IsDigitsBy, IsNumberBy, Outcomes, Plan, Race, Replay, Serve, asked, digits_text, flag_text, is_under, outcomes_text, plan_text, race_text, rows_under}
 use Rattle.race_log.specs.Limits.{is_race}
 
--- what is printed of a script, and whether a refusal tells its line
+-- what is printed of a script, and whether a refusal names its line
 abbrev pub IsScriptBy : (text : Text → Option Text) → ScriptWords → Type 0
 IsScriptBy text script = IsFormBy text script.form × IsFlagBy (text (codes "where")) script.place
 
--- which outcome's script is asked for, whether outcomes are told in words, and whether they are those of controllers
+-- which outcome's script is requested, whether outcomes are printed in words, and whether they are those of controllers
 abbrev pub IsSoughtBy : (text : Text → Option Text) → OutcomesWords → Type 0
 IsSoughtBy text sought = IsChoiceBy (text (codes "script")) sought.choice × IsFlagBy (text (codes "brief")) sought.brief
     × IsFlagBy (text (codes "final")) sought.finals
 
--- what the words after `plan` say
+-- the arguments after `plan`
 abbrev pub IsPlanAsked : List Text → PlanWords → Type 0
 IsPlanAsked words plan = (plan.namespace.now ≡ unwrap_or (plan_text (codes "namespace") words) (codes "default"))
     × (plan.name.now ≡ unwrap_or (plan_text (codes "set") words) []) × IsDigitsBy (digits_text words) plan.digits
     × (1 ≤ plan.digits) × (plan.digits ≤ 64) × IsFlagBy (flag_text (codes "plan") (codes "brief") words) plan.brief
     × IsFlagBy (flag_text (codes "plan") (codes "where") words) plan.place
 
--- the numbers that some texts say, each by its option, and which flags are given
+-- the numbers of some texts, each by its option, and which flags are given
 abbrev pub IsRaceBy : (Text → Option Text) → RaceWords → Type 0
 IsRaceBy text race = IsNumberBy 4 1 64 (text (codes "controllers")) race.spec.controllers
     × IsNumberBy 8 1 64 (text (codes "shards")) race.spec.shards
@@ -35,11 +35,11 @@ IsRaceBy text race = IsNumberBy 4 1 64 (text (codes "controllers")) race.spec.co
     × IsNumberBy 3 0 64 (text (codes "replicas")) race.spec.replicas
     × IsFlagBy (text (codes "operator")) race.spec.operator × IsFlagBy (text (codes "history")) race.history
 
--- what the words after `race` say
+-- the arguments after `race`
 abbrev pub IsRaceAsked : List Text → RaceWords → Type 0
 IsRaceAsked words race = IsRaceBy (λ option. race_text option words) race × (is_race race.spec ≡ true)
 
--- what the words ask for, with what they say of it
+-- what the arguments request, with all its options
 abbrev pub IsAsked : List Text → Asked → Type 0
 IsAsked words (say.Serve capacity) = (asked words ≡ Serve) × AsksFor words capacity
 IsAsked words (say.Replay script) = (asked words ≡ Replay) × IsScriptBy (λ flag. flag_text (codes "replay") flag words) script
@@ -48,8 +48,7 @@ IsAsked words (say.Plan plan) = (asked words ≡ Plan) × IsPlanAsked words plan
 IsAsked words (say.Race race) = (asked words ≡ Race) × IsRaceAsked words race
 IsAsked words (say.Outcomes sought) = (asked words ≡ Outcomes) × IsSoughtBy (λ option. outcomes_text option words) sought
 
--- ---- for private clauses: what words ask for that ask for no plan, for no race, for no replay, and for no cluster, by the
--- subcommand that was met
+-- ---- for private clauses: what arguments request that are no plan, race, replay or cluster, by their subcommand
 
 abbrev pub IsFinding : Option (Text × List Row) → Asked → Type 0
 IsFinding met (say.Outcomes sought) = (is_under (codes "outcomes") met ≡ true)

@@ -1,4 +1,4 @@
--- What a run of the program that was asked to run a cluster has done, where the devices tell.
+-- What a run of `stsctl cluster` has done, as far as the devices show it.
 use Rattle.std.specs.Prelude.{◌≡◌, Bool, ℕ, List, length, Option, Some, None, codes}
 use Rattle.cluster_runs.specs.Cluster.{Cluster}
 use Rattle.cluster_runs.specs.Ran.{IsClusterRun, cluster_after, owner_in}
@@ -34,19 +34,19 @@ use Rattle.commands.specs.declared.options.Form.TheVariants.{Lines, Picture, Tra
 abbrev pub cluster_by : ClusterScript → Cluster
 cluster_by script = cluster_after (size_of script.spec) (length script.spec.sets.items) (reconciler_named script.spec.sets.items) (events_by script)
 
--- what the controllers ask and everybody is answered in the run of the script, and its order, which is a legal one
+-- the requests of the controllers and all replies in the run of the script, and its order, which is a legal one
 abbrev pub IsClusterText : ClusterScript → List ℕ → Type 0
 IsClusterText script text = (found : ClusterRun)
     × IsClusterRun (size_of script.spec) (length script.spec.sets.items) (reconciler_named script.spec.sets.items) (events_by script) found
     × (text ≡ cluster_text (owner_in found.owners) found.run.trace.items.items found.run.order.items)
 
--- the picture of that run, in which a caller that is or was a controller is called by its set and its number
+-- the picture of that run, in which a caller that is or was a controller is named by its set and its number
 abbrev pub IsClusterPicture : Shown → ClusterScript → List ℕ → Type 0
 IsClusterPicture shown script text = (found : ClusterRun)
     × IsClusterRun (size_of script.spec) (length script.spec.sets.items) (reconciler_named script.spec.sets.items) (events_by script) found
     × (text ≡ picture_text shown (size_of script.spec) (λ n. role_by script.spec.sets.items (owner_in found.owners n)) found.events.items)
 
--- the writes of that run, in which callers are called so too
+-- the writes of that run, in which callers are named so too
 abbrev pub IsClusterStory : ClusterScript → List ℕ → Type 0
 IsClusterStory script text = (found : ClusterRun)
     × IsClusterRun (size_of script.spec) (length script.spec.sets.items) (reconciler_named script.spec.sets.items) (events_by script) found
@@ -56,7 +56,8 @@ IsClusterStory script text = (found : ClusterRun)
 abbrev pub ends_by : ClusterScript → List ℕ
 ends_by script = ends_of_turns (size_of script.spec) (length script.spec.sets.items) (reconciler_named script.spec.sets.items) (namespaces_of script.spec.sets.items) script.turns.items
 
--- The trace of a run, under the lines of the script, of which the first is the size. A plan that was refused is told at its place.
+-- The trace of a run, under the lines of the script, the first of which is the size. A refused plan is noted at its
+-- index.
 abbrev pub trace_beside : ClusterSpec → ClusterRun → (ends : List ℕ) → List RefusedPlan → List ℕ
 trace_beside spec found ends plans =
     trace_by_lines_text (λ n. role_by spec.sets.items (owner_in found.owners n)) (line_at spec.sets.items plans)
@@ -77,11 +78,11 @@ IsClusterShown (Picture shown) script text = IsClusterPicture shown script text
 IsClusterShown Writes script text = IsClusterStory script text
 IsClusterShown Trace script text = IsClusterTrace script text
 
--- the same of a script that the input is
+-- the same for the script in the input
 abbrev pub IsClusterTextOf : Form → (input text : List ℕ) → Type 0
 IsClusterTextOf form input text = IsScriptText cluster_script_of parts_of IsClusterShown form input text
 
--- That text was written, in the form that the words ask for.
+-- That text was written, in the requested form.
 abbrev pub Clusters : (puts : Option (List ℕ) → List ℕ → Option (List ℕ) → Type 0) → List Text → (had left before after : Option (List ℕ)) → Type 0
 Clusters puts words had left before after =
     (form : Form) × IsFormBy (λ flag. flag_text (codes "cluster") flag words) form × WritesBy puts (IsClusterTextOf form) had left before after
@@ -90,14 +91,14 @@ Clusters puts words had left before after =
 abbrev pub IsClusterRunRefusal : ClusterScript → (name : List ℕ) → Type 0
 IsClusterRunRefusal script name = IsSizeRefusal script.spec.shards script.spec.capacity (length (cluster_by script).used) name
 
--- the name of the refusal of a run; want of memory is none
+-- the name of the refusal of a run; out of memory is none
 abbrev pub cluster_refusal : ClusterFault → Option (List ℕ)
 cluster_refusal errors.BadShards = Some (codes "BadShards")
 cluster_refusal errors.BadCapacity = Some (codes "BadCapacity")
 cluster_refusal errors.TooManyCallers = Some (codes "TooManyCallers")
 cluster_refusal errors.Memory = None
 
--- the input is refused so, as it is no script or as its run is
+-- the input is refused for this, as it is no script or as its run is
 abbrev pub IsClusterRefusal : (place : Bool) → (input name : List ℕ) → Type 0
 IsClusterRefusal place input name = IsScriptRefusal cluster_script_of parts_of refused_line_of IsClusterRunRefusal place input name
 

@@ -1,4 +1,4 @@
--- What a run of the program that was asked for the stores in which controllers may end has written, and what it refuses.
+-- What `stsctl outcomes --final` has written, and what it refuses.
 use Rattle.std.specs.Prelude.{◌≡◌, ◌≢◌, ◌⊎◌, ◌≤◌, ◌<◌, ℕ, Bool, true, false, zero, suc, List, Option, Some, None, codes, map}
 use Rattle.std.specs.List.{All, AllPairs, Contains, slice_get}
 use Rattle.controller_outcomes.specs.Progress.{HasManyStates}
@@ -17,14 +17,14 @@ use Rattle.requests.specs.declared.reply.Reply.{Reply}
 abbrev pub shown_in : List FinalStore → List (List Reply)
 shown_in found = map (λ f. f.shown.items) found
 
--- Each is where some order leads in which each controller makes its rounds; wherever such an order leads is there; and none is there
--- twice.
+-- Each is what some order leads to in which each controller makes its rounds; whatever such an order leads to is there;
+-- and none is there twice.
 pub record AreFinals (race : Race) (found : List FinalStore) : Type 0 where
   pub each : All (IsFinal race) found
   pub all : (order : List Move) → IsWhole race order → Contains (shown_in found) (shown_after race order)
   pub once : AllPairs (λ x y. x ≢ y) (shown_in found)
 
--- the lines of all, without versions and UIDs where the words of the command line ask for it
+-- the lines of all, without versions and UIDs if that is requested
 abbrev pub stores_lines : (brief : Bool) → List FinalStore → List ℕ
 stores_lines true found = stores_brief_text found
 stores_lines false found = stores_text found
@@ -34,7 +34,7 @@ abbrev pub store_of : (number : ℕ) → List FinalStore → Option FinalStore
 store_of zero found = None
 store_of (suc index) found = slice_get found index
 
--- these lines, or a script that leads to the one that is chosen
+-- these lines, or a script that leads to the chosen one
 abbrev pub IsChosenStore : (choice : Option ℕ) → (brief : Bool) → Race → List FinalStore → (text : List ℕ) → Type 0
 IsChosenStore None brief race found text = text ≡ stores_lines brief found
 IsChosenStore (Some number) brief race found text = (f : FinalStore) × (store_of number found ≡ Some f) × ShowsStore race f.shown.items text
@@ -42,7 +42,7 @@ IsChosenStore (Some number) brief race found text = (f : FinalStore) × (store_o
 abbrev pub IsRaceText : (choice : Option ℕ) → (brief : Bool) → Race → (text : List ℕ) → Type 0
 IsRaceText choice brief race text = (found : List FinalStore) × AreFinals race found × IsChosenStore choice brief race found text
 
--- The race is the one that the input is, and all objects of its namespaces are looked at.
+-- The race is the one in the input, and all objects of its namespaces are looked at.
 pub record IsRaceOf (input : List ℕ) (race : Race) : Type 0 where
   pub read : race_of input ≡ Some (race_parts race)
   pub looks : race.looks.items ≡ looks_of race.beginning.items race.racers.items
@@ -60,12 +60,12 @@ abbrev pub IsStoreRefusal : (choice : Option ℕ) → List FinalStore → (name 
 IsStoreRefusal None found name = ⊥
 IsStoreRefusal (Some number) found name = ((store_of number found ≡ None) × (name ≡ codes "NoSuchOutcome")) ⊎ (name ≡ codes "NoScript")
 
--- the stores are not told, or the one of the choice is not
+-- the stores are not printed, or the chosen one is not
 abbrev pub IsRaceRefusal : (choice : Option ℕ) → Race → (name : List ℕ) → Type 0
 IsRaceRefusal choice race name = (IsBadCapacity race.capacity × (name ≡ codes "BadCapacity"))
     ⊎ ((HasManyStates race × (name ≡ codes "TooManyOutcomes")) ⊎ ((found : List FinalStore) × AreFinals race found × IsStoreRefusal choice found name))
 
--- The input is refused as BadScript exactly where it is no race of controllers.
+-- The input is refused as BadScript exactly if it is no race of controllers.
 abbrev pub IsStoresRefusal : (choice : Option ℕ) → (input name : List ℕ) → Type 0
 IsStoresRefusal choice input name = ((race_of input ≡ None) × (name ≡ codes "BadScript"))
     ⊎ ((race : Race) × IsRaceOf input race × IsRaceRefusal choice race name)

@@ -1,4 +1,4 @@
--- What a run of the program that was asked for outcomes has done, where the devices tell.
+-- What a run of `stsctl outcomes` has done, as far as the devices show it.
 use Rattle.std.specs.Prelude.{◌≡◌, ◌≢◌, ◌⊎◌, ℕ, Bool, true, false, zero, suc, List, Option, Some, None, codes, map}
 use Rattle.std.specs.List.{All, AllPairs, Contains, slice_get}
 use Rattle.clap.specs.Words.{Text}
@@ -23,7 +23,7 @@ use Rattle.commands.specs.Ending.{IsBadCapacity, IsStoresRefusal, IsStoresText}
 use Rattle.commands.specs.Grammar.{outcomes_text}
 use Rattle.commands.specs.declared.args.OutcomesWords.{OutcomesWords}
 
--- what callers are told in each
+-- the replies to callers in each
 abbrev pub told_in : List Outcome → List (List (Option Reply))
 told_in found = map (λ o. o.replies.items) found
 
@@ -39,12 +39,12 @@ abbrev pub outcome_of : (number : ℕ) → List Outcome → Option Outcome
 outcome_of zero found = None
 outcome_of (suc index) found = slice_get found index
 
--- the lines of all, which are in words where the words of the command line ask for it
+-- the lines of all, in words if that is requested
 abbrev pub lines_of_all : (brief : Bool) → Litmus → List Outcome → List ℕ
 lines_of_all true litmus found = outcomes_brief_text litmus found
 lines_of_all false litmus found = all_outcomes litmus found
 
--- these lines, or a script that shows the one that is chosen
+-- these lines, or a script that shows the chosen one
 abbrev pub IsChosenBy : (choice : Option ℕ) → (brief : Bool) → Litmus → List Outcome → (text : List ℕ) → Type 0
 IsChosenBy None brief litmus found text = text ≡ lines_of_all brief litmus found
 IsChosenBy (Some number) brief litmus found text = (o : Outcome) × (outcome_of number found ≡ Some o) × ShowsOutcome litmus o.replies.items text
@@ -55,11 +55,11 @@ IsChosenText sought litmus found text = IsChosenBy sought.choice sought.brief li
 abbrev pub IsFoundText : OutcomesWords → Litmus → (text : List ℕ) → Type 0
 IsFoundText sought litmus text = (found : List Outcome) × AreOutcomes litmus found × IsChosenText sought litmus found text
 
--- the same of the litmus test that the input is
+-- the same for the litmus test in the input
 abbrev pub IsLitmusText : OutcomesWords → (input text : List ℕ) → Type 0
 IsLitmusText sought input text = (litmus : Litmus) × (litmus_of input ≡ Some (parts_of litmus)) × IsFoundText sought litmus text
 
--- where the words ask for it, the stores in which the race may end that the input is
+-- if requested, the stores that the race in the input can leave
 abbrev pub IsTextBy : (finals : Bool) → OutcomesWords → (input text : List ℕ) → Type 0
 IsTextBy true sought input text = IsStoresText sought.choice sought.brief input text
 IsTextBy false sought input text = IsLitmusText sought input text
@@ -67,7 +67,7 @@ IsTextBy false sought input text = IsLitmusText sought input text
 abbrev pub IsOutcomesText : OutcomesWords → (input text : List ℕ) → Type 0
 IsOutcomesText sought input text = IsTextBy sought.finals sought input text
 
--- That text was written: all outcomes, in words where that is asked for, or the script that the words ask for, or all stores.
+-- That text was written: all outcomes, in words if that is requested, or the requested script, or all stores.
 abbrev pub Finds : (puts : Option (List ℕ) → List ℕ → Option (List ℕ) → Type 0) → List Text → (had left before after : Option (List ℕ)) → Type 0
 Finds puts words had left before after =
     (sought : OutcomesWords) × IsSoughtBy (λ option. outcomes_text option words) sought × WritesBy puts (IsOutcomesText sought) had left before after
@@ -79,12 +79,12 @@ abbrev pub IsChoiceRefusal : (choice : Option ℕ) → List Outcome → (name : 
 IsChoiceRefusal None found name = ⊥
 IsChoiceRefusal (Some number) found name = ((outcome_of number found ≡ None) × (name ≡ codes "NoSuchOutcome")) ⊎ (name ≡ codes "NoScript")
 
--- the outcomes are not told, or the one of the choice is not
+-- the outcomes are not printed, or the chosen one is not
 abbrev pub IsFindingRefusal : (choice : Option ℕ) → Litmus → (name : List ℕ) → Type 0
 IsFindingRefusal choice litmus name = (IsBadCapacity litmus.capacity × (name ≡ codes "BadCapacity"))
     ⊎ ((HasManyParts litmus × (name ≡ codes "TooManyOutcomes")) ⊎ ((found : List Outcome) × AreOutcomes litmus found × IsChoiceRefusal choice found name))
 
--- The input is refused as BadScript exactly where it is no litmus test.
+-- The input is refused as BadScript exactly if it is no litmus test.
 abbrev pub IsLitmusRefusal : (choice : Option ℕ) → (input name : List ℕ) → Type 0
 IsLitmusRefusal choice input name = ((litmus_of input ≡ None) × (name ≡ codes "BadScript"))
     ⊎ ((litmus : Litmus) × (litmus_of input ≡ Some (parts_of litmus)) × IsFindingRefusal choice litmus name)
@@ -100,7 +100,7 @@ IsOutcomesRefusal sought input name = IsRefusalBy sought.finals sought input nam
 abbrev pub IsOutcomesRefusedBy : OutcomesWords → Option (List ℕ) → Option (List ℕ) → List ℕ → Type 0
 IsOutcomesRefusedBy sought had left name = IsRefusedIn (IsOutcomesRefusal sought) had left name
 
--- the name of a refusal; want of memory is none
+-- the name of a refusal; out of memory is none
 abbrev pub finding_refusal : OutcomesError → Option (List ℕ)
 finding_refusal finding.BadCapacity = Some (codes "BadCapacity")
 finding_refusal finding.TooManyOutcomes = Some (codes "TooManyOutcomes")

@@ -6,12 +6,13 @@ use Rattle.commands.specs.declared.options.Form.{Form}
 use Rattle.pictures.specs.declared.shown.Shown.TheVariants as shown
 use Rattle.commands.specs.declared.options.Form.TheVariants.{Lines, Picture, Trace, Writes}
 
--- whether a flag is given, by what `clap` has for it: `true` where it is, else `false` or nothing
+-- whether a flag is given, by what `clap` has for it: `true` if it is, else `false` or nothing
 abbrev pub IsFlagBy : Option Text → Bool → Type 0
 IsFlagBy None given = given ≡ false
 IsFlagBy (Some text) given = (text ≡ codes "true" → given ≡ true) × (text ≡ codes "false" → given ≡ false)
 
--- what is printed where these flags are given: the trace before all, and a picture of the writes where both others are
+-- what is printed if these flags are given: the trace has precedence, and with the other two it is a picture of the
+-- writes
 abbrev pub form_of : (picture writes trace : Bool) → Form
 form_of picture writes true = Trace
 form_of true true false = Picture shown.Writes
@@ -19,13 +20,14 @@ form_of true false false = Picture shown.All
 form_of false true false = Writes
 form_of false false false = Lines
 
--- what the flags `--picture`, `--writes` and `--trace` ask for, by what `clap` has for each
+-- what the flags `--picture`, `--writes` and `--trace` request, by what `clap` has for each
 abbrev pub IsFormBy : (text : Text → Option Text) → Form → Type 0
 IsFormBy text form = (picture : Bool) × ((writes : Bool) × ((trace : Bool)
     × (IsFlagBy (text (codes "picture")) picture × IsFlagBy (text (codes "writes")) writes × IsFlagBy (text (codes "trace")) trace
     × (form ≡ form_of picture writes trace))))
 
--- All of the reader's bytes were read, and of such a text of the input was written all, by `Puts`, or a beginning, by `PutsPart`.
+-- All of the reader's bytes were read, and all of such a text of the input was written, by `Puts`, or a prefix, by
+-- `PutsPart`.
 abbrev pub WritesBy : (puts : Option (List ℕ) → List ℕ → Option (List ℕ) → Type 0) → (IsText : (input text : List ℕ) → Type 0)
     → (had left before after : Option (List ℕ)) → Type 0
 WritesBy puts IsText had left before after =

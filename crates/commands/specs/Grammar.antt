@@ -1,5 +1,6 @@
--- What the program takes, as `clap` reads it: `serve [--capacity N]`, `replay [--picture] [--writes] [--trace] [--where]`,
--- `cluster [--picture] [--writes] [--trace] [--where]`, `plan --set NAME [--namespace NS] [--digits H] [--brief] [--where]`,
+-- What the program accepts, as `clap` reads it: `serve [--capacity N]`,
+-- `replay [--picture] [--writes] [--trace] [--where]`, `cluster [--picture] [--writes] [--trace] [--where]`,
+-- `plan --set NAME [--namespace NS] [--digits H] [--brief] [--where]`,
 -- `race [--controllers N] [--shards N] [--rounds N] [--replicas N] [--operator] [--history]`, and
 -- `outcomes [--script K] [--brief] [--final]`. `clap` adds help and the version.
 use Rattle.std.specs.Prelude.{◌≡◌, ◌≤◌, ◌<◌, ◌^◌, ℕ, Bool, true, false, List, [], ◌∷◌, Option, Some, None, codes, if◌then◌else◌}
@@ -38,7 +39,7 @@ writes_rule = flag_rule (codes "writes")
 abbrev pub trace_rule : Rule
 trace_rule = flag_rule (codes "trace")
 
--- what a run of a script is printed as, and whether a refusal tells its line
+-- how a run of a script is printed, and whether a refusal names its line
 abbrev pub with_forms : App → App
 with_forms app = with_rule (with_rule (with_rule (with_rule app picture_rule) writes_rule) trace_rule) (flag_rule (codes "where"))
 
@@ -67,11 +68,11 @@ brief_rule = flag_rule (codes "brief")
 abbrev pub plan_app : App
 plan_app = with_rule (with_rule (with_rule (with_rule (with_rule (new_app (codes "plan")) set_rule) namespace_rule) digits_rule) brief_rule) (flag_rule (codes "where"))
 
--- an option of `race`, whose value is what the parser takes
+-- an option of `race`, whose value is what the parser accepts
 abbrev pub option_rule : Text → ValueParser → Rule
 option_rule name parser = record (new_rule name) { long = Some name; value_names = 1; parser = Some parser }
 
--- `race` with the options that say how large the race is
+-- `race` with the options for its size
 abbrev pub sized_app : App
 sized_app = with_rule (with_rule (with_rule (with_rule (new_app (codes "race")) (option_rule (codes "controllers") (parsers.Unsigned 1 64)))
     (option_rule (codes "shards") (parsers.Unsigned 1 64))) (option_rule (codes "rounds") (parsers.Unsigned 1 1024)))
@@ -88,18 +89,18 @@ stsctl_app = with_subcommand (with_subcommand (with_subcommand (with_subcommand 
     (record (new_app (codes "stsctl")) { top = record (new_shape (codes "stsctl")) { has_version = true; subcommand_required = true } })
     serve_app.top) replay_app.top) cluster_app.top) plan_app.top) race_app.top) outcomes_app.top
 
--- why the words, the program's name first, ask for nothing that the program does: nothing where they do ask for it
+-- why the arguments, the program's name first, are no command of the program; nothing if they are one
 unfoldable pub faults_of : List Text → Kinds
 faults_of words = fault_of stsctl_app words
 
--- what this subcommand is given, option by option
+-- the options of this subcommand, one by one
 abbrev pub rows_under : Text → Option (Text × List Row) → List Row
 rows_under word entered = option_map_or (λ e. if bytes_eq e.0 word then e.1 else []) entered []
 
 abbrev pub is_under : Text → Option (Text × List Row) → Bool
 is_under word entered = option_map_or (λ e. bytes_eq e.0 word) entered false
 
--- one of the words that the program is asked for, or none
+-- the requested command, or none
 pub data Word : Type 0 where
   Serve : Word
   Replay : Word
@@ -124,11 +125,11 @@ word_of [] met =
     (is_under (codes "outcomes") met)
 word_of (kind ∷ kinds) met = NoWork
 
--- what the words ask for: no work where they have a fault
+-- the requested command; none if the arguments have a fault
 unfoldable pub asked : List Text → Word
 asked words = word_of (faults_of words) (subcommand_of stsctl_app words)
 
--- the text after `--capacity`, if the words have one
+-- the text after `--capacity`, if the arguments have one
 unfoldable pub capacity_text : List Text → Option Text
 capacity_text words = one_of (codes "capacity") (rows_under (codes "serve") (subcommand_of stsctl_app words))
 
@@ -136,7 +137,7 @@ capacity_text words = one_of (codes "capacity") (rows_under (codes "serve") (sub
 unfoldable pub flag_text : (word flag : Text) → List Text → Option Text
 flag_text word flag words = one_of flag (rows_under word (subcommand_of stsctl_app words))
 
--- the text after this option of `plan`, if the words have one
+-- the text after this option of `plan`, if the arguments have one
 unfoldable pub plan_text : Text → List Text → Option Text
 plan_text option words = first_of option (rows_under (codes "plan") (subcommand_of stsctl_app words))
 
@@ -144,20 +145,20 @@ plan_text option words = first_of option (rows_under (codes "plan") (subcommand_
 unfoldable pub digits_text : List Text → Option Text
 digits_text words = one_of (codes "digits") (rows_under (codes "plan") (subcommand_of stsctl_app words))
 
--- The store has room for as many revisions as the text says in decimal digits, or else for as many as there may be. Where
--- the text is no such number, the words have a fault.
+-- The store has room for as many revisions as the text says in decimal digits, or else for as many as possible. If the
+-- text is no such number, the arguments have a fault.
 abbrev pub IsCapacityBy : Option Text → ℕ → Type 0
 IsCapacityBy None capacity = capacity ≡ most_revisions
 IsCapacityBy (Some text) capacity =
     IsNumeral 10 (without_leading_plus text) → digits_value 10 (without_leading_plus text) < 2 ^ 64
     → capacity ≡ digits_value 10 (without_leading_plus text)
 
--- the words ask for a store with room for so many revisions
+-- the arguments request a store with room for so many revisions
 abbrev pub AsksFor : List Text → ℕ → Type 0
 AsksFor words capacity = IsCapacityBy (capacity_text words) capacity
 
--- The number is the one that the text says in decimal digits, or else the usual one. Where the text is no number in the range,
--- the words have a fault.
+-- The number is the one that the text says in decimal digits, or else the default. If the text is no number in the
+-- range, the arguments have a fault.
 abbrev pub IsNumberBy : (usual least most : ℕ) → Option Text → ℕ → Type 0
 IsNumberBy usual least most None n = n ≡ usual
 IsNumberBy usual least most (Some text) n =
@@ -176,21 +177,21 @@ race_text option words = one_of option (rows_under (codes "race") (subcommand_of
 unfoldable pub outcomes_text : Text → List Text → Option Text
 outcomes_text option words = one_of option (rows_under (codes "outcomes") (subcommand_of stsctl_app words))
 
--- The outcome whose script is asked for is the one of the number that the text says in decimal digits; without a text none is. Where
--- the text is no such number, the words have a fault.
+-- The outcome whose script is requested has the number that the text says in decimal digits; without a text none is. If
+-- the text is no such number, the arguments have a fault.
 abbrev pub IsChoiceBy : Option Text → Option ℕ → Type 0
 IsChoiceBy None choice = choice ≡ None
 IsChoiceBy (Some text) choice =
     IsNumeral 10 (without_leading_plus text) → digits_value 10 (without_leading_plus text) < 2 ^ 64
     → choice ≡ Some (digits_value 10 (without_leading_plus text))
 
--- the words ask for help or for the version
+-- the arguments request help or the version
 abbrev pub is_request : ErrorKind → Bool
 is_request DisplayHelp = true
 is_request DisplayVersion = true
 is_request _ = false
 
--- the words are bad
+-- the arguments are bad
 abbrev pub is_mistake : ErrorKind → Bool
 is_mistake DisplayHelp = false
 is_mistake DisplayVersion = false

@@ -1,4 +1,4 @@
--- Why there is no output, and what is reported of it.
+-- Why there is no output, and what is written about it.
 use Rattle.std.specs.Prelude.{◌≡◌, ◌<◌, ◌⊎◌, ℕ, Bool, true, false, List, [], ◌∷◌, ◌++◌, Option, Some, None, Result, Ok, Err, codes, decimal}
 use Rattle.std.specs.Option.{IfSome}
 use Rattle.plain.specs.Streams.{Puts}
@@ -14,7 +14,7 @@ is_read Memory = false
 is_read (Refused name) = false
 is_read (RefusedAt name line) = false
 
--- the reader's failures before and after: one is counted exactly where the reader failed
+-- the reader's failures before and after: one is counted exactly if the reader failed
 abbrev pub CountsReads : {A : Type 0} → Result A Halt → ℕ → ℕ → Type 0
 CountsReads (Ok x) old new = new ≡ old
 CountsReads (Err Read) old new = old < new
@@ -27,29 +27,30 @@ abbrev pub halt_of : InputFault → Halt
 halt_of input.Read = Read
 halt_of input.Memory = Memory
 
--- the line that is told of a refusal, where it is asked for
+-- the line that a refusal names, if it is requested
 abbrev pub told_line : (place : Bool) → Option ℕ → Option ℕ
 told_line true line = line
 told_line false line = None
 
--- what is said of a refusal: its name, and in a line of its own the number of the line for which the input is refused, if that is told
+-- what is written of a refusal: its name, and in a line of its own the number of the line for which the input is
+-- refused, if that is named
 abbrev pub refused_as : Option ℕ → (name : List ℕ) → List ℕ
 refused_as None name = name
 refused_as (Some n) name = name ++ 10 ∷ (codes "line " ++ decimal n)
 
--- what is said of the refusal of an input, if it is refused
+-- what is written of the refusal of an input, if it is refused
 abbrev pub name_of : Halt → Option (List ℕ)
 name_of Read = None
 name_of Memory = None
 name_of (Refused name) = Some name.now
 name_of (RefusedAt name line) = Some (refused_as (Some line) name.now)
 
--- there is a name, of which this is said
+-- there is a name, of which this is written
 abbrev pub IsNamed : Option (List ℕ) → (List ℕ → Type 0) → Type 0
 IsNamed None said = ⊥
 IsNamed (Some name) said = said name
 
--- what is said of a refusal
+-- what is written of a refusal
 abbrev pub refusal_text : List ℕ → List ℕ
 refusal_text name = codes "refused: " ++ name ++ 10 ∷ []
 

@@ -1,4 +1,4 @@
--- ---- what public clauses cite
+-- ---- cited by public clauses
 pub mod Asked
 pub mod Clustering
 pub mod Ending

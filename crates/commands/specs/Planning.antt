@@ -1,4 +1,4 @@
--- What a run of the program that was asked to plan has done, where the devices tell.
+-- What a run of `stsctl plan` has done, as far as the devices show it.
 use Rattle.std.specs.Prelude.{◌≡◌, ◌⊎◌, ℕ, Bool, true, false, List, [], Option, None, Some, Ok, Err, codes, find}
 use Rattle.std.specs.Option.{IfSome}
 use Rattle.clap.specs.Words.{Text}
@@ -24,12 +24,12 @@ use Rattle.commands.specs.Halts.{refused_as, told_line}
 use Rattle.commands.specs.Asked.{IsPlanAsked}
 use Rattle.commands.specs.Forms.{WritesBy}
 
--- a plan of the set that is asked for, which is the first of its namespace and name among the objects
+-- a plan of the requested set, which is the first of its namespace and name among the objects
 abbrev pub IsPlanOver : PlanWords → Lists → Plan → Type 0
 IsPlanOver asked lists plan = (object : Object) × (find (is_named asked.namespace.now asked.name.now) lists.sets ≡ Some object)
     × ((set : SetParts) × (set_of object ≡ Ok set) × IsPlan set lists.pods lists.claims lists.revisions asked.digits (Ok plan))
 
--- how its actions are written: in words where that is asked for
+-- how its actions are written: in words if that is requested
 abbrev pub format_by : (brief : Bool) → Format
 format_by true = Brief
 format_by false = Json
@@ -38,7 +38,7 @@ format_by false = Json
 abbrev pub actions_of : PlanWords → Plan → List ℕ
 actions_of asked plan = actions_text (format_by asked.brief) plan.actions.items
 
--- such a plan, where each line of the input is an object
+-- such a plan, if each line of the input is an object
 abbrev pub IsPlanOf : PlanWords → List ℕ → Plan → Type 0
 IsPlanOf asked input plan = (lists : Lists) × (read_from nothing (lines input) ≡ Ok lists) × IsPlanOver asked lists plan
 
@@ -46,11 +46,11 @@ IsPlanOf asked input plan = (lists : Lists) × (read_from nothing (lines input) 
 abbrev pub IsPlanText : PlanWords → (input text : List ℕ) → Type 0
 IsPlanText asked input text = (plan : Plan) × IsPlanOf asked input plan × (text ≡ actions_of asked plan)
 
--- Such a text was written, of the plan that the words ask for.
+-- Such a text was written, of the requested plan.
 abbrev pub Plans : (puts : Option (List ℕ) → List ℕ → Option (List ℕ) → Type 0) → List Text → (had left before after : Option (List ℕ)) → Type 0
 Plans puts words had left before after = (asked : PlanWords) × IsPlanAsked words asked × WritesBy puts (IsPlanText asked) had left before after
 
--- the name of the refusal of a line; want of memory is none
+-- the name of the refusal of a line; out of memory is none
 abbrev pub read_refusal : ReadError → Option (List ℕ)
 read_refusal read.NotJson = Some (read_error_name read.NotJson)
 read_refusal read.NotWhole = Some (read_error_name read.NotWhole)
@@ -79,7 +79,7 @@ abbrev pub IsSetRefused : Object → Lists → ℕ → List ℕ → Type 0
 IsSetRefused object lists digits name = ((e : PlanError) × (plan_refusal e ≡ Some name) × (set_of object ≡ Err e))
     ⊎ ((set : SetParts) × (set_of object ≡ Ok set) × IsPlanOfSetRefused set lists digits name)
 
--- No set among the objects is the one that is asked for, which is NotFound, or the first that is has no plan.
+-- No set among the objects is the requested one, which is NotFound, or the first that is has no plan.
 abbrev pub IsRefusedOver : PlanWords → Lists → List ℕ → Type 0
 IsRefusedOver asked lists name = ((find (is_named asked.namespace.now asked.name.now) lists.sets ≡ None) × (name ≡ codes "NotFound"))
     ⊎ ((object : Object) × (find (is_named asked.namespace.now asked.name.now) lists.sets ≡ Some object) × IsSetRefused object lists asked.digits name)
@@ -89,7 +89,7 @@ abbrev pub IsInputRefusal : (place : Bool) → (input name : List ℕ) → Type 
 IsInputRefusal place input name = (e : ReadError) × ((n : List ℕ) × (read_refusal e ≡ Some n) × (read_from nothing (lines input) ≡ Err e)
     × (name ≡ refused_as (told_line place (refused_line_of input)) n))
 
--- The input is refused so, or its objects have no plan.
+-- The input is refused for this, or its objects have no plan.
 abbrev pub IsPlanRefusal : PlanWords → (input name : List ℕ) → Type 0
 IsPlanRefusal asked input name = IsInputRefusal asked.place input name
     ⊎ ((lists : Lists) × (read_from nothing (lines input) ≡ Ok lists) × IsRefusedOver asked lists name)

@@ -1,4 +1,4 @@
--- What a run of the program reports of an input that is refused.
+-- What a run of the program writes about an input that is refused.
 use Rattle.std.specs.Prelude.{◌≡◌, ℕ, Bool, List, Option, codes}
 use Rattle.clap.specs.Words.{Text}
 use Rattle.commands.specs.declared.args.PlanWords.{PlanWords}
@@ -11,8 +11,8 @@ use Rattle.commands.specs.Grammar.{Cluster, Outcomes, Plan, Replay, asked, flag_
 use Rattle.commands.specs.Planning.{IsPlanRefusedBy}
 use Rattle.commands.specs.Replaying.{IsRefusedBy}
 
--- A refusal by some name was reported, and by that name the script of a replay or a cluster is refused, or the plan or the outcomes
--- that the words ask for. What is reported tells the line where the words ask for it.
+-- A refusal by some name was written, and by that name the script of a replay or a cluster is refused, or the requested
+-- plan or outcomes. What is written names the line if that is requested.
 abbrev pub Refuses : List Text → Option (List ℕ) → Option (List ℕ) → (reported : List ℕ → Type 0) → Type 0
 Refuses words had left reported = (name : List ℕ) × reported name × (asked words ≡ Replay → (place : Bool) × IsFlagBy (flag_text (codes "replay") (codes "where") words) place × IsRefusedBy place had left name)
     × (asked words ≡ Cluster → (place : Bool) × IsFlagBy (flag_text (codes "cluster") (codes "where") words) place × IsClusterRefusedBy place had left name)

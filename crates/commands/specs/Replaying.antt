@@ -1,4 +1,4 @@
--- What a run of the program that was asked to replay has done, where the devices tell.
+-- What a run of `stsctl replay` has done, as far as the devices show it.
 use Rattle.std.specs.Prelude.{◌≡◌, ◌⊎◌, Bool, ◌≤◌, ◌<◌, ℕ, List, Option, Some, None, codes}
 use Rattle.plain_store.specs.Reached.{most_revisions}
 use Rattle.history.specs.After.{IsRunOf}
@@ -29,7 +29,7 @@ use Rattle.replay_lines.specs.declared.fault.ScriptError.TheVariants.{BadScript,
 abbrev pub IsRunText : Size × List Event → List ℕ → Type 0
 IsRunText script text = (run : Run) × IsRunOf script.0 script.1 run × (text ≡ run_text run.trace.items.items run.order.items)
 
--- the writes of the run of these events, told by its calls and replies
+-- the writes of the run of these events, by its calls and replies
 abbrev pub IsStoryText : Size × List Event → List ℕ → Type 0
 IsStoryText script text = (run : Run) × IsRunOf script.0 script.1 run × (text ≡ story_text no_role run.trace.items.items)
 
@@ -40,35 +40,35 @@ IsShownText (Picture shown) script text = text ≡ picture_text shown script.0 n
 IsShownText Writes script text = IsStoryText script text
 IsShownText Trace script text = text ≡ trace_text no_role script.0 script.1
 
--- the same of the script that the input is
+-- the same for the script in the input
 abbrev pub IsReplayText : Form → (input text : List ℕ) → Type 0
 IsReplayText form input text = IsScriptText script_of parts_of (λ f script. IsShownText f (parts_of script)) form input text
 
--- That text was written, in the form that the words ask for: the replies of the run and its order, its picture, its writes, or its
+-- That text was written, in the requested form: the replies of the run and its order, its picture, its writes, or its
 -- trace.
 abbrev pub Replays : (puts : Option (List ℕ) → List ℕ → Option (List ℕ) → Type 0) → List Text → (had left before after : Option (List ℕ)) → Type 0
 Replays puts words had left before after =
     (form : Form) × IsFormBy (λ flag. flag_text (codes "replay") flag words) form × WritesBy puts (IsReplayText form) had left before after
 
--- A run of this size is refused by this name. The first that fits: the shards are out of range, then the capacity, then there are
+-- A run of this size is refused by this name: the first that applies of shards out of range, capacity out of range, and
 -- too many callers.
 abbrev pub IsSizeRefusal : (shards capacity callers : ℕ) → (name : List ℕ) → Type 0
 IsSizeRefusal shards capacity callers name = ((1 ≤ shards → 64 < shards) × (name ≡ codes "BadShards"))
     ⊎ (((1 ≤ shards) × (shards ≤ 64) × (1 ≤ capacity → most_revisions < capacity) × (name ≡ codes "BadCapacity"))
     ⊎ ((1 ≤ shards) × (shards ≤ 64) × (1 ≤ capacity) × (capacity ≤ most_revisions) × (4096 < callers) × (name ≡ codes "TooManyCallers")))
 
--- the run of the script's events is refused so, by the callers that they name
+-- the run of the script's events is refused for this, by the callers that they name
 abbrev pub IsRunRefusal : Size × List Event → (name : List ℕ) → Type 0
 IsRunRefusal script name = IsSizeRefusal script.0.shards script.0.capacity (callers script.1) name
 
--- the name of the refusal of a run; want of memory is none
+-- the name of the refusal of a run; out of memory is none
 abbrev pub run_refusal : ReplayError → Option (List ℕ)
 run_refusal errors.BadShards = Some (codes "BadShards")
 run_refusal errors.BadCapacity = Some (codes "BadCapacity")
 run_refusal errors.TooManyCallers = Some (codes "TooManyCallers")
 run_refusal errors.Memory = None
 
--- the input is refused so, as it is no script or as its run is
+-- the input is refused for this, as it is no script or as its run is
 abbrev pub IsReplayRefusal : (place : Bool) → (input name : List ℕ) → Type 0
 IsReplayRefusal place input name = IsScriptRefusal script_of parts_of refused_line_of (λ script. IsRunRefusal (parts_of script)) place input name
 

@@ -1,4 +1,4 @@
--- What the callers of a cluster are called in a picture, before their numbers.
+-- How a picture names the callers of a cluster, before their numbers.
 use Rattle.std.specs.Prelude.{ℕ, List, [], ◌++◌, Option, Some, None, codes, decimal, slice_get}
 use Rattle.controllers.specs.declared.set_spec.SetSpec.{SetSpec}
 

@@ -1,4 +1,4 @@
-//! Words that read all their input, and write one text.
+//! Commands that read all their input, and write one text.
 ghost use Rattle.std.specs.Prelude.{◌≡◌, ◌≢◌, ◌<◌, ◌⊎◌, ℕ, List, [], false, true, IfOk, IfErr, IfSome, Some};
 ghost use Rattle.plain.specs.Streams.{Puts, PutsPart};
 ghost use Rattle.commands.specs.Forms.{WritesBy};
@@ -9,9 +9,9 @@ use crate::status::{BAD_WORDS, FAILURE, REFUSED, SUCCESS, TrackedAlloc, write_te
 use plain::{Sink, Source, read_all};
 use std::alloc::Global;
 
-/// What a word of the command line makes of an input.
+/// What a command makes of an input.
 pub(crate) trait Answer {
-    /// Whether that text answers that input.
+    /// Whether that text is an output for that input.
     ghost is_text: { Self → List ℕ → List ℕ → Type 0 };
     /// Whether that input is refused by that name.
     ghost is_refusal: { Self → List ℕ → List ℕ → Type 0 };
@@ -22,7 +22,7 @@ pub(crate) trait Answer {
         ensures read { IfErr result (λ halt. is_read halt ≡ false) };
 }
 
-/// Writes what the word makes of all that the reader has.
+/// Writes what the command makes of all that the reader has.
 pub(crate) fn run_word<A: Answer, R: Source, W: Sink, F: Sink>(
     heap: &mut TrackedAlloc,
     word: &A,

@@ -1,4 +1,4 @@
-//! What the words of the command line ask for.
+//! The arguments of the command line, parsed.
 ghost use Rattle.std.specs.Prelude.{◌≡◌, ◌≤◌, [], true, false, codes, map, unwrap_or, IfOk};
 ghost use Rattle.clap.specs.Words.{App, FailsBy, app_of, first_of, found_of, one_of, rows_of, rule_of, subcommand_rows_of, with_subcommand};
 ghost use Rattle.commands.specs.Grammar.{IsCapacityBy, IsChoiceBy, IsDigitsBy, cluster_app, faults_of, flag_rule, namespace_rule, outcomes_app, plan_app, replay_app, rows_under, serve_app, set_rule, stsctl_app};
@@ -16,14 +16,14 @@ use plain::MAX_REVISIONS;
 use std::alloc::{AllocError, Global};
 use std::convert::AsStr;
 
-/// How many hex digits of its hash the name of a revision has, where the words say no number.
+/// How many hex digits of its hash the name of a revision has by default.
 const DIGITS: u64 = 10;
 
 /// The most hex digits that a hash has.
 const MAX_DIGITS: u64 = 64;
 
-/// What is to be planned: the set of this namespace and name, how many hex digits of its hash the name of a new revision
-/// gets, whether the actions are written in words, and whether a refusal tells its line.
+/// What is to be planned: the set of this namespace and name, how many hex digits of its hash the name of a new
+/// revision gets, whether the actions are written in words, and whether a refusal names its line.
 #[derive(Clone, Copy, Drop)]
 pub(crate) struct PlanWords<'a> {
     pub(crate) namespace: &'a str,
@@ -33,15 +33,15 @@ pub(crate) struct PlanWords<'a> {
     pub(crate) place: bool,
 }
 
-/// What is printed of a script, and whether a refusal tells its line.
+/// What is printed of a script, and whether a refusal names its line.
 #[derive(Clone, Copy, Drop)]
 pub(crate) struct ScriptWords {
     pub(crate) form: Form,
     pub(crate) place: bool,
 }
 
-/// Which outcome's script is asked for, by its number from 1, whether outcomes are told in words, and whether they are the stores
-/// in which a race of controllers may end.
+/// Which outcome's script is requested, by its number from 1, whether outcomes are printed in words, and whether they
+/// are the stores that a race of controllers can leave.
 #[derive(Clone, Copy, Drop)]
 pub(crate) struct OutcomesWords {
     pub(crate) choice: Option<u64>,
@@ -49,25 +49,27 @@ pub(crate) struct OutcomesWords {
     pub(crate) finals: bool,
 }
 
-/// What the words ask for.
+/// What the arguments request.
 #[derive(Clone, Copy, Drop)]
 pub(crate) enum Asked<'a> {
-    /// To answer requests from a store with room for this many revisions.
+    /// Serve requests from a store with room for this many revisions.
     Serve(u64),
-    /// To run the events of a script.
+    /// Run the events of a script.
     Replay(ScriptWords),
-    /// To run the controllers of a script, by its events.
+    /// Run the controllers of a script, by its events.
     Cluster(ScriptWords),
-    /// To plan a set.
+    /// Plan a set.
     Plan(PlanWords<'a>),
-    /// To let controllers race.
+    /// Let controllers race.
     Race(RaceWords),
-    /// To find what racing callers can be told, or the script that shows one such outcome, or where racing controllers may end.
+    /// Find the replies that racing callers can get, or the script that shows one such outcome, or the stores that
+    /// racing controllers can leave.
     Outcomes(OutcomesWords),
 }
 
-/// What the program takes: `serve [--capacity N]`, `replay [--picture] [--writes] [--trace] [--where]`,
-/// `cluster [--picture] [--writes] [--trace] [--where]`, `plan --set NAME [--namespace NS] [--digits H] [--brief] [--where]`,
+/// What the program accepts: `serve [--capacity N]`, `replay [--picture] [--writes] [--trace] [--where]`,
+/// `cluster [--picture] [--writes] [--trace] [--where]`,
+/// `plan --set NAME [--namespace NS] [--digits H] [--brief] [--where]`,
 /// `race [--controllers N] [--shards N] [--rounds N] [--replicas N] [--operator] [--history]`, and
 /// `outcomes [--script K] [--brief] [--final]`, and what `clap` adds for help and the version.
 fn grammar<'a>(alloc: Global) -> Result<Command<'a>, AllocError>
@@ -88,7 +90,7 @@ fn grammar<'a>(alloc: Global) -> Result<Command<'a>, AllocError>
     with_word(command, outcomes_grammar(alloc))
 }
 
-/// The command with one word more. What was made of it so far is let go here alone, where that word is not made.
+/// The grammar with one more command. If that cannot be made, what was made of the grammar so far is released here alone.
 fn with_word<'a>(
     command: Command<'a>,
     word: Result<Command<'a>, AllocError>,
@@ -190,7 +192,7 @@ fn plan_grammar<'a>(alloc: Global) -> Result<Command<'a>, AllocError>
         .arg(where_arg(alloc))
 }
 
-/// What the words ask for. An `Err` is also a call for help or for the version.
+/// What the arguments request. An `Err` may also be a request for help or for the version.
 pub(crate) fn read_words<'a, S: AsStr>(alloc: Global, words: &'a [S]) -> Result<Asked<'a>, Error>
     ensures faults { FailsBy (faults_of (map S.text words.entry.now)) result }
     ensures asked { IfOk result (IsAsked (map S.text words.entry.now)) }
@@ -202,7 +204,7 @@ pub(crate) fn read_words<'a, S: AsStr>(alloc: Global, words: &'a [S]) -> Result<
     })
 }
 
-/// What words ask for that ask for no plan.
+/// What arguments request that are no plan.
 fn other_in<'a>(matches: &ArgMatches<'_>) -> Asked<'a>
     ensures { IsOther (subcommand_rows_of matches.now) result }
 {
@@ -212,7 +214,7 @@ fn other_in<'a>(matches: &ArgMatches<'_>) -> Asked<'a>
     }
 }
 
-/// What words ask for that ask for no plan and no race.
+/// What arguments request that are no plan and no race.
 fn scripted_in<'a>(matches: &ArgMatches<'_>) -> Asked<'a>
     ensures { IsScripted (subcommand_rows_of matches.now) result }
 {
@@ -222,7 +224,7 @@ fn scripted_in<'a>(matches: &ArgMatches<'_>) -> Asked<'a>
     }
 }
 
-/// What words ask for that ask for no plan, no race and no replay.
+/// What arguments request that are no plan, no race and no replay.
 fn serving_in<'a>(matches: &ArgMatches<'_>) -> Asked<'a>
     ensures { IsServing (subcommand_rows_of matches.now) result }
 {
@@ -232,7 +234,7 @@ fn serving_in<'a>(matches: &ArgMatches<'_>) -> Asked<'a>
     }
 }
 
-/// What words ask for that ask for no plan, no race, no replay and no cluster.
+/// What arguments request that are no plan, no race, no replay and no cluster.
 fn finding_in<'a>(matches: &ArgMatches<'_>) -> Asked<'a>
     ensures { IsFinding (subcommand_rows_of matches.now) result }
 {
@@ -242,7 +244,7 @@ fn finding_in<'a>(matches: &ArgMatches<'_>) -> Asked<'a>
     }
 }
 
-/// What the words after `replay` or `cluster` say.
+/// The arguments after `replay` or `cluster`.
 fn script_words(matches: &ArgMatches<'_>) -> ScriptWords
     ensures { IsScriptBy (λ flag. one_of flag (rows_of (found_of matches.now))) result }
 {
@@ -287,7 +289,7 @@ fn where_arg<'a>(alloc: Global) -> Arg<'a>
     )
 }
 
-/// What the words after `outcomes` say.
+/// The arguments after `outcomes`.
 fn outcomes_words(matches: &ArgMatches<'_>) -> OutcomesWords
     ensures { IsSoughtBy (λ option. one_of option (rows_of (found_of matches.now))) result }
 {
@@ -316,7 +318,7 @@ fn capacity_in(matches: &ArgMatches<'_>) -> u64
     given.unwrap_or(MAX_REVISIONS)
 }
 
-/// What the words after `plan` say.
+/// The arguments after `plan`.
 fn plan_words<'a>(matches: &ArgMatches<'a>) -> PlanWords<'a>
     ensures namespace { result.namespace.now ≡ unwrap_or (first_of (codes "namespace") (rows_of (found_of matches.now))) (codes "default") }
     ensures name { result.name.now ≡ unwrap_or (first_of (codes "set") (rows_of (found_of matches.now))) [] }

@@ -16,7 +16,7 @@ use std::alloc::Global;
 use stories::story;
 use traces::trace_by_lines;
 
-/// The line of a script that its first turn is.
+/// The line of a script with its first turn.
 const FIRST_TURN: u64 = 2;
 
 impl Runnable for ClusterScript {
@@ -71,7 +71,7 @@ impl Runnable for ClusterScript {
         drop(found);
         match text {
             Ok(text) => Ok(text),
-            // The events ran before, so nothing but memory can be wanting.
+            // The events ran before, so only memory can be missing.
             Err(_) => Err(Halt::Memory),
         }
     }
@@ -139,7 +139,7 @@ fn trace_beside(
     drop(notes);
     match text {
         Ok(text) => Ok(text),
-        // The events ran before, so nothing but memory can be wanting.
+        // The events ran before, so only memory can be missing.
         Err(_) => Err(Halt::Memory),
     }
 }

@@ -6,7 +6,7 @@ use pictures::Roles;
 use std::alloc::AllocError;
 use std::collections::BTreeMap;
 
-/// Who the callers of a cluster's run are: by each the controller that it is or was, and the sets of the controllers.
+/// Who the callers of a cluster's run are: for each the controller that it is or was, and the sets of the controllers.
 #[derive(Clone, Copy, Drop)]
 pub(crate) struct ClusterRoles<'a> {
     pub(crate) owners: &'a BTreeMap<u64, Option<usize>>,

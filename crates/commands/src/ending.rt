@@ -9,7 +9,7 @@ use controller_outcomes::{FinalStore, Race, final_stores};
 use outcome_lines::{read_race, store_script_text, stores_brief_text, stores_text};
 use std::alloc::Global;
 
-/// The stores in which the race of these lines may end, or the script that leads to the one of that number, from 1.
+/// The stores that the race of these lines can leave, or the script that leads to the one of that number, from 1.
 pub(crate) fn stores_of_lines(
     alloc: Global,
     choice: Option<u64>,

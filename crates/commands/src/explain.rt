@@ -1,4 +1,4 @@
-//! Help, the version, and what is wrong with words.
+//! Help, the version, and mistakes in arguments.
 ghost use Rattle.std.specs.Prelude.{◌≡◌, ◌≢◌, ◌≤◌, ◌<◌, ◌⊎◌, true, false};
 ghost use Rattle.clap.specs.Words.{kind_of};
 ghost use Rattle.commands.specs.Grammar.{is_mistake, is_request};
@@ -8,21 +8,22 @@ use clap::Error;
 use clap::error::ErrorKind;
 use plain::Sink;
 
-/// Whether the words ask for help or for the version.
+/// Whether the arguments request help or the version.
 fn is_request(kind: ErrorKind) -> bool
     ensures { result ≡ is_request kind }
 {
     matches!(kind, ErrorKind::DisplayHelp | ErrorKind::DisplayVersion)
 }
 
-/// Whether the words are bad.
+/// Whether the arguments are bad.
 fn is_mistake(kind: ErrorKind) -> bool
     ensures { result ≡ is_mistake kind }
 {
     !is_request(kind) && kind != ErrorKind::OutOfMemory
 }
 
-/// What is said behind a mistake: of a word too many, which is often the name of a file, where input comes from.
+/// What is printed after a mistake: for one argument too many, which is often the name of a file, where input comes
+/// from.
 fn tip(kind: ErrorKind) -> &'static str {
     if kind == ErrorKind::UnknownArgument {
         "Input comes on standard input: stsctl replay < FILE\n"
@@ -31,7 +32,7 @@ fn tip(kind: ErrorKind) -> &'static str {
     }
 }
 
-/// Says why nothing is done: help and the version on `writer`, a mistake in the words on `faults`.
+/// Prints why nothing is done: help and the version to `writer`, a mistake in the arguments to `faults`.
 pub(crate) fn explain<W: Sink, F: Sink>(
     heap: &mut TrackedAlloc,
     error: &Error,

@@ -12,8 +12,8 @@ use outcome_lines::{outcomes_brief_text, outcomes_text, read_litmus, script_text
 use outcomes::{Litmus, Outcome, outcomes};
 use std::alloc::Global;
 
-/// What the callers of a litmus test can be told, in words where that is asked for, or the script that shows one outcome; or the
-/// stores in which a race of controllers may end.
+/// The replies that the callers of a litmus test can get, in words if that is requested, or the script that shows one
+/// outcome; or the stores that a race of controllers can leave.
 #[derive(Clone, Copy, Drop)]
 pub(crate) struct Finding {
     pub(crate) sought: OutcomesWords,

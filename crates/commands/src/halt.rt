@@ -142,7 +142,7 @@ impl From<ScriptingError> for Halt {
     }
 }
 
-/// A refusal by that name, and for that line if there is one to tell.
+/// A refusal by that name, and for that line if one is to be named.
 pub(crate) fn halt_at(name: &'static str, line: Option<u64>) -> Halt
     ensures read { is_read result ≡ false }
     ensures named { name_of result ≡ Some (refused_as line name.now) }
@@ -153,7 +153,7 @@ pub(crate) fn halt_at(name: &'static str, line: Option<u64>) -> Halt
     }
 }
 
-/// The exit status of a run that has no output. A refusal goes to `faults`.
+/// The exit status of a run without output. A refusal is written to `faults`.
 pub(crate) fn report_halt<F: Sink>(heap: &mut TrackedAlloc, halt: Halt, faults: &mut F) -> u8
     ensures status { (result < BAD_WORDS) ⊎ (result ≡ REFUSED) }
     ensures failed { result ≢ SUCCESS }

@@ -1,6 +1,6 @@
-//! The end of the help on each word: an input that is whole, and the exit statuses.
+//! The end of the help on each command: a complete input, and the exit statuses.
 
-/// Of `serve`: a line of each verb.
+/// For `serve`: a line of each verb.
 pub(crate) const SERVE_END: &str =
     r#"Input lines, one of each verb; a write is {"do":..,"object":..}:
 {"do":"create","object":{"kind":"Pod","metadata":{"name":"web-0"}}}
@@ -18,7 +18,7 @@ Exit status:
 
 More in docs/REFERENCE.md"#;
 
-/// Of `replay`: a script, and the events.
+/// For `replay`: a script, and the events.
 pub(crate) const REPLAY_END: &str =
     r#"Whole script, of a caller who creates a pod; from a file as `stsctl replay < FILE`:
 {"capacity":10,"shards":2}
@@ -51,7 +51,7 @@ Exit status:
 
 More in docs/INTERLEAVINGS.md"#;
 
-/// Of `cluster`: a script, and the events.
+/// For `cluster`: a script, and the events.
 pub(crate) const CLUSTER_END: &str =
     r#"Whole script, of a new set whose two pods come up; from a file as `stsctl cluster < FILE`:
 {"capacity":100,"sets":[{"name":"web"}],"shards":2}
@@ -81,7 +81,7 @@ Exit status:
 
 More in docs/CLUSTERS.md"#;
 
-/// Of `plan`: a set.
+/// For `plan`: a set.
 pub(crate) const PLAN_END: &str =
     r#"Whole input, of a set that is new; from a file as `stsctl plan --set web < FILE`:
 {"kind":"StatefulSet","metadata":{"name":"web","uid":"00000000-0000-4000-8000-000000000001"},"spec":{"replicas":3,"template":{}}}
@@ -94,7 +94,7 @@ Exit status:
 
 More in docs/PLANS.md"#;
 
-/// Of `outcomes`: a litmus test, and a race of controllers.
+/// For `outcomes`: a litmus test, and a race of controllers.
 pub(crate) const OUTCOMES_END: &str =
     r#"Whole input, of two callers who race for a name; from a file as `stsctl outcomes < FILE`:
 {"capacity":100}
@@ -118,7 +118,7 @@ Exit status:
 
 More in docs/LITMUS.md"#;
 
-/// Of `race`: the line that it prints.
+/// For `race`: the line that it prints.
 pub(crate) const RACE_END: &str =
     r#"It prints: {"controllers":4,"legal":true,"rounds":16,"shards":8,"twice":0}
 

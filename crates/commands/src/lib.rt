@@ -1,5 +1,5 @@
-//! What the words of the command line ask for, done over any readers and writers: `serve`, `replay`, `cluster`, `plan`, `outcomes` and
-//! `race`. The program hands it the standard streams.
+//! The commands of the command line, over any readers and writers: `serve`, `replay`, `cluster`, `plan`, `outcomes` and
+//! `race`. The program passes it the standard streams.
 #![tactic(auto)]
 
 mod answering;

@@ -1,4 +1,4 @@
-//! Options: those that are given or not, and those whose value is a number; and what is printed of a run.
+//! Options: flags, and those whose value is a number; and what is printed of a run.
 ghost use Rattle.std.specs.Prelude.{◌≡◌, ◌≤◌, false};
 ghost use Rattle.clap.specs.Words.{found_of, one_of, rows_of, rule_of};
 ghost use Rattle.clap.specs.declared.builder.value_parser.ValueParser.TheVariants as parsers;
@@ -21,42 +21,42 @@ pub(crate) fn flag_arg<'a>(alloc: Global, name: &'a str, help: &'a str) -> Arg<'
         .help(help)
 }
 
-/// Whether the words give it.
+/// Whether the arguments have it.
 pub(crate) fn flag_in(matches: &ArgMatches<'_>, name: &str) -> bool
     ensures { IsFlagBy (one_of name.now (rows_of (found_of matches.now))) result }
 {
     matches.get_flag(name)
 }
 
-/// Takes a number from 1 to 64.
+/// Accepts a number from 1 to 64.
 pub(crate) fn from_1_to_64<'a>() -> ValueParser<'a>
     ensures { result ≡ parsers.Unsigned 1 64 }
 {
     value_parser!(u64).range(1..=64)
 }
 
-/// Takes a number from 1 to 1,024.
+/// Accepts a number from 1 to 1,024.
 pub(crate) fn from_1_to_1024<'a>() -> ValueParser<'a>
     ensures { result ≡ parsers.Unsigned 1 1024 }
 {
     value_parser!(u64).range(1..=1_024)
 }
 
-/// Takes a number from 1 to 20,000.
+/// Accepts a number from 1 to 20,000.
 pub(crate) fn from_1_to_20000<'a>() -> ValueParser<'a>
     ensures { result ≡ parsers.Unsigned 1 20000 }
 {
     value_parser!(u64).range(1..=20_000)
 }
 
-/// Takes a number from 0 to 64.
+/// Accepts a number from 0 to 64.
 pub(crate) fn from_0_to_64<'a>() -> ValueParser<'a>
     ensures { result ≡ parsers.Unsigned 0 64 }
 {
     value_parser!(u64).range(0..=64)
 }
 
-/// An option whose value, which help calls by that name, is a number.
+/// An option whose value, under that name in the help, is a number.
 pub(crate) fn number_arg<'a>(
     alloc: Global,
     name: &'a str,
@@ -74,7 +74,7 @@ pub(crate) fn number_arg<'a>(
         .help(help)
 }
 
-/// The number that an option says, or the usual one.
+/// The number of an option, or the default.
 pub(crate) fn number_in(
     matches: &ArgMatches<'_>,
     name: &str,
@@ -88,7 +88,7 @@ pub(crate) fn number_in(
     ensures least { least ≤ result }
     ensures most { result ≤ most }
 {
-    // The parser takes no other number.
+    // The parser accepts no other number.
     let number = matches.get_one::<u64>(name).unwrap_or(usual);
     number.clamp(least, most)
 }
@@ -100,9 +100,9 @@ pub(crate) enum Form {
     Lines,
     /// A picture of its events, or of those of its writes.
     Picture(Shown),
-    /// A line for each write that was answered.
+    /// A line for each write that got its reply.
     Writes,
-    /// A line for each event, also for one that is not enabled.
+    /// A line for each event, including those that are not enabled.
     Trace,
 }
 
@@ -142,7 +142,7 @@ pub(crate) fn trace_arg<'a>(alloc: Global) -> Arg<'a>
     )
 }
 
-/// What the words ask to print.
+/// What the arguments request to print.
 pub(crate) fn form_in(matches: &ArgMatches<'_>) -> Form
     ensures { IsFormBy (λ flag. one_of flag (rows_of (found_of matches.now))) result }
 {
@@ -152,7 +152,7 @@ pub(crate) fn form_in(matches: &ArgMatches<'_>) -> Form
     form_of(picture, writes, trace)
 }
 
-/// What is printed where these flags are given.
+/// What is printed if these flags are given.
 fn form_of(picture: bool, writes: bool, trace: bool) -> Form
     ensures { result ≡ form_of picture writes trace }
 {

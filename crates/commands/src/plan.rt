@@ -22,7 +22,7 @@ use plan_lines::{
 use sets::{Plan, Set, read_set};
 use std::alloc::Global;
 
-/// Plans the set that is asked for, given the objects that the reader has, and writes the actions.
+/// Plans the requested set, given the objects that the reader has, and writes the actions.
 pub(crate) fn run_plan<R: Source, W: Sink, F: Sink>(
     heap: &mut TrackedAlloc,
     asked: &PlanWords<'_>,
@@ -118,7 +118,7 @@ fn plan_of_lines(alloc: Global, asked: &PlanWords<'_>, input: &[u8]) -> Result<P
     plan_of_objects(alloc, asked, &listed)
 }
 
-/// Why an input of which a line is no object has no plan.
+/// Why an input with a line that is no object has no plan.
 fn no_objects(alloc: Global, place: bool, error: ReadError, input: &[u8]) -> Halt
     ensures read { is_read result ≡ false }
     ensures refused { Fails error (read_from nothing (lines input.now)) → IfSome (name_of result) (IsInputRefusal place input.now) }
@@ -132,7 +132,7 @@ fn no_objects(alloc: Global, place: bool, error: ReadError, input: &[u8]) -> Hal
     }
 }
 
-/// The line for which it is none, where that is to be told.
+/// The first line that is none, if it is to be named.
 fn line_told(alloc: Global, place: bool, input: &[u8]) -> Result<Option<u64>, Memory>
     ensures { IfOk result (λ line. line ≡ told_line place (refused_line_of input.now)) }
 {

@@ -1,4 +1,4 @@
-//! The command line: what the words ask for, and the exit status that it comes to.
+//! The command line: what the arguments request, and its exit status.
 ghost use Rattle.std.specs.Prelude.{◌≡◌, ◌≢◌, ◌≤◌, ◌<◌, ◌⊎◌, [], map, true, false};
 ghost use Rattle.std.specs.List.{list_any};
 ghost use Rattle.plain.specs.Streams.{Puts, PutsPart};
@@ -29,11 +29,12 @@ use std::marker::PhantomData;
 use std::sync::Wait;
 use std::thread::Threads;
 
-/// The whole program: does what the words ask for, the program's name first, and answers the exit status. It is 0 on
-/// success and for help and the version, which go to `writer`; 1, with nothing more said, where reading or writing fails
-/// or memory runs out; 2 where the words are bad, for which the reason goes to `faults`; and 3 where the script of a
-/// replay or a cluster, a litmus test or the input of a plan is refused, the name of the refusal going to `faults` and nothing to `writer`, or where
-/// the report of a race, which `writer` has then, is not legal. Only a race starts threads and waits.
+/// The whole program: does what the arguments request, the program's name first, and returns the exit status. It is 0
+/// on success and for help and the version, which are written to `writer`; 1, with no message, if reading or writing
+/// fails or memory runs out; 2 if the arguments are bad, with the reason written to `faults`; and 3 if the script of a
+/// replay or a cluster, a litmus test or the input of a plan is refused, with the name of the refusal written to
+/// `faults` and nothing to `writer`, or if the report of a race, which `writer` then has, is not legal. Only a race
+/// starts threads and waits.
 pub fn command<T: Threads + Wait + Sync, S: AsStr, R: Source, W: Sink, F: Sink>(
     rt: &T,
     heap: &mut TrackedAlloc,
@@ -45,14 +46,14 @@ pub fn command<T: Threads + Wait + Sync, S: AsStr, R: Source, W: Sink, F: Sink>(
     // The exit status is one of four.
     ensures status { result ≤ REFUSED }
 
-    // Bad words, help and the version: what asks for no work.
+    // Bad arguments, help and the version: no command is run.
     ensures success { let kinds = faults_of (map S.text words.now) in
         result ≡ SUCCESS → (kinds ≡ []) ⊎ (list_any is_request kinds ≡ true) }
     ensures refused { result ≡ BAD_WORDS → list_any is_mistake (faults_of (map S.text words.now)) ≡ true }
     ensures mistakes { let kinds = faults_of (map S.text words.now) in
         kinds ≢ [] → list_any is_request kinds ≡ false → (result ≡ BAD_WORDS) ⊎ (heap.new.refused ≡ true) }
 
-    // Serve: the replies to all lines, or at a failure to some.
+    // Serve: the replies to all lines, or after a failure to some.
     ensures served { let texts = map S.text words.now in
         result ≡ SUCCESS → asked texts ≡ Serve
         → Serves texts (R.remaining reader.old) (R.remaining reader.new) (W.written writer.old) (W.written writer.new) }
@@ -60,7 +61,7 @@ pub fn command<T: Threads + Wait + Sync, S: AsStr, R: Source, W: Sink, F: Sink>(
         result ≡ FAILURE → asked texts ≡ Serve
         → ServesSome texts (R.remaining reader.old) (R.remaining reader.new) (W.written writer.old) (W.written writer.new) }
 
-    // Replay and cluster: what the events of the script came to, or at a failure a part of it.
+    // Replay and cluster: the output for the events of the script, or after a failure a part of it.
     ensures replayed { let texts = map S.text words.now in
         result ≡ SUCCESS → asked texts ≡ Replay
         → Replays Puts texts (R.remaining reader.old) (R.remaining reader.new) (W.written writer.old) (W.written writer.new) }
@@ -74,7 +75,7 @@ pub fn command<T: Threads + Wait + Sync, S: AsStr, R: Source, W: Sink, F: Sink>(
         result ≡ FAILURE → asked texts ≡ Cluster → (writer.new ≡ writer.old)
         ⊎ Clusters PutsPart texts (R.remaining reader.old) (R.remaining reader.new) (W.written writer.old) (W.written writer.new) }
 
-    // Plan: the actions, or at a failure a part of them.
+    // Plan: the actions, or after a failure a part of them.
     ensures planned { let texts = map S.text words.now in
         result ≡ SUCCESS → asked texts ≡ Plan
         → Plans Puts texts (R.remaining reader.old) (R.remaining reader.new) (W.written writer.old) (W.written writer.new) }
@@ -82,7 +83,8 @@ pub fn command<T: Threads + Wait + Sync, S: AsStr, R: Source, W: Sink, F: Sink>(
         result ≡ FAILURE → asked texts ≡ Plan → (writer.new ≡ writer.old)
         ⊎ Plans PutsPart texts (R.remaining reader.old) (R.remaining reader.new) (W.written writer.old) (W.written writer.new) }
 
-    // Outcomes: all that callers can be told, or the script that shows one, or at a failure a part of it.
+    // Outcomes: all replies that callers can get, or the script that shows one outcome, or after a failure a part of
+    // it.
     ensures found { let texts = map S.text words.now in
         result ≡ SUCCESS → asked texts ≡ Outcomes
         → Finds Puts texts (R.remaining reader.old) (R.remaining reader.new) (W.written writer.old) (W.written writer.new) }
@@ -90,8 +92,8 @@ pub fn command<T: Threads + Wait + Sync, S: AsStr, R: Source, W: Sink, F: Sink>(
         result ≡ FAILURE → asked texts ≡ Outcomes → (writer.new ≡ writer.old)
         ⊎ Finds PutsPart texts (R.remaining reader.old) (R.remaining reader.new) (W.written writer.old) (W.written writer.new) }
 
-    // Race: the line of the report, the history before it where that is asked for, and nothing else, or at a failure a part of
-    // it; the report is not legal exactly at the status of a refusal.
+    // Race: the line of the report, the history before it if that is requested, and nothing else, or after a failure a
+    // part of it; the report is not legal exactly at the status of a refusal.
     ensures raced { let texts = map S.text words.now in
         result ≡ SUCCESS → asked texts ≡ Race → Races true texts (W.written writer.old) (W.written writer.new) }
     ensures illegal { let texts = map S.text words.now in
@@ -115,7 +117,7 @@ pub fn command<T: Threads + Wait + Sync, S: AsStr, R: Source, W: Sink, F: Sink>(
     ensures writes_no_part { result ≡ REFUSED → asked (map S.text words.now) ≢ Race → writer.new ≡ writer.old }
     ensures quiet { result < BAD_WORDS → faults.new ≡ faults.old }
 
-    // Faults: devices that fail, and want of memory.
+    // Faults: devices that fail, and out of memory.
     ensures cause { result ≡ FAILURE → (R.failures reader.old < R.failures reader.new) ⊎ ((W.failures writer.old < W.failures writer.new)
         ⊎ ((heap.new.refused ≡ true) ⊎ AsksOutOfRange (map S.text words.now))) }
     ensures memory { result ≢ FAILURE → heap.new.refused ≡ heap.old.refused }

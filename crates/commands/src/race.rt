@@ -17,8 +17,8 @@ use std::sync::Wait;
 use std::thread::Threads;
 use store::NoGate;
 
-/// Lets controllers race over the running store, and writes the line of the report, behind the history where that is asked
-/// for.
+/// Lets controllers race over the running store, and writes the line of the report, after the history if that is
+/// requested.
 pub(crate) fn run_race<T: Threads + Wait + Sync, W: Sink>(
     rt: &T,
     heap: &mut TrackedAlloc,
@@ -40,12 +40,12 @@ pub(crate) fn run_race<T: Threads + Wait + Sync, W: Sink>(
             heap.refused = true;
             FAILURE
         }
-        // The words ask for no race of another size.
+        // The arguments give no race of another size.
         Err(RaceFault::BadRace) => unreachable!(),
     }
 }
 
-/// Writes what is asked for of the race. A report that is not legal is written like any other.
+/// Writes what is requested of the race. A report that is not legal is written like any other.
 fn write_report<W: Sink>(
     heap: &mut TrackedAlloc,
     asked: &RaceWords,
@@ -71,7 +71,7 @@ fn write_report<W: Sink>(
     }
 }
 
-/// Writes the history of the race, where it is asked for, and the line of its report behind it.
+/// Writes the history of the race, if it is requested, and the line of its report after it.
 fn write_race<W: Sink>(
     alloc: Global,
     asked: &RaceWords,
@@ -87,7 +87,7 @@ fn write_race<W: Sink>(
     write_all(writer, line.as_slice()).ok_or(OutputFault::Write)
 }
 
-/// Writes the history of the race, where it is asked for.
+/// Writes the history of the race, if it is requested.
 fn write_calls<W: Sink>(
     alloc: Global,
     asked: &RaceWords,

@@ -1,4 +1,4 @@
-//! The words of `race`.
+//! The arguments of `race`.
 ghost use Rattle.std.specs.Prelude.{◌≡◌, true, IfOk};
 ghost use Rattle.clap.specs.Words.{app_of, found_of, one_of, rows_of};
 ghost use Rattle.commands.specs.Asked.{IsRaceBy};
@@ -13,19 +13,19 @@ use clap::{ArgMatches, Command};
 use race_log::RaceSpec;
 use std::alloc::{AllocError, Global};
 
-/// How many controllers race, where the words say no number.
+/// How many controllers race by default.
 const CONTROLLERS: u64 = 4;
 
-/// How many shards the store has, where the words say no number.
+/// How many shards the store has by default.
 const SHARDS: u64 = 8;
 
-/// How many rounds each controller makes, where the words say no number.
+/// How many rounds each controller makes by default.
 const ROUNDS: u64 = 16;
 
-/// How many pods the set asks for, where the words say no number.
+/// How many pods the set has by default.
 const REPLICAS: u64 = 3;
 
-/// The race that is asked for, and whether its history is printed.
+/// The requested race, and whether its history is printed.
 #[derive(Clone, Copy, Drop)]
 pub(crate) struct RaceWords {
     pub(crate) spec: RaceSpec,
@@ -48,7 +48,7 @@ pub(crate) fn race_grammar<'a>(alloc: Global) -> Result<Command<'a>, AllocError>
         ))
 }
 
-/// The options that say how large the race is.
+/// The options for the size of the race.
 fn sized_grammar<'a>(alloc: Global) -> Result<Command<'a>, AllocError>
     ensures { IfOk result (λ c. app_of c ≡ sized_app) }
 {
@@ -87,7 +87,7 @@ fn sized_grammar<'a>(alloc: Global) -> Result<Command<'a>, AllocError>
         ))
 }
 
-/// What the words after `race` say.
+/// The arguments after `race`.
 pub(crate) fn race_words(matches: &ArgMatches<'_>) -> RaceWords
     ensures by { IsRaceBy (λ option. one_of option (rows_of (found_of matches.now))) result }
     ensures allowed { is_race result.spec ≡ true }

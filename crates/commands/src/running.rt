@@ -1,4 +1,4 @@
-//! Words that run the script that their input is.
+//! Commands that run the script in their input.
 ghost use Rattle.std.specs.Prelude.{◌≡◌, false, IfOk, IfErr, IfSome};
 ghost use Rattle.commands.specs.Halts.{is_read, name_of, told_line};
 ghost use Rattle.commands.specs.Running.{IsScriptRefusal};
@@ -14,7 +14,7 @@ use replay_lines::ScriptError;
 use std::alloc::Global;
 use std::marker::PhantomData;
 
-/// A kind of script: what an input is read as, and what is told of a run in each form.
+/// A kind of script: how an input is read, and what is printed of a run in each form.
 pub(crate) trait Runnable: Drop {
     ghost use Rattle.std.specs.Prelude.{◌≡◌, ℕ, List, Option, false, IfOk, IfErr, IfSome};
     ghost use Rattle.commands.specs.Halts.{is_read, name_of};
@@ -25,11 +25,11 @@ pub(crate) trait Runnable: Drop {
     ghost Parts: { Type 0 };
 
     ghost parts: { Self → Parts };
-    /// The script that an input is, if it is one.
+    /// The script in an input, if it is one.
     ghost script_of: { List ℕ → Option Parts };
     /// The number of the first line for which an input is none.
     ghost refused_line: { List ℕ → Option ℕ };
-    /// Whether that text tells of the run in that form.
+    /// Whether that text shows the run in that form.
     ghost is_shown: { Form → Self → List ℕ → Type 0 };
     /// Whether the run is refused by that name.
     ghost is_run_refusal: { Self → List ℕ → Type 0 };
@@ -61,7 +61,7 @@ pub(crate) trait Runnable: Drop {
         ensures read { IfErr result (λ halt. is_read halt ≡ false) };
 }
 
-/// What is printed of the run of a script, in the form that is asked for.
+/// What is printed of the run of a script, in the requested form.
 #[derive(Drop)]
 pub(crate) struct Running<S> {
     pub(crate) asked: ScriptWords,
@@ -99,7 +99,7 @@ fn no_script<S: Runnable>(alloc: Global, place: bool, error: ScriptError, input:
     }
 }
 
-/// The line for which it is none, where that is to be told.
+/// The first line for which it is none, if it is to be named.
 fn line_told<S: Runnable>(alloc: Global, place: bool, input: &[u8]) -> Result<Option<u64>, Memory>
     ensures { IfOk result (λ line. line ≡ told_line place (S.refused_line input.now)) }
 {

@@ -1,4 +1,4 @@
-//! Exit statuses, and what goes with each.
+//! Exit statuses, and what is written with each.
 ghost use Rattle.std.specs.Prelude.{◌≡◌, ◌≢◌, ◌<◌, ◌⊎◌, IfNone, OnSome, Some, false};
 ghost use Rattle.plain.specs.Streams.{Puts, PutsPart};
 ghost use Rattle.commands.specs.Halts.{Tells, refusal_text, refused_as};
@@ -6,20 +6,20 @@ ghost use Rattle.commands.specs.Halts.{Tells, refusal_text, refused_as};
 use plain::{Sink, write_all};
 use std::alloc::Global;
 
-/// The exit status of a run that did all that it was asked for.
+/// The exit status of a run that did everything requested.
 pub(crate) const SUCCESS: u8 = 0;
 
-/// The exit status where reading or writing failed, or memory ran out.
+/// The exit status if reading or writing failed, or memory ran out.
 pub(crate) const FAILURE: u8 = 1;
 
-/// The exit status where the words ask for nothing that the program does.
+/// The exit status if the arguments are no command of the program.
 pub(crate) const BAD_WORDS: u8 = 2;
 
-/// The exit status where the input is refused.
+/// The exit status if the input is refused.
 pub(crate) const REFUSED: u8 = 3;
 
-/// What a run allocates from, and whether it was refused an allocation. The second tells an exit status of 1 for want of
-/// memory from one that nothing called for. It is for the clauses of `command`, and for who runs it.
+/// What a run allocates from, and whether an allocation was refused. The latter distinguishes an exit status of 1 for
+/// lack of memory from one without any cause. It is for the clauses of `command`, and for its caller.
 #[derive(Drop)]
 pub struct TrackedAlloc {
     pub(crate) alloc: Global,
@@ -27,7 +27,7 @@ pub struct TrackedAlloc {
 }
 
 impl TrackedAlloc {
-    /// What allocates from there, and was refused nothing yet.
+    /// Allocates from there, and no allocation was refused so far.
     pub fn new(alloc: Global) -> TrackedAlloc
         ensures { result.refused ≡ false }
     {
@@ -38,7 +38,7 @@ impl TrackedAlloc {
     }
 }
 
-/// Writes the text that was asked for.
+/// Writes the requested text.
 pub(crate) fn write_text<W: Sink>(writer: &mut W, text: &[u8]) -> u8
     ensures status { result < BAD_WORDS }
     ensures all { result ≡ SUCCESS → Puts (W.written writer.old) text.now (W.written writer.new) }
@@ -51,7 +51,8 @@ pub(crate) fn write_text<W: Sink>(writer: &mut W, text: &[u8]) -> u8
     }
 }
 
-/// Writes what is wrong with the words. The status already says that they are bad, so nothing is lost where this fails.
+/// Writes what is wrong with the arguments. The status already says that they are bad, so nothing is lost if this
+/// fails.
 pub(crate) fn report_bad_words<F: Sink>(faults: &mut F, text: &[u8]) -> u8
     ensures status { result ≡ BAD_WORDS }
     ensures all { (Puts (F.written faults.old) text.now (F.written faults.new)) ⊎ (F.failures faults.old < F.failures faults.new) }
@@ -61,7 +62,7 @@ pub(crate) fn report_bad_words<F: Sink>(faults: &mut F, text: &[u8]) -> u8
 }
 
 /// Writes by which name the input is refused, as `refused: NAME` and a line end. The status already says that it is
-/// refused, so nothing is lost where this fails.
+/// refused, so nothing is lost if this fails.
 pub(crate) fn write_refusal<F: Sink>(faults: &mut F, name: &str) -> u8
     ensures status { result ≡ REFUSED }
     ensures all { Tells name.now (F.written faults.old) (F.written faults.new) (F.failures faults.old) (F.failures faults.new) }
@@ -70,7 +71,7 @@ pub(crate) fn write_refusal<F: Sink>(faults: &mut F, name: &str) -> u8
     REFUSED
 }
 
-/// The same of an input that is refused for a line, with `line N` and a line end behind it.
+/// The same for an input that is refused for a line, followed by `line N` and a line end.
 pub(crate) fn write_refusal_at<F: Sink>(faults: &mut F, name: &str, line: u64) -> u8
     ensures status { result ≡ REFUSED }
     ensures all { Tells (refused_as (Some line) name.now) (F.written faults.old) (F.written faults.new) (F.failures faults.old) (F.failures faults.new) }

@@ -60,7 +60,7 @@ same_items most old a b rest e h = record {
   others_whole = h.others_whole;
 }
 
--- the text once the next item is in order, with the byte behind that
+-- the text once the next item is in order, with the byte after it
 record NextItem (front left now sub text after : List ℕ) (at n x : ℕ) (made : Data) (rest : List ℕ) : Type 0 where
   left_is : mid_of at (length now - at) now ≡ left
   text_is : text ≡ (front ++ compact_text made) ++ x ∷ after

@@ -47,7 +47,7 @@ run_parts : (text : List ℕ) (at : ℕ) → prefix_len is_plain (drop at text)
     ≡ cond (prefix_len is_plain (chunk at 16 text) == length (chunk at 16 text)) (length (chunk at 16 text) + prefix_len is_plain (drop (at + 16) text)) (prefix_len is_plain (chunk at 16 text))
 run_parts text at = ap (prefix_len is_plain) (chunk-drop at 16 text) ∙ prefix_len-append is_plain (chunk at 16 text) (drop (at + 16) text)
 
--- where none stops, it goes on behind them
+-- if none stops, it goes on after them
 pub run_on : (text : List ℕ) (at : ℕ) → at + 16 ≤ length text → mask_l (map is_stop (chunk at 16 text)) ≡ 0 → prefix_len is_plain (drop at text) ≡ 16 + prefix_len is_plain (drop (at + 16) text)
 run_on text at room none =
     let more = prefix_len is_plain (drop (at + 16) text) in
@@ -63,7 +63,7 @@ all_plain : (v : List ℕ) → prefix_len is_plain v ≡ length v → mask_l (ma
 all_plain [] all = refl
 all_plain (x ∷ v) all = all_plain_at (is_stop x) (prefix_len is_plain v) (length v) (mask_l (map is_stop v)) (prefix_len-le-length is_plain v) (omega (arith, all)) (all_plain v)
 
--- where one stops, it ends before the first that does
+-- if one stops, it ends before the first that does
 pub run_ends : (text : List ℕ) (at : ℕ) → at + 16 ≤ length text → 0 < mask_l (map is_stop (chunk at 16 text)) → prefix_len is_plain (drop at text) ≡ count_trailing_zeros 64 (mask_l (map is_stop (chunk at 16 text)))
 run_ends text at room some =
     let v = chunk at 16 text in

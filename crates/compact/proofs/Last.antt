@@ -44,7 +44,7 @@ pub first_of_all : (k : List ℕ) (d : Data) (ms : Members) (at : ℕ) (entries 
 first_of_all k d ms at entries none are here own =
     goes_last k d ms 0 at entries (subst (AllBelow k) (sym (none_above ms entries are none)) tt) are none here own
 
--- ---- the last one, where it stands
+-- ---- the last one, where it is
 
 pub record AtEnd (ms : Members) (at : ℕ) (entry : Entry) : Type 0 where
   pub last_of : LastOf ms
@@ -78,7 +78,7 @@ at_end ms at last entries before is are some here =
 pub last_text : (text more : List ℕ) (ms : Members) → text ≡ ended_text ms ++ more → (o : LastOf ms) → text ≡ ended_text o.front ++ (quoted o.l ++ (58 ∷ (compact_text o.e ++ 44 ∷ []) ++ ([] ++ more)))
 last_text text more ms is o = other_text text more o.l o.e ms o.front (member o.l o.e no_members) no_members is o.is refl
 
--- ---- behind it or before it
+-- ---- after it or before it
 
 pub behind_last : (k a b : List ℕ) (d : Data) (ms : Members) (index at : ℕ) (entries : List Entry) → (o : LastOf ms) → a ≡ k → b ≡ o.l → slice_cmp nat_cmp a b ≡ Greater
     → entries_of ms ≡ entries → length entries ≡ index → length (ended_text ms) ≡ at → escape k ≡ k → HasPlace k d ms index at

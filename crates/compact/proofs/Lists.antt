@@ -1,4 +1,4 @@
--- Parts of lists, where they are told by lengths.
+-- Parts of lists that are given by lengths.
 use Rattle.std.proofs.Common.{◌≡◌, ℕ, ◌+◌, ◌-◌, ◌≤◌, List, [], ◌∷◌, ◌++◌, length, take, drop, take-append-drop, slice_set, refl, sym, ap, ap₂, ◌∙◌, append_assoc, append-nil, length-append, arith}
 use Rattle.std.proofs.lemmas.List.{length-drop, length-take}
 use borrow.Rule.Slice.PartMut.{mid_of, put_mid}
@@ -23,7 +23,7 @@ pub none_left : {A : Type 0} (xs : List A) → length xs ≡ 0 → xs ≡ []
 none_left [] h = refl
 none_left (x ∷ xs) h = absurd (omega (arith, h))
 
--- ---- what stands from a place on
+-- ---- what is there from an index on
 
 part_is : (front tail : List ℕ) → mid_of (length front) (length (front ++ tail) - length front) (front ++ tail) ≡ tail
 part_is front tail =
@@ -42,7 +42,7 @@ pub put_of : (now front left sub : List ℕ) (at : ℕ) → now ≡ front ++ lef
 put_of now front left sub at is here =
     (λ i. put_mid (here i) (length (is i) - here i) (is i) sub) ∙ ap₂ (λ a b. a ++ (sub ++ b)) (take_front front left) (rest_is front left) ∙ ap (λ s. front ++ s) (append-nil sub)
 
--- ---- what stands between two places
+-- ---- what is there between two indices
 
 mid_is : (front part rest : List ℕ) → mid_of (length front) (length part) (front ++ (part ++ rest)) ≡ part
 mid_is front part rest = ap (take (length part)) (drop_front front (part ++ rest)) ∙ take_front part rest
@@ -66,7 +66,7 @@ set_front (z ∷ front) rest x y = ap (λ l. z ∷ l) (set_front front rest x y)
 pub set_of : {A : Type 0} (text front rest : List A) (x y : A) (end : ℕ) → text ≡ front ++ x ∷ rest → end ≡ length front → slice_set text end y ≡ front ++ y ∷ rest
 set_of text front rest x y end is here = (λ i. slice_set (is i) (here i) y) ∙ set_front front rest x y
 
--- ---- one that is put in, where there is room
+-- ---- one that is inserted, if there is room
 
 record Headed {A : Type 0} (xs : List A) : Type 0 where
   head : A

@@ -64,7 +64,7 @@ members_begin most level tables text table empty = record {
   goes_on = λ made new rest h. h;
 }
 
--- what is said of the members of a map that stands there
+-- what is said of the members of a map of that level
 abbrev pub Said : Level → Tables → Tables → values.Members → Type 0
 Said level old new ms = Told level new ms × (level ≡ Other → new ≡ old)
 

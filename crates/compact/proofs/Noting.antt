@@ -1,4 +1,4 @@
--- What tables tell, as members come to a map.
+-- What tables say, as members are added to a map.
 use Rattle.std.proofs.Common.{◌≡◌, ℕ, List, Bool, true, false, codes, Some, cond, refl, subst, sym, ap, ◌∙◌}
 use Rattle.std.specs.Prelude.{bytes_eq}
 use Rattle.std.proofs.lemmas.Slice.Eq.{bytes_eq-Decides}
@@ -42,7 +42,7 @@ told_put Object k d ms old new before noted = object_put (bytes_eq k (codes "met
 told_put Metadata k d ms old new before noted = tt
 told_put Other k d ms old new before noted = tt
 
--- a table is kept beside what is told already
+-- a table is added to what is said already
 pub told_with : (level : Level) (t : Tables) (table : List Entry) (ms : Members) → AreEntries table ms → ToldBelow level t ms → Told level (with_table level t table) ms
 told_with Line t table ms own before = (own, before)
 told_with Object t table ms own before = (own, before)
@@ -58,6 +58,6 @@ none_told Other t = tt
 pub kept_elsewhere : (level : Level) (t : Tables) (table : List Entry) → level ≡ Other → with_table level t table ≡ t
 kept_elsewhere level t table h = ap (λ l. with_table l t table) h
 
--- elsewhere no member is told of
+-- at the level `Other` nothing is said of members
 pub elsewhere : (level : Level) (k : List ℕ) → level ≡ Other → below level k ≡ Other
 elsewhere level k h = ap (λ l. below l k) h

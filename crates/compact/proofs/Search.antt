@@ -1,4 +1,4 @@
--- The search for a member's place.
+-- The search for a member's position.
 use Rattle.std.proofs.Common.{◌≡◌, ℕ, ◌+◌, List, [], ◌∷◌, ◌++◌, length, drop, refl, sym, ap, ap₂, ◌∙◌, append_assoc, append-nil, length-append, arith}
 use Rattle.std.specs.Ordering.{nat_cmp, match_ordering}
 use Rattle.std.specs.declared.cmp.Ordering.TheVariants.{Less, Greater}
@@ -23,7 +23,7 @@ pub record Searching (k : List ℕ) (ms : Members) (index start : ℕ) (entries 
   pub entries_are : entries_of above ≡ entries
   pub plain : HavePlainKeys above
 
--- what is told of the text there
+-- what is known of the text there
 abbrev pub Stands : List ℕ → List Entry → ℕ → ℕ → Members → List ℕ → Data → List ℕ → Type 0
 Stands text entries at key ms k d rest = (text ≡ ended_text ms ++ (ended_member k d ++ rest)) × (entries_of ms ≡ entries) × HavePlainKeys ms × (escape k ≡ k) × (length (ended_text ms) ≡ at) × (length (quoted k) ≡ key)
 
@@ -67,7 +67,7 @@ opened (member l e others) entry behind all a b plain = record {
 parts_of : (a q c o m : List ℕ) → (a ++ ((q ++ c) ++ o)) ++ m ≡ a ++ (q ++ (c ++ (o ++ m)))
 parts_of a q c o m = simp append_assoc
 
--- where the key stands of the first member above
+-- where the key of the first member above is
 pub other_text : (text more l : List ℕ) (e : Data) (ms below above others : Members) → text ≡ ended_text ms ++ more → ms ≡ joined below above → above ≡ member l e others
     → text ≡ ended_text below ++ (quoted l ++ (58 ∷ (compact_text e ++ 44 ∷ []) ++ (ended_text others ++ more)))
 other_text text more l e ms below above others is ms_is above_is =

@@ -1,4 +1,4 @@
--- The first member of a text, and those behind it.
+-- The first member of a text, and those after it.
 use Rattle.std.proofs.Common.{◌≡◌, ℕ, ◌+◌, ◌-◌, ◌%◌, ◌^◌, ◌<◌, List, [], ◌∷◌, ◌++◌, length, Bool, true, false, Some, option_map, refl, subst, sym, ap, ◌∙◌, append_assoc, length-append, arith}
 use Rattle.std.proofs.lemmas.Map.Text.{is_eq-slice_cmp}
 use Rattle.std.proofs.lemmas.Slice.Eq.{bytes_eq-Decides}
@@ -15,7 +15,7 @@ use Rattle.compact.specs.Notes.{AreEntries}
 use Rattle.compact.specs.Fields.{IsLeft, IsFirst}
 use Rattle.compact.proofs.Search.{Opened, opened}
 
--- the last members of a map up to the brace; behind the brace there is nothing left
+-- the last members of a map up to the brace; after the brace there is nothing left
 abbrev pub rest_text : Members → List ℕ
 rest_text no_members = []
 rest_text (member k d ms) = members_text false (member k d ms)
@@ -28,7 +28,7 @@ pub all_left : (ms : Members) (left : List ℕ) → left ≡ members_text false 
 all_left no_members left h = tt
 all_left (member k d ms) left h = h
 
--- the comma or the brace behind a member
+-- the comma or the brace after a member
 abbrev pub end_of : Members → ℕ
 end_of no_members = 125
 end_of (member k d ms) = 44
@@ -91,7 +91,7 @@ pub record Looking (name : List ℕ) (ms : Members) (left : List ℕ) (entries :
   pub entries_are : AreEntries entries others
   pub same : get_member name ms ≡ get_member name others
 
--- the same, and those to come stand in the text from there on
+-- the same, and the text has those to come from there on
 pub record LookingFrom (name text : List ℕ) (ms : Members) (at : ℕ) (entries : List Entry) : Type 0 where
   pub front : List ℕ
   pub left : List ℕ
@@ -136,7 +136,7 @@ pub differs : (name key value left : List ℕ) (all : Members) (entries : List E
     → (l : List ℕ) (d : Data) (others : Members) → all ≡ member l d others → name ≡ l → ⊥
 differs name key value left all entries b f same other l d others is e = clash (sym (same (key_of all f.others others key l f.d d f.is is ∙ sym e)) ∙ other)
 
--- the first of them has another name, and those behind it stand in the text from there on
+-- the first of them has another name, and the text has those after it from there on
 pub passed : (name text : List ℕ) (ms : Members) (at next : ℕ) (entry : Entry) (entries behind : List Entry) → (k : LookingFrom name text ms at entries) → entries ≡ entry ∷ behind
     → length text < 2 ^ 64 → next ≡ (at + entry.size) % 2 ^ 64
     → ((l : List ℕ) (d : Data) (others : Members) → k.looking.others ≡ member l d others → entry.key ≡ length l + 2 → name ≡ l → ⊥) → LookingFrom name text ms next behind

@@ -20,7 +20,7 @@ pub record IsPlainText (text : List ℕ) (n : ℕ) : Type 0 where
   pub size : length (quoted inside) ≡ n
   pub plain : escape inside ≡ inside
 
--- a text whose quote has come
+-- a text after its first quote
 pub record EndsText (text rest : List ℕ) : Type 0 where
   pub value : List ℕ
   pub is : text ≡ escape value ++ 34 ∷ rest
@@ -31,7 +31,7 @@ pub record EndsPlain (text rest : List ℕ) : Type 0 where
   pub is : text ≡ value ++ 34 ∷ rest
   pub plain : escape value ≡ value
 
--- an escape whose backslash has come
+-- an escape after its backslash
 pub record EndsEscape (text rest : List ℕ) : Type 0 where
   pub byte : ℕ
   pub is : 92 ∷ text ≡ escape_byte byte ++ rest

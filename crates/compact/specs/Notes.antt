@@ -1,4 +1,4 @@
--- What tables tell of the members of maps.
+-- What tables say of the members of maps.
 use Rattle.std.specs.Prelude.{⊤, ◌≡◌, ℕ, List, [], ◌∷◌, length, codes, Some}
 use Rattle.json.specs.Print.{escape, quoted}
 use Rattle.serde_json.specs.Data.{Data, null, boolean, number, string, array, object, Members, no_members, member}
@@ -50,7 +50,7 @@ IsObject t ms = AreEntries t.object ms × AtMember (codes "metadata") (IsMetadat
 abbrev pub IsLine : Tables → Members → Type 0
 IsLine t ms = AreEntries t.line ms × AtMember (codes "object") (IsObject t) ms
 
--- what is told of the members of a value that stands there
+-- what is said of the members of a value of that level
 abbrev pub Told : Level → Tables → Members → Type 0
 Told Line t ms = IsLine t ms
 Told Object t ms = IsObject t ms
@@ -64,13 +64,14 @@ ToldBelow Object t ms = AtMember (codes "metadata") (IsMetadata t) ms
 ToldBelow Metadata t ms = ⊤
 ToldBelow Other t ms = ⊤
 
--- the tables with that one of a map that stands there
+-- the tables with that one for a map of that level
 abbrev pub with_table : Level → Tables → List Entry → Tables
 with_table Line t table = record t { line = table }
 with_table Object t table = record t { object = table }
 with_table Metadata t table = record t { metadata = table }
 with_table Other t table = t
 
--- The value has been noted in the tables, if its members are told there; elsewhere nothing has changed in them.
+-- The value has been noted in the tables, if they say what its level needs of its members; at the level `Other` they
+-- are unchanged.
 abbrev pub IsNoted : Level → Tables → Tables → Data → Type 0
 IsNoted level old new d = OfMembers (Told level new) d × (level ≡ Other → new ≡ old)

@@ -1,4 +1,4 @@
--- A text whose members were put into byte order where they stood.
+-- A text whose members were put into byte order in place.
 use Rattle.std.specs.Prelude.{◌≡◌, ◌≤◌, ℕ, List, ◌∷◌, ◌++◌, length, false, Some}
 use Rattle.json.specs.Print.{quoted, escape}
 use Rattle.json.specs.Json.{Json, Items, Members}
@@ -10,8 +10,8 @@ use Rattle.serde_json.specs.Written as written
 use Rattle.serde_json.specs.Written.{compact_text}
 use Rattle.compact.specs.Texts.{json_text, items_text, members_text, IsWhole, AreWholeItems, AreWholeMembers}
 
--- The old text begins with a value, and the new one, in as many bytes, with what is printed of the value that it reads as.
--- Of that value P is said.
+-- The old text begins with a value, and the new one, in as many bytes, with what is printed of the value that it reads
+-- as. P holds of that value.
 pub record IsOrdered (most : ℕ) (P : Data → Type 0) (old new : List ℕ) (n : ℕ) : Type 0 where
   pub value : Json
   pub made : Data
@@ -24,7 +24,7 @@ pub record IsOrdered (most : ℕ) (P : Data → Type 0) (old new : List ℕ) (n 
   pub whole : IsWhole value
   pub said : P made
 
--- the items of a list whose bracket has come
+-- the items of a list after its first bracket
 pub record AreOrderedItems (most : ℕ) (old new : List ℕ) (n : ℕ) : Type 0 where
   pub items : Items
   pub made : values.Items
@@ -36,7 +36,7 @@ pub record AreOrderedItems (most : ℕ) (old new : List ℕ) (n : ℕ) : Type 0 
   pub shallow : items_depth items ≤ most
   pub whole : AreWholeItems items
 
--- the members of a map whose brace has come
+-- the members of a map after its first brace
 pub record AreOrderedMembers (most : ℕ) (P : values.Members → Type 0) (old new : List ℕ) (n : ℕ) : Type 0 where
   pub members : Members
   pub made : values.Members

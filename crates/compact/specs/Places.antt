@@ -1,4 +1,4 @@
--- Where a member goes among others.
+-- The position of a member among others.
 use Rattle.std.specs.Prelude.{⊤, ◌≡◌, ◌+◌, ℕ, List, length}
 use Rattle.std.specs.Ordering.{nat_cmp}
 use Rattle.std.specs.declared.cmp.Ordering.TheVariants.{Greater}
@@ -16,7 +16,7 @@ abbrev pub count_of : Members → ℕ
 count_of no_members = 0
 count_of (member k d ms) = 1 + count_of ms
 
--- a member of that key goes in at that index, where so many bytes of text come before it
+-- a member of that key belongs at that index, with so many bytes of text before it
 pub record HasSlot (k : List ℕ) (ms : Members) (index start : ℕ) : Type 0 where
   pub below : Members
   pub above : Members

@@ -1,4 +1,4 @@
--- Bytes that stand in a string as they are.
+-- Bytes that a string has as they are, with no escape.
 use Rattle.std.specs.Prelude.{ℕ, Bool, not, ◌||◌, ◌==◌, nat_lt}
 
 -- a quote, a backslash and a control byte do not

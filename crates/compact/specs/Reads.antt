@@ -6,8 +6,8 @@ use Rattle.serde_json.specs.Written.{compact_text, has_float}
 use Rattle.compact.specs.Notes.{OfMembers, IsLine}
 use Rattle.compact.specs.declared.scanner.Tables.{Tables}
 
--- A reader of JSON reads the old text as a value of whole numbers. The new one is what is printed of it, and the tables tell
--- its members, if it is a map.
+-- A reader of JSON reads the old text as a value of whole numbers. The new one is what is printed of it, and the tables
+-- have its members, if it is a map.
 pub record IsTaken (old new : List ℕ) (tables : Tables) : Type 0 where
   pub found : Data
   pub reads : read old ≡ Some found

@@ -3,7 +3,7 @@ ghost use Rattle.std.specs.Prelude.{◌≡◌, ◌<◌, ◌∷◌, ◌++◌, [],
 ghost use Rattle.json.specs.Print.{escape_byte};
 ghost use Rattle.compact.specs.Begins.{EndsEscape};
 
-/// What stands behind `u` and four digits, where a control byte is written so.
+/// What follows `u` and four digits, if they write a control byte.
 pub(crate) fn control_rest(text: &[u8]) -> Option<&[u8]>
     ensures escape { IfSome result (λ rest. EndsEscape text.now rest.now) }
     ensures shorter { IfSome result (λ rest. length rest.now < length text.now) }

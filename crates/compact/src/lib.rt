@@ -1,5 +1,6 @@
-//! JSON with no space in it, as most programs write it: the members of its maps are put into byte order where they stand, so
-//! that a line becomes the text that is printed of its value, and it is noted where the members of three of its maps lie.
+//! JSON with no space in it, as most programs write it: the members of its maps are put into byte order in place, so
+//! that a line becomes the text that is printed of its value, and the positions of the members of three of its maps are
+//! noted.
 #![tactic(auto)]
 
 mod controls;

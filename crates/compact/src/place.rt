@@ -1,4 +1,4 @@
-// Where a member goes among those before it, and how its bytes come there.
+// The position of a member among those before it, and how its bytes are moved there.
 ghost use Rattle.std.specs.Prelude.{◌≡◌, ◌++◌, ℕ, List, length, IfSome, ◌+◌, ◌≤◌, OnOk};
 ghost use Rattle.serde_json.specs.Data.{Data, Members};
 ghost use Rattle.json.specs.Print.{quoted, escape};
@@ -12,7 +12,7 @@ use crate::table::Entry;
 use std::alloc::AllocError;
 use std::cmp::Ordering;
 
-/// The byte order of two keys. Most differ in their first byte, which is told sooner than how two slices compare.
+/// The byte order of two keys. Most differ in their first byte, which is faster to compare than two slices.
 #[inline(always)]
 pub fn compare_keys(key: &[u8], other: &[u8]) -> Ordering
     ensures { result ≡ slice_cmp nat_cmp key.now other.now }
@@ -23,8 +23,8 @@ pub fn compare_keys(key: &[u8], other: &[u8]) -> Ordering
     }
 }
 
-/// The index and the place of a member, unless one before it has its key. Most often none is above it: that is told by the
-/// last of them alone.
+/// The index and the offset at which a member belongs, unless one before it has its key. Most often none before it is
+/// above it, and the last of them alone shows that.
 #[inline(always)]
 pub(crate) fn place_of(
     text: &[u8],
@@ -80,7 +80,7 @@ pub(crate) fn key_at(text: &[u8], start: usize, key: usize) -> Option<&[u8]>
     whole.get(1..key.checked_sub(1)?)
 }
 
-/// Puts the last bytes of those between two places before the others, by way of a buffer.
+/// Puts the last bytes of those between two offsets before the others, by way of a buffer.
 #[inline(always)]
 pub(crate) fn move_back(
     text: &mut [u8],

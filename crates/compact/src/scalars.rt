@@ -4,7 +4,7 @@ ghost use Rattle.compact.specs.Begins.{BeginsScalar, BeginsDigits};
 
 use crate::texts::text_rest;
 
-/// What stands behind the text, the number or the word that begins here.
+/// What follows the text, the number or the word that begins here.
 #[inline(never)]
 pub(crate) fn scalar_rest(text: &[u8]) -> Option<&[u8]>
     ensures value { IfSome result (λ rest. BeginsScalar text.now rest.now) }
@@ -18,7 +18,7 @@ pub(crate) fn scalar_rest(text: &[u8]) -> Option<&[u8]>
     }
 }
 
-// What stands behind the word that begins a text.
+// What follows the word that begins a text.
 fn word_rest(text: &[u8]) -> Option<&[u8]>
     ensures word { IfSome result (λ rest. BeginsScalar text.now rest.now) }
     ensures shorter { IfSome result (λ rest. length rest.now < length text.now) }
@@ -35,7 +35,7 @@ fn word_rest(text: &[u8]) -> Option<&[u8]>
 /// The most digits of a number: any of so many fits 64 bits with a sign.
 const MOST_DIGITS: usize = 18;
 
-// What stands behind a whole number in its shortest form.
+// What follows a whole number in its shortest form.
 fn number_rest(text: &[u8]) -> Option<&[u8]>
     ensures number { IfSome result (λ rest. BeginsScalar text.now rest.now) }
     ensures shorter { IfSome result (λ rest. length rest.now < length text.now) }
@@ -53,7 +53,7 @@ fn number_rest(text: &[u8]) -> Option<&[u8]>
     Some(rest)
 }
 
-// The number that the digits are, none of them needless, and what stands behind.
+// The number that the digits are, none of them needless, and what follows.
 fn digits_rest(text: &[u8]) -> Option<(u64, &[u8])>
     ensures digits { IfSome result (λ found. BeginsDigits text.now found.0 found.1.now) }
     ensures shorter { IfSome result (λ found. length found.1.now < length text.now) }
@@ -65,7 +65,7 @@ fn digits_rest(text: &[u8]) -> Option<(u64, &[u8])>
     }
     let value = value_of(digits);
     let mut buffer = itoa::Buffer::new();
-    // Written again: so no digit is needless.
+    // It is written again, so no digit is needless.
     if buffer.format(value).as_bytes() == digits {
         Some((value, rest))
     } else {
@@ -84,7 +84,7 @@ fn digits_end(text: &[u8]) -> usize
     text.len()
 }
 
-// The number of digits. One that does not fit comes out as another, whose digits differ.
+// The number that the digits are. One that does not fit becomes another, whose digits differ.
 fn value_of(digits: &[u8]) -> u64 {
     let mut value: u64 = 0;
     for digit in digits {

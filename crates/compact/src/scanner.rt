@@ -12,8 +12,8 @@ use crate::table::{Entry, Table};
 use crate::texts::plain_text_end;
 use std::alloc::Global;
 
-/// The members of a line, of its member `object`, and of that one's member `metadata`. Where there is no such map, the table
-/// may be that of an earlier line.
+/// The members of a line, of its member `object`, and of that one's member `metadata`. If there is no such map, the
+/// table may be that of an earlier line.
 #[derive(Drop)]
 pub struct Tables {
     pub line: Table,
@@ -21,7 +21,7 @@ pub struct Tables {
     pub metadata: Table,
 }
 
-/// Where a value stands: the line, its member `object`, that one's member `metadata`, or elsewhere.
+/// Where a value is: the line, its member `object`, that one's member `metadata`, or elsewhere.
 #[derive(Clone, Copy, Drop)]
 enum Level {
     Line,
@@ -31,7 +31,7 @@ enum Level {
 }
 
 impl Level {
-    /// Where the member of that key stands.
+    /// Where the member of that key is.
     #[inline(always)]
     fn below(self, key: &[u8]) -> Level
         ensures { result ≡ below self key.now }
@@ -67,16 +67,19 @@ impl Scanner {
         }
     }
 
-    /// Where the members lie of the last line that was taken.
+    /// Where the members of the last accepted line are: those of its map, of the map `object` in it, and of `metadata`
+    /// in that one.
     pub fn tables(&self) -> &Tables
         ensures { result.now ≡ self.now.tables }
     {
         &self.tables
     }
 
-    /// Puts the members of a line's maps into byte order, if it is JSON with no space in it, in which each text and number is
-    /// written as it is printed, no key has an escape or comes twice in a map, no map has more than 16 members, and lists and
-    /// maps nest at most 16 deep. If not, its bytes may be those of no text any more.
+    /// Puts the members of a line's maps into byte order, if it is JSON with no space in it, in which each text and
+    /// number is written as it is printed, no key has an escape or comes twice in a map, no map has more than 16
+    /// members, and lists and maps nest at most 16 deep. Returns whether it did: then the line was JSON of whole
+    /// numbers, and is now the compact text of its value, with tables of its members. If not, its bytes may no longer
+    /// be a text. No clause says which lines it accepts, or what is left of others: tests do.
     pub fn scan(&mut self, line: &mut [u8]) -> bool
         ensures { IsTrue result → IsTaken line.old line.new self.new.tables }
     {
@@ -86,7 +89,7 @@ impl Scanner {
         }
     }
 
-    /// Keeps the table of a map that stands there.
+    /// Keeps the table of a map of that level.
     fn keep(&mut self, level: Level, table: Table)
         ensures { self.new.tables ≡ with_table level self.old.tables table }
     {
@@ -99,8 +102,8 @@ impl Scanner {
     }
 }
 
-/// Puts the members of the maps of the value that begins here into byte order, and answers how many bytes it takes, if it is
-/// compact and nests at most so deep. What comes behind it stays. With `None` the bytes may be those of no text any more.
+/// Puts the members of the maps of the value that begins here into byte order, and returns how many bytes it takes, if
+/// it is compact and nests at most so deep. What comes after it stays. With `None` the bytes may no longer be a text.
 #[cycle(order)]
 #[inline(always)]
 fn put_in_order(text: &mut [u8], depth: usize, level: Level, scanner: &mut Scanner) -> Option<usize>
@@ -142,7 +145,7 @@ fn nested_end(text: &mut [u8], depth: usize, level: Level, scanner: &mut Scanner
     Some(size + 1)
 }
 
-// Where the bracket that closes a list ends, given what stands behind the one that opens it.
+// Where the bracket that closes a list ends, given what follows the one that opens it.
 #[cycle(order)]
 fn items_end(text: &mut [u8], depth: usize, scanner: &mut Scanner) -> Option<usize>
     ensures ordered { IfSome result (λ n. AreOrderedItems depth text.old text.new n) }
@@ -169,7 +172,7 @@ fn items_end(text: &mut [u8], depth: usize, scanner: &mut Scanner) -> Option<usi
     }
 }
 
-// Where the brace that closes a map ends, given what stands behind the one that opens it.
+// Where the brace that closes a map ends, given what follows the one that opens it.
 #[cycle(order)]
 fn members_end(text: &mut [u8], depth: usize, level: Level, scanner: &mut Scanner) -> Option<usize>
     ensures ordered { IfSome result (λ n. AreOrderedMembers depth (λ ms. Told level scanner.new.tables ms × (level ≡ Other → scanner.new.tables ≡ scanner.old.tables)) text.old text.new n) }
@@ -191,7 +194,7 @@ fn members_end(text: &mut [u8], depth: usize, level: Level, scanner: &mut Scanne
         let end = at + size;
         let (byte, _behind) = text[end..].split_first()?;
         let byte = *byte;
-        // The comma goes with the member to its place, and the last one becomes the brace.
+        // The comma moves with its member, and the last one becomes the brace.
         text[end] = b',';
         let (index, start) = place_of(text, table.as_slice(), at, key)?;
         if index > table.as_slice().len() || start > at {

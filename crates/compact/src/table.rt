@@ -94,7 +94,7 @@ impl Table {
         self.shortest as usize <= size && size <= self.longest as usize
     }
 
-    /// Puts a member at a place; those behind it move up.
+    /// Inserts a member at an index; those after it move up.
     #[inline(always)]
     pub(crate) fn insert(&mut self, index: usize, entry: Entry)
         requires below { index ≤ length self.old }
@@ -124,7 +124,7 @@ pub struct Fields<'t, 'e> {
 }
 
 impl<'t, 'e> Fields<'t, 'e> {
-    /// The first member, and those behind it.
+    /// The first member, and those after it.
     #[inline(always)]
     pub fn split_first(self) -> Option<(Field<'t>, Fields<'t, 'e>)>
         ensures first { (ms : Members) → IsLeft ms self.entry.left.now → AreEntries self.entry.entries.now ms
@@ -169,7 +169,7 @@ impl Table {
         let mut entries = self.as_slice();
         let mut at: usize = 1;
         'members: while let Some((entry, others)) = entries.split_first() {
-            // Most members are told by the length of their key, which has its quotes in the table.
+            // Most other members have a key of another length; lengths in the table include the quotes.
             if entry.key as usize == size {
                 let left = rest_from(text, at);
                 let (field, _others) = Fields { left, entries }.split_first()?;
@@ -184,7 +184,7 @@ impl Table {
     }
 }
 
-// What stands between two places.
+// The bytes between two offsets.
 #[inline(always)]
 fn part(text: &[u8], start: usize, end: usize) -> &[u8]
     ensures { (front middle back : List ℕ) → text.now ≡ front ++ (middle ++ back) → length front ≡ start → length front + length middle ≡ end → result.now ≡ middle }
@@ -196,7 +196,7 @@ fn part(text: &[u8], start: usize, end: usize) -> &[u8]
     }
 }
 
-// What stands from a place on.
+// The bytes from an offset on.
 #[inline(always)]
 fn rest_from(text: &[u8], start: usize) -> &[u8]
     ensures { (front back : List ℕ) → text.now ≡ front ++ back → length front ≡ start → result.now ≡ back }

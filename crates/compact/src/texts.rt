@@ -1,4 +1,4 @@
-// Texts of JSON, where they are written as a writer writes them.
+// Texts of JSON, if they are written as a writer writes them.
 ghost use Rattle.std.specs.Prelude.{◌≡◌, ◌≤◌, ◌<◌, ◌∷◌, [], length, IfSome, ◌+◌, drop, map};
 ghost use Rattle.json.specs.Print.{escape_byte};
 ghost use Rattle.compact.specs.Begins.{IsPlainText, EndsText, EndsPlain, EndsEscape};
@@ -23,7 +23,7 @@ pub(crate) fn plain_text_end(text: &[u8]) -> Option<usize>
     Some(text.len() - rest.len())
 }
 
-// What stands behind the closing quote of such a text, given what stands behind its first one.
+// What follows the closing quote of such a text, given what follows its first one.
 #[inline(always)]
 fn plain_rest(text: &[u8]) -> Option<&[u8]>
     ensures plain { IfSome result (λ rest. EndsPlain text.now rest.now) }
@@ -34,8 +34,8 @@ fn plain_rest(text: &[u8]) -> Option<&[u8]>
     if *byte == b'"' { Some(behind) } else { None }
 }
 
-/// What stands behind the closing quote of any text, given what stands behind its first one. It goes by a run of plain bytes
-/// and an escape at a time.
+/// What follows the closing quote of any text, given what follows its first one. It passes a run of plain bytes and an
+/// escape at a time.
 pub(crate) fn text_rest(text: &[u8]) -> Option<&[u8]>
     ensures text { IfSome result (λ rest. EndsText text.now rest.now) }
     ensures shorter { IfSome result (λ rest. length rest.now < length text.now) }
@@ -55,7 +55,7 @@ pub(crate) fn text_rest(text: &[u8]) -> Option<&[u8]>
     }
 }
 
-// What stands behind an escape, given what stands behind its backslash.
+// What follows an escape, given what follows its backslash.
 fn escape_rest(text: &[u8]) -> Option<&[u8]>
     ensures escape { IfSome result (λ rest. EndsEscape text.now rest.now) }
     ensures shorter { IfSome result (λ rest. length rest.now < length text.now) }
@@ -108,7 +108,7 @@ fn plain_end_slowly(text: &[u8], from: usize) -> usize
     at
 }
 
-/// How many bytes stand before the first quote, backslash or control byte.
+/// How many bytes come before the first quote, backslash or control byte.
 #[inline(always)]
 pub fn plain_end(text: &[u8]) -> usize
     ensures value { result ≡ prefix_len is_plain text.now }

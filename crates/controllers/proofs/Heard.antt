@@ -1,4 +1,4 @@
--- What the reply to a request comes to.
+-- What follows the reply to a request.
 use Rattle.std.proofs.Common.{◌≡◌, ◌∙◌, ℕ, ap, List, Option, Result, Err, true, false, refl, sym, true≢false}
 use Rattle.objects.specs.declared.object.Object.{Object}
 use Rattle.objects.specs.declared.key.Key.{Key}
@@ -19,7 +19,7 @@ use Rattle.controllers.specs.Round.{Hears, StandsAt}
 use Rattle.plan_requests.specs.Planned.{or_none, requested, why_not}
 use Rattle.plan_requests.specs.Reconciler.{reconciler_with}
 
--- a reply without a list ends the round where one is waited for
+-- a reply without a list ends the round if a list is awaited
 from_none : (next : List Object → ℕ → Phase) (reply : Reply) → is_list reply ≡ false → from_list next reply ≡ phases.reading_set
 from_none next (Listed objects at) h = absurd (true≢false h)
 from_none next reply h = refl
@@ -95,7 +95,7 @@ carries (Acting next later) h no_set no_claims = refl
 carries (Deleting next later) h no_set no_claims = refl
 carries _ h no_set no_claims = absurd (true≢false h)
 
--- a refusal that is not want of memory is that of the plan
+-- a refusal other than out of memory is that of the plan
 pub refused_with : {A : Type 0} (e : PlanError) (planned : Result A PlanError) → (e ≡ errors.Memory → ⊥) → Fails e planned → planned ≡ Err e
 refused_with errors.Memory planned other h = absurd (other refl)
 refused_with _ planned other h = h

@@ -16,7 +16,7 @@ size_of spec = record { capacity = spec.capacity; shards = spec.shards }
 abbrev pub reconciler_for : SetSpec → Reconciler
 reconciler_for spec = reconciler_with (key_parts StatefulSet spec.namespace spec.name) spec.digits spec.moment
 
--- that of the controller with the number; past the last controller, one of a set without a name
+-- the reconciler of the controller with this number; after the last controller, one of a set without a name
 unfoldable pub reconciler_named : List SetSpec → ℕ → Reconciler
 reconciler_named sets n = option_map_or reconciler_for (slice_get sets n) (reconciler_with (key_parts StatefulSet [] []) 1 [])
 

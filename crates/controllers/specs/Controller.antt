@@ -1,4 +1,4 @@
--- What a controller is made of, and where it stands.
+-- What a controller is made of, and its phase.
 use Rattle.std.specs.Prelude.{ℕ, Bool, List, Option}
 use Rattle.objects.specs.declared.object.Object.{Object}
 use Rattle.requests.specs.declared.reply.Reply.{Reply}
@@ -17,7 +17,7 @@ reconciler_of c = reconciler_with c.set c.digits c.moment
 unfoldable pub phase_of : Controller → Phase
 phase_of c = phase_at c.progress
 
--- whether a request of it waits for its reply
+-- whether it waits for the reply to a request
 unfoldable pub is_waiting : Controller → Bool
 is_waiting c = c.waits
 
@@ -25,11 +25,11 @@ is_waiting c = c.waits
 unfoldable pub refusal_of : Controller → Option PlanError
 refusal_of c = c.refusal
 
--- which refusal a plan over a set and these lists comes to, if it comes to one
+-- with which refusal a plan over a set and these lists ends, if it is refused
 abbrev pub Refusals : Type 0
 Refusals = (set : Object) → (revisions pods claims : List Object) → Option PlanError
 
--- those of the plans of a controller with that many digits and that moment
+-- the refusals of the plans of a controller with that many digits and that moment
 abbrev pub refusals_with : ℕ → List ℕ → Refusals
 refusals_with digits moment set revisions pods claims = why_not (requested set digits moment revisions pods claims)
 

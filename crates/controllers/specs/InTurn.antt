@@ -32,8 +32,9 @@ is_on_pod (UpdateStatus d) = false
 is_on_pod (Delete k uid version at) = is_kind Pod k.kind
 is_on_pod (Compact to) = false
 
--- The create is of an ordinal in range, under a name that no listed pod has, where each lower ordinal in range has a healthy
--- pod of the set's: so it is of the least one without. Of these requests it alone creates or deletes a pod.
+-- The create is for an ordinal in range, under a name that no listed pod has, and each lower ordinal in range has a
+-- healthy pod of the set: so it is for the least ordinal without one. It is the only one of these requests that creates
+-- or deletes a pod.
 pub record IsInTurn (set : SetParts) (pods : List Object) (requests : List Request) (d : Draft) : Type 0 where
   pub ordinal : ℕ
   pub name_is : d.object.key.name ≡ name_at set ordinal
@@ -46,12 +47,13 @@ pub record IsInTurn (set : SetParts) (pods : List Object) (requests : List Reque
 abbrev pub IsOfSet : Reconciler → Type 0
 IsOfSet c = (set : Key) × (digits : ℕ) × (moment : List ℕ) × (c ≡ reconciler_with set digits moment)
 
--- where the set that was read for the plan is OrderedReady, the create comes in turn among the plan's requests
+-- if the set that was read for the plan is OrderedReady, the create comes in turn among the plan's requests
 abbrev pub ComesInTurn : (c : Reconciler) (own : List Exchange) (d : Draft) → IsPlanned c own (Create d) → Type 0
 ComesInTurn c own d plan = (set : SetParts) → set_of plan.set ≡ Ok set → set.policy ≡ OrderedReady
     → IsInTurn set plan.pods (c.plan plan.set plan.revisions plan.pods plan.claims) d
 
--- Each create of a pod that an incarnation asks comes from a plan over what was answered to it in this round, and in turn.
+-- Each create of a pod that an incarnation sends comes from a plan over the replies that it got in this round, and in
+-- turn.
 abbrev pub PodsComeInTurn : (ℕ → Reconciler) → List Entry → Type 0
 PodsComeInTurn reconcilers entries =
     (before later : List Entry) (incarnation : Incarnation) (d : Draft) (reply : Reply)

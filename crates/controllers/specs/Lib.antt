@@ -1,10 +1,10 @@
--- ---- what public clauses cite
+-- ---- cited by public clauses
 pub mod Cluster
 pub mod Controller
 pub mod InTurn
 pub mod Whole
 pub mod Progress
--- ---- what only proofs use
+-- ---- used only by proofs
 pub mod Round
 -- ---- of the crates below
 pub use Rattle.plan_requests.specs.Planned

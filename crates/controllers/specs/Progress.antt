@@ -1,4 +1,4 @@
--- Where a controller stands in its round.
+-- A controller's phase in its round.
 use Rattle.std.specs.Prelude.{ℕ, Bool, true, false, List, [], reverse, Result, Ok}
 use Rattle.objects.specs.declared.object.Object.{Object}
 use Rattle.requests.specs.declared.request.Request.{Request}
@@ -24,7 +24,7 @@ phase_at (ListingOwnerRevisions claims sets pods at) = phases.listing_owner_revi
 phase_at (ListingOwnerClaims claims sets pods revisions at) = phases.listing_owner_claims claims sets pods revisions at
 phase_at (Deleting next later) = phases.deleting next (reverse later.items)
 
--- it waits for a list, but not for that of the claims for its plan
+-- it waits for a list, other than that of the claims for its plan
 abbrev pub is_listing : Progress → Bool
 is_listing ReadingSet = false
 is_listing (ListingClaims set revisions pods) = false

@@ -8,6 +8,6 @@ use Rattle.controllers.specs.declared.controller.Controller.{Controller}
 use Rattle.controllers.specs.Controller.{reconciler_of}
 use Rattle.plan_requests.specs.Reconciler.{reconciler_with}
 
--- that of the controller with the number; past the last controller, one of a set without a name
+-- the reconciler of the controller with this number; after the last controller, one of a set without a name
 unfoldable pub reconciler_at : List Controller → ℕ → Reconciler
 reconciler_at controllers n = option_map_or reconciler_of (slice_get controllers n) (reconciler_with (key_parts StatefulSet [] []) 1 [])

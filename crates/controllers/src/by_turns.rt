@@ -15,8 +15,8 @@ use cluster_runs::{ClusterFault, Turn, TurnsRun};
 use objects::{Memory, Text};
 use std::alloc::Global;
 
-/// Lets the events happen that the turns stand for, one after another: each turn finds the cluster as the ones before left it.
-/// It is also said how far each turn came. All else is as of `run_cluster` over these events.
+/// Applies the events of the turns, one after another: each turn finds the cluster as the ones before left it. The
+/// result also says how many events there were after each turn. All else is as for `run_cluster` over these events.
 ///
 /// # Errors
 /// Those of `run_cluster`.
@@ -61,7 +61,7 @@ pub fn run_turns(
     )
 }
 
-/// The namespaces of these, each once, in the order of the first mention.
+/// The namespaces of these sets, each once, in the order of the first mention.
 fn namespaces_of(alloc: Global, sets: &[SetSpec]) -> Result<Vec<Text>, Memory>
     ensures { IfOk result (λ namespaces. namespaces.items ≡ namespaces_of sets.now) }
 {

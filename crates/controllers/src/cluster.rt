@@ -16,22 +16,22 @@ use cluster_runs::{ClusterEvent, ClusterFault, ClusterRun};
 use objects::Memory;
 use std::alloc::Global;
 
-/// Lets the events happen, one after another. Each is handed on to the store as exactly one event, unless it is not enabled;
-/// then it changes nothing. The order of the run is one in which one plain store takes the requests whole, gives exactly the
-/// replies that were given, and keeps five promises, wherever controllers crash. Between two accepted creates of one key
-/// stands an accepted removal of the first one's UID. What an accepted delete of a plan marks or removes has the UID that was
-/// listed for the plan. Each create of a controller comes from its plan over what was answered to it since its last crash,
-/// and in that round. Each delete of a controller is of a pod or a revision and comes from such a plan, or it is of a claim
-/// and comes from a collection of that round. When a controller's delete removes a claim, no object of the claim's namespace
-/// has the UID of an owner of it, and none ever will.
+/// Applies the events, one after another. Each becomes exactly one event of the store, unless it is not enabled; then
+/// it changes nothing. The order of the run is one in which one plain store handles whole requests, gives exactly the
+/// same replies, and keeps five promises, whenever controllers crash. Between two accepted creates of one key is an
+/// accepted removal of the first one's UID. What an accepted delete of a plan marks or removes has the UID that was
+/// listed for the plan. Each create of a controller comes from its plan over the replies that it got since its last
+/// crash, in that round. Each delete of a controller is of a pod or a revision and comes from such a plan, or it is of
+/// a claim and comes from a collection of that round. When a controller's delete removes a claim, no object of the
+/// claim's namespace has the UID of an owner of it, and none ever will.
 ///
-/// Each create of a pod, where its set was read as OrderedReady, is of the least ordinal in range that has no healthy pod in
-/// the list of its plan, under a name that no pod there has; and its plan creates and deletes no other pod.
+/// Each create of a pod, if its set was read as OrderedReady, is of the least ordinal in range that has no healthy pod
+/// in the list of its plan, under a name that no pod there has; and its plan creates and deletes no other pod.
 ///
 /// # Errors
-/// The first of these that fits: `BadShards` and `BadCapacity` where these are out of range, `TooManyCallers` where more than
-/// 4,096 callers would be used: controllers, those that they go on as after a crash, and others. `Memory` where an allocation
-/// was refused, which may come before any of them.
+/// The first of these that applies: `BadShards` and `BadCapacity` if these are out of range, `TooManyCallers` if more
+/// than 4,096 callers would be used: controllers, those that they continue as after a crash, and others. `Memory` if an
+/// allocation was refused, which may come before any of them.
 pub fn run_cluster(
     alloc: Global,
     spec: &ClusterSpec,
@@ -61,7 +61,7 @@ pub fn run_cluster(
     )
 }
 
-/// A controller for each of these.
+/// A controller for each of these sets.
 pub(crate) fn controllers_of(alloc: Global, sets: &[SetSpec]) -> Result<Vec<Controller>, Memory>
     ensures made { IfOk result (λ controllers. map reconciler_of controllers.items ≡ map reconciler_for sets.now) }
     ensures begun { IfOk result (λ controllers. AllByRecursion (λ c. (phase_of c ≡ reading_set)) controllers.items) }

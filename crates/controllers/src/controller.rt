@@ -10,7 +10,8 @@ use sets::PlanError;
 use std::alloc::Global;
 use std::mem;
 
-/// The controller of one StatefulSet: it goes round and round, one request at a time (Kubernetes, "Controllers").
+/// The controller of one StatefulSet: it makes one round after another, one request at a time (Kubernetes,
+/// "Controllers").
 #[derive(Drop)]
 pub struct Controller {
     pub(crate) set: Key,
@@ -28,8 +29,9 @@ impl Controller {
     ghost use Rattle.controllers.specs.Controller.{is_waiting, phase_of, reconciler_of, refusal_of, refusals_of, refusals_with};
     ghost use Rattle.plan_requests.specs.Reconciler.{reconciler_with};
 
-    /// The controller of the set of that namespace and name. The names of new revisions have that many digits, and pods
-    /// are marked for deletion with that moment.
+    /// The controller of the set with that namespace and name. The names of new revisions have that many digits, and
+    /// pods are marked for deletion with that moment. It will read its set first, waits for no reply, and has no
+    /// refused plan.
     #[tactic(auto, unfolding(crate::specs::Controller::reconciler_of, crate::specs::Controller::phase_of, crate::specs::Controller::is_waiting, crate::specs::Controller::refusal_of, crate::specs::Controller::refusals_of, crate::specs::Progress::phase_at))]
     pub fn new(
         alloc: Global,
@@ -68,7 +70,7 @@ impl Controller {
         })
     }
 
-    /// Forgets its round, and why its last plan was refused.
+    /// Forgets its round, and why its last plan was refused. What it is made of stays.
     #[tactic(auto, unfolding(crate::specs::Controller::reconciler_of, crate::specs::Controller::phase_of, crate::specs::Controller::is_waiting, crate::specs::Controller::refusal_of, crate::specs::Controller::refusals_of, crate::specs::Progress::phase_at))]
     pub fn crash(&mut self)
         ensures phase { phase_of self.new ≡ reading_set }
@@ -82,7 +84,7 @@ impl Controller {
         self.refusal = None;
     }
 
-    /// Why its last plan was refused, unless one has been made since.
+    /// Why its last plan was refused, unless one has been made since, or it has crashed.
     #[tactic(auto, unfolding(crate::specs::Controller::refusal_of))]
     pub fn last_refusal(&self) -> Option<&PlanError>
         ensures { option_map (λ e. e.now) result ≡ refusal_of self.now }

@@ -1,4 +1,4 @@
-// Where a reply takes a controller.
+// What a reply does to a controller.
 ghost use Rattle.std.specs.Prelude.{◌≡◌, ◌∷◌, [], ◌||◌, ℕ, List, true, false, reverse, IfOk, IfSome, IfNone, if◌then◌else◌};
 ghost use Rattle.collector.specs.Collectable.{collection};
 ghost use Rattle.rounds.specs.Accepted.{succeeded};
@@ -42,7 +42,7 @@ fn is_refusal(reply: &Reply) -> bool
     matches!(reply, Reply::Refused(_))
 }
 
-/// After the set was read. Where it is not there, there is nothing to plan.
+/// After the set was read. Without a set there is nothing to plan.
 #[tactic(auto, unfolding(crate::specs::Progress::phase_at))]
 pub(crate) fn after_set(reply: &Reply) -> Result<Progress, AllocError>
     ensures { IfOk result (λ p. phase_at p ≡ from_set reply.now) }
@@ -54,7 +54,7 @@ pub(crate) fn after_set(reply: &Reply) -> Result<Progress, AllocError>
     }
 }
 
-/// What is left of a plan, the last request first. After the first one the controller collects.
+/// The rest of a plan, the last request first. After the first one the controller collects.
 #[tactic(auto, unfolding(crate::specs::Progress::phase_at), using(crate::proofs::Later::popped_some, crate::proofs::Later::popped_none))]
 fn acts(mut later: Vec<Request>) -> Progress
     ensures { phase_at result ≡ acts (reverse later.items) }
@@ -68,7 +68,7 @@ fn acts(mut later: Vec<Request>) -> Progress
     }
 }
 
-/// What is left of the deletes, the last one first. After the first one the round is over.
+/// The rest of the deletes, the last one first. After the first one the round is over.
 #[tactic(auto, unfolding(crate::specs::Progress::phase_at), using(crate::proofs::Later::popped_some, crate::proofs::Later::popped_none))]
 fn deletes(mut later: Vec<Request>) -> Progress
     ensures { phase_at result ≡ deletes (reverse later.items) }
@@ -82,7 +82,7 @@ fn deletes(mut later: Vec<Request>) -> Progress
     }
 }
 
-/// The requests to carry out, one after another.
+/// The requests to send, one after another.
 pub(crate) fn acting(mut requests: Vec<Request>) -> Progress
     ensures { phase_at result ≡ acts requests.items }
 {
@@ -111,7 +111,7 @@ pub(crate) fn after_action(next: Request, later: Vec<Request>, reply: &Reply) ->
     Progress::ReadingSet
 }
 
-/// After the delete of a claim. A refused one is passed over.
+/// After the delete of a claim. A refused one is skipped.
 #[tactic(auto, unfolding(crate::specs::Progress::phase_at))]
 pub(crate) fn after_deletion(next: Request, later: Vec<Request>, reply: &Reply) -> Progress
     ensures { phase_at result ≡ (if succeeded next reply.now || is_refusal reply.now then deletes (reverse later.items) else reading_set) }
@@ -125,7 +125,7 @@ pub(crate) fn after_deletion(next: Request, later: Vec<Request>, reply: &Reply) 
     Progress::ReadingSet
 }
 
-/// Lists of all that may own a claim.
+/// Lists of everything that may own a claim.
 #[derive(Clone, Copy)]
 pub(crate) struct Owners<'a> {
     pub sets: &'a [Object],
@@ -134,7 +134,7 @@ pub(crate) struct Owners<'a> {
     pub claims: &'a [Object],
 }
 
-/// The deletes of the claims that nobody owns any more.
+/// The deletes of the claims that have no owner any more.
 pub(crate) fn collecting(
     alloc: Global,
     claims: &[Object],
@@ -148,7 +148,7 @@ pub(crate) fn collecting(
     Ok(deleting(collect(alloc, claims, &lists, listed_at)?))
 }
 
-/// The objects of a list that was answered, and its revision.
+/// The objects of a list that was returned, and its revision.
 pub(crate) fn listed(reply: &Reply) -> Option<(&Listing, u64)>
     ensures some { IfSome result (λ list. reply.now ≡ Listed list.0.now list.1) }
     ensures none { IfNone result (is_list reply.now ≡ false) }
@@ -250,7 +250,7 @@ fn listing_owner_sets(claims: &Listing) -> Result<Progress, AllocError>
     Ok(Progress::ListingOwnerSets { claims })
 }
 
-/// After a list, but that of the claims for a plan.
+/// After a list, except that of the claims for a plan.
 #[tactic(auto, unfolding(crate::specs::Progress::phase_at, rounds::specs::Phase::takes))]
 pub(crate) fn after_list(
     alloc: Global,

@@ -15,9 +15,9 @@ ghost use Rattle.rounds.specs.Transcript.{Entry};
 ghost use Rattle.plan_requests.specs.Planned.{requested};
 ghost use Rattle.controllers.specs.InTurn.{IsInTurn, IsOfSet, PodsComeInTurn};
 
-/// Under OrderedReady a controller asks for a pod only of an ordinal in range, under a name that none of the pods has that were
-/// listed for that plan, and where each lower ordinal in range has a healthy pod of the set's among them. No other request of
-/// the plan creates or deletes a pod.
+/// Under OrderedReady a controller creates a pod only for an ordinal in range, under a name that none of the pods
+/// listed for that plan has, and only if each lower ordinal in range has a healthy pod of the set among them. No other
+/// request of the plan creates or deletes a pod.
 pub fn creates_wait_for_lower_pods()
     ensures { (o : Object) (set : SetParts) (digits : ℕ) (moment : List ℕ) (revisions pods claims : List Object) (requests : List Request) (d : Draft)
         → set_of o ≡ Ok set → set.policy ≡ OrderedReady
@@ -25,7 +25,8 @@ pub fn creates_wait_for_lower_pods()
         → IsInTurn set pods requests d }
 {}
 
-/// So does each create of a pod that controllers ask, in whatever a store takes from them and from anybody else.
+/// The same holds of each create of a pod that controllers send, whatever a store handles from them and from other
+/// clients.
 pub fn pods_come_in_turn()
     ensures { (reconcilers : ℕ → Reconciler) (entries : List Entry) → ((c : ℕ) → IsOfSet (reconcilers c))
         → CreatesArePlanned reconcilers entries → PodsComeInTurn reconcilers entries }

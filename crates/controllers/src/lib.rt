@@ -1,5 +1,5 @@
-//! Controllers of StatefulSets: each goes round over what it lists of a store, and any number of them may race without a
-//! leader.
+//! Controllers of StatefulSets: each makes rounds over what it lists from a store, and any number of them may race
+//! without a leader.
 #![tactic(auto)]
 
 mod by_turns;

@@ -1,4 +1,4 @@
-// What a controller asks next.
+// What a controller sends next.
 ghost use Rattle.std.specs.Prelude.{◌≡◌, IfOk};
 ghost use Rattle.rounds.specs.Phase.{asks};
 ghost use Rattle.requests.specs.declared.request.Request.TheVariants as request;
@@ -17,12 +17,12 @@ fn list_of(set: &Key, kind: Kind) -> Result<Request, AllocError>
     Ok(Request::List {
         kind,
         namespace: set.namespace.clone()?,
-        // 0 asks for the objects as they are now.
+        // 0 means the objects as they are now.
         exact: 0,
     })
 }
 
-/// What the controller asks where it stands.
+/// What the controller sends in its present phase.
 #[tactic(auto, unfolding(rounds::specs::Phase::asks, crate::specs::Controller::phase_of, crate::specs::Controller::reconciler_of, crate::specs::Progress::phase_at))]
 pub(crate) fn asked(controller: &Controller) -> Result<Request, AllocError>
     ensures { IfOk result (λ r. r ≡ asks (reconciler_of controller.now) (phase_of controller.now)) }

@@ -4,8 +4,8 @@ ghost use Rattle.controllers.specs.Progress.{is_listing};
 use objects::Object;
 use requests::{Listing, Request};
 
-/// How far a controller is in its round: what it asks next, and what it read for that. Of requests that are still to be
-/// asked the next one stands apart, and the others from the last to the first.
+/// How far a controller is in its round: what it sends next, and what it read for that. Of the requests still to be
+/// sent the next one is kept apart, and the others are in reverse.
 #[derive(Drop)]
 pub(crate) enum Progress {
     ReadingSet,
@@ -54,7 +54,7 @@ pub(crate) enum Progress {
 }
 
 impl Progress {
-    /// Whether it waits for a list, but not for that of the claims for its plan.
+    /// Whether it waits for a list, other than that of the claims for its plan.
     pub(crate) fn is_listing(&self) -> bool
         ensures { result ≡ is_listing self.now }
     {

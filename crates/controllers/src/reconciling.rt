@@ -1,3 +1,4 @@
+// A controller of a StatefulSet as one of `rounds`: its phases, and what its reconciler is.
 use crate::controller::Controller;
 use objects::Memory;
 use requests::{Reply, Request};

@@ -25,7 +25,7 @@ use std::alloc::Global;
 use std::mem;
 
 impl Controller {
-    /// The next request. Until its reply is taken, the same again. Where memory is short, it waits only if it waited before.
+    /// The next request; the same again until its reply is handled. Out of memory, it waits only if it waited before.
     #[tactic(auto, unfolding(crate::specs::Controller::reconciler_of, crate::specs::Controller::phase_of, crate::specs::Controller::is_waiting, crate::specs::Controller::refusal_of, crate::specs::Controller::refusals_of))]
     pub fn next(&mut self) -> Result<Request, Memory>
         ensures asked { IfOk result (λ request. request ≡ asks (reconciler_of self.old) (phase_of self.old)) }
@@ -41,8 +41,8 @@ impl Controller {
         Ok(request)
     }
 
-    /// Takes the reply to its last request. Where none waits, nothing changes; where memory is short, it stays where it
-    /// stands, and goes on waiting.
+    /// Handles the reply to its last request. If none waits, nothing changes; out of memory, it stays where it was, and
+    /// still waits.
     #[tactic(auto, unfolding(crate::specs::Controller::reconciler_of, crate::specs::Controller::phase_of, crate::specs::Controller::is_waiting, crate::specs::Controller::refusal_of, crate::specs::Controller::refusals_of))]
     pub fn take(&mut self, reply: &Reply) -> Result<(), Memory>
         ensures taken { OnOk result (is_waiting self.old ≡ true → phase_of self.new ≡ takes (reconciler_of self.old) (phase_of self.old) reply.now) }
@@ -63,7 +63,7 @@ impl Controller {
     }
 }
 
-/// Goes on by the reply to what it asked last.
+/// Moves on by the reply to its last request.
 #[tactic(auto, using(crate::proofs::Heard::carries))]
 fn on_reply(controller: &mut Controller, reply: &Reply) -> Result<(), Memory>
     ensures { Takes reply.now controller.old controller.new result }
@@ -85,7 +85,7 @@ fn on_reply(controller: &mut Controller, reply: &Reply) -> Result<(), Memory>
     }
 }
 
-/// Goes on by the set, or where there is none.
+/// Moves on by the set, or by its absence.
 #[tactic(auto, using(crate::proofs::Heard::set_heard, crate::proofs::Heard::refusal_at_set), unfolding(crate::specs::Controller::reconciler_of, crate::specs::Controller::phase_of, crate::specs::Controller::refusal_of, crate::specs::Controller::refusals_of))]
 fn on_set(controller: &mut Controller, reply: &Reply) -> Result<(), Memory>
     requires { controller.old.progress ≡ ReadingSet }
@@ -96,7 +96,7 @@ fn on_set(controller: &mut Controller, reply: &Reply) -> Result<(), Memory>
     Ok(())
 }
 
-/// Where the reply to its list takes it, but for that of the claims for its plan.
+/// What follows the reply to its list, except that of the claims for its plan.
 fn progress_after_list(
     alloc: Global,
     progress: &Progress,
@@ -112,7 +112,7 @@ fn progress_after_list(
     }
 }
 
-/// Goes on by a list, but not by that of the claims for its plan.
+/// Moves on by a list, other than that of the claims for its plan.
 #[tactic(auto, using(crate::proofs::Heard::refusal_stays), unfolding(crate::specs::Controller::reconciler_of, crate::specs::Controller::phase_of, crate::specs::Controller::refusal_of, crate::specs::Controller::refusals_of))]
 fn on_list(controller: &mut Controller, reply: &Reply) -> Result<(), Memory>
     requires { is_listing controller.old.progress ≡ true }
@@ -146,7 +146,7 @@ fn plan_with(controller: &Controller, claims: &[Object]) -> Result<Vec<Request>,
     }
 }
 
-/// Goes on by the list of the claims for its plan.
+/// Moves on by the list of the claims for its plan.
 fn on_claims(controller: &mut Controller, reply: &Reply) -> Result<(), Memory>
     requires { is_planning controller.old.progress ≡ true }
     ensures { Takes reply.now controller.old controller.new result }
@@ -163,7 +163,7 @@ fn on_claims(controller: &mut Controller, reply: &Reply) -> Result<(), Memory>
     }
 }
 
-/// Starts the plan, or keeps why there is none.
+/// Starts the plan, or keeps why it was refused.
 #[tactic(auto, using(crate::proofs::Heard::refused_with), unfolding(crate::specs::Controller::reconciler_of, crate::specs::Controller::phase_of, crate::specs::Controller::refusal_of, crate::specs::Controller::refusals_of, crate::specs::Progress::phase_at))]
 fn start_plan(
     controller: &mut Controller,
@@ -201,7 +201,7 @@ fn refuse(controller: &mut Controller, refusal: Option<PlanError>)
     controller.refusal = refusal;
 }
 
-/// Takes its progress out. What is left in its place stands there until the next progress is set.
+/// Takes its progress out. What is left in its place stays there until the next progress is set.
 fn take_progress(controller: &mut Controller) -> Progress
     ensures was { result ≡ controller.old.progress }
     ensures stays { controller.new ≡ record controller.old { progress = ReadingSet } }
@@ -209,7 +209,7 @@ fn take_progress(controller: &mut Controller) -> Progress
     mem::replace(&mut controller.progress, Progress::ReadingSet)
 }
 
-/// Where the reply to the last action or delete takes it.
+/// What follows the reply to the last action or delete.
 #[tactic(auto, unfolding(crate::specs::Progress::phase_at, rounds::specs::Phase::takes))]
 fn progress_after(progress: Progress, reply: &Reply) -> Progress
     requires { is_carrying progress ≡ true }
@@ -222,7 +222,7 @@ fn progress_after(progress: Progress, reply: &Reply) -> Progress
     }
 }
 
-/// Goes on with its plan or its deletes, by the reply to the last one.
+/// Moves on with its plan or its deletes, by the reply to the last one.
 #[tactic(auto, using(crate::proofs::Heard::refusal_carried), unfolding(crate::specs::Controller::reconciler_of, crate::specs::Controller::phase_of, crate::specs::Controller::refusal_of, crate::specs::Controller::refusals_of))]
 fn continue_requests(controller: &mut Controller, reply: &Reply)
     requires { is_carrying controller.old.progress ≡ true }

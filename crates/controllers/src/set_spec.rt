@@ -24,7 +24,7 @@ pub struct SetSpec {
 }
 
 impl SetSpec {
-    /// Copies of these.
+    /// Copies of these values.
     pub fn new(
         alloc: Global,
         namespace: &str,

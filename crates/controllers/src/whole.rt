@@ -14,20 +14,21 @@ use plain_store::Api;
 use rounds::{WholeEvent, WholeRun};
 use std::alloc::Global;
 
-/// Lets the events happen, one after another, until the end or a fault. What is taken has one entry for each request that
-/// anybody asks, with its reply; an event of a controller that is not there has none. Where memory is short, the run stops at
-/// an event: the controllers stand where those before it left them, and the store and what was taken are as they were then, or
-/// as that event leaves them. So each of them can crash, and another run follow. Each controller keeps its reconciler.
+/// Applies the events, one after another, until the end or a fault. `taken` has one entry for each request that
+/// controllers or other clients sent, with its reply; an event of a controller that does not exist has none. Out of
+/// memory, the run stops at an event: the controllers are where the events before it left them, and the store and
+/// `taken` are as they were then, or as that event leaves them. So each controller can crash, and another run can
+/// follow. Each controller keeps its reconciler.
 ///
-/// What was taken keeps five promises. Between two accepted creates of one key stands an accepted removal of the first one's
+/// The entries keep five promises. Between two accepted creates of one key is an accepted removal of the first one's
 /// UID. What an accepted delete of a plan marks or removes has the UID that was listed for the plan. Each create of a
-/// controller comes from its plan over the set, the revisions, the pods and the claims that were answered to it since its last
-/// crash, and in that round. Each delete of a controller is of a pod or a revision and comes from such a plan, or it is of a
-/// claim and comes from a collection of that round. When a controller's delete removes a claim, no object of the claim's
-/// namespace has the UID of an owner of it, and none ever will.
+/// controller comes from its plan over the set, the revisions, the pods and the claims that it got as replies since its
+/// last crash, in that round. Each delete of a controller is of a pod or a revision and comes from such a plan, or it
+/// is of a claim and comes from a collection of that round. When a controller's delete removes a claim, no object of
+/// the claim's namespace has the UID of an owner of it, and none ever will.
 ///
-/// Each create of a pod, where its set was read as OrderedReady, is of the least ordinal in range that has no healthy pod in
-/// the list of its plan, under a name that no pod there has; and its plan creates and deletes no other pod.
+/// Each create of a pod, if its set was read as OrderedReady, is of the least ordinal in range that has no healthy pod
+/// in the list of its plan, under a name that no pod there has; and its plan creates and deletes no other pod.
 pub fn run_whole<A: Api>(
     alloc: Global,
     api: &mut A,

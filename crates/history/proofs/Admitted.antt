@@ -33,7 +33,7 @@ pub admits : (m m' : Machine) (c : ℕ) → named_phase m.callers c ≡ None →
 unfolding Keeps
 admits m m' c none entering e = (ap (λ (x : Machine). x.compacted) e, λ z w a sh. subst (λ x. Shows z w a x) (sym e) (shows_named z w a m sh m'.callers (admitted_same m.callers m'.callers c none entering) entering.1))
 
--- a caller was admitted, its event is refused, and it is forgotten
+-- a caller was admitted, its event is refused, and the caller is forgotten
 pub dismisses : (m l n k : Machine) (c : ℕ) → named_phase m.callers c ≡ None → Enters m.callers l.callers c code.Idle → l ≡ record m { callers = l.callers } → Stays l n
     → ((d : ℕ) → named_phase k.callers d ≡ cond (nat_eq d c) None (named_phase n.callers d)) → (is_idle (phase_at n.callers c) ≡ true → IsTracked n.callers → IsTracked k.callers) → k ≡ record n { callers = k.callers } → Stays m k
 unfolding Keeps Stays
@@ -59,7 +59,7 @@ dismisses m l n k c none entering l_is stays gone tracks k_is = (
     known d (same x b) = gone d ∙ ap (λ t. cond t None (named_phase n.callers d)) b ∙ sym (ap (named_phase m.callers) x ∙ none)
     known d (other x b) = gone d ∙ ap (λ t. cond t None (named_phase n.callers d)) b ∙ stays.1 d ∙ entering.0 d ∙ ap (λ t. cond t (Some code.Idle) (named_phase m.callers d)) b
 
--- where the event is placed does not matter to the order
+-- the order does not depend on the place of the event
 placed : (w v : World) (a : Arrangement) (e : Event) → arranged w e (later v) a ≡ arranged w e v a
 placed w v a (event.Call c r) = refl
 placed w v a (event.Check c) = refl
@@ -91,7 +91,7 @@ later_shown z v a n h = record {
   place = add-one n.now_at ∙ ap suc h.place;
 }
 
--- the event takes its place, and the shards are compacted
+-- the event has its place, and the shards are compacted
 pub steps_by : (e : Event) (m n k l : Machine) → Does e m n → k ≡ record n { now_at = n.now_at + 1 } → Thins k l → Steps e m l
 unfolding Does Steps Thins
 steps_by e m n k l does is thins = λ z w a sh facts.
@@ -99,7 +99,7 @@ steps_by e m n k l does is thins = λ z w a sh facts.
     thins z (later v) (arranged w e (later v) a) (subst (λ x. Shows z (later v) (arranged w e (later v) a) x) (sym is)
     (subst (λ b. Shows z (later v) b (record n { now_at = n.now_at + 1 })) (sym (placed w v a e)) (later_shown z v (arranged w e v a) n (does z w a sh facts))))
 
--- what a caller gets goes by the trace
+-- the reply to a caller is that of the trace
 pub answer_same : (e : Event) (m n k : Machine) (delivered : Option Reply) → k.items.items ≡ n.items.items → IsAnswer e m n delivered → IsAnswer e m k delivered
 answer_same (event.Reply c) m n k delivered items answer = items ∙ answer
 answer_same e m n k delivered items answer = answer

@@ -11,7 +11,7 @@ use Rattle.interleavings.specs.World.{Phase, Reading, Size, World}
 use Rattle.interleavings.proofs.Basics.{Compared, same, other, compare, eq_self}
 use Rattle.history.proofs.Mirrors.{floor_raised, mirrors_raised}
 
--- what is up to the number of each code phase that reads, is up to that of its phase
+-- what is at most the number of each code phase that reads, is at most that of its phase
 unread_shown : (low : ℕ) (p : CodePhase) (ph : Phase) → IsShown p ph → ((n : ℕ) → reads_at n p ≡ true → low ≤ n) → IsUnread low ph
 unread_shown low (code.Reading n p r left) ph h f = subst (IsUnread low) (sym h.1.1.0) (f n (eq_self n))
 unread_shown low _ ph h f = subst (IsUnread low) (sym h) tt

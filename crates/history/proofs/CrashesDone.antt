@@ -1,4 +1,4 @@
--- A shard that answers, and a crash, do what the definition says.
+-- The read of a shard, and a crash, do what the definition says.
 use Rattle.std.proofs.Common.{◌≡◌, ℕ, ◌-◌, ◌<◌, List, [], ◌∷◌, length, set, Some, None, refl, sym, ap, ◌∙◌, subst, arith}
 use Rattle.objects.specs.ShardOf.{shard_of}
 use Rattle.plain_store.specs.Store.{Objects}

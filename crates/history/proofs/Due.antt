@@ -76,7 +76,7 @@ module _ (m : Machine) (c : ℕ) where
       by z w a sh place (atmost k b) = ap (λ t. with_reply_if t w c reply) b
       by z w a sh place (above gt b) = let f = sh.frontier in absurd (omega arith)
 
-  -- all shards have answered a read
+  -- all shards of a read are read
   pub due_read : (n : ℕ) (r : Request) (reply : Reply) → reading_in (phase_at m.callers c) ≡ Some (n, r, 0) → Answers n r reply m → IsDue c (Some reply) m
   unfolding IsDelivered Answers
   due_read n r reply e answer = (
@@ -90,7 +90,7 @@ module _ (m : Machine) (c : ℕ) where
       by z w a sh facts place [] got at count = ap (replied z w c) at ∙ ap (with_reply w c) (facts.answer c n place r got at ∙ sym (answer z w a sh facts))
       by z w a sh facts place (s ∷ parts) got at count = absurd (omega arith)
 
-  -- some have not
+  -- some are not
   pub due_unread : (n : ℕ) (r : Request) (left : ℕ) → reading_in (phase_at m.callers c) ≡ Some (n, r, left) → 0 < left → IsDue c None m
   due_unread n r left e some = λ z w a sh facts.
       let x = reads_at (phase_at m.callers c) (w.phase c) n r left e (sh.phases c) in
@@ -144,7 +144,7 @@ list_found m number kind namespace exact reply numbered kept is = λ z w a sh fa
     is ∙ ap (λ n. Listed (finite.values (found_in (records_of m) number kind namespace n)) number) sh.log.count
     ∙ sym (list_answer z w.log w.drawn (records_of m) (λ s. (shard_at m.shards.items s).floor) number sh.log.mirrors (λ s lt. let f = sh.log.floors s lt in omega arith) facts.filed facts.some kind namespace exact numbered)
 
--- a request that is read, is read at its number
+-- a request that is being read is read at its number
 pub numbered_list : (number : ℕ) (kind : Kind) (namespace : List ℕ) (exact : ℕ) → IsNumbered number (request.List kind namespace exact) → (exact ≡ 0) ⊎ (exact ≡ number)
 unfolding route
 numbered_list number kind namespace exact numbered = by (compare exact 0)

@@ -1,4 +1,4 @@
--- The step that leads a caller on is enabled: it leaves another world.
+-- The step that brings a caller closer to its reply is enabled: it leaves another world.
 use Rattle.std.proofs.Common.{◌≡◌, ◌≢◌, ℕ, suc, Bool, true, false, nat_le, nat_lt, if◌then◌else◌, List, [], ◌∷◌, length, Option, Some, None, is_some, refl, sym, ap, subst, ◌∙◌, arith}
 use Rattle.std.proofs.lemmas.Option.{same_Some}
 use Rattle.objects.specs.declared.key.Key.{Key}
@@ -29,7 +29,7 @@ parts_of (Waiting s p r) = []
 parts_of (Reading n p r parts found) = parts
 parts_of (Gone left) = []
 
--- the caller stands elsewhere afterwards
+-- the caller is in another phase afterwards
 record IsElsewhere (c : ℕ) (ph : Phase) (v : World) : Type 0 where
   there : Phase
   is : v.phase c ≡ there

@@ -1,4 +1,4 @@
--- A list that is read of all shards is answered as what was there at its number.
+-- The reply to a list that is read of all shards is what was there at its number.
 use Rattle.std.proofs.Common.{◌≡◌, ◌≢◌, ℕ, zero, suc, ◌<◌, ◌≤◌, ◌⊎◌, ◌==◌, false, cond, List, None, refl, sym, ap, ◌∙◌, inl, inr, arith}
 use Rattle.std.specs.FinMap as map
 use Rattle.objects.specs.declared.key.Key.{Key}

@@ -87,7 +87,7 @@ module _ {z : Size} {log : Log} {d s : ℕ} {rs : Records} {f : ℕ} (shown : Mi
       by (same e b) = shown.values n q from e ∙ sym (ap (λ b. cond b (value log n q) None) b)
       by (other ne b) = shown.others n q from ne ∙ sym (ap (λ b. cond b (value log n q) None) b)
 
-  -- the object that a shard has at a number has the key that was asked for
+  -- the object that a shard has at a number has the key that was looked up
   pub key_shown : (q : Key) (o : Object) → versions.value rs n q ≡ Some o → o.key ≡ q
   key_shown q o is = by (nat_eq (shard z q) s) (sym (value_shown q) ∙ is)
     where
@@ -197,11 +197,11 @@ all_values m wanted none = same_map key_cmp_total exact_keys (finite.retain_keys
     at k false e = sym (none k e)
 
 module _ (z : Size) (n : ℕ) (r : Request) (found : Objects) where
-  -- a get is answered by the object of its key
+  -- the reply to a get is the object of its key
   pub get_reply : (k : Key) → route r ≡ gets k → (step (only z n found) r).1 ≡ store.found (finite.get found k)
   get_reply k is = ap (λ (x : Store × Reply). x.1) (step_routed (only z n found) r (gets k) is)
 
-  -- a list by all objects, where only such are there
+  -- that to a list is all objects, if only objects of the list are there
   pub list_reply : (kind : Kind) (namespace : List ℕ) → route r ≡ lists kind namespace → ((k : Key) → reads (route r) k ≡ false → finite.get found k ≡ None)
       → (step (only z n found) r).1 ≡ Listed (finite.values found) n
   list_reply kind namespace is none =

@@ -1,4 +1,4 @@
--- A shard shows the log: as both begin, and after each event.
+-- A shard shows the log: when both begin, and after each event.
 use Rattle.std.proofs.Common.{◌≡◌, ◌≢◌, ℕ, zero, suc, ◌+◌, ◌<◌, ◌≤◌, Bool, true, false, cond, ◌&&◌, List, [], ◌∷◌, ◌++◌, Option, Some, None, is_some, option_map, option_and_then, filter, refl, sym, ap, subst, ◌∙◌, arith, nat_lt, nat_le, ltb-true, true≢false}
 use Rattle.std.specs.List.{AllByRecursion}
 use Rattle.std.specs.Cmp.{nat_cmp_total}
@@ -99,7 +99,7 @@ newest_below rs n free k m o is = at (last_of k (entries rs)) (in_last (entries 
     at None below is = absurd cc
     at (Some r) below is = let same : r.0 ≡ m = ap (λ (p : ℕ × Option Object). p.0) (same_Some (r.0, r.1.state) (m, o) is) in omega (arith, below)
 
--- ---- as both begin
+-- ---- when both begin
 
 pub mirrors_opening : (z : Size) (s : ℕ) → Mirrors z (λ i. None) 0 s map.empty 0
 mirrors_opening z s = record {
@@ -132,7 +132,7 @@ module _ {z : Size} {log : Log} {d s : ℕ} {rs : Records} {f : ℕ} (shown : Mi
     published = shown.published;
   }
 
-  -- a write that is published is beside all others
+  -- the other writes stay published when one is published
   published_still : (i : ℕ) (t : Writing) → log i ≡ None → (n : ℕ) → IsPublished z log s n → IsPublished z (changed log i (Some t)) s n
   published_still i t empty n p = record {
     index = p.index;
@@ -254,7 +254,7 @@ module _ (a b : Shard) (n : ℕ) (is : IsCompacted n a b) (above : a.floor ≤ n
       lower : (m : ℕ) → b.floor ≤ m → a.floor ≤ m
       lower m le = let floor = floor_raised in omega arith
 
--- ---- what the shard answers, in the log's words
+-- ---- what is read of the shard, in terms of the log
 
 -- the number that a caller sees, and what the key is now
 pub number_seen : (n : ℕ) (o : Option Object) (found : Option (ℕ × Option Object)) → found ≡ last_seen n o → option_map_or (λ p. p.0) found 0 ≡ n

@@ -78,7 +78,7 @@ pub publish_nothing : (m : Machine) (c : ℕ) → drawn_in (phase_at m.callers c
 unfolding Does
 publish_nothing m c none = λ z w a sh facts. nothing z w c a m _ (not_drawn z w c (phase_at m.callers c) (w.phase c) none (sh.phases c)) sh
 
--- room is made, the caller goes on, and the write is filled in
+-- room is made, the caller enters its next phase, and the write is filled in
 pub publish_done : (m n k m' : Machine) (c s : ℕ) (d : CodeDraw) (v : Version) → drawn_in (phase_at m.callers c) ≡ Some d → s ≡ shard_of d.writing.key (length m.shards.items) → Stays m n → n.callers ≡ m.callers
     → Enters n.callers k.callers c (published_phase (phase_at n.callers c)) → k ≡ record n { callers = k.callers } → v ≡ version_of d.writing.change (d.index + 1) → Fills s d.index d.writing.place v k m' → Does (Publish c) m m'
 unfolding Does Fills Keeps Stays shard

@@ -1,4 +1,4 @@
--- Machines that runs come to.
+-- Machines that runs lead to.
 use Rattle.std.proofs.Common.{◌≡◌, ◌+◌, List, [], ◌∷◌, ◌++◌, refl, sym, ap, ◌∙◌, subst, length-append}
 use Rattle.interleavings.specs.declared.event.Event.{Event}
 use Rattle.history.specs.declared.machine.Machine.{Machine}

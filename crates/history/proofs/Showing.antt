@@ -70,7 +70,7 @@ module _ (z : Size) (w : World) (a : Arrangement) (m : Machine) (sh : Shows z w 
     unread = sh.unread;
   }
 
-  -- a caller is gone while its reply waited
+  -- a caller crashes while its reply waits
   pub shows_dropped : (cs : Callers) (c : ℕ) (ph : CodePhase) (to : Phase) → Enters m.callers cs c ph → IsShown ph to → is_dropped ph ≡ true → IsUnread m.compacted to
       → Shows z (record w { phase = changed w.phase c to }) (record { order = a.order; parked = without c a.parked }) (record m { callers = cs })
   shows_dropped cs c ph to e own gone unread = record {
@@ -152,7 +152,7 @@ module _ (z : Size) (w : World) (a : Arrangement) (m : Machine) (sh : Shows z w 
           ap (λ t. waiters_at n a.parked ++ cond t own []) (ne_eqb saw n (λ y. x (sym y))) ∙ none (waiters_at n a.parked) ∙ sh.parked n
           ∙ ap (staying (drops m.callers)) (sym (e n ∙ ap (λ t. lot_at m.parking n ++ cond t own []) b ∙ none (lot_at m.parking n)))
 
-  -- those of a number are let go
+  -- those of a number are removed
   pub shows_passed : (lots : Parking) (number : ℕ) → ((n : ℕ) → lot_at lots n ≡ cond (nat_eq n number) [] (lot_at m.parking n))
       → (n : ℕ) → waiters_at n (rest number a.parked) ≡ staying (drops m.callers) (lot_at lots n)
   shows_passed lots number e n = by (compare n number)

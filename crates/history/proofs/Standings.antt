@@ -1,4 +1,4 @@
--- Where a caller stands, and its next step, as the program holds them and as the world has them.
+-- A caller's phase and its next step, as the program holds them and as the world has them.
 use Rattle.std.proofs.Common.{◌≡◌, ℕ, zero, suc, ◌<◌, Bool, if◌then◌else◌, length, get_or, Option, Some, None, is_some, option_map, refl, sym, ap, ◌∙◌}
 use Rattle.plain_store.specs.Route.{Route, compacts, gets, lists, lists_at, route, writes}
 use Rattle.interleavings.specs.declared.event.Event.TheVariants as event
@@ -18,7 +18,7 @@ pub standing_shown : (n : ℕ) (p : CodePhase) (ph : Phase) → IsShown p ph →
 standing_shown n (code.Reading k p r left) ph h = ap (standing.Reading k (one_shard n (route r))) (sym h.1.1.1) ∙ ap (standing_of n) (sym h.1.1.0)
 standing_shown n _ ph h = ap (standing_of n) (sym h)
 
--- so many shards are there, and who holds them is looked up there alone
+-- there are so many shards, and who holds them is looked up only among them
 module _ (held seen : ℕ → Bool) (f : ℕ) (r : Bool) (c : ℕ) where
   goes_asked : (z : Size) → 0 < z.shards → ((s : ℕ) → s < z.shards → held s ≡ seen s)
       → (q : Route) → goes_on held f r c (standing.Called (asked z.shards q)) ≡ goes_on seen f r c (standing.Called (asked z.shards q))

@@ -66,7 +66,7 @@ waiters_without c n (p ∷ ps) = by (nat_eq p.caller c) (nat_eq p.number n) refl
         within true = ap (λ l. record { caller = p.caller; place = p.place } ∷ l) ih ∙ sym (ap (λ b. cond b (staying (λ d. nat_eq d c) (waiters_at n ps)) (record { caller = p.caller; place = p.place } ∷ staying (λ d. nat_eq d c) (waiters_at n ps))) is)
         within false = ih
 
--- ---- without those whose caller is gone
+-- ---- without those whose caller has crashed
 pub staying_same : (f g : ℕ → Bool) → ((c : ℕ) → f c ≡ g c) → (xs : List Waiter) → staying f xs ≡ staying g xs
 staying_same f g e [] = refl
 staying_same f g e (x ∷ xs) = ap (λ b. cond b (staying f xs) (x ∷ staying f xs)) (e x.caller) ∙ ap (λ l. cond (g x.caller) l (x ∷ l)) (staying_same f g e xs)
@@ -79,7 +79,7 @@ staying_more f (y ∷ xs) x e = by (f y.caller) (staying_more f xs x e)
     by true ih = ih
     by false ih = ap (λ l. y ∷ l) ih
 
--- another one is gone
+-- another one crashes
 pub staying_twice : (f g h : ℕ → Bool) → ((c : ℕ) → cond (g c) true (f c) ≡ h c) → (xs : List Waiter) → staying f (staying g xs) ≡ staying h xs
 staying_twice f g h e [] = refl
 staying_twice f g h e (x ∷ xs) = by (g x.caller) (e x.caller) (staying_twice f g h e xs)

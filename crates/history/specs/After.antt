@@ -1,4 +1,4 @@
--- What a replay says of the events so far.
+-- What a replay promises of the events so far.
 use Rattle.std.specs.Prelude.{◌≡◌, ◌≤◌, ℕ, List, [], ◌∷◌, ◌++◌, length, Option, None, refl}
 use Rattle.std.specs.Coded.{Coded, code_by, coded×}
 use Rattle.requests.specs.declared.reply.Reply.{Reply}
@@ -24,7 +24,7 @@ pub record ReplayParts : Type 0 where
 abbrev pub replay_coded : Coded ReplayParts
 replay_coded = code_by (Machine × Names) (coded× machine.the_row.coded names.the_row.coded) (λ r. (r.machine, r.names)) (λ p. record { machine = p.0; names = p.1 }) (λ _. refl)
 
--- the replay has taken these events, and no others
+-- the replay has handled these events, and no others
 unfoldable pub IsAfter : Size → List Event → ReplayParts → Type 0
 IsAfter z events replay = IsRun z events replay.machine × ((replay.names.callers.keys ≡ named [] events) × (length replay.names.callers.keys ≤ 4096))
 
@@ -34,18 +34,18 @@ pub record IsReached (replay : ReplayParts) : Type 0 where
   pub events : List Event
   pub after : IsAfter size events replay
 
--- how many events it has taken
+-- how many events it has handled
 unfoldable pub taken : ReplayParts → ℕ
 taken replay = replay.machine.now_at
 
--- The run has the trace of the events, and the order that is built of them, which is a legal one.
+-- The run has the trace of the events, and the order that is built from them, which is a legal one.
 pub record IsRunOf (z : Size) (events : List Event) (run : Run) : Type 0 where
   pub capacity : run.trace.capacity ≡ z.capacity
   pub trace_is : run.trace.items.items ≡ trace z events
   pub order_is : run.order.items ≡ order z events
   pub legal : IsLegal z.capacity run.trace.items.items run.order.items
 
--- The reply that the caller of an event gets: of a Reply what it adds to the trace, and nothing of any other event.
+-- The reply that the caller of an event gets: for a Reply, what it adds to the trace; for any other event, none.
 abbrev pub IsReplyTo : Size → List Event → Event → Option Reply → Type 0
 IsReplyTo z events (event.Call c r) delivered = delivered ≡ None
 IsReplyTo z events (event.Check c) delivered = delivered ≡ None

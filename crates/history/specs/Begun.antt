@@ -13,7 +13,7 @@ read_cmp x y = ordering_then (nat_cmp x.0 y.0) (nat_cmp x.1 y.1)
 abbrev pub is_open : OpenReads → (number caller : ℕ) → Bool
 is_open open_reads number caller = contains read_cmp open_reads.reads (number, caller)
 
--- the least of a floor and of the numbers at which someone reads
+-- the least of a floor and of the numbers at which any caller reads
 pub record IsLeastOf (open_reads : OpenReads) (floor least : ℕ) : Type 0 where
   pub low : least ≤ floor
   pub reads : (n c : ℕ) → is_open open_reads n c ≡ true → least ≤ n

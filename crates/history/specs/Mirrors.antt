@@ -1,4 +1,4 @@
--- One shard of versions beside the log of all shards.
+-- One shard of versions compared with the log of all shards.
 use Rattle.std.specs.Prelude.{◌≡◌, ◌≢◌, ℕ, zero, suc, ◌≤◌, true, List, Option, Some, None}
 use Rattle.std.specs.FinMap as map
 use Rattle.objects.specs.declared.key.Key.{Key}
@@ -14,7 +14,7 @@ use Rattle.interleavings.specs.Log.{Log, Writing, last_write, value}
 use Rattle.interleavings.specs.Step.{with_part}
 use Rattle.interleavings.specs.World.{Size, shard}
 
--- the number of the last write, and what it left; nothing where the number is 0
+-- the number of the last write, and what it left; nothing if the number is 0
 abbrev pub last_seen : ℕ → Option Object → Option (ℕ × Option Object)
 last_seen zero o = None
 last_seen (suc n) o = Some (suc n, o)
@@ -27,13 +27,13 @@ pub record IsPublished (z : Size) (log : Log) (s number : ℕ) : Type 0 where
   pub filled : log index ≡ Some writing
   pub here : shard z writing.key ≡ s
 
--- The records are those of the shard s, where so many numbers are drawn: they say of its keys what the log says, at the
--- numbers from the floor on, and of other keys nothing.
+-- The records are those of the shard s, when so many numbers are allocated: they say of its keys what the log says, at
+-- the numbers from the floor on, and of other keys nothing.
 pub record Mirrors (z : Size) (log : Log) (drawn s : ℕ) (records : Records) (floor : ℕ) : Type 0 where
   pub newest : (k : Key) → shard z k ≡ s → versions.newest records k ≡ last_seen (last_write log drawn k) (value log drawn k)
   pub values : (n : ℕ) (k : Key) → floor ≤ n → shard z k ≡ s → versions.value records n k ≡ value log n k
   pub others : (n : ℕ) (k : Key) → floor ≤ n → shard z k ≢ s → versions.value records n k ≡ None
-  -- none has a number that is not drawn
+  -- none has a number that is not allocated
   pub above : IsAbove records (suc drawn)
   -- each is of a write
   pub published : (n : ℕ) → map.contains_key records n ≡ true → IsPublished z log s n

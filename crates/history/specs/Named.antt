@@ -17,7 +17,7 @@ abbrev pub without : Option ℕ → List ℕ → List ℕ
 without None names = names
 without (Some c) names = remove_key (is_at (nat_cmp c)) names
 
--- these names, and those of the callers that the events name beside them
+-- these names, and those of the callers that the events name and that are not among them
 abbrev pub named : List ℕ → List Event → List ℕ
 named names [] = names
 named names (e ∷ es) = named (with_named names (named_by e)) es

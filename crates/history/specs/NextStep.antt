@@ -1,4 +1,4 @@
--- The step that leads a caller on towards its reply while nobody else moves.
+-- The step that brings a caller closer to its reply while no other caller makes a step.
 use Rattle.std.specs.Prelude.{ℕ, zero, suc, Bool, nat_le, Option, Some, None, is_some, if◌then◌else◌}
 use Rattle.interleavings.specs.declared.event.Event.{Event}
 use Rattle.interleavings.specs.declared.event.Event.TheVariants as event
@@ -8,7 +8,8 @@ use Rattle.history.specs.declared.standing.Standing.{Standing}
 use Rattle.history.specs.declared.standing.Standing.TheVariants.{Idle, Called, Holding, Drawn, Waiting, Reading, Gone, Left}
 use Rattle.history.specs.Standing.{standing_of}
 
--- A caller that waits has its reply once the frontier has come to what it saw. Until then the frontier goes on, where it can.
+-- A caller that waits can get its reply once the frontier has reached what it saw. Until then the frontier is raised,
+-- if it can be.
 abbrev pub step_in_wait : (frontier : ℕ) → (can_rise : Bool) → (caller saw : ℕ) → Option Event
 step_in_wait frontier can_rise c saw = if nat_le saw frontier then Some (event.Reply c) else if can_rise then Some event.Raise else None
 
@@ -26,7 +27,7 @@ goes_on is_held frontier can_rise c (Reading number shard (suc left)) = Some (ev
 goes_on is_held frontier can_rise c Gone = None
 goes_on is_held frontier can_rise c (Left number shard) = None
 
--- the number behind the frontier is filled
+-- the number after the frontier is filled
 abbrev pub can_rise : World → Bool
 can_rise w = is_some (w.log w.frontier)
 

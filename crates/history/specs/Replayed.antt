@@ -118,8 +118,8 @@ abbrev pub is_called : CodePhase → Bool
 is_called (code.Called p r) = true
 is_called phase = false
 
--- ---- the next phase of a caller that draws an index, whose draw is published, that begins to read, for which a shard has
--- answered, and that crashes; any other phase stays
+-- ---- the next phase of a caller that allocates an index, whose draw is published, that begins to read, of whose read
+-- one more shard is read, and that crashes; any other phase stays
 abbrev pub with_draw : ℕ → CodePhase → CodePhase
 with_draw i (code.Holding t) = code.Drawn (record { index = i; writing = t })
 with_draw i phase = phase
@@ -186,7 +186,7 @@ abbrev pub waiters_at : ℕ → List Parked → List Waiter
 waiters_at n [] = []
 waiters_at n (p ∷ ps) = cond (nat_eq p.number n) (record { caller = p.caller; place = p.place } ∷ waiters_at n ps) (waiters_at n ps)
 
--- without those whose caller is gone
+-- without those whose caller has crashed
 abbrev pub staying : (ℕ → Bool) → List Waiter → List Waiter
 staying gone [] = []
 staying gone (x ∷ xs) = cond (gone x.caller) (staying gone xs) (x ∷ staying gone xs)
@@ -195,7 +195,7 @@ staying gone (x ∷ xs) = cond (gone x.caller) (staying gone xs) (x ∷ staying 
 abbrev pub shard_at : List Shard → ℕ → Shard
 shard_at shards s = get_or shards s versions.opening
 
--- the log, by the shards, which are compacted to a number, and by the places of the calls of the numbers that are filled
+-- the log, by the shards, which are compacted to a number, and by the places of the calls whose numbers are filled
 pub record ShowsLog (z : Size) (log : Log) (drawn : ℕ) (places : List (Option ℕ)) (shards : List Shard) (compacted : ℕ) : Type 0 where
   pub drawn_is : length places ≡ drawn
   pub filled : (i : ℕ) → get_or places i None ≡ option_map (λ t. t.place) (log i)
@@ -208,7 +208,7 @@ abbrev pub IsUnread : ℕ → Phase → Type 0
 IsUnread low (Reading n p r parts found) = low ≤ n
 IsUnread low ph = Unit {0}
 
--- the first i shards are compacted to a number, and the others as they were
+-- the first i shards are compacted to a number, and the others unchanged
 pub record AreCompacted (n i : ℕ) (old new : List Shard) : Type 0 where
   pub count : length new ≡ length old
   pub each : (s : ℕ) → s < i → IsCompacted n (shard_at old s) (shard_at new s)
@@ -238,11 +238,11 @@ pub record Shows (z : Size) (w : World) (a : Arrangement) (m : Machine) : Type 0
 
 -- ---- what one event does
 
--- whatever was shown is shown still, and the shards are compacted no further
+-- whatever was shown is still shown, and the shards are compacted no further
 unfoldable pub Keeps : Machine → Machine → Type 0
 Keeps old new = (new.compacted ≡ old.compacted) × ((z : Size) (w : World) (a : Arrangement) → Shows z w a old → Shows z w a new)
 
--- that, and each caller is known as before: one that no event had named is known to nobody
+-- that, and each caller has the same phase as before, or none if no event had named it
 unfoldable pub Stays : Machine → Machine → Type 0
 Stays old new = Keeps old new × ((c : ℕ) → named_phase new.callers c ≡ named_phase old.callers c)
 
@@ -304,17 +304,17 @@ Fills s i place v old new = (z : Size) (w : World) (a : Arrangement) (t : Writin
     → i < w.drawn → w.log i ≡ None → ((j : ℕ) → w.drawn ≤ j → w.log j ≡ None)
     → Shows z (record w { log = changed w.log i (Some t); holder = changed w.holder s None }) a new
 
--- what is shown is stepped by the event
+-- the machine shows the world after the event
 unfoldable pub Does : Event → Machine → Machine → Type 0
 Does e old new = (z : Size) (w : World) (a : Arrangement) → Shows z w a old → Facts z w → Shows z (happens z w e) (arranged w e (happens z w e) a) new
 
--- what the check of a caller comes to
+-- what the check of a caller does
 abbrev pub IsDecision : ℕ → Option Decision → Machine → Type 0
 IsDecision c None m = Does (Check c) m m
 IsDecision c (Some (Wait saw place reply)) m = (is_undecided (phase_at m.callers c) ≡ true) × ((m' : Machine) → Waits c saw place reply m m' → Does (Check c) m m')
 IsDecision c (Some (Hold s t)) m = (is_called (phase_at m.callers c) ≡ true) × ((s < length m.holders.items) × ((m' : Machine) → Holds c s (writing_of t) m m' → Does (Check c) m m'))
 
--- a machine that some run comes to
+-- a machine that some run leads to
 abbrev pub Stands : Machine → Type 0
 Stands m = (z : Size) × ((w : World) × ((a : Arrangement) × (Shows z w a m × Facts z w)))
 
@@ -323,16 +323,16 @@ abbrev pub delivered_at : ℕ → ℕ → Option Reply → List Item
 delivered_at place caller None = []
 delivered_at place caller (Some reply) = item.Reply place caller reply ∷ []
 
--- only a Reply is answered, by what it adds to the trace
+-- only a Reply gives a reply: what it adds to the trace
 abbrev pub IsAnswer : Event → Machine → Machine → Option Reply → Type 0
 IsAnswer (event.Reply c) old new delivered = new.items.items ≡ old.items.items ++ delivered_at old.now_at c delivered
 IsAnswer other old new delivered = delivered ≡ None
 
--- whatever was shown is shown still, and the shards are compacted as far as nothing is read
+-- whatever was shown is still shown, and the shards are compacted to the greatest number below which nothing is read
 unfoldable pub Thins : Machine → Machine → Type 0
 Thins old new = (z : Size) (w : World) (a : Arrangement) → Shows z w a old → Shows z w a new × IsLeastRead w new.compacted
 
--- what is shown is stepped by the event, its place is taken, and the shards are compacted
+-- the machine shows the world after the event, its place is counted, and the shards are compacted
 unfoldable pub Steps : Event → Machine → Machine → Type 0
 Steps e old new = (z : Size) (w : World) (a : Arrangement) → Shows z w a old → Facts z w → Shows z (step_world z w e) (arranged w e (step_world z w e) a) new × IsLeastRead (step_world z w e) new.compacted
 

@@ -1,4 +1,4 @@
--- Where a caller stands, as far as its next step goes.
+-- A caller's phase, as far as its next step depends on it.
 use Rattle.std.specs.Prelude.{ℕ, suc, length, Option, Some, None}
 use Rattle.objects.specs.ShardOf.{shard_of}
 use Rattle.plain_store.specs.Route.{Route, compacts, gets, lists, lists_at, route, writes}
@@ -10,7 +10,7 @@ use Rattle.history.specs.declared.standing.Asked.TheVariants.{Write, Read, ReadA
 use Rattle.history.specs.declared.standing.Standing.{Standing}
 use Rattle.history.specs.declared.standing.Standing.TheVariants.{Idle, Called, Holding, Drawn, Waiting, Reading, Gone, Left}
 
--- which step a request begins with, where there are so many shards
+-- the step that a request begins with, if there are so many shards
 abbrev pub asked : (shards : ℕ) → Route → Asked
 asked n (writes k) = Write (shard_of k n)
 asked n (gets k) = Read
@@ -18,7 +18,7 @@ asked n (lists kind namespace) = Read
 asked n (lists_at kind namespace number) = ReadAt
 asked n (compacts to) = Compaction
 
--- the shard that alone answers a read, if one does
+-- the shard that a read reads, if it reads one alone
 abbrev pub one_shard : (shards : ℕ) → Route → Option ℕ
 one_shard n (gets k) = Some (shard_of k n)
 one_shard n (writes k) = None
@@ -26,7 +26,7 @@ one_shard n (lists kind namespace) = None
 one_shard n (lists_at kind namespace number) = None
 one_shard n (compacts to) = None
 
--- a number is its index and one
+-- a number is its index plus one
 abbrev pub standing_of : (shards : ℕ) → world.Phase → Standing
 standing_of n world.Idle = Idle
 standing_of n (world.Called place r) = Called (asked n (route r))

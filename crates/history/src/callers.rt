@@ -12,7 +12,7 @@ use requests::{Reply, Request, Version};
 use std::alloc::Global;
 use std::collections::BTreeMap;
 
-/// Where each caller stands. One that no event has named yet is idle.
+/// The phase of each caller. One that no event has named yet is idle.
 #[derive(Drop)]
 pub(crate) struct Callers {
     pub phases: BTreeMap<u64, Phase>,
@@ -30,7 +30,7 @@ impl Callers {
         }
     }
 
-    /// Where a caller stands, if an event has named it.
+    /// The phase of a caller, if an event has named it.
     pub(crate) fn phase(&self, caller: u64) -> Option<&Phase>
         ensures { option_copied result ≡ named_phase self.now caller }
     {
@@ -46,7 +46,7 @@ impl Callers {
         }
     }
 
-    /// Whether the caller went while its reply waited.
+    /// Whether the caller crashed while its reply waited.
     pub(crate) fn is_dropped(&self, caller: u64) -> bool
         ensures { result ≡ drops self.now caller }
     {
@@ -74,7 +74,7 @@ impl Callers {
         drop(self.phases.remove(&caller));
     }
 
-    /// Puts the caller into its next phase, in which it reads nothing, and hands back the phase before.
+    /// Puts the caller into its next phase, in which it reads nothing, and returns the phase before.
     pub(crate) fn enter(&mut self, caller: u64, phase: Phase) -> Phase
         requires named { named_phase self.old caller ≢ None }
         requires plain { reading_in phase ≡ None }
@@ -86,7 +86,7 @@ impl Callers {
         before
     }
 
-    /// Puts the caller into its next phase, and hands back the phase before. The open reads stay.
+    /// Puts the caller into its next phase, and returns the phase before. The open reads stay.
     fn replace(&mut self, caller: u64, phase: Phase) -> Phase
         requires { named_phase self.old caller ≢ None }
         ensures before { named_phase self.old caller ≡ Some result }
@@ -95,14 +95,14 @@ impl Callers {
     {
         match self.phases.insert(caller, phase) {
             Ok(Some(before)) => before,
-            // The caller has a phase already, so the insert replaces it and wants no memory.
+            // The caller has a phase already, so the insert replaces it and needs no memory.
             _ => unreachable!(),
         }
     }
 }
 
 impl Callers {
-    /// The request of a caller, and the place of its call, while nothing is done about it yet.
+    /// The request of a caller, and the place of its call, before any step of it is made.
     pub(crate) fn called(&self, caller: u64) -> Option<(u64, &Request)>
         ensures { option_map (λ p. (p.0, p.1.now)) result ≡ called_in (phase_at self.now caller) }
     {
@@ -112,7 +112,7 @@ impl Callers {
         }
     }
 
-    /// The write of a caller that holds its shard and has drawn no number.
+    /// The write of a caller that holds its shard and has allocated no number.
     pub(crate) fn holding(&self, caller: u64) -> Option<&Writing>
         ensures { option_copied result ≡ holding_in (phase_at self.now caller) }
     {
@@ -138,7 +138,7 @@ impl Callers {
         }
     }
 
-    /// The number of a read, its request, and how many shards have still to answer.
+    /// The number of a read, its request, and how many shards are still to be read.
     pub(crate) fn reading(&self, caller: u64) -> Option<(u64, &Request, usize)>
         ensures { option_map (λ p. (p.0, p.1.now, p.2)) result ≡ reading_in (phase_at self.now caller) }
     {
@@ -155,7 +155,7 @@ impl Callers {
         }
     }
 
-    /// The draw of a caller, also of one that is gone, if it is not published yet.
+    /// The draw of a caller, also of one that has crashed, if it is not published yet.
     pub(crate) fn drawn(&self, caller: u64) -> Option<&Draw>
         ensures { option_copied result ≡ drawn_in (phase_at self.now caller) }
     {
@@ -165,12 +165,12 @@ impl Callers {
         }
     }
 
-    /// The caller's write draws an index.
+    /// The caller's write allocates an index.
     pub(crate) fn draw(&mut self, caller: u64, index: usize)
         requires { named_phase self.old caller ≢ None }
         ensures { Enters self.old self.new caller (with_draw index (phase_at self.old caller)) }
     {
-        // Idle stands in while the phase is taken apart, here and below, since the map only lends it.
+        // Idle replaces the phase while it is taken apart, here and below, since the map only lends it.
         match self.replace(caller, Phase::Idle) {
             Phase::Holding(writing) => {
                 drop(self.replace(caller, Phase::Drawn(Draw { index, writing })));
@@ -180,7 +180,7 @@ impl Callers {
         }
     }
 
-    /// The caller's draw is published: what is stored, while the caller waits with its reply, or is gone.
+    /// The caller's draw is published: returns what is stored, while the caller waits with its reply, or has crashed.
     #[tactic(auto, unfolding(interleavings::specs::Step::accepted_reply))]
     pub(crate) fn publish(&mut self, caller: u64) -> Version
         requires { IsSomeAnd (drawn_in (phase_at self.old caller)) (λ draw. draw.index < most_revisions) }
@@ -219,7 +219,7 @@ impl Callers {
         ensures begun { OnOk result (Enters self.old self.new caller (begun_phase number left (phase_at self.old caller))) }
         ensures memory { OnErr result (Same self.old self.new) }
     {
-        // First, as it alone can want memory: a read that is not among the open ones does not begin.
+        // First, as only this can need memory: a read that is not among the open ones does not begin.
         self.open_reads.begin(caller, number)?;
         match self.replace(caller, Phase::Idle) {
             Phase::Called { place, request } => {
@@ -236,7 +236,7 @@ impl Callers {
         Ok(())
     }
 
-    /// A shard has answered a read.
+    /// One more shard of a read is read.
     pub(crate) fn part(&mut self, caller: u64)
         requires { named_phase self.old caller ≢ None }
         ensures { Enters self.old self.new caller (parted (phase_at self.old caller)) }
@@ -260,7 +260,7 @@ impl Callers {
         }
     }
 
-    /// The caller is gone.
+    /// The caller crashes.
     pub(crate) fn crash(&mut self, caller: u64)
         requires { named_phase self.old caller ≢ None }
         ensures { Enters self.old self.new caller (gone_phase (phase_at self.old caller)) }

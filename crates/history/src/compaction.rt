@@ -6,8 +6,8 @@ use crate::machine::Machine;
 use versions::Shard;
 
 impl Machine {
-    /// Compacts all shards to the least of the floor and of the numbers of all open reads, where that has risen. It takes no
-    /// memory.
+    /// Compacts all shards to the least of the floor and of the numbers of all open reads, if that has risen. It takes
+    /// no memory.
     pub(crate) fn compact_shards(&mut self)
         ensures thins { Thins self.old self.new }
         ensures items { self.new.items.items ≡ self.old.items.items }

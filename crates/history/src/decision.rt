@@ -1,7 +1,7 @@
 use crate::phase::Writing;
 use requests::Reply;
 
-/// What the check of a write comes to.
+/// What the check of a write decides.
 #[derive(Drop)]
 pub(crate) enum Decision {
     /// The write changes nothing, and its reply waits for the number that it saw.

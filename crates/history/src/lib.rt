@@ -1,5 +1,5 @@
-//! The interleaved store: a replay of the steps of callers that race, without a leader, over the shards of one store. What
-//! a run is, its law and the check of an order, which stand in crates below, are handed on.
+//! The interleaved store: a replay of the steps of callers that race, without a leader, over the shards of one store.
+//! What a run is, its law and the check of an order are re-exported from the crates below.
 #![tactic(auto)]
 
 mod callers;

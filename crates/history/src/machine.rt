@@ -19,13 +19,13 @@ pub(crate) struct Machine {
     /// For each shard the caller that holds it.
     pub holders: Vec<Option<u64>>,
     pub callers: Callers,
-    /// For each number drawn the place of its call, once it is filled.
+    /// For each number allocated the place of its call, once the number is filled.
     pub places: Vec<Option<u64>>,
     pub parking: Parking,
     pub frontier: u64,
-    /// The number that reads may not ask below any more.
+    /// The number below which no new read may begin.
     pub floor: u64,
-    /// What all shards are compacted to, at most the floor: a read that is still open holds it back.
+    /// The number that all shards are compacted to. It is at most the floor, and less if a read is still open below it.
     pub compacted: u64,
     /// The place of the next event.
     pub now_at: u64,
@@ -77,7 +77,7 @@ impl Machine {
         match self.order_or_park(saw, caller, place) {
             Ok(()) => {
                 let waiting = Phase::Waiting { saw, place, reply };
-                // The phase before, of which nothing is needed.
+                // The phase before, which is not needed.
                 drop(self.callers.enter(caller, waiting));
                 Ok(())
             }

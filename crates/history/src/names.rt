@@ -25,7 +25,7 @@ impl Names {
         }
     }
 
-    /// Notes the caller of an event, and hands it back where no event has named it before.
+    /// Notes the caller of an event, and returns it if no event has named it before.
     pub(crate) fn note(&mut self, event: &Event) -> Result<Option<u64>, ReplayError>
         requires { length self.old.callers.keys ≤ 4096 }
         ensures noted { OnOk result (self.new.callers.keys ≡ with_named self.old.callers.keys (named_by event.now)) }

@@ -18,14 +18,14 @@ impl Machine {
         matches!(self.holders.get(shard), Some(Some(_)))
     }
 
-    /// Whether the number behind the frontier is filled.
+    /// Whether the number after the frontier is filled.
     fn can_rise(&self) -> bool
         ensures { result ≡ is_some (get_or self.now.places.items self.now.frontier None) }
     {
         matches!(self.places.get(self.frontier as usize), Some(Some(_)))
     }
 
-    /// The step of a caller that waits for the frontier to come to what it saw.
+    /// The step of a caller that waits for the frontier to reach what it saw.
     fn step_in_wait(&self, caller: u64, saw: u64) -> Option<Event>
         ensures { result ≡ step_in_wait self.now.frontier (is_some (get_or self.now.places.items self.now.frontier None)) caller saw }
     {
@@ -38,7 +38,7 @@ impl Machine {
         }
     }
 
-    /// The step of a caller that stands there.
+    /// The step of a caller in that phase.
     fn goes_on(&self, caller: u64, standing: Standing) -> Option<Event>
         ensures { result ≡ goes_on (λ s. is_some (get_or self.now.holders.items s None)) self.now.frontier
             (is_some (get_or self.now.places.items self.now.frontier None)) caller standing }
@@ -80,16 +80,16 @@ impl Machine {
 }
 
 impl Replay {
-    /// Whether a `Raise` is enabled: the number behind the frontier is filled.
+    /// Whether a `Raise` is enabled: the number after the frontier is filled.
     pub fn can_rise(&self) -> bool
         ensures { (size : Size) (events : List Event) → IsAfter size events self.now → result ≡ can_rise (after size opening events) }
     {
         self.machine.can_rise()
     }
 
-    /// The step that leads the caller on towards its reply while nobody else moves: one of its own, or a `Raise` where it
-    /// waits for the frontier. There is none for a caller that is idle or gone, nor for one that has to wait for others: for
-    /// the shard of its key, or for a number below what it saw to be filled.
+    /// The step that brings the caller closer to its reply while no other caller makes one: one of its own, or a
+    /// `Raise` if it waits for the frontier. There is none for a caller that is idle or has crashed, nor for one that
+    /// has to wait for others: for the shard of its key, or for a number below what it saw to be filled.
     pub fn next_step(&self, caller: u64) -> Option<Event>
         ensures { (size : Size) (events : List Event) → IsAfter size events self.now → result ≡ next_step size (after size opening events) caller }
     {

@@ -46,7 +46,7 @@ impl OpenReads {
         }
     }
 
-    /// The least of a floor and of the numbers at which someone reads.
+    /// The least of a floor and of the numbers at which any caller reads.
     pub(crate) fn least(&self, floor: u64) -> u64
         ensures { IsLeastOf self.now floor result }
     {

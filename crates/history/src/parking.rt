@@ -39,7 +39,7 @@ impl Parking {
         }
     }
 
-    /// Parks a request behind those that wait for the same number.
+    /// Parks a request after those that wait for the same number.
     pub(crate) fn park(&mut self, number: u64, waiter: Waiter) -> Result<(), Memory>
         ensures parked { OnOk result ((n : ℕ) → lot_at self.new n ≡ lot_at self.old n ++ (if n == number then waiter ∷ [] else [])) }
         ensures memory { OnErr result ((n : ℕ) → lot_at self.new n ≡ lot_at self.old n) }
@@ -54,7 +54,7 @@ impl Parking {
         Ok(())
     }
 
-    /// Lets those go that wait for a number.
+    /// Removes those that wait for a number.
     pub(crate) fn clear(&mut self, number: u64)
         ensures { (n : ℕ) → lot_at self.new n ≡ (if n == number then [] else lot_at self.old n) }
     {

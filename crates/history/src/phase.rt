@@ -9,15 +9,15 @@ pub(crate) struct Writing {
     pub change: Change,
 }
 
-/// A write and the index that it drew; its number is the index and one.
+/// A write and the index that it allocated; its number is the index plus one.
 #[derive(Drop)]
 pub(crate) struct Draw {
     pub index: usize,
     pub writing: Writing,
 }
 
-/// Where a caller stands. What a read has found is not kept: it is read once all of its parts have answered, at the number
-/// at which it began.
+/// The phase of a caller. What a read has found is not kept: it is read once all of its parts have been read, at the
+/// number at which it began.
 #[derive(Drop)]
 pub(crate) enum Phase {
     Idle,
@@ -32,17 +32,17 @@ pub(crate) enum Phase {
         place: u64,
         reply: Reply,
     },
-    /// `left` is the number of shards that have still to answer.
+    /// `left` is the number of shards that are still to be read.
     Reading {
         number: u64,
         place: u64,
         request: Request,
         left: usize,
     },
-    /// A caller that is gone, and what it drew is published.
+    /// A caller that has crashed, with no number left to be published.
     Gone,
-    /// A caller that is gone, and left a number to be published.
+    /// A caller that has crashed, and left a number to be published.
     Left(Draw),
-    /// A caller that is gone while its reply waited. If its request is parked, it is left out of the order.
+    /// A caller that crashed while its reply waited. If its request is parked, it is left out of the order.
     Dropped,
 }

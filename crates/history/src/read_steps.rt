@@ -39,7 +39,7 @@ impl Machine {
         self.begin(caller, place, number, left)
     }
 
-    /// A read begins, and stands in the order from here on.
+    /// A read begins, and is in the order from here on.
     fn begin(&mut self, caller: u64, place: u64, number: u64, left: usize) -> Result<(), Memory>
         requires called { is_called (phase_at self.old.callers caller) ≡ true }
         requires kept { self.old.compacted ≤ number }
@@ -72,7 +72,7 @@ impl Machine {
         }
     }
 
-    /// Why a number can't be asked for.
+    /// Why a number can't be read at.
     fn denied(&self, number: u64) -> Option<Reason>
         ensures { result ≡ denied self.now.floor self.now.frontier number }
     {
@@ -146,7 +146,7 @@ impl Machine {
         Ok(Some(self.answer(number, request)?))
     }
 
-    /// The caller gets its reply, which is handed on.
+    /// The caller gets its reply, which is returned.
     fn give(&mut self, caller: u64, reply: Reply) -> Result<Option<Reply>, Memory>
         requires { is_replying (phase_at self.old.callers caller) ≡ true }
         ensures delivered { OnOk result (Tells caller reply self.old self.new) }
@@ -176,12 +176,12 @@ impl Machine {
             caller,
             reply: reply.clone()?,
         })?;
-        // The phase before, of which nothing is needed.
+        // The phase before, which is not needed.
         drop(self.callers.enter(caller, Phase::Idle));
         Ok(())
     }
 
-    /// What a read at a number is answered.
+    /// The reply to a read at a number.
     fn answer(&self, number: u64, request: &Request) -> Result<Reply, Memory>
         requires stands { Stands self.now }
         requires kept { self.now.compacted ≤ number }
@@ -286,7 +286,8 @@ impl Machine {
     }
 }
 
-/// How many shards a read of now reads, of so many; nothing for any other request. A list is one of now where `exact` is 0.
+/// How many shards a read of now reads, of so many; nothing for any other request. A list is one of now if `exact` is
+/// 0.
 #[tactic(auto, unfolding(plain_store::specs::Route::route))]
 fn parts_of(request: &Request, shards: usize) -> Option<usize>
     ensures { result ≡ parts_in shards (route request.now) }
@@ -317,7 +318,7 @@ fn exact_of(request: &Request) -> Option<u64>
     }
 }
 
-/// The number that a compaction gives up the past below.
+/// The number below which a compaction drops the past.
 #[tactic(auto, unfolding(plain_store::specs::Route::route))]
 fn floor_of(request: &Request) -> Option<u64>
     ensures { result ≡ floor_in (route request.now) }
@@ -328,7 +329,7 @@ fn floor_of(request: &Request) -> Option<u64>
     }
 }
 
-/// What a store whose floor is a number and which has drawn no other answers to a compaction.
+/// The reply to a compaction of a store whose floor is a number and which has allocated no other.
 fn answer_compaction(number: u64, to: u64) -> Reply
     ensures { result ≡ compaction_at number to (denied number number to) }
 {

@@ -5,7 +5,7 @@ use objects::Memory;
 use std::alloc::{AllocError, AllocFailed};
 use thiserror::Error;
 
-/// Why a run goes no further: the first of these that fits.
+/// Why a run stops: the first of these that applies.
 #[derive(Clone, Copy, Debug, PartialEq, Eq, Error)]
 pub enum ReplayError {
     /// The number of shards is not from 1 to 64.

@@ -2,7 +2,8 @@ use crate::machine::Machine;
 use crate::names::Names;
 use std::marker::Model;
 
-/// A run as it goes, one event after another.
+/// A run so far, one event after another. Some list of events leads to each, so a step requires only room for one more
+/// event.
 #[derive(Drop)]
 pub struct Replay {
     pub(crate) machine: Machine,

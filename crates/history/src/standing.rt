@@ -1,4 +1,4 @@
-// Where callers stand between two events.
+// The phases of callers between two events.
 ghost use Rattle.std.specs.Prelude.{◌≡◌, ◌<◌, List, length};
 ghost use Rattle.plain_store.specs.Route.{route};
 ghost use Rattle.history.specs.Replayed.{Stands, phase_at};
@@ -13,28 +13,28 @@ use crate::phase::Phase;
 use crate::replaying::Replay;
 use requests::Request;
 
-/// Where a caller stands, as far as its next step goes. A shard is named by its index.
+/// The phase of a caller, as far as its next step depends on it. A shard is named by its index.
 #[derive(Clone, Copy)]
 pub enum Standing {
-    /// It asks for nothing.
+    /// It has no request in progress.
     Idle,
     /// It has called a request, and has made no step of it.
     Called(Asked),
-    /// Its write holds the shard of its key, and has drawn no number.
+    /// Its write holds the shard of its key, and has allocated no number.
     Holding {
         shard: usize,
     },
-    /// Its write has drawn a number, and holds its shard until that is published.
+    /// Its write has allocated a number, and holds its shard until that is published.
     Drawn {
         number: u64,
         shard: usize,
     },
-    /// Its reply waits until the frontier has come to what it saw.
+    /// Its reply waits until the frontier has reached what it saw.
     Waiting {
         saw: u64,
     },
-    /// It reads at the number, and so many shards have still to answer: of a get the one that it names, of a list the last
-    /// ones of all.
+    /// It reads at the number, and so many shards are still to be read: for a get the one that it names, for a list the
+    /// last ones of all.
     Reading {
         number: u64,
         shard: Option<usize>,
@@ -42,14 +42,14 @@ pub enum Standing {
     },
     /// It crashed.
     Gone,
-    /// It crashed once its write had drawn a number, which is still to be published.
+    /// It crashed after its write had allocated a number, which is still to be published.
     Left {
         number: u64,
         shard: usize,
     },
 }
 
-/// Which step a request begins with.
+/// The step that a request begins with.
 #[derive(Clone, Copy)]
 pub enum Asked {
     /// A write: the check, in the shard of its key.
@@ -63,7 +63,7 @@ pub enum Asked {
 }
 
 impl Machine {
-    /// Where the caller stands.
+    /// The phase of the caller.
     pub(crate) fn standing(&self, caller: u64) -> Standing
         requires { Stands self.now }
         ensures { result ≡ standing_in (length self.now.shards.items) (phase_at self.now.callers caller) }
@@ -130,7 +130,7 @@ impl Machine {
                 namespace: _,
                 exact,
             } => {
-                // 0 asks for the objects as they are now.
+                // 0 means the objects as they are now.
                 if *exact == 0 {
                     Asked::Read
                 } else {
@@ -141,7 +141,7 @@ impl Machine {
         }
     }
 
-    /// The shard that answers a get.
+    /// The shard that a get reads.
     #[tactic(auto, unfolding(plain_store::specs::Route::route))]
     fn one_shard(&self, request: &Request) -> Option<usize>
         requires { 0 < length self.now.shards.items }
@@ -155,7 +155,7 @@ impl Machine {
 }
 
 impl Replay {
-    /// Where the caller stands.
+    /// The phase of the caller.
     pub fn standing(&self, caller: u64) -> Standing
         ensures { (size : Size) (events : List Event) → IsAfter size events self.now
             → result ≡ standing_of size.shards ((after size opening events).phase caller) }

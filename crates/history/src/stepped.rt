@@ -1,3 +1,4 @@
+// A run, event by event.
 ghost use Rattle.std.specs.Prelude.{◌≡◌, ◌≢◌, ◌+◌, ◌-◌, ◌^◌, ◌<◌, ◌≤◌, ◌↔◌, ◌⊎◌, ◌++◌, ◌∷◌, [], ℕ, List, length, None, Some, OnOk, OnErr, IfOk, IfSome, IfErr, IsErrOf, IsTrue};
 ghost use Rattle.history.specs.After.{IsAfter, IsReached, IsReplyTo, IsRunOf, taken};
 ghost use Rattle.interleavings.specs.declared.event.Event.{Event};
@@ -28,6 +29,10 @@ pub const MAX_SHARDS: usize = 64;
 
 impl Replay {
     /// A run before its first event.
+    ///
+    /// # Errors
+    ///
+    /// BadShards and BadCapacity as of `replay`, and Memory.
     pub fn new(alloc: Global, shards: usize, capacity: u64) -> Result<Replay, ReplayError>
         ensures opened { IfOk result (λ replay. IsAfter (record { capacity = capacity; shards = shards }) [] replay) }
         ensures bad_shards { IsErrOf result ReplayError.BadShards ↔ (1 ≤ shards → 64 < shards) }
@@ -47,9 +52,10 @@ impl Replay {
         })
     }
 
-    /// Takes one event; one that is not enabled changes nothing but the place of the next. A `Reply` that is enabled is
-    /// answered with its reply, any other event with nothing. Where the event names a 4,097th caller or memory runs out, it
-    /// is refused, and all is as it was.
+    /// Handles one event. One that is not enabled changes nothing but the place of the next. A `Reply` that is enabled
+    /// gives its reply, any other event gives none. If the event names a 4,097th caller or memory runs out, it is
+    /// refused, and nothing has changed. After each event all shards are compacted to the least of the floor and the
+    /// numbers of open reads, which takes no memory.
     pub fn step(&mut self, event: &Event) -> Result<Option<Reply>, ReplayError>
         requires room { taken self.old < 2 ^ 64 - 1 }
         ensures reached { IsReached self.old }
@@ -79,7 +85,7 @@ impl Replay {
         self.machine.now_at
     }
 
-    /// Whether the caller is idle: it waits for no reply, and is not gone.
+    /// Whether the caller is idle: it waits for no reply, and has not crashed.
     pub fn idle(&self, caller: u64) -> bool
         ensures { (size : Size) (events : List Event) → IsAfter size events self.now → IsTrue result ↔ ((after size opening events).phase caller ≡ Idle) }
     {
@@ -157,7 +163,7 @@ fn opened(alloc: Global, shards: usize, capacity: u64) -> Result<Machine, Replay
 }
 
 impl Machine {
-    /// One event, and the place of the next one. At a refusal all is as it was.
+    /// One event, and the place of the next one. After a refusal nothing has changed.
     pub(crate) fn step(&mut self, event: &Event) -> Result<Option<Reply>, Memory>
         requires stands { Stands self.old }
         requires room { self.old.now_at < 2 ^ 64 - 1 }
@@ -172,7 +178,7 @@ impl Machine {
         Ok(delivered)
     }
 
-    /// One event, whoever its caller.
+    /// One event, of any caller or of none.
     fn dispatch(&mut self, event: &Event) -> Result<Option<Reply>, Memory>
         requires { Stands self.old }
         ensures done { OnOk result (Does event.now self.old self.new) }
@@ -186,7 +192,7 @@ impl Machine {
         }
     }
 
-    /// An event of a caller. One that is named for the first time is admitted, and forgotten where the event is refused.
+    /// An event of a caller. One that is named for the first time is admitted, and forgotten if the event is refused.
     fn step_of(&mut self, caller: u64, event: &Event) -> Result<Option<Reply>, Memory>
         requires stands { Stands self.old }
         requires caller { named_by event.now ≡ Some caller }

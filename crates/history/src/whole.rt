@@ -8,8 +8,12 @@ use crate::replaying::Replay;
 use interleavings::{Event, Run};
 use std::alloc::Global;
 
-/// The run of these events from the opening world: its trace, and the order that is built of its requests. Where the events
-/// name more than 4,096 callers it is refused for that, or for memory if that ran out first.
+/// The run of these events from the opening world: its trace, and the order that is built from its requests.
+///
+/// # Errors
+///
+/// The first that applies: BadShards if there are not 1 to 64 shards, BadCapacity if the capacity is not from 1 to
+/// 1,048,576, TooManyCallers if the events name more than 4,096 callers. It is Memory if memory ran out first.
 pub fn replay(
     alloc: Global,
     shards: usize,

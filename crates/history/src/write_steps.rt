@@ -37,7 +37,7 @@ impl Machine {
             caller,
             request: request.clone()?,
         })?;
-        // The phase before, here and below: nothing of it is needed.
+        // The phase before, here and below: it is not needed.
         drop(self.callers.enter(caller, called));
         Ok(())
     }
@@ -58,7 +58,7 @@ impl Machine {
         }
     }
 
-    /// What the check of a caller comes to; nothing where it is not enabled.
+    /// What the check of a caller decides; nothing if it is not enabled.
     fn decide(&self, caller: u64) -> Result<Option<Decision>, Memory>
         requires { Stands self.now }
         ensures { IfOk result (λ decision. IsDecision caller decision self.now) }
@@ -103,7 +103,7 @@ impl Machine {
         self.holders[shard].is_some()
     }
 
-    /// What a write comes to over what its key is now.
+    /// What a write does, given what its key is now.
     fn judge(&self, shard: usize, request: &Request) -> Result<Verdict, Memory>
         requires below { shard < length self.now.shards.items }
         requires write { is_write request.now ≡ true }
@@ -113,7 +113,7 @@ impl Machine {
         self.shards[shard].verdict(request)
     }
 
-    /// The number of the last write of a key, 0 where there is none.
+    /// The number of the last write of a key, 0 if there is none.
     fn seen(&self, shard: usize, key: &Key) -> u64
         requires { shard < length self.now.shards.items }
         ensures { result ≡ option_map_or (λ p. p.0) (newest (shard_at self.now.shards.items shard).records key.now) 0 }
@@ -145,7 +145,7 @@ impl Machine {
         };
         let index = self.places.len();
         if (index as u64) < self.capacity {
-            // Nothing stands there until the publication, so the frontier waits before it.
+            // Nothing is there until the publication, so the frontier waits before it.
             self.places.push(None)?;
             self.callers.draw(caller, index);
             return Ok(());
@@ -156,7 +156,7 @@ impl Machine {
         Ok(())
     }
 
-    /// The place of the call of a caller's write, and the shard that it holds, before it has drawn a number.
+    /// The place of the call of a caller's write, and the shard that it holds, before it has allocated a number.
     pub(crate) fn held(&self, caller: u64) -> Option<(u64, usize)>
         requires { 0 < length self.now.shards.items }
         ensures value { result ≡ option_map (λ t. (t.place, shard_of t.key (length self.now.shards.items))) (holding_in (phase_at self.now.callers caller)) }
@@ -178,7 +178,7 @@ impl Machine {
         let index = draw.index;
         let place = draw.writing.place;
         let shard = shard_of(&draw.writing.key, self.shards.len());
-        // First, as it alone can want memory: a publication is not taken back.
+        // First, as only this can need memory: a publication is not undone.
         self.shards[shard].make_room(&draw.writing.key)?;
         let version = self.callers.publish(caller);
         self.fill(shard, index, place, version);
@@ -230,8 +230,8 @@ impl Machine {
         }
     }
 
-    /// What comes into the order as the frontier passes a number: its write, and then what is parked there, without those
-    /// whose caller is gone.
+    /// What joins the order when the frontier passes a number: its write, and then what is parked there, without those
+    /// whose caller has crashed.
     fn places_raised(&self, place: u64, number: u64) -> Result<Vec<u64>, Memory>
         ensures { IfOk result (λ passed. passed.items ≡ place ∷ places_in (staying (drops self.now.callers) (lot_at self.now.parking number))) }
     {

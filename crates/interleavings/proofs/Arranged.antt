@@ -14,7 +14,7 @@ pub record Shows (g : Ghost) (a : Arrangement) : Type 0 where
   pub order : places g.jobs ≡ a.order
   pub parked : backwards g.parked ≡ a.parked
 
--- some ghost goes with the world and the arrangement
+-- some ghost fits the world and the arrangement
 abbrev pub Holds : Size → World → Arrangement → Type 0
 Holds z w a = (g : Ghost) × (Invariant z w g × Shows g a)
 

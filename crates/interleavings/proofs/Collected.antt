@@ -1,4 +1,4 @@
--- What was read shard by shard is answered as what was there.
+-- The reply to a read, shard by shard, is what was there.
 use Rattle.std.proofs.Common.{◌≡◌, ℕ, Bool, true, false, cond, List, Option, Some, None, refl, sym, ap, ◌∙◌}
 use Rattle.std.specs.FinMap as map
 use Rattle.std.specs.FinMap.{same_map}

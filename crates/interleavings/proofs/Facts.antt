@@ -1,4 +1,4 @@
--- The facts that a step rests on hold of each world that a run comes to.
+-- The facts that a step rests on hold of each world that a run leads to.
 use Rattle.std.proofs.Common.{◌≡◌, ℕ, zero, suc, ◌<◌, ◌⊎◌, Bool, true, false, List, [], ◌∷◌, Option, Some, None, refl, sym, ap, subst, inl, inr, arith}
 use Rattle.std.specs.FinMap as map
 use Rattle.std.proofs.lemmas.Option.{none-some, same_Some}
@@ -52,7 +52,7 @@ filed_option k (Some x) own = own x refl
 change_key : (q : Request) (k : Key) (o : Option Object) (c : Change) → route q ≡ writes k → ((x : Object) → o ≡ Some x → x.key ≡ k) → by_verdict (verdict q o) ≡ moves c → (change_object c).key ≡ k
 change_key q k o c routed own judged = subst (IsOfKey k) (writes_it (verdict q o) c judged) (changes_its_key q k o (names_its_key q k routed) (filed_option k o own))
 
--- ---- a write that is under way
+-- ---- a write in progress
 record UnderWay (z : Size) (w : World) (c : ℕ) (t : Writing) : Type 0 where
   pub request : Request
   pub routed : route request ≡ writes t.key

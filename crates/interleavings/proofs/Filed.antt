@@ -1,4 +1,4 @@
--- Objects in the log stand under their keys.
+-- Objects in the log are under their own keys.
 use Rattle.std.proofs.Common.{◌≡◌, ℕ, zero, suc, ◌<◌, cond, Option, Some, None, refl, sym, ap, ◌∙◌, arith}
 use Rattle.std.proofs.lemmas.Option.{none-some, same_Some}
 use Rattle.objects.specs.declared.key.Key.{Key}
@@ -13,7 +13,7 @@ kept_key (updates x) n o is = ap (λ (y : Object). y.key) (sym (same_Some _ o is
 kept_key (marks x) n o is = ap (λ (y : Object). y.key) (sym (same_Some _ o is))
 kept_key (removes x) n o is = absurd (none-some o is)
 
--- what a key is at a number has that key, where each write up to the number is filed
+-- what a key is at a number has that key, if each write up to the number is filed under its object's key
 pub value_key_upto : (log : Log) (n : ℕ) → ((i : ℕ) (t : Writing) → i < n → log i ≡ Some t → (change_object t.change).key ≡ t.key) → (k : Key) (o : Object) → value log n k ≡ Some o → o.key ≡ k
 value_key_upto log zero filed k o is = absurd (none-some o is)
 value_key_upto log (suc n) filed k o is = by_record (log n) refl is (value_key_upto log n (λ i t lt. filed i t (omega arith)) k o)

@@ -56,7 +56,7 @@ after_requests : (z : Size) (js : List Job) → after (opening z.capacity) (requ
 after_requests z [] = refl
 after_requests z (j ∷ js) = after_append (opening z.capacity) (requests js) (j.request ∷ []) ∙ ap (λ s. (step s j.request).0) (after_requests z js)
 
--- places and replies side by side: as many of the one as of the other
+-- places and replies side by side: equally many
 abbrev SameLength : {A B : Type 0} → List A → List B → Type 0
 SameLength [] [] = Unit {0}
 SameLength (x ∷ xs) (y ∷ ys) = SameLength xs ys
@@ -99,7 +99,7 @@ module _ (z : Size) where
       go (inl e) ih = has_back (p, r) (zip (places js) (all_replies js)) ((j.place, x) ∷ []) (let both : (p, r) ≡ (j.place, x) = cc (e.0, e.1) in inl both)
       go (inr m) ih = has_front (p, r) (zip (places js) (all_replies js)) ((j.place, x) ∷ []) (ih m)
 
--- ---- each stands once
+-- ---- each occurs once
 once_append : (ps : List ℕ) (p : ℕ) → AreOnce ps → (Has p ps → ⊥) → AreOnce (ps ++ p ∷ [])
 once_append [] p h n = (λ m. m, tt)
 once_append (x ∷ ps) p h n = (λ m. go (has_cases x ps (p ∷ []) m), once_append ps p h.1 (λ m. n (inr m)))

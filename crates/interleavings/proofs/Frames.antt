@@ -1,4 +1,4 @@
--- What one caller's event leaves of the others.
+-- What one caller's event does not change of the others.
 use Rattle.std.proofs.Common.{◌≡◌, ◌≢◌, ℕ, suc, ◌<◌, ◌≤◌, ◌⊎◌, List, Option, Some, None, refl, sym, ap, ◌∙◌, subst, inl, inr, arith}
 use Rattle.std.specs.FinMap as map
 use Rattle.objects.specs.declared.key.Key.{Key}
@@ -81,7 +81,7 @@ module _ (z : Size) (w : World) (g : Ghost) (w' : World) (g' : Ghost) (d : ℕ) 
   frame (Gone None) h = tt
   frame (Gone (Some x)) h = frame_drawn x.index x.writing h
 
--- the world and the ghost after an event of caller c that draws no number, adds no write and leaves the frontier
+-- the world and the ghost after an event of caller c that allocates no number, adds no write and leaves the frontier
 abbrev pub next_world : World → ℕ → (ℕ → Option ℕ) → (ℕ → Phase) → List Item → World
 next_world w f h ph tr = record { log = w.log; drawn = w.drawn; frontier = w.frontier; floor = f; holder = h; phase = ph; trace = tr; now = suc w.now }
 

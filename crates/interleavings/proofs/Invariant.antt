@@ -17,8 +17,8 @@ use Rattle.interleavings.specs.Linearization.{Answers, Has, IsHistory, place_of}
 use Rattle.interleavings.proofs.Jobs.{InTime, Job, Once, Tells, state_after}
 use Rattle.interleavings.proofs.Plainly.{by_verdict, judge, moves, plainly, stays}
 
--- where a called request stands: with its caller, aside until the frontier passes a number, with the write of an index, in
--- the order
+-- where a called request is: with its caller; set aside until the frontier passes a number; with the write of an index;
+-- in the order
 pub data Status : Type 0 where
   Live : ℕ → Status
   Aside : Status
@@ -30,8 +30,8 @@ pub data Fate : Type 0 where
   New : Fate
   Known : Request → Status → Fate
 
--- What no code holds: the fate of each place, who drew each index, and for each key a number that all its writes and
--- parked requests are up to, and all its open numbers are above; the order so far, and what is parked.
+-- What no code holds: the status of each place, who allocated each index, and for each key a number that all its writes
+-- and parked requests are at or below, and all its open numbers are above; the order so far, and what is parked.
 pub record Ghost : Type 0 where
   pub fate : ℕ → Fate
   pub taker : ℕ → ℕ
@@ -102,7 +102,7 @@ PhaseFacts z w g c (Reading n p q parts found) = ReadingFacts z w g n p q parts 
 PhaseFacts z w g c (Gone None) = Unit {0}
 PhaseFacts z w g c (Gone (Some d)) = DrawnFacts z w g c d.index d.writing
 
--- the caller's last call stands at this place, and has no reply
+-- the caller's last call is at this place, and has no reply
 pub record IsLastCall (trace : List Item) (c p : ℕ) : Type 0 where
   pub request : Request
   pub called : Has (item.Call p c request) trace
@@ -112,7 +112,7 @@ pub record IsLastCall (trace : List Item) (c p : ℕ) : Type 0 where
 abbrev pub AllAnswered : List Item → ℕ → Type 0
 AllAnswered trace c = (p : ℕ) (r : Request) → Has (item.Call p c r) trace → (at : ℕ) × ((reply : Reply) × Answers trace at p reply)
 
--- an idle caller has all its replies; any other is at its last call, unless it is gone
+-- an idle caller has all its replies; any other is at its last call, unless it has crashed
 abbrev pub Opens : List Item → ℕ → Phase → Type 0
 Opens trace c Idle = AllAnswered trace c
 Opens trace c (Called p q) = IsLastCall trace c p

@@ -1,4 +1,4 @@
--- The order as the proofs go over it: the requests themselves, the last one first.
+-- The order as the proofs walk it: the requests themselves, the last one first.
 use Rattle.std.specs.Prelude.{◌≡◌, ◌≢◌, ℕ, ◌<◌, ◌⊎◌, List, [], ◌∷◌, ◌++◌}
 use Rattle.requests.specs.declared.request.Request.{Request}
 use Rattle.requests.specs.declared.reply.Reply.{Reply}
@@ -31,7 +31,7 @@ abbrev pub Once : List Job → Type 0
 Once [] = Unit {0}
 Once (j ∷ js) = ((d : Job) → Has d js → d.place ≢ j.place) × Once js
 
--- no request stands after one that was called after its reply
+-- no request is after one that was called after its reply
 abbrev pub InTime : List Item → List Job → Type 0
 InTime trace [] = Unit {0}
 InTime trace (j ∷ js) = ((d : Job) → Has d js → (at : ℕ) (r : Reply) → Answers trace at j.place r → d.place < at) × InTime trace js

@@ -24,7 +24,7 @@ wrote log i t e (suc d) lt = split (compare d i) (wrote log i t e d)
     split (same x b) ih = subst (λ o. suc i ≤ newer_number o d t.key (last_write log d t.key)) (sym (ap log x ∙ e)) (subst (λ b. suc i ≤ cond b (suc d) (last_write log d t.key)) (sym (key_self t.key)) (omega arith))
     split (other ne b) ih = by_record (log d) (ih (omega arith))
 
--- where no later number is filled, the last write is the last one at all numbers
+-- if no later number is filled, the last write is the last one at all numbers
 pub last_all : (log : Log) (d : ℕ) → ((i : ℕ) → d ≤ i → log i ≡ None) → (n : ℕ) (k : Key) → last_write log n k ≤ last_write log d k
 last_all log d none n k = last_bound log (last_write log d) (λ i t e. at i t e (least d i)) k n
   where

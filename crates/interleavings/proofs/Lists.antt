@@ -1,4 +1,4 @@
--- What stands in a list.
+-- What is in a list.
 use Rattle.std.proofs.Common.{◌≡◌, ℕ, zero, suc, ◌+◌, ◌<◌, ◌≤◌, ◌⊎◌, List, [], ◌∷◌, ◌++◌, Some, inl, inr, arith}
 use Rattle.std.specs.List.{range_with_len, slice_get}
 use Rattle.interleavings.specs.Linearization.{Has}

@@ -1,4 +1,4 @@
--- How the order goes on explaining the trace.
+-- The order still explains the trace after a change.
 use Rattle.std.proofs.Common.{◌≡◌, ◌≢◌, ℕ, suc, ◌<◌, ◌⊎◌, List, [], ◌∷◌, ◌++◌, refl, sym, ap, ◌∙◌, subst, inl, inr, arith}
 use Rattle.requests.specs.declared.request.Request.{Request}
 use Rattle.requests.specs.declared.reply.Reply.{Reply}
@@ -31,7 +31,7 @@ tells_has z [] p r h = absurd h
 tells_has z (j ∷ js) p r (inl h) = (j, (inl refl, h.0))
 tells_has z (j ∷ js) p r (inr h) = let t = tells_has z js p r h in (t.0, (inr t.1.0, t.1.1))
 
--- what is known of the places, where one changes its status
+-- what is known of the places when one changes its status
 known_put : (trace : List Item) (now : ℕ) (φ : ℕ → Fate) (p : ℕ) (q : Request) (st st' : Status) → ((x : ℕ) (y : Request) (s : Status) → φ x ≡ Known y s → (x < now) × ((c : ℕ) × Has (item.Call x c y) trace)) → φ p ≡ Known q st → (x : ℕ) (y : Request) (s : Status) → changed φ p (Known q st') x ≡ Known y s → (x < now) × ((c : ℕ) × Has (item.Call x c y) trace)
 known_put trace now φ p q st st' known h x y s e = go (compare x p)
   where
@@ -42,7 +42,7 @@ known_put trace now φ p q st st' known h x y s e = go (compare x p)
         known x y st (ap φ ep ∙ h ∙ ap (λ v. Known v st) eq)
     go (other ne b) = known x y s (sym (changed-other φ p (Known q st') x ne) ∙ e)
 
--- what stands in the order was called before a reply that comes now
+-- what is in the order was called before a reply that comes now
 in_time_more : (trace trace' : List Item) (now : ℕ) (js : List Job) → ((at p : ℕ) (r : Reply) → Answers trace' at p r → (now ≡ at) ⊎ Answers trace at p r) → ((d : Job) → Has d js → d.place < now) → InTime trace js → InTime trace' js
 in_time_more trace trace' now [] old below h = tt
 in_time_more trace trace' now (j ∷ js) old below h = (λ d m at r a. go d m at r (old at j.place r a), in_time_more trace trace' now js old (λ d m. below d (inr m)) h.1)

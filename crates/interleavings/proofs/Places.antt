@@ -1,4 +1,4 @@
--- What stands at the places of a trace, and in lists of places.
+-- What is at the places of a trace, and in lists of places.
 use Rattle.std.proofs.Common.{◌≡◌, inl, inr, ℕ, List, [], ◌∷◌, sym, ap, ◌∙◌, arith, zip}
 use Rattle.requests.specs.declared.reply.Reply.{Reply}
 use Rattle.interleavings.specs.declared.trace.Item.{Item}

@@ -19,7 +19,7 @@ use Rattle.interleavings.specs.Step.{accepted_reply}
 use Rattle.interleavings.proofs.Basics.{Compared, same, other, compare}
 use Rattle.interleavings.proofs.Values.{get_state, state_put}
 
--- ---- a write with the capacity in view: it gets its reply and changes nothing, or it is a change
+-- ---- a write, given the capacity: it gets its reply and changes nothing, or it is a change
 pub data Judged : Type 0 where
   stays : Reply → Judged
   moves : Change → Judged
@@ -34,7 +34,7 @@ capped full (stays r) = stays r
 capped true (moves c) = stays (Refused StoreFull)
 capped false (moves c) = moves c
 
--- over the object, where n numbers are drawn
+-- over the object, when n numbers are allocated
 abbrev pub judge : Size → ℕ → Option Object → Request → Judged
 judge z n o r = capped (n == z.capacity) (by_verdict (verdict r o))
 

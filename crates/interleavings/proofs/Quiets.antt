@@ -1,4 +1,4 @@
--- The events of one caller that draw no number, add no write and leave the frontier.
+-- The events of one caller that allocate no number, add no write and leave the frontier.
 use Rattle.std.proofs.Common.{◌≡◌, ◌≢◌, ℕ, ◌<◌, ◌≤◌, ◌⊎◌, ◌&&◌, Bool, true, false, cond, List, [], ◌∷◌, ◌++◌, Option, Some, None, refl, sym, ap, ◌∙◌, subst, inl, inr, arith, mod-lt, nat_le, nat_eq, ⊎_elim}
 use Rattle.std.specs.List.{sum}
 use Rattle.std.specs.FinMap as map
@@ -85,7 +85,7 @@ module _ (z : Size) (w : World) (g : Ghost) (iv : Invariant z w g) (a : Arrangem
   calls_stay : (d : ℕ) → d ≢ c → (ph : Phase) → Opens w.trace d ph → Opens w.trace d ph
   calls_stay d ne ph h = h
 
-  -- a reply that changes nothing: at once, or once the frontier passes what it saw
+  -- a reply to a request that changes nothing: at once, or once the frontier passes what it saw
   pub wait_goes : (j : Job) (r : Reply) (saw : ℕ) (k : Key) (h' : ℕ → Option ℕ) (b' : Key → ℕ) → g.fate j.place ≡ Known j.request (Live c) → IsLastCall w.trace c j.place → route j.request ≡ writes k → judge z saw (value w.log saw k) j.request ≡ stays r → (saw ≤ w.frontier → judge z w.frontier (value w.log w.frontier k) j.request ≡ stays r) → saw ≤ b' k → ((d s : ℕ) → d ≢ c → w.holder s ≡ Some d → h' s ≡ Some d) → ((k : Key) → g.settled k ≤ b' k) → ((k : Key) (d : ℕ) → d ≢ c → w.holder (shard z k) ≡ Some d → b' k ≡ g.settled k) → ((k : Key) → b' k ≤ w.drawn) → Holds z (next_world w w.floor h' (changed w.phase c (Waiting saw j.place r)) w.trace) (last_or_parked (nat_le saw w.frontier) saw c j.place a)
   wait_goes j r saw k h' b' live op routed judged judged_now settled holds settles settled_same bound = go (least saw w.frontier)
     where
@@ -266,7 +266,7 @@ module _ (z : Size) (w : World) (g : Ghost) (iv : Invariant z w g) (a : Arrangem
   check_goes (Called p q) at h op = check_by (record { place = p; request = q }) at h op (route q) refl
   check_goes ph at h op = idle_goes ph at
 
-  -- ---- a request that stands in the order now
+  -- ---- a request that is in the order now
   -- it leaves this floor, and the caller is in this phase
   at_once_goes : (j : Job) (f : ℕ) (ph : Phase) → g.fate j.place ≡ Known j.request (Live c) → Opens w.trace c ph → f ≤ w.frontier → (step (plainly z w.log w.floor w.frontier) j.request).0 ≡ plainly z w.log f w.frontier → ((w' : World) (g' : Ghost) → w'.log ≡ w.log → w'.frontier ≡ w.frontier → Tells z g'.jobs j.place (step (plainly z w.log w.floor w.frontier) j.request).1 → PhaseFacts z w' g' c ph) → Holds z (next_world w f w.holder (changed w.phase c ph) w.trace) (with_last a j.place)
   at_once_goes j f ph live op low left mine = (
@@ -507,7 +507,7 @@ module _ (z : Size) (w : World) (g : Ghost) (iv : Invariant z w g) (a : Arrangem
   crash_goes (Reading n j q parts got) at h op = enter_goes (Reading n j q parts got) (Gone None) refl w.holder tt (λ d s ne e. e) tt
   crash_goes (Gone left) at h op = idle_goes (Gone left) at
 
-  -- ---- Reserve, where no number is left
+  -- ---- Reserve, when no number is left
   pub reserve_full : (t : Writing) → HoldingFacts z w g c t → IsLastCall w.trace c t.place → z.capacity ≤ w.drawn → Moves z w c (Holding t) a (later (enters_with z w c t.key None (Waiting z.capacity t.place (Refused StoreFull))))
   reserve_full t h op all =
       let r = iv.room in

@@ -1,4 +1,4 @@
--- A number is drawn, and a write is added to the log.
+-- A number is allocated, and a write is added to the log.
 use Rattle.std.proofs.Common.{◌≡◌, ◌≢◌, ℕ, suc, ◌<◌, ◌≤◌, Bool, true, false, Some, None, refl, sym, ap, ◌∙◌, subst, arith, nat_lt, ltb-true, ltb-false}
 use Rattle.objects.specs.declared.key.Key.{Key}
 use Rattle.requests.specs.declared.request.Request.{Request}
@@ -149,7 +149,7 @@ module _ (z : Size) (w : World) (g : Ghost) (iv : Invariant z w g) (a : Arrangem
       settles : (k : Key) → g.settled k ≤ g'.settled k
       settles = changed_key_all (λ k n. g.settled k ≤ n) g.settled t.key (suc i) (let l = h.later in omega arith) (λ k ne. omega arith)
 
-      -- nothing that is settled up to s moves
+      -- nothing that is settled up to s changes
       settled_value : (s : ℕ) (k : Key) → s ≤ g.settled k → value log' s k ≡ value w.log s k
       settled_value s k le = value_put w.log i t h.empty s k (λ e. let l = subst (λ k. g.settled k ≤ i) e h.later in omega arith)
 

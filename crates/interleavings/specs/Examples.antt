@@ -1,5 +1,5 @@
--- Short runs with two shards, and what their callers are answered. The pods `a` and `b` are in the namespace `default`: `a` is
--- in the shard 1, `b` in the shard 0.
+-- Short runs with two shards, and the replies of their callers. The pods `a` and `b` are in the namespace `default`:
+-- `a` is in the shard 1, `b` in the shard 0.
 use Rattle.std.specs.Prelude.{ℕ, List, [], ◌∷◌, ◌++◌, take, drop, codes, None}
 use Rattle.serde_json.specs.Data.{object, no_members}
 use Rattle.objects.specs.declared.key.Key.{Key}
@@ -68,15 +68,16 @@ pods = request.List Pod (codes "default") 0
 abbrev pub pods_at_1 : Request
 pods_at_1 = request.List Pod (codes "default") 1
 
--- A write is answered once the frontier has passed its number, and passes none that is not filled. A refusal that saw the
--- write waits for it.
+-- A write gets its reply once the frontier has passed its number; the frontier passes no number that is not filled. A
+-- refusal that saw the write waits for it.
 abbrev pub hole : List Event
 hole =
     Call 1 (create a) ∷ Check 1 ∷ Reserve 1 ∷ Call 2 (create b) ∷ Check 2 ∷ Reserve 2 ∷ Publish 2
     ∷ Call 3 (create b) ∷ Check 3 ∷ Raise ∷ event.Reply 2 ∷ event.Reply 3
     ∷ Publish 1 ∷ Raise ∷ event.Reply 2 ∷ event.Reply 3 ∷ Raise ∷ event.Reply 3 ∷ event.Reply 2 ∷ []
 
--- The store is full for a write once all numbers are drawn, and says so once the frontier has passed them.
+-- A write is refused as StoreFull once all numbers are allocated; it gets the refusal once the frontier has passed
+-- them.
 abbrev pub full_store : List Event
 full_store =
     Call 1 (create a) ∷ Check 1 ∷ Reserve 1
@@ -84,19 +85,19 @@ full_store =
     ∷ Publish 1 ∷ Raise ∷ event.Reply 2
     ∷ Call 3 (create a) ∷ Check 3 ∷ event.Reply 3 ∷ []
 
--- A write that drew a number is published though its caller is gone.
+-- A write that allocated a number is published although its caller has crashed.
 abbrev pub crash_after_reserve : List Event
 crash_after_reserve =
     Call 1 (create a) ∷ Check 1 ∷ Reserve 1 ∷ Crash 1 ∷ Publish 1 ∷ Raise ∷ event.Reply 1
     ∷ Call 2 (create a) ∷ Check 2 ∷ event.Reply 2 ∷ []
 
--- One that drew none is dropped, and its shard is free.
+-- One that allocated none is dropped, and its shard is free.
 abbrev pub crash_in_holding : List Event
 crash_in_holding =
     Call 1 (create a) ∷ Check 1 ∷ Crash 1
     ∷ Call 2 (create a) ∷ Check 2 ∷ Reserve 2 ∷ Publish 2 ∷ Raise ∷ event.Reply 2 ∷ []
 
--- A list at a number is too early before the frontier has reached it, goes on though a compaction passes the number, and
+-- A list at a number is too early before the frontier has reached it, continues if a compaction passes the number, and
 -- is too late after that.
 abbrev pub past_list : List Event
 past_list =
@@ -105,7 +106,7 @@ past_list =
     ∷ Call 2 pods_at_1 ∷ ReadAt 2 ∷ Call 3 (request.Compact 2) ∷ Compact 3 ∷ event.Reply 3 ∷ Part 2 ∷ Part 2 ∷ event.Reply 2
     ∷ Call 2 pods_at_1 ∷ ReadAt 2 ∷ event.Reply 2 ∷ []
 
--- A read below a hole sees nothing of what is beyond it, and stands in the order before it.
+-- A read below a hole sees nothing of what is beyond it, and is before it in the order.
 abbrev pub read_below_a_hole : List Event
 read_below_a_hole =
     Call 1 (create a) ∷ Check 1 ∷ Reserve 1 ∷ Call 2 (create b) ∷ Check 2 ∷ Reserve 2 ∷ Publish 2 ∷ event.Reply 2
@@ -113,7 +114,7 @@ read_below_a_hole =
     ∷ Publish 1 ∷ Raise ∷ Raise ∷ event.Reply 2
     ∷ Call 3 (Get b) ∷ Read 3 ∷ Part 3 ∷ event.Reply 3 ∷ []
 
--- A list stands where it begins, whatever is written before its last part.
+-- A list is in the order where it begins, whatever is written before its last part.
 abbrev pub list_beside_a_write : List Event
 list_beside_a_write =
     Call 1 (create a) ∷ Check 1 ∷ Reserve 1 ∷ Publish 1 ∷ Raise ∷ event.Reply 1

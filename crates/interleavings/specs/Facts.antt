@@ -1,4 +1,4 @@
--- What a step rests on: facts of every world that a run comes to.
+-- What a step rests on: facts of every world that a run leads to.
 use Rattle.std.specs.Prelude.{◌≡◌, ℕ, ◌<◌, ◌≤◌, [], List, Option, Some, None}
 use Rattle.objects.specs.declared.key.Key.{Key}
 use Rattle.objects.specs.declared.kind.Kind.{Kind}
@@ -10,7 +10,7 @@ use Rattle.interleavings.specs.Log.{IsFiled, Writing, state_at}
 use Rattle.interleavings.specs.World.{Draw, Phase, Idle, Called, Holding, Drawn, Waiting, Reading, Gone, Size, World, shard}
 use Rattle.interleavings.specs.Step.{only}
 
--- a write that is under way, and one that has drawn its number
+-- a write in progress, and one that has allocated its number
 abbrev pub writing_in : Phase → Option Writing
 writing_in Idle = None
 writing_in (Called p r) = None
@@ -39,11 +39,11 @@ pub record Facts (z : Size) (w : World) : Type 0 where
   pub filed : IsFiled w.log
   pub fits : (c : ℕ) (t : Writing) → writing_in (w.phase c) ≡ Some t → (change_object t.change).key ≡ t.key
   pub holds : (c : ℕ) (t : Writing) → writing_in (w.phase c) ≡ Some t → w.holder (shard z t.key) ≡ Some c
-  -- a number that is drawn and not filled is above all others of its shard that are filled
+  -- a number that is allocated and not filled is above all others of its shard that are filled
   pub below : (c : ℕ) (d : Draw) → draw_in (w.phase c) ≡ Some d → d.index < w.drawn
   pub empty : (c : ℕ) (d : Draw) → draw_in (w.phase c) ≡ Some d → w.log d.index ≡ None
   pub latest : (c : ℕ) (d : Draw) → draw_in (w.phase c) ≡ Some d → (i : ℕ) (t : Writing) → w.log i ≡ Some t → shard z t.key ≡ shard z d.writing.key → i < d.index
-  -- a read whose parts have all answered is answered by what was there at its number
+  -- the reply to a read whose parts are all read is what was there at its number
   pub past : (c n p : ℕ) (r : Request) (parts : List ℕ) (found : Objects) → w.phase c ≡ Reading n p r parts found → (n ≤ w.frontier) × ((k : Key) → route r ≡ writes k → ⊥)
   pub answer : (c n p : ℕ) (r : Request) (found : Objects) → w.phase c ≡ Reading n p r [] found → (step (only z n found) r).1 ≡ (step (only z n (state_at w.log n)) r).1
   -- a list at a number is read at that number

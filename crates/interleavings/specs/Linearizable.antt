@@ -1,4 +1,5 @@
--- The headline: whatever callers do, and however their steps are mixed, one plain store explains what they are answered.
+-- The headline: whatever callers do, and however their steps are mixed, one plain store explains the replies that they
+-- get.
 use Rattle.std.specs.Prelude.{ℕ, List}
 use Rattle.interleavings.specs.declared.event.Event.{Event}
 use Rattle.interleavings.specs.World.{Size}

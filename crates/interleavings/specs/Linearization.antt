@@ -1,6 +1,6 @@
 -- Legal orders of a trace (Herlihy and Wing 1990, linearizability): an order of its requests in which one plain store,
--- which takes them whole and one at a time, gives exactly the replies of the trace, and which puts a request before each
--- one called after its reply.
+-- which handles whole requests one at a time, gives exactly the replies of the trace, and in which a request comes
+-- before each one called after its reply.
 use Rattle.std.specs.Prelude.{◌≡◌, ℕ, ◌<◌, ◌≤◌, ◌⊎◌, List, [], ◌∷◌, zip}
 pub use Rattle.requests.specs.Lists.{Has}
 use Rattle.requests.specs.declared.request.Request.{Request}
@@ -30,8 +30,8 @@ abbrev pub AreRising : List Item → Type 0
 AreRising [] = Unit {0}
 AreRising (i ∷ is) = ((j : Item) → Has j is → place_of i < place_of j) × AreRising is
 
--- The trace is a history of callers that each wait for their replies: each reply answers a call, and a caller calls again
--- only after its last call was answered.
+-- The trace is a history of callers that each wait for their replies: each reply answers a call, and a caller calls
+-- again only after its last call was answered.
 pub record IsHistory (trace : List Item) : Type 0 where
   pub rising : AreRising trace
   pub paired : (at caller : ℕ) (reply : Reply) → Has (item.Reply at caller reply) trace → (place : ℕ) × Answers trace at place reply
@@ -45,24 +45,24 @@ AreCalled trace (p ∷ ps) (r ∷ rs) = ((caller : ℕ) × Has (item.Call p call
 AreCalled trace [] (r ∷ rs) = ⊥
 AreCalled trace (p ∷ ps) [] = ⊥
 
--- none stands twice
+-- none occurs twice
 abbrev pub AreOnce : List ℕ → Type 0
 AreOnce [] = Unit {0}
 AreOnce (p ∷ ps) = (Has p ps → ⊥) × AreOnce ps
 
--- p stands before q
+-- p is before q
 abbrev pub Before : ℕ → ℕ → List ℕ → Type 0
 Before p q [] = ⊥
 Before p q (x ∷ xs) = ((p ≡ x) × Has q xs) ⊎ Before p q xs
 
 pub record IsLegal (capacity : ℕ) (trace : List Item) (order : List ℕ) : Type 0 where
-  -- each request that was replied to stands in the order
+  -- each request that got a reply is in the order
   pub answered : (at p : ℕ) (reply : Reply) → Answers trace at p reply → Has p order
-  -- what stands there was called, and stands there once
+  -- what is in the order was called, and is in it once
   pub requests : List Request
   pub called : AreCalled trace order requests
   pub once : AreOnce order
-  -- the plain store gives each of these requests that was replied to its reply
+  -- the plain store gives each of these requests that got a reply this reply
   pub right : (at p : ℕ) (reply : Reply) → Answers trace at p reply → Has (p, reply) (zip order (replies (opening capacity) requests))
-  -- a request stands before each one called after its reply
+  -- a request is before each one called after its reply
   pub in_time : (at p q : ℕ) (reply : Reply) → Answers trace at p reply → at < q → Has q order → Before p q order

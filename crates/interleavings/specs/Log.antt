@@ -14,7 +14,7 @@ pub record Writing : Type 0 where
   pub key : Key
   pub change : Change
 
--- At index i stands the write of number i + 1, once it is published.
+-- At index i is the write of number i + 1, once it is published.
 abbrev pub Log : Type 0
 Log = ℕ → Option Writing
 
@@ -40,7 +40,7 @@ abbrev pub newer_number : Option Writing → ℕ → Key → ℕ → ℕ
 newer_number None i k before = before
 newer_number (Some t) i k before = cond (eq_by_cmp key_cmp k t.key) (suc i) before
 
--- the number of the last write of a key up to a number, 0 where there is none
+-- the number of the last write of a key up to a number, 0 if there is none
 abbrev pub last_write : Log → ℕ → Key → ℕ
 last_write log zero k = 0
 last_write log (suc n) k = newer_number (log n) n k (last_write log n k)

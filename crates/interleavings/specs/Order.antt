@@ -1,6 +1,6 @@
--- The order that a run builds as it goes. A write stands in it once the frontier passes its number; a read or a compaction
--- at its Read, ReadAt or Compact; a request that is refused or changes nothing at its Check or Reserve, or else once the
--- frontier passes the number that it saw. A caller that crashes before that takes its request away.
+-- The order that a run builds, event by event. A write joins it once the frontier passes its number; a read or a
+-- compaction at its Read, ReadAt or Compact; a request that is refused or changes nothing at its Check or Reserve, or
+-- else once the frontier passes the number that it saw. If its caller crashes before that, the request is removed.
 use Rattle.std.specs.Prelude.{ℕ, suc, Bool, true, false, cond, nat_eq, nat_le, List, [], ◌∷◌, ◌++◌, Option, Some, None}
 use Rattle.interleavings.specs.declared.event.Event.{Event}
 use Rattle.interleavings.specs.declared.event.Event.TheVariants.{Call, Check, Reserve, Publish, Raise, Read, ReadAt, Compact, Part, Crash}

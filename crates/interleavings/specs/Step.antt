@@ -44,7 +44,7 @@ judged z w c place k (Refuse reason) = enters w c (Waiting (last_write w.log w.d
 judged z w c place k (Same o) = enters w c (Waiting (last_write w.log w.drawn k) place (Unchanged o))
 judged z w c place k (Write change) = enters_with z w c k (Some c) (Holding (record { place = place; key = k; change = change }))
 
--- a shard that is held is waited for
+-- a check waits for a shard that is held
 abbrev pub checked_in : Size → World → ℕ → ℕ → Request → Key → Option ℕ → World
 checked_in z w c place r k None = judged z w c place k (verdict r (value w.log w.drawn k))
 checked_in z w c place r k (Some holder) = w
@@ -60,7 +60,7 @@ abbrev pub checked : Size → World → ℕ → Phase → World
 checked z w c (Called place r) = checked_by z w c place r (route r)
 checked z w c _ = w
 
--- ---- Reserve: the next number, where one is left
+-- ---- Reserve: the next number, if one is left
 abbrev pub drawn_by : Size → World → ℕ → Writing → Bool → World
 drawn_by z w c t true = record w { drawn = suc w.drawn; phase = changed w.phase c (Drawn (record { index = w.drawn; writing = t })) }
 drawn_by z w c t false = enters_with z w c t.key None (Waiting z.capacity t.place (Refused StoreFull))
@@ -69,7 +69,7 @@ abbrev pub reserved : Size → World → ℕ → Phase → World
 reserved z w c (Holding t) = drawn_by z w c t (nat_lt w.drawn z.capacity)
 reserved z w c _ = w
 
--- ---- Publish, also for a caller that is gone
+-- ---- Publish, also for a caller that has crashed
 abbrev pub filled : Size → World → ℕ → Draw → Phase → World
 filled z w c d phase = record w { log = changed w.log d.index (Some d.writing); holder = changed w.holder (shard z d.writing.key) None; phase = changed w.phase c phase }
 
@@ -175,7 +175,7 @@ with_reply_if false w c reply = w
 abbrev pub only : Size → ℕ → Objects → Store
 only z n m = record { objects = m; counter = n; capacity = z.capacity; floor = n; past = [] }
 
--- a read is answered by what it has found
+-- the reply to a read is what it has found
 abbrev pub with_read_reply : Size → World → ℕ → ℕ → Request → List ℕ → Objects → World
 with_read_reply z w c number r [] found = with_reply w c (store.step (only z number found) r).1
 with_read_reply z w c number r (s ∷ parts) found = w
@@ -185,7 +185,7 @@ replied z w c (Waiting saw place reply) = with_reply_if (nat_le saw w.frontier) 
 replied z w c (Reading number place r parts found) = with_read_reply z w c number r parts found
 replied z w c _ = w
 
--- ---- Crash: a shard that was held is free, and a number that was drawn is left to be published
+-- ---- Crash: a shard that was held is free, and a number that was allocated is still to be published
 abbrev pub crashed : Size → World → ℕ → Phase → World
 crashed z w c Idle = enters w c (Gone None)
 crashed z w c (Called place r) = enters w c (Gone None)
@@ -208,7 +208,7 @@ happens z w (Part c) = part z w c (w.phase c)
 happens z w (event.Reply c) = replied z w c (w.phase c)
 happens z w (Crash c) = crashed z w c (w.phase c)
 
--- each event takes one place
+-- each event has one place
 abbrev pub later : World → World
 later w = record w { now = suc w.now }
 

@@ -1,8 +1,8 @@
-//! Short runs worked out by hand, which say that the definitions of a step and of the order mean what they are to mean.
+//! Short runs worked out by hand, which show that the definitions of a step and of the order mean what they should.
 ghost use Rattle.std.specs.Prelude.{◌≡◌, [], ◌∷◌, codes};
 ghost use Rattle.interleavings.specs.Examples.{answers, crash_after_reserve, crash_before, crash_in_holding, full_store, hole, list_beside_a_write, order_in, past_list, read_below_a_hole};
 
-/// What the callers of some short runs are answered, at which places, and with which resource versions.
+/// The replies that the callers of some short runs get, their places, and their resource versions.
 pub fn short_runs()
     ensures hole { answers 100 hole ≡
         record { place = 17; name = codes "AlreadyExists"; version = 0 } ∷ record { place = 18; name = codes "Created"; version = 2 } ∷ [] }

@@ -1,5 +1,5 @@
-//! The interleaved store as it is defined, with no code: callers that race, without a leader, over the shards of one store,
-//! and why every run of them is linearizable. One event is one atomic step.
+//! The interleaved store as it is defined, with no code: callers that race, without a leader, over the shards of one
+//! store, and why every run of them is linearizable. One event is one atomic step.
 #![tactic(auto)]
 
 mod event;

@@ -7,7 +7,7 @@ use Rattle.requests.specs.declared.request.Request.{Request}
 at_drop : {A : Type 0} (xs : List A) (at : ℕ) (x : A) → at < length xs → x ≡ get_or xs at x → drop at xs ≡ x ∷ drop (at + 1) xs
 at_drop xs at x inside is = rw add-one (drop-cons xs at x inside ∙ ap (λ y. y ∷ drop (suc at) xs) (sym is))
 
--- what is asked and what is left to ask make the whole
+-- the requests so far and those still to come make the whole
 pub asked-next : (asks : Object → List Request) (pods : List Object) (at : ℕ) (o : Object) (old new all : List Request) → at < length pods → o ≡ get_or pods at o
     → old ++ flat_map asks (drop at pods) ≡ all → new ≡ old ++ asks o → new ++ flat_map asks (drop (at + 1) pods) ≡ all
 asked-next asks pods at o old new all inside is so_far asked =

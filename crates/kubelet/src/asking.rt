@@ -1,4 +1,4 @@
-// A kubelet: it takes marked pods away, and makes the others ready. In a turn it leaves those that have ended.
+// A kubelet: it removes marked pods, and makes the others ready. In a turn it leaves those that have ended.
 ghost use Rattle.std.specs.Prelude.{◌≡◌, ◌++◌, decimal, IfOk, OnOk, Some, None, option_to_list};
 ghost use Rattle.serde_json.specs.Data.{array, item, no_items};
 ghost use Rattle.objects.specs.Tree.{data_of};
@@ -84,7 +84,7 @@ fn is_ready(readiness: Readiness) -> bool
     matches!(readiness, Readiness::Ready)
 }
 
-/// What the kubelet asks of a pod, if anything.
+/// The kubelet's request for a pod, if there is one.
 fn asked_of(alloc: Global, pod: &Object) -> Result<Option<Request>, Memory>
     ensures { IfOk result (λ asked. option_to_list asked ≡ kubelet_asks pod.now) }
 {
@@ -98,7 +98,7 @@ fn asked_of(alloc: Global, pod: &Object) -> Result<Option<Request>, Memory>
     Ok(Some(Request::UpdateStatus(made_ready(alloc, pod)?)))
 }
 
-/// Adds what the kubelet asks of a pod.
+/// Adds the kubelet's request for a pod.
 fn put_asked(alloc: Global, pod: &Object, asked: &mut Vec<Request>) -> Result<(), Memory>
     ensures { OnOk result (asked.new.items ≡ asked.old.items ++ kubelet_asks pod.now) }
 {
@@ -122,7 +122,7 @@ fn is_left(pod: &Object) -> bool
     !view.terminating && has_ended(view.readiness)
 }
 
-/// Adds what the kubelet asks of a pod in a turn.
+/// Adds the kubelet's request for a pod in a turn.
 fn put_asked_in_turn(alloc: Global, pod: &Object, asked: &mut Vec<Request>) -> Result<(), Memory>
     ensures { OnOk result (asked.new.items ≡ asked.old.items ++ turn_asks pod.now) }
 {
@@ -132,7 +132,8 @@ fn put_asked_in_turn(alloc: Global, pod: &Object, asked: &mut Vec<Request>) -> R
     put_asked(alloc, pod, asked)
 }
 
-/// What the kubelet of a race asks of these pods, one after another.
+/// The requests of the kubelet of a race for these pods, one after another. A marked pod is deleted by its UID; another
+/// one that is not ready gets the status of a ready one, by its UID and version.
 pub fn kubelet_requests(alloc: Global, pods: &[Object]) -> Result<Vec<Request>, Memory>
     ensures { IfOk result (λ asked. asked.items ≡ kubelet_asks_all pods.now) }
 {
@@ -143,8 +144,9 @@ pub fn kubelet_requests(alloc: Global, pods: &[Object]) -> Result<Vec<Request>, 
     Ok(asked)
 }
 
-/// What the kubelet of a script asks in a turn: the same, but nothing of a pod that has ended and is not marked. Kubernetes runs
-/// no such pod again: its phase, `Failed` or `Succeeded`, is final, and a controller deletes the pod and makes it again.
+/// The requests of the kubelet of a script in a turn: the same, but none for a pod that has ended and is not marked.
+/// Kubernetes runs no such pod again: its phase, `Failed` or `Succeeded`, is final, and a controller deletes the pod
+/// and makes it again.
 pub fn turn_requests(alloc: Global, pods: &[Object]) -> Result<Vec<Request>, Memory>
     ensures { IfOk result (λ asked. asked.items ≡ turn_asks_all pods.now) }
 {

@@ -1,4 +1,4 @@
-//! A kubelet: what it asks for the pods that it lists (Kubernetes, "Pod Lifecycle").
+//! A kubelet: its requests for the pods that it lists (Kubernetes, "Pod Lifecycle").
 #![tactic(auto)]
 
 mod asking;

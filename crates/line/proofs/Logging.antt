@@ -1,4 +1,4 @@
--- Each step keeps the log of notes: lemmas over lists of views with notes, which stand on those over plain views.
+-- Each step keeps the log of notes: lemmas over lists of views with notes, which use those over plain views.
 use Rattle.std.proofs.Common.{replicate, ◌≡◌, ◌≢◌, ◌⊎◌, ℕ, zero, suc, ◌+◌, ◌<◌, ◌≤◌, List, [], ◌∷◌, ◌++◌, length, map, take, drop, set, false, true≢false, Option, Some, None, refl, sym, ap, ◌∙◌, subst, ⊎_elim, inl, inr, arith, le_refl, append_assoc, length-append, get_or-set_other, get_or-set_same}
 use Rattle.std.proofs.lemmas.List.{get_or-replicate, map-set, take-append-drop, length-take-le}
 use mathlib.Core.List.{IsPrefix, map-append}
@@ -480,7 +480,7 @@ module _ {E : Type 0} (home by : E → ℕ) (accepts : List (ℕ × E) → E →
         record { knows = fits_v.knows; spent = fits_v.spent; seen = fits_w.seen; found = λ p. absurd (omega arith) }
         record { of_shard = old.of_shard; of_caller = his.of_caller; seen = his.seen; long = his.long; observations = his.observations } (old.seen, let long = old.long in let low = fits_v.seen in omega arith) (λ i e. e) (λ m e. e) (λ c e. inr e)
 
-    -- a seat is told what another has seen
+    -- what another seat has seen is reported to a seat
     pub tell_keeps : (other : ℕ) (w : NotedView E) → w.shard ≡ None → w.plain.filled ≡ [] → w.plain.pending ≡ None → w.plain.spent ≡ false → other ≢ id → get_elem? (set vs id (told v w)) other ≡ some w
         → NotedRule home by accepts capacity ws (set (set vs id (told v w)) other left_over)
     tell_keeps other w no_shard no_filled no_open fresh apart there =

@@ -1,4 +1,5 @@
--- Logs of notes: what stands in them, in their beginnings, and after one more note. These lemmas name no table.
+-- Logs of notes: what they have, what their prefixes have, and what they have after one more note. These lemmas name no
+-- table.
 use Rattle.std.proofs.Common.{◌≡◌, ◌≢◌, ◌⊎◌, ℕ, zero, suc, ◌+◌, ◌<◌, ◌≤◌, List, [], ◌∷◌, ◌++◌, length, take, drop, set, Bool, true, false, true≢false, eqb, leb, Option, Some, None, refl, sym, ap, ◌∙◌, subst, ⊎_elim, inl, inr, arith, length-append, add-zero, eq-eqb, ne_eqb}
 use Rattle.std.specs.Prelude.{is_some}
 use Rattle.std.proofs.lemmas.List.{append-nil, take-append-drop, length-take-le, take-append-le}
@@ -77,21 +78,21 @@ module _ {E : Type 0} where
     notes_up_to_none m n [] l = refl
     notes_up_to_none m n (x ∷ xs) l = drop_over m n x (eqb (f x) i) (notes_of f i (suc n) xs) (leb_no n m l) (notes_up_to_none m (suc n) xs (omega arith))
 
-    -- what stands in a beginning is what stands in the whole, up to its length
+    -- what a prefix has is what the whole has, up to its length
     pub notes_up_to_front : (m n : ℕ) (xs ys : List E) → n + length xs ≡ m + 1 → notes_up_to m (notes_of f i n (xs ++ ys)) ≡ notes_of f i n xs
     notes_up_to_front m n [] ys e = notes_up_to_none m n ys (omega arith)
     notes_up_to_front m n (x ∷ xs) ys e = keep_under m n x (eqb (f x) i) (notes_of f i (suc n) (xs ++ ys)) (notes_of f i (suc n) xs) (le-leb n m (omega arith)) (notes_up_to_front m (suc n) xs ys (omega arith))
 
-    -- all that stands in a log has a number up to its length
+    -- all that a log has has a number up to its length
     pub notes_up_to_whole : (xs : List E) → notes_up_to (length xs) (notes_of f i 1 xs) ≡ notes_of f i 1 xs
     notes_up_to_whole xs = ap (λ l. notes_up_to (length xs) (notes_of f i 1 l)) (sym (append-nil xs)) ∙ notes_up_to_front (length xs) 1 xs [] (omega arith)
 
   module _ (home : E → ℕ) where
-    -- a observation stays right as the log grows
+    -- an observation stays right as the log grows
     pub right_on : (log : List E) (e : E) (c : Observation E) → IsTrueObservation home log c → IsTrueObservation home (log ++ e ∷ []) c
     right_on log e c h = let l = h.0 in (omega (arith, length-append log (e ∷ [])), h.1 ∙ ap (notes_of home c.shard 1) (sym (take-append-le c.drawn log (e ∷ []) h.0)))
 
-    -- what a right observation says of each beginning of the log
+    -- what a right observation says of each prefix of the log
     pub observation_reads : (log s rest : List E) → s ++ rest ≡ log → (c : Observation E) → IsTrueObservation home log c → (m : ℕ) → m ≤ c.drawn → m ≤ length s → notes_up_to m c.notes ≡ notes_of home c.shard 1 (take m s)
     observation_reads log s rest whole c h m l l' =
         let d : ℕ = c.drawn in
@@ -105,7 +106,7 @@ module _ {E : Type 0} where
         ap (notes_up_to m) (h.1 ∙ ap (notes_of home c.shard 1) (sym cut)) ∙ (notes_up_to_front home c.shard m 1 (take m (take d log)) (drop m (take d log)) (omega arith) ∙ ap (notes_of home c.shard 1) (inner ∙ front))
 
     module _ (accepts : List (ℕ × E) → E → Type 0) where
-      -- the log with an accepted note is legal, and so is each beginning of a legal log
+      -- the log with an accepted note is legal, and so is each prefix of a legal log
       pub legal_on : (log : List E) (e : E) → IsLegal home accepts log → accepts (notes_of home (home e) 1 log) e → IsLegal home accepts (log ++ e ∷ [])
       legal_on log e legal ok n x at = ⊎_elim
           (λ (t : get_elem? log n ≡ some x). let l = at_less log n x t in subst (λ k. accepts (notes_of home (home x) 1 k) x) (sym (take-append-le n log (e ∷ []) (omega arith))) (legal n x t))
@@ -119,7 +120,7 @@ module _ {E : Type 0} where
           let there : get_elem? log n ≡ some x = subst (λ k. get_elem? k n ≡ some x) whole (at_longer s rest n x at) in
           subst (λ k. accepts (notes_of home (home x) 1 k) x) (ap (take n) (sym whole) ∙ take-append-le n s rest (omega arith)) (legal n x there)
 
-  -- where a seat changes and keeps its part, no two have the same
+  -- if a seat changes and keeps its part, no two have the same
   pub apart_set : (g : NotedView E → Option ℕ) (vs : List (NotedView E)) (id : ℕ) (v w : NotedView E) → get_elem? vs id ≡ some v → ((i : ℕ) → g w ≡ Some i → g v ≡ Some i) → IsApart g vs → IsApart g (set vs id w)
   apart_set g vs id v w at same apart j k i x y ex ey gx gy =
       let p = was j x i ex gx in let q = was k y i ey gy in apart j k i p.0 q.0 p.1 q.1 p.2 q.2
@@ -130,7 +131,7 @@ module _ {E : Type 0} where
           (λ (t : (j ≢ id) × (get_elem? vs j ≡ some x)). (x, t.1, is))
           (at_set vs id j w x e)
 
-  -- where a seat comes whose part no other has, no two have the same
+  -- if a seat is added whose part no other has, no two have the same
   pub apart_snoc : (g : NotedView E → Option ℕ) (vs : List (NotedView E)) (w : NotedView E) → ((i j : ℕ) (x : NotedView E) → g w ≡ Some i → get_elem? vs j ≡ some x → g x ≡ Some i → ⊥) → IsApart g vs → IsApart g (vs ++ w ∷ [])
   apart_snoc g vs w new apart j k i x y ex ey gx gy = ⊎_elim
       (λ (t : get_elem? vs j ≡ some x). ⊎_elim

@@ -1,4 +1,5 @@
--- What each kind of step tells the seat that makes it, with the notes: how its view v becomes w, where the word was found to be n.
+-- What a seat learns by each kind of step that it makes, with the notes: how its view v becomes w, if the word was
+-- found to be n.
 use Rattle.std.specs.Prelude.{◌≡◌, ℕ, ◌+◌, ◌<◌, ◌≤◌, max, All, List, [], length, take, true, Option, Some, None}
 use mathlib.Core.Option.{some}
 use mathlib.Core.List.{IsPrefix}
@@ -25,7 +26,7 @@ module _ {E : Type 0} where
       -- what was observed of a shard is so in the notes seen, up to each number
       pub observations : (k m : ℕ) (o : Observation E) → get_elem? v.observations k ≡ some o → m ≤ o.drawn → m ≤ f → notes_up_to m o.notes ≡ notes_of home o.shard 1 (take m s)
 
-    -- the frontier is raised to k, where it is not higher
+    -- the frontier is raised to k, if it is not higher
     abbrev pub LiftsNoted : ℕ → NotedView E → ℕ → NotedView E → Type 0
     LiftsNoted k v n w = (w ≡ saw_noted v (max n k) w.seen) × Matches v (max n k) w.seen × (v.plain.seen ≤ n) × (max n k ≤ v.plain.capacity)
 
@@ -33,7 +34,7 @@ module _ {E : Type 0} where
     abbrev pub LooksNoted : NotedView E → ℕ → NotedView E → Type 0
     LooksNoted v n w = (w ≡ looked_noted v n w.seen) × Matches v n w.seen × (v.plain.seen ≤ n) × (n ≤ v.plain.capacity)
 
-    -- What is told of the seat v of the shard i, with a caller in it, when d numbers are drawn.
+    -- What holds of the seat v of the shard i, with a caller in it, when d numbers are drawn.
     pub record IsObserved (v : NotedView E) (i d : ℕ) : Type 0 where
       pub within : d ≤ v.plain.capacity
       pub seen : length v.seen ≤ d

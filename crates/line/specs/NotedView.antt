@@ -44,7 +44,7 @@ module _ {E : Type 0} where
   abbrev pub named : NotedView E → ℕ → NotedView E
   named v c = record v { caller = Some c; own_notes = [] }
 
-  -- what a seat knows beside the notes seen stays
+  -- what a seat knows besides the notes seen stays
   abbrev pub KeepsNotes : NotedView E → NotedView E → Type 0
   KeepsNotes v w = (w.shard ≡ v.shard) × (w.caller ≡ v.caller) × (w.own_notes ≡ v.own_notes) × (w.reported ≡ v.reported) × (w.observations ≡ v.observations)
 
@@ -72,7 +72,7 @@ module _ {E : Type 0} where
 
   -- ---- two seats
 
-  -- a shard's seat v with a caller's seat w in it, which is told what the shard's last caller had seen
+  -- a shard's seat v with a caller's seat w in it, after a report of what the shard's last caller had seen
   abbrev pub entered : NotedView E → NotedView E → NotedView E
   entered v w = record v { plain = record v.plain { seen = w.plain.seen; found = 0; loads = w.plain.loads; tries = w.plain.tries }; caller = w.caller; own_notes = w.own_notes; seen = w.seen; reported = v.seen; observations = w.observations }
 
@@ -84,7 +84,7 @@ module _ {E : Type 0} where
   abbrev pub left_with : NotedView E → NotedView E
   left_with v = record { plain = record (caller_view v.plain) { loads = v.plain.loads; tries = v.plain.tries }; made = None; shard = None; notes = []; caller = v.caller; own_notes = v.own_notes; seen = v.seen; reported = v.reported; observations = v.observations }
 
-  -- a seat v that is told what w has seen
+  -- a seat v after a report of what w has seen
   abbrev pub told : NotedView E → NotedView E → NotedView E
   told v w = record v { reported = w.seen }
 

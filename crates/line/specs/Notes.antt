@@ -8,13 +8,13 @@ abbrev pub keep : {A : Type 0} → Bool → A → List A → List A
 keep true x xs = x ∷ xs
 keep false x xs = xs
 
--- the number of a caller, 0 where there is none
+-- the number of a caller, 0 if there is none
 abbrev pub name_of : Option ℕ → ℕ
 name_of None = 0
 name_of (Some c) = c
 
 module _ {E : Type 0} where
-  -- the notes e of the log with f e = i, each with its number, where the first note of the log has the number n
+  -- the notes e of the log with f e = i, each with its number, if the first note of the log has the number n
   abbrev pub notes_of : (E → ℕ) → ℕ → ℕ → List E → List (ℕ × E)
   notes_of f i n [] = []
   notes_of f i n (e ∷ es) = keep (eqb (f e) i) (n, e) (notes_of f i (suc n) es)

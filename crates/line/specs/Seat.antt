@@ -66,7 +66,8 @@ after_fill s n = record s { filled = s.filled ++ n ∷ []; pending = None }
 abbrev pub after_load : CallerSeat → ℕ → CallerSeat
 after_load s f = record s { seen = f; loads = s.loads + 1 }
 
--- after a look at the mark of the number after what it had seen, where it then knows of the frontier f: the mark was set exactly where f is higher than that
+-- after a look at the mark of the number after what it had seen, when it then knows of the frontier f: the mark was set
+-- exactly if f is higher than what it had seen
 abbrev pub after_try : CallerSeat → ℕ → CallerSeat
 after_try s f = record s { seen = f; tries = s.tries ++ (s.seen + 1, nat_lt s.seen f) ∷ [] }
 

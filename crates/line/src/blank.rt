@@ -27,7 +27,10 @@ impl Judging<Blank> for Blanks {
 }
 
 impl Line<Blank, Blanks> {
-    /// The next number, with a blank note, or none where all are drawn. A seat that was told none asks no more.
+    /// The next number, with a blank note, or none if all are drawn. A seat that got none does not try again. The
+    /// number is then the seat's open one: it is from 1 to the capacity, and above all that the seat has filled.
+    ///
+    /// The seat is the line's, has no open number, and no caller is in it.
     pub fn draw(&self, seat: &mut ShardSeat<Blank>) -> Option<Drawn>
         requires line { seat.old.line ≡ self.now.name }
         requires pending { seat.old.view.plain.pending ≡ None }

@@ -1,4 +1,4 @@
-// What a line does for a caller's seat: it tells the frontier and raises it.
+// What a line does for a caller's seat: it loads the frontier and raises it.
 ghost use Rattle.std.specs.Prelude.{◌≡◌, ◌<◌, ◌≤◌, None, IfOk, IsOk};
 ghost use mathlib.Core.List.{IsPrefix};
 ghost use Rattle.line.specs.NotedSteps.{IsNamed, Matches};
@@ -12,8 +12,8 @@ use crate::seat::CallerSeat;
 use memory::Memory;
 
 impl<E, K: Judging<E>> Line<E, K> {
-    /// Another caller's seat, which has seen what this one has, and has no name. No memory is taken, so that none is ever
-    /// refused.
+    /// Another caller's seat, which has seen what this one has, and has no name. This one stays. Nothing is allocated,
+    /// so there always is one.
     pub fn split(&self, seat: &mut CallerSeat<E>) -> Result<CallerSeat<E>, Memory>
         requires line { seat.old.line ≡ self.now.name }
         ensures old { seat.new ≡ seat.old }
@@ -21,7 +21,7 @@ impl<E, K: Judging<E>> Line<E, K> {
         ensures new { IfOk result (λ s. (s.line ≡ seat.old.line) × (s.view ≡ caller_noted seat.old.view)) }
         ensures plain { IfOk result (λ s. caller_seat s ≡ new_caller_seat seat.old.line seat.old.view.plain.seen) }
     {
-        // A `Result` all the same, so that a caller is written alike for a line whose seats take memory.
+        // A `Result` all the same, so that code for callers also fits a line whose seats take memory.
         Ok(CallerSeat {
             place: self.table.shared.split_seat::<ForCaller>(&mut seat.place),
             seen: seat.seen,
@@ -29,7 +29,7 @@ impl<E, K: Judging<E>> Line<E, K> {
     }
 
     /// Gives a caller's seat a name of its own, which contracts alone see, by a load of the frontier whose value is not
-    /// used.
+    /// used. No note that was seen has it.
     pub fn name(&self, seat: &mut CallerSeat<E>)
         requires line { seat.old.line ≡ self.now.name }
         requires caller { seat.old.view.caller ≡ None }
@@ -39,7 +39,9 @@ impl<E, K: Judging<E>> Line<E, K> {
         self.load_to_name(&mut seat.place);
     }
 
-    /// The frontier, loaded once, which the seat has then seen.
+    /// The frontier, loaded once, which the seat has then seen. It is at least what the seat had seen. The seat has
+    /// then seen the notes up to it, those of a legal log: they begin with what it had seen and what was reported to
+    /// it, and up to each number the shard's notes, the caller's own and what was observed are just those seen.
     pub fn frontier(&self, seat: &mut CallerSeat<E>) -> u64
         requires { seat.old.line ≡ self.now.name }
         ensures loaded { caller_seat seat.new ≡ after_load (caller_seat seat.old) result }
@@ -51,8 +53,10 @@ impl<E, K: Judging<E>> Line<E, K> {
         seat.seen
     }
 
-    /// Raises the frontier by one, where the number after what the seat has seen is filled. Where the frontier is higher
-    /// already, the seat only learns it.
+    /// Raises the frontier by one, if the number after what the seat has seen is filled. If the frontier is higher
+    /// already, the seat only learns it. So the result, which the seat has then seen, is higher exactly if that number
+    /// was marked. At the capacity nothing is done. What was seen is a prefix of what is seen then, and all else that
+    /// the seat knows stays.
     pub fn raise(&self, seat: &mut CallerSeat<E>) -> u64
         requires { seat.old.line ≡ self.now.name }
         ensures tried { seat.old.view.plain.seen < self.now.capacity → caller_seat seat.new ≡ after_try (caller_seat seat.old) result }
@@ -72,8 +76,8 @@ impl<E, K: Judging<E>> Line<E, K> {
         seat.seen
     }
 
-    /// Tells a caller's seat what another caller has seen, which is then a beginning of what its next load of the frontier
-    /// finds.
+    /// Reports to a caller's seat what another caller has seen. The other one's seat stays. What it has seen is then a
+    /// prefix of what the seat's next load of the frontier finds.
     pub fn tell(&self, from: &mut CallerSeat<E>, seat: &mut CallerSeat<E>)
         requires { (from.old.line ≡ self.now.name) × (seat.old.line ≡ self.now.name) }
         ensures from { from.new ≡ from.old }

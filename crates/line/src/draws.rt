@@ -1,4 +1,4 @@
-// What a line does for a shard's seat: it gives numbers out and marks them as filled.
+// What a line does for a shard's seat: it allocates numbers and marks them as filled.
 ghost use Rattle.std.specs.Prelude.{◌≡◌, ◌-◌, ◌<◌, ◌≤◌, Some, None, true, All, IfSome, IfNone};
 ghost use Rattle.line.specs.Notes.{notes_up_to};
 ghost use Rattle.line.specs.NotedSteps.{MayDraw};
@@ -11,9 +11,12 @@ use crate::notes::{Judging, Noting};
 use crate::seat::{Drawn, ShardSeat};
 
 impl<E, K: Judging<E>> Line<E, K> {
-    /// The next number, for the note that J picks, or none where all are drawn. A seat that was told none asks no more.
+    /// The next number, for the note that J picks, or none if all are drawn. A seat that got none does not try again.
+    /// The number is then the seat's open one: it is from 1 to the capacity, and above all that the seat has filled or
+    /// its caller has seen. Its note joins those of the shard and of the caller.
     ///
-    /// The note has to be of this shard and of the caller in the seat, and accepted over the shard's notes.
+    /// The note has to be of this shard and of the caller in the seat, and accepted over the shard's notes. The seat is
+    /// the line's and has no open number.
     pub fn draw_noted<J: Noting<E>>(&self, seat: &mut ShardSeat<E>) -> Option<Drawn>
         requires line { seat.old.line ≡ self.now.name }
         requires pending { seat.old.view.plain.pending ≡ None }
@@ -39,7 +42,7 @@ impl<E, K: Judging<E>> Line<E, K> {
         None
     }
 
-    /// Marks the number as filled.
+    /// Marks the seat's open number as filled, after all that it filled before.
     pub fn fill(&self, seat: &mut ShardSeat<E>, drawn: Drawn)
         requires line { seat.old.line ≡ self.now.name }
         requires pending { seat.old.view.plain.pending ≡ Some drawn }

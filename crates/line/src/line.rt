@@ -21,11 +21,11 @@ pub const MAX_SHARDS: usize = 64;
 /// The numbers from 1 to a capacity, which shards draw and fill in any order, and a frontier up to which all of them are
 /// filled.
 ///
-/// Threads share a line by `&`, each with a seat of its own. A call by a seat makes at most two atomic steps on the line's
-/// words, takes no lock and no memory, and waits for nobody.
+/// Threads share a line by `&`, each with a seat of its own. A call by a seat makes at most two atomic steps on the
+/// line's words, takes no lock, allocates nothing, and never waits.
 ///
-/// Each number that is drawn has a note of the type E, which says what it is drawn for, and K says what contracts know of
-/// notes. Contracts alone see them: no note stands in memory.
+/// Each number that is drawn has a note of the type E, which says what it is drawn for, and K says what contracts know
+/// of notes. Contracts alone see them: no note is in memory.
 #[derive(Drop)]
 pub struct Line<E, K: Judging<E>> {
     pub(crate) table: Words<E, K>,
@@ -53,7 +53,7 @@ pub struct Ends<E, K: Judging<E>> {
     pub caller: CallerSeat<E>,
 }
 
-/// What a line's numbers came to: those from 1 to `drawn` were drawn, and those up to `frontier` are known to be filled.
+/// The numbers of a closed line: those from 1 to `drawn` were drawn, and those up to `frontier` are known to be filled.
 #[derive(Drop)]
 pub struct Closed {
     pub drawn: u64,
@@ -61,12 +61,13 @@ pub struct Closed {
 }
 
 impl<E, K: Judging<E>> Line<E, K> {
-    /// A line with the numbers from 1 to `capacity`, none of them drawn.
+    /// A line with the numbers from 1 to `capacity`, none of them drawn. Each shard has a fresh seat, in order, and
+    /// there is one caller's. Only this call can run out of memory.
     ///
     /// # Errors
     ///
-    /// The first that applies: BadCapacity where `capacity` is not from 1 to 1,048,576; BadShards where `shards` is not
-    /// from 1 to 64.
+    /// The first that applies: BadCapacity if `capacity` is not from 1 to 1,048,576; BadShards if `shards` is not from
+    /// 1 to 64.
     pub fn new(alloc: Global, capacity: u64, shards: usize) -> Result<Ends<E, K>, LineError>
         ensures line { IfOk result (λ e. e.line.capacity ≡ capacity) }
         ensures shards { IfOk result (λ e. (vec_len e.shards ≡ shards)
@@ -83,7 +84,7 @@ impl<E, K: Judging<E>> Line<E, K> {
         if shards == 0 || shards > MAX_SHARDS {
             return Err(LineError::BadShards);
         }
-        // Two more than there are numbers: the frontier and the count stand before the marks.
+        // Two more than there are numbers: the frontier and the count come before the marks.
         let words = vec![in alloc; 0; capacity as usize + 2]?;
         let (table, mut place) = Words::of_words(alloc, words.as_slice(), &capacity)?;
         let shards = shard_seats::<E, K>(alloc, &table, &mut place, shards)?;
@@ -101,7 +102,8 @@ impl<E, K: Judging<E>> Line<E, K> {
         self.capacity
     }
 
-    /// How many numbers were drawn, and the frontier.
+    /// How many numbers were drawn, and the frontier. Both are of words that keep the line's rule: the frontier is at
+    /// most the numbers drawn, and these at most the capacity.
     pub fn close(self) -> Closed
         ensures kept { KeepsRule self.capacity result.drawn result.frontier }
         ensures within { (result.frontier ≤ result.drawn) × (result.drawn ≤ self.capacity) }
@@ -110,7 +112,8 @@ impl<E, K: Judging<E>> Line<E, K> {
         summed_up(table.close(), capacity)
     }
 
-    /// The same, by a caller that gives up its seat: the frontier is at least what it has seen.
+    /// The same, by a caller that gives up its seat: the frontier is at least what it has seen, so once it has seen the
+    /// capacity, both are the capacity.
     pub fn close_with(self, seat: CallerSeat<E>) -> Closed
         requires { seat.line ≡ self.name }
         ensures within { (result.frontier ≤ result.drawn) × (result.drawn ≤ self.capacity) }

@@ -1,8 +1,8 @@
 // What contracts say of notes.
 use std::marker::Brand;
 
-/// What contracts know of a note of the type E. It stands beside E, as more than E may say it: which shard a key belongs to,
-/// for one, goes by how many shards there are.
+/// What contracts know of a note of the type E. It is apart from E, as more than E may decide it: which shard a key
+/// belongs to, for one, depends on how many shards there are.
 pub trait Judging<E> {
     ghost use Rattle.std.specs.Prelude.{ℕ, List};
 

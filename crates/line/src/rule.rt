@@ -1,4 +1,4 @@
-// The rule of a line's words, what each kind of step tells its seat, and how new seats are cut off and taken in.
+// The rule of a line's words, what a seat learns by each kind of step, and how new seats are cut off and taken in.
 use crate::notes::{Judging, Noting};
 use crate::view::NotedView;
 use atomic_table::{Join, Play, Seat, Split, Table, TableRule};
@@ -119,7 +119,7 @@ impl<E> Split<NotedView<E>> for ForCaller {
     ghost right = { caller_noted };
 }
 
-/// A caller's seat goes into a shard's.
+/// A caller's seat enters a shard's.
 pub(crate) struct Enters;
 
 impl<E> Join<NotedView<E>> for Enters {
@@ -130,7 +130,7 @@ impl<E> Join<NotedView<E>> for Enters {
     ghost spent = { left_over };
 }
 
-/// And comes back.
+/// And leaves it.
 pub(crate) struct Leaves;
 
 impl<E> Split<NotedView<E>> for Leaves {
@@ -141,7 +141,7 @@ impl<E> Split<NotedView<E>> for Leaves {
     ghost right = { left_with };
 }
 
-/// A seat is told what another has seen.
+/// A seat learns what another has seen.
 pub(crate) struct Tells;
 
 impl<E> Join<NotedView<E>> for Tells {

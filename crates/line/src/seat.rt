@@ -26,7 +26,7 @@ impl<E> Model for ShardSeat<E> {
         × ((n : ℕ) → s.place.me.0.plain.pending ≡ Some n → (0 < n) × (n ≤ s.place.me.0.plain.capacity)) };
 }
 
-/// A caller's right to raise a line's frontier, and what it has seen of it. Only its own calls tell it more.
+/// A caller's right to raise a line's frontier, and what it has seen of it. It learns more only by its own calls.
 #[derive(Drop)]
 pub struct CallerSeat<E> {
     pub(crate) place: Place<E>,
@@ -56,7 +56,8 @@ impl<E> CallerSeat<E> {
     }
 }
 
-/// A number that was drawn. It can't be dropped: `fill` takes it.
+/// A number that was drawn. It can't be dropped: `fill` uses it up. So a function that draws a number and neither
+/// passes it on nor fills it is refused.
 pub struct Drawn {
     pub(crate) number: u64,
 }

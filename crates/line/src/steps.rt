@@ -1,5 +1,5 @@
-// The five kinds of atomic step, a function each. Beside them only the cutting and joining of seats touches a word, by a
-// load of the frontier whose value is not used.
+// The five kinds of atomic step, a function each. Besides them only the cutting and joining of seats touches a word, by
+// a load of the frontier whose value is not used.
 ghost use Rattle.std.specs.Prelude.{◌≡◌, ◌+◌, ◌<◌, ◌≤◌, Some, None, IsSome, false};
 ghost use Rattle.line.specs.Seat.{IsOf};
 ghost use Rattle.line.specs.View.{filled_in, tried};
@@ -10,13 +10,13 @@ use crate::line::Line;
 use crate::notes::{Judging, Noting};
 use crate::rule::{Draw, Fill, Lift, Look, Name, Observe, Place, Try};
 
-// The table loads word 0 where it splits or joins seats: of the frontier such a load tells nothing new.
+// The table loads word 0 when it splits or joins seats: such a load shows nothing new of the frontier.
 pub(crate) const FRONTIER: usize = 0;
 
 pub(crate) const COUNT: usize = 1;
 
 impl<E, K: Judging<E>> Line<E, K> {
-    /// Adds one to the count, and answers what it was.
+    /// Adds one to the count, and returns what it was.
     pub(crate) fn add_to_count<J: Noting<E>>(&self, place: &mut Place<E>) -> u64
         requires line { IsOf self.now.name place.old.table_id place.old.me.0.plain }
         requires seat { (place.old.me.0.plain.pending ≡ None) × (place.old.me.0.plain.spent ≡ false) × (place.old.me.0.plain.seats ≡ 1) }
@@ -38,7 +38,7 @@ impl<E, K: Judging<E>> Line<E, K> {
         words.store::<Fill>(place, number as usize + 1, 1);
     }
 
-    /// Loads the mark of a number, and answers whether it is set.
+    /// Loads the mark of a number, and returns whether it is set.
     pub(crate) fn load_mark(&self, place: &mut Place<E>, number: u64) -> bool
         requires line { IsOf self.now.name place.old.table_id place.old.me.0.plain }
         requires number { (0 < number) × (number ≤ place.old.me.0.plain.capacity) }
@@ -50,7 +50,7 @@ impl<E, K: Judging<E>> Line<E, K> {
         words.load::<Try>(place, number as usize + 1) != 0
     }
 
-    /// Raises the frontier to a number, and answers the frontier after it, which is higher where it was so before.
+    /// Raises the frontier to a number, and returns the frontier after it, which is higher if it was so before.
     pub(crate) fn lift_frontier(&self, place: &mut Place<E>, number: u64) -> u64
         requires line { IsOf self.now.name place.old.table_id place.old.me.0.plain }
         requires next { (number ≡ place.old.me.0.plain.seen + 1) × (place.old.me.0.plain.found ≡ number) }

@@ -1,6 +1,6 @@
 use std::collections::LinkedList;
 
-/// What a seat knows of the line but notes. It stands in contracts alone: no value of it is made.
+/// What a seat knows of the line, except notes. Only contracts see it: no value of it is made.
 pub struct View {
     /// How many numbers the line has; 0 is of no seat that can step.
     pub capacity: u64,
@@ -15,7 +15,7 @@ pub struct View {
     pub spent: bool,
     /// The highest frontier that it knows of.
     pub seen: u64,
-    /// The last number whose mark it found set, 0 where it found none.
+    /// The last number whose mark it found set, 0 if it found none.
     pub found: u64,
     /// How often it loaded the frontier.
     pub loads: u64,
@@ -23,7 +23,7 @@ pub struct View {
     pub tries: LinkedList<(u64, bool)>,
 }
 
-/// What a caller learned of a shard on a visit. It stands in contracts alone: no value of it is made.
+/// What a caller learned of a shard on a visit. Only contracts see it: no value of it is made.
 pub struct Observation<E> {
     /// Which shard it was, from 0 on.
     pub shard: u64,
@@ -33,9 +33,9 @@ pub struct Observation<E> {
     pub notes: LinkedList<(u64, E)>,
 }
 
-/// What a seat knows, with the notes of the numbers. It stands in contracts alone: no value of it is made.
+/// What a seat knows, with the notes of the numbers. Only contracts see it: no value of it is made.
 pub struct NotedView<E> {
-    /// What it knows but notes.
+    /// What it knows, except notes.
     pub plain: View,
     /// How many shards' seats were cut off it, in the first seat of a line alone.
     pub made: Option<u64>,
@@ -49,7 +49,7 @@ pub struct NotedView<E> {
     pub own_notes: LinkedList<(u64, E)>,
     /// The notes from 1 to the frontier that it has seen.
     pub seen: LinkedList<E>,
-    /// The notes that another seat had seen, of which this one was told.
+    /// The notes that another seat had seen, and that were reported to this one.
     pub reported: LinkedList<E>,
     /// What the caller learned of shards, an entry for each `observe`.
     pub observations: LinkedList<Observation<E>>,

@@ -1,4 +1,4 @@
-// A caller's visit to a shard: its seat goes into the shard's, so that one step can tell of both, and comes back. A store
+// A caller's visit to a shard: its seat enters the shard's, so that one step can be about both, and leaves it. A store
 // does so for as long as it holds the shard's lock.
 ghost use Rattle.std.specs.Prelude.{◌≡◌, ◌≤◌, None};
 ghost use Rattle.line.specs.NotedSteps.{Matches, Observes};
@@ -10,8 +10,8 @@ use crate::rule::{Enters, Leaves};
 use crate::seat::{CallerSeat, ShardSeat};
 
 impl<E, K: Judging<E>> Line<E, K> {
-    /// A caller's seat goes into a shard's, which is told what the shard's last caller had seen. It answers what the caller
-    /// has seen.
+    /// A caller's seat enters a shard's, and what the shard's last caller had seen is reported to it. The result is
+    /// what the caller has seen.
     pub fn enter(&self, seat: &mut ShardSeat<E>, caller: CallerSeat<E>) -> u64
         requires line { (seat.old.line ≡ self.now.name) × (caller.line ≡ self.now.name) }
         requires alone { seat.old.view.caller ≡ None }
@@ -26,7 +26,7 @@ impl<E, K: Judging<E>> Line<E, K> {
         seen
     }
 
-    /// The frontier, loaded once, which the caller in the shard's seat has then seen.
+    /// The frontier, loaded once, which the caller in the shard's seat has then seen. All else is as of `frontier`.
     pub fn look(&self, seat: &mut ShardSeat<E>) -> u64
         requires { seat.old.line ≡ self.now.name }
         ensures line { seat.new.line ≡ seat.old.line }
@@ -37,7 +37,9 @@ impl<E, K: Judging<E>> Line<E, K> {
         self.load_frontier(&mut seat.place)
     }
 
-    /// Notes for the caller in a shard's seat what the shard has, by a load of the frontier whose value is not used.
+    /// Notes for the caller in a shard's seat what the shard has, by a load of the frontier whose value is not used. It
+    /// is noted that the shard's notes are just these if so many numbers are drawn, from those seen to the capacity,
+    /// which a spent seat has.
     pub fn observe(&self, seat: &mut ShardSeat<E>)
         requires { seat.old.line ≡ self.now.name }
         ensures line { seat.new.line ≡ seat.old.line }
@@ -47,7 +49,8 @@ impl<E, K: Judging<E>> Line<E, K> {
         self.load_to_observe(&mut seat.place);
     }
 
-    /// The caller's seat in a shard's comes back, which has seen so much.
+    /// The caller's seat, which has seen so much, leaves the shard's. It has all that it learned; the shard's seat
+    /// keeps its notes and the caller's frontier.
     pub fn leave(&self, seat: &mut ShardSeat<E>, seen: u64) -> CallerSeat<E>
         requires line { seat.old.line ≡ self.now.name }
         requires seen { seen ≡ seat.old.view.plain.seen }

@@ -1,4 +1,4 @@
--- Members that are put over others: which entry comes first, where those that are put ascend.
+-- Members that are put over others: which entry comes first, if those that are put ascend.
 use Rattle.std.proofs.Common.{◌≡◌, ℕ, List, [], ◌∷◌, ◌++◌, refl, ap, subst, sym, ◌∙◌}
 use Rattle.std.specs.Ordering.{nat_cmp, match_ordering, ordering_reverse}
 use Rattle.std.specs.declared.cmp.Ordering.TheVariants.{Less, Equal, Greater}
@@ -38,7 +38,7 @@ module _ (k l : List ℕ) (d e : Data) (more ms : Members) (ascending : AreAscen
       ap (λ o. with_all more (match_ordering o (member k d (member l e ms)) (member l d ms) (member l e (put k d ms)))) below
       ∙ below_all k d (member l e ms) more ascending.0 ascending.1
 
--- what ascends still does where others are put over it
+-- what ascends still does when others are put over it
 pub ascending_all : (more ms : Members) → AreAscending ms → AreAscending (with_all more ms)
 ascending_all no_members ms ascending = ascending
 ascending_all (member k d more) ms ascending = ascending_all more (put k d ms) (ascending_put k d ms ascending)

@@ -1,4 +1,4 @@
--- Volumes by their names: which have the name of a claim template, and where they stand in a spec.
+-- Volumes by their names: which have the name of a claim template, and where they are in a spec.
 use Rattle.std.proofs.Common.{◌≡◌, ℕ, ◌+◌, ◌<◌, List, [], ◌∷◌, ◌++◌, length, take, get_or, Bool, true, false, Option, Some, None, Bor, refl, sym, ap, ◌∙◌}
 use Rattle.std.specs.Prelude.{◌||◌, bytes_eq, codes, option_and_then, option_map, unwrap_or}
 use Rattle.std.specs.BTreeSet.{insert_key}
@@ -31,7 +31,7 @@ is_text-as_str : (word : List ℕ) (found : Option Data) → option_map_or (is_t
 is_text-as_str word None = refl
 is_text-as_str word (Some d) = refl
 
--- the name of a volume is that of a template, where the volume says that name
+-- the name of a volume is that of a template, if the volume has that name
 pub named_among : (d : Data) (name : List ℕ) (claims : List Claim) → option_and_then as_str (get (codes "name") d) ≡ Some name
     → list_any (bytes_eq name) (names_of claims) ≡ list_any (λ c. says (codes "name") c.0 d) claims
 named_among d name [] is = refl

@@ -1,5 +1,5 @@
--- The PersistentVolumeClaim that a plan makes from a claim template (Kubernetes API reference, apps/v1, StatefulSetSpec:
--- volumeClaimTemplates; core/v1: PersistentVolumeClaim; "StatefulSets": "Stable Storage").
+-- The PersistentVolumeClaim that a plan makes from a claim template (Kubernetes API reference, apps/v1,
+-- StatefulSetSpec: volumeClaimTemplates; core/v1: PersistentVolumeClaim; "StatefulSets": "Stable Storage").
 use Rattle.std.specs.Prelude.{ℕ, codes, Option, Some, None, option_and_then}
 use Rattle.std.specs.Option.{option_map_or}
 use Rattle.serde_json.specs.Data.{Data, array, object, Items, no_items, item, Members, no_members, member}
@@ -20,11 +20,11 @@ use Rattle.manifests.specs.Template.{labels_in, part, part_in, texts_in, with_al
 abbrev pub selector_of : SetParts → Option Members
 selector_of set = option_and_then (object_at (codes "selector")) (option_and_then as_object (member_of (codes "spec") set.object.body))
 
--- `spec.selector.matchLabels`, by which the set knows its pods
+-- `spec.selector.matchLabels`, by which the set recognizes its pods
 abbrev pub match_labels : SetParts → Members
 match_labels set = option_map_or (texts_in (codes "matchLabels")) (selector_of set) no_members
 
--- no labels, and no owners, are left out
+-- labels and owners are left out if there are none
 abbrev pub labels_if_any : Members → Option Data
 labels_if_any no_members = None
 labels_if_any (member k d ms) = Some (object (member k d ms))

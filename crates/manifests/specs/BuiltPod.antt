@@ -35,7 +35,7 @@ abbrev pub pod_spec : SetParts → List ℕ → ℕ → Members → Members
 pod_spec set name ordinal spec =
     with_volumes set ordinal (put_some (codes "subdomain") (option_map string set.service) (put (codes "hostname") (string name) spec))
 
--- the members of a pod beside its metadata
+-- the members of a pod except its metadata
 abbrev pub pod_members : SetParts → List ℕ → ℕ → Members → Members
 pod_members set name ordinal template = member (codes "spec") (object (pod_spec set name ordinal (part (codes "spec") template))) no_members
 

@@ -55,6 +55,6 @@ set_with set status = record { key = set.object.key; meta = set.object.meta; bod
 abbrev pub differs : SetParts → Data → Bool
 differs set status = option_map_or (λ old. not (same_data status old)) (status_in set) true
 
--- the set with its new status, where that differs from the old one
+-- the set with its new status, if that differs from the old one
 unfoldable pub built_status : SetParts → StatusParts → Option Object
 built_status set s = let status = object (new_status set s (old_status set)) in if differs set status then Some (set_with set status) else None

@@ -1,5 +1,5 @@
--- The parts of a template (Kubernetes API reference, core/v1: PodTemplateSpec, PersistentVolumeClaimTemplate). What is of
--- the wrong type counts as missing.
+-- The parts of a template (Kubernetes API reference, core/v1: PodTemplateSpec, PersistentVolumeClaimTemplate). What is
+-- of the wrong type counts as missing.
 use Rattle.std.specs.Prelude.{ℕ, List, codes, Option, option_map, unwrap_or, if◌then◌else◌}
 use Rattle.serde_json.specs.Data.{Data, object, Members, no_members, member, put}
 use Rattle.objects.specs.declared.object.Object.{Object}
@@ -15,7 +15,7 @@ template_of revision = unwrap_or (choice.template_of revision) no_members
 abbrev pub part : List ℕ → Members → Members
 part k ms = unwrap_or (object_at k ms) no_members
 
--- a part as it stands there, if it is an object
+-- a part as it is there, if it is an object
 abbrev pub part_in : List ℕ → Members → Option Data
 part_in k ms = option_map object (object_at k ms)
 

@@ -1,4 +1,4 @@
--- The volumes of a pod, in which it has its set's claims (Kubernetes API reference, core/v1: Volume,
+-- The volumes of a pod, by which it has its set's claims (Kubernetes API reference, core/v1: Volume,
 -- PersistentVolumeClaimVolumeSource; "StatefulSets": "Stable Storage").
 use Rattle.std.specs.Prelude.{ℕ, ◌==◌, Bool, not, List, ◌++◌, length, map, filter, codes, unwrap_or, if◌then◌else◌}
 use Rattle.std.specs.List.{list_any}
@@ -37,11 +37,11 @@ other_volumes set spec = filter (λ d. not (is_replaced set d)) (list_of (volume
 abbrev pub volumes_with : SetParts → ℕ → List Data → List Data
 volumes_with set ordinal others = map (volume_of set ordinal) set.claims ++ others
 
--- the spec with these volumes, where the set has claim templates; else as it is
+-- the spec with these volumes, if the set has claim templates; else unchanged
 abbrev pub with_others : SetParts → ℕ → List Data → Members → Members
 with_others set ordinal others spec =
     if length set.claims == 0 then spec else put (codes "volumes") (array (items_of (volumes_with set ordinal others))) spec
 
--- the same, where the others are the spec's own
+-- the same, when the others are the spec's own
 abbrev pub with_volumes : SetParts → ℕ → Members → Members
 with_volumes set ordinal spec = with_others set ordinal (other_volumes set spec) spec

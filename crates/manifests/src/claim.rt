@@ -42,7 +42,7 @@ fn selector_of(set: &Set) -> Option<&Members>
         .as_map()
 }
 
-/// The labels by which the set knows its pods.
+/// The labels by which the set recognizes its pods.
 fn match_labels(alloc: Global, set: &Set) -> Result<Members, AllocError>
     ensures { IfOk result (λ labels. labels ≡ match_labels (set_parts set.now)) }
 {
@@ -74,7 +74,7 @@ fn owners_if_any(owners: Items) -> Option<Tree>
     Some(Tree::List(owners))
 }
 
-/// The metadata of a claim, beside its name and namespace, over that of the template.
+/// The metadata of a claim, except its name and namespace, over that of the template.
 fn claim_metadata(
     alloc: Global,
     set: &Set,
@@ -93,7 +93,7 @@ fn claim_metadata(
     labelled.with_some("annotations", part_in(metadata, "annotations")?)
 }
 
-/// The members of a claim beside its metadata.
+/// The members of a claim except its metadata.
 fn claim_members(alloc: Global, template: &Members) -> Result<Members, AllocError>
     ensures { IfOk result (λ ms. ms ≡ claim_members template.now) }
 {
@@ -112,16 +112,16 @@ fn claim_key(alloc: Global, set: &Set, name: &str) -> Result<Key, AllocError>
     ) {
         Ok(key) => Ok(key),
         Err(ReadError::Memory) => Err(AllocError),
-        // The caller knows that the name makes a key, so memory alone can be wanting.
+        // The caller knows that the name makes a key, so only memory can run out.
         Err(_) => unreachable!(),
     }
 }
 
-/// The PersistentVolumeClaim that the claim template of that name makes for the pod of that ordinal, whose own name has at
-/// most 63 bytes, with these owners (Kubernetes, "StatefulSets": "Stable Storage"). It has the template's annotations and spec, and the template's labels
-/// with the `matchLabels` of the set's selector put over them; no labels and no owners are left out. A part of the template
-/// that is of the wrong type counts as missing: `metadata`, `annotations` and `spec` are maps, `labels` and `matchLabels`
-/// maps of texts.
+/// The PersistentVolumeClaim that the claim template of that name makes for the pod of that ordinal, whose own name has
+/// at most 63 bytes, with these owners (Kubernetes, "StatefulSets": "Stable Storage"). It has the template's
+/// annotations and spec, and the template's labels with the `matchLabels` of the set's selector put over them; labels
+/// and owners are left out if there are none. A part of the template that is of the wrong type counts as missing:
+/// `metadata`, `annotations` and `spec` are maps, `labels` and `matchLabels` maps of texts.
 #[tactic(auto, unfolding(crate::specs::BuiltClaim::built_claim))]
 pub fn claim_of(
     alloc: Global,

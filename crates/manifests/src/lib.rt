@@ -1,5 +1,5 @@
-//! The objects that a plan of a StatefulSet writes, beside revisions: the pods and the claims that it creates, and the set
-//! with its new status.
+//! The objects that a plan of a StatefulSet writes, except revisions: the pods and the claims that it creates, and the
+//! set with its new status.
 #![tactic(auto)]
 
 mod claim;

@@ -1,4 +1,4 @@
-// Members of a map, as they are found and put over others.
+// Members of a map: how they are found and put over others.
 ghost use Rattle.std.specs.Prelude.{◌≡◌, ◌<◌, ◌+◌, length, option_map, IfNone, IfOk, IfSome};
 ghost use Rattle.serde_json.specs.Data.{member, no_members};
 ghost use Rattle.objects.specs.Object.{object_at};
@@ -26,7 +26,7 @@ pub(crate) fn part(alloc: Global, members: &Members, key: &str) -> Result<Member
     }
 }
 
-/// A part as it stands there, if it is a map.
+/// A part as it is there, if it is a map.
 pub(crate) fn part_in(members: &Members, key: &str) -> Result<Option<Tree>, AllocError>
     ensures { IfOk result (λ found. option_map data_of found ≡ part_in key.now members.now) }
 {
@@ -44,7 +44,8 @@ struct First<'a> {
     over: &'a [(Text, Tree)],
 }
 
-/// The entry that comes first where the entries `over` are put over the others. Of a key that both have it is that of `over`.
+/// The entry that comes first when the entries `over` are put over the others. Of a key that both have it is that of
+/// `over`.
 fn first_of<'a>(under: &'a [(Text, Tree)], over: &'a [(Text, Tree)]) -> Option<First<'a>>
     requires { AreAscending (members_of over.now) }
     ensures first { IfSome result (λ first. with_all (members_of over.now) (members_of under.now)

@@ -35,7 +35,7 @@ fn pod_labels(
     Ok(all)
 }
 
-/// The metadata of a pod, beside its name and namespace, over that of the template.
+/// The metadata of a pod, except its name and namespace, over that of the template.
 fn pod_metadata(
     alloc: Global,
     template: &PodTemplate<'_>,
@@ -93,7 +93,7 @@ fn pod_spec(
     Ok(whole)
 }
 
-/// The members of a pod beside its metadata.
+/// The members of a pod except its metadata.
 fn pod_members(
     alloc: Global,
     template: &PodTemplate<'_>,
@@ -114,7 +114,7 @@ fn pod_key(alloc: Global, set: &Set, name: &str) -> Result<Key, AllocError>
     match Key::of(alloc, Kind::Pod, set.object.key.namespace.as_str(), name) {
         Ok(key) => Ok(key),
         Err(ReadError::Memory) => Err(AllocError),
-        // The caller knows that the name makes a key, so memory alone can be wanting.
+        // The caller knows that the name makes a key, so only memory can run out.
         Err(_) => unreachable!(),
     }
 }
@@ -145,14 +145,14 @@ fn name_of(set: &Set) -> &str
     set.object.key.name.as_str()
 }
 
-/// The Pod of the set's ordinal, as it is to be created from that template (Kubernetes, "StatefulSets": "Pod Identity").
-/// Over the template's own labels it has `apps.kubernetes.io/pod-index`, `controller-revision-hash` and
+/// The Pod of the set's ordinal, as it is to be created from that template (Kubernetes, "StatefulSets": "Pod
+/// Identity"). Over the template's own labels it has `apps.kubernetes.io/pod-index`, `controller-revision-hash` and
 /// `statefulset.kubernetes.io/pod-name`, and over the template's own spec the pod's name as `hostname` and the set's
-/// service, if it has one, as `subdomain`; the set is its one owner. Where the set has claim templates, its `volumes` are
+/// service, if it has one, as `subdomain`; the set is its one owner. If the set has claim templates, its `volumes` are
 /// one for each of them, stored in the claim of that template and the ordinal, and then the template's own of other
 /// names ("Stable Storage").
 ///
-/// It is NameTooLong where the name, which is a hostname and the value of a label, has more than 63 bytes.
+/// It is NameTooLong if the name, which is a hostname and the value of a label, has more than 63 bytes.
 #[tactic(auto, unfolding(crate::specs::BuiltPod::built_pod))]
 pub fn pod_of(alloc: Global, template: &PodTemplate<'_>, ordinal: u32) -> Result<Object, PlanError>
     ensures { Gives (λ pod. pod) result (built_pod (set_parts template.now.set.now) template.now.revision.now ordinal) }

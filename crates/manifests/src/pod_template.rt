@@ -15,7 +15,7 @@ use revisions::{RevisionView, owned_metadata};
 use set_views::Set;
 use std::alloc::Global;
 
-/// What the pods of a set from one revision have in common. It is made once, so that a pod costs no more than what it has.
+/// What the pods of a set from one revision have in common. It is made once, so that each pod costs only its own parts.
 #[derive(Drop)]
 pub struct PodTemplate<'a> {
     pub set: &'a Set,
@@ -36,8 +36,8 @@ pub struct PodTemplate<'a> {
 }
 
 impl<'a> PodTemplate<'a> {
-    /// What the set's pods from that revision have in common. A part of its template that is of the wrong type counts as
-    /// missing: `metadata`, `annotations` and `spec` are maps, `labels` is a map of texts, and `volumes` a list.
+    /// What the set's pods from that revision have in common. A part of its template that is of the wrong type counts
+    /// as missing: `metadata`, `annotations` and `spec` are maps, `labels` is a map of texts, and `volumes` a list.
     pub fn of(
         alloc: Global,
         set: &'a Set,

@@ -9,8 +9,8 @@ use objects::{Members, Object, Tree};
 use set_views::Set;
 use std::alloc::{AllocError, Global};
 
-/// What a plan counts and names for a StatefulSet's `status`, each field under its name there (Kubernetes API reference,
-/// apps/v1, StatefulSetStatus).
+/// What a plan counts and names for a StatefulSet's `status`, each field under its name there (Kubernetes API
+/// reference, apps/v1, StatefulSetStatus).
 #[derive(Clone, Copy)]
 pub struct Status<'a> {
     pub replicas: usize,
@@ -19,7 +19,7 @@ pub struct Status<'a> {
     pub updated_replicas: usize,
     /// The name of the ControllerRevision that the set's pods come from.
     pub current_revision: &'a str,
-    /// The name of the one that they are to come to.
+    /// The name of the one that they are to get.
     pub update_revision: &'a str,
 }
 
@@ -76,7 +76,7 @@ fn differs(set: &Set, status: &Tree) -> bool
     }
 }
 
-/// The set with its new status, where that differs from the status that it has; else none. The set's generation is put
+/// The set with its new status, if that differs from the status that it has; else none. The set's generation is put
 /// over the old status as `observedGeneration`, its collision count as `collisionCount`, and what was counted and named
 /// under its own names. Other members of the old status stay. A status that is no map counts as missing.
 #[tactic(auto, unfolding(crate::specs::BuiltStatus::built_status))]

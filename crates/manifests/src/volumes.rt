@@ -1,4 +1,4 @@
-// The volumes of a pod, in which it has its set's claims.
+// The volumes of a pod, by which it has its set's claims.
 ghost use Rattle.std.specs.Prelude.{◌≡◌, ℕ, List, bytes_eq, codes, map, filter, not, option_and_then, option_map, IfOk};
 ghost use Rattle.std.specs.List.{list_any};
 ghost use Rattle.serde_json.specs.Data.{Members as DataMembers};
@@ -101,7 +101,7 @@ fn list_at<'a>(members: &'a Members, key: &str) -> Option<&'a Items>
     members.get(key)?.as_list()
 }
 
-/// The volumes of a pod's spec. What is no list counts as missing.
+/// The volumes of a pod's spec. A value that is no list counts as missing.
 fn volumes_in(spec: &Members) -> &[Tree]
     ensures { items_of result.now ≡ volumes_in spec.now }
 {
@@ -138,7 +138,7 @@ fn volumes_with(
     Ok(volumes)
 }
 
-/// The spec of a pod with the volumes of its set's claims, where the set has claim templates: one for each of them, in
+/// The spec of a pod with the volumes of its set's claims, if the set has claim templates: one for each of them, in
 /// order, and then these, which are the template's own of other names.
 pub(crate) fn with_others(
     alloc: Global,

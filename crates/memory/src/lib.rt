@@ -1,4 +1,4 @@
-//! Want of memory, which every call that takes memory may answer, as one type for all crates.
+//! The error of a refused allocation, as one type for all crates. Every call that allocates may return it.
 #![tactic(auto)]
 
 ghost use Rattle.std.specs.Prelude.{⊤};

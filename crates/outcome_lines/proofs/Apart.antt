@@ -1,4 +1,4 @@
--- Of texts each is told once, by its first place.
+-- Each of the texts has one line, with the index of the first.
 use Rattle.std.proofs.Common.{◌≡◌, ◌≢◌, ◌<◌, ◌+◌, ◌⊎◌, inl, inr, ℕ, zero, suc, Bool, true, false, List, [], ◌∷◌, map, Some, bytes_eq, refl, sym, ap, subst, ◌∙◌, arith, if◌then◌else◌}
 use Rattle.std.specs.Prelude.{slice_index_or, unwrap_or}
 use Rattle.std.specs.List.{All, AllPairs, Contains, slice_get}
@@ -8,7 +8,7 @@ use Rattle.std.proofs.lemmas.List.Kept.{AllPairs-cons}
 use Rattle.std.proofs.lemmas.Slice.Eq.{bytes_eq-Decides}
 use Rattle.outcome_lines.specs.Brief.{AreToldOnce, IsFirst, Numbered, firsts, is_among}
 
--- what a line is of the texts behind earlier ones, where places are counted from n on
+-- what a line is for the texts after earlier ones, numbered from n on
 record IsFrom (earlier : List (List ℕ)) (n : ℕ) (texts : List (List ℕ)) (line : Numbered) : Type 0 where
   index : ℕ
   number : line.number ≡ n + index
@@ -20,7 +20,7 @@ apart : (t u : List ℕ) → bytes_eq t u ≡ false → t ≢ u
 apart t u is e = let same : bytes_eq t u ≡ true = (bytes_eq-Decides t u).1 e in absurd cc
 
 module _ (earlier : List (List ℕ)) (n : ℕ) (t : List ℕ) (ts : List (List ℕ)) where
-  -- a line of the texts behind t
+  -- a line of the texts after t
   later : (line : Numbered) → IsFrom (t ∷ earlier) (n + 1) ts line → IsFrom earlier n (t ∷ ts) line
   later line from =
       let new = or_parts (bytes_eq t line.text) (is_among earlier line.text) from.new in
@@ -39,7 +39,7 @@ module _ (earlier : List (List ℕ)) (n : ℕ) (t : List ℕ) (ts : List (List �
   own : is_among earlier t ≡ false → IsFrom earlier n (t ∷ ts) (record { number = n; text = t })
   own new = record { index = 0; number = omega arith; is = refl; first = λ j small. absurd (omega (arith, small)); new = new }
 
--- the lines of a text and of those behind it, by whether it is among the earlier ones
+-- the lines of a text and of those after it, depending on whether it is among the earlier ones
 abbrev lines_by : (earlier : List (List ℕ)) → (n : ℕ) → (t : List ℕ) → (ts : List (List ℕ)) → Bool → List Numbered
 lines_by earlier n t ts b = if b then firsts (t ∷ earlier) (n + 1) ts else record { number = n; text = t } ∷ firsts (t ∷ earlier) (n + 1) ts
 

@@ -1,10 +1,10 @@
--- How a list of texts is told, text by text.
+-- The lines of a list of texts, text by text.
 use Rattle.std.proofs.Common.{◌≡◌, ◌≤◌, ◌<◌, ◌+◌, ◌++◌, ◌||◌, ℕ, Bool, true, false, cond, not, List, [], ◌∷◌, length, drop, get_or, map, suc, add-one, refl, sym, ap, ◌∙◌, bytes_eq, append_assoc, arith, if◌then◌else◌}
 use Rattle.std.proofs.Math.Seq.{drop-cons}
 use Rattle.std.proofs.lemmas.List.{drop-map}
 use Rattle.outcome_lines.specs.Brief.{Numbered, brief_line, brief_lines, firsts, is_among}
 
--- what is told of the texts before the place, and what is left to tell make the whole
+-- the lines of the texts before the index and the rest are together all lines
 pub record AreTold (texts : List (List ℕ)) (at : ℕ) (knows : List ℕ → Bool) (out : List ℕ) (count : ℕ) : Type 0 where
   pub before : List (List ℕ)
   pub known : (t : List ℕ) → knows t ≡ is_among before t
@@ -20,7 +20,7 @@ or_else false c = refl
 abbrev pub put_by : (new : Bool) → (number : ℕ) → (text : List ℕ) → List ℕ
 put_by new n t = if new then brief_line n t else []
 
--- by how much the number of those told grows
+-- by how much the number of lines grows
 abbrev pub count_by : Bool → ℕ
 count_by new = if new then 1 else 0
 
@@ -28,7 +28,7 @@ at_most_one : (new : Bool) → count_by new ≤ 1
 at_most_one true = omega arith
 at_most_one false = omega arith
 
--- what is told of one text and of those behind it
+-- the lines of one text and of those after it
 record IsNext (before : List (List ℕ)) (n : ℕ) (t : List ℕ) (ts : List (List ℕ)) (new : Bool) : Type 0 where
   lines : put_by new n t ++ brief_lines (firsts (t ∷ before) (n + 1) ts) ≡ brief_lines (firsts before n (t ∷ ts))
   number : count_by new + length (firsts (t ∷ before) (n + 1) ts) ≡ length (firsts before n (t ∷ ts))
@@ -76,7 +76,7 @@ next_told texts at knows out count h t is after more new e out2 put count2 adds 
       few = let small = at_most_one new in omega (arith, adds, small, h.few);
     }
 
--- the text of the element at a place, and those of the elements behind it
+-- the text of the element at an index, and those of the elements after it
 pub placed : {X : Type 0} (f : X → List ℕ) (xs : List X) (at : ℕ) (x : X) → at < length xs → x ≡ get_or xs at x → drop at (map f xs) ≡ f x ∷ drop (at + 1) (map f xs)
 placed f xs at x inside is =
     drop-map f at xs

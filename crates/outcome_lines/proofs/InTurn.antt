@@ -1,4 +1,4 @@
--- Callers of a litmus test that is read ask nothing behind a crash, so its outcomes happen.
+-- Callers of a litmus test that is read send nothing after a crash, so its outcomes happen.
 use Rattle.std.proofs.Common.{◌≡◌, ◌≢◌, ◌⊎◌, ◌<◌, inl, inr, ℕ, Bool, true, false, not, ◌==◌, ◌&&◌, List, [], ◌∷◌, ◌++◌, Option, Some, None, Result, Ok, Err, map, codes, refl, sym, ap, subst, ◌∙◌}
 use Rattle.std.specs.Prelude.{IfOk, is_some, option_map, unwrap_or, ⊤, if◌then◌else◌}
 use Rattle.std.proofs.lemmas.Bool.{or_parts}
@@ -20,17 +20,17 @@ use Rattle.outcome_lines.specs.declared.line.Line.{Line}
 use Rattle.outcome_lines.specs.declared.line.Line.TheVariants.{Before, Race}
 use Rattle.outcome_lines.proofs.Telling.{told_other, told_own}
 
--- none of the asks is the caller's
+-- none of the requests is the caller's
 abbrev AreOthers : (caller : ℕ) → List Ask → Type 0
 AreOthers c [] = ⊤
 AreOthers c (a ∷ asks) = (a.caller ≢ c) × AreOthers c asks
 
--- behind one that crashes none is its caller's
+-- after one that crashes none is its caller's
 abbrev Stop : List Ask → Type 0
 Stop [] = ⊤
 Stop (a ∷ asks) = (a.crashes ≡ true → AreOthers a.caller asks) × Stop asks
 
--- ---- so callers go on in turn
+-- ---- so callers send their requests in turn
 nothing_told : (c : ℕ) (asks : List Ask) → AreOthers c asks → (rs : List (Option Reply)) → told asks rs c ≡ []
 nothing_told c [] others rs = refl
 nothing_told c (a ∷ asks) others [] = refl
@@ -116,7 +116,7 @@ by_lines (first ∷ rest) q is =
     let members = gave (line_members first) (λ ms. option_map (λ c. record { capacity = c; beginning = []; asks = [] }) (count_in (codes "capacity") ms)) opening.value opening.first in
     lines_stop rest opening.value q opening.next (opened_empty (count_in (codes "capacity") members.value) opening.value members.next)
 
--- what is read asks in turn
+-- in what is read, callers send their requests in turn
 pub asks_in_turn : (text : List ℕ) (q : Parts) → litmus_of text ≡ Some q → AskInTurn q.asks
 unfolding litmus_of
 asks_in_turn text q is = in_turn q.asks (by_lines (lines text) q is)

@@ -79,7 +79,7 @@ turns_end c looks (t ∷ turns) is = go (or_cases (are_looks c looks (t ∷ turn
     go (inl e) rest = ([], looks_equal c looks (t ∷ turns) e)
     go (inr e) rest = let ends = rest e in (t ∷ ends.0, ap (λ xs. t ∷ xs) ends.1)
 
--- ---- what is told last
+-- ---- the last replies
 told_equal : (x : Option Reply) (s : Reply) → is_told x s ≡ true → x ≡ Some s
 told_equal None s is = cc
 told_equal (Some y) s is = ap Some (replies_equal y s is)

@@ -1,4 +1,4 @@
--- Lines of stores: the version that one says, and lines that are told once.
+-- Lines of stores: the version in one, and lines that are there once.
 use Rattle.std.proofs.Common.{◌≡◌, ◌∙◌, ◌++◌, ◌||◌, ℕ, Bool, true, false, List, [], ◌∷◌, length, suc, refl, sym, ap, bytes_eq, codes, decimal, if◌then◌else◌}
 use Rattle.std.specs.Global.{Vec}
 use Rattle.controller_outcomes.specs.declared.race.FinalStore.{FinalStore}
@@ -25,7 +25,7 @@ lists_length : (keys : List (Vec ℕ)) → length (lists_in keys) ≡ length key
 lists_length [] = refl
 lists_length (k ∷ keys) = ap suc (lists_length keys)
 
--- what keys hold is told, and how many there are
+-- the lines are what the keys hold, and the count is how many there are
 brief_is : (keys : List (Vec ℕ)) (found : List FinalStore) → lists_in keys ≡ with_stores [] found → joined (lists_in keys) ++ count_line (length keys) ≡ stores_brief_text found
 brief_is keys found e = ap (λ n. joined (lists_in keys) ++ count_line n) (sym (lists_length keys)) ∙ ap (λ ls. joined ls ++ count_line (length ls)) e
 

@@ -1,4 +1,5 @@
--- What callers ask and are told, from the first item of a run on, and from the first ask of a litmus test on.
+-- The requests of callers and their replies, from the first item of a run on, and from the first request of a litmus
+-- test on.
 use Rattle.std.proofs.Common.{◌≡◌, ◌≢◌, ◌⊎◌, inl, inr, ℕ, true, false, ◌==◌, ◌&&◌, ◌||◌, cond, List, [], ◌∷◌, Option, Some, None, nat_eq, ne_eqb, refl, sym, ap, subst, ◌∙◌}
 use Rattle.std.specs.Prelude.{MatchBool, nat_lt, is_some, if◌then◌else◌}
 use Rattle.std.specs.List.{list_all}
@@ -28,7 +29,7 @@ use Rattle.outcome_lines.proofs.Sameness.{requests_equal}
 false-true : false ≡ true → ⊥
 false-true is = subst (λ b. MatchBool b ⊥ (Unit {0})) is tt
 
--- ---- one item, or one ask
+-- ---- one item, or one request
 pub call_own : (c p d : ℕ) (r : Request) (items : List Item) → d ≡ c
     → exchanges_by c (item.Call p d r ∷ items) ≡ record { request = r; reply = reply_to c items } ∷ exchanges_by c items
 call_own c p d r items e =
@@ -149,7 +150,7 @@ told_not : (a : Ask) (asks : List Ask) (c : ℕ) (rs : List (Option Reply)) → 
 told_not a asks c [] is none = refl
 told_not a asks c (r ∷ rs) is none = ap (λ b. cond b (record { request = a.request; reply = r } ∷ told asks rs c) (told asks rs c)) is ∙ none rs
 
--- a caller is told what it has to be, or is none of those that ask
+-- a caller sends and gets what it should, or is none of the test's
 asker_told : (askers asks : List Ask) (replies : List (Option Reply)) (items : List Item) (c : ℕ) → TellsAskers askers asks replies items
     → (exchanges_by c items ≡ told asks replies c) ⊎ ((rs : List (Option Reply)) → told askers rs c ≡ [])
 asker_told [] asks replies items c tells = inr (λ rs. refl)
@@ -175,7 +176,7 @@ caller_told b (item.Call p d r ∷ calls) asks replies items c apart tells = go 
     go (other ne t) (inr none) =
         inr (ap (λ x. cond x (record { request = r; reply = reply_to c calls } ∷ exchanges_by c calls) (exchanges_by c calls)) t ∙ none)
 
--- so each caller but the beginner is told what it has to be
+-- so each caller except the beginner sends and gets what it should
 all_told : (l : Litmus) (replies : List (Option Reply)) (b : ℕ) (items : List Item) → AreShown l replies b items → (c : ℕ) → c ≢ b
     → exchanges_by c items ≡ told l.asks.items replies c
 all_told l replies b items h c apart = go (asker_told l.asks.items l.asks.items replies items c h.askers) (caller_told b items l.asks.items replies items c apart h.callers)

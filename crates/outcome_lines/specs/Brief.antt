@@ -1,6 +1,6 @@
--- Outcomes in words, as `1: caller 1: create Pod/default/a: Created; caller 2: create Pod/default/a: AlreadyExists`: what each
--- caller asks, as a picture says it, and what it is answered, without the objects and their versions. Those that are told alike
--- have one line, with the number of the first. Last it is said how many lines there are, and how many outcomes.
+-- Outcomes in words, as `1: caller 1: create Pod/default/a: Created; caller 2: create Pod/default/a: AlreadyExists`:
+-- each caller's request, as in a picture, and its reply, without the objects and their versions. Those with the same
+-- text have one line, with the number of the first. The last line says how many lines there are, and how many outcomes.
 use Rattle.std.specs.Prelude.{◌≡◌, ◌≢◌, ◌<◌, ℕ, Bool, ◌+◌, ◌==◌, List, [], ◌∷◌, ◌++◌, length, map, bytes_eq, codes, decimal, Option, Some, None, if◌then◌else◌}
 use Rattle.std.specs.List.{All, AllPairs, Contains, list_any, slice_get}
 use Rattle.objects.specs.declared.object.Object.{Object}
@@ -44,7 +44,7 @@ told_words (Some reply) = answer_words reply
 abbrev pub exchange_words : Ask → Option Reply → List ℕ
 exchange_words a reply = (codes "caller " ++ (decimal a.caller ++ codes ": ")) ++ (request_words a.request ++ (codes ": " ++ told_words reply))
 
--- one for each ask, with this text before the first and a semicolon before each other
+-- one for each request of a caller, with this text before the first and a semicolon before each other
 abbrev pub exchanges_words : (lead : List ℕ) → List Ask → List (Option Reply) → List ℕ
 exchanges_words lead [] replies = []
 exchanges_words lead (a ∷ asks) [] = []
@@ -53,9 +53,9 @@ exchanges_words lead (a ∷ asks) (r ∷ replies) = (lead ++ exchange_words a r)
 abbrev pub outcome_words : Litmus → Outcome → List ℕ
 outcome_words l o = exchanges_words (codes " ") l.asks.items o.replies.items
 
--- ---- texts, each told once
+-- ---- texts, each once
 
--- a text, with the number of its place
+-- a text, with its number
 pub record Numbered : Type 0 where
   pub number : ℕ
   pub text : List ℕ
@@ -64,7 +64,7 @@ pub record Numbered : Type 0 where
 abbrev pub is_among : (texts : List (List ℕ)) → (text : List ℕ) → Bool
 is_among texts text = list_any (λ t. bytes_eq t text) texts
 
--- those of the texts that are none of the earlier ones, where their places are counted from this number on
+-- the texts that are none of the earlier ones, each with its number, counted from this one on
 abbrev pub firsts : (earlier : List (List ℕ)) → (number : ℕ) → (texts : List (List ℕ)) → List Numbered
 firsts earlier n [] = []
 firsts earlier n (t ∷ ts) =
@@ -79,7 +79,7 @@ abbrev pub brief_lines : List Numbered → List ℕ
 brief_lines [] = []
 brief_lines (t ∷ ts) = brief_line t.number t.text ++ brief_lines ts
 
--- those that are told differently, by the numbers of the first of each
+-- those with different texts, by the numbers of the first of each
 abbrev pub told_apart : Litmus → List Outcome → List Numbered
 told_apart l found = firsts [] 1 (map (outcome_words l) found)
 
@@ -94,16 +94,16 @@ brief_count apart all = counted apart ++ (codes ", " ++ (decimal all ++ codes " 
 abbrev pub outcomes_brief_text : Litmus → List Outcome → List ℕ
 outcomes_brief_text l found = let apart = told_apart l found in brief_lines apart ++ brief_count (length apart) (length found)
 
--- ---- what the lines come to
+-- ---- what the lines are
 
--- the text is that of this place, counted from 1, and of none before
+-- the text is the one at this index, numbered from 1, and none before is the same
 pub record IsFirst (texts : List (List ℕ)) (line : Numbered) : Type 0 where
   pub index : ℕ
   pub number : line.number ≡ index + 1
   pub is : slice_get texts index ≡ Some line.text
   pub first : (earlier : ℕ) → earlier < index → slice_get texts earlier ≢ Some line.text
 
--- each text is told, and none twice
+-- each text has a line, and none two
 pub record AreToldOnce (texts : List (List ℕ)) (lines : List Numbered) : Type 0 where
   pub each : All (IsFirst texts) lines
   pub all : (text : List ℕ) → Contains texts text → Contains (map (λ (line : Numbered). line.text) lines) text

@@ -1,4 +1,4 @@
--- ---- what public clauses cite
+-- ---- cited by public clauses
 pub mod Brief
 pub mod Litmus
 pub mod Looks
@@ -7,6 +7,6 @@ pub mod Race
 pub mod Scripting
 pub mod StoreScripts
 pub mod Stores
--- ---- what only private clauses cite
+-- ---- cited only by private clauses
 pub mod Same
 pub mod Shown

@@ -1,4 +1,5 @@
--- What is looked at where a race has ended: a list of each kind in each namespace that the race names. Nothing is created elsewhere.
+-- What is looked at after a race: a list of each kind in each namespace that the race names. Nothing is created
+-- elsewhere.
 use Rattle.std.specs.Prelude.{ℕ, List, [], ◌∷◌, ◌++◌, map}
 use Rattle.std.specs.BTreeSet.{insert_key}
 use Rattle.std.specs.Cmp.Lexicographic.{slice_cmp}
@@ -11,7 +12,7 @@ use Rattle.controller_outcomes.specs.declared.race.Racer.{Racer}
 
 -- ---- namespaces, each once
 
--- the name goes to its place in byte order, unless it is there
+-- the name is put in byte order, unless it is there
 abbrev pub with_name : (names : List (List ℕ)) → List ℕ → List (List ℕ)
 with_name names name = insert_key (slice_cmp nat_cmp) names name
 

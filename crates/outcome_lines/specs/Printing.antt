@@ -11,7 +11,7 @@ use Rattle.outcomes.specs.declared.litmus.Ask.{Ask}
 use Rattle.outcomes.specs.declared.litmus.Litmus.{Litmus}
 use Rattle.outcomes.specs.declared.outcome.Outcome.{Outcome}
 
--- null to a request within which its caller crashes
+-- null for a request within which its caller crashes
 abbrev pub told_data : Option Reply → Data
 told_data None = null
 told_data (Some reply) = reply_data reply
@@ -20,13 +20,13 @@ told_data (Some reply) = reply_data reply
 abbrev pub answer_data : (caller : ℕ) → Option Reply → Data
 answer_data caller reply = object (member (codes "caller") (number (unsigned caller)) (member (codes "reply") (told_data reply) no_members))
 
--- one for each ask
+-- one for each request of a caller
 abbrev pub answers : List Ask → List (Option Reply) → Items
 answers [] replies = no_items
 answers (a ∷ asks) [] = no_items
 answers (a ∷ asks) (r ∷ replies) = item (answer_data a.caller r) (answers asks replies)
 
--- asks by the indices of their lines, behind so many of the beginning
+-- requests of callers by the indices of their lines, after so many of the beginning
 abbrev pub line_indices : (before : ℕ) → (order : List ℕ) → List ℕ
 line_indices before order = map (λ i. before + i) order
 

@@ -1,5 +1,5 @@
--- The race of controllers that a text is: its first line has the capacity of the store, and each other line is a request before
--- anybody races, or a controller that races.
+-- The race of controllers in a text: its first line has the capacity of the store, and each other line is a request of
+-- the beginning, or a racing controller.
 use Rattle.std.specs.Prelude.{ℕ, Bool, true, false, is_some, List, [], ◌∷◌, ◌++◌, codes, map, Option, Some, None, option_map, if◌then◌else◌}
 use Rattle.serde_json.specs.Data.{Members}
 use Rattle.serde_json.specs.Find.{get_member}
@@ -15,7 +15,7 @@ use Rattle.outcome_lines.specs.declared.race_line.RaceLine.{RaceLine}
 use Rattle.outcome_lines.specs.declared.race_line.RaceLine.TheVariants as line
 use Rattle.outcome_lines.specs.Litmus.{crash_in, line_in}
 
--- what a `Racer` says
+-- what a `Racer` has
 pub record RacerParts : Type 0 where
   pub set : SetParts
   pub rounds : ℕ
@@ -35,7 +35,7 @@ race_parts r = record { capacity = r.capacity; beginning = r.beginning.items; ra
 
 -- ---- one line
 
--- a request before anybody races, or a controller that races
+-- a request of the beginning, or a racing controller
 pub data LineParts : Type 0 where
   Begins : Request → LineParts
   Races : RacerParts → LineParts
@@ -44,8 +44,8 @@ abbrev pub line_parts : RaceLine → LineParts
 line_parts (line.Before request) = Begins request
 line_parts (line.Controller racer) = Races (racer_parts racer)
 
--- `{"controller":{"digits":H,"moment":T,"name":N,"namespace":S},"crash":B,"rounds":R}`, the set as a script of a cluster has it;
--- nothing says that it does not crash
+-- `{"controller":{"digits":H,"moment":T,"name":N,"namespace":S},"crash":B,"rounds":R}`, the set as a script of a
+-- cluster has it; by default it does not crash
 abbrev pub racer_in : Members → Option RacerParts
 racer_in ms = do
   rounds ← count_in (codes "rounds") ms
@@ -54,12 +54,12 @@ racer_in ms = do
   set ← set_of controller
   Some (record { set = set; rounds = rounds; may_crash = may_crash })
 
--- nobody races but controllers
+-- only controllers race
 abbrev pub begun_by : Line → Option LineParts
 begun_by (Before request) = Some (Begins request)
 begun_by (Asks ask) = None
 
--- a request as a litmus test has it before anybody races
+-- a request as a litmus test has it in its beginning
 abbrev pub begun_in : Members → Option LineParts
 begun_in ms = line_in ms >>= begun_by
 
@@ -75,16 +75,16 @@ abbrev pub with_begun : (racers : List RacerParts) → RaceParts → Request →
 with_begun [] p request = Some (record p { beginning = p.beginning ++ request ∷ [] })
 with_begun (r ∷ racers) p request = None
 
--- the same controller, started again
+-- the same controller, restarted
 abbrev pub heir_of : RacerParts → RacerParts
 heir_of r = record { set = r.set; rounds = 0; may_crash = false }
 
--- Behind one that may crash stands the one that takes over.
+-- One that may crash is followed by the one that takes over.
 abbrev pub heirs_of : (may_crash : Bool) → RacerParts → List RacerParts
 heirs_of true r = heir_of r ∷ []
 heirs_of false r = []
 
--- The beginning stands before all controllers.
+-- The beginning comes before all controllers.
 abbrev pub with_race_line : RaceParts → LineParts → Option RaceParts
 with_race_line p (Begins request) = with_begun p.racers p request
 with_race_line p (Races racer) = Some (record p { racers = (p.racers ++ racer ∷ []) ++ heirs_of racer.may_crash racer })

@@ -1,4 +1,4 @@
--- Requests that ask the same: the same verb, of objects, keys, texts and numbers that are the same.
+-- Requests that are the same: the same verb, with the same objects, keys, texts and numbers.
 use Rattle.std.specs.Prelude.{Bool, false, ◌==◌, ◌&&◌, bytes_eq}
 use Rattle.std.specs.Ordering.{eq_by_cmp}
 use Rattle.objects.specs.declared.object.Draft.{Draft}
@@ -13,7 +13,7 @@ same_key k l = eq_by_cmp key_cmp k l
 abbrev pub same_draft : Draft → Draft → Bool
 same_draft d e = same_object d.object e.object && same_time d.uid e.uid && same_time d.version e.version
 
--- of requests that hand in no object; else they are not
+-- for requests without an object; others are not the same
 abbrev pub same_plain : Request → Request → Bool
 same_plain (request.Get k) (request.Get l) = same_key k l
 same_plain (request.List kind namespace exact) (request.List kind2 namespace2 exact2) =

@@ -18,9 +18,9 @@ use Rattle.replay_lines.specs.declared.fault.ScriptError.TheVariants as script
 use Rattle.outcome_lines.specs.declared.fault.ScriptingError.{ScriptingError}
 use Rattle.outcome_lines.specs.declared.fault.ScriptingError.TheVariants.{Memory, NoScript}
 
--- The text is a script over a store of the capacity of the litmus test. In the run of its events one caller, which the test does
--- not name, asks the beginning and is answered, and then each other caller asks just what it asks in the test, and is told just
--- these replies.
+-- The text is a script over a store of the capacity of the litmus test. In the run of its events one caller, which the
+-- test does not name, sends the beginning and gets its replies, and then each other caller sends exactly what it sends
+-- in the test, and gets exactly these replies.
 pub record ShowsOutcome (litmus : Litmus) (replies : List (Option Reply)) (text : List ℕ) : Type 0 where
   pub size : Size
   pub capacity : size.capacity ≡ litmus.capacity
@@ -31,20 +31,20 @@ pub record ShowsOutcome (litmus : Litmus) (replies : List (Option Reply)) (text 
 
 -- ---- for private clauses
 
--- each reply to the caller comes before the place
+-- each reply to the caller comes before the index
 abbrev pub EndsBefore : (caller place : ℕ) → List Item → Type 0
 EndsBefore c place items = (at : ℕ) (reply : Reply) → Has (item.Reply at c reply) items → at < place
 
--- so do they before each call of anybody else, of those that stand in the first list
+-- and before each call of another caller in the first list
 abbrev pub GoesFirst : (caller : ℕ) → (calls items : List Item) → Type 0
 GoesFirst c calls items = (place caller : ℕ) (request : Request) → Has (item.Call place caller request) calls → caller ≢ c → EndsBefore c place items
 
--- the callers of the asks of the first list are told just what they have to be
+-- the callers of the first list's requests send and get exactly what they should
 abbrev pub TellsAskers : (askers asks : List Ask) → List (Option Reply) → List Item → Type 0
 TellsAskers [] asks replies items = ⊤
 TellsAskers (a ∷ others) asks replies items = (exchanges_by a.caller items ≡ told asks replies a.caller) × TellsAskers others asks replies items
 
--- and so are all but the beginner that call in the first list
+-- and so do all callers of the first list except the beginner
 abbrev pub TellsCallers : (beginner : ℕ) → (calls : List Item) → List Ask → List (Option Reply) → List Item → Type 0
 TellsCallers b [] asks replies items = ⊤
 TellsCallers b (item.Call place caller request ∷ calls) asks replies items =

@@ -1,4 +1,4 @@
--- The script of `stsctl cluster` that leads to a store in which a race may end.
+-- The script of `stsctl cluster` that leads to a store that a race can leave.
 use Rattle.std.specs.Prelude.{◌≡◌, ℕ, Bool, true, false, ◌==◌, ◌&&◌, ◌||◌, bytes_eq, List, [], ◌∷◌, ◌++◌, length, map, Option, Some, None}
 use Rattle.requests.specs.declared.reply.Reply.{Reply}
 use Rattle.requests.specs.declared.request.Request.{Request}
@@ -24,22 +24,22 @@ use Rattle.outcome_lines.specs.Same.{same_request}
 use Rattle.outcome_lines.specs.declared.fault.ScriptingError.{ScriptingError}
 use Rattle.outcome_lines.specs.declared.fault.ScriptingError.TheVariants.{Memory, NoScript}
 
--- a caller asks the looks, one after another
+-- a caller sends the looks, one after another
 abbrev pub asks_of : (caller : ℕ) → (looks : List Request) → List Turn
 asks_of caller looks = map (turn.Ask caller) looks
 
--- each look is answered so
+-- each look gets this reply
 abbrev pub answered_by : (looks : List Request) → (shown : List Reply) → List Exchange
 answered_by [] shown = []
 answered_by (l ∷ looks) [] = []
 answered_by (l ∷ looks) (s ∷ shown) = record { request = l; reply = Some s } ∷ answered_by looks shown
 
--- the events that the turns of the script stand for
+-- the events of the turns of the script
 abbrev pub events_by : ClusterScript → List ClusterEvent
 events_by script = events_of_turns (size_of script.spec) (length script.spec.sets.items) (reconciler_named script.spec.sets.items) (namespaces_of script.spec.sets.items) script.turns.items
 
--- The script is of a store of the race's capacity, and of controllers of its sets. It ends with the looks of a caller, and what that is
--- told last in its run is what the store shows.
+-- The script is of a store of the race's capacity, and of controllers of its sets. It ends with the looks of a caller,
+-- and the last replies to that caller in its run are what the store shows.
 pub record LeadsTo (race : Race) (shown : List Reply) (script : ClusterScript) : Type 0 where
   pub capacity : script.spec.capacity ≡ race.capacity
   pub sets : map set_parts script.spec.sets.items ≡ map set_parts (sets_of race)
@@ -52,7 +52,7 @@ pub record LeadsTo (race : Race) (shown : List Reply) (script : ClusterScript) :
   pub told : exchanges_by looker found.run.trace.items.items ≡ before ++ answered_by race.looks.items shown
   pub many : length race.looks.items ≡ length shown
 
--- so does the script that the text is
+-- so does the script in the text
 pub record ShowsStore (race : Race) (shown : List Reply) (text : List ℕ) : Type 0 where
   pub script : ClusterScript
   pub read : cluster_script_of text ≡ Some (parts_of script)

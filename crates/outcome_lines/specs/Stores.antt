@@ -1,5 +1,5 @@
--- What `stsctl outcomes --final` prints: a line for each store in which a race may end, and last how many there are. All are compact
--- JSON with keys in byte order.
+-- What `stsctl outcomes --final` prints: a line for each store that a race can leave, and last how many there are. All
+-- are compact JSON with keys in byte order.
 use Rattle.std.specs.Prelude.{ℕ, Bool, true, false, List, [], ◌∷◌, ◌++◌, length, map, bytes_eq, codes, if◌then◌else◌}
 use Rattle.std.specs.List.{list_any}
 use Rattle.serde_json.specs.Data.{Data, number, unsigned, array, Items, no_items, item, object, no_members, member}
@@ -41,7 +41,7 @@ revision_of (Removed o) = 0
 revision_of (Compacted revision) = 0
 revision_of (Refused reason) = 0
 
--- That of the first list: all are of one store. Where nothing is looked at, nothing was created.
+-- That of the first list: all are of one store. If nothing is looked at, nothing was created.
 abbrev pub revision_in : List Reply → ℕ
 revision_in [] = 0
 revision_in (r ∷ replies) = revision_of r
@@ -89,7 +89,7 @@ stores_text found = text_lines (map data_of_store found) ++ count_line (length f
 abbrev pub bare_line : List Reply → List ℕ
 bare_line shown = compact_text (bare_store_data shown) ++ 10 ∷ []
 
--- the line goes last, unless it is there
+-- the line is appended, unless it is there
 abbrev pub with_line : (lines : List (List ℕ)) → List ℕ → List (List ℕ)
 with_line lines line = if list_any (bytes_eq line) lines then lines else lines ++ line ∷ []
 

@@ -9,10 +9,11 @@ use std::alloc::{AllocError, Global};
 use std::collections::HashSet;
 
 /// The outcomes of a litmus test as lines for a person, without the objects of replies and their versions, as
-/// `1: caller 1: create Pod/default/a: Created; caller 2: create Pod/default/a: AlreadyExists`. Callers and what they ask stand in
-/// the order of the test's lines, `no reply` where one crashes, and of a list the names. Outcomes that are told alike are one
-/// line: its number, from 1, is that of the first of them among the lines of [`outcomes_text`](crate::outcomes_text), so not
-/// each number stands there. The last line says how many there are, as `3 outcomes, 120 with their versions`.
+/// `1: caller 1: create Pod/default/a: Created; caller 2: create Pod/default/a: AlreadyExists`. Callers and their
+/// requests are in the order of the test's lines, with `no reply` if one crashes, and for a list the names. Outcomes
+/// with the same text are one line: its number, from 1, is that of the first of them among the lines of
+/// [`outcomes_text`](crate::outcomes_text), so some numbers are missing. The last line says how many there are, as
+/// `3 outcomes, 120 with their versions`.
 pub fn outcomes_brief_text(
     alloc: Global,
     litmus: &Litmus,
@@ -33,7 +34,7 @@ pub fn outcomes_brief_text(
     Ok(text.into_bytes())
 }
 
-/// Puts the line of the outcome of this number, unless one that was seen is told alike, and says whether it is new.
+/// Appends the line of the outcome of this number, unless one with the same text was seen, and says whether it is new.
 fn put_outcome(
     alloc: Global,
     litmus: &Litmus,
@@ -64,7 +65,7 @@ fn words_of(alloc: Global, litmus: &Litmus, outcome: &Outcome) -> Result<String,
     Ok(told)
 }
 
-/// Puts the line of the text, unless it was seen, and says whether it is new.
+/// Appends the line of the text, unless it was seen, and says whether it is new.
 fn put_new(
     number: usize,
     told: String,
@@ -103,7 +104,7 @@ fn put_line(number: usize, told: &str, out: &mut String) -> Result<(), AllocErro
     write!(out, "{number}:{told}\n")
 }
 
-/// Puts the last line.
+/// Appends the last line.
 fn put_count(apart: usize, all: usize, out: &mut String) -> Result<(), AllocError>
     ensures { OnOk result (string_bytes out.new ≡ string_bytes out.old ++ brief_count apart all) }
 {

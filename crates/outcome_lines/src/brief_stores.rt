@@ -1,4 +1,4 @@
-// Stores in which a race may end, without versions and UIDs.
+// Stores that a race can leave, without versions and UIDs.
 ghost use Rattle.std.specs.Prelude.{◌≡◌, ◌++◌, IfOk, OnOk};
 ghost use Rattle.outcome_lines.specs.Stores.{bare_line, joined, lists_in, stores_brief_text, with_line, with_stores};
 
@@ -8,8 +8,9 @@ use indexmap::IndexSet;
 use plain::Reply;
 use std::alloc::{AllocError, Global};
 
-/// The stores in which a race may end as lines `{"store":[OBJECT,..]}`, without resource versions and UIDs in the objects'
-/// metadata; those that are then alike are one line, in the place of the first. Last comes `{"stores":K}`, the number of lines.
+/// The stores that a race can leave, as lines `{"store":[OBJECT,..]}`, without resource versions and UIDs in the
+/// objects' metadata; those that are then the same are one line, at the index of the first. Last comes `{"stores":K}`,
+/// the number of lines.
 pub fn stores_brief_text(alloc: Global, found: &[FinalStore]) -> Result<Vec<u8>, AllocError>
     ensures { IfOk result (λ text. text.items ≡ stores_brief_text found.now) }
 {
@@ -58,7 +59,7 @@ fn add_line(line: Vec<u8>, lines: &mut IndexSet<Vec<u8>>) -> Result<(), AllocErr
     }
 }
 
-/// The text with the lines behind it.
+/// The text with the lines appended.
 fn joined(lines: &[Vec<u8>], out: Vec<u8>) -> Result<Vec<u8>, AllocError>
     ensures { IfOk result (λ text. text.items ≡ out.items ++ joined (lists_in lines.now)) }
 {

@@ -1,4 +1,4 @@
-// What an outcome is in words.
+// An outcome in words.
 ghost use Rattle.std.specs.Prelude.{◌≡◌, ◌++◌, codes, decimal, string_bytes, OnOk};
 ghost use Rattle.std.specs.Option.{option_copied};
 ghost use Rattle.outcome_lines.specs.Brief.{answer_words, exchange_words, exchanges_words, listed_words, names_words, told_words};
@@ -10,7 +10,7 @@ use pictures::put_request;
 use plain::{Reply, Request};
 use std::alloc::AllocError;
 
-/// Puts what callers ask and are told behind the text, in this order.
+/// Appends the requests of callers and their replies, in this order.
 pub(crate) fn put_exchanges(
     asks: &[Ask],
     replies: &[Option<Reply>],
@@ -53,7 +53,7 @@ fn put_caller(caller: u64, out: &mut String) -> Result<(), AllocError>
     write!(out, "caller {caller}: ")
 }
 
-/// Puts what is asked and what is told behind the text.
+/// Appends a request and its reply.
 fn put_asked(request: &Request, reply: Option<&Reply>, out: &mut String) -> Result<(), AllocError>
     ensures { OnOk result (string_bytes out.new
         ≡ string_bytes out.old ++ (request_words request.now ++ (codes ": " ++ told_words (option_copied reply.entry)))) }

@@ -1,4 +1,4 @@
-// What callers ask, one request after another: in a run, and in a litmus test.
+// The requests of callers, one after another: in a run, and in a litmus test.
 ghost use Rattle.std.specs.Prelude.{◌≡◌, ◌<◌, ◌∷◌, [], List, length, IfNone, IfSome};
 ghost use Rattle.std.specs.Option.{option_copied};
 ghost use Rattle.interleavings.specs.declared.trace.Item.{Item as SpecItem};
@@ -9,7 +9,7 @@ use history::Item;
 use outcomes::Ask;
 use plain::{Reply, Request};
 
-/// A request of a caller in a run, the reply to it, if there is one, and what comes behind its call.
+/// A request of a caller in a run, the reply to it, if there is one, and what comes after its call.
 #[derive(Clone, Copy, Drop)]
 pub(crate) struct Called<'a> {
     pub(crate) request: &'a Request,
@@ -38,7 +38,7 @@ pub(crate) fn first_call<'a>(caller: u64, items: &'a [Item]) -> Option<Called<'a
     None
 }
 
-/// The request that the item is, if it is a call of the caller.
+/// The request of the item, if it is a call of the caller.
 #[tactic(auto, using(crate::proofs::Telling::call_own, crate::proofs::Telling::call_other))]
 fn call_by(caller: u64, item: &Item) -> Option<&Request>
     ensures none { IfNone result ((behind : List SpecItem) → exchanges_by caller (item.now ∷ behind) ≡ exchanges_by caller behind) }
@@ -79,7 +79,7 @@ fn reply_to(caller: u64, items: &[Item]) -> Option<&Reply>
     None
 }
 
-/// A request that a caller of a litmus test makes, the reply that it is told, and the asks and replies behind.
+/// A request that a caller of a litmus test makes, the reply that it gets, and the requests and replies after it.
 #[derive(Clone, Copy, Drop)]
 pub(crate) struct Asked<'a> {
     pub(crate) request: &'a Request,
@@ -88,7 +88,7 @@ pub(crate) struct Asked<'a> {
     pub(crate) replies: &'a [Option<Reply>],
 }
 
-/// The first ask of the caller that has its reply.
+/// The first request of the caller that has its reply.
 pub(crate) fn first_ask<'a>(
     caller: u64,
     asks: &'a [Ask],

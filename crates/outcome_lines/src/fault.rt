@@ -9,10 +9,10 @@ use replay_lines::ScriptError;
 use std::alloc::{AllocError, AllocFailed};
 use thiserror::Error;
 
-/// Why no script of an outcome or of a store is made.
+/// Why there is no script of an outcome or of a store.
 #[derive(Clone, Copy, Debug, PartialEq, Eq, Error)]
 pub enum ScriptingError {
-    /// None was found that shows it or leads there, as where a line of it would be too long to be read.
+    /// No script was found that shows it or leads there, for example because a line of it would be too long to be read.
     #[error("no script was found that shows the outcome")]
     NoScript,
     /// An allocation was refused.

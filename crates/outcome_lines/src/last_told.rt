@@ -1,4 +1,4 @@
-// Whether a caller looks last, and what it is told then.
+// Whether a caller looks last, and the replies that it then gets.
 ghost use Rattle.std.specs.Prelude.{◌≡◌};
 ghost use Rattle.outcome_lines.specs.StoreScripts.{are_looks, ends_with_looks, is_look, is_told_just, is_told_last};
 ghost use Rattle.outcomes.specs.Outcomes.{exchanges_by};
@@ -50,7 +50,8 @@ fn is_look(looker: u64, look: &Request, turn: &Turn) -> bool
     }
 }
 
-/// Whether the caller asks as many requests as the beginning has, and then just the looks, and is told just this.
+/// Whether the caller sends as many requests as the beginning has, and then exactly the looks, and gets exactly these
+/// replies.
 pub(crate) fn is_told_last(
     looker: u64,
     beginning: &[Request],

@@ -10,8 +10,8 @@ ghost use Rattle.outcomes.specs.declared.outcome.Outcome.{Outcome};
 
 use outcomes::what_is_explained_happens;
 
-/// Each outcome of a litmus test that is read happens in some run, over any number of shards: none that is read has a caller
-/// who goes on after a crash. The beginning is asked by a caller who asks nothing else.
+/// Each outcome of a litmus test that is read happens in some run, over any number of shards: no caller in it sends
+/// more after a crash. The caller that sends the beginning sends nothing else.
 pub fn what_is_read_happens()
     ensures { (text : List ℕ) (litmus : Litmus) (outcome : Outcome) (size : Size) (beginner : ℕ) → litmus_of text ≡ Some (parts_of litmus)
         → IsOutcome litmus outcome → size.capacity ≡ litmus.capacity → 0 < size.shards → told litmus.asks.items outcome.replies.items beginner ≡ []
@@ -20,7 +20,7 @@ pub fn what_is_read_happens()
     what_is_explained_happens();
 }
 
-/// Each way to tell an outcome has one line for a person, by the number of the first that is told so.
+/// Each text of an outcome has one line for a person, with the number of the first outcome that has it.
 pub fn outcomes_are_told_once()
     ensures { (litmus : Litmus) (found : List Outcome) → AreToldOnce (map (outcome_words litmus) found) (told_apart litmus found) }
 {}

@@ -1,6 +1,6 @@
-//! Lines of `stsctl outcomes`: the litmus test that a text is, its outcomes as text, for a program or for a person, and the
-//! script of `stsctl replay` that shows one of them; and the race of controllers that a text is, the stores in which it may end,
-//! and the script of `stsctl cluster` that leads to one of them.
+//! Lines of `stsctl outcomes`: the litmus test in a text, its outcomes as text, for a program or for a person, and the
+//! script of `stsctl replay` that shows one of them; and the race of controllers in a text, the stores that it can
+//! leave, and the script of `stsctl cluster` that leads to one of them.
 #![tactic(auto)]
 
 mod brief;

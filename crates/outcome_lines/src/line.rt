@@ -1,4 +1,4 @@
-// What a line of a litmus test is, behind the first.
+// The lines of a litmus test after the first.
 ghost use Rattle.std.specs.Prelude.{◌≡◌};
 ghost use Rattle.outcome_lines.specs.Litmus.{before_in, crash_in, line_in, line_of, race_in};
 ghost use Rattle.replay_lines.specs.Events.{Reads};
@@ -9,14 +9,14 @@ use plain::Request;
 use replay_lines::{ScriptError, count_in, read_members, request_in};
 use std::alloc::Global;
 
-/// A request, before anybody races or of a caller that races.
+/// A request, of the beginning or of a racing caller.
 #[derive(Drop)]
 pub(crate) enum Line {
     Before(Request),
     Race(Ask),
 }
 
-/// The request that a line is.
+/// The request of a line.
 #[tactic(auto, using(replay_lines::proofs::Readings::fails_bind), unfolding(crate::specs::Litmus::line_of))]
 pub(crate) fn read_line(
     alloc: Global,
@@ -43,7 +43,7 @@ pub(crate) fn line_in(alloc: Global, members: Members) -> Result<Line, ScriptErr
     }
 }
 
-/// Whether the caller crashes within the request; nothing says that it does not.
+/// Whether the caller crashes within the request; by default it does not.
 pub(crate) fn crash_in(members: &Members) -> Option<bool>
     ensures { result ≡ crash_in members.now }
 {
@@ -69,7 +69,7 @@ fn race_in(alloc: Global, members: Members, crashes: bool) -> Result<Line, Scrip
     }))
 }
 
-// Nobody crashes within a request of the beginning.
+// No caller crashes within a request of the beginning.
 #[tactic(auto, using(replay_lines::proofs::Readings::fails_bind))]
 fn before_in(alloc: Global, members: Members, crashes: bool) -> Result<Line, ScriptError>
     ensures { Reads (λ said. said) result (before_in members crashes) }

@@ -1,4 +1,4 @@
-// What is looked at where a race has ended: all objects of the namespaces that it names.
+// What is looked at after a race: all objects of the namespaces that it names.
 ghost use Rattle.std.specs.Prelude.{◌≡◌, ◌++◌, IfOk, OnOk, map};
 ghost use Rattle.outcome_lines.specs.Looks.{list_of, lists_in, looks_of, namespaces_by, named_by, with_created, with_name};
 
@@ -8,8 +8,8 @@ use plain::Request;
 use std::alloc::{AllocError, Global};
 use std::collections::BTreeSet;
 
-/// A list of each kind in each namespace that the requests create in and that the controllers' sets are of, in the order in which
-/// the store keeps what is listed: by kind, then by namespace.
+/// A list of each kind in each namespace that the requests create in or that a controller's set is in, in the order in
+/// which the store keeps what is listed: by kind, then by namespace.
 pub(crate) fn looks_of(
     alloc: Global,
     beginning: &[Request],

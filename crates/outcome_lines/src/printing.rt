@@ -16,9 +16,10 @@ use outcomes::{Ask, Litmus, Outcome};
 use plain::{Reply, end_line, write_integer_member, write_reply};
 use std::alloc::{AllocError, Global};
 
-/// The lines of the outcomes of a litmus test: `{"order":[I,..],"replies":[{"caller":N,"reply":R},..]}` for each, and last
-/// `{"outcomes":K}`. The order names requests by the indices of their lines, from 0 behind the first line of the test; the
-/// replies are in the order of the lines, R as a reply line of `serve`, and null where the caller crashes.
+/// The lines of the outcomes of a litmus test: `{"order":[I,..],"replies":[{"caller":N,"reply":R},..]}` for each, and
+/// last `{"outcomes":K}`. The order names requests by the indices of their lines, from 0 for the line after the first
+/// one of the test; the replies are in the order of the lines, R as a reply line of `serve`, and null if the caller
+/// crashes.
 pub fn outcomes_text(
     alloc: Global,
     litmus: &Litmus,
@@ -144,7 +145,7 @@ fn write_told(reply: Option<&Reply>, out: &mut Writer) -> Result<(), AllocError>
     }
 }
 
-/// Puts the last line behind what was written.
+/// Appends the last line.
 fn put_count(count: u64, out: Vec<u8>) -> Result<Vec<u8>, AllocError>
     ensures { IfOk result (λ text. text.items ≡ out.items ++ (compact_text (count_data count) ++ 10 ∷ [])) }
 {

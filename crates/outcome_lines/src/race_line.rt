@@ -1,4 +1,4 @@
-// What a line of a race of controllers is, behind the first.
+// The lines of a race of controllers after the first.
 ghost use Rattle.std.specs.Prelude.{◌≡◌};
 ghost use Rattle.outcome_lines.specs.Race.{begun_by, begun_in, line_parts, race_line_in, race_line_of, racer_in, racer_parts};
 ghost use Rattle.replay_lines.specs.Events.{Reads};
@@ -11,14 +11,14 @@ use plain::Request;
 use replay_lines::{ScriptError, count_in, read_members};
 use std::alloc::Global;
 
-/// A request before anybody races, or a controller that races.
+/// A request of the beginning, or a racing controller.
 #[derive(Drop)]
 pub(crate) enum RaceLine {
     Before(Request),
     Controller(Racer),
 }
 
-/// The request or the controller that a line is.
+/// The request or the controller of a line.
 #[tactic(auto, using(replay_lines::proofs::Readings::fails_bind), unfolding(crate::specs::Race::race_line_of))]
 pub(crate) fn read_race_line(
     alloc: Global,
@@ -64,7 +64,7 @@ fn racer_in(alloc: Global, members: &Members) -> Result<Racer, ScriptError>
     })
 }
 
-/// A request of the beginning, as a line of a litmus test says it.
+/// A request of the beginning, as in a line of a litmus test.
 #[tactic(auto, using(replay_lines::proofs::Readings::fails_bind))]
 fn begun_in(alloc: Global, members: Members) -> Result<RaceLine, ScriptError>
     ensures { Reads line_parts result (begun_in members) }
@@ -73,7 +73,7 @@ fn begun_in(alloc: Global, members: Members) -> Result<RaceLine, ScriptError>
     begun_by(line)
 }
 
-/// Nobody races but controllers.
+/// Only controllers race.
 fn begun_by(line: Line) -> Result<RaceLine, ScriptError>
     ensures { Reads line_parts result (begun_by line) }
 {

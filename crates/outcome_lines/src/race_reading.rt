@@ -15,15 +15,16 @@ use plain::{Request, split_line};
 use replay_lines::{ScriptError, count_in, read_members};
 use std::alloc::Global;
 
-/// The race of controllers that a text is. Its first line is `{"capacity":C}`. Then come lines `{"request":L}`, requests that are
-/// taken in turn before anybody races, L as a request line of `serve`; and then lines `{"controller":S,"rounds":N}`, a
-/// controller of the set S, as a script of `stsctl cluster` names it, which makes N rounds. With `"crash":true` it may crash once:
-/// behind it stands the one that then takes over. Other members are passed over, and of members of one name the last counts. C and N are whole numbers below 2^64; neither is bounded here. What is looked at in the
-/// end is a list of each kind in each namespace that these lines name.
+/// The race of controllers in a text. Its first line is `{"capacity":C}`. Then come lines `{"request":L}`, requests
+/// that are handled in turn before the race, L as a request line of `serve`; and then lines
+/// `{"controller":S,"rounds":N}`, a controller of the set S, as in a script of `stsctl cluster`, which makes N rounds.
+/// With `"crash":true` it may crash once: the next racer is then the one that takes over. Other members are ignored,
+/// and of members with the same name the last counts. C and N are whole numbers below 2^64; neither is bounded here.
+/// What is looked at in the end is a list of each kind in each namespace that these lines name.
 ///
 /// # Errors
 ///
-/// `BadScript` where a line is none of these, also one that is cut off or empty, or one of a caller, or where there is no line.
+/// `BadScript` if a line is none of these, also if it is cut off or empty, or a caller's, or if there is no line.
 #[tactic(auto, using(replay_lines::proofs::Readings::fails_bind), unfolding(crate::specs::Race::race_of))]
 pub fn read_race(alloc: Global, text: &[u8]) -> Result<Race, ScriptError>
     ensures read { Reads race_parts result (race_of text.now) }
@@ -120,7 +121,7 @@ fn with_racer(alloc: Global, race: Race, racer: Racer) -> Result<Race, ScriptErr
     Ok(longer)
 }
 
-/// The controller of a set, started again.
+/// The controller of a set, restarted.
 fn heir_of(alloc: Global, set: &SetSpec) -> Result<Racer, Memory>
     ensures { IfOk result (λ heir. racer_parts heir ≡ record { set = set_parts set.now; rounds = 0; may_crash = false }) }
 {
@@ -138,7 +139,7 @@ fn heir_of(alloc: Global, set: &SetSpec) -> Result<Racer, Memory>
     })
 }
 
-/// The race with what is looked at in the end.
+/// The race with its looks at the end.
 fn with_looks(alloc: Global, race: Race) -> Result<Race, ScriptError>
     ensures looks { IfOk result (λ looked. looked.looks.items ≡ looks_of looked.beginning.items looked.racers.items) }
     ensures read { Reads race_parts result (Some (race_parts race)) }

@@ -1,4 +1,4 @@
-// Lines of the script of `stsctl cluster` in which a race goes by an order.
+// Lines of the script of `stsctl cluster` in which a race follows an order.
 use cluster_scripts::write_request;
 use controller_outcomes::{Move, Race, Racer};
 use controllers::SetSpec;
@@ -6,9 +6,9 @@ use json::Writer;
 use plain::{Request, end_line, write_integer_member, write_text_member};
 use std::alloc::{AllocError, Global};
 
-/// The script in which the caller asks the beginning, the controllers ask in that order, each request carried to its reply, and
-/// the caller asks the looks. A controller that crashes stands still once it has called, as far as the store can tell; a late
-/// write is then carried to its reply.
+/// The script in which the caller sends the beginning, the controllers send requests in that order, each brought to its
+/// reply, and the caller sends the looks. A controller that crashes just makes no further step once it has called,
+/// which is all that the store can notice; a late write is then brought to its reply.
 pub(crate) fn script_of_race(
     alloc: Global,
     race: &Race,

@@ -11,15 +11,16 @@ use plain::{Request, split_line};
 use replay_lines::{ScriptError, count_in, read_members};
 use std::alloc::Global;
 
-/// The litmus test that a text is. Its first line is `{"capacity":C}`. Then come lines `{"request":L}`, requests that are taken
-/// in turn before anybody races, L as a request line of `serve`; and then lines `{"caller":N,"request":L}`, what the callers ask,
-/// each its own in this order. With `"crash":true` the caller crashes within the request, which is its last one. Other members
-/// are passed over, and of members of one name the last counts. C and N are whole numbers below 2^64; none is bounded here.
+/// The litmus test in a text. Its first line is `{"capacity":C}`. Then come lines `{"request":L}`, requests that are
+/// handled in turn before callers race, L as a request line of `serve`; and then lines `{"caller":N,"request":L}`, the
+/// requests of the callers, each caller's in this order. With `"crash":true` the caller crashes within the request,
+/// which is its last one. Other members are ignored, and of members with the same name the last counts. C and N are
+/// whole numbers below 2^64; none is bounded here.
 ///
 /// # Errors
 ///
-/// `BadScript` where a line is none of these, also one that is cut off or empty, or one of a caller that crashed on an earlier one,
-/// or where there is no line.
+/// `BadScript` if a line is none of these, also if it is cut off or empty, or of a caller that crashed on an earlier
+/// one, or if there is no line.
 #[tactic(auto, using(replay_lines::proofs::Readings::fails_bind), unfolding(crate::specs::Litmus::litmus_of))]
 pub fn read_litmus(alloc: Global, text: &[u8]) -> Result<Litmus, ScriptError>
     ensures read { Reads parts_of result (litmus_of text.now) }
@@ -95,7 +96,7 @@ fn with_before(litmus: Litmus, request: Request) -> Result<Litmus, ScriptError>
     }
 }
 
-/// The litmus test with one more ask.
+/// The litmus test with one more request of a caller.
 fn with_race(litmus: Litmus, ask: Ask) -> Result<Litmus, ScriptError>
     ensures { Reads parts_of result (with_line (parts_of litmus) (Race ask)) }
 {

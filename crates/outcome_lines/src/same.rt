@@ -7,7 +7,7 @@ ghost use Rattle.requests.specs.Same.{same_meta, same_object, same_time};
 use objects::{Draft, Meta, Object, Text};
 use plain::Request;
 
-/// Whether both ask the same.
+/// Whether both requests are the same.
 pub(crate) fn same_request(left: &Request, right: &Request) -> bool
     ensures { result ≡ same_request left.now right.now }
 {
@@ -28,7 +28,7 @@ pub(crate) fn same_request(left: &Request, right: &Request) -> bool
     }
 }
 
-/// The same of requests that hand in no object; for others the answer is no.
+/// The same for requests without an object; for others it is false.
 fn same_plain(left: &Request, right: &Request) -> bool
     ensures { result ≡ same_plain left.now right.now }
 {

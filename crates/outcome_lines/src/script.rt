@@ -12,12 +12,12 @@ use plain::Reply;
 use replay_lines::read_script;
 use std::alloc::Global;
 
-/// The script of `stsctl replay` that shows the outcome, over one shard. What its run tells each caller is compared with the
-/// outcome before the script is handed out.
+/// The script of `stsctl replay` that shows the outcome, over one shard. Before it is returned, the replies to each
+/// caller in its run are compared with the outcome.
 ///
 /// # Errors
 ///
-/// `NoScript` where they differ or the script cannot be read, as where a line of it is too long.
+/// `NoScript` if they differ or the script cannot be read, for example because a line of it is too long.
 pub fn script_text(
     alloc: Global,
     litmus: &Litmus,

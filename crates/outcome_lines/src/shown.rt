@@ -11,8 +11,8 @@ use history::Item;
 use outcomes::{Ask, Litmus};
 use plain::Reply;
 
-/// Whether one caller of the run asks the beginning of the litmus test, before all others, and each of these asks just what it
-/// asks in the test, and is told just these replies.
+/// Whether one caller of the run sends the beginning of the litmus test, before all others, and each other caller sends
+/// exactly what it sends in the test, and gets exactly these replies.
 #[tactic(auto, using(crate::proofs::Telling::are_shown))]
 pub(crate) fn is_shown(
     litmus: &Litmus,
@@ -41,14 +41,14 @@ fn shows(litmus: &Litmus, replies: &[Option<Reply>], beginner: u64, items: &[Ite
     tells_callers(beginner, asks, replies, items)
 }
 
-/// Whether the caller asks nothing in the test.
+/// Whether the caller sends nothing in the test.
 fn is_apart(caller: u64, asks: &[Ask], replies: &[Option<Reply>]) -> bool
     ensures { result ≡ asks_nothing caller asks.now replies.now }
 {
     first_ask(caller, asks, replies).is_none()
 }
 
-/// Whether each caller that asks in the test is told just what it has to be.
+/// Whether each caller of the test sends and gets exactly what it should.
 fn tells_askers(asks: &[Ask], replies: &[Option<Reply>], items: &[Item]) -> bool
     ensures { result ≡ tells_askers asks.now asks.now replies.now items.now }
 {
@@ -62,7 +62,7 @@ fn tells_askers(asks: &[Ask], replies: &[Option<Reply>], items: &[Item]) -> bool
     true
 }
 
-/// The same of each caller but the beginner that calls in the run.
+/// The same for each caller of the run except the beginner.
 fn tells_callers(beginner: u64, asks: &[Ask], replies: &[Option<Reply>], items: &[Item]) -> bool
     ensures { result ≡ tells_callers beginner items.now asks.now replies.now items.now }
 {
@@ -83,7 +83,7 @@ fn tells_callers(beginner: u64, asks: &[Ask], replies: &[Option<Reply>], items: 
     true
 }
 
-/// Whether the caller asks in the run just what it asks in the test, and is told just these replies.
+/// Whether the caller sends in the run exactly what it sends in the test, and gets exactly these replies.
 fn is_told(caller: u64, asks: &[Ask], replies: &[Option<Reply>], items: &[Item]) -> bool
     ensures { result ≡ is_told caller asks.now replies.now items.now }
 {

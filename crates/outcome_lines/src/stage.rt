@@ -1,14 +1,14 @@
-// The events of a run in which requests are carried to their replies, one after another.
+// The events of a run in which requests are brought to their replies, one after another.
 use crate::fault::ScriptingError;
 use history::{Event, Replay, Standing};
 use outcomes::{Ask, Litmus, Outcome};
 use plain::Request;
 use std::alloc::Global;
 
-/// More steps than any request takes over one shard.
+/// No request needs so many steps over one shard.
 const MOST_STEPS: u32 = 16;
 
-/// A run of so many events is given up.
+/// A run with so many events is given up.
 const MOST_EVENTS: u64 = 1_000_000_000;
 
 /// A run over one shard, and its events.
@@ -18,7 +18,7 @@ struct Stage {
     events: Vec<Event>,
 }
 
-/// The lowest caller that none of the asks names.
+/// The lowest caller that no request of the test names.
 pub(crate) fn unused_caller(asks: &[Ask]) -> u64 {
     let mut caller: u64 = 0;
     for _ in 0..asks.len() {
@@ -33,9 +33,9 @@ fn is_named(asks: &[Ask], caller: u64) -> bool {
     asks.iter().any(|ask| ask.caller == caller)
 }
 
-/// The events of a run over one shard in which the beginner asks the beginning, and then the others ask in the order of the
-/// outcome: each request is carried to its reply before the next one is called. Who crashes does so once its request is taken
-/// or, where the order leaves it out, as it has called it.
+/// The events of a run over one shard in which the beginner sends the beginning, and then the others send their
+/// requests in the order of the outcome: each request is brought to its reply before the next one is called. A caller
+/// that crashes does so once its request is in effect or, if the order leaves it out, right after its call.
 pub(crate) fn staged(
     alloc: Global,
     litmus: &Litmus,
@@ -109,7 +109,7 @@ impl Stage {
         Ok(())
     }
 
-    /// Lets the event happen, unless there were too many.
+    /// Applies the event, unless there were too many.
     fn step(&mut self, event: &Event) -> Result<(), ScriptingError> {
         if MOST_EVENTS <= self.replay.events() {
             return Err(ScriptingError::NoScript);
@@ -118,7 +118,7 @@ impl Stage {
         Ok(())
     }
 
-    /// Carries the caller's request to its reply.
+    /// Brings the caller's request to its reply.
     fn carry(&mut self, caller: u64) -> Result<(), ScriptingError> {
         for _ in 0..MOST_STEPS {
             let Some(event) = self.replay.next_step(caller) else {
@@ -129,7 +129,7 @@ impl Stage {
         Ok(())
     }
 
-    /// Carries the caller's request until it is taken, and lets the caller crash. What it left is published.
+    /// Brings the caller's request into effect, and lets the caller crash. A number that it left is published.
     fn carry_to_crash(&mut self, caller: u64) -> Result<(), ScriptingError> {
         for _ in 0..MOST_STEPS {
             if is_taken(self.replay.standing(caller)) {
@@ -153,7 +153,7 @@ impl Stage {
     }
 }
 
-/// Whether the caller's request is taken, whatever becomes of the caller.
+/// Whether the caller's request is in effect, whatever becomes of the caller.
 fn is_taken(standing: Standing) -> bool {
     matches!(
         standing,

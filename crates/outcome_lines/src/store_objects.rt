@@ -34,7 +34,7 @@ fn listed_in(reply: &Reply) -> &[Object]
     }
 }
 
-/// Writes the objects in front of others.
+/// Writes the objects before others.
 fn write_listed(bare: bool, objects: &[Object], out: &mut Writer) -> Result<(), AllocError>
     ensures tokens { OnOk result ((others : List SpecObject)
         → out.new.tokens ++ items_tokens (items_outline (store_items bare others))

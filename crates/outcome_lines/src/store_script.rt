@@ -1,4 +1,4 @@
-// The script of `stsctl cluster` that leads to a store in which a race may end.
+// The script of `stsctl cluster` that leads to a store that a race can leave.
 ghost use Rattle.std.specs.Prelude.{◌≡◌, IfOk, IsTrue};
 ghost use Rattle.outcome_lines.specs.StoreScripts.{LeadsTo, ShowsStore, is_of_race};
 
@@ -12,13 +12,13 @@ use controllers::run_turns;
 use plain::Reply;
 use std::alloc::Global;
 
-/// The script of `stsctl cluster` that leads to a store in which the race may end, over one shard. A caller asks the beginning,
-/// then the controllers ask in the order of the store, and last the caller looks at all. What it is told there is compared with
-/// what the store shows before the script is handed out.
+/// The script of `stsctl cluster` that leads to a store that the race can leave, over one shard. A caller sends the
+/// beginning, then the controllers send requests in the order of the store, and last the caller sends the looks. Before
+/// the script is returned, the replies to these are compared with what the store shows.
 ///
 /// # Errors
 ///
-/// `NoScript` where they differ or the script cannot be read, as where a line of it is too long.
+/// `NoScript` if they differ or the script cannot be read, for example because a line of it is too long.
 pub fn store_script_text(
     alloc: Global,
     race: &Race,

@@ -1,4 +1,4 @@
-// Stores in which a race may end, as lines of JSON.
+// Stores that a race can leave, as lines of JSON.
 ghost use Rattle.std.specs.Prelude.{◌≡◌, ◌++◌, ◌∷◌, [], codes, length, map, IfOk, OnOk};
 ghost use Rattle.json.specs.Token.{key as key_token};
 ghost use Rattle.json.specs.Tree.{json_tokens};
@@ -13,8 +13,8 @@ use json::Writer;
 use plain::{Reply, end_line, write_integer_member};
 use std::alloc::{AllocError, Global};
 
-/// The lines of the stores in which a race may end: `{"revision":V,"store":[OBJECT,..]}` for each, V the newest revision of the
-/// store, with its objects in the store's order as replies of `serve` show them; and last `{"stores":K}`.
+/// The lines of the stores that a race can leave: `{"revision":V,"store":[OBJECT,..]}` for each, V the newest revision
+/// of the store, with its objects in the store's order as replies of `serve` show them; and last `{"stores":K}`.
 pub fn stores_text(alloc: Global, found: &[FinalStore]) -> Result<Vec<u8>, AllocError>
     ensures { IfOk result (λ text. text.items ≡ stores_text found.now) }
 {
@@ -71,7 +71,7 @@ fn revision_of(reply: &Reply) -> u64
     }
 }
 
-/// Puts the line of a store without its versions and UIDs behind the text.
+/// Appends the line of a store without its versions and UIDs.
 pub(crate) fn put_bare_store(shown: &[Reply], out: Vec<u8>) -> Result<Vec<u8>, AllocError>
     ensures { IfOk result (λ text. text.items ≡ out.items ++ (compact_text (bare_store_data shown.now) ++ 10 ∷ [])) }
 {
@@ -99,7 +99,7 @@ fn write_objects_member(bare: bool, shown: &[Reply], out: &mut Writer) -> Result
     write_objects(bare, shown, out)
 }
 
-/// Puts the last line behind what was written.
+/// Appends the last line.
 pub(crate) fn put_count(count: u64, out: Vec<u8>) -> Result<Vec<u8>, AllocError>
     ensures { IfOk result (λ text. text.items ≡ out.items ++ (compact_text (count_data count) ++ 10 ∷ [])) }
 {

@@ -9,7 +9,7 @@ use crate::same::same_request;
 use history::Item;
 use plain::Request;
 
-/// Whether the caller asks just these requests, and is answered each.
+/// Whether the caller sends exactly these requests, and gets a reply to each.
 pub(crate) fn answered_just(caller: u64, requests: &[Request], items: &[Item]) -> bool
     ensures { result ≡ answered_just (exchanges_by caller items.now) requests.now }
 {
@@ -28,7 +28,7 @@ pub(crate) fn answered_just(caller: u64, requests: &[Request], items: &[Item]) -
     wanted.is_empty()
 }
 
-/// Whether the caller has all its replies before anybody else calls.
+/// Whether the caller has all its replies before any other caller calls.
 pub(crate) fn goes_first(caller: u64, items: &[Item]) -> bool
     ensures { result ≡ goes_first caller items.now }
 {
@@ -52,7 +52,7 @@ fn comes_later(caller: u64, items: &[Item], item: &Item) -> bool
     }
 }
 
-/// Whether each reply to the caller comes before the place.
+/// Whether each reply to the caller comes before the index.
 fn ends_before(caller: u64, place: u64, items: &[Item]) -> bool
     ensures { result ≡ list_all (is_before caller place) items.now }
 {

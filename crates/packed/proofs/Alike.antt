@@ -49,14 +49,14 @@ alike [] ys = refl
 alike (x ∷ xs) [] = refl
 alike (x ∷ xs) (y ∷ ys) = alike_at (x == y) x y (prefix_len same (pairs xs ys)) xs ys refl (alike xs ys)
 
--- what both begin with, and so many bytes of what comes behind
+-- what both begin with, and so many bytes of what comes after
 further : (xs ys : List ℕ) (at n : ℕ) → take at xs ≡ take at ys → take n (drop at xs) ≡ take n (drop at ys) → take (at + n) xs ≡ take (at + n) ys
 further xs ys at n before behind = take-add at n xs ∙ ap₂ (λ a b. a ++ b) before behind ∙ sym (take-add at n ys)
 
 abbrev AreThere : List ℕ → List ℕ → ℕ → Type 0
 AreThere xs ys at = (at + 16 ≤ length xs) × (at + 16 ≤ length ys)
 
--- where none differs, it goes on behind them
+-- if none differs, it goes on after them
 pub alike_on : (xs ys : List ℕ) (at : ℕ) → AreThere xs ys at → take at xs ≡ take at ys → mask_l (map differ (pairs (chunk at 16 xs) (chunk at 16 ys))) ≡ 0 → take (at + 16) xs ≡ take (at + 16) ys
 alike_on xs ys at room before none =
     let here = length-chunk at 16 xs room.0 in
@@ -65,7 +65,7 @@ alike_on xs ys at room before none =
     let both : take 16 (chunk at 16 xs) ≡ take 16 (chunk at 16 ys) = subst (λ n. take n (chunk at 16 xs) ≡ take n (chunk at 16 ys)) all (alike (chunk at 16 xs) (chunk at 16 ys)) in
     further xs ys at 16 before (sym (take_all 16 (chunk at 16 xs) (omega (arith, here))) ∙ both ∙ take_all 16 (chunk at 16 ys) (omega (arith, there)))
 
--- where one differs, it ends before the first that does
+-- if one differs, it ends before the first that does
 pub alike_ends : (xs ys : List ℕ) (at : ℕ) → AreThere xs ys at → take at xs ≡ take at ys → 0 < mask_l (map differ (pairs (chunk at 16 xs) (chunk at 16 ys)))
     → (n : ℕ) → n ≡ count_trailing_zeros 64 (mask_l (map differ (pairs (chunk at 16 xs) (chunk at 16 ys)))) → (n ≤ 16) × (take (at + n) xs ≡ take (at + n) ys)
 alike_ends xs ys at room before some n is =

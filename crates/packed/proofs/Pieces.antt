@@ -1,4 +1,4 @@
--- The first piece of a delta and what is behind it.
+-- The first piece of a delta and what is after it.
 use Rattle.std.proofs.Common.{◌≡◌, ℕ, zero, suc, ◌+◌, ◌<◌, List, [], ◌∷◌, ◌++◌, length, take, drop, refl, ap, ◌∙◌, sym, arith, slice_index_or, Bool, true, false, ◌==◌}
 use Rattle.std.proofs.lemmas.Bool.{eqb-true}
 use Rattle.packed.specs.Expanded.{pieces, expanded}
@@ -33,7 +33,7 @@ unfolding expanded
 expanded_some base [] empty is fails = absurd cc
 expanded_some base (x ∷ xs) empty is fails = refl
 
--- the first piece by its three bytes and what is behind them
+-- the first piece by its three bytes and what is after them
 pub pieces_some : (base delta head after : List ℕ) → head ≡ take 3 delta → after ≡ drop 3 delta → length after + 3 ≡ length delta
     → pieces base 0 delta ≡ take (slice_index_or head 1 0) (drop (slice_index_or head 0 0) base)
     ++ (take (slice_index_or head 2 0) after ++ pieces (drop (slice_index_or head 1 0) (drop (slice_index_or head 0 0) base)) 0 (drop (slice_index_or head 2 0) after))

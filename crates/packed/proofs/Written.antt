@@ -102,7 +102,7 @@ nothing_adds skipped copied (x ∷ added) old a b c = absurd (omega (arith, c))
 
 -- ---- a stretch
 
--- what both begin with alike from two places on, and what the text has alone behind it
+-- what both begin with alike from two positions on, and what only the text has after it
 pub stretch_text : (text base : List ℕ) (from same next at : ℕ) → from + same ≤ next → take same (drop at base) ≡ take same (drop from text)
     → take from text ++ (take same (drop at base) ++ take (next - (from + same)) (drop (from + same) text)) ≡ take next text
 stretch_text text base from same next at within alike =
@@ -138,7 +138,7 @@ stretch_made base text old new place met same added written adds alike own withi
 pub nothing_written : (base text : List ℕ) (patience : ℕ) → IsWrittenTo base text [] (record { text = 0; base = 0; skipped = 0; patience = patience })
 nothing_written base text patience = record { text_within = omega arith; base_within = omega arith; skipped = omega arith; made = λ rest. refl }
 
--- where all of a text is written, that is what the delta encodes
+-- once all of a text is written, that is what the delta encodes
 made_whole : (base text delta : List ℕ) → 0 < length text → pieces base 0 delta ≡ text → expanded base delta ≡ text
 unfolding expanded
 made_whole base text [] some made = absurd (omega (arith, some, ap length (sym made ∙ pieces_short base [] (omega arith))))

@@ -1,4 +1,4 @@
--- Bytes beside each other.
+-- Bytes of two texts, pair by pair.
 use Rattle.std.specs.Prelude.{ℕ, Bool, not, ◌==◌, List}
 use Rattle.std.specs.Simd.Lanes.{zip2}
 

@@ -3,8 +3,8 @@ ghost use Rattle.std.specs.Prelude.{◌≡◌, IfOk, IfSome};
 use std::alloc::{AllocError, Global};
 use std::marker::Model;
 
-/// A delta, which a clause sees as its bytes. Those of small objects are short, and lie in the value itself: then a version
-/// takes no block of its own, and reading it touches one place less in memory.
+/// A delta, which a clause sees as its bytes. Those of small objects are short, and are stored in the value itself:
+/// then a version needs no block of its own, and reading it touches one place less in memory.
 #[derive(Drop)]
 pub(crate) struct Delta {
     form: Form,

@@ -31,7 +31,7 @@ pub fn write_expanded(base: &[u8], delta: &[u8], out: &mut Vec<u8>) -> Result<()
     Ok(())
 }
 
-/// Writes a delta that encodes the text, if one of at most that many bytes is found. Answers whether it is.
+/// Writes a delta that encodes the text, if one of at most that many bytes is found. Returns whether it is.
 pub fn write_delta(
     base: &[u8],
     text: &[u8],
@@ -50,7 +50,7 @@ pub fn write_delta(
     Ok(end.text == text.len() && out.len() <= most)
 }
 
-// Writes the pieces of a text, or the first ones that come to more than so many bytes. Answers how far they go.
+// Writes the pieces of a text, or the first ones that together have more than so many bytes. Returns how far they go.
 fn write_stretches(
     base: &[u8],
     text: &[u8],
@@ -72,7 +72,8 @@ fn write_stretches(
     Ok(place)
 }
 
-// Writes what both have alike from these places on, and what the text has alone behind it. Answers where they meet again.
+// Writes what both have in common from these positions on, and what only the text has after it. Returns where they meet
+// again.
 fn write_stretch(
     base: &[u8],
     text: &[u8],
@@ -86,7 +87,7 @@ fn write_stretch(
 {
     let same = common_length(&base[place.base..], &text[place.text..]);
     let behind = place.base + same;
-    // Where nothing is alike, a byte at least is added, so that each turn goes on.
+    // If nothing is alike, at least one byte is added, so that each turn makes progress.
     let begun = place.text + same.max(1);
     let met = next_meeting(&base[behind..], &text[begun..], place.patience);
     let next = begun + met.text;
@@ -99,7 +100,7 @@ fn write_stretch(
     })
 }
 
-// Writes the pieces that skip so many bytes of the base, copy so many behind them, and add these.
+// Writes the pieces that skip so many bytes of the base, copy so many after them, and add these.
 fn write_run(
     skipped: usize,
     copied: usize,

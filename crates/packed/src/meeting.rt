@@ -1,5 +1,5 @@
-// Where a text and its base go on alike, once they have differed. Both are JSON, so this is looked for at the quotes of
-// names and texts.
+// Where a text and its base are alike again, once they have differed. Both are JSON, so this is searched for at the
+// quotes of names and texts.
 ghost use Rattle.std.specs.Prelude.{◌≡◌, ◌≤◌, ◌<◌, length, map, take, IfSome};
 ghost use Rattle.std.specs.Simd.Lanes.{mask_l};
 ghost use Rattle.packed.specs.Alike.{differ, pairs};
@@ -19,15 +19,15 @@ const REACH: usize = 4_096;
 /// How many of these quotes may come before the text's own one, counted in quotes from where the two differ.
 const BEHIND: usize = 12;
 
-/// After so many quotes of a text that were looked for in vain, no more are looked for. The search for one goes no farther
-/// than the reach, so the time of all of them has a bound, whatever the texts are.
+/// After so many quotes of a text that were searched for in vain, no more are searched for. The search for one goes no
+/// farther than the reach, so the time of all of them has a bound, whatever the texts are.
 pub(crate) const PATIENCE: usize = 1_024;
 
 /// How many bytes are compared at a time.
 const LANES: usize = 16;
 
-/// A place in the text and one in the base, how many bytes of the base lie between it and what was copied last, and how many
-/// more quotes may be looked for in vain.
+/// A position in the text and one in the base, how many bytes of the base are between it and what was copied last, and
+/// how many more quotes may be searched for in vain.
 #[derive(Clone, Copy, Drop)]
 pub(crate) struct Meeting {
     pub(crate) text: usize,
@@ -36,7 +36,7 @@ pub(crate) struct Meeting {
     pub(crate) patience: usize,
 }
 
-/// The first place where they meet; the end of the text where they don't.
+/// The first position at which they meet; the end of the text if they do not.
 pub(crate) fn next_meeting(base: &[u8], text: &[u8], patience: usize) -> Meeting
     ensures text { result.text ≤ length text.now }
     ensures base { result.base ≤ length base.now }
@@ -68,7 +68,7 @@ pub(crate) fn next_meeting(base: &[u8], text: &[u8], patience: usize) -> Meeting
     }
 }
 
-/// The place of these bytes at a quote of the base, not far from a place on.
+/// The position of these bytes at a quote of the base, from a position on and not far from it.
 fn find_window(base: &[u8], near: usize, window: u64) -> Option<usize>
     requires { near ≤ length base.now }
     ensures { IfSome result (λ place. place ≤ length base.now) }
@@ -89,7 +89,7 @@ fn find_window(base: &[u8], near: usize, window: u64) -> Option<usize>
     None
 }
 
-/// The bytes at a place, if they do not end before.
+/// The bytes at a position, if they do not end before.
 fn window_at(bytes: &[u8], place: usize) -> Option<u64>
     requires { place ≤ length bytes.now }
 {
@@ -97,7 +97,7 @@ fn window_at(bytes: &[u8], place: usize) -> Option<u64>
     Some(u64::from_le_bytes(*window))
 }
 
-/// The place of the first quote behind a place, or the end.
+/// The position of the first quote after a position, or the end.
 fn quote_behind(bytes: &[u8], place: usize) -> usize
     requires { place ≤ length bytes.now }
     ensures { result ≤ length bytes.now }
@@ -109,7 +109,7 @@ fn quote_behind(bytes: &[u8], place: usize) -> usize
     }
 }
 
-/// The place of the first quote from a place on, or the end.
+/// The position of the first quote from a position on, or the end.
 fn quote_from(bytes: &[u8], place: usize) -> usize
     requires { place ≤ length bytes.now }
     ensures { result ≤ length bytes.now }

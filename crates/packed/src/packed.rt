@@ -10,7 +10,7 @@ use std::marker::Model;
 use std::sync::Arc;
 
 /// An object as the difference of its text from another text, which a clause sees as the object. What it keeps is in
-/// proportion to the text.
+/// proportion to the text. The text, the printed object and the object are restored from it at any length and depth.
 #[derive(Drop)]
 pub struct Packed {
     pub(crate) base: Arc<String>,
@@ -60,7 +60,8 @@ impl Packed {
         (self.base.as_str(), self.delta.as_slice())
     }
 
-    /// How many have the base in common: packed objects, and the packer while it is the base of a set.
+    /// How many have the base in common: packed objects, and the packer while it is the base of a set. At least one
+    /// does.
     pub fn sharers(&self) -> usize
         ensures { 0 < result }
     {

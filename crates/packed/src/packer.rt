@@ -15,7 +15,7 @@ const BASES: u32 = 1_024;
 /// How many bytes such a base has at most: it takes memory even once no object needs it.
 const LONGEST: usize = 65_536;
 
-/// Packs objects, each beside the text of one much like it.
+/// Packs objects, each over the text of one much like it.
 #[derive(Drop)]
 pub struct Packer {
     alloc: Global,
@@ -33,7 +33,8 @@ impl Packer {
         }
     }
 
-    /// The object packed beside the base of its set, if that takes at most a quarter of the bytes of its text and 16 more.
+    /// The object packed over the base of its set, if that takes at most a quarter of the bytes of its text and 16
+    /// more.
     pub fn pack_in_set(&mut self, key: &Key, object: &Printed) -> Result<Option<Packed>, Memory>
         ensures { IfOk result (λ found. IfSome found (λ packed. packed ≡ object.now)) }
     {
@@ -43,7 +44,7 @@ impl Packer {
         }
     }
 
-    /// The object packed beside the base of one that had its key before, if that does as well. Else its text becomes the
+    /// The object packed over the base of one that had its key before, if that does as well. Else its text becomes the
     /// base of its set.
     pub fn pack(
         &mut self,
@@ -67,8 +68,8 @@ impl Packer {
     }
 }
 
-// The object packed beside a base, if that takes no more than a quarter of its text and 16 bytes. A base of more than four
-// times its length is not used, so that what a packed object keeps in memory is in proportion to its text.
+// The object packed over a base, if that takes no more than a quarter of its text and 16 bytes. A base of more than
+// four times its length is not used, so that what a packed object keeps in memory is in proportion to its text.
 fn packed_by(
     alloc: Global,
     base: &Arc<String>,
@@ -90,7 +91,7 @@ fn packed_by(
     }
 }
 
-// Objects of one kind and namespace whose names differ behind their last hyphen are of one set, and much alike.
+// Objects of one kind and namespace whose names differ only after their last hyphen are of one set, and much alike.
 fn slot_of(key: &Key) -> u32 {
     let name = key.name.as_str().as_bytes();
     let set = match memrchr(b'-', name) {

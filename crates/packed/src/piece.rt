@@ -2,7 +2,7 @@
 ghost use Rattle.std.specs.Prelude.{◌≡◌, ◌<◌, ◌++◌, [], None, length, take, drop, IfSome};
 ghost use Rattle.packed.specs.Expanded.{pieces};
 
-/// What a piece copies from the base and what it adds, and the base and the delta behind these.
+/// What a piece copies from the base and what it adds, and the base and the delta after these.
 #[derive(Clone, Copy, Drop)]
 pub(crate) struct Piece<'a> {
     pub(crate) copied: &'a [u8],
@@ -35,7 +35,7 @@ fn first_of(bytes: &[u8], count: usize) -> &[u8]
     &bytes[..count.min(bytes.len())]
 }
 
-/// The bytes from a place on.
+/// The bytes from a position on.
 fn rest_of(bytes: &[u8], from: usize) -> &[u8]
     ensures { result.now ≡ drop from bytes.now }
 {

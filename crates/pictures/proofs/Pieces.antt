@@ -1,4 +1,4 @@
--- A line whose words were put behind its beginning.
+-- A line whose words were appended to its start.
 use Rattle.std.proofs.Common.{◌≡◌, ℕ, List, [], ◌++◌, codes, decimal, ap, ◌∙◌, append_assoc}
 use Rattle.pictures.specs.Lines.{frontier_to_caller, note_over_caller, labelled}
 

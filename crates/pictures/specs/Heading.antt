@@ -1,8 +1,8 @@
--- Who takes part: the callers that events name, by their numbers, then the shards, then the frontier.
+-- The participants: the callers that events name, by their numbers, then the shards, then the frontier.
 use Rattle.std.specs.Prelude.{ℕ, zero, suc, List, [], ◌++◌, codes, decimal}
 use Rattle.std.specs.List.{flat_map}
 
--- `role` is what a caller is called before its number.
+-- `role` gives the words before a caller's number
 abbrev pub caller_line : (role : ℕ → List ℕ) → (caller : ℕ) → List ℕ
 caller_line role c = codes "    participant C" ++ (decimal c ++ (codes " as " ++ (role c ++ (codes "caller " ++ (decimal c ++ codes "\n")))))
 
@@ -18,6 +18,6 @@ abbrev pub heading : (shards : ℕ) → (role : ℕ → List ℕ) → (callers :
 heading shards role callers =
     codes "sequenceDiagram\n" ++ (flat_map (caller_line role) callers ++ (shard_lines shards ++ codes "    participant F as frontier\n"))
 
--- callers with no other name than their number
+-- callers with no name other than their number
 abbrev pub no_role : ℕ → List ℕ
 no_role caller = []

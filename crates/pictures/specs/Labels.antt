@@ -11,12 +11,13 @@ use Rattle.requests.specs.declared.reply.Reply.{Reply}
 use Rattle.requests.specs.declared.reply.Reply.TheVariants.{Created, Found, Listed, Updated, Unchanged, Marked, Removed, Compacted, Refused}
 use Rattle.requests.specs.Reasons.{reason_name}
 
--- an exact list says at which number
+-- an exact list names its number
 abbrev pub list_words : Kind → (namespace : List ℕ) → (exact : ℕ) → List ℕ
 list_words kind namespace exact =
     codes "list " ++ kind_name kind ++ codes "/" ++ namespace ++ (if exact == 0 then codes "" else codes " at " ++ decimal exact)
 
--- The version that a write asks for. A text that no version has, whose number is 0, is not repeated: it may hold anything.
+-- The version in the precondition of a write. A text that is no version, whose number is 0, is not repeated: it may
+-- hold anything.
 abbrev pub number_words : ℕ → List ℕ
 number_words number = if number == 0 then codes " at an unknown version" else codes " at " ++ decimal number
 

@@ -1,4 +1,4 @@
--- The line of each event that is enabled, by its place and by where its caller stands before and after it. Callers are named
+-- The line of each event that is enabled, by its index and by its caller's state before and after it. Callers are named
 -- `C` and their number, shards `S` and their index, and the frontier `F`. An event that is not enabled has no line.
 use Rattle.std.specs.Prelude.{ℕ, suc, ◌-◌, ◌+◌, Bool, true, false, List, [], ◌++◌, Option, Some, None, codes, decimal}
 use Rattle.requests.specs.declared.request.Request.{Request}
@@ -38,7 +38,7 @@ abbrev pub call_line : (place caller : ℕ) → Request → (before : Standing) 
 call_line place c r Idle = note_over_caller c place (request_words r ++ codes "\n")
 call_line place c r _ = []
 
--- ---- Check: an accepted write holds its shard, and another one waits for the frontier to come to what it saw
+-- ---- Check: an accepted write holds its shard, and another one waits for the frontier to reach what it saw
 abbrev pub checked_line : (place caller shard : ℕ) → (after : Standing) → List ℕ
 checked_line place c s (Holding held) = caller_to_shard c s place (codes "check, holds the shard\n")
 checked_line place c s (Waiting saw) = caller_to_shard c s place (codes "check, sees " ++ (decimal saw ++ codes "\n"))
@@ -58,7 +58,7 @@ abbrev pub reserve_line : (place caller : ℕ) → (before after : Standing) →
 reserve_line place c (Holding s) after = drawn_line place c after
 reserve_line place c _ after = []
 
--- ---- Publish: where the number behind the frontier is not filled afterwards, a second line says so
+-- ---- Publish: if the next number after the frontier is then not filled, a second line says so
 abbrev pub hole_line : (can_rise : Bool) → (frontier : ℕ) → List ℕ
 hole_line true frontier = []
 hole_line false frontier = codes "    Note over F: hole at " ++ (decimal (frontier + 1) ++ codes "\n")
@@ -98,7 +98,7 @@ abbrev pub compact_line : (place caller : ℕ) → (before : Standing) → List 
 compact_line place c (Called Compaction) = caller_to_frontier c place (codes "compact\n")
 compact_line place c _ = []
 
--- ---- Part: of the shard of a get, or of a list's first one that has still to answer
+-- ---- Part: of the shard of a get, or of the first shard of a list that has not answered
 abbrev pub answering : (shards : ℕ) → (of_get : Option ℕ) → (left : ℕ) → ℕ
 answering shards (Some s) left = s
 answering shards None left = shards - left

@@ -17,16 +17,16 @@ use Rattle.pictures.specs.Shown.{shown_callers, shows}
 use Rattle.pictures.specs.declared.snapshot.Snapshot.{Snapshot}
 use Rattle.pictures.specs.declared.shown.Shown.{Shown}
 
--- ---- what lines tell of the world before an event, and after it
+-- ---- what lines show of the world before an event, and after it
 abbrev pub standing_by : Size → World → Option ℕ → Standing
 standing_by z w None = standing.Idle
 standing_by z w (Some c) = standing_of z.shards (w.phase c)
 
--- where the caller stands that the event names, the frontier, and whether the number behind it is filled
+-- the state of the event's caller, the frontier, and whether the next number is filled
 abbrev pub snapshot_of : Size → World → Option ℕ → Snapshot
 snapshot_of z w caller = record { standing = standing_by z w caller; can_rise = can_rise w; frontier = w.frontier }
 
--- the reply that an event gives, if it gives one: what it adds to the trace
+-- the reply that an event gives, if any: what it adds to the trace
 abbrev pub delivered : (before after : World) → Option Reply
 delivered before after = reply_in (drop (length before.trace) after.trace)
 
@@ -54,7 +54,7 @@ lines_between shown z place e before after =
     shown_lines shown z.shards place e (snapshot_of z before (named_by e)) (snapshot_of z after (named_by e)) (delivered before after)
 
 -- ---- the lines of a run
--- the first event has this place
+-- the first event has this index
 abbrev pub lines_of : Shown → Size → (place : ℕ) → World → List Event → List ℕ
 lines_of shown z place w [] = []
 lines_of shown z place w (e ∷ es) = lines_between shown z place e w (step z w e) ++ lines_of shown z (suc place) (step z w e) es

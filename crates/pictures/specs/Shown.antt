@@ -1,4 +1,5 @@
--- What of a run a picture shows: all of it, or the writes alone, which are creates, updates, status requests and deletes.
+-- What a picture shows of a run: all of it, or only the writes, which are creates, updates, status requests and
+-- deletes.
 use Rattle.std.specs.Prelude.{ℕ, Bool, true, false, ◌||◌, cond, List, [], ◌∷◌, Option, Some, None}
 use Rattle.requests.specs.Verdict.{is_write}
 use Rattle.requests.specs.declared.reply.Reason.{Reason}
@@ -13,7 +14,7 @@ use Rattle.history.specs.declared.standing.Standing.TheVariants.{Waiting}
 use Rattle.pictures.specs.declared.shown.Shown.{Shown}
 use Rattle.pictures.specs.declared.shown.Shown.TheVariants.{All, Writes}
 
--- whether a write can be refused for this reason: the two others are of a version that is asked for
+-- whether a write can be refused for this reason: the other two are about a requested version
 abbrev pub refuses_write : Reason → Bool
 refuses_write NotFound = true
 refuses_write AlreadyExists = true
@@ -34,12 +35,12 @@ answers_write (Removed o) = true
 answers_write (Compacted revision) = false
 answers_write (Refused reason) = refuses_write reason
 
--- The same, by where its caller stands before it: a get that finds nothing is refused as a write may be, but in its read.
+-- The same, by its caller's state before it: a get that finds nothing is refused as a write may be, but while it reads.
 abbrev pub is_reply_to_write : (before : Standing) → Option Reply → Bool
 is_reply_to_write (Waiting saw) (Some reply) = answers_write reply
 is_reply_to_write _ _ = false
 
--- whether an event is a step of a write, or a crash, by where its caller stands before it and by the reply that it gives
+-- whether an event is a step of a write, or a crash, by its caller's state before it and by the reply that it gives
 abbrev pub is_of_write : Event → (before : Standing) → (delivered : Option Reply) → Bool
 is_of_write (event.Call c r) before delivered = is_write r
 is_of_write (event.Check c) before delivered = true
@@ -61,8 +62,8 @@ is_all Writes = false
 abbrev pub shows : Shown → Event → (before : Standing) → (delivered : Option Reply) → Bool
 shows shown e before delivered = is_all shown || is_of_write e before delivered
 
--- ---- who takes part
--- the caller that calls for a write or crashes, if the event is that
+-- ---- the participants
+-- the caller that calls a write or crashes, if the event is that
 abbrev pub writer_by : Event → Option ℕ
 writer_by (event.Call c r) = cond (is_write r) (Some c) None
 writer_by (event.Check c) = None
@@ -76,12 +77,12 @@ writer_by (event.Part c) = None
 writer_by (event.Reply c) = None
 writer_by (event.Crash c) = Some c
 
--- these names, and those of the callers that call for a write or crash
+-- these names, and those of the callers that call a write or crash
 abbrev pub writers : List ℕ → List Event → List ℕ
 writers names [] = names
 writers names (e ∷ es) = writers (with_named names (writer_by e)) es
 
--- of all that is shown the callers that events name; of writes those that call for one or crash
+-- if all is shown, the callers that events name; if only writes are, those that call one or crash
 abbrev pub shown_callers : Shown → List Event → List ℕ
 shown_callers All es = named [] es
 shown_callers Writes es = writers [] es

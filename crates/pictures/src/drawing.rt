@@ -24,14 +24,15 @@ use interleavings::Event;
 use requests::Reply;
 use std::alloc::{AllocError, Global};
 
-/// The run of these events from the opening world, as a Mermaid `sequenceDiagram`: who takes part, and for each event that is
-/// enabled a line with its place. A publication above a number that is not filled yet has a second line, which names that
-/// number. Of writes alone, other events have no line, and callers that neither call for a write nor crash take no part.
+/// The run of these events from the opening world, as a Mermaid `sequenceDiagram`: the participants, and a line with
+/// its index for each event that is enabled. A publication above a number that is not filled yet has a second line,
+/// which names that number. If only writes are shown, other events have no line, and callers that neither call a write
+/// nor crash do not take part.
 ///
 /// # Errors
 ///
-/// As `history::replay`. Where the events name more than 4,096 callers it is refused for that, or for memory if that ran out
-/// first.
+/// As `history::replay`. If the events name more than 4,096 callers it is refused for that, or for memory if that ran
+/// out first.
 pub fn picture<R: Roles>(
     alloc: Global,
     shards: usize,
@@ -54,7 +55,7 @@ pub fn picture<R: Roles>(
     Ok(text.into_bytes())
 }
 
-/// The lines of those who take part.
+/// The lines of the participants.
 fn begin_picture<R: Roles>(
     alloc: Global,
     shards: usize,
@@ -70,7 +71,7 @@ fn begin_picture<R: Roles>(
     Ok(text)
 }
 
-/// Takes one event, and puts its lines behind the text.
+/// Applies one event, and appends its lines.
 fn put_step(
     shown: Shown,
     shards: usize,
@@ -97,7 +98,7 @@ fn put_step(
     Ok(put?)
 }
 
-/// Puts the lines of an event behind the text, if it is shown.
+/// Appends the lines of an event, if it is shown.
 fn put_shown(
     shown: Shown,
     shards: usize,
@@ -117,7 +118,7 @@ fn put_shown(
     put_event(shards, place, event, before, after, delivered, out)
 }
 
-/// Puts the lines of an event behind the text, by the snapshot before it and the one after it, and by the reply that its caller gets.
+/// Appends the lines of an event, by the snapshots before and after it and by the reply that its caller gets.
 fn put_event(
     shards: usize,
     place: u64,

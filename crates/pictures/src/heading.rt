@@ -1,4 +1,4 @@
-//! Who takes part in a run.
+//! The participants of a run.
 ghost use Rattle.std.specs.Prelude.{◌≡◌, ◌++◌, string_bytes, OnOk};
 ghost use Rattle.std.specs.List.{flat_map};
 ghost use Rattle.pictures.specs.Heading.{caller_line, heading, shard_lines};
@@ -7,7 +7,7 @@ use crate::roles::Roles;
 use std::alloc::AllocError;
 use std::collections::BTreeSet;
 
-/// Puts the lines of those who take part behind the text.
+/// Appends the lines of the participants.
 pub(crate) fn put_heading<R: Roles>(
     shards: usize,
     callers: &BTreeSet<u64>,

@@ -1,4 +1,4 @@
-//! What the lines of a picture, and of other tellings of a run, say of requests and of replies.
+//! What the lines of a picture, and of other accounts of a run, say of requests and replies.
 ghost use Rattle.std.specs.Prelude.{◌≡◌, ◌++◌, ◌∷◌, length, string_bytes, OnOk};
 ghost use Rattle.objects.specs.ShardOf.{key_text};
 ghost use Rattle.pictures.specs.Labels.{count_words, list_words, number_words, object_words, reply_words, request_words, version_words};
@@ -7,7 +7,7 @@ use objects::{Key, Kind, Object, Text, version_number};
 use requests::{Listing, Reply, Request};
 use std::alloc::AllocError;
 
-/// Puts what is asked behind the text, as `create Pod/default/web-0`, or `update Pod/default/web-0 at 7`.
+/// Appends a request, as `create Pod/default/web-0`, or `update Pod/default/web-0 at 7`.
 pub fn put_request(request: &Request, out: &mut String) -> Result<(), AllocError>
     ensures { OnOk result (string_bytes out.new ≡ string_bytes out.old ++ request_words request.now) }
 {
@@ -54,7 +54,7 @@ fn put_verb_at(
     put_version(version, out)
 }
 
-/// Puts the version that is asked for behind the text.
+/// Appends the version in the precondition.
 fn put_version(version: &Option<Text>, out: &mut String) -> Result<(), AllocError>
     ensures { OnOk result (string_bytes out.new ≡ string_bytes out.old ++ version_words version.now) }
 {
@@ -67,7 +67,7 @@ fn put_version(version: &Option<Text>, out: &mut String) -> Result<(), AllocErro
 fn put_number(number: u64, out: &mut String) -> Result<(), AllocError>
     ensures { OnOk result (string_bytes out.new ≡ string_bytes out.old ++ number_words number) }
 {
-    // A text that no version has counts as 0.
+    // A text that is no version counts as 0.
     if number == 0 {
         return out.push_str(" at an unknown version");
     }
@@ -78,14 +78,14 @@ fn put_list(kind: Kind, namespace: &str, exact: u64, out: &mut String) -> Result
     ensures { OnOk result (string_bytes out.new ≡ string_bytes out.old ++ list_words kind namespace.now exact) }
 {
     let kind = kind.name();
-    // 0 asks for the list as it is now.
+    // 0 means the list as it is now.
     if exact == 0 {
         return write!(out, "list {kind}/{namespace}");
     }
     write!(out, "list {kind}/{namespace} at {exact}")
 }
 
-/// Puts what is answered behind the text, as `Created, version 7`.
+/// Appends a reply, as `Created, version 7`.
 pub fn put_reply(reply: &Reply, out: &mut String) -> Result<(), AllocError>
     ensures { OnOk result (string_bytes out.new ≡ string_bytes out.old ++ reply_words reply.now) }
 {

@@ -1,6 +1,6 @@
-//! Runs as pictures: the Mermaid `sequenceDiagram` of the events of a replay. What stands in a picture are names of objects and
-//! of sets, whose bytes are lower-case letters, digits, `-` and `.`, numbers, and this program's own words: no text of a
-//! stranger can leave its line.
+//! Runs as pictures: the Mermaid `sequenceDiagram` of the events of a replay. A picture has names of objects and of
+//! sets, whose bytes are lower-case letters, digits, `-` and `.`, numbers, and this program's own words: no text from
+//! outside can leave its line.
 #![tactic(auto)]
 
 mod drawing;

@@ -1,4 +1,4 @@
-//! The line of each event that is enabled, by its place and by where its caller stands before and after it.
+//! The line of each event that is enabled, by its index and by its caller's state before and after it.
 ghost use Rattle.std.specs.Prelude.{◌≡◌, ◌<◌, ◌-◌, ◌^◌, ◌++◌, string_bytes, OnOk};
 ghost use Rattle.history.specs.declared.standing.Standing.TheVariants.{Idle};
 ghost use Rattle.pictures.specs.Lines.{answering, begun_line, call_line, check_line, checked_line, compact_line, crash_line, drawn_line, hole_line, left_line, part_line, publish_lines, published_line, raise_line, read_at_line, read_line, reply_line, reserve_line};
@@ -106,7 +106,7 @@ fn put_drawn(place: u64, caller: u64, after: Standing, out: &mut String) -> Resu
     }
 }
 
-/// The publication, and where the number behind the frontier is not filled, a line that says so.
+/// The publication, and if the next number after the frontier is not filled, a line that says so.
 pub(crate) fn put_publish(
     place: u64,
     caller: u64,
@@ -257,7 +257,7 @@ pub(crate) fn put_part(
             shard,
             left,
         } => {
-            // All shards have answered, so the event does nothing, and what does nothing has no line.
+            // All shards have answered, so the event does nothing, and then it has no line.
             if left == 0 {
                 return Ok(());
             }
@@ -271,7 +271,7 @@ pub(crate) fn put_part(
     }
 }
 
-/// The shard that answers a read: that of a get, or of a list the first of those that have still to answer.
+/// The shard that answers a read: for a get its shard, for a list the first that has not answered.
 fn answering(shards: usize, shard: Option<usize>, left: usize) -> usize
     ensures { result ≡ answering shards shard left }
 {

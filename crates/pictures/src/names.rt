@@ -8,7 +8,7 @@ use interleavings::Event;
 use std::alloc::{AllocError, Global};
 use std::collections::BTreeSet;
 
-/// The callers that take part in what is shown, in ascending order.
+/// The callers of what is shown, in ascending order.
 pub(crate) fn shown_callers(
     alloc: Global,
     shown: Shown,
@@ -33,7 +33,7 @@ fn named(alloc: Global, events: &[Event]) -> Result<BTreeSet<u64>, AllocError>
     Ok(callers)
 }
 
-/// The callers that call for a write or crash.
+/// The callers that call a write or crash.
 fn writers(alloc: Global, events: &[Event]) -> Result<BTreeSet<u64>, AllocError>
     ensures { IfOk result (λ callers. callers.keys ≡ writers [] events.now) }
 {
@@ -56,7 +56,7 @@ fn note(callers: &mut BTreeSet<u64>, caller: Option<u64>) -> Result<(), AllocErr
     Ok(())
 }
 
-/// The caller, if the event is a call for a write or a crash.
+/// The caller, if the event is a call of a write or a crash.
 fn writer_by(event: &Event) -> Option<u64>
     ensures { result ≡ writer_by event.now }
 {

@@ -5,16 +5,15 @@ use std::alloc::AllocError;
 
 /// Who the callers of a run are.
 pub trait Roles {
-    /// What a caller is called before its number.
+    /// The words before a caller's number.
     ghost role: { Self → ℕ → List ℕ };
 
-    /// Puts what the caller is called before its number behind the text: nothing, or words with a comma and a space behind
-    /// them.
+    /// Appends the words before the caller's number: nothing, or words with a comma and a space after them.
     fn put_role(&self, caller: u64, out: &mut String) -> Result<(), AllocError>
         ensures { OnOk result (string_bytes out.new ≡ string_bytes out.old ++ role self.now caller) };
 }
 
-/// Callers with no other name than their number.
+/// Callers with no name other than their number.
 #[derive(Clone, Copy, Drop)]
 pub struct NoRoles;
 

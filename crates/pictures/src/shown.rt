@@ -1,4 +1,4 @@
-//! What of a run a picture shows.
+//! What a picture shows of a run.
 ghost use Rattle.std.specs.Prelude.{◌≡◌};
 ghost use Rattle.pictures.specs.Shown.{answers_write, is_of_write, is_reply_to_write, refuses_write, shows};
 
@@ -6,7 +6,7 @@ use history::Standing;
 use interleavings::Event;
 use requests::{Reason, Reply};
 
-/// What of a run a picture shows.
+/// What a picture shows of a run.
 #[derive(Clone, Copy, Drop)]
 pub enum Shown {
     /// Each event that is enabled.
@@ -15,7 +15,7 @@ pub enum Shown {
     Writes,
 }
 
-/// Whether the lines of the event are shown, by where its caller stands before it and by the reply that it gives.
+/// Whether the lines of the event are shown, by its caller's state before it and by the reply that it gives.
 pub(crate) fn shows(
     shown: Shown,
     event: &Event,

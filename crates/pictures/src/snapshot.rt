@@ -7,12 +7,12 @@ ghost use Rattle.pictures.specs.Picture.{snapshot_of};
 
 use history::{Replay, Standing};
 
-/// What lines tell of a run between two events.
+/// What lines show of a run between two events.
 #[derive(Clone, Copy)]
 pub(crate) struct Snapshot {
-    /// Where the caller stands that the event names. Where it names none, idle.
+    /// The state of the event's caller. If it has none, idle.
     pub standing: Standing,
-    /// Whether the number behind the frontier is filled.
+    /// Whether the next number after the frontier is filled.
     pub can_rise: bool,
     pub frontier: u64,
 }

@@ -13,7 +13,7 @@ use Rattle.plan_lines.specs.Formats.{action_text, actions_text}
 use Rattle.plan_lines.specs.Output.{PutsBut}
 use Rattle.plan_lines.proofs.Finding.{at_drop}
 
--- the lines are that of the first action and those behind it
+-- the lines are that of the first action and those after it
 first_line : (format : Format) (a : Action) (actions : List Action)
     → actions_text format (a ∷ actions) ≡ (action_text format a ++ 10 ∷ []) ++ actions_text format actions
 first_line Json a actions = sym (append_assoc (compact_text (action_data a)) (10 ∷ []) (text_lines (map action_data actions)))
@@ -51,7 +51,7 @@ PutsBut-part old now new bytes rest some more (put, e, p) cut (part, left, f, q)
   Puts-then old now new put part p q,
 )
 
--- the line of an action was put behind what waits, and some of it all was written
+-- the line of an action was appended to what waits, and a part of it all was written
 pub line-put : (format : Format) (old now new : Option (List ℕ)) (all waiting left : List ℕ) (actions : List Action) (at : ℕ) (a : Action)
     → at < length actions → a ≡ get_or actions at a → PutsBut old all (waiting ++ actions_text format (drop at actions)) now
     → PutsBut now (waiting ++ (action_text format a ++ 10 ∷ [])) left new
@@ -65,7 +65,7 @@ pub line-part : (format : Format) (old now new : Option (List ℕ)) (all waiting
 line-part format old now new all waiting actions at a inside is so_far next =
     PutsBut-part old now new all _ _ (actions_text format (drop (at + 1) actions)) so_far (waiting_from format waiting actions at a inside is) next
 
--- nothing is behind what waits
+-- nothing comes after what waits
 pub last-part : (old now new : Option (List ℕ)) (all rest waiting shown : List ℕ) → PutsBut old all rest now → rest ≡ waiting ++ [] → shown ≡ waiting
     → PutsPart now shown new → PutsPart old all new
 last-part old now new all rest waiting shown (put, e, p) none same q =

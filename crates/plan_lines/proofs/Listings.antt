@@ -8,7 +8,7 @@ use Rattle.objects.proofs.Chains.{fails_then}
 use Rattle.plain.specs.Lines.{lines}
 use Rattle.plan_lines.specs.Objects.{Lists, nothing, read_from, with_last}
 
--- the lists hold what stands before the rest
+-- the lists hold what is before the rest
 abbrev pub HoldBefore : Lists → List ℕ → List ℕ → Type 0
 HoldBefore l text rest = read_from nothing (lines text) ≡ read_from l (lines rest)
 

@@ -1,4 +1,4 @@
--- An input of which a line is no object.
+-- An input with a line that is no object.
 use Rattle.std.proofs.Common.{◌≡◌, ℕ, ◌+◌, List, [], ◌∷◌, Option, Some, Result, Ok, Err, true, ap}
 use Rattle.std.specs.Prelude.{IfErr, is_ok, is_some, if◌then◌else◌}
 use Rattle.objects.specs.Reading.{reading}
@@ -11,7 +11,7 @@ step : {A B E : Type 0} (n : ℕ) (r : Result A E) (later line : Option ℕ) (f 
 step n (Ok x) later line f is next = next x is
 step n (Err e) later line f is next = ap is_some is
 
--- where an object cannot be read, its line is told
+-- if an object cannot be read, its line is found
 pub has_line : (l : Lists) (n : ℕ) (ls : List (List ℕ)) (line : Option ℕ) → line ≡ first_refused (λ x. is_ok (reading x)) n ls
     → IfErr (read_from l ls) (λ _. is_some line ≡ true)
 has_line l n [] line is = tt

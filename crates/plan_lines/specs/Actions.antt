@@ -10,7 +10,7 @@ use Rattle.sets.specs.Actions.{version_or_empty}
 use Rattle.sets.specs.declared.action.Action.{Action}
 use Rattle.sets.specs.declared.action.Action.TheVariants.{CreateClaim, CreatePod, DeletePod, UpdateClaim, WriteRevision, DeleteRevision, WriteStatus, Wait}
 
--- the text of a UID; of 0, and of a number that no UID has, the empty text
+-- the text of a UID; for 0, and for a number that is no UID, the empty text
 abbrev pub uid_or_empty : ℕ → List ℕ
 uid_or_empty n = if nat_lt n (2 ^ 48) then uid_text n else []
 

@@ -5,7 +5,7 @@ use Rattle.pod_steps.specs.declared.step.Cause.TheVariants.{Terminating, NotRead
 use Rattle.sets.specs.declared.action.Action.{Action}
 use Rattle.sets.specs.declared.action.Action.TheVariants.{CreateClaim, CreatePod, DeletePod, UpdateClaim, WriteRevision, DeleteRevision, WriteStatus, Wait}
 
--- why a pod is waited for
+-- why a plan waits for a pod
 abbrev pub cause_words : Cause → List ℕ
 cause_words Terminating = codes ", which is terminating"
 cause_words NotReady = codes ", which is not ready"

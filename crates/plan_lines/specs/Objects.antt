@@ -18,7 +18,7 @@ pub record Lists : Type 0 where
 abbrev pub nothing : Lists
 nothing = record { sets = []; pods = []; claims = []; revisions = [] }
 
--- with an object of that kind at the end of its list
+-- with an object of that kind appended to its list
 abbrev pub with_kind : Kind → Lists → Object → Lists
 with_kind StatefulSet l o = record { sets = l.sets ++ o ∷ []; pods = l.pods; claims = l.claims; revisions = l.revisions }
 with_kind Pod l o = record { sets = l.sets; pods = l.pods ++ o ∷ []; claims = l.claims; revisions = l.revisions }

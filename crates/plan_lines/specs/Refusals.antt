@@ -1,4 +1,4 @@
--- The names of what a plan refuses.
+-- The names of a plan's refusals.
 use Rattle.std.specs.Prelude.{ℕ, List, codes}
 use Rattle.set_views.specs.declared.fault.PlanError.{PlanError}
 use Rattle.set_views.specs.declared.fault.PlanError.TheVariants as errors

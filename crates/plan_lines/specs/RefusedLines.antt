@@ -1,4 +1,4 @@
--- The line for which the input of a plan is refused.
+-- The first line for which the input of a plan is refused.
 use Rattle.std.specs.Prelude.{ℕ, List, Option, is_ok}
 use Rattle.objects.specs.Reading.{reading}
 use Rattle.plain.specs.Lines.{lines}

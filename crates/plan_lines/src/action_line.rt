@@ -12,7 +12,7 @@ use plain::{end_line, write_object_member, write_text_member};
 use sets::{Action, Cause};
 use std::alloc::{AllocError, Global};
 
-/// Puts the line of the action behind what was written.
+/// Appends the line of the action.
 pub(crate) fn put_action(
     alloc: Global,
     action: &Action,
@@ -144,7 +144,7 @@ fn write_version(number: u64, out: &mut Writer) -> Result<(), AllocError>
 fn version_or_empty<'a>(buffer: &'a mut itoa::Buffer, number: u64) -> &'a str
     ensures { result.now ≡ version_or_empty number }
 {
-    // 0 says that none was listed.
+    // 0 means that none was listed.
     if number == 0 {
         ""
     } else {

@@ -6,7 +6,7 @@ use objects::Object;
 use sets::{Action, Cause};
 use std::alloc::AllocError;
 
-/// Puts the line of the action behind what was written.
+/// Appends the line of the action.
 pub(crate) fn put_brief(action: &Action, out: Vec<u8>) -> Result<Vec<u8>, AllocError>
     ensures { IfOk result (λ text. text.items ≡ out.items ++ (brief_line action.now ++ 10 ∷ [])) }
 {

@@ -1,4 +1,4 @@
-//! Lines of `stsctl plan`: the objects that an input has, and the actions of a plan as text.
+//! Lines of `stsctl plan`: the objects in an input, and the actions of a plan as text.
 #![tactic(auto)]
 
 mod action_line;

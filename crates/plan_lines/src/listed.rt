@@ -1,4 +1,4 @@
-// The objects of an input, as a plan takes them.
+// The objects of an input, as a plan needs them.
 ghost use Rattle.std.specs.Prelude.{◌≡◌, ◌&&◌, find, option_map, OnOk};
 ghost use Rattle.objects.specs.Reading.{reading};
 ghost use Rattle.objects.specs.Steps.{Gives};
@@ -33,7 +33,7 @@ impl Listed {
         }
     }
 
-    /// Puts the object at the end of the list of its kind.
+    /// Appends the object to the list of its kind.
     fn add(&mut self, object: Object) -> Result<(), AllocError>
         ensures { OnOk result (lists_of self.new ≡ with_last (lists_of self.old) object) }
     {
@@ -47,11 +47,11 @@ impl Listed {
     }
 }
 
-/// The objects of a text, one a line, by their kinds. A line ends with a line feed or where the text ends.
+/// The objects of a text, one a line, by their kinds. A line ends with a line feed or with the text.
 ///
 /// # Errors
 ///
-/// The refusal of the first line that is no object, an empty one too.
+/// The refusal of the first line that is no object; an empty line is none.
 pub fn read_objects(alloc: Global, text: &[u8]) -> Result<Listed, ReadError>
     ensures { Gives lists_of result (read_from nothing (lines text.now)) }
 {
@@ -67,7 +67,7 @@ pub fn read_objects(alloc: Global, text: &[u8]) -> Result<Listed, ReadError>
     Ok(listed)
 }
 
-// The object that a line is.
+// The object of a line.
 #[tactic(auto, using(objects::proofs::Chains::fails_then), unfolding(objects::specs::Reading::reading))]
 pub(crate) fn read_line(
     alloc: Global,
@@ -80,7 +80,7 @@ pub(crate) fn read_line(
     read_draft(alloc, tree)
 }
 
-/// The set of that namespace and name, the first one where there are several.
+/// The set of that namespace and name, the first one if there are several.
 pub fn named_set<'a>(sets: &'a [Object], namespace: &str, name: &str) -> Option<&'a Object>
     ensures { option_map (λ set. set.now) result ≡ find (is_named namespace.now name.now) sets.now }
 {

@@ -13,16 +13,16 @@ use sets::Action;
 use std::alloc::{AllocError, Global};
 use thiserror::Error;
 
-/// How a line says an action.
+/// How a line shows an action.
 #[derive(Clone, Copy, Drop)]
 pub enum Format {
-    /// As compact JSON, with all that it takes to do it.
+    /// As compact JSON, with all that is needed to do it.
     Json,
-    /// In words, for a person: names alone.
+    /// In words, for a person: only names.
     Brief,
 }
 
-/// Puts the line of the action behind what was written.
+/// Appends the line of the action.
 fn put_formatted(
     alloc: Global,
     format: Format,
@@ -67,19 +67,19 @@ impl From<AllocError> for OutputFault {
     }
 }
 
-/// Writes the actions, one a line and in order. Brief says each in words, as `Create Pod web-0`. Json says:
+/// Writes the actions, one a line and in order. Brief shows each in words, as `Create Pod web-0`, and Json as:
 ///
 /// - `{"do":A,"object":O}` for CreateClaim, CreatePod, UpdateClaim, WriteRevision and WriteStatus;
 /// - `{"do":"DeletePod","name":N,"uid":U}`;
 /// - `{"do":"DeleteRevision","name":N,"resourceVersion":V,"uid":U}`;
 /// - `{"cause":C,"do":"Wait","name":N}`, C Terminating or NotReady.
 ///
-/// A UID or a resource version that was not listed is an empty text. Lines are written once they come to 65,536 bytes, so
+/// A UID or a resource version that was not listed is an empty text. Lines are written once they reach 65,536 bytes, so
 /// at any time it holds one line, and less than 65,536 bytes of others.
 ///
 /// # Errors
 ///
-/// Where the writer failed or memory ran out, what was written is a beginning of the lines.
+/// If the writer failed or memory ran out, what was written is a prefix of the lines.
 pub fn write_actions<W: Sink>(
     alloc: Global,
     format: Format,
@@ -97,7 +97,8 @@ pub fn write_actions<W: Sink>(
     write_all(writer, lines.as_slice()).ok_or(OutputFault::Write)
 }
 
-/// Puts the line of the action behind those that wait, and writes them all where they are enough. Answers what waits still.
+/// Appends the line of the action to the lines that wait, and writes them all if they are enough. Returns what still
+/// waits.
 fn put_line<W: Sink>(
     alloc: Global,
     format: Format,

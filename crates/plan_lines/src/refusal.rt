@@ -3,7 +3,7 @@ ghost use Rattle.plan_lines.specs.Refusals.{plan_error_name};
 
 use sets::PlanError;
 
-/// The name of a refusal, as the program says it.
+/// The name of a refusal, as the program prints it.
 pub fn plan_error_name(error: &PlanError) -> &'static str
     ensures { result.now ≡ plan_error_name error.now }
 {

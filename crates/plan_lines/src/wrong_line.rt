@@ -43,7 +43,7 @@ impl LineTest for Objects {
     }
 }
 
-/// The number of the first line, from 1, that is no object; none where each is one.
+/// The number of the first line, from 1, that is no object; none if each is one.
 pub fn refused_object_line(alloc: Global, text: &[u8]) -> Result<Option<u64>, Memory>
     ensures line { IfOk result (λ line. line ≡ refused_line_of text.now) }
     ensures some { IfOk result (λ line. IfErr (read_from nothing (lines text.now)) (λ _. is_some line ≡ true)) }

@@ -1,4 +1,4 @@
--- A request that is carried on where the store is quiet comes to its reply.
+-- A request that is continued while the store is quiet gets its reply.
 use Rattle.std.proofs.Common.{◌≡◌, ◌≢◌, ◌<◌, ◌≤◌, ◌∷◌, [], ℕ, zero, suc, Bool, true, false, List, length, cond, Option, Some, None, is_some, nat_le, nat_lt, if◌then◌else◌, refl, sym, ap, ◌∙◌, arith, ltb-false}
 use Rattle.std.specs.FinMap as map
 use Rattle.std.proofs.lemmas.List.FromFn.{length-range_with_len}
@@ -73,7 +73,7 @@ module _ (z : Size) (count : ℕ) (reconcilers : ℕ → Reconciler) (n : ℕ) (
   abbrev Inner : Event → Type 0
   Inner e = IsInner z count reconcilers n k0 there e
 
-  -- where the caller stands, it goes on so
+  -- the next step from the caller's phase
   next_at : (w : World) (ph : Phase) → w.phase n ≡ ph → next_step z w n ≡ goes_on (λ s. is_some (w.holder s)) w.frontier (can_rise w) n (standing_of z.shards ph)
   next_at w ph at = ap (λ x. goes_on (λ s. is_some (w.holder s)) w.frontier (can_rise w) n (standing_of z.shards x)) at
 

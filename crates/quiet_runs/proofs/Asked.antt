@@ -1,4 +1,4 @@
--- What is asked where the store is quiet is carried to its reply.
+-- A request that is sent while the store is quiet gets its reply.
 use Rattle.std.proofs.Common.{◌≡◌, ◌<◌, ◌≤◌, ◌+◌, ◌∷◌, ◌++◌, [], ℕ, Bool, true, false, cond, List, Option, None, refl, sym, ap, ◌∙◌, subst, append_assoc, arith, lt-ltb}
 use Rattle.requests.specs.declared.request.Request.{Request}
 use Rattle.requests.specs.declared.reply.Reply.{Reply}

@@ -20,7 +20,7 @@ use Rattle.cluster_runs.specs.Turns.{Course, carried_in, event_and, reply_of, re
 use Rattle.cluster_runs.proofs.Traces.{after_more}
 use Rattle.quiet_runs.specs.Quiet.{IsQuiet, world_of}
 
--- what a controller hears changes neither the events nor the callers
+-- a reply that a controller handles changes neither the events nor the callers
 module _ (reconcilers : ℕ → Reconciler) (k : Cluster) where
   heard_events : (c : Option ℕ) (o : Option Reply) → (hears reconcilers k c o).events ≡ k.events
   heard_events (Some c) (Some reply) = refl

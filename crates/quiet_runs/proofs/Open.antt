@@ -1,4 +1,4 @@
--- Whatever request is open where the store is quiet, it comes to its reply.
+-- Any request that is open while the store is quiet gets its reply.
 use Rattle.std.proofs.Common.{◌≡◌, ◌<◌, ◌≤◌, [], ℕ, suc, true, length, Some, refl, sym, ◌∙◌, arith}
 use Rattle.std.proofs.lemmas.Option.{none-some}
 use Rattle.requests.specs.declared.reply.Reply.{Reply}
@@ -17,7 +17,7 @@ use Rattle.quiet_runs.proofs.Answered.{by_route, reads_on, waits}
 use Rattle.quiet_runs.proofs.Ends.{Ends, OnWay, within}
 use Rattle.quiet_runs.proofs.Short.{IsShort, reads_are_short}
 
--- what a caller waits for was drawn
+-- the number that a caller waits for was drawn
 awaits_drawn : (z : Size) (w : World) (g : Ghost) (c saw p : ℕ) (r : Reply) → Invariant z w g → AwaitFacts z w.log g.parked g.fate g.settled c saw p r → saw ≤ w.drawn
 awaits_drawn z w g c saw p r iv (is_aside q parked known stays) =
     let low = stays.settled in let high = iv.bound stays.key in omega (arith, low, high)

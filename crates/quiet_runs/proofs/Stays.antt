@@ -1,4 +1,5 @@
--- What is asked and carried on where the store is quiet leaves it quiet, and nobody waits who did not wait before.
+-- Requests that are sent or continued while the store is quiet leave it quiet, and no caller waits that did not wait
+-- before.
 use Rattle.std.proofs.Common.{◌≡◌, ◌<◌, ◌≤◌, ◌+◌, ◌++◌, [], ℕ, zero, suc, Bool, true, false, cond, List, Option, Some, None, nat_lt, is_some, refl, sym, ap, ◌∙◌, subst, ltb-true}
 use Rattle.requests.specs.declared.request.Request.{Request}
 use Rattle.requests.specs.declared.reply.Reply.{Reply}
@@ -52,7 +53,7 @@ abbrev next_from : Size → World → ℕ → Phase → Option Event
 next_from z w n ph = goes_on (λ s. is_some (w.holder s)) w.frontier (can_rise w) n (standing_of z.shards ph)
 
 module _ (z : Size) (count : ℕ) (reconcilers : ℕ → Reconciler) where
-  -- nothing leads a caller on that asks nothing
+  -- a caller that has sent nothing has no next step
   stays : (fuel n : ℕ) (k : Cluster) → next_step z (world_of z k) n ≡ None → carried_in fuel n z count reconcilers k ≡ ([], None)
   unfolding carried_in
   stays zero n k none = refl
@@ -103,7 +104,7 @@ module _ (z : Size) (count : ℕ) (reconcilers : ℕ → Reconciler) where
       go m was (same e b) = ap (λ i. (world_of z (run z count reconcilers k o.0)).phase i) e ∙ ends.idle
       go m was (other ne b) = ends.others m ne ∙ was
 
-  -- whoever has an open request has called it, and so was used
+  -- a caller with an open request has called it, and so was used
   open_used : (k : Cluster) → Keeps z reconcilers count k → (n : ℕ) (ph : Phase) → Opens (world_of z k).trace n ph → is_open ph ≡ true → is_used k n ≡ true
   open_used k kept n Idle opens asks = absurd cc
   open_used k kept n (Called p q) opens asks = kept.seen (item.Call p n opens.request) opens.called
@@ -161,7 +162,7 @@ module _ (z : Size) (count : ℕ) (reconcilers : ℕ → Reconciler) where
         go false is =
             subst (λ b. StaysQuiet z k (run z count reconcilers k (cond b (event_and (Outside n r) (carried n) z count reconcilers k) ([], None)).0)) (sym is) (nothing_moves z k quiet)
 
--- ---- one after another, where runs come to
+-- ---- one after another, from clusters that runs reach
 pub keeps_then : (z : Size) (count : ℕ) (reconcilers : ℕ → Reconciler) (first : Course) (next : Option Reply → Course) → KeepsQuiet z count reconcilers first
     → ((delivered : Option Reply) → KeepsQuiet z count reconcilers (next delivered)) → KeepsQuiet z count reconcilers (followed_by first next)
 keeps_then z count reconcilers first next one two events quiet =

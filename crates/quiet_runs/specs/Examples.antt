@@ -12,7 +12,7 @@ use Rattle.cluster_runs.specs.Turns.{carried_in}
 abbrev pub size : Size
 size = record { capacity = 4; shards = 8 }
 
--- where nobody else has asked, the caller 0 calls a list
+-- if no other client has sent anything, caller 0 calls a list
 abbrev pub list_called : (ℕ → Reconciler) → Cluster
 list_called reconcilers = run size 0 reconcilers (start 0) (Outside 0 (List Pod [] 0) ∷ [])
 

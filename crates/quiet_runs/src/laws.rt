@@ -12,17 +12,17 @@ ghost use Rattle.requests.specs.declared.request.Request.{Request};
 ghost use Rattle.rounds.specs.Phase.{asks};
 ghost use Rattle.rounds.specs.Reconciler.{Reconciler};
 
-/// Where the store is quiet, an open request gets its reply when it is carried on: in five steps at the most, or in two more than
-/// there are shards; and the store is quiet again. So a line of a script that carries a request on never stops short there,
-/// whoever called the request, and however many requests of other callers are open.
+/// If the store is quiet, an open request gets its reply when it is continued: within five steps, or two more than
+/// there are shards if that is more; and the store is quiet again. So a script line that continues a request never
+/// stops short there, whichever caller called it, and however many requests of other callers are open.
 pub fn quiet_requests_are_answered()
     ensures { (size : Size) (count : ℕ) (reconcilers : ℕ → Reconciler) (cluster : Cluster) (caller : ℕ) → HasShards size
         → IsQuiet (world_of size cluster) → is_used cluster caller ≡ true → is_open ((world_of size cluster).phase caller) ≡ true
         → Answers (carried caller) [] caller (steps_of_a_request size) size count reconcilers cluster }
 {}
 
-/// Where the store is quiet, whoever is idle and asks gets the reply: a controller that asks what it is to ask next, and a
-/// caller that is no controller's.
+/// If the store is quiet, an idle caller that sends a request gets the reply: a controller that sends its next request,
+/// and a caller that is no controller's.
 pub fn quiet_asks_are_answered()
     ensures controllers { (size : Size) (count : ℕ) (reconcilers : ℕ → Reconciler) (events : List ClusterEvent) (controller : ℕ)
         → HasShards size → controller < count
@@ -38,10 +38,11 @@ pub fn quiet_asks_are_answered()
         caller (steps_of_a_request size + 1) size count reconcilers cluster }
 {}
 
-/// What asks and carries requests on leaves a quiet store quiet, and nobody waits for a reply who did not wait before: a request
-/// that is carried on, or that a controller or anybody else asks, a controller's round or its approach to a write, rounds of all
-/// controllers and turns of a kubelet, and any of these one after another. So none of them stops short at a request that it has
-/// called. And a script none of whose lines is a single event ends at rest: no write is under way, and nobody waits.
+/// Lines that send or continue requests keep a quiet store quiet, and no caller waits for a reply that did not wait
+/// before. Such a line continues a request, sends one as a controller or as another client, is a controller's round or
+/// its approach to a write, or is rounds of all controllers and turns of a kubelet; any of these may follow one
+/// another. So none of them stops short at a request that it has called. And a script without single events ends at
+/// rest: no write is in progress, and no caller waits.
 pub fn quiet_is_kept()
     ensures begins { IsAtRest opening }
     ensures carried { (size : Size) (count : ℕ) (reconcilers : ℕ → Reconciler) (caller : ℕ)

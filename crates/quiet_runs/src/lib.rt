@@ -1,4 +1,5 @@
-//! Clusters whose store is quiet: what is asked or carried on there while nobody else moves comes to its reply.
+//! Clusters whose store is quiet: each request that is sent or continued there, while no other caller moves, gets its
+//! reply.
 #![tactic(auto)]
 
 mod examples;

@@ -13,7 +13,7 @@ use Rattle.replay_lines.specs.Printing.{order_data}
 use Rattle.race_log.specs.declared.spec.RaceSpec.{RaceSpec}
 use Rattle.race_lines.specs.History.{history_text, item_data}
 
--- the history from an item on is its line and the history behind it
+-- the history from an item on is its line and the history after it
 history_from : (spec : RaceSpec) (items : List Item) (order : List ℕ) (at : ℕ) (i : Item) → at < length items → i ≡ get_or items at i
     → history_text spec (drop at items) order ≡ (compact_text (item_data spec i) ++ 10 ∷ []) ++ history_text spec (drop (at + 1) items) order
 history_from spec items order at i inside is =
@@ -31,11 +31,11 @@ waiting_from waiting spec items order at i inside is =
     ap (λ t. waiting ++ t) (history_from spec items order at i inside is)
     ∙ sym (append_assoc waiting (compact_text (item_data spec i) ++ 10 ∷ []) (history_text spec (drop (at + 1) items) order))
 
--- behind the last item is the order
+-- after the last item comes the order
 pub history_end : (spec : RaceSpec) (items : List Item) (order : List ℕ) → items ≡ [] → history_text spec items order ≡ compact_text (order_data order) ++ 10 ∷ []
 history_end spec items order none = ap (λ rest. history_text spec rest order) none
 
--- the line of an item was put behind what waits, and some of it all was written
+-- the line of an item was appended to what waits, and a part of it all was written
 pub line-put : (old now new : Option (List ℕ)) (all waiting left : List ℕ) (spec : RaceSpec) (items : List Item) (order : List ℕ) (at : ℕ) (i : Item)
     → at < length items → i ≡ get_or items at i → PutsBut old all (waiting ++ history_text spec (drop at items) order) now
     → PutsBut now (waiting ++ (compact_text (item_data spec i) ++ 10 ∷ [])) left new
@@ -69,7 +69,7 @@ line-part old now new all waiting spec items order at i inside is so_far next =
 pub nothing-more : (old now : Option (List ℕ)) (all rest : List ℕ) → PutsBut old all rest now → PutsPart old all now
 nothing-more old now all rest (put, e, p) = (put, rest, e, p)
 
--- all that was left was written, or a beginning
+-- all that was left was written, or a prefix of it
 pub rest-put : (old now new : Option (List ℕ)) (all rest shown : List ℕ) → PutsBut old all rest now → rest ≡ shown → Puts now shown new → Puts old all new
 rest-put old now new all rest shown (put, e, p) same q =
     subst (λ t. Puts old t new) (sym (e ∙ ap (λ t. put ++ t) same)) (Puts-then old now new put shown p q)
@@ -78,7 +78,7 @@ pub rest-part : (old now new : Option (List ℕ)) (all rest shown : List ℕ) �
 rest-part old now new all rest shown (put, e, p) same q =
     subst (λ t. PutsPart old t new) (sym (e ∙ ap (λ t. put ++ t) same)) (PutsPart-after old now new put shown p q)
 
--- what follows where the one is there follows where the other is Ok
+-- what follows if the one is there follows if the other is Ok
 pub ok_where_some : {A E : Type 0} (o : Option A) (r : Result A E) (P Q : Type 0) → o ≡ result_ok r → OnSome o P → (P → Q) → OnOk r Q
 ok_where_some o (Ok x) P Q is holds follows = follows (subst (λ s. OnSome s P) is holds)
 ok_where_some o (Err e) P Q is holds follows = tt

@@ -15,22 +15,22 @@ use Rattle.race_log.specs.declared.spec.RaceSpec.{RaceSpec}
 use Rattle.race_lines.specs.declared.role.Role.{Role}
 use Rattle.race_lines.specs.declared.role.Role.TheVariants.{Controller, Kubelet, Operator, Other}
 
--- The first callers are the controllers, and the next is the kubelet. The one behind it creates the set; then comes the
--- operator, where there is one.
+-- The first callers are the controllers, and the next is the kubelet. The one after it creates the set; then comes the
+-- operator, if there is one.
 abbrev pub role_of : RaceSpec → (caller : ℕ) → Role
 role_of spec caller =
     if nat_lt caller spec.controllers then Controller
     else (if caller == spec.controllers then Kubelet
     else (if spec.operator && (caller == spec.controllers + 2) then Operator else Other))
 
--- `"controller":N`, `"kubelet":true`, `"operator":true` or nothing, and the members behind it
+-- `"controller":N`, `"kubelet":true`, `"operator":true` or nothing, and the members after it
 abbrev pub role_members : Role → (caller : ℕ) → Members → Members
 role_members Controller caller ms = member (codes "controller") (number (unsigned caller)) ms
 role_members Kubelet caller ms = member (codes "kubelet") (boolean true) ms
 role_members Operator caller ms = member (codes "operator") (boolean true) ms
 role_members Other caller ms = ms
 
--- `{"at":P,"caller":N,"controller":N,"request":L}`, by who asks
+-- `{"at":P,"caller":N,"controller":N,"request":L}`, by the caller's role
 abbrev pub call_data : (place caller : ℕ) → Role → Request → Data
 call_data place caller role request =
     object (member (codes "at") (number (unsigned place)) (member (codes "caller") (number (unsigned caller))

@@ -1,2 +1,2 @@
--- ---- what public clauses cite
+-- ---- cited by public clauses
 pub mod History

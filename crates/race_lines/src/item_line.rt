@@ -13,7 +13,7 @@ use race_log::RaceSpec;
 use replay_lines::put_reply;
 use std::alloc::AllocError;
 
-/// Puts the line of the item behind what was written.
+/// Appends the line of the item.
 pub(crate) fn put_item(spec: &RaceSpec, item: &Item, out: Vec<u8>) -> Result<Vec<u8>, AllocError>
     ensures { IfOk result (λ text. text.items ≡ out.items ++ (compact_text (item_data spec.now item.now) ++ 10 ∷ [])) }
 {
@@ -62,7 +62,7 @@ fn write_call(
     out.end_object()
 }
 
-// Who calls, and where.
+// Who calls, and at which index.
 fn write_caller(place: u64, caller: u64, role: Role, out: &mut Writer) -> Result<(), AllocError>
     ensures tokens { OnOk result (out.new.tokens ≡ out.old.tokens ++ caller_tokens place caller role) }
     ensures before { out.new.before ≡ out.old.before }

@@ -1,4 +1,4 @@
-//! Lines of `stsctl race`: what was asked in a race and what was answered, and the order that explains it, as text.
+//! Lines of `stsctl race`: the requests and replies of a race, and the order that explains them, as text.
 #![tactic(auto)]
 
 mod item_line;

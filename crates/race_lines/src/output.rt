@@ -16,19 +16,19 @@ use std::alloc::Global;
 /// How many bytes of lines wait before they are written.
 const ENOUGH: usize = 65_536;
 
-/// Writes what was asked and answered in a race of this size, one a line and in the order of the log:
+/// Writes the requests and replies in a race of this size, one a line and in the order of the log:
 ///
 /// - `{"at":P,"caller":N,"controller":N,"request":L}` for the call of a controller, L as a request line of `serve`;
 /// - `{"at":P,"caller":N,"kubelet":true,"request":L}` for that of the kubelet, and with `"operator":true` for the operator's;
-/// - `{"at":P,"caller":N,"request":L}` for that of anybody else;
+/// - `{"at":P,"caller":N,"request":L}` for that of any other caller;
 /// - `{"at":P,"caller":N,"reply":R}` for a reply, R as a reply line of `serve`;
 ///
-/// and last `{"order":[P,..]}`, the places of calls in the order that is given. Lines are written once they come to 65,536
+/// and last `{"order":[P,..]}`, the indices of calls in the given order. Lines are written once they reach 65,536
 /// bytes, so at any time it holds one line, and less than 65,536 bytes of others.
 ///
 /// # Errors
 ///
-/// Where the writer failed or memory ran out, what was written is a beginning of the lines.
+/// If the writer failed or memory ran out, what was written is a prefix of the lines.
 pub fn write_history<W: Sink>(
     alloc: Global,
     spec: &RaceSpec,
@@ -48,7 +48,8 @@ pub fn write_history<W: Sink>(
     write_all(writer, rest.as_slice()).ok_or(OutputFault::Write)
 }
 
-/// Puts the line of the item behind those that wait, and writes them all where they are enough. Answers what waits still.
+/// Appends the line of the item to the lines that wait, and writes them all if they are enough. Returns what still
+/// waits.
 fn put_line<W: Sink>(
     spec: &RaceSpec,
     item: &Item,

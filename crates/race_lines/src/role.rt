@@ -1,21 +1,21 @@
-// Who asks in a race.
+// The roles of callers in a race.
 ghost use Rattle.std.specs.Prelude.{◌≡◌};
 ghost use Rattle.race_lines.specs.History.{role_of};
 
 use race_log::RaceSpec;
 
-/// Who a caller of a race is.
+/// The role of a caller in a race.
 #[derive(Clone, Copy, Drop)]
 pub(crate) enum Role {
     Controller,
     Kubelet,
     Operator,
-    /// The one that creates the set, or nobody of the race.
+    /// The caller that creates the set, or one that has no part in the race.
     Other,
 }
 
-/// Racers are told apart by numbers: first come the controllers', then the kubelet's, then that of the caller that creates
-/// the set, and the operator's.
+/// Callers are known by their numbers: first come the controllers', then the kubelet's, then that of the caller that
+/// creates the set, and the operator's.
 pub(crate) fn role_of(spec: &RaceSpec, caller: u64) -> Role
     ensures { result ≡ role_of spec.now caller }
 {

@@ -1,4 +1,4 @@
--- What was noted of each caller, and what it has yet to say, make what it says.
+-- What was noted of each caller, and what it still has to add, are together all its calls and replies.
 use Rattle.std.proofs.Common.{◌≡◌, ℕ, ◌+◌, ◌<◌, ◌≤◌, ◌==◌, Bool, true, false, cond, ◌⊎◌, inl, inr, List, [], ◌∷◌, ◌++◌, length, map, take, drop, get_or, refl, sym, ap, ◌∙◌, subst, if◌then◌else◌, arith, append_assoc}
 use Rattle.std.specs.List.{filter}
 use Rattle.std.specs.List.Sorted.{IsPermutation, IsSorted}
@@ -42,7 +42,7 @@ counted caller (e ∷ es) =
     sum_by-cons (λ (t : ℕ × ℕ). if t.1 == caller then 1 else 0) (turn_of e) (map turn_of es)
     ∙ mine (e.caller == caller) (turns_left caller (map turn_of es)) (filter (λ (e : Event). e.caller == caller) es) e (counted caller es)
 
--- those that wait, in any order, are the turns of what is to be said
+-- those that wait, in any order, are the turns of what is to be added
 pub turns_of_all : (w : Waiting) (es : List Event) (turns : List (ℕ × ℕ)) → Holds w es → IsPermutation w.turns.items turns → AreTurnsOf turns w.queues
 turns_of_all w es turns holds same caller =
     sum_by-IsPermutation (λ (t : ℕ × ℕ). if t.1 == caller then 1 else 0) w.turns.items turns same
@@ -54,7 +54,7 @@ turn_next turns at d caller b inside is =
     sum_by-drop_more (λ (t : ℕ × ℕ). if t.1 == caller then 1 else 0) turns at d inside
     ∙ ap (λ b. (if b then 1 else 0) + turns_left caller (drop (at + 1) turns)) is
 
--- whose turn it is has something to say
+-- the caller whose turn it is has something to add
 pub has_more : (turns : List (ℕ × ℕ)) (queues : Queues) (at : ℕ) (items : List Item) (left : Queues) (d : ℕ × ℕ) → at < length turns
     → Midway turns queues at items left → 0 < length (left_of (get_or turns at d).1 left)
 has_more turns queues at items left d inside midway =

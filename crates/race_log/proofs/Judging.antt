@@ -1,4 +1,4 @@
--- Where the order of a race is legal, no pod was created twice in it.
+-- If the order of a race is legal, no pod was created twice in it.
 use Rattle.std.proofs.Common.{◌≡◌, ℕ, List, [], ◌∷◌, Some, refl, sym, ap, ◌∙◌, subst, inl, inr, zip, map}
 use mathlib.Core.Logic.{∥∥₁_elim}
 use native.Mathlib.Nat.{ℕ_set}
@@ -19,7 +19,7 @@ use Rattle.race_log.specs.Order.{IsOrderOf}
 use Rattle.race_log.specs.Twice.{repeats, reply_at, replies_in_order, with_next}
 use Rattle.race_log.proofs.Once.{none_twice_in_run, onto}
 
--- ---- what stands in a list
+-- ---- elements of a list
 
 all_has : {A : Type 0} (P : A → Type 0) (xs : List A) → AllByRecursion P xs → (x : A) → Has x xs → P x
 all_has P [] all x m = absurd m
@@ -30,7 +30,7 @@ has_all : {A : Type 0} (P : A → Type 0) (xs : List A) → ((x : A) → Has x x
 has_all P [] each = tt
 has_all P (x ∷ xs) each = (each x (inl refl), has_all P xs (λ y m. each y (inr m)))
 
--- what stands in one order stood in the other
+-- what one order has the other has
 has_permutation : {A : Type 0} (xs ys : List A) → IsPermutation xs ys → (x : A) → Has x ys → Has x xs
 has_permutation {A} xs ys same x m =
     let P : A → Type 0 = λ y. Has y xs in
@@ -81,7 +81,7 @@ legal_once capacity n order noted ordered legal =
     fits : (s : Stamp) → Has s order → Fits n.items (zip (calls_of order) (replies (opening capacity) legal.requests)) s
     fits s m = let k = noted.stamped s (has_permutation n.stamps order ordered.same s m) in (k.reply, (k.is, legal.right s.reply s.call k.reply k.answers))
 
--- the same where it is known only that the log is so
+-- the same if it is known only that the log is so
 pub legal_once_merely : (capacity : ℕ) (n : Noted) (order : List Stamp) → ∥ IsNoted n ∥₁ → IsOrderOf n.stamps order → IsLegal capacity n.items (calls_of order)
     → repeats (replies_in_order n.items order []) ≡ 0
 legal_once_merely capacity n order noted ordered legal = ∥∥₁_elim noted (ℕ_set _ _) (λ is. legal_once capacity n order is ordered legal)

@@ -27,7 +27,7 @@ taken : (b x : Bool) → cond b false x ≡ (not b && x)
 taken true x = refl
 taken false x = refl
 
--- how often a create was a repeat, where this one is or is not
+-- how often a create was a repeat, depending on whether this one is
 abbrev pub Counts : Bool → ℕ → ℕ → Type 0
 Counts true old new = new ≡ old + 1
 Counts false old new = new ≡ old
@@ -36,7 +36,7 @@ counted : (b : Bool) (old new before : ℕ) → Counts b old new → old ≡ bef
 counted true old new before count same = omega arith
 counted false old new before count same = omega arith
 
--- the key lives where it is not new
+-- the key lives if it is not new
 lived : (new there alive : Bool) → new ≡ not there → there ≡ alive → not new ≡ alive
 lived new true alive is known = ap not is ∙ known
 lived new false alive is known = ap not is ∙ known

@@ -1,4 +1,4 @@
--- A log that goes on by one more call or reply.
+-- A log with one more call or reply.
 use Rattle.std.proofs.Common.{◌≡◌, ◌≢◌, ℕ, zero, suc, ◌+◌, ◌<◌, ◌≤◌, ◌⊎◌, List, [], ◌∷◌, ◌++◌, length, Option, Some, None, refl, sym, ap, ◌∙◌, subst, inl, inr, arith, length-append}
 use mathlib.Core.Logic.{∥∥₁_map}
 use Rattle.std.specs.List.{slice_get}
@@ -29,7 +29,7 @@ still_open items d p new ne h =
     let k = last_call_more items d p new ne (last_call items d p h) in
     record { request = k.request; called = k.called; last = k.last; no_reply = k.no_reply }
 
--- the item behind the others, and the others, are found as before
+-- the last item, and the others, are found as before
 slice_get-last : {A : Type 0} (xs : List A) (y : A) → slice_get (xs ++ y ∷ []) (length xs) ≡ Some y
 slice_get-last [] y = refl
 slice_get-last (x ∷ xs) y = slice_get-last xs y

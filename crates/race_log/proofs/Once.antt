@@ -27,7 +27,7 @@ OnlyLast (begins o ∷ es) = ⊥
 OnlyLast (changes o ∷ es) = ⊥
 OnlyLast (ends o ∷ es) = ⊥
 
--- what a reply tells of lives
+-- what a reply shows of lives
 abbrev Tells : Reply → List Event → Type 0
 Tells (Created o) es = es ≡ begins o ∷ []
 Tells (Updated o) es = es ≡ changes o ∷ []
@@ -73,7 +73,7 @@ step_tells s r = by (route r)
     by (lists_at kind namespace n) = past_tells n (collection (map_at s n) kind namespace) (denied s.floor s.counter n)
     by (compacts n) = compaction_tells s n (denied s.floor s.counter n)
 
--- later events go on from an object that lives, or from none
+-- later events continue from an object that lives, or from none
 abbrev GoesOn : Bool → List Event → Type 0
 GoesOn alive later = (now : Option Object) × (AreLives now later × (is_some now ≡ alive))
 
@@ -111,7 +111,7 @@ only_lasted key current (begins o ∷ es) later only lives = absurd only
 only_lasted key current (changes o ∷ es) later only lives = absurd only
 only_lasted key current (ends o ∷ es) later only lives = absurd only
 
--- what a reply tells of a key leaves it alive, or not
+-- what a reply shows of a key leaves it alive, or not
 goes_on : (key : Key) (current : Option Object) (reply : Reply) (es later : List Event) → Tells reply es → AreLives current (about key (es ++ later))
     → GoesOn (is_alive_after reply key (is_some current)) (about key later)
 goes_on key current (Created o) es later tells lives =
@@ -139,7 +139,7 @@ no_repeat : (pod alive : Bool) → alive ≡ false → ◌≡◌ {A = ℕ} (if p
 no_repeat true alive is = ap (λ a. if a then 1 else 0) is
 no_repeat false alive is = refl
 
--- by earlier replies, the newest first, those keys live of which later events say so
+-- after earlier replies, the newest first, the keys that live are those for which later events say so
 abbrev Agrees : List Event → List Reply → Type 0
 Agrees later earlier = (key : Key) → (current : Option Object) × (AreLives current (about key later) × (is_some current ≡ is_alive key earlier))
 

@@ -13,16 +13,16 @@ use Rattle.race_log.specs.Logged.{Noted}
 use Rattle.race_log.specs.Order.{IsOrderOf}
 use Rattle.race_log.specs.Twice.{repeats, replies_in_order}
 
--- what a log says
+-- what a log has
 abbrev pub noted_of : Log → Noted
 noted_of log = record { items = log.items.items; open_calls = get nat_cmp log.open_calls; stamps = log.stamps.items }
 
 abbrev pub calls_of : List Stamp → List ℕ
 calls_of order = map (λ (s : Stamp). s.call) order
 
--- The report names the size of the race. Where it says legal, what was noted is a history, and the order of the race is a
--- legal one of it for a store of that capacity; and at a capacity that a plain store has, it says legal wherever that is so.
--- `twice` is counted in that order.
+-- The report names the size of the race. If it says legal, what was noted is a history, and the order of the race is a
+-- legal one of it for a store of that capacity; and at a capacity that a plain store can have, it says legal whenever
+-- that is so. `twice` is counted in that order.
 pub record IsReportOf (capacity : ℕ) (spec : RaceSpec) (log : Noted) (report : RaceReport) : Type 0 where
   pub controllers : report.controllers ≡ spec.controllers
   pub rounds : report.rounds ≡ spec.rounds

@@ -8,6 +8,6 @@ is_race s =
     nat_le 1 s.controllers && nat_le s.controllers 64 && nat_le 1 s.shards && nat_le s.shards 64 && nat_le 1 s.rounds && nat_le s.rounds 1024
     && nat_le s.replicas 64
 
--- how many revisions the store of a race may draw
+-- how many revisions the store of a race may allocate
 abbrev pub race_capacity : ℕ
 race_capacity = 65536

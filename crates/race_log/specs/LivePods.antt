@@ -1,4 +1,4 @@
--- ---- what only proofs use: what is known of the objects that live
+-- ---- used only by proofs: what is known of the objects that live
 use Rattle.std.specs.Prelude.{◌≡◌, List}
 use Rattle.std.specs.BTreeSet.{contains}
 use Rattle.objects.specs.Key.{KeyParts, key_cmp}

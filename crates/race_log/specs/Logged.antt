@@ -9,19 +9,19 @@ use Rattle.interleavings.specs.Linearization.{Answers, Has, place_of}
 use Rattle.race_log.specs.declared.stamp.Stamp.{Stamp}
 use Rattle.race_log.specs.Twice.{reply_at}
 
--- What was asked and answered, in the order in which it was noted; by its caller, the place of each call that has no reply
--- yet; and a stamp for each call that has one.
+-- The requests and replies in the order in which they were noted; for each caller, the index of its call that has no
+-- reply yet; and a stamp for each call that has one.
 pub record Noted : Type 0 where
   pub items : List Item
   pub open_calls : ℕ → Option ℕ
   pub stamps : List Stamp
 
--- a stamp for the call, where there is one
+-- a stamp for the call, if there is one
 abbrev pub stamp_for : Option ℕ → (number place : ℕ) → Reply → List Stamp
 stamp_for None number place reply = []
 stamp_for (Some call) number place reply = record { number = number; follows = not (drew_revision reply); call = call; reply = place } ∷ []
 
--- the caller's last call stands at the place, and has no reply
+-- the caller's last call is at this index, and has no reply
 pub record IsOpen (items : List Item) (caller place : ℕ) : Type 0 where
   pub request : Request
   pub called : Has (item.Call place caller request) items
@@ -34,7 +34,7 @@ pub record IsStamped (items : List Item) (s : Stamp) : Type 0 where
   pub is : reply_at items s.reply ≡ Some reply
   pub answers : Answers items s.reply s.call reply
 
--- places are below the length, and calls and stamps are what they say
+-- indices are below the length, and calls and stamps match them
 pub record IsNoted (n : Noted) : Type 0 where
   pub placed : (i : Item) → Has i n.items → place_of i < length n.items
   pub waits : (caller place : ℕ) → n.open_calls caller ≡ Some place → IsOpen n.items caller place

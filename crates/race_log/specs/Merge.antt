@@ -1,4 +1,4 @@
--- The log of a race, as a merge of what each of its callers asked and was told.
+-- The log of a race, as a merge of the requests and replies of its callers.
 use Rattle.std.specs.Prelude.{◌≡◌, ℕ, ◌==◌, List, [], ◌∷◌, filter, flat_map, map}
 use Rattle.std.specs.declared.cmp.Ordering.{Ordering}
 use Rattle.std.specs.Ordering.{nat_cmp, ordering_then}
@@ -10,7 +10,7 @@ use Rattle.interleavings.specs.declared.trace.Item.TheVariants as item
 use Rattle.race_log.specs.declared.part.Asked.{Asked}
 use Rattle.race_log.specs.declared.part.Part.{Part}
 
--- a caller asks a request, or is told a reply
+-- a caller sends a request, or gets a reply
 pub data Said : Type 0 where
   asks : Request → Said
   told : Reply → Said
@@ -43,7 +43,7 @@ item_event (item.Reply place caller reply) = event place caller (told reply)
 abbrev pub noted_events : List Item → List Event
 noted_events items = map item_event items
 
--- what one of the callers said, in order
+-- the calls and replies of one caller, in order
 abbrev pub said_by : ℕ → List Event → List Said
 said_by caller es = map (λ (e : Event). e.said) (filter (λ (e : Event). e.caller == caller) es)
 
@@ -53,7 +53,7 @@ turn_of e = (e.place, e.caller)
 abbrev pub turn_cmp : ℕ × ℕ → ℕ × ℕ → Ordering
 turn_cmp s t = ordering_then (nat_cmp s.0 t.0) (nat_cmp s.1 t.1)
 
--- Callers take turns as the places that they drew say, and each one says in its turn what it said next.
+-- Callers take turns as the places that they drew say, and in its turn each adds its next call or reply.
 pub record IsMergeOf (parts : List Part) (items : List Item) : Type 0 where
   pub turns : List (ℕ × ℕ)
   pub drawn : IsPermutation (map turn_of (events_of parts)) turns

@@ -1,4 +1,4 @@
--- What an operator asks who changes the set of a race meanwhile (Kubernetes, "StatefulSets": scaling and rolling updates).
+-- What an operator sends who changes the set during a race (Kubernetes, "StatefulSets": scaling and rolling updates).
 use Rattle.std.specs.Prelude.{ℕ, ◌+◌, ◌-◌, ◌^◌, ◌/◌, ◌%◌, ◌==◌, min, codes, decimal, None, if◌then◌else◌}
 use Rattle.serde_json.specs.Data.{Members, string, object, no_members, put}
 use Rattle.objects.specs.declared.kind.Kind.TheVariants.{Pod}
@@ -8,7 +8,7 @@ use Rattle.requests.specs.declared.request.Request.{Request}
 use Rattle.requests.specs.declared.request.Request.TheVariants.{Update, UpdateStatus}
 use Rattle.race_log.specs.RaceSet.{set_draft, set_namespace}
 
--- one pod more, within what 64 bits hold
+-- one pod more, at most the greatest number of 64 bits
 abbrev pub one_more : ℕ → ℕ
 one_more replicas = min (replicas + 1) (2 ^ 64 - 1)
 
@@ -16,7 +16,7 @@ one_more replicas = min (replicas + 1) (2 ^ 64 - 1)
 abbrev pub template_of : ℕ → Members
 template_of release = put (codes "metadata") (object (put (codes "labels") (object (put (codes "release") (string (decimal release)) no_members)) no_members)) no_members
 
--- the set as it shall be from now on, whatever it was
+-- the set as it shall be from now on, whatever it was before
 abbrev pub changes_set : (replicas release : ℕ) → Request
 changes_set replicas release = Update (set_draft replicas (template_of release))
 

@@ -1,4 +1,4 @@
--- How often a pod was created while another one of its name lived: accepted creates that follow, in an order, another
+-- How often a pod was created while another one of that name lived: accepted creates that follow, in an order, another
 -- accepted create of the name with no accepted removal between.
 use Rattle.std.specs.Prelude.{ℕ, ◌+◌, Bool, true, false, ◌&&◌, ◌||◌, not, List, [], ◌∷◌, Option, Some, None, if◌then◌else◌}
 use Rattle.std.specs.Ordering.{eq_by_cmp}
@@ -16,7 +16,7 @@ abbrev pub reply_of : Option Item → Option Reply
 reply_of (Some (item.Reply place caller reply)) = Some reply
 reply_of _ = None
 
--- the reply that was noted at a place
+-- the reply at an index
 abbrev pub reply_at : List Item → ℕ → Option Reply
 reply_at items place = reply_of (slice_get items place)
 
@@ -45,7 +45,7 @@ abbrev pub is_pod : Kind → Bool
 is_pod Pod = true
 is_pod _ = false
 
--- 1 where it creates a pod while another one of its name lives
+-- 1 if it creates a pod while another one of that name lives
 abbrev pub repeat_by : Reply → List Reply → ℕ
 repeat_by (Created o) earlier = if is_pod o.key.kind && is_alive o.key earlier then 1 else 0
 repeat_by _ earlier = 0

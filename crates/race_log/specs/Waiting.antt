@@ -1,4 +1,4 @@
--- ---- what only proofs use: what waits to be noted
+-- ---- used only by proofs: what waits to be noted
 use Rattle.std.specs.Prelude.{◌≡◌, ◌==◌, ℕ, false, List, [], ◌∷◌, ◌++◌, length, map, take, drop, if◌then◌else◌}
 use Rattle.std.specs.List.{sum_by}
 use Rattle.std.specs.Option.{option_map_or}
@@ -15,11 +15,11 @@ abbrev pub said : Word → Said
 said (word.Asks request) = asks request
 said (word.Told number reply) = told reply
 
--- what a caller has yet to say
+-- what a caller still has to add
 abbrev pub left_of : ℕ → Queues → List Said
 left_of caller queues = option_map_or (λ queue. map said queue.items) (get nat_cmp queues.by_caller caller) []
 
--- the next that the caller said was noted, and waits no longer
+-- what the caller adds next was noted, and waits no longer
 pub record Hears (caller : ℕ) (old new : List Item) (before after : Queues) : Type 0 where
   pub next : Said
   pub place : ℕ
@@ -31,11 +31,11 @@ pub record Hears (caller : ℕ) (old new : List Item) (before after : Queues) : 
 abbrev pub turns_left : ℕ → List (ℕ × ℕ) → ℕ
 turns_left caller turns = sum_by (λ (t : ℕ × ℕ). if t.1 == caller then 1 else 0) turns
 
--- there are as many turns of each caller as it has to say
+-- there are as many turns of each caller as it has to add
 abbrev pub AreTurnsOf : List (ℕ × ℕ) → Queues → Type 0
 AreTurnsOf turns queues = (caller : ℕ) → turns_left caller turns ≡ length (left_of caller queues)
 
--- so many turns were taken
+-- so many turns were made
 pub record Midway (turns : List (ℕ × ℕ)) (queues : Queues) (taken : ℕ) (items : List Item) (left : Queues) : Type 0 where
   pub said : (caller : ℕ) → said_by caller (noted_events items) ++ left_of caller left ≡ left_of caller queues
   pub callers : map (λ (e : Event). e.caller) (noted_events items) ≡ map (λ (t : ℕ × ℕ). t.1) (take taken turns)

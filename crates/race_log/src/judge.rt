@@ -11,7 +11,7 @@ use objects::Memory;
 use order_check::check_order;
 use std::alloc::Global;
 
-/// What was asked and answered in a race, the order that was judged, as the places of the calls, and what it came to.
+/// The requests and replies of a race, the order that was judged, as the indices of the calls, and the report.
 #[derive(Drop)]
 pub struct RaceHistory {
     pub trace: Trace,
@@ -19,10 +19,15 @@ pub struct RaceHistory {
     pub report: RaceReport,
 }
 
-/// Judges a race by its log: whether its order is legal for a store of that many revisions, and how often a pod was created
-/// twice. Its time is within n log n, beside that of a plain store which takes the requests once.
+/// Judges a race by its log: whether its order is legal for a store of that many revisions, and how often a pod was
+/// created twice. It takes at most n log n time, plus that of a plain store which handles the requests once.
 ///
-/// A race that is legal created no pod twice.
+/// In a legal race no pod was created twice.
+///
+/// The report has the size of the race. Its order has the log's stamps in their order, and `twice` counts in it the
+/// accepted creates of a pod whose name lives by the replies before. The report is legal exactly if the log is a
+/// history and the calls in that order are a legal order of it for a store of that capacity. The log and the order are
+/// returned as they were judged.
 pub fn judged(
     alloc: Global,
     capacity: u64,

@@ -12,12 +12,13 @@ use requests::{Reply, Request};
 use std::alloc::Global;
 use std::collections::BTreeMap;
 
-/// What was asked in a race and what was answered, in the order in which it was noted: the place of a call or a reply is
-/// its index. Each reply is that to the last call of its caller.
+/// The requests and replies of a race, in the order in which they were noted; a call or a reply is named by its index.
+/// Each reply is to the last call of its caller. An open call is the last of its caller. Out of memory, nothing is
+/// added.
 #[derive(Drop)]
 pub struct Log {
     pub(crate) items: Vec<Item>,
-    /// By its caller, the place of each call that has no reply yet.
+    /// For each caller, the index of its call that has no reply yet.
     pub(crate) open_calls: BTreeMap<u64, u64>,
     /// A stamp for each call that has a reply.
     pub(crate) stamps: Vec<Stamp>,
@@ -25,7 +26,7 @@ pub struct Log {
 }
 
 impl Log {
-    /// Nothing is noted yet.
+    /// An empty log.
     pub fn new(alloc: Global) -> Log
         ensures items { result.items.items ≡ [] }
         ensures open_calls { (caller : ℕ) → get nat_cmp result.open_calls caller ≡ None }
@@ -38,7 +39,7 @@ impl Log {
         }
     }
 
-    /// Notes that the caller asks the request.
+    /// Notes that the caller sends the request. The call gets the next index, and is then its caller's open one.
     pub fn call(&mut self, caller: u64, request: Request) -> Result<(), Memory>
         ensures call { OnOk result (self.new.items.items ≡ self.old.items.items ++ item.Call (vec_len self.old.items) caller request ∷ []) }
         ensures waits { OnOk result (IsWith caller (vec_len self.old.items) (get nat_cmp self.old.open_calls) (get nat_cmp self.new.open_calls)) }
@@ -58,8 +59,9 @@ impl Log {
         Ok(())
     }
 
-    /// Notes the reply to the caller's last call. The number is that of an accepted write; else that up to which the answer
-    /// looked. A reply to nobody's call has no stamp, and then the log is no history.
+    /// Notes the reply to the caller's last call. The number is that of an accepted write, or else the one up to which
+    /// the answer looked. A reply without an open call has no stamp, and then the log is no history. It gets the next
+    /// index, closes that call, and leaves a stamp with both indices, its number, and whether it is an accepted write.
     pub fn reply(&mut self, caller: u64, number: u64, reply: Reply) -> Result<(), Memory>
         ensures reply { OnOk result (self.new.items.items ≡ self.old.items.items ++ item.Reply (vec_len self.old.items) caller reply ∷ []) }
         ensures heard { OnOk result (IsWithout caller (get nat_cmp self.old.open_calls) (get nat_cmp self.new.open_calls)) }

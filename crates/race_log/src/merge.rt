@@ -1,4 +1,4 @@
-// The log of a race, out of the parts of its callers.
+// The log of a race, from the parts of its callers.
 ghost use Rattle.std.specs.Prelude.{◌≡◌, ◌==◌, ◌<◌, ◌++◌, ◌∷◌, [], ℕ, false, length, List, IfOk, OnOk, if◌then◌else◌, MatchOption};
 ghost use Rattle.race_log.specs.Merge.{IsMergeOf, Event, event, asked_events, part_events, events_of};
 ghost use Rattle.race_log.specs.Waiting.{AreTurnsOf, HasHeard, Hears, Holds, left_of, said};
@@ -10,7 +10,7 @@ use requests::{Reply, Request};
 use std::alloc::Global;
 use std::collections::{BTreeMap, VecDeque};
 
-/// What a caller says in one of its turns.
+/// What a caller adds to the log in one of its turns.
 #[derive(Drop)]
 enum Word {
     Asks(Request),
@@ -18,7 +18,7 @@ enum Word {
     Told(u64, Reply),
 }
 
-/// What callers have yet to say, each in its order.
+/// What callers still have to add, each in its order.
 #[derive(Drop)]
 struct Queues {
     by_caller: BTreeMap<u64, VecDeque<Word>>,
@@ -26,7 +26,7 @@ struct Queues {
 }
 
 impl Queues {
-    /// Puts it behind all that the caller says.
+    /// Appends it to what the caller adds.
     fn put(&mut self, caller: u64, word: Word) -> Result<(), Memory>
         ensures { OnOk result ((c : ℕ) → left_of c self.new ≡ left_of c self.old ++ (if caller == c then said word ∷ [] else [])) }
     {
@@ -40,7 +40,7 @@ impl Queues {
         Ok(())
     }
 
-    /// What the caller says next.
+    /// What the caller adds next.
     fn take(&mut self, caller: u64) -> Option<Word>
         ensures caller { MatchOption result (left_of caller self.old ≡ []) (λ word. left_of caller self.old ≡ said word ∷ left_of caller self.new) }
         ensures others { (c : ℕ) → (caller == c) ≡ false → left_of c self.new ≡ left_of c self.old }
@@ -49,7 +49,7 @@ impl Queues {
     }
 }
 
-/// What is to be noted: a turn for each event, its place and its caller, and what the callers say.
+/// What is to be noted: a turn for each event, its place and its caller, and what the callers add.
 #[derive(Drop)]
 struct Waiting {
     turns: Vec<(u64, u64)>,
@@ -69,7 +69,7 @@ impl Waiting {
         }
     }
 
-    /// Puts an event behind the others.
+    /// Appends an event.
     fn put(&mut self, place: u64, caller: u64, word: Word) -> Result<(), Memory>
         ensures { (es : List Event) → Holds self.old es → OnOk result (Holds self.new (es ++ event place caller (said word) ∷ [])) }
     {
@@ -78,7 +78,7 @@ impl Waiting {
         Ok(turned?)
     }
 
-    /// Puts a call and its reply behind the others.
+    /// Appends a call and its reply.
     fn put_asked(&mut self, caller: u64, asked: Asked) -> Result<(), Memory>
         ensures { (es : List Event) → Holds self.old es → OnOk result (Holds self.new (es ++ asked_events caller asked)) }
     {
@@ -95,7 +95,7 @@ impl Waiting {
         replied
     }
 
-    /// Puts what a part says behind the others.
+    /// Appends the events of a part.
     fn put_part(&mut self, part: Part) -> Result<(), Memory>
         ensures { (es : List Event) → Holds self.old es → OnOk result (Holds self.new (es ++ part_events part)) }
     {
@@ -106,7 +106,7 @@ impl Waiting {
         Ok(())
     }
 
-    /// What these parts say, one part after another.
+    /// The events of these parts, one part after another.
     fn of(alloc: Global, parts: Vec<Part>) -> Result<Waiting, Memory>
         ensures { IfOk result (λ waiting. Holds waiting (events_of parts.items)) }
     {
@@ -119,7 +119,7 @@ impl Waiting {
 }
 
 impl Log {
-    /// Notes what the caller says next.
+    /// Notes what the caller adds next.
     fn hear(&mut self, queues: &mut Queues, caller: u64) -> Result<(), Memory>
         requires { 0 < length (left_of caller queues.old) }
         ensures { OnOk result (Hears caller self.old.items.items self.new.items.items queues.old queues.new) }
@@ -132,7 +132,7 @@ impl Log {
     }
 }
 
-/// The log of what the callers say in these turns.
+/// The log of what the callers add in these turns.
 fn log_of(alloc: Global, queues: Queues, turns: &[(u64, u64)]) -> Result<Log, Memory>
     requires { AreTurnsOf turns.now queues }
     ensures { IfOk result (λ log. HasHeard log.items.items queues turns.now) }
@@ -145,8 +145,8 @@ fn log_of(alloc: Global, queues: Queues, turns: &[(u64, u64)]) -> Result<Log, Me
     Ok(log)
 }
 
-/// The log that has these parts. Callers take turns by the places of the events, and what a caller says in its turn is the
-/// next that it said: so each part stands in the log in its order, whatever its places are. The time is within n log n.
+/// The log with these parts. Callers take turns by the places of the events, and in its turn a caller adds its next
+/// call or reply: so the log has each part in its order, whatever its places are. The time is at most n log n.
 pub fn merged(alloc: Global, parts: Vec<Part>) -> Result<Log, Memory>
     ensures merged { IfOk result (λ log. IsMergeOf parts.items log.items.items) }
 {

@@ -1,4 +1,4 @@
-// An operator who changes the set of a race meanwhile.
+// An operator who changes the set during a race.
 ghost use Rattle.std.specs.Prelude.{◌≡◌, IfOk, codes};
 ghost use Rattle.serde_json.specs.Data.{string, object, no_members, put};
 ghost use Rattle.objects.specs.declared.kind.Kind.TheVariants.{Pod};
@@ -21,7 +21,7 @@ fn template_of(alloc: Global, release: u64) -> Result<Members, AllocError>
     Members::none(alloc)?.with("metadata", Some(Tree::Map(metadata)))
 }
 
-/// The update of the set to so many pods of a release, whatever it was.
+/// The update of the set to so many pods of a release, whatever it was before.
 fn change_of_set(alloc: Global, replicas: u64, release: u64) -> Result<Request, AllocError>
     ensures { IfOk result (λ request. request ≡ changes_set replicas release) }
 {
@@ -65,8 +65,9 @@ fn failure_of_pod(alloc: Global) -> Result<Request, AllocError>
     }))
 }
 
-/// What the operator asks in a turn, counted from 0. A release takes four turns: one pod more than `replicas`, the template
-/// of the next release, a pod that fails, and `replicas` pods again. Each write names no version, so it depends on no reply.
+/// What the operator sends in a turn, counted from 0. A release takes four turns: one pod more than `replicas`, the
+/// template of the next release, a pod that fails, and `replicas` pods again. Each write names no version, so it
+/// depends on no reply.
 pub fn operator_request(alloc: Global, replicas: u64, turn: u64) -> Result<Request, Memory>
     ensures { IfOk result (λ request. request ≡ operator_asks replicas turn) }
 {

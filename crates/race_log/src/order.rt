@@ -16,7 +16,7 @@ pub(crate) fn in_order(stamps: Vec<Stamp>) -> Result<Vec<Stamp>, Memory>
     Ok(order)
 }
 
-/// The places of their calls.
+/// The indices of their calls.
 pub(crate) fn calls_of(alloc: Global, stamps: &[Stamp]) -> Result<Vec<u64>, Memory>
     ensures { IfOk result (λ calls. calls.items ≡ map (λ (s : Stamp). s.call) stamps.now) }
 {

@@ -45,7 +45,7 @@ fn members(alloc: Global, replicas: u64, template: Members) -> Result<Members, A
     Members::none(alloc)?.with("spec", Some(spec))
 }
 
-/// The set `web` in `default`, with that many pods and that template, no claims, whose pods come in order.
+/// The set `web` in `default`, with that many pods and that template, without claims, and with OrderedReady.
 #[tactic(auto, unfolding(objects::specs::MetadataShape::metadata_fits))]
 pub(crate) fn set_draft(
     alloc: Global,

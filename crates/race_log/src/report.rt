@@ -9,15 +9,15 @@ use objects::Memory;
 use plain::{end_line, write_integer_member};
 use std::alloc::{AllocError, Global};
 
-/// What a race came to.
+/// The result of a race.
 #[derive(Clone, Copy, Debug, PartialEq, Eq)]
 pub struct RaceReport {
     pub controllers: u64,
-    /// Whether the order of the race is a legal order of what was asked and answered.
+    /// Whether the order of the race is a legal order of its requests and replies.
     pub legal: bool,
     pub rounds: u64,
     pub shards: u64,
-    /// How many pods were created while another one of the name lived, by the order of the race.
+    /// How many pods were created while another one of that name lived, by the order of the race.
     pub twice: u64,
 }
 

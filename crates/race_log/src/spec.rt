@@ -6,15 +6,15 @@ use objects::Memory;
 use std::alloc::{AllocError, AllocFailed};
 use thiserror::Error;
 
-/// How many revisions the store of a race may draw.
+/// How many revisions the store of a race may allocate.
 pub const CAPACITY: u64 = 65_536;
 
-/// So many revisions they are.
+/// It is this many revisions.
 pub fn capacity_is_known()
     ensures { CAPACITY ≡ race_capacity }
 {}
 
-/// How large a race is, and whether somebody else takes part.
+/// How large a race is, and whether an operator takes part.
 #[derive(Clone, Copy, Debug, PartialEq, Eq)]
 pub struct RaceSpec {
     /// How many controllers race, from 1 to 64.
@@ -23,9 +23,9 @@ pub struct RaceSpec {
     pub shards: u64,
     /// How many rounds each controller makes, from 1 to 1,024.
     pub rounds: u64,
-    /// How many pods the set asks for, at most 64.
+    /// How many pods the set has, at most 64.
     pub replicas: u64,
-    /// Whether an operator changes the set meanwhile.
+    /// Whether an operator changes the set during the race.
     pub operator: bool,
 }
 
@@ -74,7 +74,7 @@ impl<T: Drop> From<AllocFailed<T>> for RaceFault {
 }
 
 impl RaceSpec {
-    /// Whether each number is within its range.
+    /// Whether each number is in range.
     pub fn is_allowed(&self) -> bool
         ensures { result ≡ is_race self.now }
     {

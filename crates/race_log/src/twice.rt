@@ -1,4 +1,4 @@
-// How often a pod was created while another one of its name lived.
+// How often a pod was created while another one of that name lived.
 ghost use Rattle.std.specs.Prelude.{◌≡◌, ◌<◌, ◌≤◌, ◌^◌, ◌+◌, ◌∷◌, [], List, IfOk, OnOk, option_map};
 ghost use Rattle.requests.specs.declared.reply.Reply.{Reply};
 ghost use Rattle.requests.specs.declared.reply.Reply.TheVariants.{Created};
@@ -12,7 +12,7 @@ use requests::Reply;
 use std::alloc::Global;
 use std::collections::BTreeSet;
 
-/// The keys that live, and how often a pod was created whose name another one had.
+/// The keys that live, and how often a pod was created while its name lived.
 #[derive(Drop)]
 struct LivePods {
     keys: BTreeSet<Key>,
@@ -56,7 +56,7 @@ impl LivePods {
     }
 }
 
-/// The reply that was noted at a place.
+/// The reply at an index.
 fn reply_at(items: &[Item], place: u64) -> Option<&Reply>
     ensures { option_map (λ r. r.now) result ≡ reply_at items.now place }
 {
@@ -73,7 +73,7 @@ fn reply_at(items: &[Item], place: u64) -> Option<&Reply>
 }
 
 impl LivePods {
-    /// The next reply, which was noted at a place.
+    /// The next reply, which is at this index.
     fn on_reply_at(&mut self, items: &[Item], place: u64) -> Result<(), Memory>
         requires { self.old.again + 1 < 2 ^ 64 }
         ensures known { (earlier : List Reply) → Knows self.old earlier → OnOk result (Knows self.new (with_next (reply_at items.now place) earlier)) }
@@ -86,7 +86,7 @@ impl LivePods {
     }
 }
 
-/// How many of the accepted creates of a pod follow, in the order, another one of its name with no accepted removal
+/// How many of the accepted creates of a pod follow, in the order, another one of that name with no accepted removal
 /// between.
 pub(crate) fn repeats(alloc: Global, items: &[Item], order: &[Stamp]) -> Result<u64, Memory>
     ensures { IfOk result (λ n. n ≡ repeats (replies_in_order items.now order.now [])) }

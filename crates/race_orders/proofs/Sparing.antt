@@ -1,4 +1,4 @@
--- A controller asks for no compaction, so what it reads leaves the store as it was.
+-- A controller requests no compaction, so what it reads leaves the store as it was.
 use Rattle.std.proofs.Common.{◌≡◌, ◌≢◌, inl, inr, ℕ, Bool, true, false, List, refl, sym, ap, subst, ◌∙◌}
 use Rattle.requests.specs.Verdict.{is_write}
 use Rattle.requests.specs.declared.reply.Reply.{Reply}
@@ -27,7 +27,7 @@ reads (Compact to) is spares = absurd (spares to refl)
 write_spares : (r : Request) → is_write r ≡ true → SparesHistory r
 write_spares r writes to e = let no : true ≡ false = sym writes ∙ ap is_write e in absurd cc
 
--- a phase of a plan, or of a collection: what it is still to ask are writes
+-- a phase of a plan, or of a collection: what it still has to send are writes
 abbrev pub Spares : Phase → Type 0
 Spares phase = (collects : Bool) × IsIn collects phase
 

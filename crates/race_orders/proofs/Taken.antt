@@ -1,4 +1,4 @@
--- What is taken of racers goes as their order does.
+-- What a store handles of racers follows their order.
 use Rattle.std.proofs.Common.{◌≡◌, ◌≢◌, ◌<◌, ◌+◌, ◌++◌, ◌==◌, ℕ, Bool, true, false, cond, List, [], ◌∷◌, Some, length, get_or, refl, sym, ap, subst, ◌∙◌, arith}
 use Rattle.std.specs.Prelude.{slice_set}
 use Rattle.std.specs.List.{slice_get}
@@ -25,8 +25,8 @@ use Rattle.race_orders.specs.Orders.{AreAsked, AreCast, AreCut, AreNo, EndsAs, I
 use Rattle.outcomes.proofs.Lists.{get_there, mapped_from}
 use Rattle.controller_outcomes.proofs.Lists.{set_here, set_there}
 
--- ---- one place of a list is written
--- what is so of each racer is so with a place written anew
+-- ---- one element of a list is replaced
+-- what holds of each racer holds after one place is replaced
 pub by_place : (P : ℕ → Place → Type 0) (places : List Place) (n : ℕ) (q : Place) → P n q → ((m : ℕ) (x : Place) → m ≢ n → slice_get places m ≡ Some x → P m x)
     → (m : ℕ) (x : Place) → slice_get (slice_set places n q) m ≡ Some x → P m x
 by_place P places n q here there m x at = go (compare m n)
@@ -81,7 +81,7 @@ module _ (race : Race) (reconcilers : ℕ → Reconciler) (who : ℕ → Incarna
   own_elsewhere m n e entries lt less apart by =
       ap (λ b. cond b ((e.1, e.2) ∷ of_incarnation (who m) entries) (of_incarnation (who m) entries)) (ap (is_by (who m)) by ∙ other_is m n lt less apart)
 
-  -- a racer of which no move comes asks nothing
+  -- a racer without a move sends nothing
   asks_nothing : (n : ℕ) → n < count → (entries : List Entry) (order : List Move) → AreAsked race who entries order → AreNo (Ask n) order → AreNo (Late n) order → of_incarnation (who n) entries ≡ []
   asks_nothing n lt entries [] asked none late = ap (of_incarnation (who n)) asked
   asks_nothing n lt entries (Ask m ∷ order) asked none late =
@@ -94,18 +94,18 @@ module _ (race : Race) (reconcilers : ℕ → Reconciler) (who : ℕ → Incarna
 
   -- ---- the order
 
-  -- each racer asks what it is to ask where it stands
+  -- each racer sends what it is to send in its place
   abbrev AreFollowed : List Entry → List Place → Type 0
   AreFollowed entries places = (n : ℕ) (p : Place) → n < count → slice_get places n ≡ Some p → Follows (rules n) p.phase (of_incarnation (who n) entries)
 
-  -- behind an entry of a racer, which then stands elsewhere
+  -- after an entry of a racer, which then has another place
   followed_on : (e : Entry) (entries : List Entry) (places : List Place) (n : ℕ) (q : Place) → n < count → e.0 ≡ Some (who n) → Follows (rules n) q.phase (of_incarnation (who n) entries)
       → AreFollowed (e ∷ entries) places → AreFollowed entries (slice_set places n q)
   followed_on e entries places n q less by here followed m x lt at =
       by_place (λ k y. k < count → Follows (rules k) y.phase (of_incarnation (who k) entries)) places n q (λ l. here)
       (λ k y apart is l. subst (Follows (rules k) y.phase) (own_elsewhere k n e entries l less apart by) (followed k y l is)) m x at lt
 
-  -- a racer has asked, or what it had called has come late
+  -- a racer has sent its request, or its late one has come
   record Turned (t : System) (left : Store) (entries : List Entry) : Type 0 where
     store : t.store ≡ left
     followed : AreFollowed entries t.places

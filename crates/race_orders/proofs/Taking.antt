@@ -1,4 +1,4 @@
--- An order of a race is taken by a plain store.
+-- A plain store can handle an order of a race.
 use Rattle.std.proofs.Common.{◌≡◌, ◌≤◌, ◌<◌, ◌++◌, ℕ, List, [], ◌∷◌, Some, length, refl, sym, ap, ◌∙◌}
 use Rattle.std.specs.Prelude.{if◌then◌else◌}
 use Rattle.std.proofs.lemmas.Bool.{lt-ltb}
@@ -33,7 +33,7 @@ module _ (race : Race) where
   abbrev rules : ℕ → Reconciler
   rules = reconciler_named (sets_of race)
 
-  -- what a run asks behind what it has asked
+  -- what a run sends after what it has sent
   record Asks (w : World) (order : List Move) : Type 0 where
     rest : List Entry
     are : (run count rules w (events_of order)).entries ≡ w.entries ++ rest
@@ -45,7 +45,7 @@ module _ (race : Race) where
   abbrev entry : World → ℕ → Entry
   entry w n = (Some (incarnation_of w n), asks (rules n) (w.phases n), (step w.store (asks (rules n) (w.phases n))).1)
 
-  -- one more request; it is asked late as it is asked in its turn
+  -- one more request; a late one is sent as in its turn
   asked_first : (w : World) (n : ℕ) (order : List Move) → Asks (with_ask rules w n) order → n < count → w.crashes n ≡ 0 → Asks w (Ask n ∷ order)
   asked_first w n order h lt none =
       let one : IsAsked race alone (entry w n) n = record { by = ap (λ k. Some (record { controller = n; crashes = k })) none; there = lt } in

@@ -1,4 +1,5 @@
--- Racers that go by their controllers' rules, make their rounds and crash where they may, leave the store as a whole order does.
+-- Racers that follow their controllers' rules, make their rounds and crash only if they may, leave the store as a whole
+-- order does.
 use Rattle.std.proofs.Common.{◌≡◌, ◌≢◌, ◌<◌, ◌≤◌, ◌+◌, ◌⊎◌, inl, inr, ℕ, zero, suc, Bool, true, false, List, [], ◌∷◌, Option, Some, None, length, get_or, add-one, refl, sym, ap, subst, ◌∙◌, true≢false, arith}
 use Rattle.std.specs.Prelude.{slice_set}
 use Rattle.std.specs.List.{slice_get}
@@ -29,9 +30,9 @@ use Rattle.race_orders.proofs.Sparing.{Spares, reads, spares_now, spares_on}
 use Rattle.race_orders.proofs.Taken.{by_place}
 use Rattle.outcomes.proofs.Walked.{AreTaken, IsNext}
 
--- ---- what a racer goes through
+-- ---- the places of a racer
 
--- with nothing more to be told, it has gone as far as it goes
+-- without further replies, it is as far as it gets
 goes_no_further : (c : Reconciler) (p q : Place) (xs : List Exchange) → Goes c p xs q → AreUnanswered xs → p ≡ q
 goes_no_further c p q [] goes un = goes
 goes_no_further c p q (x ∷ xs) goes un =
@@ -50,7 +51,7 @@ module _ (race : Race) (items : List Item) (beginner : ℕ) (callers : ℕ → �
   abbrev rules : ℕ → Reconciler
   rules = reconciler_named (sets_of race)
 
-  -- ---- where racers stand
+  -- ---- the places of racers
 
   -- one that is to take over, once the one before it has crashed
   record IsWaiting (away : ℕ → Bool) (n : ℕ) (q : Place) (xs : List Exchange) : Type 0 where
@@ -64,7 +65,7 @@ module _ (race : Race) (items : List Item) (beginner : ℕ) (callers : ℕ → �
     whole : q.late ≡ false
     goes : Goes (rules n) (run.begins n) xs (run.ends n)
 
-  -- one that goes its rounds
+  -- one that makes its rounds
   record IsGoing (away : ℕ → Bool) (n : ℕ) (q : Place) (xs : List Exchange) : Type 0 where
     here : away n ≡ false
     started : (m : ℕ) → n ≡ m + 1 → run.crashes m ≡ true → away m ≡ true
@@ -72,7 +73,7 @@ module _ (race : Race) (items : List Item) (beginner : ℕ) (callers : ℕ → �
     spares : Spares q.phase
     goes : Goes (rules n) q xs (run.ends n)
 
-  -- one that has crashed, and what it had called and the store has not taken
+  -- one that has crashed, and what it had called and the store has not handled
   record IsCutOff (n : ℕ) (q : Place) (x : Exchange) (xs : List Exchange) : Type 0 where
     none : x.reply ≡ None
     last : xs ≡ []
@@ -114,12 +115,12 @@ module _ (race : Race) (items : List Item) (beginner : ℕ) (callers : ℕ → �
     may : MayMove t (Crash m)
     racing : AreRacing s left (moved rules t (Crash m)) (changed away m true)
 
-  -- whoever crashed before a racer began has still crashed
+  -- a racer that crashed before another began has still crashed
   still_started : (away : ℕ → Bool) (m k : ℕ) → k ≢ m + 1 → ((i : ℕ) → k ≡ i + 1 → run.crashes i ≡ true → away i ≡ true)
       → (i : ℕ) → k ≡ i + 1 → run.crashes i ≡ true → changed away m true i ≡ true
   still_started away m k behind started i e c = changed-other away m true i (λ f. behind (e ∙ ap (λ j. j + 1) f)) ∙ started i e c
 
-  -- others stand as they stood
+  -- the others keep their places
   stand_still : (away : ℕ → Bool) (m k : ℕ) (q : Place) (xs : List Exchange) → k ≢ m → k ≢ m + 1 → Stand away k q xs → Stand (changed away m true) k q xs
   stand_still away m k q xs ne behind (waits w) = waits (record {
     here = changed-other away m true k ne ∙ w.here;
@@ -157,7 +158,7 @@ module _ (race : Race) (items : List Item) (beginner : ℕ) (callers : ℕ → �
         spares = subst (λ (p : Place). Spares p.phase) stands g.spares;
       }
 
-  -- the one behind who is to crash waits
+  -- the racer after one that is to crash waits
   waiting : (away : ℕ → Bool) (m : ℕ) (q : Place) (xs : List Exchange) → run.crashes m ≡ true → away m ≡ false → Stand away (m + 1) q xs → IsWaiting away (m + 1) q xs
   waiting away m q xs crashes still (waits w) = w
   waiting away m q xs crashes still (goes g) = absurd (true≢false (sym (g.started m refl crashes) ∙ still))
@@ -240,7 +241,7 @@ module _ (race : Race) (items : List Item) (beginner : ℕ) (callers : ℕ → �
   first : (t : System) (m : Move) → MayMove t m → Ends (moved rules t m) → Ends t
   first t m may rest = record { order = m ∷ rest.order; may = (may, rest.may); over = rest.over; store = rest.store }
 
-  -- the next request is of racer n; what is left then, and what comes of it
+  -- the next request is of racer n; what is left then, and what follows from it
   module _ (s : Store) (left : ℕ → List Exchange) (n : ℕ) (lt : n < count) (c : ℕ) (asks_as : callers n ≡ c) (next : IsNext (ComesBehind items) s left c)
       (on : (t : System) (away : ℕ → Bool) → AreRacing (step s next.first.request).0 next.later t away → Ends t) where
     abbrev x : Exchange
@@ -259,13 +260,13 @@ module _ (race : Race) (items : List Item) (beginner : ℕ) (callers : ℕ → �
     others_left : (k : ℕ) → k < count → k ≢ n → next.later (callers k) ≡ left (callers k)
     others_left k less ne = next.others (callers k) (λ e. ne (run.apart k n less lt (e ∙ sym asks_as)))
 
-    -- racer n stands elsewhere, and the others where they stood
+    -- racer n has another place, and the others keep theirs
     on_places : (t : System) (away : ℕ → Bool) (q : Place) → AreRacing s left t away → Stand away n q xs → AreStanding away next.later (slice_set t.places n q)
     on_places t away q h here k less y at =
         by_place (λ i z. i < count → Stand away i z (next.later (callers i))) t.places n q (λ l. subst (Stand away n q) (sym later_is) here)
         (λ i z ne is l. subst (Stand away i z) (sym (others_left i l ne)) (h.standing i l z is)) k y at less
 
-    -- a racer that is cut off: its write is taken late, and a read is forgotten
+    -- a racer that is cut off: its write is handled late, and a read is forgotten
     late : (t : System) (away : ℕ → Bool) → AreRacing s left t away → (q : Place) → slice_get t.places n ≡ Some q → IsAway away n q (x ∷ xs) → Ends t
     late t away h q q_is a = by (is_write request) refl
       where
@@ -302,7 +303,7 @@ module _ (race : Race) (items : List Item) (beginner : ℕ) (callers : ℕ → �
                 subst (λ i. Stand away i y (next.later (callers i))) (sym e) (subst (Stand away n y) (sym later_is) (subst (λ p. Stand away n p xs) (sym rests) none_left))
             stands k less y at (other ne b) = subst (Stand away k y) (sym (others_left k less ne)) (h.standing k less y at)
 
-    -- one that goes its rounds asks; where it is cut off it crashes
+    -- one that makes its rounds sends its request; if it is cut off it crashes
     ask : (t : System) (away : ℕ → Bool) → AreRacing s left t away → IsGoing away n (place_at t n) (x ∷ xs) → Ends t
     ask t away h g = by x.reply refl
       where
@@ -355,7 +356,7 @@ module _ (race : Race) (items : List Item) (beginner : ℕ) (callers : ℕ → �
                 is_cut r (goes g) = absurd (true≢false (sym (changed-same away n true) ∙ g.here))
                 is_cut r (is_away a) = a
 
-  -- ---- whoever is to take over begins
+  -- ---- a racer that is to take over begins
 
   data IsUp (away : ℕ → Bool) (n : ℕ) (q : Place) (xs : List Exchange) : Type 0 where
     up : IsGoing away n q xs → IsUp away n q xs
@@ -407,7 +408,7 @@ module _ (race : Race) (items : List Item) (beginner : ℕ) (callers : ℕ → �
 
   -- ---- the end
 
-  -- where nothing is left that is answered, nobody has a round left
+  -- if no answered request is left, no racer has a round left
   rests : (s : Store) (left : ℕ → List Exchange) (t : System) (away : ℕ → Bool) → AreRacing s left t away → ((c : ℕ) → AreUnanswered (left c)) → IsOver t
   rests s left t away h un = all_from (λ (p : Place). p.left ≡ 0) t.places (λ n q is. let lt = get_inside t.places n q is in let many = h.many in let less : n < count = omega (arith, many, lt) in by n less q (h.standing n less q is))
     where
@@ -447,7 +448,7 @@ module _ (race : Race) (items : List Item) (beginner : ℕ) (callers : ℕ → �
           cut [] is = is
           cut (x ∷ xs) is = ap (λ (p : Place). p.left) is.place ∙ cut_left (is_write (asks (rules n) (run.ends n).phase)) (run.ends n)
 
-  -- whoever has something left is a racer
+  -- only racers have something left
   abbrev pub AreRacers : (left : ℕ → List Exchange) → Type 0
   AreRacers left = (c : ℕ) → (left c ≡ []) ⊎ ((n : ℕ) × ((n < count) × (callers n ≡ c)))
 
@@ -475,7 +476,7 @@ module _ (race : Race) (items : List Item) (beginner : ℕ) (callers : ℕ → �
 
   -- ---- the start
 
-  -- what is left at first is all that a racer asks
+  -- at first, all that a racer sends is left
   starts : (s : Store) (left : ℕ → List Exchange) → (start race).store ≡ s → ((n : ℕ) → n < count → left (callers n) ≡ exchanges_by (callers n) items) → AreRacing s left (start race) (λ n. false)
   starts s left store all = record {
     store = store;

@@ -1,5 +1,5 @@
--- Runs of the interleaved store in which racers ask, each as a caller of its own: they go by their controllers' rules, make their rounds,
--- and crash where they may.
+-- Runs of the interleaved store in which each racer is a caller of its own: they follow their controllers' rules, make
+-- their rounds, and crash only if they may.
 use Rattle.std.specs.Prelude.{◌≡◌, ◌≢◌, ◌<◌, ◌+◌, ◌⊎◌, ℕ, zero, suc, Bool, true, false, List, [], ◌∷◌, Option, Some, None, length, slice_get, ⊤}
 use Rattle.requests.specs.declared.request.Request.{Request}
 use Rattle.requests.specs.declared.reply.Reply.{Reply}
@@ -17,23 +17,24 @@ use Rattle.controller_outcomes.specs.declared.race.Move.{Move}
 use Rattle.controller_outcomes.specs.declared.race.Race.{Race}
 use Rattle.controller_outcomes.specs.declared.race.Racer.{Racer}
 
--- a request without a reply, or what is so by the reply
+-- a request without a reply, or what holds by the reply
 abbrev pub ByReply : Option Reply → (cut_off : Type 0) → (told : Reply → Type 0) → Type 0
 ByReply None cut_off told = cut_off
 ByReply (Some reply) cut_off told = told reply
 
--- A caller asks what its controller has it ask where the replies so far have taken it. A request that is cut off is the last one.
+-- A caller sends what its controller has it send in the phase after the replies so far. A request that is cut off is
+-- the last one.
 abbrev pub Asks : Reconciler → Phase → List Exchange → Type 0
 Asks c phase [] = ⊤
 Asks c phase (x ∷ xs) = (x.request ≡ asks c phase) × ByReply x.reply (xs ≡ []) (λ reply. Asks c (takes c phase reply) xs)
 
--- What a racer asks on its way from one place to another: that, while it has a round left.
+-- What a racer sends on its way from one place to another: that, while it has a round left.
 abbrev pub Goes : Reconciler → Place → List Exchange → (to : Place) → Type 0
 Goes c p [] to = p ≡ to
 Goes c p (x ∷ xs) to = ((x.request ≡ asks c p.phase) × (0 < p.left))
     × ByReply x.reply ((xs ≡ []) × (p ≡ to)) (λ reply. Goes c (passed false p (takes c p.phase reply)) xs to)
 
--- A racer crashes with a round left. The one behind it, which has no round of its own, takes over.
+-- A racer crashes with a round left. The next one, which has no round of its own, takes over.
 pub record IsCrash (race : Race) (begins ends : ℕ → Place) (n : ℕ) : Type 0 where
   pub may : (ends n).may_crash ≡ true
   pub some : 0 < (ends n).left
@@ -47,13 +48,14 @@ abbrev pub takes_over : (crashes : ℕ → Bool) → ℕ → Bool
 takes_over crashes zero = false
 takes_over crashes (suc n) = crashes n
 
--- the controller that asks as racer n asked as the earlier one before a crash
+-- before a crash, the controller that is racer n was the earlier racer
 abbrev pub WasBefore : (crashes : ℕ → Bool) → (earlier n : ℕ) → Type 0
 WasBefore crashes earlier zero = ⊥
 WasBefore crashes earlier (suc n) = (crashes n ≡ true) × ((earlier ≡ n) ⊎ WasBefore crashes earlier n)
 
--- One caller asks the beginning and is answered, before anybody else calls. Who else calls is a racer, which makes its rounds, and no
--- more; or it crashes, and the one behind it makes those that were left, and calls nothing before the last reply to who crashed.
+-- One caller sends the beginning and gets its replies, before any other calls. Each other caller is a racer, which
+-- makes its rounds, and no more; or it crashes, and the next racer makes those that were left, and calls nothing before
+-- the last reply to the crashed one.
 pub record IsRunOf (race : Race) (items : List Item) (beginner : ℕ) (callers : ℕ → ℕ) : Type 0 where
   pub begun : requests_in (exchanges_by beginner items) ≡ race.beginning.items
   pub answered : AreAnswered (exchanges_by beginner items)
@@ -62,7 +64,7 @@ pub record IsRunOf (race : Race) (items : List Item) (beginner : ℕ) (callers :
   pub others : (n : ℕ) → n < length race.racers.items → callers n ≢ beginner
   pub only : (place caller : ℕ) (request : Request) → Has (item.Call place caller request) items → caller ≢ beginner
       → (n : ℕ) × ((n < length race.racers.items) × (callers n ≡ caller))
-  -- which racers crash, and where each begins, and ends or crashes
+  -- which racers crash, and the place in which each begins, and ends or crashes
   pub crashes : ℕ → Bool
   pub begins : ℕ → Place
   pub ends : ℕ → Place
@@ -72,7 +74,7 @@ pub record IsRunOf (race : Race) (items : List Item) (beginner : ℕ) (callers :
   pub crashed : (n : ℕ) → n < length race.racers.items → crashes n ≡ true → IsCrash race begins ends n
   pub behind : (earlier n : ℕ) → n < length race.racers.items → WasBefore crashes earlier n → ComesBehind items (callers earlier) (callers n)
 
--- an order in which each makes its rounds leaves the store so, and the looks are answered as behind it
+-- an order in which each makes its rounds leaves this store, and the looks get the replies that they get after it
 pub record IsEndOf (race : Race) (store : Store) : Type 0 where
   pub order : List Move
   pub whole : IsWhole race order

@@ -25,17 +25,17 @@ use interleavings::runs_are_linearizable;
 use plain_store::reads_change_nothing;
 use rounds::runs_keep_promises;
 
-/// Behind the race's beginning, what one plain store takes of its controllers in an order of the race leaves the store as that
-/// order does. One that crashed and begins again is a racer of its own, and a write that was cut off comes late or never. Where
-/// each controller has made its rounds, `final_stores` finds that end.
+/// If one plain store handles the race's beginning, and then its controllers' requests in an order of the race, it ends
+/// as that order does. A controller that crashed and starts again is another racer, and a write that was cut off comes
+/// late or never. If each controller has made its rounds, `final_stores` finds that end.
 pub fn transcripts_are_orders()
     ensures { (race : Race) (reconcilers : ℕ → Reconciler) (who : ℕ → Incarnation) (entries : List Entry) (order : List Move) → AreCast race reconcilers who
         → IsTranscript reconcilers race.capacity entries → IsRaceIn race who entries order → EndsAs race entries order }
 {}
 
-/// Each order of a race is taken by one plain store, and on the way the promises of controllers are kept: no name has two live
-/// objects, a pod is deleted only as the one that a plan read, and a claim is removed by a controller only once its owners are
-/// gone.
+/// One plain store handles each order of a race, and on the way the promises of controllers are kept: no name has two
+/// live objects, a pod is deleted only as the one that a plan read, and a controller removes a claim only once its
+/// owners no longer exist.
 pub fn orders_are_transcripts()
     ensures taken { (race : Race) (order : List Move) → 1 ≤ race.capacity → race.capacity ≤ most_revisions
         → IsTranscript (reconciler_named (sets_of race)) race.capacity (entries_of race order) }
@@ -46,8 +46,9 @@ pub fn orders_are_transcripts()
     runs_keep_promises();
 }
 
-/// Where controllers share the interleaved store, over any shards and however their steps and crashes are mixed: if what it takes
-/// in a legal order of its run, behind the race's beginning, is an order of the race, it ends as that does.
+/// If controllers share the interleaved store, over any shards and however their steps and crashes are mixed: if what
+/// the store handles in a legal order of its run, after the race's beginning, is an order of the race, it ends as that
+/// order does.
 pub fn runs_end_as_orders()
     ensures { (race : Race) (size : Size) (count : ℕ) (reconcilers : ℕ → Reconciler) (who : ℕ → Incarnation) (events : List ClusterEvent) (places : List ℕ) (order : List Move)
         → 0 < size.shards → 1 ≤ size.capacity → size.capacity ≤ most_revisions → size.capacity ≡ race.capacity → AreCast race reconcilers who
@@ -58,9 +59,9 @@ pub fn runs_end_as_orders()
     runs_are_linearizable();
 }
 
-/// Where racers ask the interleaved store, over any shards and however their steps are mixed, make their rounds, and crash at any
-/// moment where they may: in each legal order of the run, the store ends as it does in an order of the race in which each makes
-/// its rounds. So `final_stores` finds that end.
+/// If racers use the interleaved store, over any shards and however their steps are mixed, make their rounds, and crash
+/// at any moment if they may: in each legal order of the run, the store ends as in an order of the race in which each
+/// makes its rounds. So `final_stores` finds that end.
 pub fn races_end_as_whole_orders()
     ensures { (race : Race) (size : Size) (events : List Event) (places : List ℕ) (beginner : ℕ) (callers : ℕ → ℕ)
         → 0 < size.shards → size.capacity ≡ race.capacity → (legal : IsLegal size.capacity (trace size events) places)
@@ -70,8 +71,9 @@ pub fn races_end_as_whole_orders()
     reads_change_nothing();
 }
 
-/// Controllers of a cluster ask as racers do. Each incarnation asks what its controller has it ask, by what it was told before;
-/// and one that is started again calls nothing before the last reply to what it was before it crashed.
+/// Controllers of a cluster send requests as racers do. Each incarnation sends what its controller has it send after
+/// the replies so far; and a controller that is restarted calls nothing before the last reply to its incarnation before
+/// the crash.
 pub fn controllers_ask_as_racers()
     ensures asked { (size : Size) (count : ℕ) (reconcilers : ℕ → Reconciler) (events : List ClusterEvent) (n : ℕ) (one : Incarnation) → 0 < size.shards
         → let cluster = run size count reconcilers (start count) events in

@@ -1,5 +1,5 @@
-//! Laws of races of controllers: what one plain store takes of them is one of the orders whose ends `final_stores` finds, also
-//! where they share the interleaved store.
+//! Laws of races of controllers: what one plain store handles of them is one of the orders whose ends `final_stores`
+//! finds, also if they share the interleaved store.
 #![tactic(auto)]
 
 mod laws;

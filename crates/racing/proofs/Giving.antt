@@ -1,4 +1,4 @@
--- What the running store's clauses say of a ticket's reply and of a read is what racers hand on.
+-- What the running store's clauses say of a ticket's reply and of a read is what racers need.
 use Rattle.std.proofs.Common.{◌≡◌, ℕ, ◌==◌, ◌<◌, Bool, true, false, List, length, take, None, refl, sym, ap, ◌∙◌, subst, nat_le, if◌then◌else◌, Result, Ok, Err, IfOk, arith, ne_eqb}
 use Rattle.std.proofs.Math.Seq.{take-length}
 use Rattle.objects.specs.declared.kind.Kind.{Kind}
@@ -29,7 +29,7 @@ answered_to_read capacity r reply c d has reads is = record {
     whole : take (length d.seen) d.seen ≡ d.seen
     whole = take-length d.seen
 
--- a list of the past: no more is said than that there is a history
+-- a list of the past: only that there is a history
 past : (exact : ℕ) → 0 < exact → (exact == 0) ≡ true → ⊥
 past exact above is = let k : false ≡ true = sym (ne_eqb exact 0 (λ e. absurd (omega arith))) ∙ is in absurd cc
 
@@ -44,6 +44,6 @@ chosen : (b : Bool) (t : Ticket)
 chosen true t = (refl, refl)
 chosen false t = (refl, refl)
 
--- a try changes neither what a ticket stands for nor its place
+-- a try changes neither the write of a ticket nor its place
 pub tried : (t : Ticket) (f : ℕ) → ((after_reply t f).request ≡ t.request) × ((after_reply t f).place ≡ t.place)
 tried t f = chosen (nat_le t.saw f) t

@@ -1,4 +1,4 @@
--- The parts of a race, out of those that its threads come to.
+-- The parts of a race, from those that its threads yield.
 use Rattle.std.proofs.Common.{◌≡◌, ℕ, ◌+◌, List, [], ◌∷◌, ◌++◌, length, length-append, map, sym, ap, ◌∙◌, subst, arith}
 use Rattle.std.specs.List.{All}
 use Rattle.race_log.specs.declared.part.Part.{Part}

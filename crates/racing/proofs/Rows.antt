@@ -7,7 +7,7 @@ use Rattle.racing.specs.Parts.{CountFrom}
 pub all_more : {X : Type 0} (P : X → Type 0) (xs : List X) (x : X) → All P xs → P x → All P (xs ++ x ∷ [])
 all_more P xs x all one = All-append P xs (x ∷ []) all (All-cons P x [] one (All-nil P))
 
--- the first of what is left goes over to what is done
+-- the first of the rest moves to what is done
 moved : {X Y : Type 0} (f : X → ℕ) (g : Y → ℕ) (xs : List X) (x : X) (ys : List Y) (y : Y) (whole : List ℕ) → f x ≡ g y
     → map f xs ++ map g (y ∷ ys) ≡ whole → map f (xs ++ x ∷ []) ++ map g ys ≡ whole
 moved f g [] x ys y whole is all = ap (λ n. n ∷ map g ys) is ∙ all

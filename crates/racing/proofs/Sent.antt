@@ -1,4 +1,4 @@
--- That the log of a race may go to another thread, and so may be shared behind a lock.
+-- The log of a race may move to another thread, and so may be shared behind a lock.
 use denote.Param.Send.{IsSend, sendable}
 use Rattle.std.proofs.Crossing.{crosses}
 use Rattle.std.proofs.MapsCrossing.{crosses as maps}

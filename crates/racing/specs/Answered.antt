@@ -9,15 +9,15 @@ use Rattle.store.specs.declared.writing.Writing.{Writing}
 use Rattle.store.specs.History.{IsHistory, store_after}
 use Rattle.requests.specs.DrawnRevisions.{drew_revision}
 
--- it reads what is there now: a get, and a list at no number of the past
+-- it reads the present state: a get, or a list at no past number
 abbrev pub reads_now : Request → Bool
 reads_now (request.Get key) = true
 reads_now (request.List kind namespace exact) = exact == 0
 reads_now _ = false
 
--- The caller has seen a history of at least that length. The reply to an accepted write is the plain store's as its last
--- request; that to any other one, and that to a read of now, is the plain store's behind it. Of a list of the past and of a
--- compaction no more is said than that there is a history.
+-- The caller has seen a history of at least that length. The reply to an accepted write is the plain store's as the
+-- history's last request; to any other write, and to a read of now, it is the plain store's after the history. For a
+-- list of the past and for a compaction it says only that there is a history.
 pub record IsAnswered (capacity : ℕ) (request : Request) (reply : Reply) (number : ℕ) : Type 0 where
   pub seen : List Writing
   pub history : IsHistory capacity (take number seen)

@@ -1,6 +1,6 @@
--- ---- what public clauses cite
+-- ---- cited by public clauses
 pub mod Answered
 pub mod Parts
--- ---- what only contracts inside cite
+-- ---- cited only by inner contracts
 pub mod Jobs
 pub mod Children

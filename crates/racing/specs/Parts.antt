@@ -1,4 +1,4 @@
--- What the callers of a race asked and were told, each in its order.
+-- The requests and replies of the callers of a race, each caller's in order.
 use Rattle.std.specs.Prelude.{◌≡◌, ◌<◌, ◌≤◌, ℕ, ◌+◌, ◌*◌, Bool, true, false, List, [], ◌∷◌, ◌++◌, length, map, ⊤, Option, Some, None, codes, if◌then◌else◌}
 use Rattle.std.specs.List.{All}
 use Rattle.objects.specs.declared.kind.Kind.TheVariants.{StatefulSet, Pod}
@@ -43,7 +43,7 @@ last_reply [] = None
 last_reply (a ∷ []) = Some a.reply
 last_reply (a ∷ b ∷ more) = last_reply (b ∷ more)
 
--- that request was asked too, and the store gave the reply to it
+-- that request was sent too, and the store gave it a reply
 pub record HasAsked (gave : Gives) (request : Request) (old new : List Asked) : Type 0 where
   pub asked : Asked
   pub longer : new ≡ old ++ asked ∷ []
@@ -52,7 +52,7 @@ pub record HasAsked (gave : Gives) (request : Request) (old new : List Asked) : 
 
 -- ---- controllers
 
--- it reads one object: of a controller's requests the first one of each round does
+-- it reads one object: the first request of each round of a controller does
 abbrev pub is_get : Request → Bool
 is_get (Get key) = true
 is_get _ = false
@@ -65,8 +65,8 @@ abbrev pub rounds_in : List Exchange → ℕ
 rounds_in [] = 0
 rounds_in (e ∷ es) = begins e.0 + rounds_in es
 
--- A controller that began at the read of its set has asked and been told so much, by which it stands at a phase. So many
--- rounds are begun.
+-- A controller that began at the read of its set has sent and got this, and is then in this phase. So many rounds are
+-- begun.
 pub record IsStanding (gave : Gives) (c : Reconciler) (rounds : ℕ) (phase : Phase) (asked : List Asked) : Type 0 where
   pub given : AreGiven gave asked
   pub follows : Follows c reading_set (exchanges_of asked)
@@ -79,7 +79,7 @@ pub record HasMadeRounds (gave : Gives) (c : Reconciler) (rounds : ℕ) (asked :
   pub stands : IsStanding gave c rounds phase asked
   pub ended : is_get (asks c phase) ≡ true
 
--- the controllers of a race
+-- the reconciler of the controllers of a race
 abbrev pub racer : Reconciler
 racer = reconciler_with (key_parts StatefulSet set_namespace set_name) 10 (codes "2024-01-01T00:00:00Z")
 
@@ -92,7 +92,8 @@ abbrev pub asks_after : Reply → List Request
 asks_after (Listed objects revision) = kubelet_asks_all objects
 asks_after _ = []
 
--- What it asks where these are left of its turn, and what is then left. Each turn begins with a list of the pods.
+-- What it sends if these requests are left of its turn, and what is then left. Each turn begins with a list of the
+-- pods.
 abbrev pub turns_to : List Request → Request
 turns_to [] = lists_pods
 turns_to (r ∷ left) = r
@@ -109,7 +110,7 @@ abbrev pub Turns : List Request → List Exchange → Type 0
 Turns left [] = ⊤
 Turns left (e ∷ es) = (e.0 ≡ turns_to left) × Turns (left_by left e.1) es
 
--- a turn begins where nothing is left of the last one
+-- a turn begins if nothing is left of the last one
 abbrev pub begun_at : List Request → ℕ
 begun_at [] = 1
 begun_at (r ∷ left) = 0
@@ -119,7 +120,7 @@ abbrev pub turns_in : List Request → List Exchange → ℕ
 turns_in left [] = 0
 turns_in left (e ∷ es) = begun_at left + turns_in (left_by left e.1) es
 
--- so much was asked and told, by which so many turns are begun, and these requests are left of the last one
+-- this was sent and replied, by which so many turns are begun, and these requests are left of the last one
 pub record IsTurning (gave : Gives) (turns : ℕ) (left : List Request) (asked : List Asked) : Type 0 where
   pub given : AreGiven gave asked
   pub follows : Turns [] (exchanges_of asked)
@@ -130,7 +131,7 @@ pub record IsTurning (gave : Gives) (turns : ℕ) (left : List Request) (asked :
 abbrev pub most_turns : ℕ
 most_turns = 64
 
--- It made whole turns, at least one, and no more than there may be in a race of so many rounds.
+-- It made whole turns, at least one, and no more than a race of so many rounds may have.
 pub record HasTurned (gave : Gives) (rounds : ℕ) (asked : List Asked) : Type 0 where
   pub turns : ℕ
   pub turning : IsTurning gave turns [] asked
@@ -152,7 +153,7 @@ pub record HasOperated (gave : Gives) (replicas turns : ℕ) (asked : List Asked
 
 -- ---- all of them
 
--- by its number: a controller, the kubelet, the one that created the set, or the operator
+-- by its number: a controller, the kubelet, the caller that created the set, or the operator
 pub record IsPartOf (gave : Gives) (spec : RaceSpec) (p : Part) : Type 0 where
   pub controller : p.caller < spec.controllers → HasMadeRounds gave racer spec.rounds p.asked.items
   pub kubelet : p.caller ≡ spec.controllers → HasTurned gave spec.rounds p.asked.items
@@ -167,12 +168,12 @@ abbrev pub CountFrom : ℕ → List ℕ → Type 0
 CountFrom n [] = ⊤
 CountFrom n (m ∷ more) = (m ≡ n) × CountFrom (n + 1) more
 
--- the operator's number, where there is one
+-- the operator's number, if there is one
 abbrev pub operators_in : RaceSpec → List ℕ
 operators_in spec = if spec.operator then (spec.controllers + 2) ∷ [] else []
 
--- One for each controller, one for the kubelet, one for whoever created the set, and one for the operator where there is one.
--- Each has the number of its place, and is the part of that number.
+-- One for each controller, one for the kubelet, one for the caller that created the set, and one for the operator if
+-- there is one. Each has the number of its index, and is the part of that number.
 pub record AreParts (gave : Gives) (spec : RaceSpec) (parts : List Part) : Type 0 where
   pub each : All (IsPartOf gave spec) parts
   pub numbered : CountFrom 0 (map caller_of parts)
@@ -180,7 +181,7 @@ pub record AreParts (gave : Gives) (spec : RaceSpec) (parts : List Part) : Type 
 
 -- ---- the race
 
--- What the callers asked and were told is what was noted, and the history is that of what was noted.
+-- The requests and replies of the callers are what was noted, and the history is that of what was noted.
 pub record IsRaceOf (gave : Gives) (capacity : ℕ) (spec : RaceSpec) (history : RaceHistory) : Type 0 where
   pub parts : List Part
   pub asked : AreParts gave spec parts

@@ -1,4 +1,4 @@
-// How a racer asks.
+// How a racer sends requests.
 ghost use Rattle.std.specs.Prelude.{◌≡◌, true, false, IfOk};
 ghost use Rattle.requests.specs.Verdict.{is_write};
 
@@ -9,7 +9,7 @@ use std::sync::Wait;
 use std::thread::yield_now;
 use store::Gate;
 
-/// Asks a write, and tries for its reply until it comes.
+/// Sends a write, and tries to get its reply until it comes.
 fn ask_write<S: SharedStore, R: Wait, G: Gate>(
     rt: &R,
     store: &S,
@@ -28,8 +28,8 @@ fn ask_write<S: SharedStore, R: Wait, G: Gate>(
             return Ok((reply, place));
         }
         let now = store.seen(caller);
-        // A try that raised the frontier is made again at once: there is something to wait for only where the next number
-        // is a hole.
+        // A try that raised the frontier is repeated at once: there is something to wait for only if the next number is
+        // a hole.
         if now == seen {
             yield_now();
         }
@@ -38,7 +38,7 @@ fn ask_write<S: SharedStore, R: Wait, G: Gate>(
     unreachable!()
 }
 
-/// Asks what is no write.
+/// Sends a request that is no write.
 fn read<S: SharedStore, R: Wait>(
     rt: &R,
     store: &S,
@@ -53,7 +53,7 @@ fn read<S: SharedStore, R: Wait>(
         Request::List {
             kind,
             namespace,
-            // 0 asks for the objects as they are now.
+            // 0 means the objects as they are now.
             exact: 0,
         } => store.list(rt, caller, *kind, namespace)?,
         Request::List {
@@ -67,8 +67,8 @@ fn read<S: SharedStore, R: Wait>(
     Ok((reply, store.seen(caller)))
 }
 
-/// Asks a request, and tries for the reply to a write until it comes. It answers the reply, and where that stands: the number
-/// of an accepted write, else the number up to which the answer looked.
+/// Sends a request, and tries to get the reply to a write until it comes. Returns the reply and its number: that of an
+/// accepted write, or else the one up to which the answer looked.
 pub fn answered<S: SharedStore, R: Wait, G: Gate>(
     rt: &R,
     store: &S,

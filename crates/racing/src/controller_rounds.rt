@@ -28,14 +28,14 @@ fn controller(alloc: Global) -> Result<Controller, Memory>
     Controller::new(alloc, NAMESPACE, SET, DIGITS, MOMENT)
 }
 
-/// Whether it reads one object.
+/// Whether it reads a single object.
 fn is_get(request: &Request) -> bool
     ensures { result ≡ is_get request.now }
 {
     matches!(request, Request::Get(_))
 }
 
-/// Asks what the controller asks, and lets it take the reply.
+/// Sends the controller's next request, and gives it the reply.
 #[tactic(auto, using(crate::proofs::Standing::stands_more))]
 fn make_step<S: SharedStore, R: Wait, G: Gate>(
     rt: &R,
@@ -58,7 +58,7 @@ fn make_step<S: SharedStore, R: Wait, G: Gate>(
     }
 }
 
-/// One round: what the controller asks, up to the read of the set with which the next one begins.
+/// One round: the controller's requests, up to the read of the set with which the next round begins.
 fn make_round<S: SharedStore, R: Wait, G: Gate>(
     rt: &R,
     field: &Field<'_, S, G>,
@@ -87,10 +87,10 @@ fn make_round<S: SharedStore, R: Wait, G: Gate>(
     unreachable!()
 }
 
-/// Lets go of what was before what the caller has seen.
+/// Compacts what was before the frontier that the caller has seen.
 fn compact<S: SharedStore, R: Wait>(rt: &R, store: &S, caller: &mut S::Caller) {
     let seen = store.seen(caller);
-    // At 0 nothing is written yet, so nothing was before it.
+    // At 0 nothing is written yet, so there is nothing before it.
     if seen != 0 {
         drop(store.compact(rt, caller, seen));
     }
@@ -116,7 +116,7 @@ fn make_rounds<S: SharedStore, R: Wait, G: Gate>(
     Ok(asked)
 }
 
-/// All rounds of a controller; then it has ended, also where memory ran out.
+/// All rounds of a controller; then it has ended, even if memory ran out.
 pub(crate) fn run_controller<S: SharedStore, R: Wait, G: Gate>(
     rt: &R,
     field: &Field<'_, S, G>,

@@ -1,4 +1,4 @@
-// What the threads of a race tell one another, in words that they share.
+// What the threads of a race signal to one another, in words that they share.
 ghost use Rattle.std.specs.Prelude.{◌≡◌};
 
 use objects::Memory;
@@ -8,7 +8,7 @@ use std::sync::Wait;
 use std::sync::atomic::{AtomicU64, Ordering};
 use std::time::Duration;
 
-/// What the word of the start says once all threads are there, and where one could not be made. Until then it is 0.
+/// The values of the start word once all threads are there, and if one could not be made. Before, it is 0.
 const GO: u64 = 1;
 
 const GIVE_UP: u64 = 2;
@@ -16,12 +16,12 @@ const GIVE_UP: u64 = 2;
 /// How many milliseconds a thread sleeps, at most, before it looks again whether all controllers have ended.
 const PAUSE: u64 = 1;
 
-/// The size of a race, and how far it has come.
+/// The size of a race, and its progress.
 #[derive(Drop)]
 pub(crate) struct Course {
     pub spec: RaceSpec,
     pub alloc: Global,
-    /// The next place of a call or a reply.
+    /// The next place for a call or a reply.
     places: AtomicU64,
     /// How many rounds the controllers together have begun.
     begun: AtomicU64,
@@ -30,7 +30,7 @@ pub(crate) struct Course {
     start: AtomicU64,
 }
 
-/// What the word holds in the bits by which a thread sleeps.
+/// The part of the word on which a thread sleeps.
 fn low(word: u64) -> u32 {
     (word & 0xffff_ffff) as u32
 }
@@ -58,7 +58,7 @@ impl Course {
     ///
     /// # Errors
     ///
-    /// Memory where one of them could not be made.
+    /// `Memory` if one of them could not be made.
     pub(crate) fn wait_for_start<R: Wait>(&self, rt: &R) -> Result<(), Memory> {
         for _ in rt.forever() {
             match self.start.load(Ordering::SeqCst) {
@@ -70,7 +70,7 @@ impl Course {
         unreachable!()
     }
 
-    /// Lets the threads go, or give up where not all of them could be made.
+    /// Starts the threads, or makes them give up if not all of them could be made.
     pub(crate) fn begin(&self, all_there: bool) {
         let word = if all_there { GO } else { GIVE_UP };
         self.start.store(word, Ordering::SeqCst);

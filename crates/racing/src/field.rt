@@ -1,4 +1,4 @@
-// What all threads of a race share, and how they ask over it.
+// What all threads of a race share, and how they send requests.
 ghost use Rattle.std.specs.Prelude.{◌≡◌, IfOk, OnOk, option_map};
 ghost use Rattle.racing.specs.Parts.{HasAsked, last_reply};
 
@@ -11,7 +11,7 @@ use requests::{Reply, Request};
 use std::sync::Wait;
 use store::Gate;
 
-/// The store and the gate, and the race.
+/// The store, the gate and the race.
 pub(crate) struct Field<'a, S, G> {
     pub store: &'a S,
     pub gate: &'a G,
@@ -39,7 +39,7 @@ pub(crate) fn last_reply(asked: &[Asked]) -> Option<&Reply>
 }
 
 impl<S: SharedStore, G: Gate> Field<'_, S, G> {
-    /// Asks the request, and adds it to what was asked, with the reply that the store gave and the places of both.
+    /// Sends the request, and appends it to the part, with the store's reply and the places of both.
     pub(crate) fn ask<R: Wait>(
         &self,
         rt: &R,

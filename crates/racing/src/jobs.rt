@@ -15,7 +15,7 @@ use race_log::Part;
 use std::sync::Wait;
 use store::Gate;
 
-/// What one thread does, under its number as a caller.
+/// What one thread does; its number is its caller's.
 #[derive(Drop)]
 pub(crate) enum Job<C: Drop> {
     Controller(u64, C),
@@ -35,7 +35,7 @@ impl<C: Drop> Job<C> {
     }
 }
 
-/// One job for each controller, from the caller 0 on, and one for the kubelet.
+/// One job for each controller, from caller 0 on, and one for the kubelet.
 pub(crate) fn racers_of<S: SharedStore, R: Wait>(
     rt: &R,
     store: &S,
@@ -54,7 +54,7 @@ pub(crate) fn racers_of<S: SharedStore, R: Wait>(
     Ok(jobs)
 }
 
-/// The operator's job, if there is one. The number between is that of whoever creates the set.
+/// The operator's job, if there is one. The number between is that of the caller that creates the set.
 pub(crate) fn operators_of<S: SharedStore, R: Wait>(
     rt: &R,
     store: &S,
@@ -72,7 +72,7 @@ pub(crate) fn operators_of<S: SharedStore, R: Wait>(
     Ok(jobs)
 }
 
-/// What the job comes to.
+/// The part that the job yields.
 fn part_of<S: SharedStore, R: Wait, G: Gate>(
     rt: &R,
     field: &Field<'_, S, G>,
@@ -97,7 +97,7 @@ fn part_of<S: SharedStore, R: Wait, G: Gate>(
     }
 }
 
-/// Does the job once all threads are there, and gives up where one of them could not be made.
+/// Does the job once all threads are there, and gives up if one of them could not be made.
 pub(crate) fn run_job<S: SharedStore, R: Wait, G: Gate>(
     rt: &R,
     field: &Field<'_, S, G>,

@@ -13,12 +13,20 @@ use std::sync::Wait;
 use std::thread::Threads;
 use store::Gate;
 
-/// Runs a race over a store of 65,536 revisions that nobody has used, and judges it: see `judged`. Each controller is a
-/// thread, the kubelet is one, and the operator is one where there is one. They begin together, and all are joined.
+/// Runs a race over an unused store of 65,536 revisions, and judges it: see `judged`. Each controller is a thread, so
+/// is the kubelet, and so is the operator if there is one. They begin together, and all are joined. The log is the
+/// merge of the parts of all callers: one for each controller, then the kubelet's, that of the caller that created the
+/// set, and the operator's if there is one.
+///
+/// In each part every reply is one that the store gave to that request. A controller's part is exactly what
+/// `Controller` sends, each request by the replies before it, from the first read of its set on, for as many rounds as
+/// the race has, the last one whole. The kubelet's is whole turns, at least one and at most 64 for each round: a list
+/// of the pods, and what it requests for them. The caller that created the set sent nothing else, with the replicas of
+/// the race. The operator's is its course, a request for each round.
 ///
 /// # Errors
 ///
-/// BadRace for a size out of range, and Memory, also where a thread cannot be made: then none of them asks anything.
+/// `BadRace` if a size is out of range; `Memory`, also if a thread cannot be made: then none of them sends anything.
 pub fn race_over<S: SharedStore + Sync, R: Threads + Wait + Sync, G: Gate + Sync>(
     rt: &R,
     alloc: Global,
@@ -39,7 +47,7 @@ where
     Ok(run_threads(rt, alloc, store, spec, gate)?)
 }
 
-/// As `race_over`, at a size that is allowed.
+/// As `race_over`, for an allowed size.
 fn run_threads<S: SharedStore + Sync, R: Threads + Wait + Sync, G: Gate + Sync>(
     rt: &R,
     alloc: Global,

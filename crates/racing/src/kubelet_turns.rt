@@ -19,7 +19,8 @@ const TURNS: u64 = 64;
 /// How often it looks, at most, whether anything was written since its last turn.
 const LOOKS: u64 = 64;
 
-/// How many microseconds it sleeps between two looks, at first and at most: each sleep is twice the last one.
+/// How many microseconds it sleeps between two looks, at first and at most: each sleep is twice as long as the last
+/// one.
 const FIRST_SLEEP: u64 = 50;
 
 const LONGEST_SLEEP: u64 = 3_200;
@@ -30,12 +31,12 @@ fn list_of_pods(alloc: Global) -> Result<Request, Memory>
     Ok(Request::List {
         kind: Kind::Pod,
         namespace: Text::copy_of(alloc, NAMESPACE)?,
-        // 0 asks for the objects as they are now.
+        // 0 means the objects as they are now.
         exact: 0,
     })
 }
 
-/// What it asks after a list.
+/// What it sends after a list.
 fn requests_after(alloc: Global, reply: &Reply) -> Result<Vec<Request>, Memory>
     ensures { IfOk result (λ requests. requests.items ≡ asks_after reply.now) }
 {
@@ -48,7 +49,7 @@ fn requests_after(alloc: Global, reply: &Reply) -> Result<Vec<Request>, Memory>
     }
 }
 
-/// The key of the set that the controllers keep.
+/// The key of the set that the controllers reconcile.
 fn key_of_set(alloc: Global) -> Result<Key, Memory> {
     match Key::of(alloc, Kind::StatefulSet, NAMESPACE, SET) {
         Ok(key) => Ok(key),
@@ -56,7 +57,7 @@ fn key_of_set(alloc: Global) -> Result<Key, Memory> {
     }
 }
 
-/// Lists the pods after so many turns, and answers what it asks after that.
+/// Lists the pods after so many turns, and returns what it sends after that.
 #[tactic(auto, using(crate::proofs::Standing::turning_more))]
 fn begin_turn<S: SharedStore, R: Wait, G: Gate>(
     rt: &R,
@@ -75,8 +76,8 @@ fn begin_turn<S: SharedStore, R: Wait, G: Gate>(
     }
 }
 
-/// One more turn: lists the pods, takes marked ones away, and makes the others ready. A refusal is passed over. Answers whether
-/// there was anything to do.
+/// One more turn: lists the pods, removes the marked ones, and makes the others ready. A refusal is ignored. Returns
+/// whether there was anything to do.
 #[tactic(auto, using(crate::proofs::Standing::turning_next))]
 fn make_turn<S: SharedStore, R: Wait, G: Gate>(
     rt: &R,
@@ -96,8 +97,8 @@ fn make_turn<S: SharedStore, R: Wait, G: Gate>(
     Ok(is_busy)
 }
 
-/// Sleeps until something was written since the caller looked, or all controllers have ended, but for so many looks at most.
-/// A list before that would show what the last one showed.
+/// Sleeps until something was written since the caller looked, or all controllers have ended, but for at most so many
+/// looks. An earlier list would show what the last one showed.
 fn wait_for_news<S: SharedStore, R: Wait, G: Gate>(
     rt: &R,
     field: &Field<'_, S, G>,
@@ -117,7 +118,7 @@ fn wait_for_news<S: SharedStore, R: Wait, G: Gate>(
     Ok(())
 }
 
-/// One turn, and then more of them until all controllers have ended, but 64 for each round in all at most.
+/// One turn, and then more until all controllers have ended, at most 64 for each round in all.
 pub(crate) fn run_kubelet<S: SharedStore, R: Wait, G: Gate>(
     rt: &R,
     field: &Field<'_, S, G>,

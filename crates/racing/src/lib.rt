@@ -1,6 +1,6 @@
-//! Controllers of one StatefulSet that race, without a leader, over one store that threads share, beside a kubelet and,
-//! if wanted, an operator. The threads do nothing but ask the store, keep what was answered, and go on; the store is any that
-//! meets a small trait.
+//! Controllers of one StatefulSet that race, without a leader, over one store that threads share, with a kubelet and,
+//! if wanted, an operator. The threads only send requests and keep the replies; the store is any that implements a
+//! small trait.
 #![tactic(auto)]
 
 mod asking;

@@ -9,8 +9,8 @@ use race_log::{Asked, operator_request};
 use std::sync::Wait;
 use store::Gate;
 
-/// As many turns as each controller makes rounds. A turn waits until the controllers together have begun as many rounds as
-/// they have by then if all go at one pace. A refusal is passed over.
+/// As many turns as each controller makes rounds. Each turn waits until the controllers together have begun as many
+/// rounds as they would have by then at an even pace. A refusal is ignored.
 #[tactic(auto, using(crate::proofs::Operating::operated_first))]
 pub(crate) fn run_operator<S: SharedStore, R: Wait, G: Gate>(
     rt: &R,

@@ -21,7 +21,7 @@ use store::{ByShards, Caller, Gate, Naming, Sharding, Store, StoreError, Ticket,
 
 /// No race has as many callers as a store may have.
 fn memory_of(error: StoreError) -> Memory {
-    // Want of memory is the only one that is left, so it is not looked at.
+    // Only out of memory is left, so the error is not read.
     let _ = error;
     Memory
 }
@@ -101,7 +101,7 @@ impl<H: Sharding, N: Naming> SharedStore for Store<H, N> {
     }
 }
 
-/// Races over the store of that line.
+/// Races over the store of this line.
 fn race_over_line<
     H: Sharding + Send + Sync,
     N: Naming + Send + Sync,
@@ -146,17 +146,17 @@ fn race_over_shards<H: Sharding + Send + Sync, R: Threads + Wait + Sync, G: Gate
     match Line::<Writing, ByShards<H>>::new(alloc, CAPACITY, spec.shards as usize) {
         Ok(ends) => race_over_line::<H, Brand, R, G>(rt, alloc, ends, spec, gate),
         Err(LineError::Memory) => Err(RaceFault::Memory),
-        // A race that is allowed has no more shards than a line may have.
+        // A race that is allowed has a valid number of shards.
         Err(_) => unreachable!(),
     }
 }
 
-/// Races over a new store, and judges the race by what its callers asked and were told: see `race_over`. Where it is legal,
-/// no pod was created while another one of its name lived.
+/// Races over a new store, and judges the race by the requests and replies of its callers: see `race_over`. If it is
+/// legal, no pod was created while another one of that name lived.
 ///
 /// # Errors
 ///
-/// BadRace for a size out of range, and Memory, also where a thread cannot be made.
+/// `BadRace` if a size is out of range; `Memory`, also if a thread cannot be made.
 pub fn race_history<R: Threads + Wait + Sync, G: Gate + Sync>(
     rt: &R,
     alloc: Global,
@@ -173,11 +173,11 @@ pub fn race_history<R: Threads + Wait + Sync, G: Gate + Sync>(
     race_over_shards::<Brand, R, G>(rt, alloc, spec, gate)
 }
 
-/// As `race_history`, of which it keeps the report alone.
+/// As `race_history`, but keeps only the report.
 ///
 /// # Errors
 ///
-/// As those of `race_history`.
+/// Those of `race_history`.
 pub fn race<R: Threads + Wait + Sync, G: Gate + Sync>(
     rt: &R,
     alloc: Global,

@@ -9,10 +9,12 @@ use requests::{Reply, Request};
 use std::sync::Wait;
 use store::Gate;
 
-/// A store that threads share, as racers use it. `gave` is what it says of an answer: that it gave this reply to this
-/// request at this number, which is the one that an accepted write drew, and else the one up to which the answer looked.
+/// A store that threads share, as racers use it. `gave` says of an answer that the store gave this reply to this
+/// request at this number: the one that an accepted write drew, or else the one up to which the answer looked. For the
+/// running store it says that the reply is the plain store's in a running history: to an accepted write as its last
+/// request, to other writes and to reads of now after it.
 pub trait SharedStore {
-    /// Who asks: each thread has one.
+    /// Who sends requests: each thread has one.
     type Caller: Drop;
 
     /// A write whose reply waits for the frontier.
@@ -20,7 +22,7 @@ pub trait SharedStore {
 
     ghost gave: { Request → Reply → ℕ → Type 0 };
 
-    /// The write that a ticket stands for.
+    /// The write of a ticket.
     ghost asked: { Self.Ticket → Request };
 
     ghost place_of: { Self.Ticket → ℕ };
@@ -32,7 +34,7 @@ pub trait SharedStore {
     /// Another caller.
     fn caller<R: Wait>(&self, rt: &R) -> Result<Self::Caller, Memory>;
 
-    /// Asks a write.
+    /// Sends a write.
     fn submit<R: Wait, G: Gate>(
         &self,
         rt: &R,
@@ -43,14 +45,14 @@ pub trait SharedStore {
         requires { is_write request ≡ true }
         ensures { IfOk result (λ ticket. (asked ticket ≡ request) × is_of ticket caller.new) };
 
-    /// Tries to raise the frontier, and then gives the reply if the frontier has come to it.
+    /// Tries to raise the frontier, and then returns the reply if the frontier has reached it.
     fn try_reply(&self, ticket: &mut Self::Ticket, caller: &mut Self::Caller) -> Option<Reply>
         requires { is_of ticket.old caller.old }
         ensures stays { is_of ticket.new caller.new }
         ensures same { (asked ticket.new ≡ asked ticket.old) × (place_of ticket.new ≡ place_of ticket.old) }
         ensures gave { IfSome result (λ reply. gave (asked ticket.old) reply (place_of ticket.old)) };
 
-    /// The number of an accepted write; else that up to which its answer looked.
+    /// The number of an accepted write, or else the one up to which its answer looked.
     fn place(&self, ticket: &Self::Ticket) -> u64
         ensures { result ≡ place_of ticket.now };
 
@@ -68,7 +70,7 @@ pub trait SharedStore {
     ) -> Result<Reply, Memory>
         ensures { IfOk result (λ reply. gave (request.List kind namespace.now 0) reply (seen_by caller.new)) };
 
-    /// The same as they were at a number.
+    /// The same as of a number.
     fn list_at<R: Wait>(
         &self,
         rt: &R,
@@ -80,7 +82,7 @@ pub trait SharedStore {
         requires { 0 < exact }
         ensures { IfOk result (λ reply. gave (request.List kind namespace.now exact) reply (seen_by caller.new)) };
 
-    /// Forgets what was before a number.
+    /// Drops what was before a number.
     fn compact<R: Wait>(&self, rt: &R, caller: &mut Self::Caller, to: u64) -> Reply
         ensures { gave (request.Compact to) result (seen_by caller.new) };
 

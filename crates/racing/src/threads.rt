@@ -17,7 +17,7 @@ use std::thread;
 use std::thread::{Promise, PromisedHandle, Scope, Threads};
 use store::Gate;
 
-/// That a thread comes to the part of that number.
+/// The thread yields the part of that number.
 #[derive(Drop)]
 struct PartOf<'a, S> {
     store: &'a S,
@@ -33,7 +33,7 @@ impl<'a, S: SharedStore> Promise<Result<Part, Memory>> for PartOf<'a, S> {
     ghost kept_by = { λ promise result. IfOk result (IsPartAt S.gave promise.spec promise.number) };
 }
 
-/// A thread for each job, in their order. Those that were made where one is refused wait for the start.
+/// A thread for each job, in their order. If one is refused, those that were made wait for the start.
 fn spawn_all<'s, E, S: SharedStore + Sync, R: Threads + Wait + Sync, G: Gate + Sync>(
     rt: &'s R,
     scope: &'s Scope<'s, E>,
@@ -81,7 +81,7 @@ where
     Ok(children)
 }
 
-/// Joins the threads, and adds their parts to those that are there.
+/// Joins the threads, and appends their parts.
 fn join_all<S: SharedStore, R: Threads>(
     rt: &R,
     spec: &RaceSpec,
@@ -131,7 +131,7 @@ where
     })
 }
 
-/// What all threads come to, and between them what creating the set came to.
+/// The parts of all threads, and between them that of the caller that creates the set.
 fn join_race<S: SharedStore, R: Threads>(
     rt: &R,
     course: &Course,
@@ -159,7 +159,7 @@ fn join_race<S: SharedStore, R: Threads>(
     Ok(parts)
 }
 
-/// Creates the set, and answers once it is there.
+/// Creates the set, and returns once it exists.
 fn create_set<S: SharedStore, R: Wait, G: Gate>(
     rt: &R,
     field: &Field<'_, S, G>,
@@ -196,12 +196,12 @@ where
         },
     )?;
     let children = spawn_race(rt, scope, store, gate, course);
-    // Threads wait for this word, so it is said also where one of them could not be made.
+    // Threads wait for this word, so it is set even if one of them could not be made.
     course.begin(children.is_ok());
     join_race(rt, course, children?, creation)
 }
 
-/// All of a race but its judgement.
+/// All of a race except its judgement.
 pub(crate) fn run_all<S: SharedStore + Sync, R: Threads + Wait + Sync, G: Gate + Sync>(
     rt: &R,
     store: &S,

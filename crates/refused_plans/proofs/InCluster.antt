@@ -1,4 +1,4 @@
--- Controllers stand where the replies to their callers have taken them.
+-- Controllers are in the phases after the replies to their callers.
 use Rattle.std.proofs.Common.{◌≡◌, ◌≢◌, ◌<◌, ◌==◌, inl, inr, ℕ, Bool, true, false, cond, List, [], ◌∷◌, Option, Some, None, refl, sym, ap, ◌∙◌, length, eq-eqb, ne_eqb, true≢false, arith}
 use Rattle.std.specs.Prelude.{nat_lt, ◌&&◌, option_map, slice_get}
 use Rattle.std.specs.Option.{option_map_or}
@@ -94,7 +94,7 @@ module _ (z : Size) (count : ℕ) (reconcilers : ℕ → Reconciler) (n : ℕ) w
       let one = happened k used e in
       stays (happens z count reconcilers k e) one.1 es ∙ one.0
 
--- ---- where a caller stands is where the replies to it take its controller
+-- ---- a caller's phase is that of its controller after the replies to it
 module _ (owners : Owners) (sets : List SetSpec) (n : ℕ) (spec : SetSpec) (is : set_of sets (owners n) ≡ Some spec) where
   replied_at : (phases : Phases) (m : ℕ) (a : Reply) → Compared m n
       → put phases m (phase_after (set_of sets (owners m)) (phases m) a) n ≡ cond (m == n) (takes (reconciler_for spec) (phases n) a) (phases n)

@@ -1,4 +1,4 @@
--- What a controller that follows a caller comes to.
+-- What becomes of a controller that follows a caller.
 use Rattle.std.proofs.Common.{◌≡◌, ℕ, Bool, true, false, ◌==◌, cond, List, Option, Some, None, Result, Ok, Err, refl, sym, ap, ◌∙◌, subst, eq-eqb, ne_eqb, arith}
 use Rattle.std.specs.Prelude.{IfSome}
 use Rattle.std.specs.BTreeMap.{Updates, get}
@@ -23,7 +23,7 @@ use Rattle.controllers.specs.Controller.{phase_of, reconciler_of, refusal_after,
 use Rattle.refused_plans.specs.RefusedPlans.{Owners, set_of}
 use Rattle.refused_plans.specs.Standing.{AreMade, HasHeard, IsMadeOf, Standing, phases_in}
 
--- ---- a refused plan leaves a controller where it collects next
+-- ---- a refused plan leaves a controller in the phase in which it collects next
 nothing_left : (planned : Result (List Request) PlanError) (e : PlanError) → why_not planned ≡ Some e → acts (or_none planned) ≡ listing_old_claims
 nothing_left (Ok requests) e h = absurd cc
 nothing_left (Err d) e h = refl
@@ -85,7 +85,7 @@ module _ (spec : SetSpec) (caller : ℕ) (reply : Reply) (old new : Standing) (h
           (subst (λ o. IsMadeOf o heard.now) (sym (ap (λ i. set_of sets (owners i)) (sym e) ∙ is)) heard.is_of)
       by (other ne b) = subst (λ t. IfSome (cond t (Some heard.now) (get nat_cmp old n)) (IsMadeOf (set_of sets (owners n)))) (sym b) (made n)
 
--- ---- nobody has heard
+-- ---- no controller got a reply
 pub put_self : (phases : ℕ → Phase) (caller n : ℕ) → phases n ≡ put phases caller (phases caller) n
 put_self phases caller n = by (compare n caller)
   where

@@ -1,4 +1,4 @@
--- What is told of one item more.
+-- The refused plans after one more item.
 use Rattle.std.proofs.Common.{◌≡◌, ℕ, ◌+◌, ◌<◌, List, ◌∷◌, ◌++◌, length, get_or, drop, Option, Some, None, refl, sym, ap, ap₂, ◌∙◌, append_assoc}
 use Rattle.std.proofs.lemmas.List.{drop_more}
 use Rattle.requests.specs.declared.reply.Reply.{Reply}
@@ -19,7 +19,7 @@ told_more owners sets items i item phases next old new whole inside is told same
     ∙ ap (λ xs. old ++ told_from owners sets phases xs) (ap (λ x. x ∷ rest) is ∙ sym (drop_more items i item inside))
     ∙ so_far
 
--- where a reply takes the callers
+-- the phases of the callers after a reply
 pub reply_phases : (owners : Owners) (sets : List SetSpec) (phases next : Phases) (place caller : ℕ) (reply : Reply) (i : Item) (set : Option SetSpec) → i ≡ item.Reply place caller reply
     → set_of sets (owners caller) ≡ set → ((n : ℕ) → next n ≡ put phases caller (phase_after set (phases caller) reply) n) → (n : ℕ) → next n ≡ phases_after owners sets phases i n
 reply_phases owners sets phases next place caller reply i set is made goes n =

@@ -1,4 +1,4 @@
--- Where the callers of a cluster's run stand, and where its controllers do.
+-- The phases of the callers of a cluster's run, and of its controllers.
 use Rattle.std.specs.Prelude.{◌≡◌, ◌<◌, ℕ, List, length}
 use Rattle.interleavings.specs.Trace.{trace}
 use Rattle.interleavings.specs.World.{Size}
@@ -9,12 +9,12 @@ use Rattle.controllers.specs.declared.set_spec.SetSpec.{SetSpec}
 use Rattle.controllers.specs.Cluster.{reconciler_named}
 use Rattle.refused_plans.specs.RefusedPlans.{none_read, phases_from}
 
--- By the owners that a later cluster has, each controller stands where the caller stands that it asks as.
+-- By the owners of a later cluster, each controller is in the phase of its caller.
 abbrev pub StandsAsCallers : Size → List SetSpec → (now later : Cluster) → Type 0
 StandsAsCallers size sets now later =
     (c : ℕ) → c < length sets → phases_from (owner later.incarnations) sets none_read (trace size now.events) (now.callers c) ≡ now.phases c
 
--- so it is at each moment of a run, whatever happens after it
+-- the same at each moment of a run, whatever happens after it
 abbrev pub StandAsCallers : Size → List SetSpec → (events more : List ClusterEvent) → Type 0
 StandAsCallers size sets events more =
     let now = cluster_after size (length sets) (reconciler_named sets) events in

@@ -1,4 +1,4 @@
--- What a person is told of a refused plan, as `30: web, controller 0: plan refused: Foreign web-1`.
+-- A refused plan as text for a person, as `30: web, controller 0: plan refused: Foreign web-1`.
 use Rattle.std.specs.Prelude.{ℕ, List, [], ◌++◌, ◌==◌, Option, Some, None, codes, decimal, slice_get}
 use Rattle.std.specs.List.{find}
 use Rattle.std.specs.Option.{option_map_or}
@@ -16,7 +16,7 @@ pod_words e = []
 abbrev pub refused_words : PlanError → List ℕ
 refused_words e = codes "plan refused: " ++ (plan_error_name e ++ pod_words e)
 
--- the name of the set that the controller keeps; nothing, where there is no such controller
+-- the name of the controller's set; nothing if there is no such controller
 abbrev pub set_name : List SetSpec → (controller : ℕ) → List ℕ
 set_name sets c = option_map_or (λ (spec : SetSpec). spec.name) (slice_get sets c) []
 
@@ -27,12 +27,12 @@ refused_head sets place c = decimal place ++ (codes ": " ++ (set_name sets c ++ 
 abbrev pub refused_line : List SetSpec → RefusedPlan → List ℕ
 refused_line sets plan = refused_head sets plan.place plan.controller ++ (refused_words plan.reason ++ codes "\n")
 
--- nothing, where no plan was refused
+-- nothing if no plan was refused
 abbrev pub line_of : List SetSpec → Option RefusedPlan → List ℕ
 line_of sets None = []
 line_of sets (Some plan) = refused_line sets plan
 
--- The plan that was refused at a place, if one was. A run shows one item at a place, so it tells no two plans of one.
+-- The plan that was refused at an index, if any. A run shows one item at an index, so it has no two plans there.
 abbrev pub plan_in : List RefusedPlan → (place : ℕ) → Option RefusedPlan
 plan_in plans place = find (λ (plan : RefusedPlan). plan.place == place) plans
 

@@ -1,7 +1,7 @@
--- ---- what public clauses cite
+-- ---- cited by public clauses
 pub mod InCluster
 pub mod Noted
 pub mod RefusedPlans
 pub mod Labels
--- ---- what only private clauses cite
+-- ---- cited only by private clauses
 pub mod Standing

@@ -1,5 +1,6 @@
--- Which plans of a run were refused, and where. Each incarnation of a controller asks as a caller of its own, so the replies to
--- that caller say where it stands. A crash makes the controller go on as another caller, which has read nothing.
+-- Which plans of a run were refused, and at which index. Each incarnation of a controller is a caller of its own, so
+-- the replies to that caller give its phase. After a crash the controller continues as another caller, which has read
+-- nothing.
 use Rattle.std.specs.Prelude.{ℕ, List, [], ◌∷◌, ◌++◌, Option, Some, None, slice_get}
 use Rattle.requests.specs.declared.reply.Reply.{Reply}
 use Rattle.interleavings.specs.declared.trace.Item.{Item}
@@ -12,7 +13,7 @@ use Rattle.controllers.specs.Cluster.{reconciler_for}
 use Rattle.controllers.specs.Controller.{Refusals, refusal_after, refusals_with}
 use Rattle.refused_plans.specs.declared.refused_plan.RefusedPlan.{RefusedPlan}
 
--- by each caller the number of the controller that it is or was, none where it is somebody else
+-- for each caller the number of the controller that it is or was, none for another client
 abbrev pub Owners : Type 0
 Owners = ℕ → Option ℕ
 
@@ -21,14 +22,14 @@ abbrev pub set_of : List SetSpec → Option ℕ → Option SetSpec
 set_of sets None = None
 set_of sets (Some controller) = slice_get sets controller
 
--- ---- where each caller stands in its round
+-- ---- the phase of each caller in its round
 abbrev pub Phases : Type 0
 Phases = ℕ → Phase
 
 abbrev pub none_read : Phases
 none_read caller = reading_set
 
--- where a reply takes the controller that is made of this; nobody else stands anywhere
+-- the phase of a controller of this set after a reply; for another client it stays as it is
 abbrev pub phase_after : Option SetSpec → Phase → Reply → Phase
 phase_after None phase reply = phase
 phase_after (Some spec) phase reply = takes (reconciler_for spec) phase reply
@@ -46,7 +47,8 @@ phases_from owners sets phases (i ∷ items) = phases_from owners sets (phases_a
 abbrev pub refusals_for : SetSpec → Refusals
 refusals_for spec = refusals_with spec.digits spec.moment
 
--- why the plan is refused that the reply ends the reading for; none where it ends no reading, or the plan is made
+-- why the plan is refused for which the reply completes the reading; none if it completes no reading, or the plan is
+-- made
 abbrev pub refusal_at : Option SetSpec → Phase → Reply → Option PlanError
 refusal_at None phase reply = None
 refusal_at (Some spec) phase reply = refusal_after (refusals_for spec) phase reply None
@@ -60,7 +62,7 @@ told_at owners sets phases (item.Call place caller request) = []
 told_at owners sets phases (item.Reply place caller reply) =
     told place (owners caller) (refusal_at (set_of sets (owners caller)) (phases caller) reply)
 
--- ---- those of a trace, before which the callers stood there
+-- ---- those of a trace, from these phases of the callers on
 abbrev pub told_from : Owners → List SetSpec → Phases → List Item → List RefusedPlan
 told_from owners sets phases [] = []
 told_from owners sets phases (i ∷ items) =

@@ -14,11 +14,11 @@ use Rattle.refused_plans.specs.RefusedPlans.{Owners, Phases, refusals_for, set_o
 abbrev pub Standing : Type 0
 Standing = BTreeMap ℕ Controller
 
--- where each caller stands: one that no controller follows yet has read nothing
+-- the phase of each caller: one that no controller follows yet has read nothing
 abbrev pub phases_in : Standing → Phases
 phases_in standing caller = option_map_or phase_of (get nat_cmp standing caller) reading_set
 
--- a controller of that set, with no refusal left to tell
+-- a controller of that set, with no refusal left to report
 pub record IsOf (spec : SetSpec) (controller : Controller) : Type 0 where
   pub reconciler : reconciler_of controller ≡ reconciler_for spec
   pub refusals : refusals_of controller ≡ refusals_for spec
@@ -32,7 +32,7 @@ IsMadeOf (Some spec) controller = IsOf spec controller
 abbrev pub AreMade : Owners → List SetSpec → Standing → Type 0
 AreMade owners sets standing = (n : ℕ) → IfSome (get nat_cmp standing n) (IsMadeOf (set_of sets (owners n)))
 
--- the controller that follows the caller has taken the reply
+-- the controller that follows the caller has handled the reply
 pub record HasHeard (spec : SetSpec) (caller : ℕ) (reply : Reply) (old new : Standing) : Type 0 where
   pub now : Controller
   pub is_of : IsOf spec now

@@ -1,4 +1,4 @@
-// A controller that follows a caller: it takes the replies that the caller got.
+// A controller that follows a caller: it handles the replies that the caller got.
 ghost use Rattle.std.specs.Prelude.{◌≡◌, ◌==◌, ℕ, None, IfOk, IfSome, OnOk, if◌then◌else◌};
 ghost use Rattle.std.specs.BTreeMap.{get};
 ghost use Rattle.std.specs.Ordering.{nat_cmp};
@@ -14,7 +14,7 @@ use set_views::PlanError;
 use std::alloc::{AllocError, Global};
 use std::collections::BTreeMap;
 
-/// Takes the reply to what the controller asks where it stands.
+/// Handles the reply to what the controller sends in its phase.
 fn take(controller: &mut Controller, reply: &Reply) -> Result<(), Memory>
     ensures phase { OnOk result (phase_of controller.new ≡ takes (reconciler_of controller.old) (phase_of controller.old) reply.now) }
     ensures refusal { OnOk result (refusal_of controller.new
@@ -22,13 +22,13 @@ fn take(controller: &mut Controller, reply: &Reply) -> Result<(), Memory>
     ensures reconciler { OnOk result (reconciler_of controller.new ≡ reconciler_of controller.old) }
     ensures refusals { OnOk result (refusals_of controller.new ≡ refusals_of controller.old) }
 {
-    // A reply is taken only where a request waits for it.
+    // A reply is handled only if a request waits for it.
     drop(controller.next()?);
     controller.take(reply)
 }
 
-/// Takes the controller to where a refused plan leaves it, with no refusal left. It collects next there, as it does after it
-/// read that its set is gone.
+/// Brings the controller to where a refused plan leaves it, with no refusal left. It collects next, as it does after it
+/// read that its set was deleted.
 #[tactic(auto, unfolding(rounds::specs::Phase::takes))]
 fn pass_over(controller: &mut Controller) -> Result<(), Memory>
     ensures phase { OnOk result (phase_of controller.new ≡ listing_old_claims) }
@@ -65,7 +65,7 @@ fn last_reason(controller: &Controller) -> Result<Option<PlanError>, AllocError>
     Ok(Some(copy_of(reason)?))
 }
 
-/// Takes a reply, and says why the plan is refused that the reply ends the reading for, if it is.
+/// Handles a reply, and returns why the plan is refused, if the reply completes the reading for a plan that is.
 #[tactic(auto, using(crate::proofs::Passing::passed_over))]
 fn hear(controller: &mut Controller, reply: &Reply) -> Result<Option<PlanError>, Memory>
     requires { refusal_of controller.old ≡ None }
@@ -103,7 +103,8 @@ fn taken_out(
     }
 }
 
-/// Lets the controller of a caller take a reply, and says why the plan is refused that the reply ends the reading for, if it is.
+/// Lets the controller of a caller handle a reply, and returns why the plan is refused, if the reply completes the
+/// reading for a plan that is.
 pub(crate) fn reason_at(
     alloc: Global,
     spec: &SetSpec,

@@ -7,8 +7,8 @@ use plan_lines::plan_error_name;
 use set_views::PlanError;
 use std::alloc::AllocError;
 
-/// Puts what a person is told of a refused plan behind the text, as `plan refused: BadSpec`, or `plan refused: Foreign web-1` of a
-/// pod that is not the set's.
+/// Appends a refused plan in words, as `plan refused: BadSpec`, or `plan refused: Foreign web-1` for a pod that is not
+/// the set's.
 pub fn put_refused(reason: &PlanError, out: &mut String) -> Result<(), AllocError>
     ensures { OnOk result (string_bytes out.new ≡ string_bytes out.old ++ refused_words reason.now) }
 {
@@ -29,7 +29,7 @@ fn put_pod(reason: &PlanError, out: &mut String) -> Result<(), AllocError>
     }
 }
 
-/// Puts the line of a refused plan behind the text.
+/// Appends the line of a refused plan.
 pub(crate) fn put_line(
     sets: &[SetSpec],
     plan: &RefusedPlan,
@@ -42,7 +42,7 @@ pub(crate) fn put_line(
     write!(out, "\n")
 }
 
-/// Puts the place, and whose plan it was.
+/// Appends the index, and whose plan it was.
 fn put_head(
     sets: &[SetSpec],
     place: u64,

@@ -1,5 +1,5 @@
-//! Which plans of a cluster's run were refused, and why. A controller goes on after a refusal as if it had nothing to do, so the
-//! run's requests do not show it.
+//! Which plans of a cluster's run were refused, and why. A controller continues after a refusal as if it had nothing to
+//! do, so the run's requests do not show it.
 #![tactic(auto)]
 
 mod following;

@@ -10,8 +10,8 @@ use std::alloc::{AllocError, Global};
 use std::collections::BTreeMap;
 use traces::Notes;
 
-/// What a person is told of the plans that were refused in a run: a line at the place of each, by what the controllers are made
-/// of.
+/// The plans that were refused in a run, as text for a person: a line at the index of each, by what the controllers are
+/// made of.
 #[derive(Drop)]
 pub struct RefusedNotes<'a> {
     by_place: BTreeMap<u64, &'a RefusedPlan>,
@@ -19,7 +19,7 @@ pub struct RefusedNotes<'a> {
 }
 
 impl<'a> RefusedNotes<'a> {
-    /// What is told of these.
+    /// The notes of these plans.
     #[tactic(auto, unfolding(crate::specs::Noted::note_in))]
     pub fn of(
         alloc: Global,
@@ -48,7 +48,7 @@ impl Notes for RefusedNotes<'_> {
     }
 }
 
-/// Notes a refused plan, unless one of its place is noted.
+/// Notes a refused plan, unless one at its index is noted.
 fn note<'a>(
     by_place: &mut BTreeMap<u64, &'a RefusedPlan>,
     plan: &'a RefusedPlan,

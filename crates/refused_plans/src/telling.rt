@@ -16,9 +16,10 @@ use set_views::PlanError;
 use std::alloc::{AllocError, Global};
 use std::collections::BTreeMap;
 
-/// The plans that were refused in a cluster's run, in order, given what the run showed, by each caller the controller that it is
-/// or was, and what the controllers are made of. A plan that a later round is refused again is told again. Nothing is told of
-/// a caller that is no controller, or one that is not among these.
+/// The plans that were refused in a cluster's run, in order, each at the index of the reply that completed its reading,
+/// given what the run showed, for each caller the controller that it is or was, and what the controllers are made of. A
+/// plan that is refused again in a later round is listed again. A caller that is no controller, or none of these, has
+/// no plans.
 pub fn refused_plans(
     alloc: Global,
     items: &[Item],
@@ -35,7 +36,7 @@ pub fn refused_plans(
     Ok(found)
 }
 
-/// Puts what an item tells behind what was found. `standing` has the controllers that follow the callers.
+/// Appends the refused plan of an item, if it has one. `standing` has the controllers that follow the callers.
 fn put_item(
     alloc: Global,
     owners: &BTreeMap<u64, Option<usize>>,
@@ -72,7 +73,8 @@ fn owner_of(owners: &BTreeMap<u64, Option<usize>>, caller: u64) -> Option<usize>
     *owners.get(&caller)?
 }
 
-/// Lets a caller of the controller take a reply, and says why the plan is refused that the reply ends the reading for, if it is.
+/// Lets a caller of the controller handle a reply, and returns why the plan is refused, if the reply completes the
+/// reading for a plan that is.
 fn reason_of(
     alloc: Global,
     sets: &[SetSpec],

@@ -13,7 +13,7 @@ shown-first (item_is.Reply place caller r) items = sym (append_assoc (compact_te
 pub at_drop : (items : List Item) (at : ℕ) (i : Item) → at < length items → i ≡ get_or items at i → drop at items ≡ i ∷ drop (at + 1) items
 at_drop items at i inside is = rw add-one (drop-cons items at i inside ∙ ap (λ x. x ∷ drop (suc at) items) (sym is))
 
--- what is written and what is left to write make the whole
+-- what is written and what is left to write are together the whole
 pub shown-next : (items : List Item) (at : ℕ) (i : Item) (old new all : List ℕ) → at < length items → i ≡ get_or items at i
     → old ++ text_lines (shown (drop at items)) ≡ all → new ≡ old ++ text_lines (shown (i ∷ [])) → new ++ text_lines (shown (drop (at + 1) items)) ≡ all
 shown-next items at i old new all inside is so_far written =

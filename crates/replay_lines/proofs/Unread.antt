@@ -15,7 +15,7 @@ mapped : {B C : Type 0} (g : B → C) (o : Option B) → option_map g o ≡ None
 mapped g None is = refl
 mapped g (Some x) is = absurd (none-some (g x) (sym is))
 
--- where each line is read, all are
+-- if each line is read, all are
 all_read : {B : Type 0} (read : List ℕ → Option B) (n : ℕ) (ls : List (List ℕ)) → first_refused (λ l. is_some (read l)) n ls ≡ None → each_of read ls ≡ None → ⊥
 all_read read n [] none is = absurd (none-some [] (sym is))
 all_read read n (l ∷ ls) none is =

@@ -1,4 +1,4 @@
--- The event that a line of a script is, if it is one.
+-- The event of a line of a script, if it is one.
 use Rattle.std.specs.Prelude.{◌≡◌, ℕ, List, codes, bytes_eq, Option, Some, None, option_map, option_and_then, Result, Ok, Err, if◌then◌else◌, ⊤}
 use Rattle.serde_json.specs.Data.{Data, null, boolean, number, string, array, object, Members}
 use Rattle.serde_json.specs.Find.{as_object, as_str, as_u64, get_member}
@@ -26,11 +26,11 @@ abbrev pub unless_refused : {A E : Type 0} → Result A E → Option A
 unless_refused (Ok x) = Some x
 unless_refused (Err e) = None
 
--- the value that a line is: JSON whose numbers are whole
+-- the value of a line: JSON whose numbers are whole
 abbrev pub value_of : List ℕ → Option Data
 value_of line = unless_refused (tree_reading line)
 
--- the members of the object that a line is
+-- the members of the object in a line
 abbrev pub line_members : List ℕ → Option Members
 line_members line = value_of line >>= as_object
 
@@ -49,7 +49,7 @@ count_of (object ms) = None
 abbrev pub count_in : List ℕ → Members → Option ℕ
 count_in name ms = option_and_then count_of (get_member name ms)
 
--- the step of a word
+-- the step of this name
 abbrev pub step_named : List ℕ → Option Step
 step_named s =
     if bytes_eq s (codes "check") then Some step.Check
@@ -75,7 +75,7 @@ event_at step.Part caller = event.Part caller
 event_at step.Reply caller = event.Reply caller
 event_at step.Crash caller = event.Crash caller
 
--- the event of a word that has no request: `raise`, or a step of the caller that the line names
+-- the event of this name without a request: `raise`, or a step of the caller that the line names
 abbrev pub step_in : (word : List ℕ) → Members → Option Event
 step_in word ms =
     if bytes_eq word (codes "raise") then Some event.Raise
@@ -94,14 +94,14 @@ call_in ms = do
 abbrev pub event_by : (word : List ℕ) → Members → Option Event
 event_by word ms = if bytes_eq word (codes "call") then call_in ms else step_in word ms
 
--- the event that the member `event` says
+-- the event that the member `event` names
 abbrev pub event_in : Members → Option Event
 event_in ms = text_in (codes "event") ms >>= λ word. event_by word ms
 
 unfoldable pub event_of : List ℕ → Option Event
 event_of line = line_members line >>= event_in
 
--- reading refuses; nothing is said where memory ran out
+-- reading refuses; out of memory says nothing
 abbrev pub Fails : {A : Type 0} → ScriptError → Option A → Type 0
 Fails errors.BadScript reading = reading ≡ None
 Fails errors.Memory reading = ⊤
@@ -111,7 +111,7 @@ abbrev pub Reads : {A B : Type 0} → (A → B) → Result A ScriptError → Opt
 Reads view (Ok x) reading = reading ≡ Some (view x)
 Reads view (Err e) reading = Fails e reading
 
--- ---- for private clauses: what the refusal of a request says of its script
+-- ---- for private clauses: why a script is refused whose request is refused
 
 abbrev pub read_fault : ReadError → ScriptError
 read_fault read.NotJson = errors.BadScript

@@ -1,4 +1,4 @@
--- ---- what public clauses cite
+-- ---- cited by public clauses
 pub mod Events
 pub mod Printing
 pub mod Refusals

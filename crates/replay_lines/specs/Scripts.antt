@@ -1,4 +1,4 @@
--- The script that a text is: its first line has the size of the store, and each other line is an event.
+-- The script in a text: its first line has the size of the store, and each other line is an event.
 use Rattle.std.specs.Prelude.{ℕ, List, [], ◌∷◌, codes, Option, Some, None, option_map}
 use Rattle.serde_json.specs.Data.{Members}
 use Rattle.plain.specs.Lines.{lines}
@@ -17,11 +17,11 @@ size_in ms = do
 abbrev pub header_of : List ℕ → Option Size
 header_of line = line_members line >>= size_in
 
--- what a line is read as by its members
+-- how a line is read, by its members
 abbrev pub line_by : {A : Type 0} → (read : Members → Option A) → List ℕ → Option A
 line_by read line = line_members line >>= read
 
--- what each of these is read as, where each can be read
+-- how each of these is read, if each can be read
 abbrev pub each_of : {A B : Type 0} → (A → Option B) → List A → Option (List B)
 each_of read [] = Some []
 each_of read (x ∷ xs) = read x >>= λ y. option_map (λ ys. y ∷ ys) (each_of read xs)

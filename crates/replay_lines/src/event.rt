@@ -1,4 +1,4 @@
-// The event that a line of a script is.
+// The event of a line of a script.
 ghost use Rattle.std.specs.Prelude.{◌≡◌};
 ghost use Rattle.objects.specs.Tree.{data_of};
 ghost use Rattle.plain.specs.Requests.{request_in as plain_request_in};
@@ -12,7 +12,7 @@ use objects::{Members, ReadError, Tree};
 use plain::{Request, RequestError};
 use std::alloc::Global;
 
-/// The event that the members of a line are.
+/// The event that these members give.
 pub(crate) fn event_in(alloc: Global, members: Members) -> Result<Event, ScriptError>
     ensures { Reads (λ event. event) result (event_in members) }
 {
@@ -39,11 +39,11 @@ fn call_in(alloc: Global, members: Members) -> Result<Event, ScriptError>
     Ok(Event::Call(caller, request))
 }
 
-/// The request that the member `request` is, as a request line of `serve`.
+/// The request in the member `request`, as a request line of `serve`.
 ///
 /// # Errors
 ///
-/// `BadScript` where it is missing or no request.
+/// `BadScript` if it is missing or no request.
 pub fn request_in(alloc: Global, members: Members) -> Result<Request, ScriptError>
     ensures { Reads (λ request. request) result (request_in members) }
 {

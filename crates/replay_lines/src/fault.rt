@@ -5,10 +5,10 @@ use objects::Memory;
 use std::alloc::{AllocError, AllocFailed};
 use thiserror::Error;
 
-/// Why a text is no script. `Memory` says nothing of the text.
+/// Why a text is no script. `Memory` says nothing about the text.
 #[derive(Clone, Copy, Debug, PartialEq, Eq, Error)]
 pub enum ScriptError {
-    /// The first line is missing or lacks what it has to have, or another line is no event.
+    /// The first line is missing or lacks a member, or another line is no event.
     #[error("the script cannot be read")]
     BadScript,
     /// An allocation was refused.

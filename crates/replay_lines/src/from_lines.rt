@@ -23,9 +23,9 @@ pub trait FromLines: Drop {
     ghost Parts: { Type 0 };
 
     ghost parts: { Self.Header → Parts };
-    /// The header that these members are, if they are one.
+    /// The header that these members give, if any.
     ghost header: { Members → Option Parts };
-    /// The event that these members are, if they are one.
+    /// The event that these members give, if any.
     ghost event: { Members → Option Self.Event };
 
     fn header_in(alloc: Global, members: &Members) -> Result<Self::Header, ScriptError>
@@ -35,11 +35,11 @@ pub trait FromLines: Drop {
         ensures { Reads (λ event. event) result (event members) };
 }
 
-/// The header and the events that the lines of a text are.
+/// The header and the events in the lines of a text.
 ///
 /// # Errors
 ///
-/// `BadScript` where a line is none, or where there is no line.
+/// `BadScript` if a line is none, or if there is no line.
 #[tactic(auto, using(crate::proofs::Readings::fails_bind))]
 pub fn read_lines<S: FromLines>(
     alloc: Global,

@@ -8,7 +8,7 @@ use objects::Members;
 /// The size of a store, as the first line of a script gives it. Neither number is bounded here.
 #[derive(Clone, Copy, Drop)]
 pub struct Header {
-    /// How many revisions the store may draw.
+    /// How many revisions the store may allocate.
     pub capacity: u64,
     pub shards: u64,
 }
@@ -17,7 +17,7 @@ pub struct Header {
 ///
 /// # Errors
 ///
-/// `BadScript` where one of them is missing or no such number.
+/// `BadScript` if one of them is missing or no such number.
 pub fn header_in(members: &Members) -> Result<Header, ScriptError>
     ensures { Reads size_of result (size_in members.now) }
 {

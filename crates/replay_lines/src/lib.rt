@@ -1,5 +1,5 @@
-//! Scripts of `stsctl replay`: the events that the lines of a script are, and the lines of what a run of them shows. The parts
-//! of lines that scripts of other kinds have too are public.
+//! Scripts of `stsctl replay`: the events in the lines of a script, and the lines of what a run of them shows. The
+//! parts of lines that scripts of other kinds have too are public.
 #![tactic(auto)]
 
 mod event;

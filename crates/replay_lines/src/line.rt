@@ -6,11 +6,11 @@ ghost use Rattle.replay_lines.specs.Events.{Reads, count_in, count_of, line_memb
 use crate::fault::ScriptError;
 use objects::{Members, Tree, TreeError, TreeReader};
 
-/// The members of the object that a line is: JSON whose numbers are whole. Of members of one name the last counts.
+/// The members of the object in a line: JSON whose numbers are whole. Of members with the same name the last counts.
 ///
 /// # Errors
 ///
-/// `BadScript` where the line is no such object.
+/// `BadScript` if the line is no such object.
 pub fn read_members(reader: &mut TreeReader, line: &[u8]) -> Result<Members, ScriptError>
     ensures { Reads (λ members. members) result (line_members line.now) }
 {
@@ -44,7 +44,7 @@ pub fn count_in(members: &Members, name: &str) -> Option<u64>
     count_of(members.get(name)?)
 }
 
-/// The whole number that a value is, if it is one from 0 up that fits 64 bits.
+/// The whole number of a value, if it is one from 0 up that fits 64 bits.
 pub fn count_of(value: &Tree) -> Option<u64>
     ensures { result ≡ count_of (data_of value.now) }
 {

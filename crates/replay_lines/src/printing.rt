@@ -11,8 +11,8 @@ use objects::Memory;
 use plain::{Reply, end_line, write_integer_member, write_reply};
 use std::alloc::{AllocError, Global};
 
-/// The lines of a run: `{"at":P,"caller":N,"reply":R}` for each reply, P its place and R as a reply line of `serve`, and
-/// last `{"order":[..]}` with the places of the calls in the order of the run.
+/// The lines of a run: `{"at":P,"caller":N,"reply":R}` for each reply, P its index and R as a reply line of `serve`,
+/// and last `{"order":[..]}` with the indices of the calls in the order of the run.
 pub fn run_text(alloc: Global, run: &Run) -> Result<Vec<u8>, Memory>
     ensures { IfOk result (λ text. text.items ≡ run_text run.now.trace.items.items run.now.order.items) }
 {
@@ -47,7 +47,7 @@ fn put_item(item: &Item, out: Vec<u8>) -> Result<Vec<u8>, AllocError>
     }
 }
 
-/// Puts the line of a reply behind what was written: `{"at":P,"caller":N,"reply":R}`, R as a reply line of `serve`.
+/// Appends the line of a reply: `{"at":P,"caller":N,"reply":R}`, R as a reply line of `serve`.
 pub fn put_reply(
     place: u64,
     caller: u64,
@@ -78,7 +78,7 @@ fn write_reply_at(
     out.end_object()
 }
 
-/// Puts the line of an order behind what was written: `{"order":[P,..]}`.
+/// Appends the line of an order: `{"order":[P,..]}`.
 pub fn put_order(order: &[u64], out: Vec<u8>) -> Result<Vec<u8>, AllocError>
     ensures { IfOk result (λ text. text.items ≡ out.items ++ (compact_text (order_data order.now) ++ 10 ∷ [])) }
 {

@@ -12,7 +12,7 @@ use plain::split_line;
 use std::alloc::Global;
 use std::marker::PhantomData;
 
-/// Tells which lines can be read.
+/// Says which lines can be read.
 pub trait LineTest {
     ghost use Rattle.std.specs.Prelude.{◌≡◌, ℕ, List, Bool, IfOk};
 
@@ -24,7 +24,7 @@ pub trait LineTest {
         ensures { IfOk result (λ can. can ≡ reads line.now) };
 }
 
-/// The number of the first line that cannot be read, if there is one, where the first line of all has the number `from`.
+/// The number of the first line that cannot be read, if any; the first line of all has the number `from`.
 pub fn first_refused<T: LineTest>(
     test: &mut T,
     text: &[u8],
@@ -72,7 +72,7 @@ impl<S: FromLines> LineTest for Events<S> {
     }
 }
 
-/// The number of the first line, from 1, for which a text is no script; none where it is one.
+/// The number of the first line, from 1, for which a text is no script; none if it is one.
 #[tactic(auto, unfolding(crate::specs::Events::event_of, crate::specs::Scripts::script_of))]
 pub fn refused_line(alloc: Global, text: &[u8]) -> Result<Option<u64>, Memory>
     ensures line { IfOk result (λ line. line ≡ refused_line_of text.now) }
@@ -81,7 +81,7 @@ pub fn refused_line(alloc: Global, text: &[u8]) -> Result<Option<u64>, Memory>
     refused_line_by::<Script>(alloc, text)
 }
 
-/// The same of a script of any kind.
+/// The same for a script of any kind.
 pub fn refused_line_by<S: FromLines>(alloc: Global, text: &[u8]) -> Result<Option<u64>, Memory>
     ensures line { IfOk result (λ line. line ≡ refused_line (λ l. is_some (line_by S.header l)) (λ l. is_some (line_by S.event l)) (lines text.now)) }
     ensures some { IfOk result (λ line. script_by (line_by S.header) (line_by S.event) (lines text.now) ≡ None → is_some line ≡ true) }

@@ -9,8 +9,8 @@ use history::Event;
 use objects::Members;
 use std::alloc::Global;
 
-/// A run that is to be replayed: how many revisions the store may draw, how many shards it has, and the events, first to
-/// last. Neither number is bounded here.
+/// A run that is to be replayed: how many revisions the store may allocate, how many shards it has, and the events,
+/// first to last. Neither number is bounded here.
 #[derive(Drop)]
 pub struct Script {
     pub capacity: u64,
@@ -18,14 +18,15 @@ pub struct Script {
     pub events: Vec<Event>,
 }
 
-/// The script that a text is. Its first line is `{"capacity":C,"shards":S}`, and each other line is an event:
-/// `{"caller":N,"event":"call","request":L}` with L as a request line of `serve`; `{"caller":N,"event":E}` with E one of
-/// `check`, `reserve`, `publish`, `read`, `readat`, `compact`, `part`, `reply` and `crash`; or `{"event":"raise"}`. Other
-/// members are passed over, and of members of one name the last counts. C, S and N are whole numbers below 2^64.
+/// The script in a text. Its first line is `{"capacity":C,"shards":S}`, and each other line is an event:
+/// `{"caller":N,"event":"call","request":L}` with L as a request line of `serve`; `{"caller":N,"event":E}` with E one
+/// of `check`, `reserve`, `publish`, `read`, `readat`, `compact`, `part`, `reply` and `crash`; or `{"event":"raise"}`.
+/// Other members are ignored, and of members with the same name the last counts. C, S and N are whole numbers below
+/// 2^64.
 ///
 /// # Errors
 ///
-/// `BadScript` where a line is none of these, also one that is cut off or empty, or where there is no line.
+/// `BadScript` if a line is none of these, also if it is cut off or empty, or if there is no line.
 #[tactic(auto, unfolding(crate::specs::Events::event_of, crate::specs::Scripts::script_of))]
 pub fn read_script(alloc: Global, text: &[u8]) -> Result<Script, ScriptError>
     ensures { Reads parts_of result (script_of text.now) }

@@ -65,8 +65,8 @@ impl Step {
     }
 }
 
-/// The event of a word that has no request: `raise`, or a step (`check`, `reserve`, `publish`, `read`, `readat`, `compact`,
-/// `part`, `reply` or `crash`) of the caller that the member `caller` names.
+/// The event of this name without a request: `raise`, or a step (`check`, `reserve`, `publish`, `read`, `readat`,
+/// `compact`, `part`, `reply` or `crash`) of the caller in the member `caller`.
 pub fn step_in(word: &str, members: &Members) -> Option<Event>
     ensures { result ≡ step_in word.now members.now }
 {

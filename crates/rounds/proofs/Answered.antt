@@ -1,4 +1,4 @@
--- Lists and objects that were answered, by the store that they were read from and what came after.
+-- Lists and objects in replies, by the store that they were read from and what came after.
 use Rattle.std.proofs.Common.{◌≡◌, ◌⊎◌, ◌≤◌, ◌<◌, ◌==◌, inl, inr, ℕ, true, List, [], ◌∷◌, ◌++◌, Option, refl, sym, ap, subst, ◌∙◌, arith}
 use Rattle.std.proofs.lemmas.Bool.{and_parts, eqb-true}
 use Rattle.std.proofs.lemmas.Slice.Eq.{bytes_eq-Decides}
@@ -25,9 +25,9 @@ use Rattle.rounds.specs.Transcript.{Entry, Incarnation, of_incarnation, requests
 use Rattle.rounds.proofs.Entries.{IsStepwise, stands_in}
 use Rattle.rounds.proofs.Lists.{among_either, among_right, contains_among}
 
--- ---- a list that was answered
+-- ---- a list in a reply
 
--- the store that was listed is on the way to this one
+-- the store that was listed comes before this one
 pub record WasListed (s end : Store) (kind : Kind) (namespace : List ℕ) (os : List Object) (n : ℕ) : Type 0 where
   pub first : List Request
   pub rest : List Request
@@ -52,7 +52,7 @@ was_listed_by s (e ∷ es) who kind namespace os n run (inr at) =
     let w = was_listed_by (step s e.1).0 es who kind namespace os n run.1 at in
     record { first = e.1 ∷ w.first; rest = w.rest; objects = w.objects; counted = w.counted; end_is = w.end_is }
 
--- a list that an incarnation was answered
+-- a list that an incarnation got
 pub was_listed : (s : Store) (es : List Entry) (incarnation : Incarnation) (kind : Kind) (namespace : List ℕ) (os : List Object) (n : ℕ) → IsStepwise s es
     → Among (request.List kind namespace 0, Listed os n) (of_incarnation incarnation es) → WasListed s (after s (requests_of es)) kind namespace os n
 was_listed s es incarnation kind namespace os n run at =
@@ -61,7 +61,7 @@ was_listed s es incarnation kind namespace os n run at =
 
 -- ---- an object that was there
 
--- its numbers were drawn
+-- its numbers were allocated
 pub record IsNumbered (o : Object) : Type 0 where
   pub uid_some : 0 < o.meta.uid
   pub uid_low : o.meta.uid ≤ 1048576
@@ -88,7 +88,7 @@ numbered capacity rs key o least most there =
       revision_low = omega (arith, upto, low);
     }
 
--- the object was read from a store on the way to this one
+-- the object was read from a store that comes before this one
 pub record WasThere (capacity : ℕ) (end : Store) (kind : Kind) (namespace : List ℕ) (o : Object) : Type 0 where
   pub first : List Request
   pub rest : List Request

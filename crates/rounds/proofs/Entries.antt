@@ -1,4 +1,4 @@
--- Where an entry of a transcript stands, what was before it, and what the store had then.
+-- Where an entry of a transcript is, what was before it, and what the store had then.
 use Rattle.std.proofs.Common.{◌≡◌, ◌==◌, inl, inr, ℕ, Bool, true, false, cond, List, [], ◌∷◌, ◌++◌, Option, Some, refl, ap, arith}
 use Rattle.std.specs.Prelude.{⊤}
 use Rattle.std.proofs.lemmas.Bool.Decides.{nat_tests}
@@ -59,7 +59,7 @@ asked_first : (c : Reconciler) (phase : Phase) (r : Request) (reply : Reply) (b 
 asked_first c phase r reply true all is follows = follows.0
 asked_first c phase r reply false all is follows = cc
 
--- an incarnation asks at an entry what it is to ask after those before it
+-- the request of an incarnation at an entry is the one due after those before it
 pub asks_at : (c : Reconciler) (phase : Phase) (incarnation : Incarnation) (es : List Entry) (r : Request) (reply : Reply) (fs : List Entry)
     → Follows c phase (of_incarnation incarnation (es ++ (Some incarnation, r, reply) ∷ fs)) → Asks c phase r (of_incarnation incarnation es)
 asks_at c phase incarnation [] r reply fs follows = (tt, asked_first c phase r reply (is_by incarnation (Some incarnation)) (of_incarnation incarnation fs) (own_incarnation incarnation) follows)
@@ -80,7 +80,7 @@ stands_by true a e es own later (inl is) = record { who = e.0; at = inl (ap (λ 
 stands_by true a e es own later (inr at) = stands_later a e es (later at)
 stands_by false a e es own later at = stands_later a e es (later at)
 
--- what was answered to an incarnation stands in the transcript
+-- the replies to an incarnation are in the transcript
 pub stands_in : (incarnation : Incarnation) (a : Exchange) (es : List Entry) → Has a (of_incarnation incarnation es) → Stands a es
 stands_in incarnation a [] at = absurd at
 stands_in incarnation a (e ∷ es) at = stands_by (is_by incarnation e.0) a e es (of_incarnation incarnation es) (stands_in incarnation a es) at

@@ -1,4 +1,4 @@
--- What a controller has been answered in each phase.
+-- The replies that a controller has got in each phase.
 use Rattle.std.proofs.Common.{◌≡◌, ◌⊎◌, inl, inr, min, ℕ, Bool, true, false, cond, List, [], ◌∷◌, ◌++◌, append_assoc, Option, refl, sym, ap, subst, ◌∙◌}
 use Rattle.std.specs.Prelude.{⊤, ◌||◌}
 use Rattle.objects.specs.declared.key.Key.{Key}
@@ -170,7 +170,7 @@ passed c own r (q ∷ qs) reply is same = (
   refl,
 )
 
--- ---- a reply to what the phase asks
+-- ---- a reply to the request of the phase
 
 knows_next : (c : Reconciler) (own : List Exchange) (phase : Phase) (reply : Reply) → Knows c own phase
     → Knows c (own ++ (asks c phase, reply) ∷ []) (takes c phase reply)
@@ -232,7 +232,7 @@ known_from c own phase (e ∷ es) knows follows =
 pub known : (c : Reconciler) (own : List Exchange) → Follows c reading_set own → Knows c own (phase_after c reading_set own)
 known c own follows = known_from c [] reading_set own tt follows
 
--- ---- by the request that a phase asks
+-- ---- by the request of a phase
 
 pub action : (c : Reconciler) (own : List Exchange) (r : Request) → IsSound c → (plan : IsPlanned c own r) → IsAction (plan.revisions ++ plan.pods) r
 action c own r sound plan =

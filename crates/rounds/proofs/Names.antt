@@ -1,4 +1,4 @@
--- Between two creates of a key stands a removal.
+-- Between two creates of a key is a removal.
 use Rattle.std.proofs.Common.{◌≡◌, inl, inr, ℕ, Bool, true, false, cond, List, [], ◌∷◌, ◌++◌, append_assoc, Option, Some, None, refl, sym, ap, subst, ◌∙◌}
 use Rattle.std.specs.Prelude.{filter, flat_map, map}
 use Rattle.std.specs.Cmp.{tied_itself}
@@ -24,7 +24,7 @@ use Rattle.rounds.specs.Accepted.{Creates, HasRemoval}
 use Rattle.rounds.specs.Transcript.{Exchange}
 use Rattle.rounds.proofs.Lists.{among_either, same_first, same_rest}
 
--- what the exchanges tell of a key
+-- what the exchanges say of a key
 told : Key → List Exchange → List Event
 told key [] = []
 told key (e ∷ es) = filter (is_about key) (events e) ++ told key es

@@ -1,4 +1,4 @@
--- Whatever happens where controllers share a store, what it took is a transcript.
+-- Whatever happens while controllers share a store, what the store handled is a transcript.
 use Rattle.std.proofs.Common.{◌≡◌, ◌≤◌, ◌<◌, ◌==◌, ◌+◌, ℕ, Bool, true, false, cond, List, [], ◌∷◌, ◌++◌, append_assoc, Some, None, Option, refl, sym, ap, subst, ◌∙◌, arith}
 use Rattle.std.specs.Prelude.{nat_lt, ◌&&◌}
 use Rattle.std.proofs.lemmas.Bool.{and_parts}
@@ -76,8 +76,8 @@ same_incarnation incarnation other is =
 
 -- ---- what is kept
 
--- What was taken is a run that left the store. Each incarnation follows its machine, its controller stands where it has taken it, and
--- no incarnation that is still to come has asked.
+-- What was taken is a run that left the store. Each incarnation follows its machine, its controller is in the phase
+-- that this led to, and no incarnation that is still to come has sent a request.
 pub record IsKept (reconcilers : ℕ → Reconciler) (capacity : ℕ) (before : List Entry) (w : World) : Type 0 where
   pub run : exchanges_of (before ++ w.entries) ≡ exchanges (opening capacity) (requests_of (before ++ w.entries))
   pub store : w.store ≡ after (opening capacity) (requests_of (before ++ w.entries))
@@ -93,7 +93,7 @@ module _ (reconcilers : ℕ → Reconciler) (capacity : ℕ) (before : List Entr
   unfolding all
   longer e = append_assoc before w.entries (e ∷ [])
 
-  -- one more entry: what each incarnation has asked is as it was, but for that of the entry
+  -- one more entry: the requests of each incarnation are unchanged, except that of the entry
   entry_kept : (who : Option Incarnation) (r : Request) (phases : ℕ → Phase)
       → ((incarnation : Incarnation) → is_by incarnation who ≡ true → r ≡ asks (reconcilers incarnation.controller) (phase_after (reconcilers incarnation.controller) reading_set (of_incarnation incarnation all)))
       → ((incarnation : Incarnation) → is_by incarnation who ≡ true → incarnation.crashes ≤ w.crashes incarnation.controller)
@@ -241,7 +241,7 @@ start_kept reconcilers capacity rs s is =
       unborn = λ incarnation late. none incarnation;
     }
 
--- what a run takes is a transcript
+-- what the store handles in a run is a transcript
 pub transcript : (count : ℕ) (reconcilers : ℕ → Reconciler) (s : Store) (reached : IsReached s) (events : List WholeEvent)
     → IsTranscript reconcilers reached.capacity (entries_before (opening reached.capacity) reached.requests ++ (run count reconcilers (start s) events).entries)
 transcript count reconcilers s reached events =

@@ -61,7 +61,7 @@ module _ {X : Type 0} (reconciler : X → Reconciler) (phase : X → Phase) (rec
       subst (λ n. Stands (slice_get (slice_set xs c y) n) n p) (sym (equal i c is)) (subst (λ o. Stands o c p) (sym (get_same xs c x y there)) (one, two))
   stands_at xs phases c x y p there one two all i false is = subst (λ o. Stands o i (phases i)) (sym (get_other xs c i y (differ i c is))) (all i)
 
-  -- ---- a controller asks
+  -- ---- a controller sends a request
 
   abbrev Asked : Store → X → Request
   Asked s x = asks (reconciler x) (phase x)
@@ -100,7 +100,7 @@ module _ {X : Type 0} (reconciler : X → Reconciler) (phase : X → Phase) (rec
         controllers = λ i. stands_at xs w.phases c x y (takes (reconcilers c) (w.phases c) (step w.store r).1) there (kept ∙ one) (goes ∙ next) shows.controllers i (i == c) refl;
       })
 
-  -- a controller that could not ask, or not take its reply, stands where it stood
+  -- a controller that could not send a request, or not handle its reply, is in the phase in which it was
   stays_at : (xs : List X) (phases : ℕ → Phase) (c : ℕ) (x y : X) → slice_get xs c ≡ Some x → reconciler y ≡ reconciler x → phase y ≡ phase x
       → StandAt reconciler phase xs reconcilers phases → StandAt reconciler phase (slice_set xs c y) reconcilers phases
   stays_at xs phases c x y there kept goes all i = by (i == c) refl
@@ -115,7 +115,7 @@ module _ {X : Type 0} (reconciler : X → Reconciler) (phase : X → Phase) (rec
   pub idle_matches : (old new : Store) (xs : List X) (before after : List Taken) (w : World) → IsIdle old new before after → Shows reconciler phase reconcilers old xs before w → Matches new after w
   idle_matches old new xs before after w idle shows = record { store_is = idle.0 ∙ shows.matches.store_is; taken_is = idle.1 ∙ shows.matches.taken_is }
 
-  -- a reply that the controller could not take stands among what was taken
+  -- a reply that the controller could not handle is among what was taken
   taken_or_not : (old new : Store) (xs : List X) (before after : List Taken) (w : World) (c count : ℕ) (x : X) → c < count → slice_get xs c ≡ Some x
       → IsIdle old new before after ⊎ HasTaken old new before after (Some c) (asks (reconciler x) (phase x))
       → Shows reconciler phase reconcilers old xs before w → Matches new after w ⊎ Matches new after (happens count reconcilers w (Ask c))
@@ -149,7 +149,7 @@ module _ {X : Type 0} (reconciler : X → Reconciler) (phase : X → Phase) (rec
         controllers = λ i. stands_at xs w.phases c x y reading_set there (kept ∙ is.0) goes shows.controllers i (i == c) refl;
       })
 
-  -- ---- nobody of them
+  -- ---- a client that is no controller
 
   pub outside_shows : (old new : Store) (xs : List X) (before after : List Taken) (w : World) (count : ℕ) (r : Request)
       → HasTaken old new before after None r → Shows reconciler phase reconcilers old xs before w → Shows reconciler phase reconcilers new xs after (happens count reconcilers w (Outside r))
@@ -211,9 +211,9 @@ take_past (x ∷ xs) (suc i) high = ap (λ l. x ∷ l) (take_past xs i (omega (a
 pub run_past : (count : ℕ) (reconcilers : ℕ → Reconciler) (w : World) (es : List WholeEvent) (i : ℕ) → length es ≤ i → run count reconcilers w (take i es) ≡ run count reconcilers w es
 run_past count reconcilers w es i high = ap (run count reconcilers w) (take_past es i high)
 
--- ---- whether anything was asked
+-- ---- whether any request was sent
 
--- while nothing is asked the store stays, so the first that is asked comes upon the store of the beginning
+-- without a request the store is unchanged, so the first request meets the store of the beginning
 pub still_idle : (first old new : Store) (was now : List Taken) → IsIdle first old [] was ⊎ IsReached first → IsIdle old new was now ⊎ IsReached old → IsIdle first new [] now ⊎ IsReached first
 still_idle first old new was now (inr reached) next = inr reached
 still_idle first old new was now (inl idle) (inl still) = inl (still.0 ∙ idle.0, still.1 ∙ idle.1)
@@ -223,7 +223,7 @@ pub taken_or : {first now : Store} {taken : List Taken} → IsIdle first now [] 
 taken_or (inl idle) = inl idle.1
 taken_or (inr reached) = inr reached
 
--- ---- what follows where a call went well, or badly
+-- ---- what follows if a call succeeded, or failed
 
 pub done_if : {D E : Type 0} (r : Result D E) (S T P : Type 0) → OnOk r S → OnOk r T → (S → T → P) → OnOk r P
 done_if (Ok d) S T P s t holds = holds s t

@@ -1,5 +1,5 @@
--- Accepted creates and removals among requests and their replies (Kubernetes API concepts: a name is given to one object at a
--- time, and is free again once that object is removed).
+-- Accepted creates and removals among requests and their replies (Kubernetes API concepts: a name is given to one
+-- object at a time, and is free again once that object is removed).
 use Rattle.std.specs.Prelude.{◌≡◌, Bool, true, false, List}
 use Rattle.objects.specs.declared.object.Object.{Object}
 use Rattle.requests.specs.declared.request.Request.{Request}
@@ -25,7 +25,7 @@ succeeded request reply = false
 abbrev pub Creates : Exchange → Object → Type 0
 Creates exchange o = exchange.1 ≡ Created o
 
--- a delete was accepted, and took the object away
+-- a delete was accepted, and removed the object
 abbrev pub Removes : Exchange → Object → Type 0
 Removes exchange o = exchange.1 ≡ Removed o
 

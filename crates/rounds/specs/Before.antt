@@ -1,4 +1,4 @@
--- What a store took before controllers came to it.
+-- What a store handled before the controllers started.
 use Rattle.std.specs.Prelude.{List, [], ◌∷◌, ◌++◌, ℕ, None}
 use Rattle.requests.specs.declared.request.Request.{Request}
 use Rattle.plain_store.specs.Reached.{IsReached}
@@ -9,12 +9,12 @@ use Rattle.rounds.specs.Reconciler.{Reconciler}
 use Rattle.rounds.specs.Transcript.{Entry}
 use Rattle.rounds.specs.World.{run, start}
 
--- the requests with the replies of the store, none asked by a controller
+-- the requests with the replies of the store, none of them from a controller
 abbrev pub entries_before : Store → List Request → List Entry
 entries_before s [] = []
 entries_before s (r ∷ rs) = (None, r, (step s r).1) ∷ entries_before (step s r).0 rs
 
--- what the store took before, and what it takes in these events
+-- what the store handled before, and what it handles in these events
 abbrev pub entries_through : ℕ → (ℕ → Reconciler) → (s : Store) → IsReached s → List WholeEvent → List Entry
 entries_through count reconcilers s reached events =
     entries_before (opening reached.capacity) reached.requests ++ (run count reconcilers (start s) events).entries

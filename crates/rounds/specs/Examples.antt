@@ -1,4 +1,4 @@
--- Rounds worked out by hand: what a controller asks, over replies that are given.
+-- Rounds worked out by hand: the requests of a controller, with replies that are given.
 use Rattle.std.specs.Prelude.{ℕ, List, [], ◌∷◌, codes, None}
 use Rattle.serde_json.specs.Data.{object, no_members}
 use Rattle.objects.specs.declared.kind.Kind.{Kind}
@@ -14,7 +14,7 @@ use Rattle.rounds.specs.Drafts.{draft}
 use Rattle.rounds.specs.Phase.{Phase, asks, reading_set, takes}
 use Rattle.rounds.specs.Reconciler.{Reconciler}
 
--- what a controller asks from a phase on, one request for each reply
+-- the requests of a controller from a phase on, one for each reply
 abbrev pub requests_over : Reconciler → Phase → List Reply → List Request
 requests_over c phase [] = []
 requests_over c phase (reply ∷ replies) = asks c phase ∷ requests_over c (takes c phase reply) replies
@@ -81,15 +81,15 @@ two_rounds =
     ∷ nothing ∷ Listed (web ∷ []) 2 ∷ nothing ∷ Listed (revision ∷ []) 2 ∷ nothing
     ∷ Found web ∷ Listed (revision ∷ []) 2 ∷ nothing ∷ nothing ∷ Created pod ∷ []
 
--- After a crash the controller reads all anew, finds the pod, and writes the status alone.
+-- After a crash the controller reads everything again, finds the pod, and writes the status alone.
 abbrev pub after_a_crash : List Reply
 after_a_crash = Found web ∷ Listed (revision ∷ []) 3 ∷ Listed (pod ∷ []) 3 ∷ nothing ∷ Updated web ∷ []
 
--- Another one was first: the round begins again.
+-- Another client was faster: the round begins again.
 abbrev pub refused_action : List Reply
 refused_action = Found web ∷ nothing ∷ nothing ∷ nothing ∷ Refused AlreadyExists ∷ Found web ∷ []
 
--- Without a set there is nothing to plan. A refused delete of a claim is passed over.
+-- Without a set there is nothing to plan. A refused delete of a claim is ignored.
 abbrev pub no_set : List Reply
 no_set =
     Refused NotFound ∷ Listed (named PersistentVolumeClaim (codes "a") ∷ named PersistentVolumeClaim (codes "b") ∷ []) 4

@@ -1,6 +1,6 @@
--- A controller's round: where it stands, what it asks there, and where the reply takes it. It reads its set, lists the
--- revisions, the pods and the claims, and carries out its plan. Then it collects: it lists the claims, and all that may own
--- one, and deletes the claims that nobody owns any more. Then it begins again.
+-- A controller's round: its phases, the request of each, and the phase that the reply leads to. It reads its set, lists
+-- the revisions, the pods and the claims, and carries out its plan. Then it collects: it lists the claims, and all that
+-- may own one, and deletes the claims that no longer have an owner. Then it begins again.
 use Rattle.std.specs.Prelude.{ℕ, min, Bool, true, false, ◌||◌, List, [], ◌∷◌, if◌then◌else◌}
 use Rattle.objects.specs.declared.kind.Kind.{Kind}
 use Rattle.objects.specs.declared.kind.Kind.TheVariants.{StatefulSet, Pod, PersistentVolumeClaim, ControllerRevision}
@@ -14,7 +14,7 @@ use Rattle.requests.specs.declared.reply.Reason.TheVariants.{NotFound}
 use Rattle.rounds.specs.Accepted.{succeeded}
 use Rattle.rounds.specs.Reconciler.{Reconciler}
 
--- A phase is named for what is asked next, and has what was read for it.
+-- A phase is named for its next request, and has what was read for it.
 pub data Phase : Type 0 where
   reading_set : Phase
   listing_revisions : (set : Object) → Phase
@@ -59,7 +59,7 @@ abbrev pub is_refusal : Reply → Bool
 is_refusal (Refused reason) = true
 is_refusal reply = false
 
--- There is nothing to plan for a set that is not there. Any other reply that a get never has ends the round.
+-- There is nothing to plan for a set that is not there. Any other reply, which a get never has, ends the round.
 abbrev pub from_set : Reply → Phase
 from_set (Found set) = listing_revisions set
 from_set (Refused NotFound) = listing_old_claims
@@ -70,7 +70,7 @@ abbrev pub from_list : (List Object → ℕ → Phase) → Reply → Phase
 from_list next (Listed objects revision) = next objects revision
 from_list next reply = reading_set
 
--- A refused action ends the round. A refused delete of a claim is passed over.
+-- A refused action ends the round. A refused delete of a claim is ignored.
 unfoldable pub takes : Reconciler → Phase → Reply → Phase
 takes c reading_set reply = from_set reply
 takes c (listing_revisions set) reply = from_list (λ revisions at. listing_pods set revisions) reply

@@ -1,4 +1,4 @@
--- The plan or the collection that a request of an incarnation comes from, and what was answered for it.
+-- The plan or the collection that a request of an incarnation comes from, and the replies that it was made of.
 use Rattle.std.specs.Prelude.{◌≡◌, ℕ, min, List, [], ◌∷◌, ◌++◌}
 use Rattle.objects.specs.declared.kind.Kind.TheVariants.{StatefulSet, Pod, PersistentVolumeClaim, ControllerRevision}
 use Rattle.objects.specs.declared.object.Object.{Object}
@@ -13,8 +13,8 @@ abbrev pub asked : List Exchange → List Request
 asked [] = []
 asked (e ∷ es) = e.0 ∷ asked es
 
--- The request is the next one of a plan. The incarnation was last answered the set and the three lists that the plan is over, and
--- then the requests of the plan that stand before this one.
+-- The request is the next one of a plan. The last replies to the incarnation were the set and the three lists that the
+-- plan is over, and then those to the requests of the plan that come before this one.
 pub record IsPlanned (c : Reconciler) (incarnation : List Exchange) (r : Request) : Type 0 where
   pub before : List Exchange
   pub set : Object
@@ -33,8 +33,8 @@ pub record IsPlanned (c : Reconciler) (incarnation : List Exchange) (r : Request
       ∷ done)
   pub planned : asked done ++ r ∷ later ≡ c.plan set revisions pods claims
 
--- The request is the next one of a collection. The incarnation was last answered the claims, and the lists of all that may own one,
--- and then the requests of the collection that stand before this one.
+-- The request is the next one of a collection. The last replies to the incarnation were the claims, and the lists of
+-- all that may own one, and then those to the requests of the collection that come before this one.
 pub record IsCollected (c : Reconciler) (incarnation : List Exchange) (r : Request) : Type 0 where
   pub before : List Exchange
   pub claims : List Object

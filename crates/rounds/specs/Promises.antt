@@ -1,4 +1,4 @@
--- What holds of the requests that one plain store took from controllers and from anybody else.
+-- What holds of the requests that one plain store handles for controllers and for any other clients.
 use Rattle.std.specs.Prelude.{◌≡◌, ◌⊎◌, ◌≤◌, ℕ, List, ◌∷◌, ◌++◌, Option, Some}
 use Rattle.objects.specs.declared.key.Key.{Key}
 use Rattle.objects.specs.declared.kind.Kind.TheVariants.{Pod, PersistentVolumeClaim, ControllerRevision}
@@ -23,15 +23,15 @@ use Rattle.rounds.specs.Planned.{IsCollected, IsPlanned}
 use Rattle.rounds.specs.Reconciler.{Reconciler}
 use Rattle.rounds.specs.Transcript.{Entry, Exchange, IsRun, Incarnation, exchanges_of, of_incarnation, requests_of}
 
--- A run of the plain store, whose capacity is from 1 to 1,048,576, in which each incarnation of a controller begins by reading its
--- set and asks what the controller's reconciler has it ask.
+-- A run of the plain store, whose capacity is from 1 to 1,048,576, in which each incarnation of a controller begins by
+-- reading its set and sends the requests that the controller's reconciler determines.
 pub record IsTranscript (reconcilers : ℕ → Reconciler) (capacity : ℕ) (entries : List Entry) : Type 0 where
   pub least : 1 ≤ capacity
   pub most : capacity ≤ most_revisions
   pub run : IsRun capacity entries
   pub incarnations : (incarnation : Incarnation) → Follows (reconcilers incarnation.controller) reading_set (of_incarnation incarnation entries)
 
--- Between two accepted creates of one key stands an accepted removal of the UID of the first.
+-- Between two accepted creates of one key is an accepted removal of the UID of the first.
 abbrev pub NamesAreFreed : List Exchange → Type 0
 NamesAreFreed exchanges =
     (before between later : List Exchange) (first second : Exchange) (o p : Object)
@@ -51,14 +51,14 @@ PlansTakeWhatTheyRead reconcilers entries =
     → entries ≡ before ++ ((Some incarnation, Delete k uid version at, reply) ∷ later) → taken reply ≡ Some o
     → (plan : IsPlanned (reconcilers incarnation.controller) (of_incarnation incarnation before) (Delete k uid version at)) → HasRead (plan.revisions ++ plan.pods) o
 
--- Each create that an incarnation asks comes from a plan over what was answered to it in this round.
+-- Each create that an incarnation sends comes from a plan over the replies that it got in this round.
 abbrev pub CreatesArePlanned : (ℕ → Reconciler) → List Entry → Type 0
 CreatesArePlanned reconcilers entries =
     (before later : List Entry) (incarnation : Incarnation) (d : Draft) (reply : Reply)
     → entries ≡ before ++ ((Some incarnation, Create d, reply) ∷ later) → IsPlanned (reconcilers incarnation.controller) (of_incarnation incarnation before) (Create d)
 
--- Each delete that an incarnation asks is of a pod or a revision, and comes from a plan over what was answered to it in this round; or
--- it is of a claim, and comes from a collection over what was answered to it in this round.
+-- Each delete that an incarnation sends is of a pod or a revision, and comes from a plan over the replies that it got
+-- in this round; or it is of a claim, and comes from a collection over the replies that it got in this round.
 abbrev pub DeletesArePlannedOrCollected : (ℕ → Reconciler) → List Entry → Type 0
 DeletesArePlannedOrCollected reconcilers entries =
     (before later : List Entry) (incarnation : Incarnation) (k : Key) (uid version at : Option (List ℕ)) (reply : Reply)
@@ -74,8 +74,8 @@ pub record HasOwnerOf (s : Store) (claim : Object) : Type 0 where
   pub in_namespace : key.namespace ≡ claim.key.namespace
   pub owns : HasOwner object.meta.uid (owners_of claim.body)
 
--- When a controller's delete removes a claim, no object has the UID of an owner of it, and none ever will, whatever is asked
--- from then on.
+-- When a controller's delete removes a claim, no object has the UID of an owner of it, and none ever will, whatever is
+-- requested from then on.
 abbrev pub OwnersAreGone : ℕ → List Entry → Type 0
 OwnersAreGone capacity entries =
     (before later : List Entry) (incarnation : Incarnation) (k : Key) (uid version at : Option (List ℕ)) (claim : Object)

@@ -1,4 +1,4 @@
--- What is asked of a plan and of a collection, so that what they write is safe.
+-- What a plan and a collection have to satisfy, so that what they write is safe.
 use Rattle.std.specs.Prelude.{◌≡◌, ℕ, true, List, ◌++◌, Option, Some, ⊤}
 use Rattle.objects.specs.declared.key.Key.{Key}
 use Rattle.objects.specs.declared.object.Object.{Object}
@@ -34,8 +34,8 @@ pub record IsCollection (claims : List Object) (owners : List (List Object)) (li
   pub collectable : is_collectable listed_at (is_listed owners) claim ≡ true
   pub deletes : r ≡ deletion claim
 
--- A plan deletes no objects but pods and revisions that were listed for it, and a collection no claims but those that are
--- collectable.
+-- A plan deletes no objects but pods and revisions that were listed for it, and a collection no claims but those that
+-- are collectable.
 pub record IsSound (c : Reconciler) : Type 0 where
   pub plans : (set : Object) (revisions pods claims : List Object) (r : Request)
       → Has r (c.plan set revisions pods claims) → IsAction (revisions ++ pods) r

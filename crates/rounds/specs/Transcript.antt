@@ -1,4 +1,4 @@
--- What one plain store took, in its order: who asked, the request, and the reply.
+-- What one plain store handled, in its order: who sent it, the request, and the reply.
 use Rattle.std.specs.Prelude.{◌≡◌, ◌==◌, ℕ, Bool, false, ◌&&◌, List, [], ◌∷◌, Option, Some, None, if◌then◌else◌}
 use Rattle.requests.specs.declared.request.Request.{Request}
 use Rattle.requests.specs.declared.reply.Reply.{Reply}
@@ -9,12 +9,13 @@ use Rattle.plain_store.specs.Store.{opening}
 abbrev pub Exchange : Type 0
 Exchange = Request × Reply
 
--- An incarnation of a controller is what it does between two crashes: the controller's number, and how often it crashed before.
+-- An incarnation of a controller is what it does between two crashes: the controller's number, and how often it crashed
+-- before.
 pub record Incarnation : Type 0 where
   pub controller : ℕ
   pub crashes : ℕ
 
--- Who asked, the request and the reply. Whoever is no controller has no incarnation.
+-- The sender, the request and the reply. A sender that is no controller has no incarnation.
 abbrev pub Entry : Type 0
 Entry = Option Incarnation × Request × Reply
 
@@ -34,7 +35,7 @@ abbrev pub is_by : Incarnation → Option Incarnation → Bool
 is_by incarnation None = false
 is_by incarnation (Some other) = incarnation.controller == other.controller && incarnation.crashes == other.crashes
 
--- what one incarnation asked and was answered, in order
+-- the requests of one incarnation and their replies, in order
 abbrev pub of_incarnation : Incarnation → List Entry → List Exchange
 of_incarnation incarnation [] = []
 of_incarnation incarnation (e ∷ es) = if is_by incarnation e.0 then (e.1, e.2) ∷ of_incarnation incarnation es else of_incarnation incarnation es

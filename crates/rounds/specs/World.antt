@@ -9,7 +9,7 @@ use Rattle.rounds.specs.Phase.{Phase, asks, reading_set, takes}
 use Rattle.rounds.specs.Reconciler.{Reconciler}
 use Rattle.rounds.specs.Transcript.{Entry, Incarnation}
 
--- the store, where each controller stands and how often it has crashed, and what the store took
+-- the store, the phase of each controller and how often it has crashed, and what the store handled
 pub record World : Type 0 where
   pub store : Store
   pub phases : ℕ → Phase
@@ -23,7 +23,7 @@ start s = record { store = s; phases = λ c. reading_set; crashes = λ c. 0; ent
 abbrev pub put : {X : Type 0} → (ℕ → X) → ℕ → X → ℕ → X
 put f n x i = if i == n then x else f i
 
--- the store takes a request
+-- the store handles a request
 abbrev pub with_entry : World → Option Incarnation → Request → (ℕ → Phase) → World
 with_entry w who r phases = record {
   store = (step w.store r).0;
@@ -35,7 +35,7 @@ with_entry w who r phases = record {
 abbrev pub incarnation_of : World → ℕ → Incarnation
 incarnation_of w c = record { controller = c; crashes = w.crashes c }
 
--- a controller asks its next request, and takes the reply
+-- a controller sends its next request, and handles the reply
 abbrev pub with_ask : (ℕ → Reconciler) → World → ℕ → World
 with_ask reconcilers w c =
     let r = asks (reconcilers c) (w.phases c) in
@@ -50,7 +50,7 @@ with_crash w c = record {
   entries = w.entries;
 }
 
--- The controllers that are there have the numbers below the count. An event of another one does nothing.
+-- The controllers that exist have the numbers below the count. An event of another one does nothing.
 abbrev pub happens : ℕ → (ℕ → Reconciler) → World → WholeEvent → World
 happens count reconcilers w (Ask c) = if nat_lt c count then with_ask reconcilers w c else w
 happens count reconcilers w (Crash c) = if nat_lt c count then with_crash w c else w
@@ -60,7 +60,7 @@ abbrev pub run : ℕ → (ℕ → Reconciler) → World → List WholeEvent → 
 run count reconcilers w [] = w
 run count reconcilers w (e ∷ es) = run count reconcilers (happens count reconcilers w e) es
 
--- who asked (the number of a controller, or nobody of them), the request and the reply
+-- the sender (the number of a controller, or none for another client), the request and the reply
 abbrev pub Taken : Type 0
 Taken = Option ℕ × Request × Reply
 
@@ -68,7 +68,7 @@ abbrev pub taken_of : List Entry → List Taken
 taken_of [] = []
 taken_of (e ∷ es) = (option_map (λ (incarnation : Incarnation). incarnation.controller) e.0, e.1, e.2) ∷ taken_of es
 
--- the store, and what it took, are those of the world
+-- the store, and what it handled, are those of the world
 pub record Matches (store : Store) (taken : List Taken) (w : World) : Type 0 where
   pub store_is : store ≡ w.store
   pub taken_is : taken ≡ taken_of w.entries
@@ -77,12 +77,12 @@ pub record Matches (store : Store) (taken : List Taken) (w : World) : Type 0 whe
 abbrev pub AreMadeOf : {X : Type 0} → (X → Reconciler) → List X → (ℕ → Reconciler) → Type 0
 AreMadeOf reconciler xs reconcilers = (c : ℕ) → IfSome (slice_get xs c) (λ x. reconciler x ≡ reconcilers c)
 
--- each controller is made of the reconciler of its number, and stands at the phase of its number
+-- each controller is made of the reconciler of its number, and is in the phase of its number
 abbrev pub StandAt : {X : Type 0} → (X → Reconciler) → (X → Phase) → List X → (ℕ → Reconciler) → (ℕ → Phase) → Type 0
 StandAt reconciler phase xs reconcilers phases = (c : ℕ) → IfSome (slice_get xs c) (λ x. (reconciler x ≡ reconcilers c) × (phase x ≡ phases c))
 
--- The run stopped at an event. The controllers stand where those before it left them. The store and what it took are as they
--- were then, or as that event leaves them.
+-- The run stopped at an event. The controllers are as those before it left them. The store and what it handled are as
+-- they were then, or as that event leaves them.
 pub record StopsAt {X : Type 0} (reconciler : X → Reconciler) (phase : X → Phase) (count : ℕ) (reconcilers : ℕ → Reconciler) (s : Store) (events : List WholeEvent) (store : Store) (xs : List X) (taken : List Taken) : Type 0 where
   pub at : ℕ
   pub there : at < length events

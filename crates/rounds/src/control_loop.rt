@@ -5,18 +5,20 @@ ghost use Rattle.rounds.specs.Reconciler.{Reconciler};
 use objects::Memory;
 use requests::{Reply, Request};
 
-/// A controller: what goes round by the phases, one request at a time (Kubernetes, "Controllers").
+/// A controller: it goes through the phases of a round again and again, one request at a time (Kubernetes,
+/// "Controllers").
 pub trait ControlLoop {
-    /// What it is made of.
+    /// Its set, its plan and its collection.
     ghost reconciler: { Self → Reconciler };
 
-    /// Where it stands in its round.
+    /// Its phase in its round.
     ghost phase: { Self → Phase };
 
-    /// Whether a request of it waits for its reply.
+    /// Whether it waits for the reply to a request.
     ghost is_waiting: { Self → Bool };
 
-    /// The next request. Until its reply is taken, the same again. Where memory is short, it waits only if it waited before.
+    /// The next request. Until its reply is handled, the same again. If memory is short, it waits only if it waited
+    /// before.
     fn next(&mut self) -> Result<Request, Memory>
         ensures asked { IfOk result (λ request. request ≡ asks (reconciler self.old) (phase self.old)) }
         ensures waiting { OnOk result (is_waiting self.new ≡ true) }
@@ -24,8 +26,8 @@ pub trait ControlLoop {
         ensures reconciler { reconciler self.new ≡ reconciler self.old }
         ensures phase { phase self.new ≡ phase self.old };
 
-    /// Takes the reply to its last request, and waits no more. Where none waits, it stays where it stands; where memory is
-    /// short, it does too, and goes on waiting.
+    /// Handles the reply to its last request, and waits no more. If it waits for none, its phase stays. If memory is
+    /// short, its phase stays too, and it still waits.
     fn take(&mut self, reply: &Reply) -> Result<(), Memory>
         ensures taken { OnOk result (is_waiting self.old ≡ true → phase self.new ≡ takes (reconciler self.old) (phase self.old) reply.now) }
         ensures idle { is_waiting self.old ≡ false → phase self.new ≡ phase self.old }

@@ -1,15 +1,15 @@
 use requests::{Reply, Request};
 
-/// What happens next where controllers share a store.
+/// What happens next when controllers share a store.
 #[derive(Drop)]
 pub enum WholeEvent {
-    /// The controller of this number asks its next request, and takes the reply.
+    /// The controller of this number sends its next request, and handles the reply.
     Ask(usize),
     /// The controller of this number forgets its round.
     Crash(usize),
-    /// Anybody else asks.
+    /// Any other client sends a request.
     Outside(Request),
 }
 
-/// Who asked (the number of a controller, or nobody of them), the request, and the reply.
+/// The sender (the number of a controller, or none for another client), the request, and the reply.
 pub type Taken = (Option<usize>, Request, Reply);

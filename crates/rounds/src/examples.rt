@@ -1,8 +1,8 @@
-//! Rounds worked out by hand, which say that the machine means what it is to mean.
+//! Rounds worked out by hand, which show that the machine means what it should.
 ghost use Rattle.std.specs.Prelude.{◌≡◌, [], ◌∷◌, codes};
 ghost use Rattle.rounds.specs.Examples.{after_a_crash, asked_over, no_set, refused_action, two_rounds};
 
-/// What a controller of a set of one replica asks, over the replies of some short runs.
+/// The requests of a controller of a set of one replica, over the replies of some short runs.
 pub fn short_rounds()
     ensures two_rounds { asked_over two_rounds ≡
         codes "get" ∷ codes "revisions" ∷ codes "pods" ∷ codes "claims" ∷ codes "create"

@@ -14,34 +14,35 @@ ghost use Rattle.rounds.specs.Reconciler.{Reconciler};
 ghost use Rattle.rounds.specs.Sound.{IsSound};
 ghost use Rattle.rounds.specs.Transcript.{Entry, Exchange};
 
-/// Between two accepted creates of one key stands an accepted removal of the first one's UID, whoever asked. So a name never
-/// has two live objects.
+/// Between two accepted creates of one key is an accepted removal of the first one's UID, whoever sent them. So a name
+/// never has two live objects.
 pub fn names_are_freed()
     ensures { (capacity : ℕ) (requests : List Request) → NamesAreFreed (exchanges (opening capacity) requests) }
 {}
 
-/// What an accepted delete of a plan marks or removes has the UID that was listed for the plan, so no successor of the same
-/// name is taken for it.
+/// What an accepted delete of a plan marks or removes has the UID that was listed for the plan, so it never hits a
+/// successor of the same name.
 pub fn plans_take_what_they_read()
     ensures { (reconcilers : ℕ → Reconciler) (capacity : ℕ) (entries : List Entry) → ((controller : ℕ) → IsSound (reconcilers controller))
         → IsTranscript reconcilers capacity entries → PlansTakeWhatTheyRead reconcilers entries }
 {}
 
-/// Each create that a controller asks comes from a plan over the set, the revisions, the pods and the claims that were
-/// answered to it since its last crash, and in that round.
+/// Each create that a controller sends comes from a plan over the set, the revisions, the pods and the claims that it
+/// got since its last crash, and in that round.
 pub fn creates_are_planned()
     ensures { (reconcilers : ℕ → Reconciler) (capacity : ℕ) (entries : List Entry) → ((controller : ℕ) → IsSound (reconcilers controller))
         → IsTranscript reconcilers capacity entries → CreatesArePlanned reconcilers entries }
 {}
 
-/// Each delete that a controller asks comes from a plan, if it is of a pod or a revision, and else is of a claim, and comes from
-/// a collection. Both are over lists that were answered to it since its last crash, and in that round.
+/// Each delete that a controller sends comes from a plan, if it is of a pod or a revision, and else is of a claim, and
+/// comes from a collection. Both are over lists that it got since its last crash, and in that round.
 pub fn deletes_are_planned_or_collected()
     ensures { (reconcilers : ℕ → Reconciler) (capacity : ℕ) (entries : List Entry) → ((controller : ℕ) → IsSound (reconcilers controller))
         → IsTranscript reconcilers capacity entries → DeletesArePlannedOrCollected reconcilers entries }
 {}
 
-/// When a claim is removed by a controller's delete, no object of its namespace has the UID of an owner, and none ever will.
+/// When a claim is removed by a controller's delete, no object of its namespace has the UID of an owner, and none ever
+/// will.
 pub fn owners_are_gone()
     ensures { (reconcilers : ℕ → Reconciler) (capacity : ℕ) (entries : List Entry) → ((controller : ℕ) → IsSound (reconcilers controller))
         → IsTranscript reconcilers capacity entries → OwnersAreGone capacity entries }
@@ -59,7 +60,7 @@ pub fn transcripts_keep_promises()
     owners_are_gone();
 }
 
-/// Whatever happens where controllers share a store that a run has reached, all that it took keeps the promises.
+/// Whatever happens while controllers share a store that a run has reached, all that it handled keeps the promises.
 pub fn runs_keep_promises()
     ensures { (count : ℕ) (reconcilers : ℕ → Reconciler) (s : Store) (reached : IsReached s) (events : List WholeEvent)
         → ((controller : ℕ) → IsSound (reconcilers controller)) → RunKeepsPromises count reconcilers s reached events }
@@ -67,8 +68,8 @@ pub fn runs_keep_promises()
     transcripts_keep_promises();
 }
 
-/// An incarnation that is cut off anywhere is one, and so is one whose last request has another reply: a controller that crashes
-/// never learns it.
+/// An incarnation that is cut off anywhere is one, and so is one whose last request has another reply: a controller
+/// that crashes never learns it.
 pub fn incarnations_may_end_anywhere()
     ensures cut { (c : Reconciler) (phase : Phase) (own more : List Exchange) → Follows c phase (own ++ more) → Follows c phase own }
     ensures last { (c : Reconciler) (phase : Phase) (own : List Exchange) (request : Request) (told other : Reply)

@@ -1,5 +1,5 @@
-//! What controllers ask of a store, round by round, and what holds of every list of requests that a plain store takes from
-//! them and from anybody else.
+//! What controllers request of a store, round by round, and what holds of every list of requests that a plain store
+//! handles for them and for any other clients.
 #![tactic(auto)]
 
 mod control_loop;

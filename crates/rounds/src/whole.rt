@@ -20,17 +20,18 @@ use plain_store::{Api, ApiFault};
 use requests::Request;
 use std::alloc::Global;
 
-/// What the store took, in order, and why it ended before the last event, if it did.
+/// What the store handled, in order, and why the run stopped before the last event, if it did.
 #[derive(Drop)]
 pub struct WholeRun {
     pub taken: Vec<Taken>,
     pub fault: Option<ApiFault>,
 }
 
-/// Lets the events happen, one after another, until the end or a fault. What is taken has one entry for each request that
-/// anybody asks, with its reply; an event of a controller that is not there has none. Where memory is short, the run stops at
-/// an event: the controllers stand where those before it left them, and the store and what was taken are as they were then, or
-/// as that event leaves them. Each controller keeps its reconciler. What was taken keeps the promises of sound controllers.
+/// Runs the events, one after another, until the end or a fault. What is taken has one entry for each request of any
+/// client, with its reply; an event of a controller that does not exist has none. If memory is short, the run stops at
+/// an event: the controllers are as those before it left them, and the store and what was taken are as they were then,
+/// or as that event leaves them. Each controller keeps its reconciler. What was taken keeps the promises of sound
+/// controllers.
 pub fn run_whole<A: Api, C: ControlLoop>(
     alloc: Global,
     api: &mut A,

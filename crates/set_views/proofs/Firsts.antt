@@ -1,4 +1,4 @@
--- The first object of each name, as objects of a list are taken in turn.
+-- The first object of each name, as the objects of a list are visited in order.
 use Rattle.std.proofs.Common.{◌≡◌, ℕ, List, [], ◌∷◌, ◌++◌, Bool, true, false, not, cond, filter, refl, sym, ap, ◌∙◌, append-nil}
 use Rattle.std.specs.Prelude.{◌&&◌, ◌||◌, bytes_eq, if◌then◌else◌}
 use Rattle.std.proofs.lemmas.List.Elements.{filter-append}
@@ -46,6 +46,6 @@ firsts_last : (kept held : Bool) (xs : List Object) (o : Object) → is_held xs 
 firsts_last true held xs o is = first_more xs o ∙ ap (λ b. first_of_each xs ++ last_if (not b) o) is
 firsts_last false held xs o is = ap first_of_each (append-nil xs) ∙ sym (append-nil (first_of_each xs))
 
--- one more object counts where it is kept and is the first of its name
+-- one more object counts if it is kept and is the first of its name
 pub firsts_more : (p : Object → Bool) (os : List Object) (o : Object) → first_of_each (filter p (os ++ o ∷ [])) ≡ first_of_each (filter p os) ++ last_if (p o && not (is_held (filter p os) o.key.name)) o
 firsts_more p os o = ap first_of_each (kept_more p os o) ∙ firsts_last (p o) (is_held (filter p os) o.key.name) (filter p os) o refl

@@ -58,7 +58,7 @@ name_taken kept q name k before after is after_is k_is =
     ap (has_name q) after_is ∙ (has_name-insert_key q k before ∙ (ap (λ s. bytes_eq q s || has_name q before) k_is
     ∙ (or_swapped (bytes_eq q name) (has_name q before) ∙ ap (λ b. has_name q before || (b && bytes_eq q name)) (sym is))))
 
--- what an insert answers of a name that was there, and of one that was not
+-- what an insert returns for a name that was there, and for one that was not
 pub was_there : (a b : Bool) → a ≡ not b → a ≡ false → b ≡ true
 was_there a true is h = refl
 was_there a false is h = absurd cc

@@ -27,7 +27,7 @@ claims_of (item d ds) = do
   claims ← claims_of ds
   Some (claim ∷ claims)
 
--- no name stands twice
+-- no name occurs twice
 abbrev pub are_distinct : List (List ℕ) → Bool
 are_distinct [] = true
 are_distinct (name ∷ names) = not (list_any (bytes_eq name) names) && are_distinct names

@@ -1,5 +1,5 @@
--- The words of a set's `spec` that choose how its pods are treated (Kubernetes API reference, apps/v1, StatefulSetSpec).
--- Another word than those of the API is none.
+-- The members of a set's `spec` that choose how its pods are treated (Kubernetes API reference, apps/v1,
+-- StatefulSetSpec). A value that the API does not have gives none.
 use Rattle.std.specs.Prelude.{ℕ, codes, Option, Some, None, if◌then◌else◌}
 use Rattle.serde_json.specs.Data.{Data}
 use Rattle.objects.specs.Object.{is_text}

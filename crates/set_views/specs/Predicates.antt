@@ -33,6 +33,6 @@ is_ready Ready = true
 is_ready NotReady = false
 is_ready Failed = false
 
--- running and ready, and not on its way out
+-- running and ready, and not terminating
 abbrev pub is_healthy : Readiness → (terminating : Bool) → Bool
 is_healthy readiness terminating = is_ready readiness && not terminating

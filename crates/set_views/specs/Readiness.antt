@@ -1,4 +1,4 @@
--- How far a pod has come (Kubernetes, "Pod Lifecycle": "Pod phase" and "Pod conditions").
+-- How ready a pod is (Kubernetes, "Pod Lifecycle": "Pod phase" and "Pod conditions").
 use Rattle.std.specs.Prelude.{ℕ, Bool, false, ◌&&◌, ◌||◌, List, codes, Option, Some, None, option_and_then, if◌then◌else◌}
 use Rattle.std.specs.Option.{option_map_or}
 use Rattle.serde_json.specs.Data.{Data, Items, no_items, item}
@@ -26,7 +26,7 @@ are_ready conditions = option_map_or (says (codes "status") (codes "True")) (fin
 abbrev pub is_word : List ℕ → Option Data → Bool
 is_word word found = option_map_or (is_text word) found false
 
--- a pod of this phase with these conditions; one that succeeded has ended too, and its set wants it running
+-- a pod of this phase with these conditions; one that succeeded has ended too, and its set needs it running
 abbrev pub readiness_with : Option Data → Option Data → Readiness
 readiness_with phase conditions =
     if is_word (codes "Failed") phase || is_word (codes "Succeeded") phase then Failed

@@ -18,7 +18,7 @@ pub record SetParts : Type 0 where
   pub replicas : ℕ
   pub policy : Policy
   pub strategy : Strategy
-  -- what becomes of the claims of a set that is deleted, and of a pod that is scaled away
+  -- what happens to the claims of a set that is deleted, and of a pod that is scaled away
   pub when_deleted : Retention
   pub when_scaled : Retention
   -- how many revisions are kept that no pod needs

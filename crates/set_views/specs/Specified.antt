@@ -1,5 +1,6 @@
 -- What `spec` and `status` of a StatefulSet say of its pods (Kubernetes API reference, apps/v1: StatefulSetSpec and
--- StatefulSetStatus). What is missing or `null` has the default of the API; another value that the API does not know is none.
+-- StatefulSetStatus). What is missing or `null` has the default of the API; another value that the API does not know
+-- gives none.
 use Rattle.std.specs.Prelude.{ℕ, nat_lt, codes, List, Option, Some, None, option_and_then, if◌then◌else◌}
 use Rattle.serde_json.specs.Data.{Data, Members}
 use Rattle.serde_json.specs.Find.{get_member, as_object}
@@ -32,7 +33,7 @@ counts_in spec status = do
   collisions ← count_or 0 (present (inside (codes "collisionCount") status))
   Some (record { start = start; replicas = replicas; history_limit = history_limit; collisions = collisions })
 
--- the words of `spec`
+-- the policies of `spec`
 unfoldable pub choices_in : Members → Option Choices
 choices_in spec = let retention = found (codes "persistentVolumeClaimRetentionPolicy") spec in do
   policy ← policy_of (found (codes "podManagementPolicy") spec)

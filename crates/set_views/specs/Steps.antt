@@ -13,7 +13,7 @@ is_memory (errors.Foreign name) = false
 is_memory errors.NoRevisionName = false
 is_memory errors.Memory = true
 
--- the plan refuses with e; nothing is said where memory ran out
+-- the plan refuses with e; nothing is said if memory ran out
 abbrev pub Fails : {A : Type 0} → PlanError → Result A PlanError → Type 0
 Fails e planned = FailsUnless is_memory e planned
 

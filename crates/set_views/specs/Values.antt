@@ -19,7 +19,7 @@ present (Some d) = if is_null d then None else Some d
 abbrev pub inside : List ℕ → Option Data → Option Data
 inside k found = option_and_then (get k) found
 
--- the number, up to the largest that the API's 32-bit integers hold
+-- the number, if it is at most the largest that the API's 32-bit integers hold
 abbrev pub if_count : ℕ → Option ℕ
 if_count n = if nat_le n most_ordinal then Some n else None
 
@@ -27,7 +27,7 @@ if_count n = if nat_le n most_ordinal then Some n else None
 abbrev pub count_of : Data → Option ℕ
 count_of d = option_and_then if_count (option_and_then as_u64 (as_number d))
 
--- the same, or the default where there is no value
+-- the same, or the default if there is no value
 abbrev pub count_or : ℕ → Option Data → Option ℕ
 count_or default None = Some default
 count_or default (Some d) = count_of d

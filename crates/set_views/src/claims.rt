@@ -13,7 +13,7 @@ use objects::{Members, Text, Tree, is_dns_label};
 use std::alloc::{AllocError, Global};
 use std::collections::BTreeSet;
 
-/// The templates under `volumeClaimTemplates`, each with its name; none where there is no value.
+/// The templates under `volumeClaimTemplates`, each with its name; none if there is no value.
 #[tactic(auto, using(crate::proofs::Chains::fails_then))]
 pub(crate) fn claims_in(
     alloc: Global,

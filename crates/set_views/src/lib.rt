@@ -1,4 +1,4 @@
-//! A StatefulSet and its pods as a plan sees them: what is read of them, and the predicates that they are judged by.
+//! A StatefulSet and its pods as a plan sees them: what is read of them, and the predicates on them.
 #![tactic(auto)]
 
 mod claims;

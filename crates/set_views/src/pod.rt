@@ -5,13 +5,13 @@ ghost use Rattle.set_views.specs.Pod.{split_name_of, pod_parts, pod_with};
 use crate::readiness::{Readiness, readiness_of};
 use objects::{Object, Tree, split_pod_name};
 
-/// A pod as a plan sees it: what was read of it once. It borrows the pod's texts.
+/// A pod as a plan sees it, read once. It borrows the pod's texts.
 #[derive(Clone, Copy)]
 pub struct PodView<'a> {
     pub name: &'a str,
     /// The set and the ordinal that the name is made of, if it is the name of a set's pod.
     pub split_name: Option<(&'a str, u32)>,
-    /// The number of the pod's UID, 0 where it has none.
+    /// The number of the pod's UID, 0 if it has none.
     pub uid: u64,
     pub readiness: Readiness,
     /// Whether the pod has a `deletionTimestamp`.

@@ -1,4 +1,4 @@
-// The words of a set's `spec` that choose how its pods are treated.
+// The members of a set's `spec` that choose how its pods are treated.
 ghost use Rattle.std.specs.Prelude.{◌≡◌, option_map};
 ghost use Rattle.objects.specs.Tree.{data_of};
 ghost use Rattle.set_views.specs.Policies.{policy_of, retention_of, strategy_named, strategy_of};
@@ -15,23 +15,23 @@ pub enum Policy {
     Parallel,
 }
 
-/// How pods come to a new revision (Kubernetes, "StatefulSets": "Update strategies").
+/// How pods get a new revision (Kubernetes, "StatefulSets": "Update strategies").
 #[derive(Clone, Copy, Debug, PartialEq, Eq)]
 pub enum Strategy {
     /// From the largest ordinal down to the partition, one pod at a time.
     RollingUpdate { partition: u32 },
-    /// As somebody deletes them.
+    /// When another client deletes them.
     OnDelete,
 }
 
-/// What becomes of claims (Kubernetes, "StatefulSets": "PersistentVolumeClaim retention").
+/// What happens to claims (Kubernetes, "StatefulSets": "PersistentVolumeClaim retention").
 #[derive(Clone, Copy, Debug, PartialEq, Eq)]
 pub enum Retention {
     Retain,
     Delete,
 }
 
-/// The value of `podManagementPolicy`, OrderedReady where there is none. Another word is none.
+/// The value of `podManagementPolicy`, OrderedReady if it is missing. Another text gives none.
 pub(crate) fn policy_of(found: Option<&Tree>) -> Option<Policy>
     ensures { result ≡ policy_of (option_map (λ t. data_of t.now) found.entry) }
 {
@@ -47,7 +47,7 @@ pub(crate) fn policy_of(found: Option<&Tree>) -> Option<Policy>
     }
 }
 
-/// The value of `whenDeleted` or `whenScaled`, Retain where there is none. Another word is none.
+/// The value of `whenDeleted` or `whenScaled`, Retain if it is missing. Another text gives none.
 pub(crate) fn retention_of(found: Option<&Tree>) -> Option<Retention>
     ensures { result ≡ retention_of (option_map (λ t. data_of t.now) found.entry) }
 {
@@ -63,7 +63,7 @@ pub(crate) fn retention_of(found: Option<&Tree>) -> Option<Retention>
     }
 }
 
-/// The value of `updateStrategy`, RollingUpdate from 0 on where there is none.
+/// The value of `updateStrategy`, RollingUpdate from 0 on if it is missing.
 pub(crate) fn strategy_of(found: Option<&Tree>) -> Option<Strategy>
     ensures { result ≡ strategy_of (option_map (λ t. data_of t.now) found.entry) }
 {

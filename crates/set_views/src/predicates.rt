@@ -20,7 +20,7 @@ impl Set {
             && object.key.namespace.as_str() == self.object.key.namespace.as_str()
     }
 
-    /// Whether a pod of that ordinal is to be there.
+    /// Whether a pod of that ordinal should exist.
     pub fn has_in_range(&self, ordinal: u32) -> bool
         ensures { result ≡ in_range (set_parts self.now) ordinal }
     {

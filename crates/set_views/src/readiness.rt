@@ -1,4 +1,4 @@
-// How far a pod has come, by its `status`.
+// How ready a pod is, by its `status`.
 ghost use Rattle.std.specs.Prelude.{◌≡◌, false, option_map, option_and_then};
 ghost use Rattle.std.specs.Option.{option_map_or};
 ghost use Rattle.serde_json.specs.Find.{as_array};
@@ -8,8 +8,8 @@ ghost use Rattle.set_views.specs.Readiness.{says, is_word, are_ready, readiness_
 use crate::values::{inside, is_word};
 use objects::{Object, Tree};
 
-/// How far a pod has come (Kubernetes, "Pod Lifecycle"). It is one of these at a time, so a pod that failed is never
-/// ready too.
+/// How ready a pod is (Kubernetes, "Pod Lifecycle"). It is one of these at a time, so a pod that failed is never ready
+/// too.
 #[derive(Clone, Copy, Debug, PartialEq, Eq)]
 pub enum Readiness {
     /// Its phase is `Running`, and its condition `Ready` is true.

@@ -25,7 +25,7 @@ struct Counts {
     collisions: u32,
 }
 
-// The words of a set.
+// The policies of a set.
 #[derive(Clone, Copy)]
 struct Choices {
     policy: Policy,
@@ -34,7 +34,7 @@ struct Choices {
     when_scaled: Retention,
 }
 
-// What `spec` and `status` say, but for the claims.
+// What `spec` and `status` say, except the claims.
 #[derive(Clone, Copy)]
 struct Specified<'a> {
     spec: &'a Members,
@@ -88,7 +88,7 @@ fn choices_in(spec: &Members) -> Option<Choices>
     })
 }
 
-/// What the set says of its pods, but for the claims. None where a part is not valid.
+/// What the set says of its pods, except the claims. None if a part is not valid.
 #[tactic(auto, unfolding(crate::specs::Specified::specified_in))]
 fn specified_in(object: &Object) -> Option<Specified<'_>>
     ensures value { option_map specified_parts result ≡ specified_in object.now }
@@ -147,10 +147,10 @@ fn unless_empty(text: Option<&str>) -> Option<&str>
 ///
 /// The first that applies:
 ///
-/// - BadSpec where its UID is 0, where `spec` or `spec.template` is no map, or where a member of `spec` or the collision
+/// - BadSpec if its UID is 0, if `spec` or `spec.template` is no map, or if a member of `spec` or the collision
 ///   count of `status` has a value that the API does not know: a number out of the range from 0 to 2147483647, another
-///   word, or claim templates that are no list of maps with a DNS label as their `metadata.name`, no two alike;
-/// - OrdinalTooLarge where the last of its ordinals is above 2147483647.
+///   text, or claim templates that are no list of maps with a DNS label as their `metadata.name`, no two alike;
+/// - OrdinalTooLarge if the last of its ordinals is above 2147483647.
 #[tactic(auto, using(crate::proofs::Chains::fails_then), unfolding(crate::specs::SetReading::set_of))]
 pub fn read_set(alloc: Global, object: &Object) -> Result<Set, PlanError>
     ensures { Gives set_parts result (set_of object.now) }

@@ -4,32 +4,32 @@ ghost use Rattle.set_views.specs.Claims.{are_labelled};
 use crate::policies::{Policy, Retention, Strategy};
 use objects::{Members, Object, Text};
 
-/// A StatefulSet as a plan needs it: what was read of it once.
+/// A StatefulSet as a plan needs it, read once.
 #[derive(Drop)]
 pub struct Set {
     /// The StatefulSet itself.
     pub object: Object,
     /// `spec.template`: what its pods are made from.
     pub template: Members,
-    /// `spec.ordinals.start`: the first ordinal, 0 where it is missing.
+    /// `spec.ordinals.start`: the first ordinal, 0 if it is missing.
     pub start: u32,
-    /// `spec.replicas`: how many ordinals are in range, 1 where it is missing.
+    /// `spec.replicas`: how many ordinals are in range, 1 if it is missing.
     pub replicas: u32,
-    /// `spec.podManagementPolicy`, OrderedReady where it is missing.
+    /// `spec.podManagementPolicy`, OrderedReady if it is missing.
     pub policy: Policy,
-    /// `spec.updateStrategy`, RollingUpdate from 0 on where it is missing.
+    /// `spec.updateStrategy`, RollingUpdate from 0 on if it is missing.
     pub strategy: Strategy,
-    /// `spec.persistentVolumeClaimRetentionPolicy.whenDeleted`, Retain where it is missing.
+    /// `spec.persistentVolumeClaimRetentionPolicy.whenDeleted`, Retain if it is missing.
     pub when_deleted: Retention,
-    /// `spec.persistentVolumeClaimRetentionPolicy.whenScaled`, Retain where it is missing.
+    /// `spec.persistentVolumeClaimRetentionPolicy.whenScaled`, Retain if it is missing.
     pub when_scaled: Retention,
-    /// `spec.revisionHistoryLimit`: how many revisions are kept that no pod needs, 10 where it is missing.
+    /// `spec.revisionHistoryLimit`: how many revisions are kept that no pod needs, 10 if it is missing.
     pub history_limit: u32,
     /// `spec.volumeClaimTemplates`: the name of each, and its members.
     pub claims: Vec<(Text, Members)>,
     /// `spec.serviceName`, if it is a text that is not empty.
     pub service: Option<Text>,
-    /// `status.collisionCount`, 0 where it is missing.
+    /// `status.collisionCount`, 0 if it is missing.
     pub collisions: u32,
     /// `status.currentRevision`: the name of a ControllerRevision.
     pub current: Option<Text>,

@@ -48,7 +48,7 @@ pub(crate) fn count_of(value: &Tree) -> Option<u32>
     }
 }
 
-/// The number, or the default where there is no value.
+/// The number, or the default if there is no value.
 pub(crate) fn count_or(default: u32, found: Option<&Tree>) -> Option<u32>
     ensures value { result ≡ count_or default (option_map (λ t. data_of t.now) found.entry) }
     ensures small { default < 2 ^ 31 → IfSome result (λ count. count < 2 ^ 31) }

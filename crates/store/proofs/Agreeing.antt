@@ -29,7 +29,7 @@ use Rattle.store.specs.Rule.{Agrees, IsRising, Locked, newest_of, number_of}
 use Rattle.store.proofs.Newest.{found_pushed, found_there, left_above, left_found, newest_left, stays_pushed, there_pushed, up_to_push}
 use Rattle.store.proofs.Readings.{upto_records}
 
--- ---- as a shard begins
+-- ---- when a shard begins
 
 agrees_new : Agrees opening [] [] 0
 agrees_new = record {

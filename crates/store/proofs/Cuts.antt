@@ -51,7 +51,7 @@ module _ {E : Type 0} where
       by true q is = (leb-true p.0 d q, cc is)
       by false q is = absurd (let l = upto_short d ps in let s = ap length is in omega arith)
 
-  -- what is whole up to a number is whole up to a greater one
+  -- notes that are all up to a number are all up to a greater one
   pub upto_more : (d n : ℕ) (ps : List (ℕ × E)) → notes_up_to d ps ≡ ps → d ≤ n → notes_up_to n ps ≡ ps
   upto_more d n [] e le = refl
   upto_more d n (p ∷ ps) e le = let a = all_first d p ps e in let first = a.0 in ap (λ b. keep b p (notes_up_to n ps)) (le-leb p.0 n (omega arith)) ∙ ap (λ l. p ∷ l) (upto_more d n ps a.1 le)
@@ -73,7 +73,7 @@ module _ {E : Type 0} where
           no x = cc x
       by false q false r e = e
 
-  -- a note of a log stands at its number
+  -- a note of a log is at its number
   pub stood_at : (f : E → ℕ) (i s : ℕ) (xs : List E) (j n : ℕ) (e : E) → get_elem? (notes_of f i s xs) j ≡ some (n, e) → (s ≤ n) × (get_elem? xs (n - s) ≡ some e)
   stood_at f i s [] j n e at = absurd (some-ne-none (n, e) (sym at))
   stood_at f i s (x ∷ xs) j n e at = by (eqb (f x) i) j at (λ k h. stood_at f i (suc s) xs k n e h)
@@ -89,7 +89,7 @@ module _ {E : Type 0} where
       by true (suc j) at' ih = later ih j at'
       by false j at' ih = later ih j at'
 
-  -- what stands in a beginning of what stands in a log
+  -- what is in a prefix of what is in a log
   pub stood_take : (f : E → ℕ) (i m : ℕ) (h : List E) (ps : List (ℕ × E)) → m ≤ length h → notes_up_to (length h) ps ≡ notes_of f i 1 h → notes_up_to m ps ≡ notes_of f i 1 (take m h)
   stood_take f i m h ps le is =
       sym (upto_twice m (length h) ps le) ∙ (ap (notes_up_to m) is ∙ (ap (λ l. notes_up_to m (notes_of f i 1 l)) (sym (take-append-drop m h))

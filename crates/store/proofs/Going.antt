@@ -66,7 +66,7 @@ module _ (shards capacity : ℕ) where
   pub loaded_reads : (c d : Caller) (f : ℕ) → HasLoaded shards capacity c f d → HasRead capacity c d
   loaded_reads c d f h = has_read c c d d f (goes_self c) h (stays_self d)
 
-  -- and by one that was told something before
+  -- and by one that had learned something from another before
   pub told_reads : (b c d : Caller) (f : ℕ) (reported : List Writing) → c ≡ record b { reported = reported } → HasLoaded shards capacity c f d → HasRead capacity b d
   told_reads b c d f reported told h =
       let on : GoesOn b (record b { reported = reported }) = record { name = refl; own_notes = refl; observations = prefix_self b.observations; begins = prefix_self b.seen; loads = omega arith } in

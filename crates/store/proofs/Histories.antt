@@ -1,4 +1,5 @@
--- A log of writes, each accepted over the earlier ones of its shard, is a history of the plain store, and a shard's part of it says of the shard's keys what the plain store has.
+-- A log of writes, each accepted over the earlier ones of its shard, is a history of the plain store, and a shard's
+-- part of it says of the shard's keys what the plain store has.
 use Rattle.std.proofs.Common.{◌≡◌, ℕ, zero, suc, ◌+◌, ◌<◌, ◌≤◌, ◌==◌, Bool, true, false, true≢false, cond, eqb, List, [], ◌∷◌, ◌++◌, length, map, take, fold, Option, Some, None, refl, sym, ap, ◌∙◌, subst, arith, length-append, ne_eqb, eq-eqb}
 use Rattle.std.specs.Option.{option_or}
 use Rattle.std.specs.FinMap as map
@@ -127,7 +128,7 @@ module _ (shards capacity : ℕ) where
             ∙ ap (λ ps. written (records_of ps)) (sym (notes_of_here (λ _. 0) 0 1 h w refl)))));
       }
 
-  -- a beginning of a log, taken one write at a time
+  -- a prefix of a log, one write at a time
   take_one : (n : ℕ) (h : List Writing) → n < length h → (w : Writing) × (get_elem? h n ≡ some w) × (take (suc n) h ≡ take n h ++ w ∷ [])
   take_one n [] lt = absurd (omega arith)
   take_one zero (x ∷ xs) lt = (x, refl, refl)

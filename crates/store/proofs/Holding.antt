@@ -1,4 +1,4 @@
--- What a caller was told of shards that it held in turn.
+-- What a caller noted of shards that it held in turn.
 use Rattle.std.proofs.Common.{◌≡◌, ℕ, suc, List, [], ◌∷◌, ◌++◌, map, sym, ap, ◌∙◌, append_assoc}
 use Rattle.std.proofs.lemmas.List.{append-nil}
 use mathlib.Core.List.{map-append}

@@ -1,4 +1,4 @@
--- A ticket stays one of its caller.
+-- A ticket remains one of its caller.
 use Rattle.std.proofs.Common.{◌≡◌, ◌⊎◌, ℕ, zero, suc, List, [], ◌∷◌, ◌++◌, sym, subst, arith}
 use mathlib.Core.List.{IsPrefix}
 use mathlib.Core.Option.{some}

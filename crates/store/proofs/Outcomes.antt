@@ -1,4 +1,4 @@
--- What a write makes of the records of its shard.
+-- What a write does to the records of its shard.
 use Rattle.std.proofs.Common.{◌≡◌, ℕ, Option, Some, None, IfSome, IfNone, refl, ap, ◌∙◌, subst, inl, inr}
 use Rattle.requests.specs.declared.request.Request.{Request}
 use Rattle.requests.specs.declared.reply.Reply.{Reply}

@@ -101,7 +101,7 @@ get_objects (e ∷ es) sorted filed m q =
         ap (λ b. or_else (find key_cmp q es) (cond b (Some e.1) (finite.get m q))) kb
         ∙ sym (ap (λ b. or_else (cond b (Some e.1) (find key_cmp q es)) (finite.get m q)) kb)
 
--- a number is below the next of one exactly where it is below or the same
+-- a number is below the successor of another exactly if it is at most that other
 less_next : (s i : ℕ) → nat_eq s i ≡ true → nat_lt s (suc i) ≡ true
 less_next s i e = by (nat_lt s (suc i)) refl
   where

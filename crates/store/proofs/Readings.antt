@@ -44,7 +44,7 @@ number_is rs has shown k = ap number_in (shown k) ∙ by (last_of k (records_of 
     by None = refl
     by (Some r) = refl
 
--- a beginning up to a number that is not below the last one of a key has all of the key's writes
+-- a prefix up to a number that is not below the last one of a key has all of the key's writes
 pub settled : (k : Key) (m : ℕ) (ps : List (ℕ × Writing)) → last_number (last_of k (records_of ps)) ≤ m → last_of k (records_of (notes_up_to m ps)) ≡ last_of k (records_of ps)
 settled k m [] le = refl
 settled k m (p ∷ ps) le = by (last_of k (records_of ps)) refl le (settled k m ps)
@@ -89,7 +89,7 @@ upto_short d (p ∷ ps) = by (leb p.0 d) (upto_short d ps)
     by true le = omega arith
     by false le = omega arith
 
--- where all have a number up to d, the first has, and so have the others
+-- if all have a number up to d, the first has, and so have the others
 all_first : (d : ℕ) (p : ℕ × Writing) (ps : List (ℕ × Writing)) → notes_up_to d (p ∷ ps) ≡ p ∷ ps → (p.0 ≤ d) × (notes_up_to d ps ≡ ps)
 all_first d p ps e = by (leb p.0 d) refl e
   where
@@ -107,7 +107,7 @@ last_le k d (p ∷ ps) e =
     by None true le le' = le'
     by None false le le' = le
 
--- ---- what is there stands at its revision
+-- ---- the version that is there is at its revision
 kept_saw : (c : Change) (n : ℕ) → 0 < n → Saw (kept c n) n
 kept_saw (creates o) n first = (first, refl)
 kept_saw (updates o) n first = (first, refl)

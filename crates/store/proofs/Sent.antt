@@ -1,4 +1,5 @@
--- That threads may share a store, and that a caller and a ticket may go to another thread. `search` would prove it of each type anew from the trees on, so a type that holds several of them goes by these.
+-- That threads may share a store, and that a caller and a ticket may be sent to another thread. `search` would prove it
+-- of each type again, from the trees on, so a type that holds several of them uses these.
 use denote.RattleType.{RattleType}
 use denote.Param.Send.{IsSend, IsSync, sendable}
 use denote.Hole.{as_row}
@@ -100,7 +101,7 @@ caller-seat-send = caller_seat_send Writing.the_row
 locked-send : (H N : RattleType) (h : Shares H.Denot) (n : Ghosts N.Denot) → IsSend H → IsSend N → IsSend (Locked.the_row H N h n)
 locked-send H N h n held sent = search (Shard-send, seat-send, sendable, crosses) depth 40
 
--- a caller and its tickets go with a thread
+-- a caller and its tickets may be sent with a thread
 pub caller-send : (H N : RattleType) (h : Shares H.Denot) (n : Ghosts N.Denot) → IsSend H → IsSend N → IsSend (Caller.the_row H N h n)
 caller-send H N h n held sent = search (caller-seat-send, sendable, crosses) depth 40
 

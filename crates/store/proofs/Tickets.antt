@@ -1,4 +1,4 @@
--- What becomes of a ticket: it is made so that it is due, and its reply is that of the plain store after a history.
+-- How a ticket is used: it is made so that it is due, and its reply is that of the plain store after a history.
 use Rattle.std.proofs.Common.{◌≡◌, ◌⊎◌, ℕ, zero, suc, ◌+◌, ◌-◌, ◌<◌, ◌≤◌, max, true, false, true≢false, cond, List, [], ◌∷◌, ◌++◌, length, map, take, drop, Option, Some, refl, sym, ap, ◌∙◌, subst, ⊎_elim, inl, inr, arith, length-append, ne_eqb, eq-eqb}
 use Rattle.std.proofs.lemmas.Option.{same_Some}
 use Rattle.std.proofs.lemmas.List.{length-take-le, take-append-drop, append-nil}
@@ -90,7 +90,8 @@ module _ (shards capacity : ℕ) where
   is_told (marks x) o = refl
   is_told (removes x) o = refl
 
-  -- of a write that was published, or found all numbers drawn, by the seat b, which then has the view p, and y once it noted what it has
+  -- of a write that was published, or found all numbers drawn, by the seat b, which then has the view p, and y once it
+  -- noted what it has
   module _ (b p y : NotedView Writing) (index : ℕ) (at : b.shard ≡ Some index) (notes : Observes (home_of shards) by_of Accepts p y) (sized : p.plain.capacity ≡ capacity)
       (request : Request) (change : Change) (key : Key) (since : ℕ) (write : is_write request ≡ true) (named : key_named request ≡ Some key) (here : shard_of key shards ≡ index) (judged : verdict request (current_of b.notes key) ≡ Write change)
       (known : IsCallerView shards b) (since_le : since ≤ length b.seen) where
@@ -212,7 +213,7 @@ module _ (shards capacity : ℕ) where
       seen_le : length c'.seen ≤ capacity
       seen_le = let q = long in let w = loaded.within in omega arith
 
-      -- the plain store's reply after a beginning of what was seen
+      -- the plain store's reply after a prefix of what was seen
       replies_at : (m : ℕ) → m ≤ t.place → (step (store_after capacity (take m c'.seen)) t.request).1 ≡ answered capacity m (verdict t.request (current_of (notes_up_to m (mine.entry).notes) mine.key))
       replies_at m le =
           let place = place_le in

@@ -28,7 +28,7 @@ use Rattle.store.specs.Callers.{Caller}
 use Rattle.store.specs.Views.{AreTagged, HasLoaded, IsCallerView, HasObserved, Stays, caller_by}
 use Rattle.store.proofs.Histories.{get_is, is_history}
 
--- tags stay apart, also as the counts go on
+-- tags stay different, also as the counts rise
 pub tags_keep : (own : List (ℕ × Writing)) (n m : ℕ) → AreTagged own n → n ≤ m → AreTagged own m
 tags_keep own n m h le = record { below = λ j p at. let b = h.below j p at in omega arith; apart = h.apart }
 
@@ -50,7 +50,7 @@ tags_more own n m q h is lt = record {
 no_tags : AreTagged [] 0
 no_tags = record { below = λ j p at. absurd (some_ne p at); apart = λ j k p q at bt e. absurd (some_ne p at) }
 
--- a try to raise the frontier loads nothing of it, and looks at one mark where numbers are left above what was seen
+-- a try to raise the frontier loads nothing of it, and looks at one mark if numbers are left above what was seen
 pub raised_once : (v w : Seat Writing) (capacity f : ℕ) → (v.view.plain.seen < capacity → caller_seat w ≡ after_try (caller_seat v) f) → (v.view.plain.seen ≡ capacity → w ≡ v) → v.view.plain.seen ≤ capacity
     → (w.view.plain.loads ≡ v.view.plain.loads)
     × (v.view.plain.seen < capacity → length w.view.plain.tries ≡ length v.view.plain.tries + 1)
@@ -101,7 +101,7 @@ module _ (shards capacity : ℕ) where
   pub left_caller : (y z : NotedView Writing) → z ≡ left_with y → caller_by z ≡ caller_by y
   left_caller y z out = ap caller_by out
 
-  -- a caller that went into a shard's seat and left
+  -- a caller that entered a shard's seat and left
   pub passed_stays : (v w b z : NotedView Writing) → b ≡ entered v w → z ≡ left_with b → Stays (caller_by w) (caller_by z)
   passed_stays v w b z in_ out = subst (λ (x : NotedView Writing). Stays (caller_by w) (caller_by x)) (sym (out ∙ ap left_with in_)) record { name = refl; own_notes = refl; observations = prefix_self w.observations; loads = refl; seen = refl }
 
@@ -147,7 +147,7 @@ module _ (shards capacity : ℕ) where
           }),
         )
 
-  -- the same for one that comes and goes
+  -- the same for one that enters and leaves
   pub visited : (v w b y z : NotedView Writing) (index : ℕ) → v.shard ≡ Some index → b ≡ entered v w → Observes (home_of shards) by_of Accepts b y → z ≡ left_with y → b.plain.capacity ≡ capacity → (n : ℕ) × HasObserved shards capacity index v.notes (caller_by w) n (caller_by z)
   visited v w b y z index at in_ notes out size =
       let n = noted b y index (ap (λ (x : NotedView Writing). x.shard) in_ ∙ at) notes size in
@@ -200,7 +200,7 @@ module _ (shards capacity : ℕ) where
     pub looked_past : length v.seen ≤ f
     looked_past = let l = prefix_length v.seen y.seen (sees_it).reported in let e = (sees_it).long in omega arith
 
-  -- a get is answered by the object of its key
+  -- the reply to a get is the object of its key
   gets_it : (s : Store) (k : Key) → (step s (Get k)).1 ≡ found (finite.get s.objects k)
   unfolding route
   gets_it s k = ap (λ (p : Store × Reply). p.1) (step_routed s (Get k) (gets k) refl)

@@ -1,4 +1,4 @@
--- A write under a shard's lock: what it may draw, and what it leaves.
+-- A write under a shard's lock: what it may allocate, and what it leaves.
 use Rattle.std.proofs.Common.{◌≡◌, ℕ, ◌+◌, ◌-◌, ◌<◌, ◌≤◌, Bool, true, false, true≢false, cond, List, [], ◌∷◌, ◌++◌, length, Option, Some, None, IfSome, IfNone, IsSome, refl, sym, ap, ◌∙◌, subst, ⊎_elim, inl, inr, Result, OnOk, OnErr, arith, length-append}
 use Rattle.std.specs.Option.{option_or}
 use mathlib.Core.List.{IsPrefix}
@@ -198,7 +198,7 @@ module _ (shards capacity : ℕ) where
     caller = h.caller;
   }
 
-  -- a caller c whose seat w goes into a shard's seat v, which it loads the frontier f by, works by it, and leaves
+  -- a caller c whose seat w enters a shard's seat v, loads the frontier f by it, works by it, and leaves
   module _ (c : Caller) (v w b y u z : NotedView Writing) (s : Shard) (f : ℕ) (same : caller_by w ≡ c) (in_ : b ≡ entered v w) (looked : y ≡ looked_noted b f y.seen) (sees : Matches (home_of shards) by_of Accepts b f y.seen) (known : IsCallerView shards w) (within : f ≤ capacity)
       (holds : Holds shards y s u) (out : z ≡ left_with u) where
     pub handed_loads : HasLoaded shards capacity c f (caller_by y)

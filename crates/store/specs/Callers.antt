@@ -1,4 +1,4 @@
--- What contracts see of a caller, and how it goes on from call to call.
+-- What contracts see of a caller, and how that changes from call to call.
 use Rattle.std.specs.Prelude.{◌≡◌, ℕ, zero, suc, ◌<◌, ◌≤◌, List, [], ◌∷◌, ◌++◌, length, map}
 use mathlib.Core.List.{IsPrefix}
 use Rattle.line.specs.declared.view.Observation.{Observation}
@@ -15,7 +15,9 @@ IsLine name capacity line = (line.name ≡ name) × (line.capacity ≡ capacity)
 abbrev pub most_callers : ℕ
 most_callers = 4096
 
--- a caller: its name; the history that it has seen, which is as long as the frontier that it loaded last; what another had seen who told it; its own accepted writes with their numbers; what it was told of shards, one entry for each holding of a lock; how often it loaded the frontier, and how often it looked whether the frontier can be raised
+-- a caller: its name; the history that it has seen, which is as long as the frontier that it loaded last; what another
+-- caller that met it had seen; its own accepted writes with their numbers; what it noted of shards, one entry for each
+-- time it held a lock; how often it loaded the frontier, and how often it looked whether the frontier can be raised
 pub record Caller : Type 0 where
   pub name : ℕ
   pub seen : List Writing
@@ -25,7 +27,7 @@ pub record Caller : Type 0 where
   pub loads : ℕ
   pub tries : ℕ
 
--- a caller goes on: it keeps its name and its own writes, and has seen no less
+-- from one call to the next: it keeps its name and its own writes, and has seen no less
 pub record GoesOn (c d : Caller) : Type 0 where
   pub name : d.name ≡ c.name
   pub own_notes : d.own_notes ≡ c.own_notes
@@ -38,11 +40,12 @@ abbrev pub first : ℕ → List ℕ
 first zero = []
 first (suc n) = first n ++ n ∷ []
 
--- a caller was told of the shards 0, 1, .. of n in turn, of each under its lock, and of no others
+-- a caller noted the shards 0, 1, .. of n in turn, each under its lock, and no others
 abbrev pub HeldInTurn : ℕ → Caller → Caller → Type 0
 HeldInTurn n c d = map (λ o. o.shard) d.observations ≡ map (λ o. o.shard) c.observations ++ first n
 
--- after a call that loaded the frontier at least once: what the caller has seen is a history, of whose writes its own are just the accepted ones with a number up to its length, each at its number
+-- after a call that loaded the frontier at least once: what the caller has seen is a history, of whose writes its own
+-- are just the accepted ones with a number up to its length, each at its number
 pub record HasRead (capacity : ℕ) (c d : Caller) : Type 0 where
   pub on : GoesOn c d
   pub loaded : c.loads < d.loads

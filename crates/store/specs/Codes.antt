@@ -1,4 +1,5 @@
--- Requests, replies, and what contracts see of callers, tickets and shards, as codes: by these a proof tells two values of them apart.
+-- Requests, replies, and what contracts see of callers, tickets and shards, as codes: by these a proof tells two values
+-- of them apart.
 use Rattle.std.specs.Prelude.{◌≡◌, ◌⊎◌, ℕ, ◌==◌, List, Option, refl, if◌then◌else◌}
 use mathlib.Core.Logic.{inl, inr}
 use Rattle.std.specs.Coded.{Coded, code_by, coded×, coded⊎, coded_list, coded_option, coded_ℕ}

@@ -1,4 +1,4 @@
--- What a compaction and a list of the past are answered, where the floor is held.
+-- The replies to a compaction and to a list of the past, while the floor is held.
 use Rattle.std.specs.Prelude.{ℕ, Bool, true, false, List, take, Option, Some, None}
 use Rattle.objects.specs.declared.kind.Kind.{Kind}
 use Rattle.plain_store.specs.Store.{collection}
@@ -8,7 +8,7 @@ use Rattle.requests.specs.declared.reply.Reason.{Reason}
 use Rattle.store.specs.declared.writing.Writing.{Writing}
 use Rattle.store.specs.History.{store_after}
 
--- what becomes of the floor by a compaction, unless that is denied
+-- the floor after a compaction, unless that is denied
 abbrev pub floor_after : ℕ → ℕ → Option Reason → ℕ
 floor_after floor number (Some reason) = floor
 floor_after floor number None = number

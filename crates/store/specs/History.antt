@@ -65,7 +65,7 @@ Accepts ps w = (is_write w.request ≡ true) × (key_named w.request ≡ Some (k
 abbrev pub numbered : List Writing → List (ℕ × Writing)
 numbered h = notes_of (λ _. 0) 0 1 h
 
--- the reply to a write request by its verdict, where so many numbers are drawn
+-- the reply to a write request by its verdict, when so many numbers are drawn
 abbrev pub answered : (capacity counter : ℕ) → Verdict → Reply
 answered capacity n (Refuse reason) = Refused reason
 answered capacity n (Same o) = Unchanged o

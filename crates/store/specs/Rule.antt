@@ -1,4 +1,4 @@
--- The rule of a lock: what a shard and its seat at the line have to do with each other whenever the lock is free.
+-- The rule of a lock: how a shard and its seat at the line agree whenever the lock is free.
 use Rattle.std.specs.Prelude.{◌≡◌, ℕ, ◌<◌, ◌≤◌, true, List, length, map, slice_index, Option, Some, option_map}
 use Rattle.std.specs.List.{Contains}
 use Rattle.std.specs.FinMap.{contains_key, get}

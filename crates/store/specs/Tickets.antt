@@ -21,7 +21,8 @@ use Rattle.store.specs.declared.writing.Writing.{Writing}
 use Rattle.store.specs.History.{IsHistory, answered, by_of, current_of, store_after}
 use Rattle.store.specs.Callers.{Caller}
 
--- a write that was handed in: its request, how much its caller had seen then, what it saw, its place, and its reply until that is given
+-- a write that was submitted: its request, how much its caller had seen then, what it saw, its place, and its reply
+-- until that is given
 pub record Ticket : Type 0 where
   pub request : Request
   pub since : ℕ
@@ -29,7 +30,7 @@ pub record Ticket : Type 0 where
   pub place : ℕ
   pub reply : Option Reply
 
--- what a ticket gives where the frontier is found at f: its reply, once f is at least what it saw
+-- what a ticket gives if the frontier is found at f: its reply, once f is at least what it saw
 abbrev pub due_reply : Ticket → ℕ → Option Reply
 due_reply t f = if nat_le t.saw f then t.reply else None
 
@@ -44,7 +45,7 @@ Saw (Some o) saw = (0 < saw) × (saw ≡ o.meta.revision)
 
 -- The reply of a ticket is that of one history: what its caller has seen, up to the ticket's place.
 pub record IsReply (capacity : ℕ) (t : Ticket) (reply : Reply) (c : Caller) : Type 0 where
-  -- it is a history, as long as the place, which begins with what the caller had seen as the write was handed in
+  -- it is a history, as long as the place, which begins with what the caller had seen when it submitted the write
   pub history : IsHistory capacity (take t.place c.seen)
   pub long : length (take t.place c.seen) ≡ t.place
   pub since : t.since ≤ t.place
@@ -58,7 +59,8 @@ pub record IsReply (capacity : ℕ) (t : Ticket) (reply : Reply) (c : Caller) : 
   -- of the caller's own it has just the accepted writes with a number up to its length, each at its number
   pub own_notes : notes_up_to t.place c.own_notes ≡ notes_of by_of c.name 1 (take t.place c.seen)
 
--- What a write leaves of its caller's own writes: an accepted one is added, at its place, of a count that none had; any other changes nothing. What was told of shards stays.
+-- How a write changes its caller's own writes: an accepted one is added, at its place, with a count that none had; any
+-- other changes nothing. What was noted of shards stays.
 pub record WritesOwn (c : Caller) (t : Ticket) (d : Caller) : Type 0 where
   pub name_is : d.name ≡ c.name
   pub observations_stay : IsPrefix c.observations d.observations
@@ -86,7 +88,8 @@ pub record IsAnswered (capacity : ℕ) (t : Ticket) (key : Key) (notes : List (�
   pub reply_is : reply ≡ answered capacity t.place (verdict t.request (current_of (notes_up_to t.place notes) key))
   pub sees : ((reply ≡ Refused StoreFull) × (t.saw ≡ capacity)) ⊎ Saw (current_of (notes_up_to t.place notes) key) t.saw
 
--- the ticket is one of this caller's: what the caller was told of the key's shard, when the ticket was made, says why the reply is due
+-- the ticket is one of this caller's: what the caller noted of the key's shard, when the ticket was made, says why the
+-- reply is due
 pub record IsTicketOf (shards capacity : ℕ) (t : Ticket) (c : Caller) : Type 0 where
   pub key : Key
   pub write : is_write t.request ≡ true

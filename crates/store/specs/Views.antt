@@ -35,7 +35,7 @@ view_or (Some s) = s.view
 abbrev pub caller_by : NotedView Writing → Caller
 caller_by v = record { name = name_of v.caller; seen = v.seen; reported = v.reported; own_notes = v.own_notes; observations = v.observations; loads = v.plain.loads; tries = length v.plain.tries }
 
--- no two own writes are of one count, and all counts are below the next one
+-- no two own writes have the same count, and all counts are below the next one
 pub record AreTagged (own : List (ℕ × Writing)) (next : ℕ) : Type 0 where
   pub below : (j : ℕ) (p : ℕ × Writing) → get_elem? own j ≡ some p → p.1.count < next
   pub apart : (j k : ℕ) (p q : ℕ × Writing) → get_elem? own j ≡ some p → get_elem? own k ≡ some q → p.1.count ≡ q.1.count → j ≡ k
@@ -48,7 +48,7 @@ pub record IsCallerView (shards : ℕ) (v : NotedView Writing) : Type 0 where
   pub long : length v.seen ≡ v.plain.seen
   pub tagged : AreTagged v.own_notes (length v.observations)
 
--- whenever no call is under way, a caller has its seat
+-- whenever no call is in progress, a caller has its seat
 abbrev pub IsCaller : LineName → ℕ → Option (Seat Writing) → Type 0
 IsCaller line shards None = ⊥
 IsCaller line shards (Some s) = (s.line ≡ line) × IsCallerView shards s.view
@@ -64,12 +64,12 @@ pub record HasLoaded (shards capacity : ℕ) (c : Caller) (f : ℕ) (d : Caller)
   pub within : f ≤ capacity
   pub legal : IsLegal (home_of shards) Accepts d.seen
   pub history : IsHistory capacity d.seen
-  -- of the caller's own writes those up to there stand in what is now seen, each at its number, and no others
+  -- of the caller's own writes exactly those up to there are in what is now seen, each at its number
   pub own_there : notes_up_to (length d.seen) d.own_notes ≡ notes_of by_of d.name 1 d.seen
   -- what was observed of shards is so in what is now seen
   pub shown : (k m : ℕ) (x : Observation Writing) → get_elem? c.observations k ≡ some x → m ≤ x.drawn → m ≤ f → notes_up_to m x.notes ≡ notes_of (home_of shards) x.shard 1 (take m d.seen)
 
--- a caller goes on, and has seen no more
+-- the caller after a call, which has seen no more
 pub record Stays (c d : Caller) : Type 0 where
   pub name : d.name ≡ c.name
   pub own_notes : d.own_notes ≡ c.own_notes
@@ -111,16 +111,17 @@ abbrev pub ticket_by : ℕ → Request → ℕ → Option (ℕ × Reply) → Tic
 ticket_by capacity request since None = record { request = request; since = since; saw = capacity; place = capacity; reply = Some (Refused StoreFull) }
 ticket_by capacity request since (Some p) = record { request = request; since = since; saw = p.0; place = p.0; reply = Some p.1 }
 
--- the number of a newest record, 0 where there is none
+-- the number of a newest record, 0 if there is none
 abbrev pub number_in : Option (ℕ × Option Object) → ℕ
 number_in None = 0
 number_in (Some p) = p.0
 
--- what a write leaves of its shard's notes: an accepted one is added, at its place; any other changes nothing
+-- how a write changes its shard's notes: an accepted one is added, at its place; any other changes nothing
 abbrev pub WritesNotes : List (ℕ × Writing) → Ticket → List (ℕ × Writing) → Type 0
 WritesNotes old t new = (IfSome t.reply (λ r. drew_revision r ≡ false) × (new ≡ old)) ⊎ (IfSome t.reply (λ r. drew_revision r ≡ true) × ((w : Writing) × (new ≡ old ++ (t.place, w) ∷ []) × (w.request ≡ t.request)))
 
--- What a write makes of the records of its shard, by its verdict over the newest one of its key, which has the number `newest`: its ticket, and the records afterwards. Only an accepted one adds a record, at its place.
+-- What a write does to the records of its shard, by its verdict over the newest one of its key, which has the number
+-- `newest`: its ticket, and the records afterwards. Only an accepted one adds a record, at its place.
 abbrev pub IsOutcome : (capacity : ℕ) → Records → (newest : ℕ) → Verdict → Ticket → Records → Type 0
 IsOutcome capacity old newest (Refuse reason) t new = (t.reply ≡ Some (Refused reason)) × (t.saw ≡ newest) × (new ≡ old)
 IsOutcome capacity old newest (Same o) t new = (t.reply ≡ Some (Unchanged o)) × (t.saw ≡ newest) × (new ≡ old)

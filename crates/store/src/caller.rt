@@ -8,8 +8,8 @@ use crate::writing::{ByShards, Writing};
 use line::{CallerSeat, Line};
 use std::marker::{Model, PhantomData};
 
-/// A caller of a store. It has seen a history of accepted writes, which each of its calls makes no shorter. Its calls are
-/// made one after another; different callers' go at once.
+/// A caller of a store. It has seen a history of accepted writes, which none of its calls makes shorter. Its calls are
+/// made one after another; those of different callers run at once.
 #[derive(Drop)]
 pub struct Caller<H: Sharding, N: Naming> {
     // None only within a call, while the seat visits a shard's.
@@ -46,7 +46,7 @@ impl<H: Sharding, N: Naming> Caller<H, N> {
         }
     }
 
-    /// The last frontier that it loaded: how many writes it has seen. After a read, the revision that it was answered at.
+    /// The last frontier that it loaded: how many writes it has seen. After a read, the revision that was read at.
     pub fn seen(&self) -> u64
         ensures { result ≡ length self.now.seen }
     {
@@ -68,7 +68,7 @@ impl<H: Sharding, N: Naming> Caller<H, N> {
         line.frontier(seat)
     }
 
-    /// Hears what another caller has seen.
+    /// Learns what another caller has seen.
     fn hear(&mut self, line: &Line<Writing, ByShards<H>>, other: &mut Caller<H, N>)
         requires { IsLine N.line N.capacity line.now }
         ensures other { other.new ≡ other.old }
@@ -83,7 +83,7 @@ impl<H: Sharding, N: Naming> Caller<H, N> {
         line.tell(from, seat);
     }
 
-    /// Raises the frontier by one, where the next number is filled, and loads it.
+    /// Raises the frontier by one, if the next number is filled, and loads it.
     pub(crate) fn try_raise(&mut self, line: &Line<Writing, ByShards<H>>) -> u64
         requires { IsLine N.line N.capacity line.now }
         ensures loaded { HasLoaded H.shards N.capacity self.old result self.new }
@@ -98,7 +98,7 @@ impl<H: Sharding, N: Naming> Caller<H, N> {
     }
 }
 
-/// Each of the two loads the frontier; what the first has seen then begins what the second has seen.
+/// Each of the two loads the frontier; then what the first has seen is a prefix of what the second has seen.
 pub(crate) fn meet<H: Sharding, N: Naming>(
     line: &Line<Writing, ByShards<H>>,
     first: &mut Caller<H, N>,
@@ -109,7 +109,7 @@ pub(crate) fn meet<H: Sharding, N: Naming>(
     ensures second { HasRead N.capacity second.old second.new }
     ensures met { IsPrefix first.new.seen second.new.seen }
 {
-    // In this order: what is told bounds only the frontiers that the second loads later.
+    // In this order: what the second learns bounds only the frontiers that it loads later.
     first.frontier(line);
     second.hear(line, first);
     second.frontier(line);

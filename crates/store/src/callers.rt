@@ -12,7 +12,7 @@ use std::marker::{Model, PhantomData};
 /// The most callers that a store makes; those that were dropped count too.
 pub(crate) const MAX_CALLERS: u64 = 4096;
 
-/// How many callers were made, and the seat that the next one is cut off.
+/// How many callers were made, and the seat from which the next one's is split off.
 #[derive(Drop)]
 pub(crate) struct Callers<H: Sharding, N: Naming> {
     seat: CallerSeat<Writing>,
@@ -43,7 +43,7 @@ impl<H: Sharding, N: Naming> Callers<H, N> {
         }
     }
 
-    /// One more caller, or TooManyCallers where there are 4,096.
+    /// One more caller, or TooManyCallers if there are 4,096.
     pub(crate) fn next(
         &mut self,
         line: &Line<Writing, ByShards<H>>,

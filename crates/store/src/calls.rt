@@ -1,4 +1,4 @@
-// Requests to shards behind their locks.
+// Requests to shards, under their locks.
 ghost use Rattle.std.specs.Prelude.{◌≡◌, ℕ, List, ◌+◌, ◌<◌, ◌≤◌, true, length, take, Some, IfOk, OnErr, IfSome, IsSome};
 ghost use mathlib.Core.List.{IsPrefix};
 ghost use Rattle.objects.specs.declared.key.Key.{Key};
@@ -29,7 +29,7 @@ use std::alloc::Global;
 use std::sync::{Mutex, Wait};
 use versions::Gathered;
 
-/// Hands in a create, an update, a status request or a delete. It does not return where the lock has another shard.
+/// Submits a create, an update, a status request or a delete. It does not return if the lock has another shard.
 pub(crate) fn submit<H: Sharding, N: Naming, G: Gate>(
     rt: &impl Wait,
     line: &Line<Writing, ByShards<H>>,
@@ -58,7 +58,7 @@ pub(crate) fn submit<H: Sharding, N: Naming, G: Gate>(
     locked.write(rt, line, caller, request, gate)
 }
 
-/// What a get is answered, at a frontier that the caller has then seen. Where the shard can't be read there any more, the
+/// The reply to a get, at a frontier that the caller has then seen. If the shard can't be read there any more, the
 /// frontier is loaded once more.
 pub(crate) fn get<H: Sharding, N: Naming, W: Wait>(
     rt: &W,
@@ -88,7 +88,7 @@ pub(crate) fn get<H: Sharding, N: Naming, W: Wait>(
     unreachable!()
 }
 
-/// Raises the floor of a shard. It does not return where the lock has another shard, or one whose floor is higher.
+/// Raises the floor of a shard. It does not return if the lock has another shard, or one whose floor is higher.
 pub(crate) fn compact<H: Sharding, N: Naming, W: Wait>(
     rt: &W,
     line: &Line<Writing, ByShards<H>>,
@@ -103,7 +103,8 @@ pub(crate) fn compact<H: Sharding, N: Naming, W: Wait>(
     ensures held { (n : ℕ) × (notes : List (ℕ × Writing)) × HasObserved H.shards N.capacity index notes caller.old n caller.new }
 {
     let mut locked = shard.lock(rt);
-    // No run meets another shard here, nor a higher floor, since whoever raises one holds the store's. But no clause can say so.
+    // No run meets another shard here, nor a higher floor, since every caller that raises one holds the store's. But no
+    // clause can say so.
     if locked.index() != index as u64 || number < locked.floor() {
         for _ in rt.forever() {}
         unreachable!()
@@ -111,8 +112,8 @@ pub(crate) fn compact<H: Sharding, N: Naming, W: Wait>(
     locked.compact(line, caller, number);
 }
 
-/// What a list is answered, at one frontier, which the caller has then seen. Where a shard can't be read there any more,
-/// the frontier is loaded once more.
+/// The reply to a list, at one frontier, which the caller has then seen. If a shard can't be read there any more, the
+/// frontier is loaded once more.
 pub(crate) fn list<H: Sharding, N: Naming, W: Wait>(
     rt: &W,
     alloc: Global,
@@ -147,8 +148,8 @@ pub(crate) fn listed(objects: Vec<Object>, number: u64) -> Reply
     }
 }
 
-/// What all shards have of a kind in a namespace at a number up to which the caller has seen all, in the order of the keys;
-/// nothing where a shard can't be read there any more.
+/// What all shards have of a kind in a namespace at a number up to which the caller has seen all, in the order of the
+/// keys; nothing if a shard can't be read there any more.
 pub(crate) fn gather<H: Sharding, N: Naming, W: Wait>(
     rt: &W,
     alloc: Global,
@@ -186,7 +187,7 @@ pub(crate) fn gather<H: Sharding, N: Naming, W: Wait>(
     Ok(Some(found.into_objects()?))
 }
 
-/// The part of one shard, or nothing where it can't be read there any more. It does not return where the lock has another
+/// The part of one shard, or nothing if it can't be read there any more. It does not return if the lock has another
 /// shard.
 fn part<H: Sharding, N: Naming, W: Wait>(
     rt: &W,

@@ -11,7 +11,7 @@ use line::Line;
 use requests::Reason;
 use std::marker::Model;
 
-/// The number below which nothing is read any more. Whoever compacts the store or reads its past holds it locked.
+/// The number below which nothing is read any more. A caller that compacts the store or reads its past holds it locked.
 #[derive(Drop)]
 pub(crate) struct Floor {
     number: u64,
@@ -32,7 +32,8 @@ impl Floor {
         Floor { number: 0 }
     }
 
-    /// Why a number can't be read: it is above the frontier, which the caller loads here, or else it is below the floor.
+    /// Why a number can't be read: it is above the frontier, which the caller loads here, or else it is below the
+    /// floor.
     pub(crate) fn denied<H: Sharding, N: Naming>(
         &self,
         line: &Line<Writing, ByShards<H>>,
@@ -47,7 +48,8 @@ impl Floor {
         self.refusal(frontier, number)
     }
 
-    /// Raises the floor to a number, or answers why it can't be raised to it, by the frontier that the caller loads here.
+    /// Raises the floor to a number, or gives the reason why it can't be raised to it, by the frontier that the caller
+    /// loads here.
     pub(crate) fn raise<H: Sharding, N: Naming>(
         &mut self,
         line: &Line<Writing, ByShards<H>>,

@@ -1,5 +1,5 @@
-//! The running store: shards of versions, each behind a lock of its own, which threads write and read by the numbers and the
-//! frontier of one line. No thread leads.
+//! The running store: shards of versions, each with a lock of its own, which threads write and read by the numbers and
+//! the frontier of one line. No thread leads.
 //!
 //! Each reply is what the plain store answers at the end of one history of whole writes, which begins with all that the
 //! caller had seen before: a linearization of what it can know (Herlihy and Wing, Linearizability, 1990).

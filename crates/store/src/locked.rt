@@ -32,9 +32,9 @@ use versions::Shard;
 
 /// What the lock of a shard keeps: its versions, its seat at the line, and which of the shards it is.
 ///
-/// Whenever the lock is free, the seat has no open number, and its notes are the writes of the numbers that it filled. Each
-/// number above the floor has its record; from the floor on the records read as the notes say, and so does each key's newest
-/// record.
+/// Whenever the lock is free, the seat has no open number, and its notes are the writes of the numbers that it filled.
+/// Each number above the floor has its record; from the floor on the records read as the notes say, and so does each
+/// key's newest record.
 #[derive(Drop)]
 pub struct Locked<H: Sharding, N: Naming> {
     seat: ShardSeat<Writing>,
@@ -59,7 +59,7 @@ impl<H: Sharding, N: Naming> Model for Locked<H, N> {
 }
 
 impl<H: Sharding, N: Naming> Locked<H, N> {
-    /// A shard with no writes, over a seat that has drawn nothing.
+    /// A shard with no writes, over a seat that has drawn no number.
     pub fn new(alloc: Global, seat: ShardSeat<Writing>, index: u64) -> Locked<H, N>
         requires { (seat.line ≡ N.line) × (seat.view.shard ≡ Some index) × (seat.view.caller ≡ None)
             × (seat.view.plain.pending ≡ None) × (seat.view.notes ≡ []) × (seat.view.plain.filled ≡ []) }
@@ -87,8 +87,8 @@ impl<H: Sharding, N: Naming> Locked<H, N> {
         self.shard.floor()
     }
 
-    /// Raises the floor of the shard to a number that the caller has seen the frontier reach. The caller notes what the shard
-    /// has.
+    /// Raises the floor of the shard to a number that the frontier has reached, as the caller has seen. The caller
+    /// notes what the shard has.
     pub(crate) fn compact(
         &mut self,
         line: &Line<Writing, ByShards<H>>,
@@ -128,7 +128,8 @@ impl<H: Sharding, N: Naming> Locked<H, N> {
         caller.seat = Some(line.leave(&mut self.seat, seen));
     }
 
-    /// What a get is answered at the frontier that the caller has seen, which the floor must not be above.
+    /// The reply to a get at the frontier that the caller has seen, which the floor must not be above. It is the plain
+    /// store's there, and the shard is unchanged.
     ///
     /// # Errors
     ///
@@ -171,15 +172,17 @@ impl<H: Sharding, N: Naming> Locked<H, N> {
         self.shard.list_at(kind, namespace, number)
     }
 
-    /// Takes a create, an update, a status request or a delete of a key of this shard, and calls the gate between the draw
-    /// of a number and its fill. It loads the frontier once, before it looks at the key.
+    /// Handles a create, an update, a status request or a delete of a key of this shard, and calls the gate between the
+    /// draw of a number and its fill. It loads the frontier once, before it looks at the key. The verdict is over the
+    /// key's newest record here. An accepted write pushes one record and adds its note, at its number; any other adds
+    /// nothing. The floor stays.
     ///
     /// # Errors
     ///
-    /// Memory. All memory is taken before a number is drawn: so none was drawn, and the shard is as it was.
+    /// Memory. It is refused before a number is drawn: so none was drawn, and the shard is unchanged.
     pub fn write<G: Gate>(
         &mut self,
-        // Not used: it is here because the calls around have one.
+        // Not used: it is here because the calls around it have one.
         _rt: &impl Wait,
         line: &Line<Writing, ByShards<H>>,
         caller: &mut Caller<H, N>,
@@ -206,7 +209,7 @@ impl<H: Sharding, N: Naming> Locked<H, N> {
             unreachable!();
         };
         line.enter(&mut self.seat, seat);
-        // By the seat of both, and before the verdict: the number that is drawn is then above the shard's floor.
+        // By the seat of both, and before the verdict: so the number that is drawn is above the shard's floor.
         let loaded = line.look(&mut self.seat);
         let handed = hand_in::<H, N, G>(
             line,
@@ -222,7 +225,7 @@ impl<H: Sharding, N: Naming> Locked<H, N> {
     }
 }
 
-/// What a get is answered.
+/// The reply to a get.
 fn found_reply(object: Option<&Object>) -> Result<Reply, Memory>
     ensures { IfOk result (λ reply. reply ≡ found (option_copied object.entry)) }
 {

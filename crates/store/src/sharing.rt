@@ -1,11 +1,11 @@
-// What may go from one thread to another.
+// What may be sent from one thread to another.
 use crate::caller::Caller;
 use crate::naming::{Naming, Sharding};
 use crate::store::Store;
 use crate::ticket::Ticket;
 
-/// Threads may share a store, and a caller and its tickets may go to another thread: `Store` is `Sync`, and they are
-/// `Send`.
+/// Threads may share a store, and a caller and its tickets may be sent to another thread: `Store` is `Sync`, and they
+/// are `Send`. This holds if the store's markers may be shared and sent.
 pub fn threads_may_share<H: Sharding + Send, N: Naming + Send>(
     store: &Store<H, N>,
     caller: &Caller<H, N>,

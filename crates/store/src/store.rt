@@ -34,10 +34,15 @@ use std::alloc::{AllocError, Global};
 use std::marker::Model;
 use std::sync::{Mutex, Wait};
 
-/// A store of Kubernetes objects that threads share by `&`, each with a caller of its own. Each of its shards has a lock of
-/// its own; the numbers of writes, which are the revisions of the store, come from a line.
+/// A store of Kubernetes objects that threads share by `&`, each with a caller of its own. Each of its shards has a
+/// lock of its own; the numbers of writes, which are the revisions of the store, come from a line.
 ///
 /// No call takes the locks of two shards at once.
+///
+/// In a running history the n-th accepted write has the number n in the plain store's run. Each reply of a ticket, of
+/// `get` and of `list` is the plain store's after some running history, which begins with all that its caller had seen
+/// before, and contains of the caller's own writes exactly the accepted ones up to its length, each at its number and
+/// once. The caller has then seen that history.
 #[derive(Drop)]
 pub struct Store<H: Sharding, N: Naming> {
     numbers: Line<Writing, ByShards<H>>,
@@ -59,8 +64,8 @@ impl<H: Sharding, N: Naming> Model for Store<H, N> {
 }
 
 impl<H: Sharding, N: Naming> Store<H, N> {
-    /// A store with nothing in it, over a new line. H says how many shards the line has; N names it, and says how many numbers
-    /// it has.
+    /// An empty store, over a new line. H says how many shards the line has; N names it, and says how many numbers it
+    /// has.
     ///
     /// # Errors
     ///
@@ -93,24 +98,27 @@ impl<H: Sharding, N: Naming> Store<H, N> {
         &self.numbers
     }
 
-    /// One more caller, which has no writes yet. It counts for as long as the store lives, also once it is dropped: whoever
-    /// serves clients that come and go hands callers on from one to the next.
+    /// One more caller, which has no writes yet. It counts for as long as the store lives, also once it is dropped: a
+    /// server whose clients come and go passes callers from one client to the next.
     ///
     /// # Errors
     ///
-    /// TooManyCallers where the store has made 4,096 already, and only there. A caller takes no memory.
+    /// TooManyCallers if the store has made 4,096 already, and only then. A caller takes no memory.
     pub fn caller(&self, rt: &impl Wait) -> Result<Caller<H, N>, StoreError>
         ensures { IfOk result (λ c. (c.own_notes ≡ []) × (c.observations ≡ [])) }
     {
         self.callers.lock(rt).next(&self.numbers)
     }
 
-    /// Hands in a create, an update, a status request or a delete: locks the key's shard, loads the frontier once, decides,
-    /// and where the write is accepted draws a number, calls the gate, and fills it.
+    /// Submits a create, an update, a status request or a delete: locks the key's shard, loads the frontier once,
+    /// decides, and if the write is accepted draws a number, calls the gate, and fills it. An accepted write joins the
+    /// caller's own writes at the number that it got, which none had; any other adds nothing. The reply comes from the
+    /// ticket, which keeps the request and how much its caller had seen.
     ///
     /// # Errors
     ///
-    /// Memory. All memory is taken before a number is drawn, so none was.
+    /// Memory. It is refused before a number is drawn, so none was; the caller keeps its name and its own writes, and
+    /// has seen no less.
     pub fn submit<G: Gate>(
         &self,
         rt: &impl Wait,
@@ -149,8 +157,8 @@ impl<H: Sharding, N: Naming> Store<H, N> {
         shard_of(key, self.shards.len())
     }
 
-    /// The object of a key at the frontier: Found, or NotFound. The frontier is loaded once more where a compaction keeps the
-    /// key's shard from being read there.
+    /// The object of a key at the frontier: Found, or NotFound. The frontier is loaded once more if a compaction keeps
+    /// the key's shard from being read there. The reply is the plain store's after all that the caller has then seen.
     ///
     /// # Errors
     ///
@@ -175,8 +183,9 @@ impl<H: Sharding, N: Naming> Store<H, N> {
         )
     }
 
-    /// The objects of a kind in a namespace at one frontier, in byte order of their names, with that frontier as the list's
-    /// revision. The frontier is loaded once more where a compaction keeps a shard from being read there.
+    /// The objects of a kind in a namespace at one frontier, in byte order of their names, with that frontier as the
+    /// list's revision. The frontier is loaded once more if a compaction keeps a shard from being read there. The reply
+    /// is the plain store's after all that the caller has then seen, over any number of shards.
     ///
     /// # Errors
     ///
@@ -202,8 +211,9 @@ impl<H: Sharding, N: Naming> Store<H, N> {
         )
     }
 
-    /// The first caller tells the second one what it has seen: each of the two loads the frontier, the first one first. It
-    /// takes no memory, and waits for nobody.
+    /// The second caller learns what the first one has seen: each of the two loads the frontier, the first one first.
+    /// It takes no memory, and waits for no other caller. What the first has seen is then a prefix of what the second
+    /// has seen, and both have seen no less than before.
     pub fn meet(&self, first: &mut Caller<H, N>, second: &mut Caller<H, N>)
         ensures first { HasRead N.capacity first.old first.new }
         ensures second { HasRead N.capacity second.old second.new }
@@ -212,8 +222,9 @@ impl<H: Sharding, N: Naming> Store<H, N> {
         caller::meet(&self.numbers, first, second);
     }
 
-    /// Gives up what was before a revision: Compacted, or TooLarge where the number is above the frontier, else Expired
-    /// where the past was given up beyond it. The floor's lock is held to the end, and each shard's in turn.
+    /// Drops what was before a revision: Compacted, or TooLarge if the number is above the frontier, else Expired if
+    /// the past was dropped beyond it. The floor's lock is held to the end, and each shard's in turn. The frontier is
+    /// the one that the caller has then seen.
     pub fn compact<W: Wait>(&self, rt: &W, caller: &mut Caller<H, N>, number: u64) -> Reply
         ensures read { HasRead N.capacity caller.old caller.new }
         ensures reply { (floor : ℕ) × (result ≡ compacted_reply (denied floor (length caller.new.seen) number) number) }
@@ -224,8 +235,8 @@ impl<H: Sharding, N: Naming> Store<H, N> {
         self.compact_from(rt, &mut floor, caller, number)
     }
 
-    /// The same, where the floor is lent by its lock. TooLarge where the number is above the frontier loaded here, else
-    /// Expired where it is below the floor.
+    /// The same, with the floor lent by its lock. TooLarge if the number is above the frontier loaded here, else
+    /// Expired if it is below the floor.
     fn compact_from<W: Wait>(
         &self,
         rt: &W,
@@ -262,8 +273,9 @@ impl<H: Sharding, N: Naming> Store<H, N> {
         }
     }
 
-    /// The objects of a kind in a namespace exactly as they were at a revision, in byte order of their names, or TooLarge or
-    /// Expired as of a compaction. The floor's lock is held to the end, and each shard's in turn.
+    /// The objects of a kind in a namespace exactly as they were at a revision, in byte order of their names, or
+    /// TooLarge or Expired as for a compaction. The floor's lock is held to the end, and each shard's in turn. The
+    /// objects are those of the plain store after that many of the writes that the caller has seen.
     ///
     /// # Errors
     ///
@@ -285,8 +297,8 @@ impl<H: Sharding, N: Naming> Store<H, N> {
         self.list_from(rt, &floor, caller, kind, namespace, number)
     }
 
-    /// The same, where the floor is lent by its lock. TooLarge where the number is above the frontier loaded here, else
-    /// Expired where it is below the floor.
+    /// The same, with the floor lent by its lock. TooLarge if the number is above the frontier loaded here, else
+    /// Expired if it is below the floor.
     fn list_from<W: Wait>(
         &self,
         rt: &W,
@@ -306,8 +318,8 @@ impl<H: Sharding, N: Naming> Store<H, N> {
         self.list_past(rt, caller, kind, namespace, number)
     }
 
-    /// The same at a number up to which the caller has seen all. The walk begins again where it finds a shard that can't be
-    /// read there any more.
+    /// The same at a number up to which the caller has seen all. The walk begins again if it finds a shard that can't
+    /// be read there any more.
     fn list_past<W: Wait>(
         &self,
         rt: &W,
@@ -340,7 +352,7 @@ impl<H: Sharding, N: Naming> Store<H, N> {
     }
 }
 
-/// The shards behind their locks, one for each seat.
+/// The shards with their locks, one for each seat.
 fn locked_shards<H: Sharding, N: Naming>(
     alloc: Global,
     seats: Vec<ShardSeat<Writing>>,

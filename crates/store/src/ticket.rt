@@ -9,8 +9,8 @@ use requests::{Reply, Request};
 use std::marker::{Model, PhantomData};
 use std::snapshot::Snapshot;
 
-/// What stands for a write that was handed in, until its caller may know what became of it: its reply, which was made under
-/// the shard's lock, and how far the frontier has to be for it to be given. It is used with the caller that made it.
+/// A write that was submitted, until its caller may learn the outcome. It keeps the reply, which was made under the
+/// shard's lock, and how far the frontier has to be before that is given. It is used with the caller that made it.
 #[derive(Drop)]
 pub struct Ticket<H: Sharding, N: Naming> {
     pub(crate) request: Snapshot<Request>,
@@ -36,8 +36,16 @@ impl<H: Sharding, N: Naming> Model for Ticket<H, N> {
 }
 
 impl<H: Sharding, N: Naming> Ticket<H, N> {
-    /// One try to raise the frontier, one load of it, and then the reply, if the frontier has reached what the write saw.
-    /// It takes no memory, and waits for nobody. A ticket that has given its reply gives none any more.
+    /// One try to raise the frontier, one load of it, and then the reply, if the frontier has reached what the write
+    /// saw. It takes no memory, and waits for no other caller. A ticket that has given its reply gives none any more.
+    /// It gives its reply exactly if the frontier that it loads has reached that number, and looks once whether the
+    /// frontier can be raised, unless all numbers are seen.
+    ///
+    /// The reply's history has as many writes as `place` says, and is a prefix of what the caller has then seen. It
+    /// begins with all that the caller had seen at `submit`. An accepted write is the last of it, by this caller and
+    /// with this request, and the reply is the plain store's to it; any other reply is the plain store's after it. What
+    /// a write saw is its own number if it was accepted, the capacity for StoreFull, and else the revision of its
+    /// object, at least 1.
     pub fn try_reply(&mut self, store: &Store<H, N>, caller: &mut Caller<H, N>) -> Option<Reply>
         requires ticket { IsTicketOf H.shards N.capacity self.old caller.old }
         ensures read { HasRead N.capacity caller.old caller.new }
@@ -56,8 +64,8 @@ impl<H: Sharding, N: Naming> Ticket<H, N> {
         self.reply.take()
     }
 
-    /// The number of an accepted write, which is its revision; else the greater of what the write saw and the frontier that
-    /// its caller loaded as it was handed in.
+    /// The number of an accepted write, which is its revision; else the greater of what the write saw and the frontier
+    /// that its caller loaded when it submitted it.
     pub fn place(&self) -> u64
         ensures { result ≡ self.now.place }
     {

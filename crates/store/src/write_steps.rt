@@ -84,7 +84,7 @@ pub(crate) fn hand_in<H: Sharding, N: Naming, G: Gate>(
     }
 }
 
-/// The number of the newest record of the request's key, and what the request comes to over it.
+/// The number of the newest record of the request's key, and what the request does to it.
 fn decide(shard: &Shard, request: Request) -> Result<(u64, Verdict), Memory>
     requires { is_write request ≡ true }
     ensures { IfOk result (λ d. (k : Key) → key_named request ≡ Some k
@@ -95,7 +95,7 @@ fn decide(shard: &Shard, request: Request) -> Result<(u64, Verdict), Memory>
     };
     let (saw, current) = match shard.newest(key) {
         Some((number, object)) => (number, object),
-        // 0 stands for no version of the key.
+        // 0 means no version of the key.
         None => (0, None),
     };
     Ok((saw, decide_whole(current, request)?))
@@ -141,7 +141,7 @@ fn unwritten<H: Sharding, N: Naming>(
     }
 }
 
-/// A write that changes something, where numbers are left.
+/// A write that changes something, if numbers are left.
 fn carry_out<H: Sharding, N: Naming, G: Gate>(
     line: &Line<Writing, ByShards<H>>,
     seat: &mut ShardSeat<Writing>,
@@ -169,7 +169,7 @@ fn carry_out<H: Sharding, N: Naming, G: Gate>(
     ensures floor { shard.new.floor ≡ shard.old.floor }
     ensures memory { OnErr result ((seat.new.view ≡ seat.old.view) × (shard.new ≡ shard.old)) }
 {
-    // Before the draw: a number that was drawn has to be filled, and by then nothing may want memory.
+    // Before the draw: a number that was drawn has to be filled, and from then on nothing may need memory.
     let Ok(()) = shard.make_room(change.key()) else {
         drop(change);
         return Err(Memory);

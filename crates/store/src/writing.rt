@@ -3,7 +3,7 @@ use line::Judging;
 use requests::{Change, Request};
 use std::marker::PhantomData;
 
-/// An accepted write, as the note of its number. It stands in contracts alone: no value of it is made.
+/// An accepted write, as the note of its number. It is used in contracts alone: no value of it is made.
 pub struct Writing {
     /// The name of its caller.
     pub by: u64,
@@ -15,8 +15,8 @@ pub struct Writing {
     pub change: Change,
 }
 
-/// What a line knows of writes as notes: each is its key's shard's, and the verdict over the earlier ones of that shard
-/// accepts it.
+/// What a line knows of writes as notes: each belongs to its key's shard, and the verdict over the earlier ones of that
+/// shard accepts it.
 pub struct ByShards<H> {
     of: PhantomData<H>,
 }

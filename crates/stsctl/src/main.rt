@@ -1,5 +1,5 @@
-//! `stsctl`: serves requests to a plain in-memory store, a line of standard input to a line of standard output, replays
-//! callers that race for one, plans what a StatefulSet calls for, and lets its controllers race.
+//! `stsctl`: serves requests to a plain in-memory store, a line of standard output for each line of standard input,
+//! replays callers that race for one, plans what a StatefulSet needs, and lets its controllers race.
 #![tactic(auto)]
 
 use commands::{TrackedAlloc, command};
@@ -7,20 +7,21 @@ use plain::{ReadSource, WriteSink};
 use std::process::ExitCode;
 use std::{env, io};
 
-/// The exit status where the words ask for nothing that the program does.
+/// The exit status if the arguments are no command of the program.
 const BAD_WORDS: u8 = 2;
 
-/// The words of the command line, the program's name first.
+/// The arguments of the command line, the program's name first.
 fn command_words(rt: &HostRuntime) -> io::Result<Vec<String>> {
     Ok(env::args(rt)?.collect(rt.alloc())?)
 }
 
-/// The exit status where the words cannot be read: memory ran out, or one of them is not UTF-8, which standard error then says.
+/// The exit status if the arguments cannot be read: memory ran out, or one of them is not UTF-8, which standard error
+/// then says.
 fn unread_words(rt: &HostRuntime, error: &io::Error) -> ExitCode {
     if error.kind() != io::ErrorKind::InvalidData {
         return ExitCode::FAILURE;
     }
-    // The status already says that they are bad, so nothing is lost where this fails.
+    // The status already says that the arguments are bad, so nothing is lost if this fails.
     let _ = eprintln!(rt; "error: a word of the command line is not UTF-8");
     ExitCode::from(BAD_WORDS)
 }

@@ -1,4 +1,4 @@
--- Words that were put in pieces.
+-- Words that were appended in pieces.
 use Rattle.std.proofs.Common.{◌≡◌, ℕ, Bool, List, ◌++◌, Option, codes, decimal, ap, ◌∙◌, append_assoc}
 use Rattle.requests.specs.declared.reply.Reply.{Reply}
 use Rattle.interleavings.specs.declared.event.Event.{Event}

@@ -26,7 +26,7 @@ use Rattle.traces.specs.Enabled.{is_held, snapshot_of}
 use Rattle.traces.specs.Lines.{event_line}
 use Rattle.traces.specs.Traced.{line_between, texts_of}
 
--- ---- the reply that a line tells
+-- ---- the reply that a line shows
 -- what the caller of a Reply gets is what the event adds to the trace
 delivered_is : (z : Size) (events : List Event) (c : ℕ) (reply : Option Reply) → IsReplyTo z events (event.Reply c) reply
     → delivered (after z opening events) (step z (after z opening events) (event.Reply c)) ≡ reply
@@ -76,7 +76,7 @@ after_append z [] fs w = refl
 after_append z (e ∷ es) fs w = after_append z es fs (step z w e)
 
 module _ (role note : ℕ → List ℕ) (z : Size) where
-  -- the text of an event at a place and in a world
+  -- the text of an event at an index and in a world
   abbrev text_at : Event → ℕ → World → List ℕ
   text_at e place w = line_between role z place e w (step z w e) ++ note place
 
@@ -103,8 +103,8 @@ module _ (role note : ℕ → List ℕ) (z : Size) where
       ∙ ap (λ l. old ++ concat l) (sym (texts_more done (length before) w e))
       ∙ ap (λ xs. old ++ concat (texts_of role note z (length before) w xs)) (sym (taken_more i es e inside is))
 
--- ---- the events that were taken
--- the events up to one, behind others
+-- ---- the events that were applied
+-- the events up to one, after others
 pub taken_next : (before : List Event) (i : ℕ) (es : List Event) (e : Event) → i < length es → e ≡ get_or es i e
     → (before ++ take i es) ++ e ∷ [] ≡ before ++ take (i + 1) es
 taken_next before i es e inside is = append_assoc before (take i es) (e ∷ []) ∙ ap (λ xs. before ++ xs) (sym (taken_more i es e inside is))
@@ -135,7 +135,7 @@ none_where : (held : Bool) (e : Event) → is_none (if held then None else Some 
 none_where true e = refl
 none_where false e = refl
 
--- a write that is to be checked has no next step just where its shard is held
+-- a write that is to be checked has no next step exactly if its shard is held
 pub held_is : (z : Size) (w : World) (c shard : ℕ) (s : Standing) (waits : Bool) → s ≡ standing.Called (Write shard) → s ≡ standing_by z w (Some c)
     → waits ≡ is_none (next_step z w c) → waits ≡ is_held w s
 held_is z w c shard s waits is stands none =

@@ -11,7 +11,7 @@ use Rattle.interleavings.specs.World.{Size, World, opening}
 use Rattle.traces.specs.Traced.{line_between, section, sections, texts_of}
 use Rattle.traces.proofs.Runs.{after_append}
 
--- the first events of what is left, as the program takes them
+-- the first events of the rest, as the program applies them
 pub taken_to : (events : List Event) (place end stop : ℕ) → place ≤ length events → stop ≡ place + min (end - place) (length events - place)
     → take (stop - place) (drop place events) ≡ take (end - place) (drop place events)
 taken_to events place end stop inside is =
@@ -52,7 +52,7 @@ module _ (role note : ℕ → List ℕ) (z : Size) where
   texts_length place w [] = refl
   texts_length place w (e ∷ es) = ap suc (texts_length (suc place) (step z w e) es)
 
-  -- what is told of these events from a place on
+  -- the text of these events from an index on
   abbrev rest : (events : List Event) → (place : ℕ) → List (List ℕ)
   rest events place = texts place (after z opening (take place events)) (drop place events)
 
@@ -97,7 +97,7 @@ module _ (role note : ℕ → List ℕ) (z : Size) where
       ∙ ap (λ l. old ++ sections line place l (rest events place)) (sym (drop_more ends j 0 there))
       ∙ so_far
 
-  -- what is behind the last line's end
+  -- what comes after the last line's end
   pub sections_done : (events : List Event) (ends : List ℕ) (j line place : ℕ) (old new whole : List ℕ) → place ≤ length events → length ends ≤ j
       → old ++ sections line place (drop j ends) (rest events place) ≡ whole
       → new ≡ old ++ concat (texts (length (take place events)) (after z opening (take place events)) (take (length events - place) (drop place events))) → new ≡ whole

@@ -16,7 +16,7 @@ use Rattle.history.specs.Standing.{asked, standing_of}
 use Rattle.history.proofs.Enabled.{next_is_enabled}
 use Rattle.traces.specs.Enabled.{asks_compaction, asks_read, asks_read_at, has_drawn, has_parts_left, is_enabled, is_gone, is_held, is_holding, is_idle, may_check, may_reply, snapshot_of}
 
--- ---- what is enabled by where its caller stands leads the caller on
+-- ---- what is enabled by its caller's state moves the caller on
 module _ (held : ℕ → Bool) (frontier : ℕ) (rises : Bool) (c : ℕ) where
   abbrev next : Standing → Option Event
   next s = goes_on held frontier rises c s
@@ -57,7 +57,7 @@ check_next w frontier rises c s so = absurd cc
 
 module _ (z : Size) (w : World) where
   -- ---- what is enabled
-  -- the caller stands elsewhere afterwards
+  -- the caller's state changes
   elsewhere : (c : ℕ) (ph there : Phase) (v : World) → w.phase c ≡ ph → v.phase c ≡ there → (there ≡ ph → ⊥) → v ≢ w
   elsewhere c ph there v at is other = λ same. other (sym is ∙ ap (λ (u : World). u.phase c) same ∙ at)
 

@@ -1,9 +1,10 @@
--- Which events are enabled, by the world before them. A Call is enabled where its caller is idle, and a Check where its caller
--- has called a write and nobody holds the shard of its key. A Reserve is enabled for a write that holds its shard, and a Publish
--- for one that has drawn a number, also of a caller that is gone. A Raise is enabled where the number behind the frontier is
--- filled. A Read, a ReadAt and a Compact are enabled where the caller has called a get or a list of now, a list at a version, and
--- a compaction. A Part is enabled while a shard has still to answer. A Reply is enabled where the frontier has reached what its
--- caller saw, or where all shards have answered its read. A Crash is enabled for a caller that is not gone yet.
+-- Which events are enabled, by the world before them. A Call is enabled if its caller is idle, and a Check if its
+-- caller has called a write and the shard of its key is not held. A Reserve is enabled for a write that holds its
+-- shard, and a Publish for one that has drawn a number, even if its caller is gone. A Raise is enabled if the next
+-- number after the frontier is filled. A Read, a ReadAt and a Compact are enabled if the caller has called a get or a
+-- list of now, a list at a version, and a compaction. A Part is enabled while a shard has not answered. A Reply is
+-- enabled if the frontier has reached what its caller saw, or if all shards have answered its read. A Crash is enabled
+-- for a caller that is not gone.
 use Rattle.std.specs.Prelude.{ℕ, zero, suc, Bool, true, false, not, nat_le, Option, is_some}
 use Rattle.interleavings.specs.declared.event.Event.{Event}
 use Rattle.interleavings.specs.declared.event.Event.TheVariants as event
@@ -15,19 +16,18 @@ use Rattle.history.specs.declared.standing.Standing.TheVariants.{Idle, Called, H
 use Rattle.pictures.specs.Picture.{standing_by}
 use Rattle.traces.specs.declared.snapshot.Snapshot.{Snapshot}
 
--- ---- what a line tells of the world before an event, and after it
--- whether somebody holds the shard in which a write is to be checked
+-- ---- what a line shows of the world before an event, and after it
+-- whether the shard in which a write is to be checked is held
 abbrev pub is_held : World → Standing → Bool
 is_held w (Called (Write shard)) = is_some (w.holder shard)
 is_held w _ = false
 
--- where the caller stands that the event names, and whether its shard is held; the frontier, and whether the number behind it
--- is filled
+-- the state of the event's caller, and whether its shard is held; the frontier, and whether the next number is filled
 abbrev pub snapshot_of : Size → World → (caller : Option ℕ) → Snapshot
 snapshot_of z w caller =
     record { standing = standing_by z w caller; is_held = is_held w (standing_by z w caller); can_rise = can_rise w; frontier = w.frontier }
 
--- ---- by where the caller stands
+-- ---- by the caller's state
 abbrev pub is_idle : Standing → Bool
 is_idle Idle = true
 is_idle _ = false

@@ -1,4 +1,4 @@
--- The line of an event: its place, who, what, that it was not enabled, if so, and where its caller then stands.
+-- The line of an event: its index, who, what, that it was not enabled, if so, and the state of its caller after it.
 use Rattle.std.specs.Prelude.{ℕ, Bool, true, false, List, [], ◌++◌, Option, Some, None, codes, decimal}
 use Rattle.requests.specs.declared.reply.Reply.{Reply}
 use Rattle.interleavings.specs.declared.event.Event.{Event}
@@ -9,7 +9,7 @@ use Rattle.traces.specs.Enabled.{is_enabled}
 use Rattle.traces.specs.Places.{place_words}
 use Rattle.traces.specs.declared.snapshot.Snapshot.{Snapshot}
 
--- `7: web, controller 0, caller 2: `, where `role` is what a caller is called before its number. A Raise names no caller
+-- `7: web, controller 0, caller 2: `, with `role` for the words before a caller's number. A Raise names no caller
 abbrev pub caller_words : (role : ℕ → List ℕ) → (caller : Option ℕ) → List ℕ
 caller_words role None = []
 caller_words role (Some c) = role c ++ (codes "caller " ++ (decimal c ++ codes ": "))
@@ -17,12 +17,12 @@ caller_words role (Some c) = role c ++ (codes "caller " ++ (decimal c ++ codes "
 abbrev pub head : (role : ℕ → List ℕ) → (place : ℕ) → (caller : Option ℕ) → List ℕ
 head role place caller = decimal place ++ (codes ": " ++ caller_words role caller)
 
--- `reply Created, version 2`; of a Reply that gives none, `reply`
+-- `reply Created, version 2`; if a Reply gives none, `reply`
 abbrev pub given_words : (delivered : Option Reply) → List ℕ
 given_words None = codes "reply"
 given_words (Some reply) = codes "reply " ++ reply_words reply
 
--- what the event is: of a Call its request, of any other the word that scripts have for it
+-- what the event is: for a Call its request, for any other its name in scripts
 abbrev pub event_words : Event → (delivered : Option Reply) → List ℕ
 event_words (event.Call c r) delivered = request_words r
 event_words (event.Check c) delivered = codes "check"

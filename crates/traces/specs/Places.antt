@@ -1,4 +1,4 @@
--- Where a caller stands, and where the frontier, in words.
+-- The state of a caller, and of the frontier, in words.
 use Rattle.std.specs.Prelude.{ℕ, ◌+◌, Bool, true, false, nat_le, List, ◌++◌, Option, Some, None, codes, decimal, if◌then◌else◌, ◌==◌}
 use Rattle.history.specs.declared.standing.Asked.{Asked}
 use Rattle.history.specs.declared.standing.Asked.TheVariants.{Write, Read, ReadAt, Compaction}
@@ -6,7 +6,7 @@ use Rattle.history.specs.declared.standing.Standing.{Standing}
 use Rattle.history.specs.declared.standing.Standing.TheVariants.{Idle, Called, Holding, Drawn, Waiting, Reading, Gone, Left}
 use Rattle.traces.specs.declared.snapshot.Snapshot.{Snapshot}
 
--- ---- `next is check, in shard 2`, and where the shard is held, `next is check, in shard 2, which is held`
+-- ---- `next is check, in shard 2`, and if the shard is held, `next is check, in shard 2, which is held`
 abbrev pub check_words : (shard : ℕ) → (is_held : Bool) → List ℕ
 check_words shard true = codes "next is check, in shard " ++ (decimal shard ++ codes ", which is held")
 check_words shard false = codes "next is check, in shard " ++ decimal shard
@@ -44,12 +44,12 @@ standing_words (Reading number shard left) held frontier = reading_words number 
 standing_words Gone held frontier = codes "gone"
 standing_words (Left number shard) held frontier = left_words number shard
 
--- ---- where the frontier stands, and why it does not rise
+-- ---- where the frontier is, and why it does not rise
 abbrev pub frontier_words : (enabled : Bool) → (frontier : ℕ) → List ℕ
 frontier_words true frontier = codes "the frontier is " ++ decimal frontier
 frontier_words false frontier = codes "the frontier is " ++ (decimal frontier ++ (codes ", and " ++ (decimal (frontier + 1) ++ codes " is not filled")))
 
--- ---- of an event that names a caller where that stands, and of a Raise, which names none, where the frontier does
+-- ---- for an event that names a caller the caller's state, and for a Raise, which names none, where the frontier is
 abbrev pub place_words : (caller : Option ℕ) → (enabled : Bool) → (after : Snapshot) → List ℕ
 place_words None enabled after = frontier_words enabled after.frontier
 place_words (Some c) enabled after = standing_words after.standing after.is_held after.frontier

@@ -14,7 +14,7 @@ abbrev pub line_between : (role : ℕ → List ℕ) → Size → (place : ℕ) �
 line_between role z place e before after =
     event_line role place e (snapshot_of z before (named_by e)) (snapshot_of z after (named_by e)) (delivered before after)
 
--- ---- the text of each event: its line, and behind it what is noted at its place. The first event has this place
+-- ---- the text of each event: its line, and then the note at its index. The first event has this index
 abbrev pub texts_of : (role note : ℕ → List ℕ) → Size → (place : ℕ) → World → List Event → List (List ℕ)
 texts_of role note z place w [] = []
 texts_of role note z place w (e ∷ es) = (line_between role z place e w (step z w e) ++ note place) ∷ texts_of role note z (suc place) (step z w e) es
@@ -33,8 +33,8 @@ line_words line (suc count) = codes "line " ++ (decimal line ++ codes ":\n")
 abbrev pub section : (line : ℕ) → (texts : List (List ℕ)) → List ℕ
 section line texts = line_words line (length texts) ++ concat texts
 
--- From this line and this place on. By each line, how many events there are up to its end: it stands for those that no line
--- before it stands for. What is behind the last line's end is under no line of its own.
+-- From this line and this index on. For each line, how many events there are up to its end: it has those that no line
+-- before it has. Events after the last line's end have no line above them.
 abbrev pub sections : (line place : ℕ) → (ends : List ℕ) → (texts : List (List ℕ)) → List ℕ
 sections line place [] texts = concat texts
 sections line place (end ∷ ends) texts =

@@ -6,7 +6,7 @@ ghost use Rattle.interleavings.specs.Step.{happens};
 ghost use Rattle.interleavings.specs.World.{Size, World};
 ghost use Rattle.traces.specs.Enabled.{is_enabled, snapshot_of};
 
-/// An event that is enabled leaves another world, and one that is not enabled leaves the world as it was.
+/// An enabled event changes the world, and any other leaves it as it was.
 pub fn enabled_events_change_the_world()
     ensures enabled { (size : Size) (world : World) (event : Event) → is_enabled event (snapshot_of size world (named_by event)) ≡ true → happens size world event ≢ world }
     ensures not_enabled { (size : Size) (world : World) (event : Event) → is_enabled event (snapshot_of size world (named_by event)) ≡ false → happens size world event ≡ world }

@@ -1,4 +1,4 @@
-//! Runs told to a person event by event: who, what, whether it was enabled, and where its caller then stands.
+//! Runs as text for a person, event by event: who, what, whether it was enabled, and the state of its caller after it.
 #![tactic(auto)]
 
 mod enabled;

@@ -10,8 +10,7 @@ use pictures::{Roles, put_reply, put_request};
 use requests::Reply;
 use std::alloc::AllocError;
 
-/// Puts the line of an event behind the text, by the snapshot before it and the one after it, and by the reply that its caller
-/// gets.
+/// Appends the line of an event, by the snapshots before and after it and by the reply that its caller gets.
 pub(crate) fn put_line<R: Roles>(
     place: u64,
     event: &Event,
@@ -61,7 +60,7 @@ fn put_named<R: Roles>(caller: u64, roles: &R, out: &mut String) -> Result<(), A
     write!(out, "caller {caller}: ")
 }
 
-/// Puts behind the text what the event is.
+/// Appends what the event is.
 fn put_event(event: &Event, delivered: &Option<Reply>, out: &mut String) -> Result<(), AllocError>
     ensures { OnOk result (string_bytes out.new ≡ string_bytes out.old ++ event_words event.now delivered.now) }
 {

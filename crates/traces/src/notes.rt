@@ -1,20 +1,20 @@
-//! What is noted beside the events of a run.
+//! Notes next to the events of a run.
 ghost use Rattle.std.specs.Prelude.{◌≡◌, ◌++◌, ℕ, List, string_bytes, OnOk};
 ghost use Rattle.traces.specs.Traced.{no_note};
 
 use std::alloc::AllocError;
 
-/// Lines that stand behind the lines of events.
+/// Lines that follow the lines of events.
 pub trait Notes {
-    /// What stands behind the line of the event at a place.
+    /// What follows the line of the event at an index.
     ghost note: { Self → ℕ → List ℕ };
 
-    /// Puts what stands behind the line of the event at that place behind the text: nothing, or whole lines.
+    /// Appends what follows the line of the event at that index: nothing, or whole lines.
     fn put_note(&self, place: u64, out: &mut String) -> Result<(), AllocError>
         ensures { OnOk result (string_bytes out.new ≡ string_bytes out.old ++ note self.now place) };
 }
 
-/// Nothing is noted.
+/// No notes.
 #[derive(Clone, Copy, Drop)]
 pub struct NoNotes;
 

@@ -1,4 +1,4 @@
-//! Where a caller stands, and where the frontier, in words.
+//! The state of a caller, and of the frontier, in words.
 ghost use Rattle.std.specs.Prelude.{◌≡◌, ◌<◌, ◌-◌, ◌^◌, ◌++◌, string_bytes, OnOk};
 ghost use Rattle.traces.specs.Places.{asked_words, check_words, drawn_words, frontier_words, left_words, place_words, reading_words, standing_words, waiting_words};
 
@@ -6,7 +6,7 @@ use crate::snapshot::Snapshot;
 use history::{Asked, Standing};
 use std::alloc::AllocError;
 
-/// Puts behind the text where the caller stands that an event names, or of an event that names none where the frontier stands.
+/// Appends the state of the event's caller, or, if the event names none, where the frontier is.
 pub(crate) fn put_place(
     caller: Option<u64>,
     enabled: bool,

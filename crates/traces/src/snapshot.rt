@@ -10,14 +10,14 @@ ghost use Rattle.traces.specs.Enabled.{is_held, snapshot_of};
 use history::{Asked, Replay, Standing};
 use interleavings::Event;
 
-/// What a line tells of a run between two events.
+/// What a line shows of a run between two events.
 #[derive(Clone, Copy)]
 pub(crate) struct Snapshot {
-    /// Where the caller stands that the event names. Where it names none, idle.
+    /// The state of the event's caller. If it has none, idle.
     pub standing: Standing,
-    /// Whether the caller has called a write and somebody holds the shard of its key.
+    /// Whether the caller has called a write and the shard of its key is held.
     pub is_held: bool,
-    /// Whether the number behind the frontier is filled.
+    /// Whether the next number after the frontier is filled.
     pub can_rise: bool,
     pub frontier: u64,
 }
@@ -43,7 +43,7 @@ fn standing_by(replay: &Replay, caller: Option<u64>) -> Standing
     }
 }
 
-/// Whether the caller, which stands there, has called a write and somebody holds the shard of its key.
+/// Whether the caller, in this state, has called a write and the shard of its key is held.
 fn is_held(replay: &Replay, caller: Option<u64>, standing: Standing) -> bool
     ensures { (size : Size) (events : List Event) → IsAfter size events replay.now
         → standing ≡ standing_by size (after size opening events) caller → result ≡ is_held (after size opening events) standing }
@@ -59,13 +59,13 @@ fn waits_for_shard(replay: &Replay, caller: u64, standing: Standing) -> bool
         → standing ≡ standing_by size (after size opening events) (Some caller) → result ≡ is_held (after size opening events) standing }
 {
     match standing {
-        // A write that is to be checked has a next step just where nobody holds its shard.
+        // A write that is to be checked has a next step exactly if its shard is not held.
         Standing::Called(Asked::Write { shard: _ }) => has_to_wait(replay, caller),
         _ => false,
     }
 }
 
-/// Whether no step leads the caller on while nobody else moves.
+/// Whether no step helps the caller while no other caller moves.
 fn has_to_wait(replay: &Replay, caller: u64) -> bool
     ensures { (size : Size) (events : List Event) → IsAfter size events replay.now → result ≡ is_none (next_step size (after size opening events) caller) }
 {

@@ -18,13 +18,13 @@ use pictures::Roles;
 use std::alloc::{AllocError, Global};
 
 /// The run of these events from the opening world, event by event: a line for each, as
-/// `7: web, controller 0, caller 2: check: not enabled: next is check, in shard 1, which is held`. It says who, what, whether
-/// the event was enabled, and where its caller then stands, or of a raise where the frontier does.
+/// `7: web, controller 0, caller 2: check: not enabled: next is check, in shard 1, which is held`. It says who, what,
+/// whether the event was enabled, and the state of its caller after it, or for a raise where the frontier is then.
 ///
 /// # Errors
 ///
-/// As `history::replay`. Where the events name more than 4,096 callers it is refused for that, or for memory if that ran out
-/// first.
+/// As `history::replay`. If the events name more than 4,096 callers it is refused for that, or for memory if that ran
+/// out first.
 pub fn trace_lines<R: Roles>(
     alloc: Global,
     shards: usize,
@@ -44,7 +44,7 @@ pub fn trace_lines<R: Roles>(
     Ok(text.into_bytes())
 }
 
-/// Takes the events, and puts the text of each behind the text.
+/// Applies the events, and appends the text of each.
 fn put_events<R: Roles, N: Notes>(
     events: &[Event],
     replay: &mut Replay,
@@ -68,7 +68,7 @@ fn put_events<R: Roles, N: Notes>(
     Ok(())
 }
 
-/// Takes one event, and puts its line and what is noted at its place behind the text.
+/// Applies one event, and appends its line and the note at its index.
 fn put_step<R: Roles, N: Notes>(
     event: &Event,
     replay: &mut Replay,
@@ -92,7 +92,7 @@ fn put_step<R: Roles, N: Notes>(
     Ok(notes.put_note(place, out)?)
 }
 
-/// Takes one event, and puts its line behind the text.
+/// Applies one event, and appends its line.
 fn put_told<R: Roles>(
     event: &Event,
     replay: &mut Replay,
@@ -119,9 +119,9 @@ fn put_told<R: Roles>(
     Ok(put?)
 }
 
-/// The same under the lines of a script. By each line stands in `ends` how many events there are up to its end, and the first
-/// line has this number: `line 3:` stands above the texts of its events, and `line 3: nothing` where it came to none. Behind the
-/// line of each event stands what is noted at its place.
+/// The same under the lines of a script. For each line `ends` has the number of events up to its end, and the first
+/// line has the number `first_line`: `line 3:` is above the texts of its events, and `line 3: nothing` is there if it
+/// had none. The note at an event's index follows its line.
 ///
 /// # Errors
 ///
@@ -164,7 +164,7 @@ pub fn trace_by_lines<R: Roles, N: Notes>(
     Ok(text.into_bytes())
 }
 
-/// How many of so many events there are up to the end of a line, of which `place` stand under the lines before it.
+/// How many of `count` events there are up to the end of a line; `place` of them are under the lines before it.
 fn stop_of(place: usize, end: usize, count: usize) -> usize
     requires { place ≤ count }
     ensures { result ≡ place + min (end - place) (count - place) }
@@ -172,7 +172,7 @@ fn stop_of(place: usize, end: usize, count: usize) -> usize
     place + end.saturating_sub(place).min(count - place)
 }
 
-/// Takes the events of a line, and puts its number and the text of each behind the text.
+/// Applies the events of a line, and appends its number and the text of each.
 fn put_section<R: Roles, N: Notes>(
     line: u64,
     events: &[Event],
@@ -195,7 +195,7 @@ fn put_section<R: Roles, N: Notes>(
     put_events(events, replay, roles, notes, out)
 }
 
-/// Puts the number of a line that came to so many events behind the text.
+/// Appends the number of a line that has so many events.
 fn put_line_number(line: u64, count: usize, out: &mut String) -> Result<(), AllocError>
     ensures { OnOk result (string_bytes out.new ≡ string_bytes out.old ++ line_words line count) }
 {

@@ -16,7 +16,7 @@ refused_then stands_for_memory e r f h = refused_by (stands_for_memory e) e r f 
 pub fails_then : {A B : Type 0} (e : TreeError) (r : Result A TreeError) (f : A → Result B TreeError) → Fails e r → Fails e (r >>= f)
 fails_then e r f h = refused_then is_memory e r f h
 
--- what is handed on as it was refused
+-- a refusal that is passed on unchanged
 pub gives_refusal : {A B : Type 0} (view : A → B) (result : Result A TreeError) (e : TreeError) (read : Result B TreeError) → IsErrAnd result (λ x. x ≡ e) → Fails e read → Gives view result read
 gives_refusal view (Ok x) e read is h = absurd is
 gives_refusal view (Err x) e read is h = subst (λ y. Fails y read) (sym is) h

@@ -55,14 +55,14 @@ at_found k (suc n) [] e h is = absurd h
 at_found k zero (f ∷ es) e h is = rw h (ap (λ x. Some (data_of x.1)) (sym is))
 at_found k (suc n) (f ∷ es) e h is = rw h.0 (at_found k n es e h.1 is)
 
--- where there is a gap, there is no member
+-- if there is a gap, there is no member
 pub gap_none : (k : List ℕ) (n : ℕ) (es : List (List ℕ × Tree)) → IsGap k n es → AreAscending (members_of es) → get_member k (members_of es) ≡ None
 gap_none k zero [] h ascending = refl
 gap_none k (suc n) [] h ascending = absurd h
 gap_none k zero (e ∷ es) h ascending = none_before k (members_of (e ∷ es)) h ascending
 gap_none k (suc n) (e ∷ es) h ascending = rw h.0 (gap_none k n es h.1 ascending.1)
 
--- a value that takes the place of another is put there
+-- a value that replaces another is put there
 placed : (k : List ℕ) (n : ℕ) (es : List (List ℕ × Tree)) (e : List ℕ × Tree) (t : Tree) → IsAt k n es → e ≡ get_or es n e → members_of (insert (remove es n) n (e.0, t)) ≡ put k (data_of t) (members_of es)
 placed k zero [] e t h is = absurd h
 placed k (suc n) [] e t h is = absurd h
@@ -112,7 +112,7 @@ pushed k t [] last ascending = refl
 pushed k t (e ∷ []) last ascending = rw (above_from_below k e.0 (first_below k e [] last ascending)) refl
 pushed k t (e ∷ f ∷ es) last ascending = rw (above_from_below k e.0 (first_below k e (f ∷ es) last ascending)) (ap (member e.0 (data_of e.1)) (pushed k t (f ∷ es) last ascending.1))
 
--- an entry that is pushed behind all others is put there
+-- an entry that is pushed after all others is put there
 pub pushed_last : (k name : List ℕ) (t : Tree) (es new : List (List ℕ × Tree)) → goes_last k es ≡ true → AreAscending (members_of es) → name ≡ k → new ≡ es ++ (name, t) ∷ [] → members_of new ≡ put k (data_of t) (members_of es)
 pushed_last k name t es new last ascending same is = ap members_of (is ∙ ap (λ l. es ++ (l, t) ∷ []) same) ∙ pushed k t es last ascending
 

@@ -34,7 +34,7 @@ found_of-insert : (es : List Entry) (k : List ℕ) (v : Option Tree) → found_o
 found_of-insert [] k v = refl
 found_of-insert (e ∷ es) k v = found_of-match (slice_cmp nat_cmp k e.0) _ _ _ ∙ rw (found_of-insert es k v)
 
--- one more was found, and went to its place
+-- one more was found, and put in order
 pub found_more : (es new : List Entry) (name : List ℕ) (v : Option Tree) (k : List ℕ) (d : Data) (ms : Members) → new ≡ insert_entry (slice_cmp nat_cmp) es name v → name ≡ k → if_integral d ≡ option_map data_of v
     → found_in ms ≡ found_of es → found_in (put k d ms) ≡ found_of new
 found_more es new name v k d ms is named whole same =
@@ -46,7 +46,7 @@ integral_by true c k d ms = refl
 integral_by false true k d ms = refl
 integral_by false false k d ms = refl
 
--- all that were found are integral where the members are
+-- all that were found are integral if the members are
 pub all_integral-found_in : (ms : Members) → all_integral (found_in ms) ≡ members_if_integral ms
 all_integral-found_in no_members = refl
 all_integral-found_in (member k d ms) = ap (λ o. option_and_then (λ e. option_map (member k e) o) (if_integral d)) (all_integral-found_in ms) ∙ integral_by (has_float d) (members_have_float ms) k d ms

@@ -25,7 +25,7 @@ use Rattle.trees.proofs.Joining.{join_items, join_items-none, join_items-one, it
 
 -- ---- what was read, and what was refused
 
--- where there is nothing for one reader, there is nothing for the other
+-- if one reader finds nothing, the other finds nothing
 pub refused_too : {A B : Type 0} (e : TreeError) (o : Option A) (p : Option B) → (o ≡ None → p ≡ None) → Fails e (required NotJson o) → Fails e (required NotJson p)
 refused_too errors.Memory o p none h = tt
 refused_too errors.NotJson None p none h = ap (required NotJson) (none refl)
@@ -292,7 +292,7 @@ integral_put k d (member l e ms) one all =
     let both = or_parts (has_float e) (members_have_float ms) all in
     integral_put_at (slice_cmp nat_cmp k l) k l d e ms one all (integral_put k d ms one both.1) both.0
 
--- one more entry was read, and put to its place
+-- one more entry was read, and put in order
 pub entries_turn : (p : Parse json.Json) (all : Option (Members × List Token)) (es new : List (List ℕ × Tree)) (left s r : List Token) (k : List ℕ) (t : Tree) → AreMembersSoFar p all (members_of es) left → read_key left ≡ Some (Some k, s)
     → required NotJson (parse_map if_integral (converted of_json (p s))) ≡ Ok (Some (data_of t), r) → length r < length s → members_of new ≡ put k (data_of t) (members_of es) → members_have_float (members_of es) ≡ false
     → AreMembersSoFar p all (members_of new) r × (members_have_float (members_of new) ≡ false)

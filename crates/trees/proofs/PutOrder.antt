@@ -1,4 +1,4 @@
--- Members that are put one after another, where they ascend.
+-- Members that ascend and are put one after another.
 use Rattle.std.proofs.Common.{◌≡◌, ℕ, List, Some, None, refl, sym, ap, ◌∙◌, subst, Bool, true, false}
 use Rattle.std.specs.Prelude.{bytes_eq}
 use Rattle.std.specs.Ordering.{nat_cmp, match_ordering, ordering_reverse, is_eq}
@@ -23,7 +23,7 @@ differ_by : (b : Bool) → b ≡ true → b ≡ false → ⊥
 differ_by true p q = absurd cc
 differ_by false p q = absurd cc
 
--- two texts that the test tells apart
+-- two texts that the test finds to differ
 pub apart : (s t : List ℕ) → bytes_eq s t ≡ false → s ≡ t → ⊥
 apart s t other same = differ_by (bytes_eq s t) ((bytes_eq-Decides s t).1 same) other
 
@@ -61,7 +61,7 @@ pub join_members-one : (k : List ℕ) (d : Data) (done ms : Members) → join_me
 join_members-one k d no_members ms = refl
 join_members-one k d (member l e done) ms = ap (member l e) (join_members-one k d done ms)
 
--- members that ascend, put onto those before them, go behind them
+-- members that ascend, put onto those before them, come after them
 pub put_all-join : (ms done : Members) → AreAscending (join_members done ms) → put_all ms done ≡ join_members done ms
 put_all-join no_members done ascending = sym (join_members-none done)
 put_all-join (member k d ms) done ascending =
@@ -115,6 +115,6 @@ pub put_twice : (k : List ℕ) (d x : Data) (ms : Members) → put k d (put k x 
 put_twice k d x no_members = rw (same_text k) refl
 put_twice k d x (member l e ms) = put_twice_at (slice_cmp nat_cmp k l) k l d x e ms refl (put_twice k d x ms)
 
--- another value put at a key and taken back leaves the members
+-- if another value is put at a key and then removed, the members are as they were
 pub put_back : (k : List ℕ) (d x : Data) (ms : Members) → AreAscending ms → get_member k ms ≡ Some d → put k d (put k x ms) ≡ ms
 put_back k d x ms ascending is = put_twice k d x ms ∙ put_found k d ms ascending is

@@ -1,4 +1,4 @@
--- Values are the same as themselves, and lists and maps of trees where their parts are, one after another.
+-- A value is the same as itself, and lists and maps of trees are the same if their parts are, one after another.
 use Rattle.std.proofs.Common.{◌≡◌, ℕ, suc, Bool, true, false, ◌&&◌, bytes_eq, List, [], ◌∷◌, length, refl, ap, ◌∙◌}
 use Rattle.std.proofs.Math.Bool.{and-false}
 use Rattle.std.proofs.lemmas.Bool.{or_parts, and_parts}

@@ -1,4 +1,4 @@
--- Members that are set and taken away: by the position of the key, and what stays as it was.
+-- Members that are set and removed: by the position of the key, and what stays as it was.
 use Rattle.std.proofs.Common.{◌≡◌, ℕ, zero, suc, ◌≤◌, length, arith, List, [], ◌∷◌, Bool, true, false, cond, Option, Some, None, refl, sym, ap, ◌∙◌, subst, get_or}
 use Rattle.std.specs.Prelude.{bytes_eq, insert, remove, slice_set}
 use Rattle.std.specs.Ordering.{nat_cmp, match_ordering, is_eq}
@@ -43,14 +43,14 @@ removed k (suc n) (e ∷ es) h ascending = rw (above_is k e.0 h.0) (ap (member e
 pub removed_at : (k : List ℕ) (n : ℕ) (es new : List (List ℕ × Tree)) → IsAt k n es → AreAscending (members_of es) → new ≡ remove es n → members_of new ≡ without_member k (members_of es)
 removed_at k n es new h ascending is = ap members_of is ∙ removed k n es h ascending
 
--- where there is a gap, there is nothing to take out
+-- if there is a gap, there is nothing to remove
 pub gap_without : (k : List ℕ) (n : ℕ) (es : List (List ℕ × Tree)) → IsGap k n es → AreAscending (members_of es) → members_of es ≡ without_member k (members_of es)
 gap_without k zero [] h ascending = refl
 gap_without k (suc n) [] h ascending = absurd h
 gap_without k zero (e ∷ es) h ascending = sym (without_before k (members_of (e ∷ es)) h ascending)
 gap_without k (suc n) (e ∷ es) h ascending = rw (above_is k e.0 h.0) (ap (member e.0 (data_of e.1)) (gap_without k n es h.1 ascending.1))
 
--- a value that takes the place of another is put there
+-- a value that replaces another is put there
 pub replaced_at : (k : List ℕ) (n : ℕ) (es : List (List ℕ × Tree)) (e : List ℕ × Tree) (t : Tree) → IsAt k n es → e ≡ get_or es n e → members_of (slice_set es n (e.0, t)) ≡ put k (data_of t) (members_of es)
 replaced_at k zero [] e t h is = absurd h
 replaced_at k (suc n) [] e t h is = absurd h
@@ -63,7 +63,7 @@ gap_inside k zero (e ∷ es) h = omega arith
 gap_inside k (suc n) [] h = absurd h
 gap_inside k (suc n) (e ∷ es) h = let inner : n ≤ length es = gap_inside k n es h.1 in omega arith
 
--- an entry that goes into the gap is put there
+-- an entry that is inserted at the gap is put there
 inserted : (k : List ℕ) (n : ℕ) (es : List (List ℕ × Tree)) (t : Tree) → IsGap k n es → members_of (insert es n (k, t)) ≡ put k (data_of t) (members_of es)
 inserted k zero [] t h = refl
 inserted k (suc n) [] t h = absurd h
@@ -90,7 +90,7 @@ ascending_without : (k : List ℕ) (ms : Members) → AreAscending ms → AreAsc
 ascending_without k no_members h = tt
 ascending_without k (member l d ms) h = ascending_without_at (bytes_eq k l) l d (without_member k ms) (before_without l k ms h.0 h.1) (ascending_without k ms h.1)
 
--- a member that is set or taken away keeps the order
+-- setting or removing a member keeps the order
 pub ascending_set : (k : List ℕ) (value : Option Data) (ms : Members) → AreAscending ms → AreAscending (set_member k value ms)
 ascending_set k None ms h = ascending_without k ms h
 ascending_set k (Some d) ms h = ascending_put k d ms h

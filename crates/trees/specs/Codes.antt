@@ -1,4 +1,4 @@
--- How the values of lists and maps are told apart.
+-- How the values of lists and maps are distinguished.
 use Rattle.std.specs.Prelude.{◌≡◌, ℕ, ℤ, List, Float, refl, ◌⊎◌}
 use Rattle.std.proofs.Common.{ap, arith, inl, inr}
 use Rattle.std.specs.Coded.{Coded, coded_ℕ, coded_ℤ, coded_bool, coded_list, coded⊎, code_by}

@@ -1,5 +1,5 @@
--- Integral data, whose numbers are all integers; and members as they are found while some value may still take the
--- place of another.
+-- Integral data, whose numbers are all integers; and members as they are found while a later value of a key may still
+-- replace an earlier one.
 use Rattle.std.specs.Prelude.{ℕ, List, [], ◌∷◌, Option, Some, None, option_map, option_and_then, if◌then◌else◌}
 use Rattle.serde_json.specs.Data.{Num, Data, Items, Members, no_members, member}
 use Rattle.serde_json.specs.Find.{is_float}

@@ -1,4 +1,4 @@
--- Where a key stands among entries that ascend, or where it would go.
+-- The position of a key among entries that ascend, or the one at which it would be inserted.
 use Rattle.std.specs.Prelude.{◌≡◌, ℕ, zero, suc, List, [], ◌∷◌, Bool, true, ⊤}
 use Rattle.std.specs.Ordering.{nat_cmp, is_lt}
 use Rattle.std.specs.declared.cmp.Ordering.TheVariants.{Less, Equal, Greater}
@@ -17,7 +17,7 @@ IsAt k n [] = ⊥
 IsAt k zero (e ∷ es) = slice_cmp nat_cmp k e.0 ≡ Equal
 IsAt k (suc n) (e ∷ es) = (slice_cmp nat_cmp k e.0 ≡ Greater) × IsAt k n es
 
--- the key goes before the entry at n, or at the end
+-- the key belongs before the entry at n, or at the end
 abbrev pub IsGap : List ℕ → ℕ → List (List ℕ × Tree) → Type 0
 IsGap k zero [] = ⊤
 IsGap k zero (e ∷ es) = slice_cmp nat_cmp k e.0 ≡ Less

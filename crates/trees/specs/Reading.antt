@@ -10,7 +10,7 @@ use Rattle.trees.specs.declared.fault.TreeError.{TreeError}
 use Rattle.trees.specs.declared.fault.TreeError.TheVariants.{NotJson, NotWhole, TooLong}
 use Rattle.trees.specs.Steps.{◌>>=◌, required, guarded}
 
--- the bytes of one text, at most
+-- the most bytes of one text
 abbrev pub most_bytes : ℕ
 most_bytes = 1048576
 

@@ -13,11 +13,11 @@ abbrev pub required : {E A : Type 0} → E → Option A → Result A E
 required e None = Err e
 required e (Some x) = Ok x
 
--- x, where the test holds
+-- x, if the test holds
 abbrev pub guarded : {E A : Type 0} → E → Bool → A → Result A E
 guarded e b x = if b then Ok x else Err e
 
--- the step refuses with e; nothing is said where e is want of memory
+-- the step refuses with e; nothing is said if e is out of memory
 abbrev pub FailsUnless : {E A : Type 0} → (E → Bool) → E → Result A E → Type 0
 FailsUnless is_memory e step = MatchBool (is_memory e) ⊤ (step ≡ Err e)
 

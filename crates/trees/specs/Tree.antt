@@ -1,4 +1,4 @@
--- What a tree is as JSON data, in the words of `serde_json`.
+-- What a tree is as JSON data, in the terms of `serde_json`.
 use Rattle.std.specs.Prelude.{◌≡◌, ℕ, List, [], ◌∷◌, ⊤}
 use Rattle.std.specs.Ordering.{nat_cmp}
 use Rattle.std.specs.declared.cmp.Ordering.TheVariants.{Less}
@@ -29,7 +29,7 @@ abbrev pub ComesBefore : List ℕ → Members → Type 0
 ComesBefore k no_members = ⊤
 ComesBefore k (member l d ms) = slice_cmp nat_cmp k l ≡ Less
 
--- each key comes before the next, so none stands twice
+-- each key comes before the next, so none occurs twice
 abbrev pub AreAscending : Members → Type 0
 AreAscending no_members = ⊤
 AreAscending (member k d ms) = ComesBefore k ms × AreAscending ms

@@ -17,7 +17,7 @@ impl Members {
         Members::of(alloc, Vec::new(alloc))
     }
 
-    /// The members with that value at the key, if there is one; else as they are.
+    /// The members with that value at the key; unchanged if there is no value.
     pub fn with_some(self, key: &str, value: Option<Tree>) -> Result<Members, AllocError>
         ensures { IfOk result (λ members. members ≡ put_some key.now (option_map data_of value) self) }
     {

@@ -1,4 +1,4 @@
-// Members of a map by their keys, while the map is read and some value may still take the place of another.
+// Members of a map by their keys, while the map is read and a later value of a key may still replace an earlier one.
 ghost use Rattle.std.specs.Prelude.{◌≡◌, false, IfOk, IfSome, option_map};
 ghost use Rattle.serde_json.specs.Written.{members_have_float};
 ghost use Rattle.trees.specs.Tree.{members_of, AreAscending};
@@ -21,13 +21,13 @@ pub(crate) fn by_key(
 {
     let mut found = BTreeMap::new(alloc);
     for (name, value) in entries {
-        // No key stands twice, so that no value was there before.
+        // No key occurs twice, so no value was there before.
         drop(found.insert(name, Some(value))?);
     }
     Ok(found)
 }
 
-/// The entries of these members, or `None` where a value is not integral.
+/// The entries of these members, or `None` if a value is not integral.
 pub(crate) fn integral_entries(
     alloc: Global,
     found: BTreeMap<Text, Option<Tree>>,

@@ -10,7 +10,7 @@ use crate::fault::TreeError;
 use crate::integer::Integer;
 use fast_float::Numeral;
 
-/// The number of a token, or `None` where it is no integer. It refuses with NotJson what is beyond the range of a double.
+/// The number of a token, or `None` if it is no integer. A number beyond the range of a double is refused with NotJson.
 #[inline]
 pub(crate) fn number_in(text: &str) -> Result<Option<Integer>, TreeError>
     ensures { Gives (option_map of_integer) result

@@ -1,5 +1,6 @@
-// From a JSON text to a tree, in one pass over the tokens. A value with a number that is not whole is read on as
-// `None`: only the end of the text shows that it is JSON, and another value of the same key may take its place.
+// From a JSON text to a tree, in one pass over the tokens. A value with a number that is not whole is read as `None`,
+// and reading continues: only the end of the text shows that it is JSON, and a later value of the same key may replace
+// this one.
 ghost use Rattle.std.specs.Prelude.{◌≡◌, ◌<◌, ◌≤◌, ◌∷◌, ℕ, option_map, length, OnOk, IfOk, IfSome};
 ghost use Rattle.json.specs.Token.{begin_array, begin_object};
 ghost use Rattle.json.specs.Json.{value, items, members, parse_map};
@@ -22,11 +23,11 @@ use json::{Reader, Scratch, Token};
 use std::alloc::Global;
 use std::collections::BTreeMap;
 
-/// In a map of fewer members a key goes to its place by steps over the others.
+/// In a map of fewer members a key is inserted in order, which moves those after it.
 const FEW: usize = 16;
 
-/// The tree of a text whose lists and maps nest at most `depth` deep, or `None` where a number in it is not whole. The only
-/// refusal is NotJson.
+/// The tree of a text whose lists and maps nest at most `depth` deep, or `None` if a number in it is not whole. The
+/// only refusal is NotJson.
 pub(crate) fn tree_in(
     alloc: Global,
     text: &str,
@@ -134,7 +135,7 @@ fn items_in(
     })
 }
 
-/// The members up to the end of the map, as long as each goes to its place in few steps.
+/// The members up to the end of the map, as long as each is put in order in few steps.
 #[cycle(parse)]
 fn members_in(
     alloc: Global,
@@ -154,10 +155,10 @@ fn members_in(
         match value_in(alloc, reader, depth, spares)? {
             Some(value) if goes_last(&entries, name) => entries.push((key, value))?,
             Some(value) if entries.len() < FEW => put_entry(&mut entries, key, value)?,
-            // Too many to be moved for each, or not integral: then another value of the key may yet take its place.
+            // Too many to move for each, or not integral: then a later value of the key may still replace it.
             value => {
                 let mut found = by_key(alloc, entries)?;
-                // A value that the key had before is let go, since the last one counts.
+                // An earlier value of the key is dropped, since the last one counts.
                 drop(found.insert(key, value)?);
                 return members_after(alloc, reader, depth, spares, found);
             }
@@ -186,7 +187,7 @@ fn members_after(
     'members: while let Some(name) = reader.next_key()? {
         let key = Text::copy_of(alloc, name)?;
         let value = value_in(alloc, reader, depth, spares)?;
-        // A value that the key had before is let go, since the last one counts.
+        // An earlier value of the key is dropped, since the last one counts.
         drop(found.insert(key, value)?);
     }
     Ok(integral_entries(alloc, found)?)

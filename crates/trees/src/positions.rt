@@ -1,4 +1,4 @@
-// Work on the entries of a map: where a key stands, and entries copied or taken.
+// The entries of a map: the position of a key, and entries copied, put in or removed.
 ghost use Rattle.std.specs.Prelude.{◌≡◌, ◌<◌, IfOk, IfErr, OnOk, OnErr, Some};
 ghost use Rattle.serde_json.specs.Data.{put};
 ghost use Rattle.trees.specs.Tree.{data_of, members_of, AreAscending};
@@ -20,7 +20,7 @@ pub(crate) fn goes_last(entries: &[(Text, Tree)], key: &str) -> bool
     }
 }
 
-/// Where the key stands among entries that ascend, or where it would go.
+/// The position of the key among entries that ascend, or the one at which it would be inserted.
 pub fn position_of(entries: &[(Text, Tree)], key: &str) -> Result<usize, usize>
     ensures found { IfOk result (λ i. IsAt key.now i entries.now) }
     ensures gap { IfErr result (λ i. IsGap key.now i entries.now) }
@@ -36,7 +36,7 @@ pub fn position_of(entries: &[(Text, Tree)], key: &str) -> Result<usize, usize>
     Err(entries.len())
 }
 
-/// The entries again, which share what their lists and maps hold.
+/// A copy of the entries, which shares what their lists and maps hold.
 pub(crate) fn copied(
     alloc: Global,
     entries: &[(Text, Tree)],
@@ -50,7 +50,8 @@ pub(crate) fn copied(
     Ok(copies)
 }
 
-/// Puts a value at the key: in the place of the one there, or where the key goes. An `Err` leaves the entries.
+/// Puts a value at the key: it replaces the one there, or is inserted in order. An `Err` leaves the entries as they
+/// were.
 pub(crate) fn put_entry(
     entries: &mut Vec<(Text, Tree)>,
     key: Text,
@@ -66,7 +67,7 @@ pub(crate) fn put_entry(
     Ok(())
 }
 
-/// Takes out the entry of the key, if there is one.
+/// Removes the entry of the key, if there is one.
 pub(crate) fn remove_entry(entries: &mut Vec<(Text, Tree)>, key: &str)
     requires { AreAscending (members_of entries.old.items) }
     ensures { members_of entries.new.items ≡ without_member key.now (members_of entries.old.items) }

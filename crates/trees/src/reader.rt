@@ -72,7 +72,7 @@ impl TreeReader {
         }
     }
 
-    /// The value of a text that is known to be one, of any length and depth: as one that was written from a tree.
+    /// The value of a text that is known to have one, at any length and depth: as a text that was written from a tree.
     pub fn read_back(&mut self, text: &str) -> Result<Tree, Memory>
         requires { IsSomeAnd (read_within (length text.now) text.now) (λ value. has_float value ≡ false) }
         ensures { IfOk result (λ tree. read_within (length text.now) text.now ≡ Some (data_of tree)) }
@@ -86,7 +86,7 @@ impl TreeReader {
         ) {
             Ok(Some(tree)) => Ok(tree),
             Err(TreeError::Memory) => Err(Memory),
-            // The caller knows that the text is JSON with whole numbers, so memory alone can be wanting.
+            // The caller knows that the text is JSON with whole numbers, so only memory can run out.
             _ => unreachable!(),
         }
     }

@@ -1,4 +1,4 @@
-// Vectors that are kept to be filled again, so that a list or a map need not grow anew.
+// Vectors that are kept and filled again, so that a list or a map need not grow from nothing.
 ghost use Rattle.std.specs.Prelude.{◌≡◌, [], IfOk};
 
 use crate::text::Text;
@@ -37,7 +37,7 @@ impl<T: Drop> Stock<T> {
         }
     }
 
-    /// A vector of nothing.
+    /// An empty vector.
     pub(crate) fn take(&mut self, alloc: Global) -> Vec<T>
         ensures { result.items ≡ [] }
     {
@@ -50,7 +50,7 @@ impl<T: Drop> Stock<T> {
         }
     }
 
-    /// The parts in no more memory than they need. What they came in is kept, unless it is large.
+    /// The parts in no more memory than they need. The vector that they came in is kept, unless it is large.
     pub(crate) fn tight(&mut self, alloc: Global, mut parts: Vec<T>) -> Result<Vec<T>, AllocError>
         ensures { IfOk result (λ kept. kept.items ≡ parts.items) }
     {

@@ -5,8 +5,8 @@ use std::alloc::{AllocError, Global};
 use std::cmp::Ordering;
 use std::marker::Model;
 
-/// The most bytes of a text that lies in its own value. Most names, keys and words of objects are no longer, and a
-/// longer one lies in a block of its own.
+/// The most bytes of a text that is stored in its own value. Most names, keys and words of objects are no longer, and a
+/// longer one is stored in a block of its own.
 const SHORT: usize = 16;
 
 /// A text, which a clause sees as its bytes in UTF-8.

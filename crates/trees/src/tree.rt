@@ -31,7 +31,7 @@ pub struct Items {
     items: Arc<Vec<Tree>>,
 }
 
-/// The members of a map, in byte order of their keys.
+/// The members of a map, in byte order of their keys. Each key is there once.
 #[cycle(tree)]
 #[derive(Drop)]
 pub struct Members {
@@ -184,8 +184,8 @@ impl Tree {
 }
 
 impl Tree {
-    /// Whether both are the same JSON value: numbers by value, maps whatever order their members came in. It takes no
-    /// memory, and as many steps as the smaller of the two has parts.
+    /// Whether both are the same JSON value: numbers are compared by value, and the order in which a map's members came
+    /// does not matter. It allocates nothing, and takes as many steps as the smaller of the two has parts.
     pub fn is_same(&self, other: &Tree) -> bool
         ensures { result ≡ same_data (data_of self.now) (data_of other.now) }
     {
@@ -201,7 +201,7 @@ impl Members {
         find(&self.entries, key)
     }
 
-    /// The value of a member, taken out of the map.
+    /// The value of a member, removed from the map. The others stay.
     pub fn take(self, key: &str) -> Result<Option<Tree>, AllocError>
         ensures { IfOk result (λ t. option_map data_of t ≡ get_member key.now self) }
     {
@@ -215,8 +215,8 @@ impl Members {
         }
     }
 
-    /// The members with that value at the key, or without the key where there is no value. They are copied only if
-    /// another map shares them, and what their values hold never.
+    /// The members with that value at the key, or without the key if there is no value. They are copied only if another
+    /// map shares them, and what their values hold is never copied.
     pub fn with(self, key: &str, value: Option<Tree>) -> Result<Members, AllocError>
         ensures { IfOk result (λ ms. ms ≡ set_member key.now (option_map data_of value) self) }
     {

@@ -10,8 +10,9 @@ use crate::tree::Tree;
 use json::{Token, Writer};
 use std::alloc::{AllocError, Global};
 
-/// Writes a tree in the place of a value: with the writer's other tokens it makes compact JSON, keys in byte order.
-/// Where memory runs out, a part of its tokens may be written.
+/// Writes a tree where a value is expected: with the writer's other tokens it makes compact JSON, keys in byte order.
+/// If memory runs out, a part of its tokens may be written. Its numbers read back as they are, and what was written
+/// before stays.
 #[cycle(write)]
 pub fn write_tree(tree: &Tree, out: &mut Writer) -> Result<(), AllocError>
     ensures tokens { OnOk result (out.new.tokens ≡ out.old.tokens ++ json_tokens (outline (data_of tree.now))) }
@@ -61,7 +62,8 @@ pub fn write_entries(entries: &[(Text, Tree)], out: &mut Writer) -> Result<(), A
     out.end_object()
 }
 
-/// The tree as compact JSON, its keys in byte order: the bytes that `write_tree` makes.
+/// The tree as compact JSON, its keys in byte order: the bytes that `write_tree` makes. It reads back as the tree at
+/// any length and depth, unless memory runs out.
 pub fn tree_text(alloc: Global, tree: &Tree) -> Result<Vec<u8>, AllocError>
     ensures { IfOk result (λ text. text.items ≡ compact_text (data_of tree.now)) }
 {

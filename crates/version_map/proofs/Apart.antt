@@ -9,7 +9,7 @@ use Rattle.version_map.specs.Named.{AreApart, Names, at_name, at_text}
 use Rattle.version_map.proofs.Added.{Kept, or_none}
 use Rattle.version_map.proofs.Named.{updates_text}
 
--- what stands behind others
+-- what follows others
 at_append : (es fs : Names) (word : List ℕ) → at_name (es ++ fs) word ≡ option_or (at_name es word) (at_name fs word)
 at_append [] fs word = refl
 at_append (e ∷ es) fs word = by (is_eq (slice_cmp nat_cmp word e.0)) (at_append es fs word)
@@ -26,7 +26,7 @@ again : (a b c : Option ℕ) → option_or a (option_or b c) ≡ option_or (opti
 again None b c = refl
 again (Some p) b c = refl
 
--- both, and beside them what was there
+-- both, and what was there before
 pub beside : (short long : Kept) (names : Names) → short.entries ++ long.entries ≡ names → (word : List ℕ) (old : Option ℕ)
     → option_or (at_text short word) (option_or (at_text long word) old) ≡ option_or (at_name names word) old
 beside short long names are word old =

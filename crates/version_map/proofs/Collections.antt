@@ -1,4 +1,4 @@
--- The names of a kind in a namespace, which stand in the order of their keys.
+-- The names of a kind in a namespace, which are in the order of their keys.
 use Rattle.std.proofs.Common.{◌≡◌, ℕ, ◌==◌, ◌<◌, length, get_or, bytes_eq, Bool, true, false, cond, T, List, [], ◌∷◌, map, Option, Some, None, refl, sym, ap, ◌∙◌, subst}
 use Rattle.std.specs.List.{AllByRecursion}
 use Rattle.std.specs.List.Sorted.{IsStrictlySortedBy}
@@ -93,7 +93,7 @@ module _ (m : KeySlots) (kind : Kind) (namespace : List ℕ) where
   unfolding IsStrictlySortedBy
   none_collected are = collected {K = Text} (λ w. w) m kind namespace [] tt are
 
-  -- and of other slots beside them
+  -- and of other slots with them
   module _ (n : KeySlots) where
     pub first_alone : AreNames n kind namespace None → collection m kind namespace ≡ collection (both m n) kind namespace
     first_alone none = same_collection m (both m n) kind namespace (λ q kinds same. sym (get_both m n q ∙ ap (option_or (get m q)) (none q kinds same) ∙ or_none (get m q)))

@@ -156,7 +156,7 @@ module _ {X : Type 0} (ps : KeySlots) (cs : Chains X) (k : Key) (p : ℕ) (free 
           ∙ sym (ap (λ o. option_map_or (rows_there cs) o []) (ap (get ps) (same_key q k tie) ∙ none))
       by q false other = ap (λ o. option_map_or (rows_there cs) o []) (taken q ∙ ap (λ b. cond b (Some p) (get ps q)) other)
 
--- ---- a key that goes, and its chain with it
+-- ---- a key that is forgotten, and its chain with it
 
 module _ {X : Type 0} (ps : KeySlots) (cs : Chains X) (ss : List Superseding) (many p : ℕ) (k : Key) (d : Chain X)
     (consistent : IsConsistent ps cs ss many) (there : get ps k ≡ Some p) (removal : IsRemoval (rows_there cs p)) (empty : d.rows ≡ []) where

@@ -87,7 +87,7 @@ module _ {X : Type 0} where
       get-from_entries key_cmp_total (states_to n (entries m)) q ∙ find_states n q (entries m) (is_held (is_sorted key_cmp (entries m)) (entries_sorted m))
       ∙ ap (state_by n) (sym (get-entries m q)) ∙ state_by_or n (get m q)
 
-  -- so it stays when what is read no more is dropped
+  -- so it stays when what is no longer read is dropped
   pub state_left : (m : RowsByKey X) (n r : ℕ) → n ≤ r → state_at (compacted m n) r ≡ state_at m r
   state_left m n r from = same_map key_cmp_total exact_keys _ _ (λ q. get_state (compacted m n) r q ∙ value_left m n r q from ∙ sym (get_state m r q))
 

@@ -55,7 +55,7 @@ module _ {K : Type 0} (bytes : K → List ℕ) where
       ap (λ b. cond b (Some e.1) (find key_cmp k (named bytes kind namespace es))) (tied k (key_parts kind namespace (bytes e.0)) ∙ ap (λ b. b && bytes_eq k.name (bytes e.0)) is)
       ∙ find_other kind namespace k es is
 
--- what stands at a text
+-- what is at a text
 abbrev pub by_name : {X : Type 0} → List (Text × X) → List ℕ → Option X
 by_name es name = by_bytes (λ w. w) es name
 
@@ -159,7 +159,7 @@ get_slotted ms k = get_kinds ms all_kinds k ∙ at k.kind k.namespace k.name
     at PersistentVolumeClaim s n = get_kind ms PersistentVolumeClaim (key_parts PersistentVolumeClaim s n)
     at ControllerRevision s n = get_kind ms ControllerRevision (key_parts ControllerRevision s n)
 
--- none where no kind has a namespace
+-- none if no kind has a namespace
 pub none_slotted : (a b c d : Namespaces) → a.entries ≡ [] → b.entries ≡ [] → c.entries ≡ [] → d.entries ≡ [] → slotted (a ∷ b ∷ c ∷ d ∷ []) ≡ empty
 none_slotted a b c d none_a none_b none_c none_d = same_map key_cmp_total exact_keys _ _ (λ k. get_slotted (a ∷ b ∷ c ∷ d ∷ []) k ∙ at k.kind k.namespace k.name ∙ sym (get-empty key_cmp k))
   where

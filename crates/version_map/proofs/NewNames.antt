@@ -45,7 +45,7 @@ module _ (m n : Namespaces) (space : List ℕ) (now old : Option Names) (was : o
           ∙ sym (ap (λ b. cond (b && bytes_eq name word) slot (slot_in m q word)) same)
       by false other = elsewhere q word other ∙ sym (ap (λ b. cond (b && bytes_eq name word) slot (slot_in m q word)) other)
 
--- ---- a namespace that goes with its last name
+-- ---- a namespace that is removed with its last name
 
 module _ (m n next : Namespaces) (space : List ℕ) (names : Names) (written : (q : List ℕ) → at_text n q ≡ cond (bytes_eq space q) (Some names) (at_text m q))
     (taken : (q : List ℕ) → at_text next q ≡ cond (bytes_eq space q) None (at_text n q)) where

@@ -15,7 +15,7 @@ use Rattle.version_map.specs.ShortName.{padded, text_in, word_at, IsShort}
 abbrev AreBytes : List ℕ → Type 0
 AreBytes xs = (i : ℕ) → slice_index xs i < 256
 
--- ---- a text, and behind it r zeros and a count c
+-- ---- a text, and after it r zeros and a count c
 
 made : (r c : ℕ) (t : List ℕ) (m : ℕ) → m ≡ length t + r → slice_set (t ++ drop (length t) (replicate (suc m) 0)) m c ≡ t ++ (replicate r 0 ++ c ∷ [])
 made zero c [] zero e = refl

@@ -1,4 +1,4 @@
--- The slots of keys and the chains that stand there: another chain at a slot, and a chain more.
+-- The slots of keys and the chains at them: another chain at a slot, and a chain more.
 use Rattle.std.proofs.Common.{◌≡◌, ◌≢◌, ℕ, zero, suc, ◌+◌, ◌<◌, ◌≤◌, ◌==◌, nat_le, Bool, true, false, cond, List, [], ◌∷◌, ◌++◌, length, get_or, Option, Some, None, option_map, get_or-set_same, get_or-set_other, refl, sym, ap, subst, ◌∙◌, arith, length-append}
 use Rattle.std.proofs.Math.ListN.{set, get_or-append, length-set}
 use Rattle.std.proofs.Math.Seq.{get_or-append_seam}

@@ -70,7 +70,7 @@ module _ {X : Type 0} where
   later_below n [] below = tt
   later_below n (r ∷ rs) below = numbers_below n rs below.1
 
-  -- ---- where no row goes
+  -- ---- when no row is dropped
 
   none_goes : (ps : KeySlots) (cs : Chains X) (ss : List Superseding) (many n : ℕ) → IsConsistent ps cs ss many → AllByRecursion (λ (s : Superseding). n < s.number) ss
       → compacted (by_key ps cs) n ≡ by_key ps cs
@@ -205,7 +205,7 @@ module _ {X : Type 0} where
               let one = length-append old ((n, s) ∷ []) in
               let was = consistent.counted in omega arith
 
-    -- ---- the first row goes
+    -- ---- the first row is dropped
 
     module _ (rest : List Superseding) (many n m : ℕ) (ss : List Superseding) (consistent : IsConsistent ps cs ss many) (front : ss ≡ (record { number = m; slot = p }) ∷ rest) (rows : d.rows ≡ drop 1 (rows_there cs p)) where
       second : SecondIs (rows_there cs p) m (waiting p rest)

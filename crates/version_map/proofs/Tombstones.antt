@@ -170,7 +170,7 @@ module _ {X : Type 0} where
       by None is = ap (option_and_then (λ (x : Row X). x.1)) is
       by (Some x) is = ap (option_and_then (λ (y : Row X). y.1)) is ∙ sym (ap (λ o. option_and_then (λ (y : Row X). y.1) (option_or o (cond (nat_le r.0 n) (Some r) None))) is) ∙ none
 
-  -- and a first row that goes
+  -- and a first row that is dropped
   pub listed_dropped : (since : ℕ) (i : Index) (cs : Chains X) (ss rest : List Superseding) (many : ℕ) (t : Superseding) → IsConsistent i.all cs ss many → ss ≡ t ∷ rest
       → (c d : Chain X) → c ≡ get_or cs t.slot c → d.rows ≡ drop 1 c.rows → AreListed since i cs → AreListed since i (set cs t.slot d)
   listed_dropped since i cs ss rest many t consistent front c d read rows listed =

@@ -1,5 +1,5 @@
--- What holds of the parts of a map of versions: the slots of its keys, the chains that stand there, and the queue of the
--- rows that supersede another one.
+-- What holds of the parts of a map of versions: the slots of its keys, the chains at them, and the queue of the rows
+-- that supersede another one.
 use Rattle.std.specs.Prelude.{◌≡◌, ℕ, ◌<◌, ◌≤◌, ◌==◌, Bool, true, false, List, [], ◌∷◌, length, map, drop, Option, Some, None, slice_index_or, option_map, if◌then◌else◌}
 use Rattle.std.specs.List.{AllByRecursion, find, flat_map}
 use Rattle.std.specs.Option.{option_map_or, option_to_list}
@@ -81,7 +81,7 @@ IsListed i p = (k : Key) × (finite.get i.all k ≡ Some p) × (finite.get i.lis
 abbrev pub AreListed : {X : Type 0} → ℕ → Index → Chains X → Type 0
 AreListed since i cs = (k : Key) → finite.get i.listed k ≡ None → (n : ℕ) → since ≤ n → state_to n (rows_in i.all cs k) ≡ None
 
--- each key has a slot of its own, where a chain stands, and a chain with rows has a key
+-- each key has a slot of its own, with a chain, and a chain with rows has a key
 pub record HaveSlots {X : Type 0} (ps : KeySlots) (cs : Chains X) : Type 0 where
   pub within : (k : Key) (p : ℕ) → finite.get ps k ≡ Some p → p < length cs
   pub apart : (k q : Key) (p : ℕ) → finite.get ps k ≡ Some p → finite.get ps q ≡ Some p → k ≡ q

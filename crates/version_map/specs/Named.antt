@@ -25,7 +25,7 @@ Namespaces = BTreeMap (List ℕ) Names
 abbrev pub KeySlots : Type 0
 KeySlots = FinMap key_cmp ℕ
 
--- what stands at a text
+-- what is at a text
 abbrev pub at_text : {X : Type 0} → BTreeMap (List ℕ) X → List ℕ → Option X
 at_text m word = get_by (slice_cmp nat_cmp word) m
 
@@ -33,7 +33,7 @@ at_text m word = get_by (slice_cmp nat_cmp word) m
 abbrev pub at_name : Names → List ℕ → Option ℕ
 at_name names name = lookup (is_at (slice_cmp nat_cmp name)) names
 
--- names of at most 15 bytes stand in the first, and others in the second
+-- names of at most 15 bytes are in the first, and others in the second
 abbrev pub AreApart : BTreeMap (List ℕ) ℕ → BTreeMap (List ℕ) ℕ → Type 0
 AreApart short long = ((word : List ℕ) → 15 < length word → at_text short word ≡ None) × ((word : List ℕ) → length word ≤ 15 → at_text long word ≡ None)
 
@@ -46,7 +46,7 @@ abbrev pub HasNow : Namespaces → Namespaces → List ℕ → List ℕ → Opti
 HasNow old new namespace name slot =
     (space word : List ℕ) → slot_in new space word ≡ (if bytes_eq namespace space && bytes_eq name word then slot else slot_in old space word)
 
--- the slot of a name, where there are names
+-- the slot of a name, if there are names
 abbrev pub slot_among : Option Names → List ℕ → Option ℕ
 slot_among names name = option_and_then (λ (x : Names). at_name x name) names
 
@@ -75,7 +75,7 @@ put_all (e ∷ es) n = finite.insert (put_all es n) e.0 e.1
 abbrev pub both : KeySlots → KeySlots → KeySlots
 both m n = put_all (entries m) n
 
--- what m has where the test holds, and what n has elsewhere
+-- what m has for keys that pass the test, and what n has for others
 abbrev pub joined : (Key → Bool) → KeySlots → KeySlots → KeySlots
 joined holds m n = put_all (entries (finite.retain_keys m holds)) (finite.retain_keys n (λ k. not (holds k)))
 

@@ -1,4 +1,4 @@
--- A short name as the 16 bytes that hold it: zeros behind it, and last how many bytes it has.
+-- A short name as the 16 bytes that hold it: zeros after it, and last how many bytes it has.
 use Rattle.std.specs.Prelude.{◌≡◌, ◌≤◌, ◌<◌, ◌-◌, ℕ, List, [], ◌∷◌, ◌++◌, length, take, drop, replicate, slice_index}
 use Rattle.std.specs.Slice.Scan.{big_endian}
 
@@ -11,6 +11,6 @@ text_in xs = take (slice_index xs 15) xs
 abbrev pub IsShort : List ℕ → Type 0
 IsShort xs = (padded (text_in xs) ≡ xs) × (length xs ≡ 16) × (slice_index xs 15 ≤ 15) × ((i : ℕ) → slice_index xs i < 256)
 
--- the eight bytes from a place on as a number, the greatest first
+-- the eight bytes from an index on as a number, the greatest first
 abbrev pub word_at : ℕ → List ℕ → ℕ
 word_at from xs = big_endian 0 (take 8 (drop from xs))

@@ -62,7 +62,7 @@ count m = count_in (entries m)
 abbrev pub compacted : {X : Type 0} → RowsByKey X → ℕ → RowsByKey X
 compacted m n = map.from_entries (map (λ e. (e.0, kept n e.1)) (entries m))
 
--- as they begin
+-- as they are at first
 abbrev pub opening : {X : Type 0} → Versions X
 opening = record { rows = map.empty; floor = 0; room = None }
 
@@ -70,7 +70,7 @@ opening = record { rows = map.empty; floor = 0; room = None }
 abbrev pub with_room : {X : Type 0} → Versions X → Key → Versions X
 with_room v k = record { rows = v.rows; floor = v.floor; room = Some k }
 
--- with one more row, which takes the room
+-- with one more row, which uses up the room
 abbrev pub pushed : {X : Type 0} → Versions X → ℕ → Key → Option X → Versions X
 pushed v n k s = record { rows = map.insert v.rows k (rows_at v.rows k ++ (n, s) ∷ []); floor = v.floor; room = None }
 

@@ -9,7 +9,7 @@ use objects::{Key, Kind, Text};
 use std::alloc::{AllocError, Global};
 use std::marker::Model;
 
-/// The slot of a key among those that are listed, and among all; none where the key has none there.
+/// The slot of a key among those that are listed, and among all; none if the key has none there.
 #[derive(Clone, Copy)]
 pub(crate) struct Place {
     pub(crate) listed: Option<usize>,
@@ -24,7 +24,7 @@ pub(crate) struct Found {
 }
 
 impl Found {
-    /// Whether it is that key which was found. Names are compared first: they tell most keys apart.
+    /// Whether it is that key which was found. Names are compared first: most keys differ in them.
     pub(crate) fn is_of(&self, key: &Key) -> bool
         ensures { result ≡ true → self.now.key ≡ key.now }
     {
@@ -34,13 +34,13 @@ impl Found {
     }
 }
 
-/// The slot of each key. Those of keys without a value can stand apart, as tombstones, so that a list of what is there
-/// does not walk over them.
+/// The slot of each key. Those of keys without a value can be kept apart, as tombstones, so that a list of what is
+/// there does not walk over them.
 #[derive(Drop)]
 pub(crate) struct Index {
     listed: KeySlots,
     tombstones: KeySlots,
-    // The key that was looked up last. Whatever changes a slot forgets it.
+    // The key that was looked up last. Each change of a slot forgets it.
     found: Option<Found>,
 }
 
@@ -79,7 +79,7 @@ impl Index {
         ensures { self.new ≡ self.old }
     {
         let place = self.place(key);
-        // Without memory for the key it is searched for again.
+        // If there is no memory for the key, it is searched for again.
         self.found = match key.clone() {
             Ok(key) => Some(Found { key, place }),
             Err(_) => None,
@@ -135,7 +135,7 @@ impl Index {
             return Ok(None);
         };
         self.found = None;
-        // Listed before it leaves the others: where memory runs out, it still has its slot.
+        // Listed before it leaves the others: if memory runs out, it still has its slot.
         self.listed.insert(alloc, key, slot)?;
         self.tombstones.remove(key);
         Ok(Some(slot))
@@ -150,7 +150,7 @@ impl Index {
         self.listed.insert(alloc, key, slot)
     }
 
-    /// Gives a key a tombstone. Where memory runs out it stays listed.
+    /// Gives a key a tombstone. If memory runs out it stays listed.
     pub(crate) fn set_tombstone(&mut self, alloc: Global, key: &Key)
         ensures all { self.new.all ≡ self.old.all }
         ensures others { (k : Key) → k ≢ key.now → map.get self.new.listed k ≡ map.get self.old.listed k }
@@ -164,7 +164,7 @@ impl Index {
         }
     }
 
-    /// Takes the slot of a key away.
+    /// Removes the slot of a key.
     pub(crate) fn forget(&mut self, key: &Key)
         ensures all { self.new.all ≡ map.remove self.old.all key.now }
         ensures others { (k : Key) → k ≢ key.now → map.get self.new.listed k ≡ map.get self.old.listed k }

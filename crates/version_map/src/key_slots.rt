@@ -17,8 +17,8 @@ type Namespaces = BTreeMap<Text, Names>;
 /// How many kinds of objects there are.
 const KINDS: usize = 4;
 
-/// The slot of each key. The names of a kind in a namespace stand in a map of their own, so that a look-up compares
-/// names alone, a list walks over its own names, and no name stands with a copy of its namespace.
+/// The slot of each key. The names of a kind in a namespace have a map of their own, so that a look-up compares names
+/// alone, a list walks over its own names, and no name is stored with a copy of its namespace.
 #[derive(Drop)]
 pub(crate) struct KeySlots {
     kinds: [Namespaces; KINDS],
@@ -149,7 +149,8 @@ fn insert_name(
     Ok(())
 }
 
-/// Takes the slot of a name of a namespace away, and with the last name what the namespace takes. It takes no memory.
+/// Removes the slot of a name of a namespace, and with the last name all that the namespace takes. It allocates
+/// nothing.
 fn remove_name(namespaces: &mut Namespaces, namespace: &Text, name: &Text)
     ensures { HasNow namespaces.old namespaces.new namespace.now name.now None }
 {

@@ -1,4 +1,4 @@
-//! An ordered map from keys to their versions: what each key was, at each number that somebody may still read.
+//! An ordered map from keys to their versions: what each key was, at each number that may still be read.
 #![tactic(auto)]
 
 mod chain;

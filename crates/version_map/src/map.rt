@@ -17,15 +17,15 @@ use std::alloc::{AllocError, Global};
 use std::collections::VecDeque;
 use std::marker::Model;
 
-/// A version that follows another one of its key, which can go once nobody reads below the number.
+/// A version that follows another one of its key; that one can be dropped once nothing below the number is read.
 #[derive(Drop)]
 struct Superseding {
     number: u64,
     slot: usize,
 }
 
-/// A key that got a tombstone, and the number of its newest version then. The key goes once the floor has come up to it, if
-/// nothing was written since.
+/// A key that got a tombstone, and the number of its newest version then. The key is forgotten once the floor has
+/// reached that number, if nothing was written since.
 #[derive(Drop)]
 struct Removal {
     number: u64,
@@ -34,8 +34,8 @@ struct Removal {
 
 /// For each of its keys, what it was at each number from the floor on.
 ///
-/// A version is what a key is from its number on: a value, or none after a removal. Whoever reads at a number is answered
-/// by the version with the largest number up to that one. Numbers below the floor are read no more, so that versions which
+/// A version is what a key is from its number on: a value, or none after a removal. A read at a number finds the
+/// version with the largest number up to that one. Numbers below the floor are no longer read, so that versions which
 /// only they need can be dropped.
 #[derive(Drop)]
 pub struct VersionMap<V> {
@@ -94,15 +94,16 @@ impl<V: Drop> VersionMap<V> {
         }
     }
 
-    /// Looks the key up, so that what is done with it next need not search for it: until another key is looked up, a new
-    /// one is put in, or one gets or loses a tombstone.
+    /// Looks the key up, so that the next call for it need not search: until another key is looked up, a new one is put
+    /// in, or one gets or loses a tombstone.
     pub fn look_up(&mut self, key: &Key)
         ensures { self.new ≡ self.old }
     {
         self.index.look_up(key);
     }
 
-    /// The number of the key's newest version, and the value; a removal has none.
+    /// The number of the key's newest version, and the value; a removal has none. It is the version with the largest
+    /// number.
     pub fn newest(&self, key: &Key) -> Option<(u64, Option<&V>)>
         ensures { option_map (λ p. (p.0, option_copied p.1)) result ≡ newest self.now.rows key.now }
     {
@@ -119,8 +120,8 @@ impl<V: Drop> VersionMap<V> {
         self.chains[slot].at(number)
     }
 
-    /// The values of a kind in a namespace at a number, from the floor on, in byte order of their names. It walks over
-    /// tombstones only below the newest removal that `set_tombstone` was called for.
+    /// The values of a kind in a namespace at a number, from the floor on, each once, in byte order of their names. It
+    /// walks over tombstones only below the newest removal that `set_tombstone` was called for.
     pub fn list_at(&self, kind: Kind, namespace: &Text, number: u64) -> Result<Vec<&V>, Memory>
         requires { self.now.floor ≤ number }
         ensures { IfOk result (λ values. map (λ v. v.now) values.items ≡ collection (state_at self.now.rows number) kind namespace.now) }
@@ -133,8 +134,8 @@ impl<V: Drop> VersionMap<V> {
         Ok(values_at(self.alloc, &self.chains, slots, number)?)
     }
 
-    /// Gives a key that has no value a tombstone, until room is made for it again. All readings stay. The key stays listed
-    /// where it has a value, where memory runs out, and where room is made for a push.
+    /// Gives a key that has no value a tombstone, until room is made for it again. All readings stay. The key stays
+    /// listed if it has a value, if memory runs out, or if room is made for a push.
     pub fn set_tombstone(&mut self, key: &Key)
         ensures { self.new ≡ self.old }
     {
@@ -151,7 +152,7 @@ impl<V: Drop> VersionMap<V> {
         }
     }
 
-    /// From which number on the key has no value; nothing where it has one now.
+    /// From which number on the key has no value; nothing if it has one now.
     fn removed_at(&self, key: &Key) -> Option<u64>
         ensures { IfSome result (λ since. (n : ℕ) → since ≤ n → value self.now.rows n key.now ≡ None) }
     {
@@ -161,8 +162,8 @@ impl<V: Drop> VersionMap<V> {
         }
     }
 
-    /// Notes a key that was removed, so that it can be hidden or forgotten once the floor has come up to the removal. Where
-    /// memory runs out it is not, which changes no reading.
+    /// Notes a key that was removed, so that it can be hidden or forgotten once the floor has reached the removal. If
+    /// memory runs out it is not noted, which changes no reading.
     pub fn note_removal(&mut self, key: &Key)
         ensures { self.new ≡ self.old }
     {
@@ -176,15 +177,15 @@ impl<V: Drop> VersionMap<V> {
         ensures { self.new ≡ self.old }
     {
         self.removed.reserve(1)?;
-        // Each key in the queue leaves a slot when it is forgotten, and then no memory may be wanting.
+        // Each key in the queue leaves a slot when it is forgotten, and then no memory may be needed.
         self.free.reserve(self.removed.len().saturating_add(1))?;
         let key = key.clone()?;
         self.removed.push_back_reserved(Removal { number, key });
         Ok(())
     }
 
-    /// Makes room for one push of that key, instead of any room that was made before. All readings stay; where memory runs
-    /// out, so does the room that was made before.
+    /// Makes room for one push of that key, instead of any room that was made before. All readings stay. If memory runs
+    /// out, the room that was made before stays too.
     pub fn make_room(&mut self, key: &Key) -> Result<(), Memory>
         ensures made { OnOk result (self.new ≡ with_room self.old key.now) }
         ensures memory { OnErr result (self.new ≡ self.old) }
@@ -205,7 +206,8 @@ impl<V: Drop> VersionMap<V> {
         Ok(())
     }
 
-    /// Adds a version of the key that room was made for. It takes no memory.
+    /// Adds a version of the key that room was made for, at a number above all others, and uses the room up. All else
+    /// stays. It allocates nothing.
     pub fn push(&mut self, number: u64, state: Option<V>)
         requires room { IsSome self.old.room }
         requires above { IsAbove self.old.rows number }
@@ -226,10 +228,10 @@ impl<V: Drop> VersionMap<V> {
         self.count += 1;
     }
 
-    /// Raises the floor to a number, and drops what is read no more: of each key's versions up to it, all but the last.
-    /// A number below the floor changes nothing. What each key is now stays, and so do all readings from the floor on.
-    /// It takes no memory, and its time is that of the versions dropped and of those that have come up to the floor, each
-    /// of which is looked at once.
+    /// Raises the floor to a number, and drops what is no longer read: of each key's versions up to it, all but the
+    /// last. A number below the floor changes nothing. What each key is now stays, and so do all readings from the
+    /// floor on, and room that was made. It allocates nothing, and its time is that of the versions dropped and of
+    /// those that the floor has reached, each of which is looked at once.
     pub fn compact(&mut self, number: u64)
         ensures raised { self.new ≡ raised self.old number }
         ensures newest { (key : Key) → newest self.new.rows key ≡ newest self.old.rows key }
@@ -243,8 +245,8 @@ impl<V: Drop> VersionMap<V> {
         self.floor = number;
     }
 
-    /// Takes the first version of the queue, if its number is at most this one, and drops the version of its key before it.
-    /// Answers whether it did.
+    /// Takes the first version from the queue, if its number is at most this one, and drops the version of its key
+    /// before it. Returns whether it did.
     fn drop_next(&mut self, number: u64) -> bool
         ensures left { compacted self.new.rows number ≡ compacted self.old.rows number }
         ensures others { (self.new.floor ≡ self.old.floor) × (self.new.room ≡ self.old.room) }
@@ -266,9 +268,9 @@ impl<V: Drop> VersionMap<V> {
         true
     }
 
-    /// Forgets the keys with a tombstone that have nothing but a removal that is not above the floor. Where room is made
-    /// for a push nothing is forgotten. All readings stay. It takes no memory, and its time is that of the keys with a
-    /// tombstone that have come up to the floor, each of which is looked at once.
+    /// Forgets the keys with a tombstone that have nothing but a removal that is not above the floor. While room is
+    /// made for a push nothing is forgotten. All readings stay. It allocates nothing, and its time is that of the keys
+    /// with a tombstone that the floor has reached, each of which is looked at once.
     pub fn forget_removed(&mut self)
         ensures forgotten { AreForgotten self.old self.new }
         ensures readings { (m : ℕ) → state_at self.new.rows m ≡ state_at self.old.rows m }
@@ -280,7 +282,7 @@ impl<V: Drop> VersionMap<V> {
         }
     }
 
-    /// Forgets the next key that was noted, if its removal is not above the floor. Answers whether it was.
+    /// Forgets the next key that was noted, if its removal is not above the floor. Returns whether it was.
     fn forget_next(&mut self) -> bool
         ensures { AreForgotten self.old self.new }
     {
@@ -291,7 +293,7 @@ impl<V: Drop> VersionMap<V> {
         true
     }
 
-    /// Takes the first removal of the queue, if its number is at most the floor.
+    /// Takes the first removal from the queue, if its number is at most the floor.
     fn next_removal(&mut self) -> Option<Removal>
         ensures { self.new ≡ self.old }
     {
@@ -301,9 +303,10 @@ impl<V: Drop> VersionMap<V> {
         self.removed.pop_front()
     }
 
-    /// Gives a tombstone to the keys that were noted and have nothing but a removal that is not above the floor, so that no
-    /// list walks over them. The key that room is made for stays listed, and so does one that finds no memory for its
-    /// tombstone. Its time is that of the noted keys that have come up to the floor, each of which is looked at once.
+    /// Gives a tombstone to the keys that were noted and have nothing but a removal that is not above the floor, so
+    /// that no list walks over them. The key that room is made for stays listed, and so does one that finds no memory
+    /// for its tombstone. Its time is that of the noted keys that the floor has reached, each of which is looked at
+    /// once.
     pub fn hide_removed(&mut self)
         ensures { self.new ≡ self.old }
     {
@@ -371,7 +374,7 @@ impl<V: Drop> VersionMap<V> {
     }
 }
 
-/// What the chains at the slots say at a number; nothing where nothing was there.
+/// What the chains at the slots say at a number; nothing if nothing was there.
 fn values_at<V: Drop>(
     alloc: Global,
     chains: &[Chain<V>],
@@ -416,7 +419,7 @@ fn enqueue(superseding: &mut VecDeque<Superseding>, is_first: bool, next: Supers
     }
 }
 
-/// Makes room for one more version of the key, and answers its slot. A new key is put in with no versions.
+/// Makes room for one more version of the key, and returns its slot. A new key is put in with no versions.
 fn reserve_for<V: Drop>(
     alloc: Global,
     index: &mut Index,
@@ -461,7 +464,7 @@ fn slot_of<V: Drop>(
         Some(slot) => Ok(slot),
         None => match free.front().copied() {
             Some(slot) => {
-                // The slot is taken off once the index has it, so that want of memory loses none.
+                // The slot is taken off the free ones once the index has it, so that none is lost if memory runs out.
                 index.insert(alloc, key, slot)?;
                 free.pop_front();
                 Ok(slot)
@@ -471,7 +474,7 @@ fn slot_of<V: Drop>(
     }
 }
 
-/// Gives a new key a slot behind all others.
+/// Gives a new key a slot after all others.
 fn add_slot<V: Drop>(
     alloc: Global,
     index: &mut Index,

@@ -10,7 +10,7 @@ use std::alloc::{AllocError, Global};
 use std::collections::BTreeMap;
 use std::marker::Model;
 
-/// The slot of each name. Short names stand apart, in a map that compares numbers, with keys of half the size.
+/// The slot of each name. Short names are in a map of their own that compares numbers, with keys of half the size.
 #[derive(Drop)]
 pub(crate) struct Names {
     short: BTreeMap<ShortName, usize>,
@@ -69,7 +69,7 @@ impl Names {
         Ok(())
     }
 
-    /// Takes the slot of a name away.
+    /// Removes the slot of a name.
     pub(crate) fn remove(&mut self, name: &Text)
         ensures { (word : List ℕ) → at_name self.new word ≡ cond (bytes_eq name.now word) None (at_name self.old word) }
     {

@@ -15,7 +15,7 @@ const HELD: usize = 2 * WORD;
 /// The most bytes of a short name. The last of those that hold it counts them.
 const MOST: usize = HELD - 1;
 
-/// A name of at most 15 bytes, which a clause sees as its bytes. Zeros stand behind it, and its length is the last byte. So
+/// A name of at most 15 bytes, which a clause sees as its bytes. Zeros follow it, and its length is the last byte. So
 /// two of them, read as numbers, are in the order of the names, and a search compares them in a few steps.
 #[derive(Drop)]
 pub(crate) struct ShortName {
@@ -56,8 +56,8 @@ impl ShortName {
     }
 }
 
-/// The order of two by their bytes. A search goes on while the left one is greater, so this is told first, mostly from the
-/// first words alone.
+/// The order of two by their bytes. A search goes on while the left one is greater, so this is decided first, mostly
+/// from the first words alone.
 #[inline(always)]
 fn order(left: &[u8; HELD], right: &[u8; HELD]) -> Ordering
     ensures { result ≡ ordering_then (nat_cmp (word_at 0 left.now) (word_at 0 right.now)) (nat_cmp (word_at 8 left.now) (word_at 8 right.now)) }
@@ -72,7 +72,7 @@ fn order(left: &[u8; HELD], right: &[u8; HELD]) -> Ordering
     word(left, WORD).cmp(&word(right, WORD))
 }
 
-/// The bytes of a word from a place on, as a number.
+/// The bytes of a word from an index on, as a number.
 #[inline(always)]
 fn word(bytes: &[u8; HELD], from: usize) -> u64
     requires { from + WORD ≤ HELD }

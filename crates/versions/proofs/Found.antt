@@ -1,4 +1,5 @@
--- What is found by its number in a list of numbered values: after a filter, a change of each value, or with a list behind it.
+-- What is found by its number in a list of numbered values: after a filter, a change of each value, or with a list
+-- after it.
 use Rattle.std.proofs.Common.{◌≡◌, ℕ, Bool, true, false, cond, ◌&&◌, T, List, [], ◌∷◌, ◌++◌, map, filter, Option, Some, None, option_map, refl, sym, ap, ◌∙◌, ◌<◌, arith}
 use Rattle.std.specs.List.{AllByRecursion}
 use Rattle.std.specs.Cmp.{nat_cmp_total, tied_itself}
@@ -101,7 +102,7 @@ pub is_sorted-map : {X Y : Type 0} (f : X → Y) (es : List (ℕ × X)) → is_s
 is_sorted-map f [] = refl
 is_sorted-map f (e ∷ es) = rw (below-map f e.0 es, is_sorted-map f es) refl
 
--- ---- a list behind another
+-- ---- a list after another
 
 pub find-append : {X : Type 0} (n : ℕ) (es fs : List (ℕ × X)) → find nat_cmp n (es ++ fs) ≡ option_or (find nat_cmp n es) (find nat_cmp n fs)
 find-append n [] fs = refl
@@ -137,7 +138,7 @@ found_past n e es less = by (eq_by_cmp nat_cmp n e.0) refl
     by true tie = let same = equal_numbers n e.0 tie in absurd (omega arith)
     by false tie = refl
 
--- each is found where it stands
+-- each is found where it is
 pub found_here : {X : Type 0} (fs : List (ℕ × X)) (e : ℕ × X) (es : List (ℕ × X)) → is_sorted nat_cmp (fs ++ e ∷ es) ≡ true → find nat_cmp e.0 (fs ++ e ∷ es) ≡ Some e.1
 found_here [] e es sorted = ap (λ b. cond b (Some e.1) (find nat_cmp e.0 es)) (ap is_eq (tied_itself nat_cmp_total e.0))
 found_here (f ∷ fs) e es sorted =

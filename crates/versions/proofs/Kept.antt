@@ -49,7 +49,7 @@ later_rows n k (e ∷ es) sorted = ap (begins_to n) (rows_cons k e es) ∙ by (l
     by rest false le true = rw le (sym (none_later n k e es le (less_all e es sorted)))
     by rest false le false = rw le rest
 
--- none of them goes where the first is past n
+-- none of them is dropped if the first is past n
 none_kept : (n : ℕ) (k : Key) (es : List Record) → is_sorted nat_cmp es ≡ true → later n k es ≡ false → kept n (rows_of k es) ≡ rows_of k es
 none_kept n k [] sorted none = refl
 none_kept n k (e ∷ es) sorted none = ap (kept n) (rows_cons k e es) ∙ by (λ more. none_kept n k es rest more) (eq_by_cmp key_cmp k e.1.key) (nat_le e.0 n && eq_by_cmp key_cmp k e.1.key) none ∙ sym (rows_cons k e es)

@@ -11,7 +11,7 @@ use Rattle.objects.specs.KeyOrder.{key_cmp_total}
 use Rattle.version_map.specs.Keyed.{put_at}
 use Rattle.versions.specs.Records.{Record, Records, last_of, state_at, up_to, value}
 
--- what a record says, and where there is none what was there before
+-- what a record says, and if there is none what was there before
 abbrev state_or : Option Record → Option Object → Option Object
 state_or None before = before
 state_or (Some r) before = r.1.state

@@ -1,4 +1,4 @@
--- The records that are left when what nobody may read any more is dropped.
+-- The records that are left when what may no longer be read is dropped.
 use Rattle.std.specs.Prelude.{ℕ, nat_lt, nat_le, Bool, false, not, ◌&&◌}
 use Rattle.std.specs.List.{list_any}
 use Rattle.std.specs.Option.{option_map_or}

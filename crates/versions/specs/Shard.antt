@@ -18,7 +18,7 @@ shard_coded =
     code_by (Records × (ℕ × Option Key)) (coded× (map.code coded_ℕ version_coded) (coded× coded_ℕ (coded_option key_coded)))
     (λ s. (s.records, (s.floor, s.room))) (λ p. record { records = p.0; floor = p.1.0; room = p.1.1 }) (λ _. refl)
 
--- as a shard begins
+-- as a shard is at first
 abbrev pub opening : Shard
 opening = record { records = map.empty; floor = 0; room = None }
 
@@ -26,7 +26,7 @@ opening = record { records = map.empty; floor = 0; room = None }
 abbrev pub with_room : Shard → Key → Shard
 with_room s k = record { records = s.records; floor = s.floor; room = Some k }
 
--- with one more record, which takes the room
+-- with one more record, which uses up the room
 abbrev pub pushed : Shard → ℕ → Version → Shard
 pushed s n v = record { records = map.insert s.records n v; floor = s.floor; room = None }
 

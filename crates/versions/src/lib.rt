@@ -1,4 +1,4 @@
-//! One shard of versions: what its keys were, at each number that somebody may still read.
+//! One shard of versions: what its keys were, at each number that may still be read.
 #![tactic(auto)]
 
 mod gathered;

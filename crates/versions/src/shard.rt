@@ -16,9 +16,9 @@ use version_map::VersionMap;
 
 /// One shard of a multiversion store: for each of its keys, what it was at each number from the floor on.
 ///
-/// A record is what a key is from its number on: an object, or none after a removal. Whoever reads at a number is
-/// answered by the record with the largest number up to that one. Numbers below the floor are read no more, so that
-/// records which only they need can be dropped.
+/// A record is what a key is from its number on: an object, or none after a removal. A read at a number finds the
+/// record with the largest number up to that one. Numbers below the floor are no longer read, so that records which
+/// only they need can be dropped.
 ///
 /// A key that was created at 3, updated at 5, removed at 8 and created again at 9:
 ///
@@ -27,7 +27,7 @@ use version_map::VersionMap;
 /// | answer | none | the first object | the updated one | none | the new object |
 ///
 /// A compaction to 6 drops the record 3, which was superseded at 5; reads at 6 and 7 still need 5. One to 8 drops 5 too,
-/// and one to 9 the removal. The newest record of a key stays, also where it is a removal: it says when the key was last
+/// and one to 9 the removal. The newest record of a key stays, also if it is a removal: it says when the key was last
 /// written.
 #[derive(Drop)]
 pub struct Shard {
@@ -59,7 +59,8 @@ impl Shard {
         }
     }
 
-    /// The number of the key's newest record, and the object; a removal has none.
+    /// The number of the key's newest record, and the object; a removal has none. It is the record with the largest
+    /// number.
     pub fn newest(&self, key: &Key) -> Option<(u64, Option<&Object>)>
         ensures { option_map (λ p. (p.0, option_copied p.1)) result ≡ newest self.now.records key.now }
     {
@@ -74,7 +75,7 @@ impl Shard {
         self.versions.at(key, number)
     }
 
-    /// The objects of a kind in a namespace at a number, from the floor on, in byte order of their names.
+    /// The objects of a kind in a namespace at a number, from the floor on, each once, in byte order of their names.
     pub fn list_at(&self, kind: Kind, namespace: &Text, number: u64) -> Result<Vec<Object>, Memory>
         requires { self.now.floor ≤ number }
         ensures { IfOk result (λ objects. objects.items ≡ collection (state_at self.now.records number) kind namespace.now) }
@@ -87,7 +88,7 @@ impl Shard {
         Ok(found)
     }
 
-    /// What a write request comes to, given the key's newest record (`requests::decide`).
+    /// What a write request does, given the key's newest record (`requests::decide`).
     pub fn verdict(&self, request: &Request) -> Result<Verdict, Memory>
         requires { is_write request.now ≡ true }
         ensures { IfOk result (λ decided. IfSome (key_named request.now) (λ key. decided ≡ verdict request.now (current self.now.records key))) }
@@ -108,8 +109,8 @@ impl Shard {
         }
     }
 
-    /// Makes room for one push of that key, in place of any room that was made before. All readings stay; where memory runs
-    /// out, so does the room that was made before.
+    /// Makes room for one push of that key, instead of any room that was made before. All readings stay. If memory runs
+    /// out, the room that was made before stays too.
     pub fn make_room(&mut self, key: &Key) -> Result<(), Memory>
         ensures made { OnOk result (self.new ≡ with_room self.old key.now) }
         ensures memory { OnErr result (self.new ≡ self.old) }
@@ -117,7 +118,8 @@ impl Shard {
         self.versions.make_room(key)
     }
 
-    /// Adds a record, for whose key room was made. It is refused no memory.
+    /// Adds a record of the key that room was made for, at a number above all others, and uses the room up. All else
+    /// stays. It never fails for lack of memory.
     pub fn push(&mut self, number: u64, version: Version)
         requires room { self.old.room ≡ Some version.key }
         requires above { IsAbove self.old.records number }
@@ -126,15 +128,16 @@ impl Shard {
         let is_removal = version.state.is_none();
         self.versions.push(number, version.state);
         if is_removal {
-            // Where this finds no memory, lists walk over the key after compactions too.
+            // If this finds no memory, lists walk over the key after compactions too.
             self.versions.note_removal(&version.key);
         }
     }
 
-    /// Raises the floor to a number, and drops what is read no more: of each key's records up to it, all but the last.
-    /// A number below the floor changes nothing. What each key is now stays, and so do all readings from the floor on.
-    /// It is refused no memory, and its time is that of the records dropped and of those that have come up to the floor,
-    /// each of which is looked at once. Lists walk no more over keys that only a removal is left of.
+    /// Raises the floor to a number, and drops what is no longer read: of each key's records up to it, all but the
+    /// last. A number below the floor changes nothing. What each key is now stays, and so do all readings from the
+    /// floor on, and room that was made. It never fails for lack of memory, and its time is that of the records dropped
+    /// and of those that the floor has reached, each of which is looked at once. Lists no longer walk over keys of
+    /// which only a removal is left.
     pub fn compact(&mut self, number: u64)
         ensures raised { self.new ≡ raised self.old number }
         ensures newest { (key : Key) → newest self.new.records key ≡ newest self.old.records key }

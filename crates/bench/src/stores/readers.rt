@@ -10,13 +10,13 @@ use std::sync::Wait;
 #[derive(Clone, Copy)]
 pub(crate) struct Reading {
     pub(crate) reads: u64,
-    /// One read in so many is a list, the first one too; none where it is 0.
+    /// One read in so many is a list, the first one too; none if it is 0.
     pub(crate) lists: u64,
-    /// Where the numbers begin that the pods are picked by.
+    /// The seed for the numbers that pick the pods.
     pub(crate) seed: u64,
 }
 
-/// The next number that looks like chance, by the multiplier and the increment of Knuth's MMIX.
+/// The next pseudorandom number, by the multiplier and the increment of Knuth's MMIX.
 fn rolled(state: u64) -> u64 {
     state
         .wrapping_mul(6_364_136_223_846_793_005)
@@ -53,7 +53,7 @@ fn read<S: SharedStore, R: Wait>(
     Ok(count)
 }
 
-/// Reads pods by chance, and answers how many objects the reads found.
+/// Reads random pods, and returns how many objects the reads found.
 pub(crate) fn read_all<S: SharedStore, R: Wait>(
     rt: &R,
     alloc: Global,

@@ -22,8 +22,8 @@ pub(crate) struct Share {
 }
 
 impl Share {
-    /// The pod that the writer takes after so many others. No other writer has it, as the number of pods is a multiple of
-    /// the number of writers.
+    /// The pod that the writer writes after so many others. No other writer has it, as the number of pods is a multiple
+    /// of the number of writers.
     fn pod(self, taken: u64) -> u64 {
         taken.wrapping_mul(self.writers).wrapping_add(self.index) % PODS
     }
@@ -61,7 +61,7 @@ fn removal(alloc: Global, pod: u64) -> Result<Request, ReadError> {
     })
 }
 
-/// Asks a write. Answers its revision, if it was accepted.
+/// Sends a write. Returns its revision, if it was accepted.
 fn accepted<S: SharedStore, R: Wait>(
     rt: &R,
     store: &S,
@@ -74,8 +74,8 @@ fn accepted<S: SharedStore, R: Wait>(
     Ok(accepted.then_some(number))
 }
 
-/// Creates a pod, updates it, each time at the version that it has, and deletes it; the labels go up from that one. Answers
-/// how many writes were accepted: it ends with the first one that was not.
+/// Creates a pod, updates it, each time at the version that it has, and deletes it; the labels count up from that one.
+/// Returns how many writes were accepted: it ends with the first one that was not.
 fn write<S: SharedStore, R: Wait>(
     rt: &R,
     alloc: Global,
@@ -103,7 +103,8 @@ fn write<S: SharedStore, R: Wait>(
     }
 }
 
-/// Writes one pod after the other, until there were at least so many writes or one was not accepted. Answers how many were.
+/// Writes one pod after the other, until there were at least so many writes or one was not accepted. Returns how many
+/// were.
 pub(crate) fn write_all<S: SharedStore, R: Wait>(
     rt: &R,
     alloc: Global,
@@ -140,7 +141,7 @@ fn make(
     Ok(())
 }
 
-/// The requests that `write_all` makes, but that an update names no version.
+/// The requests that `write_all` makes, except that an update names no version.
 pub(crate) fn make_all(alloc: Global, share: Share) -> Result<Vec<Request>, ReadError> {
     let mut drafts = Drafts::new(alloc);
     let mut requests = Vec::new(alloc);
@@ -150,7 +151,7 @@ pub(crate) fn make_all(alloc: Global, share: Share) -> Result<Vec<Request>, Read
     Ok(requests)
 }
 
-/// Writes requests that were made before, until one was not accepted. Answers how many were.
+/// Sends requests that were made before, until one was not accepted. Returns how many were.
 pub(crate) fn write_made<S: SharedStore, R: Wait>(
     rt: &R,
     store: &S,

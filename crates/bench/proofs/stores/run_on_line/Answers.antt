@@ -4,7 +4,7 @@ use Rattle.std.proofs.Crossing.{crosses}
 use Rattle.store.proofs.Sent.{caller-send, store-sync, ticket-send}
 use Rattle.bench.proofs.stores.run_on_line.Goals as goal
 
--- threads may share the store, and its callers and tickets go with them
+-- threads may share the store, and its callers and tickets may move to them
 pub run-requires-send-S-Caller : goal.run-requires-send-S-Caller
 run-requires-send-S-Caller g c κs within =
     let held : IsSend (param 0 g.row.H) = c.type_bounds.send-H in

@@ -2,6 +2,6 @@ use Rattle.std.proofs.Common.{◌≡◌, ◌++◌, drop}
 use Rattle.kubelet.specs.Kubelet.{kubelet_asks_all}
 use Rattle.kubelet.proofs.asking.kubelet_requests.Given as goal
 
--- what is asked and what is left to ask make the whole
+-- the requests so far and those still to come make the whole
 abbrev pub invariant-loop-pod : goal.invariant-loop-pod
 invariant-loop-pod l = l.asked.items ++ kubelet_asks_all (drop l.pod-index l.pods) ≡ kubelet_asks_all l.pods

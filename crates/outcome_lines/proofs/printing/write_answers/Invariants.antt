@@ -4,7 +4,7 @@ use Rattle.serde_json.specs.Written.{items_outline}
 use Rattle.outcome_lines.specs.Printing.{answers}
 use Rattle.outcome_lines.proofs.printing.write_answers.Given as goal
 
--- what is written and what is left to write make the whole
+-- what is written and what is left to write are together the whole
 abbrev pub invariant-answers : goal.invariant-answers
 invariant-answers l = record {
   tokens : l.out.tokens ++ items_tokens (items_outline (answers l.asks_left l.replies_left))

@@ -5,7 +5,7 @@ use Rattle.replay_lines.specs.Printing.{numbers}
 use Rattle.outcome_lines.specs.Printing.{line_indices}
 use Rattle.outcome_lines.proofs.printing.write_order.Given as goal
 
--- what is written and what is left to write make the whole
+-- what is written and what is left to write are together the whole
 abbrev pub invariant-loop-index : goal.invariant-loop-index
 invariant-loop-index l = record {
   tokens : l.out.tokens ++ items_tokens (items_outline (numbers (line_indices (length l.litmus.beginning.items) (drop l.index-index l.order))))

@@ -3,7 +3,7 @@ use Rattle.plan_lines.specs.Formats.{actions_text}
 use Rattle.plan_lines.specs.Output.{PutsBut}
 use Rattle.plan_lines.proofs.output.write_actions.Given as goal
 
--- all was written but the lines that wait and those of the actions that are left
+-- all was written except the lines that wait and those of the actions that are left
 abbrev pub invariant-loop-action : goal.invariant-loop-action
 invariant-loop-action g l = record {
   put :

@@ -3,7 +3,7 @@ use Rattle.plan_lines.specs.Output.{PutsBut}
 use Rattle.race_lines.specs.History.{history_text}
 use Rattle.race_lines.proofs.output.write_history.Given as goal
 
--- all was written but the lines that wait, those of the items that are left, and the order
+-- all was written except the lines that wait, those of the items that are left, and the order
 abbrev pub invariant-loop-item : goal.invariant-loop-item
 invariant-loop-item g l = record {
   put :

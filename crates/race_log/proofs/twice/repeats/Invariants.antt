@@ -4,7 +4,7 @@ use Rattle.race_log.specs.LivePods.{Knows}
 use Rattle.race_log.specs.Twice.{replies_in_order}
 use Rattle.race_log.proofs.twice.repeats.Given as goal
 
--- the replies so far, and those that are left
+-- the replies so far, and the rest
 abbrev pub invariant-loop-stamp : goal.invariant-loop-stamp
 invariant-loop-stamp l = record {
   earlier : List Reply;

@@ -18,7 +18,7 @@ loop-number-preserved g c =
       many = ap length items ∙ length-append c.loop-number.jobs.items (job ∷ []) ∙ ap (λ k. k + 1) was.many;
     }
 
--- behind the controllers comes the kubelet
+-- the kubelet comes after the controllers
 pub returns-clause-jobs : goal.returns-clause-jobs
 returns-clause-jobs g c =
     let spec = c.args.course.now.spec in

@@ -3,6 +3,6 @@ use Rattle.std.specs.Vec.Iter.{into_iter_items}
 use Rattle.racing.specs.Parts.{IsTurning}
 use Rattle.racing.proofs.kubelet_turns.make_turn.Given as goal
 
--- what is left of its turn
+-- the rest of its turn
 abbrev pub invariant-loop-request : goal.invariant-loop-request
 invariant-loop-request g l = IsTurning g.S.SharedStore.gave (l.fn.turns + 1) (into_iter_items l.request-iterator) l.asked.items

@@ -8,7 +8,7 @@ use Rattle.racing.specs.Answered.{IsAnswered}
 use Rattle.racing.specs.Parts.{IsRaceOf}
 use Rattle.racing.proofs.running.race_over_line.Goals as goal
 
--- threads may share the store, and its callers and tickets go with them
+-- threads may share the store, and its callers and tickets may move to them
 pub race_over-requires-send-S-Caller : goal.race_over-requires-send-S-Caller
 race_over-requires-send-S-Caller g c κs within =
     let held : IsSend (param 0 g.row.H) = c.type_bounds.send-H in

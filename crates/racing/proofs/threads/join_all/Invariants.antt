@@ -5,7 +5,7 @@ use Rattle.racing.specs.Children.{Promises, promised_number}
 use Rattle.racing.specs.Parts.{IsPartOf, caller_of}
 use Rattle.racing.proofs.threads.join_all.Given as goal
 
--- the threads that are left, and the parts that are there
+-- the threads that are left, and the parts so far
 abbrev pub invariant-loop-child : goal.invariant-loop-child
 invariant-loop-child g l = record {
   spec : All (Promises l.fn.spec) (into_iter_items l.child-iterator);

@@ -5,7 +5,7 @@ use Rattle.racing.specs.Children.{Promises, promised_number}
 use Rattle.racing.specs.Jobs.{IsJob, number_of}
 use Rattle.racing.proofs.threads.spawn_all.Given as goal
 
--- the jobs that are left, and the threads that are made
+-- the jobs that are left, and the threads so far
 abbrev pub invariant-loop-job : goal.invariant-loop-job
 invariant-loop-job g l = record {
   jobs : All (IsJob l.fn.course.spec) (into_iter_items l.job-iterator);

@@ -4,7 +4,7 @@ use Rattle.refused_plans.specs.RefusedPlans.{refused_plans, told_from}
 use Rattle.refused_plans.specs.Standing.{AreMade, phases_in}
 use Rattle.refused_plans.proofs.telling.refused_plans.Given as goal
 
--- what was told, and what the items that are left tell, are all that is to be told
+-- what was found, and the plans of the items that are left, are together all refused plans
 abbrev pub invariant-loop-item : goal.invariant-loop-item
 invariant-loop-item l = record {
   told : l.found.items ++ told_from (owner_in l.owners) l.sets (phases_in l.standing) (drop l.item-index l.items) ≡ refused_plans (owner_in l.owners) l.sets l.items;

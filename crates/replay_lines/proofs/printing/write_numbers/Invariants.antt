@@ -4,7 +4,7 @@ use Rattle.serde_json.specs.Written.{items_outline}
 use Rattle.replay_lines.specs.Printing.{numbers}
 use Rattle.replay_lines.proofs.printing.write_numbers.Given as goal
 
--- what is written and what is left to write make the whole
+-- what is written and what is left to write are together the whole
 abbrev pub invariant-loop-place : goal.invariant-loop-place
 invariant-loop-place l = record {
   tokens : l.out.tokens ++ items_tokens (items_outline (numbers (drop l.place-index l.places))) ≡ l.fn.out.tokens ++ items_tokens (items_outline (numbers l.places));

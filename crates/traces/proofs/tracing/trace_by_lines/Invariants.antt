@@ -5,7 +5,7 @@ use Rattle.interleavings.specs.World.{Size, opening}
 use Rattle.traces.specs.Traced.{sections, texts_of, trace_by_lines_text}
 use Rattle.traces.proofs.tracing.trace_by_lines.Given as goal
 
--- what was put, and the text of what is left, are all that is to be put
+-- what was appended, and the text of the rest, are all of the text
 abbrev pub invariant-loop-end : goal.invariant-loop-end
 invariant-loop-end g l =
     let z : Size = record { capacity = l.capacity; shards = l.shards } in

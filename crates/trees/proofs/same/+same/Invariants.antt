@@ -16,7 +16,7 @@ decreases-same_entries l = 3 * members_depth (members_of l.left.now) + 2
 abbrev pub decreases-same_entry : goal.decreases-same_entry
 decreases-same_entry l = 3 * depth (data_of l.left.now.1) + 1
 
--- the parts so far are the same, so what is left tells
+-- the parts so far are the same, so what is left decides
 abbrev pub invariant-same_items-loop-i : goal.invariant-same_items-loop-i
 invariant-same_items-loop-i l = same_lists (drop l.i l.left) (drop l.i l.right) ≡ same_lists l.left l.right
 
