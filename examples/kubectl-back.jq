@@ -1,6 +1,11 @@
-# The actions of a plan over the lines of kubectl.jq, with the UIDs of the list again, and "$patch" in a revision's template:
+# The actions of a plan over the lines of kubectl.jq, with the UIDs of the list again. A revision that is written gets "$patch"
+# in its template and the labels of the template, by which `kubectl rollout` finds it:
 # jq -c --slurpfile list LIST.json -f kubectl-back.jq
-($list[0] | [.items[].metadata | (., .ownerReferences[]?).uid | strings] | unique) as $uids
-| ((., (.object.metadata | (., .ownerReferences[]?))).uid | strings | select(. != "")) |=
-    $uids[("1" + .[-12:] | tonumber) - 1000000000001]
-| if .do == "WriteRevision" then .object.data.spec.template["$patch"] = "replace" else . end
+include "kubectl-list" {search: "./"};
+
+($list[0] | uids) as $uids
+| ((., (.object | objects | .metadata, owners)).uid | strings | select(. != "")) |= $uids[store_number - 1]
+| if .do == "WriteRevision" then
+    .object |= (.data.spec.template["$patch"] = "replace"
+        | .metadata.labels = (.data.spec.template.metadata.labels // {}) + (.metadata.labels // {}))
+else . end
