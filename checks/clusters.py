@@ -1,5 +1,5 @@
-"""Scripts of controllers, by docs/REFERENCE.md and docs/CLUSTERS.md. What a controller asks is read from the program; that it goes
-round as it is drawn, and that the store keeps its promises, is looked at in the printed order."""
+"""Scripts of controllers, by docs/REFERENCE.md and docs/CLUSTERS.md. What a controller sends is read from the program; that its
+rounds follow the state diagram, and that the store keeps its promises, is checked in the printed order."""
 import json
 
 from interleaved import Interleaved
@@ -9,7 +9,7 @@ from traced import Traced, check_trace
 
 
 def shown(request):
-    """A request as it is said: all that it is known by, and nothing that it passes over."""
+    """A request as it is printed: all that identifies it, and nothing else."""
     verb = request["do"]
     if "object" in request:
         held = request["object"]
@@ -22,7 +22,7 @@ def shown(request):
 
 
 class Cluster:
-    """The world of a script of controllers, whose requests are those that the program says at their places."""
+    """The world of a script of controllers, whose requests are those that the program prints at their indices."""
 
     def __init__(self, size, said, places):
         self.world = Interleaved(size["shards"], size["capacity"], places)
@@ -34,7 +34,7 @@ class Cluster:
         self.asked = {line["at"]: line for line in said if "controller" in line}
 
     def role(self, caller):
-        """What a caller is called before its number."""
+        """The words before a caller's number."""
         owner = self.owners.get(caller)
         return "" if owner is None else f"{self.names[owner]}, controller {owner}, "
 
@@ -75,7 +75,7 @@ class Cluster:
         return next(number for number in range(len(self.owners) + 1) if number not in self.owners)
 
     def comes_next(self, controller):
-        """The verb that a controller asks by here, as it is said, or None where it asks nothing."""
+        """The verb of what a controller sends by now, as it is printed, or None if it sends nothing."""
         asked = self.asked.get(self.world.count, {})
         is_its = asked.get("caller") == self.callers[controller] and self.callers[controller] not in self.world.phases
         return asked["request"]["do"] if is_its else None
@@ -103,7 +103,7 @@ class Cluster:
             self.world.call(caller, request)
 
     def ask(self, caller, request):
-        """The reply to it, or None where it has none, as where the caller is a controller's or waits for another one."""
+        """The reply to it, or None if it has none, for example because the caller is a controller's or waits for another reply."""
         if caller in self.world.phases or self.owners.get(caller) is not None:
             return None
         self.outside(caller, request)
@@ -127,7 +127,7 @@ class Cluster:
                 self.ask(self.kubelet, request)
 
     def check_calls(self, said):
-        """Each call is said, with who calls."""
+        """Each call is printed, with its caller."""
         wanted = []
         for at, (caller, request) in sorted(self.world.calls.items()):
             owner = self.owners[caller]
@@ -142,7 +142,7 @@ READY = {"conditions": [{"status": "True", "type": "Ready"}], "phase": "Running"
 
 
 def turn_of(pod):
-    """What the kubelet of a script asks for a pod."""
+    """What the kubelet of a script sends for a pod."""
     meta = pod["metadata"]
     if "deletionTimestamp" in meta:
         yield {"do": "delete", "kind": POD, "name": meta["name"], "namespace": meta["namespace"], "uid": meta["uid"]}
@@ -152,15 +152,15 @@ def turn_of(pod):
 
 WRITTEN = ("Updated", "Unchanged")
 ACCEPTED = {"create": ("Created",), "update": WRITTEN, "status": WRITTEN, "delete": ("Removed", "Marked", "Unchanged")}
-# What a controller asks next: at 0 its set, at 1 to 8 a list of these kinds, but at 4 the writes of its plan come first, and at
-# 9 deletes of claims, or its set again.
+# What a controller sends next: at 0 a get of its set, at 1 to 8 a list of these kinds, but at 4 the writes of its plan come
+# first, and at 9 deletes of claims, or its set again.
 SET, POD, REVISION, CLAIM = "StatefulSet", "Pod", "ControllerRevision", "PersistentVolumeClaim"
 LISTS = ("", REVISION, POD, CLAIM, CLAIM, SET, POD, REVISION, CLAIM, "")
 PLAN, COLLECTION = 4, 9
 
 
 class Round:
-    """Where a controller stands in its round, and what it was listed there."""
+    """A controller's state in its round, and what it listed there."""
 
     def __init__(self):
         self.begin(0, False)
@@ -199,7 +199,7 @@ def is_healthy(pod):
 
 
 def check_create(key, round, lives):
-    """What a controller creates has a free name, and of a pod each lower one is healthy in its last list."""
+    """What a controller creates has a free name, and for a pod each lower one is healthy in its last list."""
     if key in lives:
         raise Fault(f"{key} lives twice")
     if round and key[0] == POD:
@@ -210,7 +210,7 @@ def check_create(key, round, lives):
 
 
 def check_taken(held, round, objects):
-    """What a controller marks or removes was listed to it; and no owner of a claim that it removes lives."""
+    """What a controller marks or removes was in its lists; and no owner of a claim that it removes lives."""
     if held["metadata"]["uid"] not in round.heard:
         raise Fault(f"a controller takes {held['metadata']['name']}, which was not listed to it")
     owners = {owner["uid"] for owner in held["metadata"].get("ownerReferences", [])}
@@ -220,7 +220,7 @@ def check_taken(held, round, objects):
 
 
 def check_promises(cluster, order, capacity):
-    """Each round goes as it is drawn, and the store keeps its promises in that order."""
+    """Each round follows the state diagram, and the store keeps its promises in that order."""
     rounds, lives = {caller: Round() for caller, owner in cluster.owners.items() if owner is not None}, {}
     for caller, request, reply, objects in taken_in(cluster.world, order, capacity):
         round, word = rounds.get(caller), word_of(reply)
@@ -240,7 +240,7 @@ def check_promises(cluster, order, capacity):
 
 
 def run_cluster(program, lines):
-    """Runs a script of controllers: what is said, and in short what a plain store takes in the printed order."""
+    """Runs a script of controllers: what is printed, and in short what a plain store handles in the printed order."""
     said = [json.loads(line) for line in said_by(program, ["cluster"], lines)]
     requests = [line["request"] for line in [*lines, *said] if "request" in line]
     keys = {key_of(request) for request in requests if request["do"] not in ("list", "compact")}

@@ -1,6 +1,6 @@
-"""The gallery of docs/PLANS.md beside its examples: what a row tells is planned or refused has to be, and nothing else.
+"""The gallery of docs/PLANS.md against its examples: what a row says is planned or refused has to be, and nothing else.
 
-Of pods the order of all actions counts, of claims that of each kind. Other words, as `the failed one`, tell nothing.
+For pods the order of all actions counts, for claims that of each kind. Other words, as `the failed one`, mean nothing.
 """
 import json
 import re
@@ -9,14 +9,14 @@ import string
 from transcripts import EXAMPLES, TOP, read
 
 KINDS = ["CreatePod|DeletePod|Wait", "CreateClaim", "UpdateClaim"]
-# Ordinals, as 2 or 5–2, or a name; at which revision a pod is made, or to whom a claim goes.
+# Ordinals, as 2 or 5–2, or a name; the revision of a new pod, or the new owner of a claim.
 ITEM = re.compile(r"(?:(\d+)(?:–(\d+))?|`([\w-]+)`)(?:,? (?:at|to(?: the| its| their)?) (a|b|set|pod|none)\b)?")
 PLACES = ["first", "second", "third", "fourth"]
 COUNTS = {"two": 2, "three": 3, "four": 4, "older": 1, "oldest": 1}
 
 
 def told_by(cell):
-    """The actions that a cell tells: their kind, an ordinal or a name, and the revision or owner, if it is told."""
+    """The actions in a cell: their kind, an ordinal or a name, and the revision or owner, if it is there."""
     parts = re.split(f"({'|'.join(KINDS)})", cell)
     for kind, text in zip(parts[1::2], parts[2::2]):
         for first, last, name, mark in ITEM.findall(text):
@@ -26,7 +26,7 @@ def told_by(cell):
 
 
 def mark_of(kind, name, written, revisions):
-    """At which revision a pod is made, or whether the set or its pod has a claim from now on."""
+    """The revision of a new pod, or whether the set or its pod owns a claim from now on."""
     if kind == "CreatePod":
         return dict(zip(revisions, string.ascii_lowercase)).get(written["metadata"]["labels"]["controller-revision-hash"], "")
     entries = [(one.get("kind"), one.get("name")) for one in written.get("metadata", {}).get("ownerReferences", [])]
@@ -35,13 +35,13 @@ def mark_of(kind, name, written, revisions):
 
 
 def deleted_by(cell, revisions):
-    """The revisions that a cell tells are deleted. In these examples an older one has a lower name."""
+    """The revisions that a cell says are deleted. In these examples an older one has a lower name."""
     count = next((count for word, count in COUNTS.items() if re.search(rf"\b{word}\b", cell)), 0)
     return re.findall(r"`([\w-]+)`", cell) or revisions[:count] or [revisions[place] for place, word in enumerate(PLACES) if word in cell]
 
 
 def is_told(cell, written, there):
-    """Whether a cell tells of a revision that is written: whether it is new, its name, and its number."""
+    """Whether a cell names a revision that is written: whether it is new, its name, and its number."""
     name, space, number = written["metadata"]["name"], written["metadata"]["namespace"], str(written["revision"])
     names, numbers = re.findall(r"`([\w-]+)`", cell), re.findall(r"(?<!count) (\d+)\b", cell) + ["1"] * cell.startswith("the first")
     is_new = (name, space) not in [(one["name"], one.get("namespace", "default")) for one in there]
@@ -49,7 +49,7 @@ def is_told(cell, written, there):
 
 
 def plan_faults(column, cell, example, is_alone):
-    """What an example plans otherwise than its row tells."""
+    """How the plan of an example differs from its row."""
     listed, actions = ([json.loads(line) for line in read(f"{EXAMPLES}/plan/{example}.{end}").splitlines()] for end in ("jsonl", "out"))
     there = [one["metadata"] for one in listed if one["kind"] == "ControllerRevision"]
     revisions = sorted({one["name"] for one in there})
@@ -74,7 +74,7 @@ def plan_faults(column, cell, example, is_alone):
 
 
 def gallery_faults():
-    """What the gallery tells otherwise than its examples. A cell may have a part for each of several."""
+    """How the gallery differs from its examples. A cell may have a part for each of several."""
     lines, column, above = read(f"{TOP}/docs/PLANS.md").decode().splitlines(), "", ""
     for number, line in list(enumerate(lines, 1))[lines.index("## Gallery"):]:
         cells = [cell.strip() for cell in line.strip("|").split("|")]

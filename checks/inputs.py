@@ -5,14 +5,14 @@ import json
 import random
 
 NAMES = 10_000  # that are created and removed, and as many lists
-QUOTES = 50_000  # in a text of a line, each before so many letters
+QUOTES = 50_000  # in a text of a line, each followed by so many letters
 LETTERS = 18
 SHORTER = 1_000  # pods of one set, each shorter than the one before
 TURNS = 300  # in which two pods change
 PARTED = 400  # versions of a pod, one with a part and one without
 APART = 100  # versions of a pod, whose members have other names in each
 SETS = 64  # of as many pods each
-LINES = 4_000  # that ask for memory; then four times as many
+LINES = 4_000  # that allocate memory; then four times as many
 WIDE = 60_000  # bytes of a text whose object is not read back
 WIDE_LINES = 100
 LABELS = 2_000  # of a claim template, and of a selector
@@ -23,10 +23,10 @@ PIECE = 2_000  # lists of a text of 10,000 bytes, in one piece of the input; the
 TRIES = 1_024  # names that a new revision may get, of two hexadecimal digits
 PODS = 64  # that callers of a replay write, get and list
 SHARDS = 64  # of its store
-OPERATOR = 4_000  # the caller who is no controller of a cluster
+OPERATOR = 4_000  # the caller that is no controller of a cluster
 CRASHES = 5  # of controllers, after each line of the operator
 OWNED = 1_500  # claims, and as many owners
-LOOKS = 5  # of a controller at them
+LOOKS = 5  # of a controller at these claims
 RAISE = '{"event":"raise"}\n'
 STEPS = {  # of a request, between its call and its reply
     "write": ["check", "reserve", "publish"], "get": ["read", "part"], "list": ["read", *["part"] * SHARDS], "compact": ["compact"],
@@ -52,7 +52,7 @@ def unlike(mark):
 
 
 def version(number, name, members):
-    """A line that creates a pod, where the number is 0, or else updates it."""
+    """A line that creates a pod, if the number is 0, or else updates it."""
     do, meta = "update" if number else "create", f'"kind":"Pod","metadata":{{"name":"{name}"}}'
     return f'{{"do":"{do}","object":{{{meta},"spec":{{{members}}}}}}}\n'
 
@@ -93,7 +93,7 @@ def sets_in_turn():
 
 
 def removed(lists_first):
-    """Names that are created and then removed, behind as many lists or before them."""
+    """Names that are created and then removed, after as many lists or before them."""
     names = [f"x{number}" for number in range(NAMES)]
     writes = [created(name) for name in names]
     writes += [f'{{"do":"delete","kind":"Pod","name":"{name}"}}\n' for name in names]
@@ -102,7 +102,7 @@ def removed(lists_first):
 
 
 def forgotten(lists_first, count=NAMES):
-    """The same of lists of the past, beside one object that stays; the removals are compacted away."""
+    """The same with lists of the past, and one object that stays; the removals are compacted away."""
     names = [f"x{number}" for number in range(count)]
     writes = [created(name) for name in names]
     writes += [f'{{"do":"delete","kind":"Pod","name":"{name}"}}\n' for name in names]
@@ -120,7 +120,7 @@ def whole(request, steps):
 
 
 def gone(lists_first, count=NAMES):
-    """A script of pods that are created, removed and compacted away, in front of as many lists or behind them."""
+    """A script of pods that are created, removed and compacted away, before as many lists or after them."""
     keys = [f'"kind":"Pod","name":"x{number}"' for number in range(count)]
     writes = [whole(created(f"x{number}"), STEPS["write"]) for number in range(count)]
     writes += [whole(f'{{"do":"delete",{key}}}', STEPS["write"]) for key in keys]
@@ -165,7 +165,7 @@ def changes(count):
 
 
 def script(count, request, events):
-    """A caller that calls so many requests, and takes the same steps at each."""
+    """A caller that calls so many requests, and makes the same steps for each."""
     steps = "".join(f'{{"caller":1,"event":"{event}"}}\n' for event in events)
     calls = (f'{{"caller":1,"event":"call","request":{request(number).strip()}}}\n{steps}' for number in range(count))
     return f'{{"capacity":{4 * LINES},"shards":1}}\n' + "".join(calls)
@@ -281,8 +281,8 @@ def large_pod(chance, name, namespace):
 
 
 def traffic(count, pod, has_lists=False):
-    """Request lines: of a hundred, 20 create a pod, 50 get one, 15 update it, 12 write its status and 3 delete it, by chance,
-    which is the same on each run. Where there are lists, two of the gets are one, of a namespace of some hundred pods."""
+    """Request lines: of a hundred, 20 create a pod, 50 get one, 15 update it, 12 write its status and 3 delete it, at random,
+    but the same on each run. If there are lists, two of the gets are one, of a namespace of some hundred pods."""
     chance, pods = random.Random(1), []
     for number in range(count):
         of_hundred = chance.randrange(100)
@@ -348,8 +348,8 @@ def event(word, caller):
 
 
 def asked(kind, number):
-    """What the request of that number asks for, of a kind of traffic. A mix has of eight requests three writes, four gets and
-    a list, and one compaction in 1,024."""
+    """The request of that number, for a kind of traffic. A mix has of eight requests three writes, four gets and a list, and
+    one compaction in 1,024."""
     if kind != "mix":
         return kind
     if number % 1_024 == 1_023:
@@ -369,7 +369,7 @@ def request_of(kind, number):
 
 
 def rounds_of(kind, callers):
-    """The events of callers who all call, make their steps one after another, and are then all replied to; again and again,
+    """The events of callers that all call, make their steps one after another, and then all get their replies; again and again,
     after one of them has created all pods."""
     for number in range(PODS):
         request = created(f"web-{number}").strip()
@@ -395,14 +395,14 @@ def replayed(kind, callers, count):
 
 
 def outside(request, caller):
-    """Somebody who is no controller, and whose write is accepted."""
+    """A caller that is no controller, and whose write is accepted."""
     yield f'{{"caller":{caller},"event":"outside","request":{request.strip()}}}\n'
     yield from (event(word, caller) for word in STEPS["write"])
     yield from (RAISE, event("reply", caller))
 
 
 def turns(controllers, count):
-    """All controllers ask whole requests in turn, so many times."""
+    """All controllers send whole requests in turn, so many times."""
     for _ in range(count):
         for each in range(controllers):
             yield from (f'{{"controller":{each},"event":"{word}"}}\n' for word in ("next", "run"))
@@ -410,7 +410,7 @@ def turns(controllers, count):
 
 def settled(replicas, image, verb, controllers, rounds):
     """An operator writes the set. The controllers race, round by round: all have read before one of them writes, and then a
-    `settle` ends their rounds. At first some crash over what they ask."""
+    `settle` ends their rounds. At first some crash within their requests."""
     template = {"spec": {"image": image}}
     web = {"kind": "StatefulSet", "metadata": {"name": "web"}, "spec": {"replicas": replicas, "template": template}}
     yield from outside(json.dumps({"do": verb, "object": web}, separators=(",", ":")), OPERATOR)
@@ -423,7 +423,7 @@ def settled(replicas, image, verb, controllers, rounds):
 
 
 def race_of(controllers, replicas):
-    """A set comes up, has each pod replaced, and goes down to none."""
+    """A set is scaled up, has each pod replaced, and is scaled down to none."""
     sets = ",".join(['{"name":"web"}'] * controllers)
     yield f'{{"capacity":1048576,"sets":[{sets}],"shards":4}}\n'
     yield from settled(replicas, "web:1", "create", controllers, replicas + 4)
@@ -440,7 +440,7 @@ def claimed(number, uids, namespace="default"):
 
 
 def orphaned(claims):
-    """So many claims with three owners each, of which one in ten has none that is there, and a controller who makes a round
+    """So many claims with three owners each, one in ten of which has no owner that exists, and a controller that makes a round
     and deletes those."""
     yield '{"capacity":1048576,"sets":[{"name":"web"}],"shards":4}\n'
     owned = [number for number in range(claims) if number % 10]
@@ -454,8 +454,8 @@ def orphaned(claims):
 
 
 def owned(claims_are_near):
-    """As many claims as owners, one each, and a controller that looks again and again which claims go, and finds none. Or the
-    claims are in another namespace."""
+    """As many claims as owners, one each, and a controller that checks again and again which claims to delete, and finds none.
+    Or the claims are in another namespace."""
     yield '{"capacity":1048576,"sets":[{"name":"web"}],"shards":1}\n'
     for number in range(OWNED):
         yield from outside(created(f"x{number}"), OPERATOR)

@@ -3,25 +3,25 @@ from store_of_maps import WRITES, answered, denied, drawn, key_of, listed, refus
 
 
 class Interleaved:
-    """Callers that race over shards. `places` says of each key which shard it belongs to."""
+    """Callers that race over shards. `places` gives the shard of each key."""
 
     def __init__(self, shards, capacity, places):
         self.shards, self.capacity, self.places = shards, capacity, places
         self.count, self.counter, self.frontier, self.floor = 0, 0, 0, 0
         self.filled, self.held, self.phases = {}, {}, {}
-        # The callers and requests by the places of their calls; those places of what is open; and by them the replies that
-        # were given, each with its place.
+        # The callers and requests by the indices of their calls; the indices of open calls; and by the indices of calls the
+        # replies, each with its index.
         self.calls, self.opened, self.replies = {}, {}, {}
 
     def objects_at(self, number):
-        """What was there at that number, all those up to it being filled."""
+        """What was there at that number, if all those up to it are filled."""
         found = {}
         for at in sorted(at for at in self.filled if at <= number):
             found[self.filled[at][0]] = self.filled[at][1]
         return {key: held for key, held in found.items() if held is not None}
 
     def newest(self, key):
-        """The greatest number of a key, 0 where it has none, and what is there."""
+        """The greatest number of a key, 0 if it has none, and what is there."""
         number = max((at for at, (name, _) in self.filled.items() if name == key), default=0)
         return number, self.filled[number][1] if number else None
 
@@ -35,7 +35,7 @@ class Interleaved:
         self.count += 1
 
     def step(self, event, caller=None):
-        """One event; it changes nothing where it is not enabled, and takes its place."""
+        """One event; if it is not enabled it changes nothing, and still has an index."""
         phase = self.phases.get(caller, ("idle",))
         if event == "raise":
             self.frontier += self.frontier + 1 in self.filled
@@ -124,14 +124,14 @@ class Interleaved:
         self.phases[caller] = ("gone", *left)
 
     def reply_of(self, caller):
-        """The reply to what the caller asked last, or None where it has none."""
+        """The reply to the caller's last request, or None if it has none."""
         if caller in self.phases:
             return None
         last = max(place for place, (by, _) in self.calls.items() if by == caller)
         return self.replies[last][1]
 
     def next_step(self, caller):
-        """The step that leads the caller on while nobody else moves, or None."""
+        """The step that helps the caller while no other caller moves, or None."""
         phase = self.phases[caller]
         if phase[0] == "called":
             step = self.first_step(phase[1])
@@ -143,6 +143,6 @@ class Interleaved:
         return {"holding": "reserve", "drawn": "publish"}.get(phase[0], "reply")
 
     def run(self, caller):
-        """The steps of a caller up to its reply, or as far as they lead."""
+        """The steps of a caller up to its reply, or as far as steps help."""
         while self.is_open(caller) and (step := self.next_step(caller)):
             self.step(step, None if step == "raise" else caller)

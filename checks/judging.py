@@ -1,4 +1,4 @@
-"""What random runs are judged by: the program's words, the replies of the model, and a plain store that takes an order."""
+"""What random runs are judged by: the program's output, the replies of the model, and a plain store that handles an order."""
 import json
 import subprocess
 
@@ -10,7 +10,7 @@ class Fault(Exception):
 
 
 def said_by(program, words, lines):
-    """The lines that the program says to these."""
+    """The lines that the program prints for these."""
     text = "".join(json.dumps(line, separators=(",", ":")) + "\n" for line in lines)
     done = subprocess.run([program, *words], input=text, capture_output=True, text=True, timeout=60)
     if done.returncode or done.stderr:
@@ -23,7 +23,7 @@ def get_of(key):
 
 
 def places_of(program, shards, keys):
-    """The shard of each key, as the picture of a get of each tells it. All that matters of it is that a key has one."""
+    """The shard of each key, as the picture of a get of each shows it. All that matters is that a key has one."""
     keys, lines = sorted(keys), [{"capacity": 1, "shards": shards}]
     for caller, key in enumerate(keys):
         lines.append({"caller": caller, "event": "call", "request": get_of(key)})
@@ -37,7 +37,7 @@ def word_of(reply):
 
 
 def check_replies(world, said):
-    """The printed replies are those of the model, at their places."""
+    """The printed replies are those of the model, at their indices."""
     found = [(line["at"], line["caller"], line["reply"]) for line in said if "reply" in line]
     wanted = sorted((at, world.calls[call][0], reply) for call, (at, reply) in world.replies.items())
     for one, other in zip(found, wanted):
@@ -48,7 +48,7 @@ def check_replies(world, said):
 
 
 def taken_in(world, order, capacity):
-    """What a plain store takes in a legal order: of each call its caller, its request, the reply, and what is there then."""
+    """What a plain store handles in a legal order: for each call its caller, its request, the reply, and what is there then."""
     if len(set(order)) < len(order) or not set(world.replies) <= set(order) <= set(world.calls):
         raise Fault("the order has a request twice, or one that was not called, or it lacks one that was answered")
     latest, store = 0, Store(capacity)

@@ -61,7 +61,7 @@ def creation(web, ordinal, revision):
 
 
 def pod_step(web, pods, update):
-    """What is done with one pod: its request, or none where a pod is waited for. None if all is as it should be."""
+    """What is done with one pod: its request, or none if the plan waits for a pod. None if all is as it should be."""
     count = web["spec"]["replicas"]
     for ordinal in range(count):
         pod = pods.get(ordinal)
@@ -84,7 +84,7 @@ def history_deletes(revisions, pods, live):
 
 
 def status_write(web, pods, current, update):
-    """The write of the set's status, if it is another one."""
+    """The write of the set's status, if it has changed."""
     staying = [pod for pod in pods if not is_marked(pod)]
     old = web.get("status", {})
     status = {

@@ -1,4 +1,4 @@
-"""What the callers of a race ask, by docs/RUNNING.md: each a generator of requests, which is sent the reply to each."""
+"""What the callers of a race send, by docs/RUNNING.md: each a generator of requests, which gets the reply to each."""
 from clusters import ACCEPTED, COLLECTION, LISTS, PLAN, POD, REVISION, SET, is_marked, is_ready
 from judging import get_of, word_of
 from plans import delete_of, planned
@@ -29,7 +29,7 @@ def controller(rounds):
 
 
 def a_round():
-    """From the read of the set to the next one (docs/CLUSTERS.md). A refused delete of a claim is passed over."""
+    """From the read of the set to the next one (docs/CLUSTERS.md). A refused delete of a claim is skipped."""
     read = yield get_of(WEB)
     if word_of(read) == "Found":
         listed = {}
@@ -46,8 +46,8 @@ def a_round():
 
 
 def collection(claims, *owners):
-    """The deletes of the listed claims whose every owner is gone for good: its UID, whose number is that of its create, was given
-    before all these lists of owners were read, and none of them has it."""
+    """The deletes of the listed claims whose every owner is gone for good: its UID, whose number is that of its create, was
+    allocated before all these lists of owners were read, and none of them has it."""
     read_at = min(int(reply["resourceVersion"]) for reply in owners)
     here = {held["metadata"]["uid"] for reply in owners for held in reply["items"]}
     for claim in claims["items"]:

@@ -1,6 +1,6 @@
-/* Preloaded into a program, refuses one of its allocations: the one whose number, from 1, stands in REFUSED_GROWTH.
-   Where it is 0 none is refused, and how many there were is written to the file that GROWTH_COUNT names, how many bytes
-   they asked for, and the most bytes that were held at once. */
+/* Preloaded into a program, refuses one of its allocations: the one whose number, from 1, is in REFUSED_GROWTH.
+   If it is 0 none is refused, and how many there were is written to the file that GROWTH_COUNT names, how many bytes they
+   requested, and the most bytes that were held at once. */
 #define _GNU_SOURCE
 #include <dlfcn.h>
 #include <errno.h>

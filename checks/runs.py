@@ -1,4 +1,4 @@
-"""What runs of a program take: their processor time, and the memory that they ask for and hold."""
+"""What runs of a program cost: their processor time, and the memory that they allocate and hold."""
 import os
 import subprocess
 import tempfile
@@ -7,7 +7,7 @@ from transcripts import TOP
 
 
 def given(text):
-    """A file of that text, or of those lines, to be read by runs; it goes when it is closed."""
+    """A file of that text, or of those lines, to be read by runs; it is deleted when it is closed."""
     file = tempfile.TemporaryFile("w+")
     file.writelines([text] if isinstance(text, str) else text)
     return file
@@ -24,7 +24,7 @@ class Programs:
         self.counting = dict(os.environ, LD_PRELOAD=counting, REFUSED_GROWTH="0", GROWTH_COUNT=self.counts)
 
     def run(self, words, file, env=None):
-        """Runs it over a file, and answers the processor time that it took, in seconds."""
+        """Runs it over a file, and returns the processor time that it took, in seconds."""
         file.seek(0)
         running = subprocess.Popen([self.program, *words.split()], stdin=file, stdout=subprocess.DEVNULL, env=env)
         _, status, used = os.wait4(running.pid, 0)

@@ -1,5 +1,6 @@
-"""A slow store that keeps every map that there ever was, written from docs/REFERENCE.md alone: what each request comes to, as
-the members of its reply line. checks/model asks it what `serve` has to answer, checks/races what an order of requests gives.
+"""A slow store that keeps every map that there ever was, written from docs/REFERENCE.md alone: the result of each request, as
+the members of its reply line. checks/model compares it with what `serve` replies, checks/races with what an order of requests
+gives.
 """
 import json
 
@@ -16,7 +17,7 @@ def answered(result, held):
 
 
 def text_of(value):
-    """The compact text of a JSON value, keys in order; two values are the same where their texts are."""
+    """The compact text of a JSON value, keys in order; two values are the same if their texts are."""
     return json.dumps(value, ensure_ascii=False, separators=(",", ":"), sort_keys=True)
 
 
@@ -42,7 +43,7 @@ def key_of(request):
 
 
 def with_meta(held, **members):
-    """The same object with these members of its metadata; one that is None is taken away."""
+    """The same object with these members of its metadata; one that is None is removed."""
     others = {name: value for name, value in held["metadata"].items() if name not in members}
     return {**held, "metadata": {**others, **{name: value for name, value in members.items() if value is not None}}}
 
@@ -54,14 +55,14 @@ def with_status(held, other):
 
 
 def made(request):
-    """What a create makes, before its number is drawn."""
+    """What a create makes, before its number is allocated."""
     given = request["object"]
     body = given if given["kind"] == "ControllerRevision" else with_status(given, {})
     return with_meta(body, namespace=key_of(request)[1], deletionTimestamp=None, generation=1)
 
 
 def replaced(current, given):
-    """What an update makes of an object, before its number is drawn."""
+    """What an update makes of an object, before its number is allocated."""
     body = given if given["kind"] == "ControllerRevision" else with_status(given, current)
     kept = {name: current["metadata"].get(name) for name in ("deletionTimestamp", "namespace", "resourceVersion", "uid")}
     rises = not same_member("spec", current, given)
@@ -69,12 +70,12 @@ def replaced(current, given):
 
 
 def conflicts(current, handed):
-    """Whether a UID or a version is handed in that is not the current one."""
+    """Whether a UID or a version is given that is not the current one."""
     return any(handed.get(name) and handed[name] != current["metadata"][name] for name in ("uid", "resourceVersion"))
 
 
 def verdict(request, current):
-    """What a write comes to over the object that its key has: a reply, or the result and the object of a change."""
+    """The result of a write over the object that its key has: a reply, or the result and the object of a change."""
     verb, given = request["do"], request.get("object")
     kind = key_of(request)[0]
     if verb == "create":
@@ -100,7 +101,7 @@ def verdict(request, current):
 
 
 def drawn(change, number):
-    """What a change leaves under its key at the number that it draws, and its reply."""
+    """What a change leaves under its key at the number that it allocates, and its reply."""
     result, held = change
     held = with_meta(held, resourceVersion=str(number))
     if result == "Created":
@@ -116,14 +117,14 @@ def listed(request, objects, number):
 
 
 def denied(number, newest, floor):
-    """Why a number is not read, or None."""
+    """Why a number cannot be read, or None."""
     if number > newest:
         return refused("TooLarge")
     return refused("Expired") if number < floor else None
 
 
 class Store:
-    """Takes whole requests, one after another. What was there at each number is kept."""
+    """Handles whole requests, one after another. What was there at each number is kept."""
 
     def __init__(self, capacity):
         self.capacity, self.floor, self.past = capacity, 0, [{}]

@@ -1,4 +1,4 @@
-"""The tables of docs/REFERENCE.md beside the examples: what a table tells some example shows, and the other way round.
+"""The tables of docs/REFERENCE.md against the examples: what a table says some example shows, and the other way round.
 
 What is too long to lie in a file is shown by checks/limits.
 """
@@ -21,13 +21,13 @@ def table(heading):
 
 
 def apart(what, told, shown):
-    """What is told and shown by no example, and the other way round."""
-    yield from (f"docs/REFERENCE.md: {what} {one} is told, and in no example" for one in sorted(told - shown))
-    yield from (f"docs/REFERENCE.md: {what} {one} is in an example, and not told" for one in sorted(shown - told))
+    """What the page says and no example shows, and the other way round."""
+    yield from (f"docs/REFERENCE.md: {what} {one} is in no example" for one in sorted(told - shown))
+    yield from (f"docs/REFERENCE.md: {what} {one} is in an example, and not on the page" for one in sorted(shown - told))
 
 
 def said_to(words):
-    """What an example has to say to these words: its status and both outputs."""
+    """What an example should print for these arguments: its status and both outputs."""
     return next((example.said for example in SHOWN if words.split() in example.asked), (0, b"", b""))
 
 
@@ -52,7 +52,7 @@ def answer_faults(program):
     for reason, given in ((reason, line) for reason, cell in lines.items() for line in re.findall("`([^`]+)`", cell)):
         said = subprocess.run([program, "serve"], input=given.encode(), capture_output=True, timeout=60).stdout.decode()
         if f'"reason":"{reason}"' not in said:
-            yield f"docs/REFERENCE.md: {given} is told to be {reason}, and is answered {said.strip()}"
+            yield f"docs/REFERENCE.md: {given} should be {reason}, and is answered {said.strip()}"
 
 
 def refusal_faults():
@@ -65,10 +65,10 @@ def refusal_faults():
 
 
 def option_faults():
-    """The words, the options of each, and the numbers that are told of them; of one that is told twice running, one."""
-    rows = {found[1]: (found[2], row[1]) for row in table("Words") if (found := re.fullmatch(r"`stsctl (\w+) (.+)`", row[0]))}
+    """The commands, the options of each, and the numbers in what is said of them; if one comes twice in a row, once."""
+    rows = {found[1]: (found[2], row[1]) for row in table("Command") if (found := re.fullmatch(r"`stsctl (\w+) (.+)`", row[0]))}
     commands = set(re.findall(r"\n  (\w+)  ", said_to("--help")[1].decode()))
-    yield from apart("the word", {*rows, "help"}, commands)
+    yield from apart("the command", {*rows, "help"}, commands)
     for word, (options, what) in rows.items():
         usage, _, text = said_to(f"{word} --help")[1].decode().partition("\n\nOptions:")
         helped = re.findall(r"\n +(--\w+)(?: <(\w+)>)?  +(.*)", text)
@@ -77,11 +77,11 @@ def option_faults():
         texts = (what, " ".join(about for _, _, about in helped))
         numbers = [re.sub(r"\b(\d+) (?=\1\b)", "", " ".join(re.findall(r"\d+", text))) for text in texts]
         if numbers[0] != numbers[1]:
-            yield f"docs/REFERENCE.md: stsctl {word}: the numbers {numbers[0]} are told, and {numbers[1]} are in its help"
+            yield f"docs/REFERENCE.md: stsctl {word}: the page has the numbers {numbers[0]}, and its help {numbers[1]}"
 
 
 def help_faults():
-    """The inputs that the help on a word shows, each a part of it: some example is answered over each."""
+    """The inputs that the help on a command shows, each a part of it: some example runs on each."""
     for word in re.findall(r"\n  (\w+)  ", said_to("--help")[1].decode()):
         for part in said_to(f"{word} --help")[1].split(b"\n\n"):
             lines = [line for line in part.splitlines() if line.startswith(b"{")]
@@ -90,7 +90,7 @@ def help_faults():
 
 
 def status_faults(program):
-    """The exit statuses, of which a run that cannot write has one, and what is said to words that are named whole."""
+    """The exit statuses, one of which a run that cannot write has, and what is printed for arguments that are named whole."""
     with open("/dev/full", "w") as full:
         failed = subprocess.run([program, "--help"], stdout=full, timeout=60).returncode
     yield from apart("the exit status", {int(row[0]) for row in table("Exit status")}, {failed, *(example.said[0] for example in SHOWN)})
@@ -101,7 +101,7 @@ def status_faults(program):
 
 
 def form_faults():
-    """The lines that are told by their members, of which a word in capitals is any value."""
+    """The lines that are given by their members, of which a word in capitals is any value."""
     seen = []
     for line in {line for example in SHOWN for text in (example.stdin, example.said[1]) for line in text.splitlines()}:
         with contextlib.suppress(ValueError):

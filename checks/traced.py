@@ -1,4 +1,4 @@
-"""The trace of a run, by docs/REFERENCE.md: a line for each event, with where its caller then stands."""
+"""The trace of a run, by docs/REFERENCE.md: a line for each event, with its caller's state after it."""
 from contextlib import contextmanager
 
 from judging import Fault
@@ -6,7 +6,7 @@ from store_of_maps import WRITES, key_of
 
 
 def version_words(text):
-    """The version that a write asks for. No other text than a version's is repeated."""
+    """The version in a write's precondition. Only the text of a version is repeated."""
     if text in (None, ""):
         return ""
     is_version = text.isascii() and text.isdigit() and text[0] != "0" and int(text) < 2**64
@@ -34,7 +34,7 @@ def reply_words(reply):
 
 
 def standing_words(world, phase):
-    """Where a caller stands, and what has to come before it goes on."""
+    """A caller's state, and what has to come before it moves on."""
     name = phase[0]
     if name == "called":
         request = world.calls[phase[1]][1]
@@ -55,7 +55,7 @@ def standing_words(world, phase):
 
 
 class Traced:
-    """Looks on at a world, and keeps a line for each event."""
+    """Watches a world, and keeps a line for each event."""
 
     def __init__(self, world, role=lambda caller: ""):
         self.world, self.role, self.lines = world, role, []

@@ -1,10 +1,10 @@
 """The examples: what the program is run on, and what it has to say.
 
-An example NAME, in the folder of the word that it shows, is made of these files, of which each may be missing:
+An example NAME, in the folder of its command, is made of these files, each of which may be missing:
 
-    NAME.args    its words, one a line; else those of its folder, below. Words behind an empty line are another way to ask
-                 for the same, and have to be answered alike
-    NAME.jsonl   its standard input; else, where there is a NAME.input, that of the example that this names, as replay/hole; else
+    NAME.args    its arguments, one a line; else those of its folder, below. Arguments after an empty line are another way to
+                 request the same, and have to give the same
+    NAME.jsonl   its standard input; else, if there is a NAME.input, that of the example that this names, as replay/hole; else
                  that of serve/first-run, so that a run that is to read nothing could read something
     NAME.out     its standard output; else nothing
     NAME.err     its standard error; else nothing
@@ -14,7 +14,7 @@ import os
 
 TOP = os.path.dirname(os.path.dirname(os.path.realpath(__file__)))
 EXAMPLES = f"{TOP}/examples"
-# The folders, and the words of an example there that has none of its own.
+# The folders, and the arguments of an example there that has none of its own.
 FOLDERS = {
     "serve": ["serve"], "replay": ["replay"], "cluster": ["cluster"], "outcomes": ["outcomes"], "plan": ["plan", "--set", "web"],
     "race": ["race"], "words": ["serve"],
@@ -31,7 +31,7 @@ def read(path, default=b""):
 
 
 class Example:
-    """One example: its name, each list of words that asks for it, its input, and what it has to say."""
+    """One example: its name, each list of arguments for it, its input, and what it should print."""
 
     def __init__(self, folder, name):
         at = f"{EXAMPLES}/{folder}/{name}"
