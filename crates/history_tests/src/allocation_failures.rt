@@ -1,5 +1,6 @@
-//! Allocation failures. `checks/allocations` refuses each allocation of each test in turn, and each has to pass: one call may
-//! want memory, and the same call after it is ample. A test says nothing where what it needs itself is refused.
+//! Allocation failures. `checks/allocations` refuses each allocation of each test in turn, and each test has to pass:
+//! one call may run out of memory, and the same call after it has enough. A test says nothing if its own setup is
+//! refused memory.
 use crate::orders::{EARLY_CONFLICT, trace};
 use crate::steps::{events, is_right};
 use history::{Event, Replay, ReplayError, check_order, replay};
@@ -44,7 +45,7 @@ fn a_replay_ends_at_an_allocation_failure(rt: HostRuntime) {
     assert!(rt; first.unwrap_or(true) && second.unwrap_or(true));
 }
 
-/// How many events a run has taken, and which of the callers from 1 to 5 are idle.
+/// How many events a run has handled, and which of the callers from 1 to 5 are idle.
 fn shown(replay: &Replay) -> (u64, [bool; 5]) {
     let idle = [
         replay.idle(1),
@@ -56,7 +57,7 @@ fn shown(replay: &Replay) -> (u64, [bool; 5]) {
     (replay.events(), idle)
 }
 
-/// Whether the event is taken.
+/// Whether the event is accepted.
 fn takes(replay: &mut Replay, event: &Event) -> bool {
     if replay.events() >= u64::MAX {
         return false;
@@ -70,7 +71,8 @@ fn takes(replay: &mut Replay, event: &Event) -> bool {
     }
 }
 
-/// Whether the events are taken, one by one. Where an allocation is refused all is as it was, and the event is taken once more.
+/// Whether the events are accepted, one by one. If an allocation is refused all is as it was, and the event is accepted
+/// the second time.
 fn takes_all(replay: &mut Replay, events: &[Event]) -> bool {
     for event in events {
         let before = shown(replay);

@@ -6,7 +6,7 @@ use std::alloc::{AllocError, Global};
 use std::process::Abort;
 use std::test::Fail;
 
-/// What stands at a place: a call, as its request line, or a reply, with its object as a text.
+/// What is at an index: a call, as its request line, or a reply, with its object as a text.
 pub(crate) enum Content {
     Call(&'static str),
     Created(&'static str),
@@ -15,7 +15,7 @@ pub(crate) enum Content {
     Conflict,
 }
 
-/// A place, a caller, and what stands there.
+/// An index, a caller, and what is there.
 pub(crate) type Row = (u64, u64, Content);
 
 /// What an order shows, the order, and whether it is legal.
@@ -28,12 +28,11 @@ const CREATE: &str = r#"{"do":"create","object":{"kind":"Pod","metadata":{"name"
 const B_AT_1: &str =
     r#"{"kind":"Pod","metadata":{"generation":1,"name":"b","namespace":"default","resourceVersion":"1","uid":"00000000-0000-4000-8000-000000000001"}}"#;
 
-/// The largest place that there is.
+/// The largest index.
 const LAST: u64 = u64::MAX;
 
-/// An update of `b` at the resource version 1 has come upon another one, which drew the resource version 3 while the
-/// creation of `a` holds 2. A get finds the resource version 1 meanwhile, and then the first update is told of its
-/// conflict.
+/// An update of `b` at the resource version 1 has met another one, which drew the resource version 3 while the creation
+/// of `a` holds 2. A get finds the resource version 1 meanwhile, and then the first update gets its conflict.
 pub(crate) static EARLY_CONFLICT: [Row; 8] = [
     (0, 1, Content::Call(CREATE)),
     (5, 1, Content::Created(B_AT_1)),

@@ -22,9 +22,9 @@ const LABEL_B: &str =
 const STALE_B: &str =
     r#"{"do":"update","object":{"kind":"Pod","metadata":{"labels":{"x":"z"},"name":"b","resourceVersion":"1"}}}"#;
 
-/// An event, its caller, and the line of a call. The caller of a conflict that waits is gone before the frontier is there. What
-/// holds the frontier back is a write whose caller is gone too. A list at 1 is begun before a compaction to 2, and a second one
-/// behind it.
+/// An event, its caller, and the line of a call. The caller of a conflict that waits crashes before the frontier is
+/// there. What holds the frontier back is a write whose caller has crashed too. A list at 1 begins before a compaction
+/// to 2, and a second one after it.
 static STEPS: [(&str, u64, &str); 44] = [
     ("call", 1, CREATE_B),
     ("check", 1, ""),
@@ -74,7 +74,7 @@ static STEPS: [(&str, u64, &str); 44] = [
     ("reply", 3, ""),
 ];
 
-/// The replies: the place, the caller, the word, and the resource version, 0 of a refusal.
+/// The replies: the index, the caller, the word, and the resource version, 0 for a refusal.
 static REPLIES: [(u64, u64, &str, u64); 7] = [
     (5, 1, "Created", 1),
     (22, 3, "Found", 1),
@@ -85,7 +85,7 @@ static REPLIES: [(u64, u64, &str, u64); 7] = [
     (43, 3, "Listed", 3),
 ];
 
-/// The get did not see the update, which comes behind the creation of `a`. The refused creation rests on the update.
+/// The get did not see the update, which comes after the creation of `a`. The refused creation depends on the update.
 const ORDER: [u64; 8] = [0, 19, 6, 9, 14, 28, 33, 39];
 
 fn event(alloc: Global, step: &(&'static str, u64, &'static str)) -> Result<Event, Memory> {
@@ -129,7 +129,7 @@ pub(crate) fn events(alloc: Global) -> Result<Vec<Event>, Memory> {
     }
 }
 
-/// The word of a reply, and a resource version that it tells.
+/// The word of a reply, and its resource version.
 fn told(reply: &Reply) -> (&'static str, u64) {
     match reply {
         Reply::Created(object) => ("Created", object.meta.revision),

@@ -5,7 +5,8 @@ use std::alloc::Global;
 use std::process::Abort;
 use std::test::Fail;
 
-/// What the calls on a line of two shards answer in turn, 0 for none. The second shard fills the number 2 while 1 is a hole.
+/// What the calls on a line of two shards return in turn, 0 for none. The second shard fills the number 2 while 1 is a
+/// hole.
 fn told(rt: &impl Abort, alloc: Global) -> Result<[u64; 10], Fail> {
     let Ends {
         line,
@@ -42,7 +43,8 @@ fn told(rt: &impl Abort, alloc: Global) -> Result<[u64; 10], Fail> {
     ])
 }
 
-/// Two shards and a hole: the frontier waits for the lowest number, whoever drew it. Nobody raises it over the last one.
+/// Two shards and a hole: the frontier waits for the lowest number, whoever drew it. It cannot be raised over the last
+/// one.
 #[test]
 fn a_frontier_stops_at_a_hole(rt: HostRuntime) -> Result<(), Fail> {
     let told = told(&rt, rt.alloc())?;

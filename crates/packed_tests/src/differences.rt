@@ -6,10 +6,10 @@ use std::alloc::{AllocError, Global};
 const POD: &str =
     r#"{"kind":"Pod","metadata":{"labels":{"app":"db","n":"7"},"name":"db-0"},"spec":{"x":1}}"#;
 
-/// Texts beside that pod, and how many bytes a delta has: three for each piece, and those that it adds.
+/// Texts next to that pod, and how many bytes a delta has: three for each piece, and those that it adds.
 static DELTAS: [(&str, usize); 4] = [
     (POD, 3),
-    // "12" in place of "7": what comes before it and the two bytes, and what comes behind.
+    // "12" in place of "7": what comes before it and the two bytes, and what comes after.
     (
         r#"{"kind":"Pod","metadata":{"labels":{"app":"db","n":"12"},"name":"db-0"},"spec":{"x":1}}"#,
         8,
@@ -55,7 +55,7 @@ fn texts_that_are_much_alike_have_short_deltas(rt: HostRuntime) -> Result<(), Al
     Ok(())
 }
 
-/// That many times a part, and a text behind them.
+/// A part that many times, and a text after it.
 fn repeated(alloc: Global, part: &[u8], count: usize, end: &[u8]) -> Result<Vec<u8>, AllocError> {
     let mut text = Vec::new(alloc);
     for _ in 0..count {
@@ -65,7 +65,7 @@ fn repeated(alloc: Global, part: &[u8], count: usize, end: &[u8]) -> Result<Vec<
     Ok(text)
 }
 
-/// Whether the delta has so many bytes between two texts that differ in so many quoted parts, and then go on alike.
+/// Whether the delta has so many bytes between two texts that differ in so many quoted parts, and then are alike.
 fn has_length_past(alloc: Global, count: usize, length: usize) -> Result<bool, AllocError> {
     let base = repeated(alloc, b"\"aaaaaaaaa", count, b"\"the same end")?;
     let text = repeated(alloc, b"\"bbbbbbbbb", count, b"\"the same end")?;
@@ -85,7 +85,7 @@ fn long_texts_are_copied_added_and_skipped(rt: HostRuntime) -> Result<(), AllocE
     // The first quote is copied and 9,999 bytes are added by 40 pieces, all but the first of which copy nothing. Then 9,999
     // bytes of the base are skipped by 40 pieces, the last of which copies the end.
     assert!(rt; has_length_past(rt.alloc(), 1_000, 40 * 3 + 9_999 + 40 * 3)?);
-    // Past 1,024 quotes no more are looked for, and the end is added too: 11,012 bytes by 44 pieces.
+    // After 1,024 quotes no more are looked for, and the end is added too: 11,012 bytes by 44 pieces.
     assert!(rt; has_length_past(rt.alloc(), 1_100, 44 * 3 + 11_012)?);
     Ok(())
 }

@@ -5,7 +5,8 @@ use packed::{Packed, Packer};
 use std::alloc::{AllocError, Global};
 use std::test::Fail;
 
-/// Objects whose numbers no run of requests comes to soon: a generation past 16 bits, the last UID of 32 bits and the last of all.
+/// Objects whose numbers no run of requests reaches soon: a generation above 16 bits, the last UID of 32 bits and the
+/// last of all.
 static TEXTS: [&str; 3] = [
     r#"{"kind":"Pod","metadata":{"generation":70000,"name":"db-2","namespace":"default","resourceVersion":"4","uid":"00000000-0000-4000-8000-0000000000ff"}}"#,
     r#"{"kind":"Pod","metadata":{"generation":1,"name":"db-3","namespace":"default","resourceVersion":"5","uid":"00000000-0000-4000-8000-0000ffffffff"}}"#,
@@ -22,7 +23,7 @@ fn printed(alloc: Global, text: &str) -> Result<(Key, Printed), ReadError> {
     Ok((key, printed?))
 }
 
-/// The object of the text, packed beside those that were packed before.
+/// The object of the text, packed with those that were packed before.
 pub(crate) fn packed(
     alloc: Global,
     packer: &mut Packer,

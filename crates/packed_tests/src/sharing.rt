@@ -1,4 +1,4 @@
-//! Which base an object is packed beside, and how many bytes that takes.
+//! Which base an object is packed with, and how many bytes that takes.
 use crate::asserts::assert_so;
 use crate::packing::packed;
 use objects::ReadError;
@@ -45,8 +45,8 @@ static IN_TURN: [Row; 8] = [
         4 * 4 + 3,
     ),
     (LONG_0, LONG_0, 456),
-    // A delta too long for the value itself. A piece copies the first 255 bytes, and the last one adds an image of 72 bytes
-    // and the three behind it, which are too few to be looked for.
+    // A delta too long for the value itself. A piece copies the first 255 bytes, and the last one adds an image of 72
+    // bytes and the three after it, which are too few to be looked for.
     (
         r#"{"kind":"Pod","metadata":{"annotations":{"note":"abcdefghijabcdefghijabcdefghijabcdefghijabcdefghijabcdefghijabcdefghijabcdefghijabcdefghijabcdefghijabcdefghijabcdefghijabcdefghijabcdefghijabcdefghijabcdefghijabcdefghijabcdefghijabcdefghijabcdefghijabcdefghijabcdefghijabcdefghijabcdefghij"},"generation":1,"name":"long-1","namespace":"default","resourceVersion":"9","uid":"00000000-0000-4000-8000-000000000009"},"spec":{"image":"0123456789abcdefghijklmnopqrstuvwxyz0123456789abcdefghijklmnopqrstuvwxyz"}}"#,
         LONG_0,
@@ -94,7 +94,7 @@ fn a_later_version_takes_the_base_of_the_one_before(rt: HostRuntime) -> Result<(
     let mut other = Packer::new(rt.alloc());
     let next = packed(rt.alloc(), &mut other, DB_0_LATER, Some(&first))?;
     assert!(rt; is_kept(&next, &(DB_0_LATER, DB_0, 4 + 3)));
-    // The first packer is gone, and the other one has another base or none.
+    // The first packer is dropped, and the other one has another base or none.
     assert!(rt; next.sharers() == 2);
     Ok(())
 }

@@ -1,4 +1,4 @@
-//! What a race asks of its store is what its history has.
+//! What a race sends to its store is what its history has.
 ghost use Rattle.std.specs.Prelude.{◌≡◌, ◌<◌, vec_len};
 ghost use Rattle.line.specs.Seat.{AreShards};
 ghost use Rattle.store.specs.Callers.{IsLine};
@@ -27,7 +27,7 @@ fn spec() -> RaceSpec {
     }
 }
 
-/// Whether each controller compacted once a round, and what was asked was noted.
+/// Whether each controller compacted once a round, and what was sent was noted.
 fn agrees<S: SharedStore + Sync, R: Threads + Wait + Sync>(
     rt: &R,
     alloc: Global,

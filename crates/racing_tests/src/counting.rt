@@ -1,4 +1,4 @@
-// A store that counts what it is asked.
+// A store that counts its requests.
 use interleavings::Item;
 use objects::{Key, Kind, Memory, Text};
 use racing::SharedStore;
@@ -7,7 +7,7 @@ use std::sync::Wait;
 use std::sync::atomic::{AtomicU64, Ordering};
 use store::Gate;
 
-/// A store, and how often it was asked for each of these.
+/// A store, and how many requests of each of these kinds it got.
 pub(crate) struct Counting<'a, S> {
     store: &'a S,
     writes: AtomicU64,
@@ -47,7 +47,7 @@ impl<'a, S> Counting<'a, S> {
         }
     }
 
-    /// Whether it was asked for as many compactions, and for as many writes and lists as were noted.
+    /// Whether it got as many compactions, and as many writes and lists as were noted.
     pub(crate) fn agrees(&self, items: &[Item], compactions: u64) -> bool {
         has_counted(&self.compactions, compactions)
             && has_counted(&self.writes, count_of(items, Wanted::Write))

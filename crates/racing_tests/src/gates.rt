@@ -9,7 +9,7 @@ use store::Gate;
 
 const TURNS: u64 = 1_000_000_000;
 
-/// A round goes on only once both controllers have called it with that number.
+/// A round continues only once both controllers have called it with that number.
 #[derive(Drop)]
 struct Both {
     /// The last round that each has called.

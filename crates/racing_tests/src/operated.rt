@@ -20,7 +20,7 @@ fn spec_of(operator: bool) -> RaceSpec {
     }
 }
 
-/// Whether the race is legal, and so many calls and replies are the operator's.
+/// Whether the race is legal, and has so many calls and replies of the operator.
 fn is_legal<R: Threads + Wait + Sync>(
     rt: &R,
     alloc: Global,

@@ -1,5 +1,6 @@
-//! Allocation failures. `rt try --test --fail-alloc N` refuses the Nth allocation of each test. From 1 on, up to an N that no
-//! test of this file comes to, it has to pass: one call may want memory, and the same call after it is ample.
+//! Allocation failures. `rt try --test --fail-alloc N` refuses the Nth allocation of each test. From 1 on, up to an N
+//! that no test of this file reaches, it has to pass: one call may run out of memory, and the same call after it has
+//! enough.
 ghost use Rattle.std.specs.Prelude.{IfSome};
 
 use crate::asking::{assert_so, has_reply, write_of};
@@ -23,7 +24,7 @@ static CREATES: [(&str, u64); 2] = [
     ),
 ];
 
-/// The ticket of the create of a pod, or none where memory ran out.
+/// The ticket of the create of a pod, or none if memory ran out.
 fn handed<S: SharedStore, R: Wait>(
     rt: &R,
     alloc: Global,
@@ -37,7 +38,7 @@ fn handed<S: SharedStore, R: Wait>(
     store.submit(rt, caller, request, &NoGate).ok()
 }
 
-/// The same, once more where memory ran out.
+/// The same, once more if memory ran out.
 fn handed_again<S: SharedStore, R: Wait>(
     rt: &R,
     alloc: Global,
@@ -53,7 +54,7 @@ fn handed_again<S: SharedStore, R: Wait>(
     }
 }
 
-/// The reply to a write, after two tries at most.
+/// The reply to a write, after at most two tries.
 fn reply_in_two_tries<S: SharedStore>(
     store: &S,
     caller: &mut S::Caller,
@@ -76,7 +77,7 @@ fn created_revision(reply: &Reply) -> u64 {
     }
 }
 
-/// The place of a create and the revision of what it created, or none where there is no reply.
+/// The place of a create and the revision of what it created, or none without a reply.
 fn created<S: SharedStore, R: Wait>(
     rt: &R,
     alloc: Global,
@@ -92,7 +93,7 @@ fn created<S: SharedStore, R: Wait>(
     Some((place, revision))
 }
 
-/// A read that memory was refused changes nothing, so that the next one is answered.
+/// A read that was refused memory changes nothing, so that the next one gets its reply.
 fn is_read<S: SharedStore, R: Wait>(
     rt: &R,
     alloc: Global,
@@ -130,7 +131,7 @@ pub(crate) fn assert_ample<S: SharedStore, R: Wait + Abort>(
     store: &S,
 ) -> Result<(), Fail> {
     let mut caller = store.caller(rt)?;
-    // a create that memory was refused has drawn no number, so that the next one has it
+    // a create that was refused memory has drawn no number, so that the next one has it
     for (line, number) in CREATES.iter() {
         let created = created(rt, alloc, store, &mut caller, *line);
         assert_so(rt, created == Some((*number, *number)), *line);
@@ -142,7 +143,7 @@ pub(crate) fn assert_ample<S: SharedStore, R: Wait + Abort>(
     Ok(())
 }
 
-/// Each allocation of a store, a caller, a write and a read is refused in turn, and nothing is lost by it.
+/// Each allocation of a store, a caller, a write and a read is refused in turn, and nothing is lost.
 #[test]
 fn an_allocation_failure_draws_no_number(rt: HostRuntime) -> Result<(), Fail> {
     assert_on(&rt, rt.alloc(), 10, 2, Scene::AllocationFailures)

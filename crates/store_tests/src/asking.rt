@@ -12,7 +12,7 @@ use std::sync::Wait;
 use std::test::Fail;
 use store::NoGate;
 
-/// How often a step of another thread is waited for.
+/// How often a thread looks for a step of another one.
 pub(crate) const TURNS: u64 = 1_000_000_000;
 
 pub(crate) fn request_of(alloc: Global, line: &str) -> Option<Request> {
@@ -43,7 +43,7 @@ pub(crate) fn is_printed(alloc: Global, reply: &Reply, line: &str) -> Result<boo
     Ok(text.as_slice().strip_suffix(b"\n") == Some(line.as_bytes()))
 }
 
-/// Whether a line has that reply, or none where memory ran out.
+/// Whether a line has that reply, or none if memory ran out.
 pub(crate) fn has_reply<S: SharedStore, R: Wait>(
     rt: &R,
     alloc: Global,
@@ -59,7 +59,7 @@ pub(crate) fn has_reply<S: SharedStore, R: Wait>(
     is_so.ok()
 }
 
-/// A message of parts is proved anew wherever it stands, so it stands here.
+/// A message of parts is proved again in each place where it is, so it is here.
 pub(crate) fn assert_so(rt: &impl Abort, is_so: bool, what: &str) {
     assert!(rt; is_so, "of {what}");
 }

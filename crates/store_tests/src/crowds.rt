@@ -19,8 +19,8 @@ const THREADS: usize = 8;
 /// How many requests each thread makes.
 const REQUESTS: u64 = 1_000;
 
-/// What is asked by chance: of 34 requests ten are creates, nine updates, five deletes, four gets and three lists. One is a
-/// compaction and two are lists that are asked once more, none of which is noted.
+/// Requests at random: of 34 requests ten are creates, nine updates, five deletes, four gets and three lists. One is a
+/// compaction and two are lists that are sent again, none of which is noted.
 static ASKED: [&str; 31] = [
     r#"{"do":"create","object":{"kind":"Pod","metadata":{"name":"a"}}}"#,
     r#"{"do":"create","object":{"kind":"Pod","metadata":{"name":"b"}}}"#,
@@ -55,7 +55,7 @@ static ASKED: [&str; 31] = [
     r#"{"do":"list","kind":"Pod"}"#,
 ];
 
-/// The next number that looks like chance, by the multiplier and the increment of Knuth's MMIX.
+/// The next pseudorandom number, by the multiplier and the increment of Knuth's MMIX.
 fn rolled(state: u64) -> u64 {
     state
         .wrapping_mul(6_364_136_223_846_793_005)
@@ -68,7 +68,7 @@ fn note_call<R: Wait>(rt: &R, log: &Mutex<Log>, name: u64, request: &Request) ->
     log.lock(rt).call(name, noted).ok()
 }
 
-/// Asks one request, and notes it with its answer.
+/// Sends one request, and notes it with its reply.
 fn ask<S: SharedStore, R: Wait>(
     rt: &R,
     alloc: Global,
@@ -91,7 +91,7 @@ const EXPIRED: &str = "{\"code\":410,\"reason\":\"Expired\"}\n";
 
 const LIST: &str = r#"{"do":"list","kind":"Pod"}"#;
 
-/// The list of what there was at a number, and at 0 of what there is now.
+/// The list at a number, and at 0 the present one.
 fn list_of(alloc: Global, number: u64) -> Option<Request> {
     match request_of(alloc, LIST)? {
         Request::List {
@@ -110,7 +110,7 @@ fn list_of(alloc: Global, number: u64) -> Option<Request> {
     }
 }
 
-/// The line of a list of what there was at a number, at 0 of what there is now, with the number that it is of.
+/// The line of a list at a number, or at 0 of the present one, with the number of the list.
 fn listed<S: SharedStore, R: Wait>(
     rt: &R,
     alloc: Global,
@@ -125,7 +125,7 @@ fn listed<S: SharedStore, R: Wait>(
     Some((line.ok()?, number))
 }
 
-/// Whether a list is answered once more as it was at its number, unless a compaction passed that meanwhile.
+/// Whether a second list at its number is the same, unless a compaction passed that meanwhile.
 fn is_listed_again<S: SharedStore, R: Wait>(
     rt: &R,
     alloc: Global,
@@ -140,7 +140,7 @@ fn is_listed_again<S: SharedStore, R: Wait>(
     Some(again.as_slice() == now.as_slice() || again.as_slice() == EXPIRED.as_bytes())
 }
 
-/// Compacts the store to what the caller has seen, or lists what it has seen once more. Neither is noted.
+/// Compacts the store to what the caller has seen, or lists what it has seen again. Neither is noted.
 fn ask_unnoted<S: SharedStore, R: Wait>(
     rt: &R,
     alloc: Global,
@@ -159,7 +159,7 @@ fn ask_unnoted<S: SharedStore, R: Wait>(
     None
 }
 
-/// All requests of one thread, by a caller of its own.
+/// All requests of one thread, with a caller of its own.
 fn work<S: SharedStore, R: Wait>(
     rt: &R,
     alloc: Global,
@@ -197,7 +197,7 @@ fn assert_legal<R: Abort>(rt: &R, alloc: Global, log: Log) -> Result<(), Fail> {
 
 const FREE: &str = r#"{"do":"create","object":{"kind":"Pod","metadata":{"name":"z"}}}"#;
 
-/// Whether a create of a free name is refused since no number is left.
+/// Whether a create of a free name is refused because no number is left.
 fn is_full<S: SharedStore, R: Wait>(rt: &R, alloc: Global, store: &S) -> Option<bool> {
     let mut caller = store.caller(rt).ok()?;
     let request = request_of(alloc, FREE)?;
@@ -207,7 +207,7 @@ fn is_full<S: SharedStore, R: Wait>(rt: &R, alloc: Global, store: &S) -> Option<
     Some(is_full)
 }
 
-/// Eight threads ask by chance until the store is full; what they were told is legal.
+/// Eight threads send random requests until the store is full; their replies are legal.
 pub(crate) fn assert_replies_are_legal<S: SharedStore + Sync, R: Threads + Wait + Abort + Sync>(
     rt: &R,
     alloc: Global,

@@ -1,5 +1,5 @@
-// Four threads: one is held between the draw of its number and its fill, under its shard's lock. For that lock a compaction
-// waits, which holds the floor's; and for that one an exact list, which must hold none.
+// Four threads: one is held between the draw of its number and its fill, under its shard's lock. A compaction waits for
+// that lock and holds the floor's; and an exact list, which must hold none, waits for the floor's.
 ghost use Rattle.std.specs.Prelude.{◌≡◌, true};
 ghost use Rattle.requests.specs.Verdict.{is_write};
 
@@ -44,11 +44,11 @@ const LIST: &str = r#"{"do":"list","kind":"Pod","resourceVersion":"3"}"#;
 
 const TOO_LARGE: &str = r#"{"code":504,"reason":"TooLarge"}"#;
 
-/// How often the other pod is read while a compaction waits: often enough for the compaction to have come to the held lock, and
-/// the list to that of the floor.
+/// How often the other pod is read while a compaction waits: often enough for the compaction to have reached the held
+/// lock, and the list that of the floor.
 const READS: u64 = 1_000;
 
-/// Steps that the threads have come to.
+/// Steps that the threads have reached.
 #[derive(Drop)]
 struct Steps {
     drawn: AtomicU64,
@@ -106,7 +106,7 @@ fn first<S: SharedStore, R: Wait>(
     }
 }
 
-/// Whether the other pod is answered to be missing, however often it is read.
+/// Whether the reply for the other pod is that it is missing, however often it is read.
 fn is_missing<S: SharedStore, R: Wait>(
     rt: &R,
     alloc: Global,
@@ -123,8 +123,8 @@ fn is_missing<S: SharedStore, R: Wait>(
     true
 }
 
-/// Whether the create of the other pod is answered as it should be, after reads of it while the compaction waits; or none where
-/// a step came too early or too late.
+/// Whether the create of the other pod gets the reply that it should, after reads of it while the compaction waits; or
+/// none if a step came too early or too late.
 fn second<S: SharedStore, R: Wait>(
     rt: &R,
     alloc: Global,
@@ -182,7 +182,7 @@ fn third_try<S: SharedStore>(
     None
 }
 
-/// The reply to a write that is tried in these steps.
+/// The reply to a write, with tries at these steps.
 fn answered_in_steps<S: SharedStore, R: Wait>(
     rt: &R,
     store: &S,
@@ -198,7 +198,7 @@ fn answered_in_steps<S: SharedStore, R: Wait>(
     }
 }
 
-/// Whether a compaction to 0, which is begun while the first write is held, is answered.
+/// Whether a compaction to 0, which begins while the first write is held, gets its reply.
 fn third<S: SharedStore, R: Wait>(rt: &R, store: &S, mut caller: S::Caller, steps: &Steps) -> bool {
     if !is_made(&steps.drawn) {
         return false;
@@ -210,7 +210,7 @@ fn third<S: SharedStore, R: Wait>(rt: &R, store: &S, mut caller: S::Caller, step
     is_so
 }
 
-/// Whether a list above all numbers is refused, each time that it is asked until the other write is tried.
+/// Whether a list above all numbers is refused, each time that it is sent until the other write is tried.
 fn fourth<S: SharedStore, R: Wait>(
     rt: &R,
     alloc: Global,

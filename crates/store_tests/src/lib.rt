@@ -1,4 +1,4 @@
-//! What a store answers, by one caller and by threads.
+//! What a store replies, by one caller and by threads.
 #![tactic(auto)]
 
 #[cfg(test)]

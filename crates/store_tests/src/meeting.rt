@@ -9,7 +9,7 @@ use store::{Caller, Naming, NoGate, Sharding, Store};
 
 const CREATE: &str = r#"{"do":"create","object":{"kind":"Pod","metadata":{"name":"a"}}}"#;
 
-/// The place of the create of a, or 0 where memory ran out.
+/// The place of the create of a, or 0 if memory ran out.
 fn place_of_a<S: SharedStore, R: Wait>(
     rt: &R,
     alloc: Global,

@@ -1,10 +1,11 @@
-// What one caller is answered, in lines that were worked out by hand, and each scene on a store of its own.
+// The replies to one caller, in lines that were worked out by hand, and each scene on a store of its own.
 use crate::crowds::CAPACITY;
 use crate::scenes::{Scene, assert_on};
 use std::test::Fail;
 
-/// A pod is made, read, changed at its version and read again; the past is listed, compacted away and denied; then the store is
-/// full, and lists its pods in the order of their names. No get and no refused write keeps the past from being listed.
+/// A pod is created, read, changed at its version and read again; the past is listed, compacted away and refused; then
+/// the store is full, and lists its pods in the order of their names. No get and no refused write keeps the past from
+/// being listed.
 pub(crate) static ROWS: [(&str, &str); 21] = [
     (
         r#"{"do":"list","kind":"Pod"}"#,
@@ -118,7 +119,7 @@ fn shards_work_at_once(rt: HostRuntime) -> Result<(), Fail> {
     assert_on(&rt, rt.alloc(), 10, 2, Scene::OtherGate)
 }
 
-/// Eight threads ask by chance; what they were told is legal.
+/// Eight threads send random requests; their replies are legal.
 #[test]
 fn replies_to_eight_threads_are_legal(rt: HostRuntime) -> Result<(), Fail> {
     assert_on(&rt, rt.alloc(), CAPACITY, 8, Scene::Crowd)

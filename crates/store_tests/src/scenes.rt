@@ -1,5 +1,5 @@
-// What is played on a new store. A store's markers are picked where its shards, and then its line, are known, and a
-// function that is called so has no text among its parameters: so a test names a scene, and there is one way to a store.
+// Scenes on a new store. A store's markers are picked once its shards, and then its line, are known, and a function
+// that is called so has no text among its parameters: so a test names a scene, and there is one way to a store.
 ghost use Rattle.std.specs.Prelude.{◌≡◌, ◌<◌, vec_len};
 ghost use Rattle.line.specs.Seat.{AreShards};
 ghost use Rattle.store.specs.Callers.{IsLine};
@@ -28,7 +28,7 @@ pub(crate) enum Scene {
     Gate,
     OtherGate,
     Crowd,
-    /// Here a store may be refused for want of memory.
+    /// Here a store may be refused because memory ran out.
     AllocationFailures,
 }
 
@@ -98,7 +98,7 @@ fn assert_on_shards<H: Sharding + Send + Sync, R: Threads + Wait + Abort + Sync>
     }
 }
 
-/// Plays a scene on a new store of that capacity and so many shards.
+/// Plays a scene on a new store with that capacity and so many shards.
 pub(crate) fn assert_on<R: Threads + Wait + Abort + Sync>(
     rt: &R,
     alloc: Global,

@@ -1,6 +1,6 @@
-//! What a shard of versions answers, call by call, where no line shows it: at which numbers its records stand, and how many it
-//! keeps. What lines show of lists at exact versions and of compactions is beside a slow store, in `checks/model` and
-//! `checks/races`.
+//! What a shard of versions returns, call by call, if no line shows it: at which numbers its records are, and how many
+//! it keeps. What lines show of lists at exact versions and of compactions is compared with a slow store, in
+//! `checks/model` and `checks/races`.
 #![tactic(auto)]
 
 #[cfg(test)]

@@ -1,4 +1,4 @@
-// What is read of a shard. An object is told by its resource version.
+// What is read of a shard. An object is recognized by its resource version.
 use objects::{Key, Kind, Object, Text};
 use std::alloc::Global;
 use std::process::Abort;

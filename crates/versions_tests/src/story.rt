@@ -1,5 +1,5 @@
-//! The records of two pods and a claim, and what is read of them before compactions, behind each, and behind later records. All
-//! of it was worked out by hand.
+//! The records of two pods and a claim, and what is read of them before compactions, after each, and after later
+//! records. All of it was worked out by hand.
 use crate::readings::{lists, newest, reads};
 use crate::rising::Rising;
 use objects::{Key, Kind, Object, read_object};
@@ -24,7 +24,7 @@ type Record = (
     Option<&'static str>,
 );
 
-/// A pod comes and changes twice. Of another the first record is a removal.
+/// A pod is created and changes twice. The first record of another is a removal.
 static FIRST: [Record; 4] = [
     (
         2,
@@ -44,7 +44,7 @@ static FIRST: [Record; 4] = [
     ),
 ];
 
-/// Further keys, out of the order of their names; then the first pod goes, and comes again.
+/// Further keys, out of the order of their names; then the first pod is removed, and created again.
 static LATER: [Record; 5] = [
     (
         9,
@@ -83,7 +83,7 @@ static BEFORE: [(u64, Option<u64>); 8] = [
     (u64::MAX, Some(70)),
 ];
 
-/// What it is behind the later records.
+/// What it is after the later records.
 static BEHIND: [(u64, Option<u64>); 6] = [
     (7, Some(70)),
     (11, Some(70)),
@@ -93,7 +93,7 @@ static BEHIND: [(u64, Option<u64>); 6] = [
     (u64::MAX, Some(140)),
 ];
 
-/// Compactions to numbers, and behind each how many records and which floor it leaves, and what the first pod is there.
+/// Compactions to numbers, and after each how many records and which floor it leaves, and what the first pod is there.
 static COMPACTIONS: [(u64, usize, u64, u64); 3] = [
     (6, 3, 6, 50),
     // It drops nothing, as its number is below the floor.
@@ -175,7 +175,7 @@ fn has_size(shard: &Shard, records: usize, floor: u64) -> bool {
     shard.records() == records && shard.floor() == floor
 }
 
-/// Whether a key reads so at these numbers, and has that newest record.
+/// Whether a key has these versions at these numbers, and that newest record.
 fn is_key(
     rt: &impl Abort,
     alloc: Global,
@@ -190,7 +190,7 @@ fn is_key(
     Ok(is_so)
 }
 
-/// Whether the second pod has its removal alone.
+/// Whether the second pod has only its removal.
 fn is_removed(rt: &impl Abort, alloc: Global, shard: &Shard, number: u64) -> Result<bool, Fail> {
     let readings = [(number, None)];
     is_key(rt, alloc, shard, B, readings.as_slice(), Some((3, None)))

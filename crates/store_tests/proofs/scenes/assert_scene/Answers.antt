@@ -4,7 +4,7 @@ use Rattle.std.proofs.Crossing.{crosses}
 use Rattle.store.proofs.Sent.{caller-send, store-sync, ticket-send}
 use Rattle.store_tests.proofs.scenes.assert_scene.Goals as goal
 
--- threads may share the store, and its callers and tickets go with them
+-- threads may share the store, and its callers and tickets may move to them
 pub assert_steps-requires-send-S-Caller : goal.assert_steps-requires-send-S-Caller
 assert_steps-requires-send-S-Caller g c κs within =
     let held : IsSend (param 0 g.row.H) = c.type_bounds.send-H in
