@@ -19,7 +19,7 @@ pub(crate) struct Counts {
 }
 
 #[derive(Clone, Copy)]
-pub(crate) struct Asked {
+pub(crate) struct Options {
     /// The requested load, if it is not all of them.
     load: Option<Load>,
     /// How many pushes and how many readings a shard gets, if the arguments say it.
@@ -28,7 +28,7 @@ pub(crate) struct Asked {
     pub(crate) counts: Option<Counts>,
 }
 
-impl Asked {
+impl Options {
     pub(crate) fn includes(&self, load: Load) -> bool {
         match self.load {
             Some(only) => only == load,
@@ -48,7 +48,7 @@ fn named(word: &str) -> Option<Load> {
 }
 
 /// What the arguments after the program's name request, if they request anything that can be measured.
-pub(crate) fn read_words(words: &[String]) -> Option<Asked> {
+pub(crate) fn read_words(words: &[String]) -> Option<Options> {
     let (load, pushes, counts) = match words {
         [] => (None, None, None),
         [load] => (Some(named(load.as_str())?), None, None),
@@ -63,7 +63,7 @@ pub(crate) fn read_words(words: &[String]) -> Option<Asked> {
         }
         _ => return None,
     };
-    Some(Asked {
+    Some(Options {
         load,
         pushes,
         counts,

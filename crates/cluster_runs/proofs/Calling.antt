@@ -14,14 +14,14 @@ use Rattle.rounds.specs.Transcript.{Incarnation}
 use Rattle.rounds.specs.World.{put}
 use Rattle.cluster_runs.specs.Cluster.{Cluster, first_incarnation, is_used, incarnation_after, lowest_unused, start, with_crash}
 use Rattle.cluster_runs.proofs.Kept.{among, put_other, put_same}
-use Rattle.cluster_runs.specs.Callers.{AreCallers, HoldsCallers, owner}
+use Rattle.cluster_runs.specs.UsedCallers.{AreCallers, HoldsCallers, owner}
 use Rattle.cluster_runs.specs.Ran.{owner_in}
-use Rattle.cluster_runs.specs.declared.callers.Callers.{Callers}
+use Rattle.cluster_runs.specs.declared.callers.UsedCallers.{UsedCallers}
 use Rattle.cluster_runs.proofs.Lowest.{as_many, lowest_is}
 
 -- ---- the owners and the callers
 
-module _ (count : ℕ) (k : Cluster) (callers : Callers) (are : AreCallers count k callers) where
+module _ (count : ℕ) (k : Cluster) (callers : UsedCallers) (are : AreCallers count k callers) where
   pub unused_lowest : (n : ℕ) → get nat_cmp callers.owners n ≡ None → is_used k n ≡ false
   unused_lowest n none = by (is_used k n) refl
     where
@@ -90,10 +90,10 @@ not_among n used m fresh = (apart, sym (among_other n used m apart) ∙ fresh)
     apart e = false≢true (sym fresh ∙ ap (among (n ∷ used)) e ∙ among_first n used)
 
 -- the owners with one more
-abbrev pub IsPut : (old new : Callers) → ℕ → Option ℕ → Type 0
+abbrev pub IsPut : (old new : UsedCallers) → ℕ → Option ℕ → Type 0
 IsPut old new n who = (m : ℕ) → get nat_cmp new.owners m ≡ cond (m == n) (Some who) (get nat_cmp old.owners m)
 
-owners_more : (old new : Callers) (n : ℕ) (who : Option ℕ) (used : List ℕ) (incarnations incarnations' : ℕ → Option Incarnation) → IsPut old new n who → owner incarnations' n ≡ who
+owners_more : (old new : UsedCallers) (n : ℕ) (who : Option ℕ) (used : List ℕ) (incarnations incarnations' : ℕ → Option Incarnation) → IsPut old new n who → owner incarnations' n ≡ who
     → ((m : ℕ) → m ≢ n → incarnations' m ≡ incarnations m)
     → ((m : ℕ) → get nat_cmp old.owners m ≡ cond (among used m) (Some (owner incarnations m)) None)
     → (m : ℕ) → get nat_cmp new.owners m ≡ cond (among (n ∷ used) m) (Some (owner incarnations' m)) None
@@ -110,7 +110,7 @@ owners_more old new n who used incarnations incarnations' puts here others was m
 
 -- ---- another caller of a controller
 
-pub renewed : (count : ℕ) (k : Cluster) (c n : ℕ) (old new : Callers) → AreCallers count k old → c < count → is_used k n ≡ false → ((m : ℕ) → m < n → is_used k m ≡ true)
+pub renewed : (count : ℕ) (k : Cluster) (c n : ℕ) (old new : UsedCallers) → AreCallers count k old → c < count → is_used k n ≡ false → ((m : ℕ) → m < n → is_used k m ≡ true)
     → new.present.items ≡ set old.present.items c n → new.unused ≡ n → IsPut old new n (Some c) → btree_map_len new.owners ≡ btree_map_len old.owners + 1
     → btree_map_len old.owners ≢ 4096 → AreCallers count (with_crash k c) new
 renewed count k c n old new are there fresh lowest changed unused puts many few =
@@ -185,7 +185,7 @@ used_at_start count n = by (least count n)
     by (atmost le e) = past_range n count 0 (omega arith) ∙ sym (lt_false n count le)
     by (above lt e) = in_range n count 0 (omega arith) (omega arith) ∙ sym (lt_true n count lt)
 
-pub started : (count : ℕ) (callers : Callers) → length callers.present.items ≡ count → ((c : ℕ) → c < count → get_or callers.present.items c 0 ≡ c)
+pub started : (count : ℕ) (callers : UsedCallers) → length callers.present.items ≡ count → ((c : ℕ) → c < count → get_or callers.present.items c 0 ≡ c)
     → ((n : ℕ) → get nat_cmp callers.owners n ≡ cond (nat_lt n count) (Some (Some n)) None) → btree_map_len callers.owners ≡ count → callers.unused ≡ 0
     → count ≤ 4096 → AreCallers count (start count) callers
 started count callers counted own owners many none few = record {

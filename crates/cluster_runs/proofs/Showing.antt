@@ -30,10 +30,10 @@ use Rattle.rounds.specs.World.{AreMadeOf, StandAt, put}
 use Rattle.cluster_runs.specs.declared.event.ClusterEvent.{ClusterEvent}
 use Rattle.cluster_runs.specs.declared.event.ClusterEvent.TheVariants.{Next, Outside, Step, Crash}
 use Rattle.cluster_runs.specs.Cluster.{Cluster, controller_at, controller_by, hand, hand_if, happens, hears, is_idle, is_nobody, is_used, lowest_unused, run, start, delivered, with_crash, with_next, with_outside, with_step, with_used}
-use Rattle.cluster_runs.specs.Callers.{AreCallers, owner}
+use Rattle.cluster_runs.specs.UsedCallers.{AreCallers, owner}
 use Rattle.cluster_runs.specs.Shown.{Applies, Becomes, Follows, Hands, Happens, Hears, HoldsEvents, IsCluster, Overfills, Shows, Stands, Stay}
 use Rattle.cluster_runs.specs.Faults.{IsShort}
-use Rattle.cluster_runs.specs.declared.callers.Callers.{Callers}
+use Rattle.cluster_runs.specs.declared.callers.UsedCallers.{UsedCallers}
 use Rattle.cluster_runs.specs.declared.cluster.Cluster.{Cluster as Program}
 use Rattle.cluster_runs.specs.declared.fault.ClusterFault.{ClusterFault}
 use Rattle.cluster_runs.specs.declared.fault.ClusterFault.TheVariants.{BadCapacity, BadShards, TooManyCallers}
@@ -228,7 +228,7 @@ not_capacity : IsShort BadCapacity → ⊥
 not_capacity (inl is) = cc
 not_capacity (inr is) = cc
 
-pub has_begun : {D : Type 0} (r : Result D ClusterFault) (count : ℕ) (callers : Callers) → IfErr r IsShort → AreCallers count (start count) callers
+pub has_begun : {D : Type 0} (r : Result D ClusterFault) (count : ℕ) (callers : UsedCallers) → IfErr r IsShort → AreCallers count (start count) callers
     → IsErrOf r BadShards ⊎ (IsErrOf r BadCapacity ⊎ (4096 < count)) → ⊥
 has_begun r count callers short are (inl bad) = not_shards (subst (λ r. IfErr r IsShort) bad short)
 has_begun r count callers short are (inr (inl bad)) = not_capacity (subst (λ r. IfErr r IsShort) bad short)
@@ -461,7 +461,7 @@ module _ {X : Type 0} (reconciler : X → Reconciler) (phase : X → Phase) (is_
       → new.callers ≡ old.callers → OnOk r (Follows new) → OnOk r (Becomes (λ k. hand_if (when k) k e) old new)
       → (IsErrOf r TooManyCallers → Overfills (λ k. hand_if (when k) k e) old) → IfErr r IsShort → Applies reconciler phase is_waiting (Step f) old new xs xs r
   went_applies r e f when old new xs is on means kept follows went overfills reasons = record {
-    consistent = record { many = refl; present = ap (λ (callers : Callers). length callers.present.items) kept; follows = follows; reasons = reasons };
+    consistent = record { many = refl; present = ap (λ (callers : UsedCallers). length callers.present.items) kept; follows = follows; reasons = reasons };
     shows = went_shows r e f when old new xs is on means went;
     stays = at_err r _ (refl, refl);
     too_many = λ failed z reconcilers k shows.

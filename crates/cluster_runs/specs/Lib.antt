@@ -6,6 +6,6 @@ pub mod Ordered
 pub mod Ran
 pub mod Turns
 -- ---- used only by proofs
-pub mod Callers
+pub mod UsedCallers
 pub mod Leading
 pub mod Shown

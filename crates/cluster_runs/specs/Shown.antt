@@ -16,7 +16,7 @@ use Rattle.cluster_runs.specs.Cluster.{Cluster, happens, is_used, delivered}
 use Rattle.cluster_runs.specs.declared.cluster.Cluster.{Cluster as Program}
 use Rattle.cluster_runs.specs.declared.fault.ClusterFault.{ClusterFault}
 use Rattle.cluster_runs.specs.declared.fault.ClusterFault.TheVariants.{TooManyCallers}
-use Rattle.cluster_runs.specs.Callers.{AreCallers}
+use Rattle.cluster_runs.specs.UsedCallers.{AreCallers}
 use Rattle.cluster_runs.specs.Faults.{IsShort}
 
 -- the store has handled the events, by callers that were used; any other caller is idle

@@ -12,7 +12,7 @@ use Rattle.interleavings.specs.declared.event.Event.TheVariants as event
 use Rattle.interleavings.specs.Trace.{after}
 use Rattle.interleavings.specs.World.{Size, opening}
 use Rattle.history.specs.NextStep.{next_step}
-use Rattle.kubelet.specs.Kubelet.{turn_asks_all}
+use Rattle.kubelet.specs.Kubelet.{turn_requests_of}
 use Rattle.rounds.specs.Phase.{asks}
 use Rattle.rounds.specs.Reconciler.{Reconciler}
 use Rattle.cluster_runs.specs.declared.event.ClusterEvent.{ClusterEvent}
@@ -160,7 +160,7 @@ asked_all n (r ∷ rs) = followed_by (asked_as n r) (λ delivered. asked_all n r
 
 -- what it sends after a list
 abbrev pub tends : Option Reply → List Request
-tends (Some (reply.Listed pods at)) = turn_asks_all pods
+tends (Some (reply.Listed pods at)) = turn_requests_of pods
 tends delivered = []
 
 abbrev pub tended : (caller : ℕ) → (namespace : List ℕ) → Course

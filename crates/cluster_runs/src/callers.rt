@@ -2,7 +2,7 @@ ghost use Rattle.std.specs.Prelude.{◌≡◌, ◌==◌, ◌+◌, ◌<◌, ◌�
 ghost use Rattle.std.specs.BTreeMap.{btree_map_len, get};
 ghost use Rattle.std.specs.Ordering.{nat_cmp};
 ghost use Rattle.cluster_runs.specs.Cluster.{Cluster, controller_at, is_used, lowest_unused, start, with_crash, with_used};
-ghost use Rattle.cluster_runs.specs.Callers.{AreCallers};
+ghost use Rattle.cluster_runs.specs.UsedCallers.{AreCallers};
 ghost use Rattle.cluster_runs.specs.Faults.{IsShort};
 ghost use Rattle.cluster_runs.specs.Turns.{kubelet_at, kubelet_first};
 
@@ -14,7 +14,7 @@ use std::collections::BTreeMap;
 
 /// The callers that were used.
 #[derive(Drop)]
-pub(crate) struct Callers {
+pub(crate) struct UsedCallers {
     /// For each controller, by its number: its caller.
     pub present: Vec<u64>,
     /// For each caller that was used: the number of the controller that it is or was, if any.
@@ -23,9 +23,9 @@ pub(crate) struct Callers {
     pub unused: u64,
 }
 
-impl Callers {
+impl UsedCallers {
     /// The callers of `count` controllers, each with its own number.
-    pub(crate) fn of(alloc: Global, count: usize) -> Result<Callers, ClusterFault>
+    pub(crate) fn of(alloc: Global, count: usize) -> Result<UsedCallers, ClusterFault>
         ensures callers { IfOk result (λ callers. AreCallers count (start count) callers) }
         ensures too_many { IsErrOf result ClusterFault.TooManyCallers → 4096 < count }
         ensures reasons { IfErr result IsShort }
@@ -33,7 +33,7 @@ impl Callers {
         if MAX_CALLERS < count {
             return Err(ClusterFault::TooManyCallers);
         }
-        let mut callers = Callers {
+        let mut callers = UsedCallers {
             present: Vec::new(alloc),
             owners: BTreeMap::new(alloc),
             unused: 0,

@@ -1,4 +1,4 @@
-use crate::callers::Callers;
+use crate::callers::UsedCallers;
 use history::Replay;
 use interleavings::Event;
 
@@ -6,7 +6,7 @@ use interleavings::Event;
 #[derive(Drop)]
 pub(crate) struct Cluster {
     pub replay: Replay,
-    pub callers: Callers,
+    pub callers: UsedCallers,
     /// The events that were passed to the store.
     pub events: Vec<Event>,
 }

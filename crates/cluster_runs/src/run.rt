@@ -8,7 +8,7 @@ ghost use Rattle.rounds.specs.World.{AreMadeOf, StandAt};
 ghost use Rattle.cluster_runs.specs.Ordered.{OrderKeepsPromises};
 ghost use Rattle.cluster_runs.specs.Ran.{IsClusterRun, IsTooMany, StopsAt, cluster_after};
 
-use crate::callers::Callers;
+use crate::callers::UsedCallers;
 use crate::cluster::Cluster;
 use crate::event::ClusterEvent;
 use crate::fault::ClusterFault;
@@ -75,7 +75,7 @@ pub fn run_cluster<C: ControlLoop>(
 {
     clusters_keep_promises();
     let replay = Replay::new(alloc, shards, capacity)?;
-    let callers = Callers::of(alloc, controllers.len())?;
+    let callers = UsedCallers::of(alloc, controllers.len())?;
     let mut cluster = Cluster {
         replay,
         callers,
@@ -89,7 +89,7 @@ pub fn run_cluster<C: ControlLoop>(
         callers,
         events,
     } = cluster;
-    let Callers {
+    let UsedCallers {
         present,
         owners,
         unused: _,

@@ -11,7 +11,7 @@ ghost use Rattle.cluster_runs.specs.Ran.{IsClusterRun, IsTooMany, StopsAt, clust
 ghost use Rattle.cluster_runs.specs.Shown.{IsConsistent};
 ghost use Rattle.cluster_runs.specs.Turns.{course_of, course_of_all, ends_of_turns, ends_with, events_of_turns, nothing};
 
-use crate::callers::Callers;
+use crate::callers::UsedCallers;
 use crate::cluster::Cluster;
 use crate::fault::ClusterFault;
 use crate::laws::clusters_keep_promises;
@@ -81,19 +81,19 @@ pub fn run_turns<C: ControlLoop>(
 {
     clusters_keep_promises();
     let replay = Replay::new(alloc, shards, capacity)?;
-    let callers = Callers::of(alloc, controllers.len())?;
+    let callers = UsedCallers::of(alloc, controllers.len())?;
     let mut cluster = Cluster {
         replay,
         callers,
         events: Vec::new(alloc),
     };
-    let ends = cluster.go(controllers, namespaces, turns)?;
+    let ends = cluster.apply_turns(controllers, namespaces, turns)?;
     let Cluster {
         replay,
         callers,
         events,
     } = cluster;
-    let Callers {
+    let UsedCallers {
         present,
         owners,
         unused: _,
@@ -111,7 +111,7 @@ pub fn run_turns<C: ControlLoop>(
 
 impl Cluster {
     /// Makes the events of all turns, and notes how many there were after each.
-    fn go<C: ControlLoop>(
+    fn apply_turns<C: ControlLoop>(
         &mut self,
         controllers: &mut [C],
         namespaces: &[Text],

@@ -25,14 +25,14 @@ refused_race choice (Some name) input race is refused = inr (race, is, refused)
 -- what is written of the stores that were found is written of the race
 pub final_text : (choice : Option ℕ) (brief : Bool) (race : Race) (found lent : List FinalStore) (text : List ℕ) → AreFinals race found → lent ≡ found
     → IsChosenStore choice brief race lent text → IsRaceText choice brief race text
-final_text choice brief race found lent text finals same chosen = (found, finals, subst (λ fs. IsChosenStore choice brief race fs text) same chosen)
+final_text choice brief race found lent text final_stores same chosen = (found, final_stores, subst (λ fs. IsChosenStore choice brief race fs text) same chosen)
 
 refused_store : (choice : Option ℕ) (name : Option (List ℕ)) (race : Race) (found : List FinalStore) → AreFinals race found
     → IfSome name (IsStoreRefusal choice found) → IfSome name (IsRaceRefusal choice race)
-refused_store choice None race found finals refused = tt
-refused_store choice (Some name) race found finals refused = inr (inr (found, finals, refused))
+refused_store choice None race found final_stores refused = tt
+refused_store choice (Some name) race found final_stores refused = inr (inr (found, final_stores, refused))
 
 -- what is refused of the stores that were found is refused of the race
 pub final_race : (choice : Option ℕ) (name : Option (List ℕ)) (race : Race) (found lent : List FinalStore) → AreFinals race found → lent ≡ found
     → IfSome name (IsStoreRefusal choice lent) → IfSome name (IsRaceRefusal choice race)
-final_race choice name race found lent finals same refused = refused_store choice name race found finals (subst (λ fs. IfSome name (IsStoreRefusal choice fs)) same refused)
+final_race choice name race found lent final_stores same refused = refused_store choice name race found final_stores (subst (λ fs. IfSome name (IsStoreRefusal choice fs)) same refused)

@@ -1,5 +1,5 @@
 pub mod Inputs
-pub mod Asked
+pub mod CommandLine
 pub mod Ended
 pub mod Found
 pub mod Grammars

@@ -15,11 +15,11 @@ use Rattle.clap.proofs.OnLiterals.{clap_on_literals}
 use Rattle.plain.specs.Served.{served_so_far}
 use Rattle.plain.specs.Streams.{PutsPart, Takes}
 use Rattle.plain.proofs.Flows.{PutsPart-none, Takes-none}
-use Rattle.commands.specs.Asked.{IsAsked, IsFinding, IsOther, IsRaceBy, IsScriptBy, IsScripted, IsServing, IsSoughtBy}
+use Rattle.commands.specs.CommandLine.{IsCommandLine, IsFinding, IsOther, IsRaceBy, IsScriptBy, IsScripted, IsServing, AreOptionsBy}
 use Rattle.commands.specs.Serving.{ServesSome}
 use Rattle.commands.specs.declared.race_words.RaceWords.{RaceWords}
-use Rattle.commands.specs.declared.args.Asked.{Asked}
-use Rattle.commands.specs.declared.args.Asked.TheVariants as say
+use Rattle.commands.specs.declared.args.CommandLine.{CommandLine}
+use Rattle.commands.specs.declared.args.CommandLine.TheVariants as say
 use Rattle.commands.specs.Forms.{IsFlagBy}
 use Rattle.commands.specs.Grammar.{IsCapacityBy, IsChoiceBy, IsNumberBy, Plan, asked, capacity_text, digits_text, faults_of, flag_text, is_under, outcomes_text, plan_text, race_text, rows_under, stsctl_app, word_by, word_of}
 
@@ -143,45 +143,45 @@ unfolding outcomes_text
 outcomes-is words m option same = ap (λ e. one_of option (rows_under (codes "outcomes") e)) same
 
 -- what arguments request that are no plan, race, replay and cluster
-pub found_serving : (m : ArgMatches) (found : Asked) → is_under (codes "cluster") (subcommand_rows_of m) ≡ false → IsFinding (subcommand_rows_of m) found
+pub found_serving : (m : ArgMatches) (found : CommandLine) → is_under (codes "cluster") (subcommand_rows_of m) ≡ false → IsFinding (subcommand_rows_of m) found
     → IsServing (subcommand_rows_of m) found
 found_serving m (say.Cluster form) cluster finding = absurd finding
 found_serving m (say.Serve capacity) cluster finding = (cluster, finding)
-found_serving m (say.Outcomes sought) cluster finding = (cluster, finding)
+found_serving m (say.Outcomes options) cluster finding = (cluster, finding)
 found_serving m (say.Replay form) cluster finding = absurd finding
 found_serving m (say.Plan plan) cluster finding = absurd finding
 found_serving m (say.Race race) cluster finding = absurd finding
 
 -- what arguments request that are no plan, race and replay
-pub served_scripted : (m : ArgMatches) (found : Asked) → is_under (codes "replay") (subcommand_rows_of m) ≡ false → IsServing (subcommand_rows_of m) found
+pub served_scripted : (m : ArgMatches) (found : CommandLine) → is_under (codes "replay") (subcommand_rows_of m) ≡ false → IsServing (subcommand_rows_of m) found
     → IsScripted (subcommand_rows_of m) found
 served_scripted m (say.Replay form) replay serving = absurd serving.1
 served_scripted m (say.Serve capacity) replay serving = (replay, serving)
 served_scripted m (say.Cluster form) replay serving = (replay, serving)
-served_scripted m (say.Outcomes sought) replay serving = (replay, serving)
+served_scripted m (say.Outcomes options) replay serving = (replay, serving)
 served_scripted m (say.Plan plan) replay serving = absurd serving.1
 served_scripted m (say.Race race) replay serving = absurd serving.1
 
 -- what arguments request that are no plan and no race
-pub scripted_other : (m : ArgMatches) (found : Asked) → is_under (codes "race") (subcommand_rows_of m) ≡ false → IsScripted (subcommand_rows_of m) found
+pub scripted_other : (m : ArgMatches) (found : CommandLine) → is_under (codes "race") (subcommand_rows_of m) ≡ false → IsScripted (subcommand_rows_of m) found
     → IsOther (subcommand_rows_of m) found
 scripted_other m (say.Race asked) race scripted = absurd scripted.1.1
 scripted_other m (say.Serve capacity) race scripted = (race, scripted)
 scripted_other m (say.Replay form) race scripted = (race, scripted)
 scripted_other m (say.Cluster form) race scripted = (race, scripted)
-scripted_other m (say.Outcomes sought) race scripted = (race, scripted)
+scripted_other m (say.Outcomes options) race scripted = (race, scripted)
 scripted_other m (say.Plan plan) race scripted = absurd scripted.1.1
 
 -- what arguments request that are no plan
-pub other_asked : (words : List Text) (m : ArgMatches) (found : Asked) → faults_of words ≡ [] → subcommand_rows_of m ≡ subcommand_of stsctl_app words
-    → is_under (codes "plan") (subcommand_rows_of m) ≡ false → IsOther (subcommand_rows_of m) found → IsAsked words found
+pub other_asked : (words : List Text) (m : ArgMatches) (found : CommandLine) → faults_of words ≡ [] → subcommand_rows_of m ≡ subcommand_of stsctl_app words
+    → is_under (codes "plan") (subcommand_rows_of m) ≡ false → IsOther (subcommand_rows_of m) found → IsCommandLine words found
 other_asked words m (say.Serve capacity) none same plan other = (
   asked-by words m false false false false false none same plan other.0 other.1.0 other.1.1.0 other.1.1.1.0,
   subst (λ t. IsCapacityBy t capacity) (capacity-is words m same) other.1.1.1.1,
 )
-other_asked words m (say.Outcomes sought) none same plan other = (
+other_asked words m (say.Outcomes options) none same plan other = (
   asked-by words m false false false false true none same plan other.0 other.1.0 other.1.1.0 other.1.1.1.0,
-  subst (λ t. IsSoughtBy t sought) (λ i option. outcomes-is words m option same i) other.1.1.1.1,
+  subst (λ t. AreOptionsBy t options) (λ i option. outcomes-is words m option same i) other.1.1.1.1,
 )
 other_asked words m (say.Replay form) none same plan other = (
   asked-by words m false false true _ _ none same plan other.0 other.1.0 refl refl,

@@ -22,13 +22,13 @@ use Rattle.traces.specs.Traced.{trace_by_lines_text}
 use Rattle.cluster_scripts.specs.Refusals.{refused_line_of}
 pub use Rattle.outcome_lines.specs.StoreScripts.{events_by}
 use Rattle.commands.specs.Halts.{IsRefusedIn}
-use Rattle.commands.specs.Forms.{IsFormBy, WritesBy}
+use Rattle.commands.specs.Forms.{IsFormatBy, WritesBy}
 use Rattle.commands.specs.Grammar.{flag_text}
 use Rattle.commands.specs.Replaying.{IsSizeRefusal}
 use Rattle.commands.specs.Roles.{role_by}
 use Rattle.commands.specs.Running.{IsScriptRefusal, IsScriptText}
-use Rattle.commands.specs.declared.options.Form.{Form}
-use Rattle.commands.specs.declared.options.Form.TheVariants.{Lines, Picture, Trace, Writes}
+use Rattle.commands.specs.declared.options.OutputFormat.{OutputFormat}
+use Rattle.commands.specs.declared.options.OutputFormat.TheVariants.{Lines, Picture, Trace, Writes}
 
 -- the cluster of the script, after its events
 abbrev pub cluster_by : ClusterScript → Cluster
@@ -72,20 +72,20 @@ IsClusterTrace script text = (found : ClusterRun)
     × IsClusterRun (size_of script.spec) (length script.spec.sets.items) (reconciler_named script.spec.sets.items) (events_by script) found
     × (text ≡ trace_of script.spec found (ends_by script))
 
-abbrev pub IsClusterShown : Form → ClusterScript → List ℕ → Type 0
+abbrev pub IsClusterShown : OutputFormat → ClusterScript → List ℕ → Type 0
 IsClusterShown Lines script text = IsClusterText script text
 IsClusterShown (Picture shown) script text = IsClusterPicture shown script text
 IsClusterShown Writes script text = IsClusterStory script text
 IsClusterShown Trace script text = IsClusterTrace script text
 
 -- the same for the script in the input
-abbrev pub IsClusterTextOf : Form → (input text : List ℕ) → Type 0
+abbrev pub IsClusterTextOf : OutputFormat → (input text : List ℕ) → Type 0
 IsClusterTextOf form input text = IsScriptText cluster_script_of parts_of IsClusterShown form input text
 
 -- That text was written, in the requested form.
 abbrev pub Clusters : (puts : Option (List ℕ) → List ℕ → Option (List ℕ) → Type 0) → List Text → (had left before after : Option (List ℕ)) → Type 0
 Clusters puts words had left before after =
-    (form : Form) × IsFormBy (λ flag. flag_text (codes "cluster") flag words) form × WritesBy puts (IsClusterTextOf form) had left before after
+    (form : OutputFormat) × IsFormatBy (λ flag. flag_text (codes "cluster") flag words) form × WritesBy puts (IsClusterTextOf form) had left before after
 
 -- the run of the script is refused as that of a replay, by the callers that are used
 abbrev pub IsClusterRunRefusal : ClusterScript → (name : List ℕ) → Type 0
@@ -99,9 +99,9 @@ cluster_refusal errors.TooManyCallers = Some (codes "TooManyCallers")
 cluster_refusal errors.Memory = None
 
 -- the input is refused for this, as it is no script or as its run is
-abbrev pub IsClusterRefusal : (place : Bool) → (input name : List ℕ) → Type 0
-IsClusterRefusal place input name = IsScriptRefusal cluster_script_of parts_of refused_line_of IsClusterRunRefusal place input name
+abbrev pub IsClusterRefusal : (shows_line : Bool) → (input name : List ℕ) → Type 0
+IsClusterRefusal shows_line input name = IsScriptRefusal cluster_script_of parts_of refused_line_of IsClusterRunRefusal shows_line input name
 
 -- All of the reader's bytes were read, and are refused by this name.
-abbrev pub IsClusterRefusedBy : (place : Bool) → Option (List ℕ) → Option (List ℕ) → List ℕ → Type 0
-IsClusterRefusedBy place had left name = IsRefusedIn (IsClusterRefusal place) had left name
+abbrev pub IsClusterRefusedBy : (shows_line : Bool) → Option (List ℕ) → Option (List ℕ) → List ℕ → Type 0
+IsClusterRefusedBy shows_line had left name = IsRefusedIn (IsClusterRefusal shows_line) had left name

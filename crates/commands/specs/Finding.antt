@@ -18,7 +18,7 @@ use Rattle.outcomes.specs.declared.outcome.OutcomesError.TheVariants as finding
 use Rattle.requests.specs.declared.reply.Reply.{Reply}
 use Rattle.commands.specs.Halts.{IsRefusedIn}
 use Rattle.commands.specs.Forms.{WritesBy}
-use Rattle.commands.specs.Asked.{IsSoughtBy}
+use Rattle.commands.specs.CommandLine.{AreOptionsBy}
 use Rattle.commands.specs.Ending.{IsBadCapacity, IsStoresRefusal, IsStoresText}
 use Rattle.commands.specs.Grammar.{outcomes_text}
 use Rattle.commands.specs.declared.args.OutcomesWords.{OutcomesWords}
@@ -50,27 +50,27 @@ IsChosenBy None brief litmus found text = text ≡ lines_of_all brief litmus fou
 IsChosenBy (Some number) brief litmus found text = (o : Outcome) × (outcome_of number found ≡ Some o) × ShowsOutcome litmus o.replies.items text
 
 abbrev pub IsChosenText : OutcomesWords → Litmus → List Outcome → (text : List ℕ) → Type 0
-IsChosenText sought litmus found text = IsChosenBy sought.choice sought.brief litmus found text
+IsChosenText options litmus found text = IsChosenBy options.choice options.brief litmus found text
 
 abbrev pub IsFoundText : OutcomesWords → Litmus → (text : List ℕ) → Type 0
-IsFoundText sought litmus text = (found : List Outcome) × AreOutcomes litmus found × IsChosenText sought litmus found text
+IsFoundText options litmus text = (found : List Outcome) × AreOutcomes litmus found × IsChosenText options litmus found text
 
 -- the same for the litmus test in the input
 abbrev pub IsLitmusText : OutcomesWords → (input text : List ℕ) → Type 0
-IsLitmusText sought input text = (litmus : Litmus) × (litmus_of input ≡ Some (parts_of litmus)) × IsFoundText sought litmus text
+IsLitmusText options input text = (litmus : Litmus) × (litmus_of input ≡ Some (parts_of litmus)) × IsFoundText options litmus text
 
 -- if requested, the stores that the race in the input can leave
-abbrev pub IsTextBy : (finals : Bool) → OutcomesWords → (input text : List ℕ) → Type 0
-IsTextBy true sought input text = IsStoresText sought.choice sought.brief input text
-IsTextBy false sought input text = IsLitmusText sought input text
+abbrev pub IsTextBy : (final_stores : Bool) → OutcomesWords → (input text : List ℕ) → Type 0
+IsTextBy true options input text = IsStoresText options.choice options.brief input text
+IsTextBy false options input text = IsLitmusText options input text
 
 abbrev pub IsOutcomesText : OutcomesWords → (input text : List ℕ) → Type 0
-IsOutcomesText sought input text = IsTextBy sought.finals sought input text
+IsOutcomesText options input text = IsTextBy options.final_stores options input text
 
 -- That text was written: all outcomes, in words if that is requested, or the requested script, or all stores.
 abbrev pub Finds : (puts : Option (List ℕ) → List ℕ → Option (List ℕ) → Type 0) → List Text → (had left before after : Option (List ℕ)) → Type 0
 Finds puts words had left before after =
-    (sought : OutcomesWords) × IsSoughtBy (λ option. outcomes_text option words) sought × WritesBy puts (IsOutcomesText sought) had left before after
+    (options : OutcomesWords) × AreOptionsBy (λ option. outcomes_text option words) options × WritesBy puts (IsOutcomesText options) had left before after
 
 -- ---- refusals
 
@@ -89,16 +89,16 @@ abbrev pub IsLitmusRefusal : (choice : Option ℕ) → (input name : List ℕ) �
 IsLitmusRefusal choice input name = ((litmus_of input ≡ None) × (name ≡ codes "BadScript"))
     ⊎ ((litmus : Litmus) × (litmus_of input ≡ Some (parts_of litmus)) × IsFindingRefusal choice litmus name)
 
-abbrev pub IsRefusalBy : (finals : Bool) → OutcomesWords → (input name : List ℕ) → Type 0
-IsRefusalBy true sought input name = IsStoresRefusal sought.choice input name
-IsRefusalBy false sought input name = IsLitmusRefusal sought.choice input name
+abbrev pub IsRefusalBy : (final_stores : Bool) → OutcomesWords → (input name : List ℕ) → Type 0
+IsRefusalBy true options input name = IsStoresRefusal options.choice input name
+IsRefusalBy false options input name = IsLitmusRefusal options.choice input name
 
 abbrev pub IsOutcomesRefusal : OutcomesWords → (input name : List ℕ) → Type 0
-IsOutcomesRefusal sought input name = IsRefusalBy sought.finals sought input name
+IsOutcomesRefusal options input name = IsRefusalBy options.final_stores options input name
 
 -- All of the reader's bytes were read, and are refused by this name.
 abbrev pub IsOutcomesRefusedBy : OutcomesWords → Option (List ℕ) → Option (List ℕ) → List ℕ → Type 0
-IsOutcomesRefusedBy sought had left name = IsRefusedIn (IsOutcomesRefusal sought) had left name
+IsOutcomesRefusedBy options had left name = IsRefusedIn (IsOutcomesRefusal options) had left name
 
 -- the name of a refusal; out of memory is none
 abbrev pub finding_refusal : OutcomesError → Option (List ℕ)

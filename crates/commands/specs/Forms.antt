@@ -2,9 +2,9 @@
 use Rattle.std.specs.Prelude.{◌≡◌, ℕ, Bool, true, false, List, [], Option, Some, None, codes}
 use Rattle.std.specs.Option.{IfSome}
 use Rattle.clap.specs.Words.{Text}
-use Rattle.commands.specs.declared.options.Form.{Form}
+use Rattle.commands.specs.declared.options.OutputFormat.{OutputFormat}
 use Rattle.pictures.specs.declared.shown.Shown.TheVariants as shown
-use Rattle.commands.specs.declared.options.Form.TheVariants.{Lines, Picture, Trace, Writes}
+use Rattle.commands.specs.declared.options.OutputFormat.TheVariants.{Lines, Picture, Trace, Writes}
 
 -- whether a flag is given, by what `clap` has for it: `true` if it is, else `false` or nothing
 abbrev pub IsFlagBy : Option Text → Bool → Type 0
@@ -13,18 +13,18 @@ IsFlagBy (Some text) given = (text ≡ codes "true" → given ≡ true) × (text
 
 -- what is printed if these flags are given: the trace has precedence, and with the other two it is a picture of the
 -- writes
-abbrev pub form_of : (picture writes trace : Bool) → Form
-form_of picture writes true = Trace
-form_of true true false = Picture shown.Writes
-form_of true false false = Picture shown.All
-form_of false true false = Writes
-form_of false false false = Lines
+abbrev pub format_of : (picture writes trace : Bool) → OutputFormat
+format_of picture writes true = Trace
+format_of true true false = Picture shown.Writes
+format_of true false false = Picture shown.All
+format_of false true false = Writes
+format_of false false false = Lines
 
 -- what the flags `--picture`, `--writes` and `--trace` request, by what `clap` has for each
-abbrev pub IsFormBy : (text : Text → Option Text) → Form → Type 0
-IsFormBy text form = (picture : Bool) × ((writes : Bool) × ((trace : Bool)
+abbrev pub IsFormatBy : (text : Text → Option Text) → OutputFormat → Type 0
+IsFormatBy text form = (picture : Bool) × ((writes : Bool) × ((trace : Bool)
     × (IsFlagBy (text (codes "picture")) picture × IsFlagBy (text (codes "writes")) writes × IsFlagBy (text (codes "trace")) trace
-    × (form ≡ form_of picture writes trace))))
+    × (form ≡ format_of picture writes trace))))
 
 -- All of the reader's bytes were read, and all of such a text of the input was written, by `Puts`, or a prefix, by
 -- `PutsPart`.

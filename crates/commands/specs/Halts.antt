@@ -28,7 +28,7 @@ halt_of input.Read = Read
 halt_of input.Memory = Memory
 
 -- the line that a refusal names, if it is requested
-abbrev pub told_line : (place : Bool) → Option ℕ → Option ℕ
+abbrev pub told_line : (shows_line : Bool) → Option ℕ → Option ℕ
 told_line true line = line
 told_line false line = None
 

@@ -1,5 +1,5 @@
 -- ---- cited by public clauses
-pub mod Asked
+pub mod CommandLine
 pub mod Clustering
 pub mod Ending
 pub mod Finding

@@ -21,7 +21,7 @@ use Rattle.plan_lines.specs.RefusedLines.{refused_line_of}
 use Rattle.plan_lines.specs.Refusals.{plan_error_name}
 use Rattle.commands.specs.declared.args.PlanWords.{PlanWords}
 use Rattle.commands.specs.Halts.{refused_as, told_line}
-use Rattle.commands.specs.Asked.{IsPlanAsked}
+use Rattle.commands.specs.CommandLine.{IsPlanAsked}
 use Rattle.commands.specs.Forms.{WritesBy}
 
 -- a plan of the requested set, which is the first of its namespace and name among the objects
@@ -85,13 +85,13 @@ IsRefusedOver asked lists name = ((find (is_named asked.namespace.now asked.name
     ⊎ ((object : Object) × (find (is_named asked.namespace.now asked.name.now) lists.sets ≡ Some object) × IsSetRefused object lists asked.digits name)
 
 -- A line of the input is no object, for the reason of this name, and for the first such line.
-abbrev pub IsInputRefusal : (place : Bool) → (input name : List ℕ) → Type 0
-IsInputRefusal place input name = (e : ReadError) × ((n : List ℕ) × (read_refusal e ≡ Some n) × (read_from nothing (lines input) ≡ Err e)
-    × (name ≡ refused_as (told_line place (refused_line_of input)) n))
+abbrev pub IsInputRefusal : (shows_line : Bool) → (input name : List ℕ) → Type 0
+IsInputRefusal shows_line input name = (e : ReadError) × ((n : List ℕ) × (read_refusal e ≡ Some n) × (read_from nothing (lines input) ≡ Err e)
+    × (name ≡ refused_as (told_line shows_line (refused_line_of input)) n))
 
 -- The input is refused for this, or its objects have no plan.
 abbrev pub IsPlanRefusal : PlanWords → (input name : List ℕ) → Type 0
-IsPlanRefusal asked input name = IsInputRefusal asked.place input name
+IsPlanRefusal asked input name = IsInputRefusal asked.shows_line input name
     ⊎ ((lists : Lists) × (read_from nothing (lines input) ≡ Ok lists) × IsRefusedOver asked lists name)
 
 -- All of the reader's bytes were read, and have no plan, for the reason of this name.

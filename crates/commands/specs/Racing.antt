@@ -9,7 +9,7 @@ use Rattle.race_log.specs.Report.{report_text}
 use Rattle.racing.specs.Answered.{IsAnswered}
 use Rattle.racing.specs.Parts.{IsRaceOf}
 use Rattle.commands.specs.declared.race_words.RaceWords.{RaceWords}
-use Rattle.commands.specs.Asked.{IsRaceAsked}
+use Rattle.commands.specs.CommandLine.{IsRaceAsked}
 
 -- the history of a race, if that is requested
 abbrev pub history_shown : RaceWords → RaceHistory → List ℕ

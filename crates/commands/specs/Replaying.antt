@@ -18,11 +18,11 @@ use Rattle.stories.specs.Story.{story_text}
 use Rattle.traces.specs.Traced.{trace_text}
 use Rattle.replay_lines.specs.Refusals.{refused_line_of}
 use Rattle.commands.specs.Halts.{IsRefusedIn}
-use Rattle.commands.specs.Forms.{IsFormBy, WritesBy}
+use Rattle.commands.specs.Forms.{IsFormatBy, WritesBy}
 use Rattle.commands.specs.Grammar.{flag_text}
 use Rattle.commands.specs.Running.{IsScriptRefusal, IsScriptText}
-use Rattle.commands.specs.declared.options.Form.{Form}
-use Rattle.commands.specs.declared.options.Form.TheVariants.{Lines, Picture, Trace, Writes}
+use Rattle.commands.specs.declared.options.OutputFormat.{OutputFormat}
+use Rattle.commands.specs.declared.options.OutputFormat.TheVariants.{Lines, Picture, Trace, Writes}
 use Rattle.replay_lines.specs.declared.fault.ScriptError.TheVariants.{BadScript, Memory}
 
 -- the replies of the run of these events, and its order
@@ -34,21 +34,21 @@ abbrev pub IsStoryText : Size × List Event → List ℕ → Type 0
 IsStoryText script text = (run : Run) × IsRunOf script.0 script.1 run × (text ≡ story_text no_role run.trace.items.items)
 
 -- the text of a run in this form
-abbrev pub IsShownText : Form → Size × List Event → List ℕ → Type 0
+abbrev pub IsShownText : OutputFormat → Size × List Event → List ℕ → Type 0
 IsShownText Lines script text = IsRunText script text
 IsShownText (Picture shown) script text = text ≡ picture_text shown script.0 no_role script.1
 IsShownText Writes script text = IsStoryText script text
 IsShownText Trace script text = text ≡ trace_text no_role script.0 script.1
 
 -- the same for the script in the input
-abbrev pub IsReplayText : Form → (input text : List ℕ) → Type 0
+abbrev pub IsReplayText : OutputFormat → (input text : List ℕ) → Type 0
 IsReplayText form input text = IsScriptText script_of parts_of (λ f script. IsShownText f (parts_of script)) form input text
 
 -- That text was written, in the requested form: the replies of the run and its order, its picture, its writes, or its
 -- trace.
 abbrev pub Replays : (puts : Option (List ℕ) → List ℕ → Option (List ℕ) → Type 0) → List Text → (had left before after : Option (List ℕ)) → Type 0
 Replays puts words had left before after =
-    (form : Form) × IsFormBy (λ flag. flag_text (codes "replay") flag words) form × WritesBy puts (IsReplayText form) had left before after
+    (form : OutputFormat) × IsFormatBy (λ flag. flag_text (codes "replay") flag words) form × WritesBy puts (IsReplayText form) had left before after
 
 -- A run of this size is refused by this name: the first that applies of shards out of range, capacity out of range, and
 -- too many callers.
@@ -69,12 +69,12 @@ run_refusal errors.TooManyCallers = Some (codes "TooManyCallers")
 run_refusal errors.Memory = None
 
 -- the input is refused for this, as it is no script or as its run is
-abbrev pub IsReplayRefusal : (place : Bool) → (input name : List ℕ) → Type 0
-IsReplayRefusal place input name = IsScriptRefusal script_of parts_of refused_line_of (λ script. IsRunRefusal (parts_of script)) place input name
+abbrev pub IsReplayRefusal : (shows_line : Bool) → (input name : List ℕ) → Type 0
+IsReplayRefusal shows_line input name = IsScriptRefusal script_of parts_of refused_line_of (λ script. IsRunRefusal (parts_of script)) shows_line input name
 
 -- All of the reader's bytes were read, and are refused by this name.
-abbrev pub IsRefusedBy : (place : Bool) → Option (List ℕ) → Option (List ℕ) → List ℕ → Type 0
-IsRefusedBy place had left name = IsRefusedIn (IsReplayRefusal place) had left name
+abbrev pub IsRefusedBy : (shows_line : Bool) → Option (List ℕ) → Option (List ℕ) → List ℕ → Type 0
+IsRefusedBy shows_line had left name = IsRefusedIn (IsReplayRefusal shows_line) had left name
 
 -- the name of the refusal of a text that is no script
 abbrev pub script_refusal : ScriptError → Option (List ℕ)

@@ -2,13 +2,13 @@
 ghost use Rattle.std.specs.Prelude.{◌≡◌, ◌≤◌, [], true, false, codes, map, unwrap_or, IfOk};
 ghost use Rattle.clap.specs.Words.{App, FailsBy, app_of, first_of, found_of, one_of, rows_of, rule_of, subcommand_rows_of, with_subcommand};
 ghost use Rattle.commands.specs.Grammar.{IsCapacityBy, IsChoiceBy, IsDigitsBy, cluster_app, faults_of, flag_rule, namespace_rule, outcomes_app, plan_app, replay_app, rows_under, serve_app, set_rule, stsctl_app};
-ghost use Rattle.commands.specs.Asked.{IsAsked, IsFinding, IsOther, IsScriptBy, IsScripted, IsServing, IsSoughtBy};
+ghost use Rattle.commands.specs.CommandLine.{IsCommandLine, IsFinding, IsOther, IsScriptBy, IsScripted, IsServing, AreOptionsBy};
 ghost use Rattle.commands.specs.Forms.{IsFlagBy};
 
 use crate::help::{CLUSTER_END, OUTCOMES_END, PLAN_END, REPLAY_END, SERVE_END};
 use crate::options::{
-    Form, flag_arg, flag_in, form_in, from_1_to_64, from_1_to_20000, number_arg, number_in,
-    picture_arg, trace_arg, writes_arg,
+    OutputFormat, flag_arg, flag_in, format_in, from_1_to_64, from_1_to_20000, number_arg,
+    number_in, picture_arg, trace_arg, writes_arg,
 };
 use crate::race_words::{RaceWords, race_grammar, race_words};
 use clap::{Arg, ArgMatches, Command, Error, value_parser};
@@ -30,14 +30,14 @@ pub(crate) struct PlanWords<'a> {
     pub(crate) name: &'a str,
     pub(crate) digits: usize,
     pub(crate) brief: bool,
-    pub(crate) place: bool,
+    pub(crate) shows_line: bool,
 }
 
 /// What is printed of a script, and whether a refusal names its line.
 #[derive(Clone, Copy, Drop)]
 pub(crate) struct ScriptWords {
-    pub(crate) form: Form,
-    pub(crate) place: bool,
+    pub(crate) form: OutputFormat,
+    pub(crate) shows_line: bool,
 }
 
 /// Which outcome's script is requested, by its number from 1, whether outcomes are printed in words, and whether they
@@ -46,12 +46,12 @@ pub(crate) struct ScriptWords {
 pub(crate) struct OutcomesWords {
     pub(crate) choice: Option<u64>,
     pub(crate) brief: bool,
-    pub(crate) finals: bool,
+    pub(crate) final_stores: bool,
 }
 
 /// What the arguments request.
 #[derive(Clone, Copy, Drop)]
-pub(crate) enum Asked<'a> {
+pub(crate) enum CommandLine<'a> {
     /// Serve requests from a store with room for this many revisions.
     Serve(u64),
     /// Run the events of a script.
@@ -193,54 +193,57 @@ fn plan_grammar<'a>(alloc: Global) -> Result<Command<'a>, AllocError>
 }
 
 /// What the arguments request. An `Err` may also be a request for help or for the version.
-pub(crate) fn read_words<'a, S: AsStr>(alloc: Global, words: &'a [S]) -> Result<Asked<'a>, Error>
+pub(crate) fn read_words<'a, S: AsStr>(
+    alloc: Global,
+    words: &'a [S],
+) -> Result<CommandLine<'a>, Error>
     ensures faults { FailsBy (faults_of (map S.text words.entry.now)) result }
-    ensures asked { IfOk result (IsAsked (map S.text words.entry.now)) }
+    ensures asked { IfOk result (IsCommandLine (map S.text words.entry.now)) }
 {
     let matches = grammar(alloc)?.try_get_matches_from(words)?;
     Ok(match matches.subcommand_matches("plan") {
-        Some(plan) => Asked::Plan(plan_words(plan)),
+        Some(plan) => CommandLine::Plan(plan_words(plan)),
         None => other_in(&matches),
     })
 }
 
 /// What arguments request that are no plan.
-fn other_in<'a>(matches: &ArgMatches<'_>) -> Asked<'a>
+fn other_in<'a>(matches: &ArgMatches<'_>) -> CommandLine<'a>
     ensures { IsOther (subcommand_rows_of matches.now) result }
 {
     match matches.subcommand_matches("race") {
-        Some(race) => Asked::Race(race_words(race)),
+        Some(race) => CommandLine::Race(race_words(race)),
         None => scripted_in(matches),
     }
 }
 
 /// What arguments request that are no plan and no race.
-fn scripted_in<'a>(matches: &ArgMatches<'_>) -> Asked<'a>
+fn scripted_in<'a>(matches: &ArgMatches<'_>) -> CommandLine<'a>
     ensures { IsScripted (subcommand_rows_of matches.now) result }
 {
     match matches.subcommand_matches("replay") {
-        Some(replay) => Asked::Replay(script_words(replay)),
+        Some(replay) => CommandLine::Replay(script_words(replay)),
         None => serving_in(matches),
     }
 }
 
 /// What arguments request that are no plan, no race and no replay.
-fn serving_in<'a>(matches: &ArgMatches<'_>) -> Asked<'a>
+fn serving_in<'a>(matches: &ArgMatches<'_>) -> CommandLine<'a>
     ensures { IsServing (subcommand_rows_of matches.now) result }
 {
     match matches.subcommand_matches("cluster") {
-        Some(cluster) => Asked::Cluster(script_words(cluster)),
+        Some(cluster) => CommandLine::Cluster(script_words(cluster)),
         None => finding_in(matches),
     }
 }
 
 /// What arguments request that are no plan, no race, no replay and no cluster.
-fn finding_in<'a>(matches: &ArgMatches<'_>) -> Asked<'a>
+fn finding_in<'a>(matches: &ArgMatches<'_>) -> CommandLine<'a>
     ensures { IsFinding (subcommand_rows_of matches.now) result }
 {
     match matches.subcommand_matches("outcomes") {
-        Some(outcomes) => Asked::Outcomes(outcomes_words(outcomes)),
-        None => Asked::Serve(capacity_in(matches)),
+        Some(outcomes) => CommandLine::Outcomes(outcomes_words(outcomes)),
+        None => CommandLine::Serve(capacity_in(matches)),
     }
 }
 
@@ -249,8 +252,8 @@ fn script_words(matches: &ArgMatches<'_>) -> ScriptWords
     ensures { IsScriptBy (λ flag. one_of flag (rows_of (found_of matches.now))) result }
 {
     ScriptWords {
-        form: form_in(matches),
-        place: flag_in(matches, "where"),
+        form: format_in(matches),
+        shows_line: flag_in(matches, "where"),
     }
 }
 
@@ -291,12 +294,12 @@ fn where_arg<'a>(alloc: Global) -> Arg<'a>
 
 /// The arguments after `outcomes`.
 fn outcomes_words(matches: &ArgMatches<'_>) -> OutcomesWords
-    ensures { IsSoughtBy (λ option. one_of option (rows_of (found_of matches.now))) result }
+    ensures { AreOptionsBy (λ option. one_of option (rows_of (found_of matches.now))) result }
 {
     OutcomesWords {
         choice: choice_in(matches),
         brief: flag_in(matches, "brief"),
-        finals: flag_in(matches, "final"),
+        final_stores: flag_in(matches, "final"),
     }
 }
 
@@ -326,13 +329,13 @@ fn plan_words<'a>(matches: &ArgMatches<'a>) -> PlanWords<'a>
     ensures some { 1 ≤ result.digits }
     ensures most { result.digits ≤ 64 }
     ensures brief { IsFlagBy (one_of (codes "brief") (rows_of (found_of matches.now))) result.brief }
-    ensures place { IsFlagBy (one_of (codes "where") (rows_of (found_of matches.now))) result.place }
+    ensures shows_line { IsFlagBy (one_of (codes "where") (rows_of (found_of matches.now))) result.shows_line }
 {
     PlanWords {
         namespace: matches.get_str("namespace").unwrap_or("default"),
         name: matches.get_str("set").unwrap_or(""),
         digits: number_in(matches, "digits", DIGITS, 1, MAX_DIGITS) as usize,
         brief: flag_in(matches, "brief"),
-        place: flag_in(matches, "where"),
+        shows_line: flag_in(matches, "where"),
     }
 }

@@ -6,7 +6,7 @@ ghost use Rattle.commands.specs.Halts.{is_read, name_of};
 
 use crate::answering::Answer;
 use crate::args::OutcomesWords;
-use crate::ending::stores_of_lines;
+use crate::final_stores::stores_of_lines;
 use crate::halt::Halt;
 use outcome_lines::{outcomes_brief_text, outcomes_text, read_litmus, script_text};
 use outcomes::{Litmus, Outcome, outcomes};
@@ -16,70 +16,70 @@ use std::alloc::Global;
 /// outcome; or the stores that a race of controllers can leave.
 #[derive(Clone, Copy, Drop)]
 pub(crate) struct Finding {
-    pub(crate) sought: OutcomesWords,
+    pub(crate) options: OutcomesWords,
 }
 
 impl Answer for Finding {
-    ghost is_text = { λ word input text. IsOutcomesText word.sought input text };
+    ghost is_text = { λ word input text. IsOutcomesText word.options input text };
 
-    ghost is_refusal = { λ word input name. IsOutcomesRefusal word.sought input name };
+    ghost is_refusal = { λ word input name. IsOutcomesRefusal word.options input name };
 
     fn answer(&self, alloc: Global, input: &[u8]) -> Result<Vec<u8>, Halt> {
-        outcomes_of_lines(alloc, self.sought, input)
+        outcomes_of_lines(alloc, self.options, input)
     }
 }
 
 /// What is to be written, given all lines.
-fn outcomes_of_lines(alloc: Global, sought: OutcomesWords, input: &[u8]) -> Result<Vec<u8>, Halt>
-    ensures found { IfOk result (λ text. IsOutcomesText sought input.now text.items) }
-    ensures refused { IfErr result (λ halt. IfSome (name_of halt) (IsOutcomesRefusal sought input.now)) }
+fn outcomes_of_lines(alloc: Global, options: OutcomesWords, input: &[u8]) -> Result<Vec<u8>, Halt>
+    ensures found { IfOk result (λ text. IsOutcomesText options input.now text.items) }
+    ensures refused { IfErr result (λ halt. IfSome (name_of halt) (IsOutcomesRefusal options input.now)) }
     ensures read { IfErr result (λ halt. is_read halt ≡ false) }
 {
-    if sought.finals {
-        stores_of_lines(alloc, sought.choice, sought.brief, input)
+    if options.final_stores {
+        stores_of_lines(alloc, options.choice, options.brief, input)
     } else {
-        litmus_of_lines(alloc, sought, input)
+        litmus_of_lines(alloc, options, input)
     }
 }
 
 /// The same, given the lines of the litmus test.
-fn litmus_of_lines(alloc: Global, sought: OutcomesWords, input: &[u8]) -> Result<Vec<u8>, Halt>
-    ensures found { IfOk result (λ text. IsLitmusText sought input.now text.items) }
-    ensures refused { IfErr result (λ halt. IfSome (name_of halt) (IsLitmusRefusal sought.choice input.now)) }
+fn litmus_of_lines(alloc: Global, options: OutcomesWords, input: &[u8]) -> Result<Vec<u8>, Halt>
+    ensures found { IfOk result (λ text. IsLitmusText options input.now text.items) }
+    ensures refused { IfErr result (λ halt. IfSome (name_of halt) (IsLitmusRefusal options.choice input.now)) }
     ensures read { IfErr result (λ halt. is_read halt ≡ false) }
 {
     let litmus = read_litmus(alloc, input)?;
-    outcomes_of_litmus(alloc, sought, &litmus)
+    outcomes_of_litmus(alloc, options, &litmus)
 }
 
 /// The same, given the litmus test.
 fn outcomes_of_litmus(
     alloc: Global,
-    sought: OutcomesWords,
+    options: OutcomesWords,
     litmus: &Litmus,
 ) -> Result<Vec<u8>, Halt>
-    ensures found { IfOk result (λ text. IsFoundText sought litmus.now text.items) }
-    ensures refused { IfErr result (λ halt. IfSome (name_of halt) (IsFindingRefusal sought.choice litmus.now)) }
+    ensures found { IfOk result (λ text. IsFoundText options litmus.now text.items) }
+    ensures refused { IfErr result (λ halt. IfSome (name_of halt) (IsFindingRefusal options.choice litmus.now)) }
     ensures read { IfErr result (λ halt. is_read halt ≡ false) }
 {
     let found = outcomes(alloc, litmus)?;
-    text_of_found(alloc, sought, litmus, found.as_slice())
+    text_of_found(alloc, options, litmus, found.as_slice())
 }
 
 /// The same, given the outcomes.
 fn text_of_found(
     alloc: Global,
-    sought: OutcomesWords,
+    options: OutcomesWords,
     litmus: &Litmus,
     found: &[Outcome],
 ) -> Result<Vec<u8>, Halt>
     requires { AreOutcomes litmus.now found.now }
-    ensures chosen { IfOk result (λ text. IsChosenText sought litmus.now found.now text.items) }
-    ensures refused { IfErr result (λ halt. IfSome (name_of halt) (IsChoiceRefusal sought.choice found.now)) }
+    ensures chosen { IfOk result (λ text. IsChosenText options litmus.now found.now text.items) }
+    ensures refused { IfErr result (λ halt. IfSome (name_of halt) (IsChoiceRefusal options.choice found.now)) }
     ensures read { IfErr result (λ halt. is_read halt ≡ false) }
 {
-    match sought.choice {
-        None => lines_of_all(alloc, sought.brief, litmus, found),
+    match options.choice {
+        None => lines_of_all(alloc, options.brief, litmus, found),
         Some(number) => script_of_number(alloc, number, litmus, found),
     }
 }

@@ -3,7 +3,7 @@ ghost use Rattle.std.specs.Prelude.{◌≡◌, ◌≤◌, false};
 ghost use Rattle.clap.specs.Words.{found_of, one_of, rows_of, rule_of};
 ghost use Rattle.clap.specs.declared.builder.value_parser.ValueParser.TheVariants as parsers;
 ghost use Rattle.commands.specs.Grammar.{IsNumberBy, option_rule, flag_rule, picture_rule, trace_rule, writes_rule};
-ghost use Rattle.commands.specs.Forms.{IsFlagBy, IsFormBy, form_of};
+ghost use Rattle.commands.specs.Forms.{IsFlagBy, IsFormatBy, format_of};
 
 use clap::builder::ValueParser;
 use clap::{Arg, ArgAction, ArgMatches, value_parser};
@@ -95,7 +95,7 @@ pub(crate) fn number_in(
 
 /// What is printed of a run.
 #[derive(Clone, Copy, Drop)]
-pub(crate) enum Form {
+pub(crate) enum OutputFormat {
     /// A line for each reply, and the order.
     Lines,
     /// A picture of its events, or of those of its writes.
@@ -143,28 +143,28 @@ pub(crate) fn trace_arg<'a>(alloc: Global) -> Arg<'a>
 }
 
 /// What the arguments request to print.
-pub(crate) fn form_in(matches: &ArgMatches<'_>) -> Form
-    ensures { IsFormBy (λ flag. one_of flag (rows_of (found_of matches.now))) result }
+pub(crate) fn format_in(matches: &ArgMatches<'_>) -> OutputFormat
+    ensures { IsFormatBy (λ flag. one_of flag (rows_of (found_of matches.now))) result }
 {
     let picture = flag_in(matches, "picture");
     let writes = flag_in(matches, "writes");
     let trace = flag_in(matches, "trace");
-    form_of(picture, writes, trace)
+    format_of(picture, writes, trace)
 }
 
 /// What is printed if these flags are given.
-fn form_of(picture: bool, writes: bool, trace: bool) -> Form
-    ensures { result ≡ form_of picture writes trace }
+fn format_of(picture: bool, writes: bool, trace: bool) -> OutputFormat
+    ensures { result ≡ format_of picture writes trace }
 {
     if trace {
-        Form::Trace
+        OutputFormat::Trace
     } else if picture && writes {
-        Form::Picture(Shown::Writes)
+        OutputFormat::Picture(Shown::Writes)
     } else if picture {
-        Form::Picture(Shown::All)
+        OutputFormat::Picture(Shown::All)
     } else if writes {
-        Form::Writes
+        OutputFormat::Writes
     } else {
-        Form::Lines
+        OutputFormat::Lines
     }
 }

@@ -113,19 +113,19 @@ fn plan_of_lines(alloc: Global, asked: &PlanWords<'_>, input: &[u8]) -> Result<P
 {
     let listed = match read_objects(alloc, input) {
         Ok(listed) => listed,
-        Err(error) => return Err(no_objects(alloc, asked.place, error, input)),
+        Err(error) => return Err(no_objects(alloc, asked.shows_line, error, input)),
     };
     plan_of_objects(alloc, asked, &listed)
 }
 
 /// Why an input with a line that is no object has no plan.
-fn no_objects(alloc: Global, place: bool, error: ReadError, input: &[u8]) -> Halt
+fn no_objects(alloc: Global, shows_line: bool, error: ReadError, input: &[u8]) -> Halt
     ensures read { is_read result ≡ false }
-    ensures refused { Fails error (read_from nothing (lines input.now)) → IfSome (name_of result) (IsInputRefusal place input.now) }
+    ensures refused { Fails error (read_from nothing (lines input.now)) → IfSome (name_of result) (IsInputRefusal shows_line input.now) }
 {
     match error {
         ReadError::Memory => Halt::Memory,
-        error => match line_told(alloc, place, input) {
+        error => match line_told(alloc, shows_line, input) {
             Ok(line) => halt_at(RequestError::Read(error).name(), line),
             Err(Memory) => Halt::Memory,
         },
@@ -133,10 +133,10 @@ fn no_objects(alloc: Global, place: bool, error: ReadError, input: &[u8]) -> Hal
 }
 
 /// The first line that is none, if it is to be named.
-fn line_told(alloc: Global, place: bool, input: &[u8]) -> Result<Option<u64>, Memory>
-    ensures { IfOk result (λ line. line ≡ told_line place (refused_line_of input.now)) }
+fn line_told(alloc: Global, shows_line: bool, input: &[u8]) -> Result<Option<u64>, Memory>
+    ensures { IfOk result (λ line. line ≡ told_line shows_line (refused_line_of input.now)) }
 {
-    if place {
+    if shows_line {
         refused_object_line(alloc, input)
     } else {
         Ok(None)

@@ -13,7 +13,7 @@ ghost use Rattle.commands.specs.Replaying.{Replays};
 ghost use Rattle.commands.specs.Serving.{AsksOutOfRange, Serves, ServesSome};
 
 use crate::answering::run_word;
-use crate::args::{Asked, read_words};
+use crate::args::{CommandLine, read_words};
 use crate::explain::explain;
 use crate::finding::Finding;
 use crate::plan::run_plan;
@@ -125,19 +125,19 @@ pub fn command<T: Threads + Wait + Sync, S: AsStr, R: Source, W: Sink, F: Sink>(
         → heap.new.refused ≡ heap.old.refused }
 {
     match read_words(heap.alloc, words) {
-        Ok(Asked::Serve(capacity)) => run_serve(heap, reader, writer, capacity),
-        Ok(Asked::Replay(asked)) => {
+        Ok(CommandLine::Serve(capacity)) => run_serve(heap, reader, writer, capacity),
+        Ok(CommandLine::Replay(asked)) => {
             let of = PhantomData::<Script>;
             run_word(heap, &Running { asked, of }, reader, writer, faults)
         }
-        Ok(Asked::Cluster(asked)) => {
+        Ok(CommandLine::Cluster(asked)) => {
             let of = PhantomData::<ClusterScript>;
             run_word(heap, &Running { asked, of }, reader, writer, faults)
         }
-        Ok(Asked::Plan(plan)) => run_plan(heap, &plan, reader, writer, faults),
-        Ok(Asked::Race(race)) => run_race(rt, heap, &race, writer),
-        Ok(Asked::Outcomes(sought)) => {
-            run_word(heap, &Finding { sought }, reader, writer, faults)
+        Ok(CommandLine::Plan(plan)) => run_plan(heap, &plan, reader, writer, faults),
+        Ok(CommandLine::Race(race)) => run_race(rt, heap, &race, writer),
+        Ok(CommandLine::Outcomes(options)) => {
+            run_word(heap, &Finding { options }, reader, writer, faults)
         }
         Err(error) => explain(heap, &error, writer, faults),
     }

@@ -1,7 +1,7 @@
 //! The arguments of `race`.
 ghost use Rattle.std.specs.Prelude.{◌≡◌, true, IfOk};
 ghost use Rattle.clap.specs.Words.{app_of, found_of, one_of, rows_of};
-ghost use Rattle.commands.specs.Asked.{IsRaceBy};
+ghost use Rattle.commands.specs.CommandLine.{IsRaceBy};
 ghost use Rattle.commands.specs.Grammar.{race_app, sized_app};
 ghost use Rattle.race_log.specs.Limits.{is_race};
 

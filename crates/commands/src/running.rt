@@ -7,7 +7,7 @@ ghost use Rattle.replay_lines.specs.Events.{Fails};
 use crate::answering::Answer;
 use crate::args::ScriptWords;
 use crate::halt::{Halt, halt_at};
-use crate::options::Form;
+use crate::options::OutputFormat;
 use objects::Memory;
 use pictures::Shown;
 use replay_lines::ScriptError;
@@ -18,7 +18,7 @@ use std::marker::PhantomData;
 pub(crate) trait Runnable: Drop {
     ghost use Rattle.std.specs.Prelude.{◌≡◌, ℕ, List, Option, false, IfOk, IfErr, IfSome};
     ghost use Rattle.commands.specs.Halts.{is_read, name_of};
-    ghost use Rattle.commands.specs.declared.options.Form.{Form};
+    ghost use Rattle.commands.specs.declared.options.OutputFormat.{OutputFormat};
     ghost use Rattle.replay_lines.specs.Events.{Reads};
 
     /// A script as definitions have it.
@@ -30,7 +30,7 @@ pub(crate) trait Runnable: Drop {
     /// The number of the first line for which an input is none.
     ghost refused_line: { List ℕ → Option ℕ };
     /// Whether that text shows the run in that form.
-    ghost is_shown: { Form → Self → List ℕ → Type 0 };
+    ghost is_shown: { OutputFormat → Self → List ℕ → Type 0 };
     /// Whether the run is refused by that name.
     ghost is_run_refusal: { Self → List ℕ → Type 0 };
 
@@ -41,22 +41,22 @@ pub(crate) trait Runnable: Drop {
         ensures { IfOk result (λ line. line ≡ refused_line input.now) };
 
     fn lines(&self, alloc: Global) -> Result<Vec<u8>, Halt>
-        ensures shown { IfOk result (λ text. is_shown Form.Lines self.now text.items) }
+        ensures shown { IfOk result (λ text. is_shown OutputFormat.Lines self.now text.items) }
         ensures refused { IfErr result (λ halt. IfSome (name_of halt) (is_run_refusal self.now)) }
         ensures read { IfErr result (λ halt. is_read halt ≡ false) };
 
     fn picture(&self, alloc: Global, shown: Shown) -> Result<Vec<u8>, Halt>
-        ensures shown { IfOk result (λ text. is_shown (Form.Picture shown) self.now text.items) }
+        ensures shown { IfOk result (λ text. is_shown (OutputFormat.Picture shown) self.now text.items) }
         ensures refused { IfErr result (λ halt. IfSome (name_of halt) (is_run_refusal self.now)) }
         ensures read { IfErr result (λ halt. is_read halt ≡ false) };
 
     fn writes(&self, alloc: Global) -> Result<Vec<u8>, Halt>
-        ensures shown { IfOk result (λ text. is_shown Form.Writes self.now text.items) }
+        ensures shown { IfOk result (λ text. is_shown OutputFormat.Writes self.now text.items) }
         ensures refused { IfErr result (λ halt. IfSome (name_of halt) (is_run_refusal self.now)) }
         ensures read { IfErr result (λ halt. is_read halt ≡ false) };
 
     fn trace(&self, alloc: Global) -> Result<Vec<u8>, Halt>
-        ensures shown { IfOk result (λ text. is_shown Form.Trace self.now text.items) }
+        ensures shown { IfOk result (λ text. is_shown OutputFormat.Trace self.now text.items) }
         ensures refused { IfErr result (λ halt. IfSome (name_of halt) (is_run_refusal self.now)) }
         ensures read { IfErr result (λ halt. is_read halt ≡ false) };
 }
@@ -73,26 +73,26 @@ impl<S: Runnable> Answer for Running<S> {
 
     ghost is_text = { λ word input text. IsScriptText S.script_of S.parts S.is_shown word.asked.form input text };
 
-    ghost is_refusal = { λ word input name. IsScriptRefusal S.script_of S.parts S.refused_line S.is_run_refusal word.asked.place input name };
+    ghost is_refusal = { λ word input name. IsScriptRefusal S.script_of S.parts S.refused_line S.is_run_refusal word.asked.shows_line input name };
 
     fn answer(&self, alloc: Global, input: &[u8]) -> Result<Vec<u8>, Halt> {
         let script = match S::read(alloc, input) {
             Ok(script) => script,
-            Err(error) => return Err(no_script::<S>(alloc, self.asked.place, error, input)),
+            Err(error) => return Err(no_script::<S>(alloc, self.asked.shows_line, error, input)),
         };
         text_of_run(alloc, self.asked.form, &script)
     }
 }
 
 /// Why an input that is no script has no output.
-fn no_script<S: Runnable>(alloc: Global, place: bool, error: ScriptError, input: &[u8]) -> Halt
+fn no_script<S: Runnable>(alloc: Global, shows_line: bool, error: ScriptError, input: &[u8]) -> Halt
     ensures read { is_read result ≡ false }
     ensures refused { Fails error (S.script_of input.now)
-        → IfSome (name_of result) (IsScriptRefusal S.script_of S.parts S.refused_line S.is_run_refusal place input.now) }
+        → IfSome (name_of result) (IsScriptRefusal S.script_of S.parts S.refused_line S.is_run_refusal shows_line input.now) }
 {
     match error {
         ScriptError::Memory => Halt::Memory,
-        ScriptError::BadScript => match line_told::<S>(alloc, place, input) {
+        ScriptError::BadScript => match line_told::<S>(alloc, shows_line, input) {
             Ok(line) => halt_at("BadScript", line),
             Err(Memory) => Halt::Memory,
         },
@@ -100,25 +100,29 @@ fn no_script<S: Runnable>(alloc: Global, place: bool, error: ScriptError, input:
 }
 
 /// The first line for which it is none, if it is to be named.
-fn line_told<S: Runnable>(alloc: Global, place: bool, input: &[u8]) -> Result<Option<u64>, Memory>
-    ensures { IfOk result (λ line. line ≡ told_line place (S.refused_line input.now)) }
+fn line_told<S: Runnable>(
+    alloc: Global,
+    shows_line: bool,
+    input: &[u8],
+) -> Result<Option<u64>, Memory>
+    ensures { IfOk result (λ line. line ≡ told_line shows_line (S.refused_line input.now)) }
 {
-    if place {
+    if shows_line {
         S::refused_line(alloc, input)
     } else {
         Ok(None)
     }
 }
 
-fn text_of_run<S: Runnable>(alloc: Global, form: Form, script: &S) -> Result<Vec<u8>, Halt>
+fn text_of_run<S: Runnable>(alloc: Global, form: OutputFormat, script: &S) -> Result<Vec<u8>, Halt>
     ensures shown { IfOk result (λ text. S.is_shown form script.now text.items) }
     ensures refused { IfErr result (λ halt. IfSome (name_of halt) (S.is_run_refusal script.now)) }
     ensures read { IfErr result (λ halt. is_read halt ≡ false) }
 {
     match form {
-        Form::Lines => script.lines(alloc),
-        Form::Picture(shown) => script.picture(alloc, shown),
-        Form::Writes => script.writes(alloc),
-        Form::Trace => script.trace(alloc),
+        OutputFormat::Lines => script.lines(alloc),
+        OutputFormat::Picture(shown) => script.picture(alloc, shown),
+        OutputFormat::Writes => script.writes(alloc),
+        OutputFormat::Trace => script.trace(alloc),
     }
 }

@@ -14,7 +14,7 @@ use Rattle.compact.specs.Texts.{json_text, IsWhole}
 use Rattle.compact.specs.Begins.{BeginsScalar, IsPlainText, EndsPlain}
 use Rattle.compact.specs.Notes.{OfMembers, Told, IsNoted}
 use Rattle.compact.specs.Ordered.{IsOrdered, AreOrderedItems, AreOrderedMembers, IsOrderedMember}
-use Rattle.compact.specs.Reads.{IsTaken}
+use Rattle.compact.specs.Reads.{IsSorted}
 use Rattle.compact.specs.declared.scanner.Tables.{Tables}
 use Rattle.compact.specs.declared.scanner.Level.{Level}
 use Rattle.compact.specs.declared.scanner.Level.TheVariants.{Line}
@@ -130,7 +130,7 @@ member_is most P text behind sub key n x k next colon o =
 -- ---- the whole line
 
 pub line_is : (most : ℕ) (old new : List ℕ) (before tables : Tables) (n : ℕ) (same : Bool) → most ≤ max_depth → IsOrdered most (IsNoted Line before tables) old new n → length new ≡ length old
-    → same ≡ (n == length new) → same ≡ true → IsTaken old new tables
+    → same ≡ (n == length new) → same ≡ true → IsSorted old new tables
 line_is most old new before tables n same few o long is h =
     let all : n ≡ length new = eqb-true n (length new) (sym is ∙ h) in
     let none = none_left o.rest (omega (arith, all, o.size, ap length o.now, length-append (compact_text o.made) o.rest)) in

@@ -8,7 +8,7 @@ use Rattle.compact.specs.declared.scanner.Tables.{Tables}
 
 -- A reader of JSON reads the old text as a value of whole numbers. The new one is what is printed of it, and the tables
 -- have its members, if it is a map.
-pub record IsTaken (old new : List ℕ) (tables : Tables) : Type 0 where
+pub record IsSorted (old new : List ℕ) (tables : Tables) : Type 0 where
   pub found : Data
   pub reads : read old ≡ Some found
   pub integral : has_float found ≡ false

@@ -1,7 +1,7 @@
 // Lines, one after another.
 ghost use Rattle.std.specs.Prelude.{◌≡◌, IsTrue, ◌≤◌, length, IfSome};
 ghost use Rattle.compact.specs.Notes.{with_table, IsNoted, Told};
-ghost use Rattle.compact.specs.Reads.{IsTaken};
+ghost use Rattle.compact.specs.Reads.{IsSorted};
 ghost use Rattle.compact.specs.Levels.{below};
 ghost use Rattle.compact.specs.Ordered.{IsOrdered, AreOrderedItems, AreOrderedMembers, IsOrderedMember};
 ghost use Rattle.compact.specs.declared.scanner.Level.TheVariants.{Other};
@@ -81,7 +81,7 @@ impl Scanner {
     /// numbers, and is now the compact text of its value, with tables of its members. If not, its bytes may no longer
     /// be a text. No clause says which lines it accepts, or what is left of others: tests do.
     pub fn scan(&mut self, line: &mut [u8]) -> bool
-        ensures { IsTrue result → IsTaken line.old line.new self.new.tables }
+        ensures { IsTrue result → IsSorted line.old line.new self.new.tables }
     {
         match put_in_order(line, MAX_DEPTH, Level::Line, self) {
             Some(size) => size == line.len(),

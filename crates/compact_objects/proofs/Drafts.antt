@@ -26,8 +26,8 @@ use Rattle.objects.specs.declared.meta.Meta.{Meta}
 use Rattle.objects.specs.declared.object.Object as declared
 use Rattle.compact_objects.specs.Merging.{held_with, is_set, object_with, uid_data, without}
 use Rattle.compact_objects.specs.Seaming.{metadata_with}
-use Rattle.compact_objects.specs.declared.merge.Part.{Part}
-use Rattle.compact_objects.specs.declared.merge.Part.TheVariants.{Metadata, Object}
+use Rattle.compact_objects.specs.declared.merge.MapKind.{MapKind}
+use Rattle.compact_objects.specs.declared.merge.MapKind.TheVariants.{Metadata, Object}
 use Rattle.compact_objects.proofs.Merging.{above_trans, before_some, before_without, put_before, some_past}
 use Rattle.compact_objects.proofs.Printable.{AreWritable, writable_without}
 
@@ -139,7 +139,7 @@ ascending_by : (set : Bool) (l : List ℕ) (d : Data) (ms : Members) → ComesBe
 ascending_by true l d ms before ascending = ascending
 ascending_by false l d ms before ascending = (before, ascending)
 
-pub ascending_without : (part : Part) (ms : Members) → AreAscending ms → AreAscending (without part ms)
+pub ascending_without : (part : MapKind) (ms : Members) → AreAscending ms → AreAscending (without part ms)
 ascending_without part no_members ascending = tt
 ascending_without part (member l d ms) ascending =
     ascending_by (is_set part l) l d (without part ms) (before_without part l ms ascending.0 ascending.1) (ascending_without part ms ascending.1)
@@ -148,7 +148,7 @@ canonical_by : (set : Bool) (l : List ℕ) (d : Data) (ms : Members) → IsCanon
 canonical_by true l d ms one all = all
 canonical_by false l d ms one all = (one, all)
 
-canonical_without : (part : Part) (ms : Members) → AreCanonicalMembers ms → AreCanonicalMembers (without part ms)
+canonical_without : (part : MapKind) (ms : Members) → AreCanonicalMembers ms → AreCanonicalMembers (without part ms)
 canonical_without part no_members all = tt
 canonical_without part (member l d ms) all = canonical_by (is_set part l) l d (without part ms) all.0 (canonical_without part ms all.1)
 

@@ -35,7 +35,7 @@ use Rattle.compact_objects.specs.Drafts.{IsReadAs}
 use Rattle.compact_objects.specs.Merging.{AreBelow, object_with, uid_data, without}
 use Rattle.compact_objects.specs.Seaming.{HasSpecAtEnd, WritesObject, metadata_with}
 use Rattle.compact_objects.specs.Texts.{with_meta}
-use Rattle.compact_objects.specs.declared.merge.Part.TheVariants.{Object as ObjectPart}
+use Rattle.compact_objects.specs.declared.merge.MapKind.TheVariants.{Object as ObjectPart}
 use Rattle.compact_objects.proofs.Drafts.{body_canonical, body_with, body_without, held_writable_left, metadata, printed_with, status}
 use Rattle.compact_objects.proofs.Printable.{AreWritable, IsWritable, IsWritableIfSome, all_writable, held_writable, map_writable, spec_printable, status_writable, writable_found, writable_some, writable_without}
 use Rattle.compact_objects.proofs.Rules.{KeepsBody, keeps_body}

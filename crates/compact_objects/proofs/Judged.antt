@@ -18,7 +18,7 @@ use Rattle.requests.specs.declared.verdict.Verdict.{Verdict}
 use Rattle.requests.specs.declared.verdict.Verdict.TheVariants.{Refuse, Write}
 use Rattle.compact_objects.specs.Drafts.{lent}
 use Rattle.compact_objects.specs.declared.draft.CompactDraft.{CompactDraft}
-use Rattle.compact_objects.specs.Told.{IsToldOf}
+use Rattle.compact_objects.specs.ReadFrom.{IsReadFrom}
 use Rattle.compact_objects.specs.Writes.{IsUpdateOf}
 use Rattle.compact_objects.proofs.KnownDrafts.{status_kind, uid_told, version_told}
 
@@ -43,20 +43,20 @@ by_denial true there change = refl
 by_denial false true change = refl
 by_denial false false change = refl
 
-create_by : (c : CompactDraft) (d : Draft) (current : Option Object) (there : Bool) → IsToldOf c d → is_some current ≡ there
+create_by : (c : CompactDraft) (d : Draft) (current : Option Object) (there : Bool) → IsReadFrom c d → is_some current ≡ there
     → denied_or (create_denied (lent c.version) there) (creates (born d.object)) ≡ verdict (Create d) current
 create_by c d current there told is =
     sym (by_denial (is_some (nonempty (lent c.version))) there (creates (born d.object)))
     ∙ ap (λ b. cond (is_some (nonempty (lent c.version))) (Refuse Invalid) (cond b (Refuse AlreadyExists) (Write (creates (born d.object))))) (sym is)
     ∙ ap (λ v. cond (is_some (nonempty v)) (Refuse Invalid) (cond (is_some current) (Refuse AlreadyExists) (Write (creates (born d.object))))) (sym (version_told c d told))
 
-pub create_written : (c : CompactDraft) (d : Draft) (current : Option Object) (there : Bool) (n : ℕ) (text : Object) → IsToldOf c d → is_some current ≡ there
+pub create_written : (c : CompactDraft) (d : Draft) (current : Option Object) (there : Bool) (n : ℕ) (text : Object) → IsReadFrom c d → is_some current ≡ there
     → create_denied (lent c.version) there ≡ None → text ≡ stamp (creates (born d.object)) n → judged.Write Creation text ≡ judged_at n (verdict (Create d) current)
 create_written c d current there n text told is admitted written =
     ap (judged.Write Creation) written
     ∙ ap (judged_at n) (ap (λ x. denied_or x (creates (born d.object))) (sym admitted) ∙ create_by c d current there told is)
 
-conflicts_told : (c : CompactDraft) (d : Draft) (o : Object) → IsToldOf c d → conflicts d.version d.uid o ≡ conflicts (lent c.version) (lent c.uid) o
+conflicts_told : (c : CompactDraft) (d : Draft) (o : Object) → IsReadFrom c d → conflicts d.version d.uid o ≡ conflicts (lent c.version) (lent c.uid) o
 conflicts_told c d o told = ap (λ v. conflicts v d.uid o) (version_told c d told) ∙ ap (λ u. conflicts (lent c.version) u o) (uid_told c d told)
 
 -- ---- updates
@@ -66,12 +66,12 @@ no_data : (h : Bool) (o : Object) (d : Draft) → h ≡ true → (not h && not (
 no_data true o d has = refl
 no_data false o d has = absurd cc
 
-told_update : (c : CompactDraft) (d : Draft) (o : Object) → IsToldOf c d → conflicts (lent c.version) (lent c.uid) o ≡ false → has_status o.key.kind ≡ true → unless_same o (updated o d) ≡ verdict (Update d) (Some o)
+told_update : (c : CompactDraft) (d : Draft) (o : Object) → IsReadFrom c d → conflicts (lent c.version) (lent c.uid) o ≡ false → has_status o.key.kind ≡ true → unless_same o (updated o d) ≡ verdict (Update d) (Some o)
 told_update c d o told agrees has =
     sym (ap (λ b. cond b (Refuse Conflict) (cond (changes_data d o) (Refuse Invalid) (unless_same o (updated o d)))) (conflicts_told c d o told ∙ agrees)
     ∙ ap (λ b. cond b (Refuse Invalid) (unless_same o (updated o d))) (no_data (has_status o.key.kind) o d has))
 
-pub update_written : (c : CompactDraft) (d : Draft) (current : Option Object) (o : Object) (n : ℕ) (text : Object) → IsToldOf c d → current ≡ Some o → conflicts (lent c.version) (lent c.uid) o ≡ false
+pub update_written : (c : CompactDraft) (d : Draft) (current : Option Object) (o : Object) (n : ℕ) (text : Object) → IsReadFrom c d → current ≡ Some o → conflicts (lent c.version) (lent c.uid) o ≡ false
     → o.key ≡ c.key → has_status c.key.kind ≡ true → IsUpdateOf o d n text → judged.Write Updating text ≡ judged_at n (verdict (Update d) current)
 update_written c d current o n text told there agrees key has written =
     ap (judged.Write Updating) written.1
@@ -79,10 +79,10 @@ update_written c d current o n text told there agrees key has written =
 
 -- ---- status requests
 
-told_status : (c : CompactDraft) (d : Draft) (o : Object) → IsToldOf c d → has_status d.object.key.kind ≡ true → conflicts (lent c.version) (lent c.uid) o ≡ false → status_unless_same o d ≡ verdict (UpdateStatus d) (Some o)
+told_status : (c : CompactDraft) (d : Draft) (o : Object) → IsReadFrom c d → has_status d.object.key.kind ≡ true → conflicts (lent c.version) (lent c.uid) o ≡ false → status_unless_same o d ≡ verdict (UpdateStatus d) (Some o)
 told_status c d o told has agrees = rw (has, conflicts_told c d o told ∙ agrees) refl
 
-pub status_judged : (c : CompactDraft) (d : Draft) (current : Option Object) (o : Object) (n : ℕ) (j : Judgment Object) → IsToldOf c d → current ≡ Some o → conflicts (lent c.version) (lent c.uid) o ≡ false
+pub status_judged : (c : CompactDraft) (d : Draft) (current : Option Object) (o : Object) (n : ℕ) (j : Judgment Object) → IsReadFrom c d → current ≡ Some o → conflicts (lent c.version) (lent c.uid) o ≡ false
     → has_status c.key.kind ≡ true → j ≡ judged_at n (status_unless_same o d) → j ≡ judged_at n (verdict (UpdateStatus d) current)
 status_judged c d current o n j told there agrees has is =
     is ∙ ap (judged_at n) (told_status c d o told (status_kind c d told has) agrees ∙ ap (verdict (UpdateStatus d)) (sym there))

@@ -26,7 +26,7 @@ use Rattle.objects.proofs.SplicedTexts.{canonical_member}
 use Rattle.compact_objects.specs.Drafts.{lent}
 use Rattle.compact_objects.specs.declared.draft.CompactDraft.{CompactDraft}
 use Rattle.requests.specs.Verdict.{has_status}
-use Rattle.compact_objects.specs.Told.{IsToldOf}
+use Rattle.compact_objects.specs.ReadFrom.{IsReadFrom}
 use Rattle.compact_objects.proofs.Printable.{writable}
 
 -- ---- the body
@@ -53,21 +53,21 @@ body_is os d is =
     made_is key.0 store.0 meta.0 os d store.2
 
 -- each member but the metadata is in the body as it was read
-pub member_told : (k : List ℕ) (c : CompactDraft) (d : Draft) (told : IsToldOf c d) → (k ≡ codes "metadata" → ⊥) → member_of k d.object.body ≡ get_member k told.members
+pub member_told : (k : List ℕ) (c : CompactDraft) (d : Draft) (told : IsReadFrom c d) → (k ≡ codes "metadata" → ⊥) → member_of k d.object.body ≡ get_member k told.members
 member_told k c d told other =
     let b = body_is told.members d told.reads in
     ap (member_of k) b.1 ∙ get_member-put_other k (codes "metadata") b.0 told.members other
 
-pub spec_told : (c : CompactDraft) (d : Draft) (told : IsToldOf c d) → member_of (codes "spec") d.object.body ≡ get_member (codes "spec") told.members
+pub spec_told : (c : CompactDraft) (d : Draft) (told : IsReadFrom c d) → member_of (codes "spec") d.object.body ≡ get_member (codes "spec") told.members
 spec_told c d told = member_told (codes "spec") c d told (λ same. absurd cc)
 
-pub status_told : (c : CompactDraft) (d : Draft) (told : IsToldOf c d) → member_of (codes "status") d.object.body ≡ get_member (codes "status") told.members
+pub status_told : (c : CompactDraft) (d : Draft) (told : IsReadFrom c d) → member_of (codes "status") d.object.body ≡ get_member (codes "status") told.members
 status_told c d told = member_told (codes "status") c d told (λ same. absurd cc)
 
-pub canonical_told : (k : List ℕ) (c : CompactDraft) (d : Draft) (told : IsToldOf c d) → IsCanonicalStatus (get_member k told.members)
+pub canonical_told : (k : List ℕ) (c : CompactDraft) (d : Draft) (told : IsReadFrom c d) → IsCanonicalStatus (get_member k told.members)
 canonical_told k c d told = canonical_member k told.members (get_member k told.members) told.canonical.1 refl
 
-pub integral_told : (k : List ℕ) (c : CompactDraft) (d : Draft) (told : IsToldOf c d) → IfSome (get_member k told.members) (λ e. has_float e ≡ false)
+pub integral_told : (k : List ℕ) (c : CompactDraft) (d : Draft) (told : IsReadFrom c d) → IfSome (get_member k told.members) (λ e. has_float e ≡ false)
 integral_told k c d told = member_of-integral k (object told.members) told.integral
 
 pub status_printable : (value : Option Data) → IsCanonicalStatus value → IfSome value (λ d. has_float d ≡ false) → ArePrintableOrBad (status_tokens value)
@@ -80,18 +80,18 @@ spec_printable (Some d) canonical whole = (tt, writable d canonical whole)
 
 -- ---- the key, the UID and the version
 
-same_draft : (c : CompactDraft) (d : Draft) (told : IsToldOf c d) → told.draft.read_as.draft ≡ d
+same_draft : (c : CompactDraft) (d : Draft) (told : IsReadFrom c d) → told.draft.read_as.draft ≡ d
 same_draft c d told = let e = sym told.draft.read_as.reads ∙ told.reads in cc
 
-pub key_told : (c : CompactDraft) (d : Draft) → IsToldOf c d → d.object.key ≡ c.key
+pub key_told : (c : CompactDraft) (d : Draft) → IsReadFrom c d → d.object.key ≡ c.key
 key_told c d told = ap (λ (x : Draft). x.object.key) (sym (same_draft c d told)) ∙ told.draft.read_as.key_is
 
-pub uid_told : (c : CompactDraft) (d : Draft) → IsToldOf c d → d.uid ≡ lent c.uid
+pub uid_told : (c : CompactDraft) (d : Draft) → IsReadFrom c d → d.uid ≡ lent c.uid
 uid_told c d told = ap (λ (x : Draft). x.uid) (sym (same_draft c d told)) ∙ told.draft.read_as.uid_is
 
-pub version_told : (c : CompactDraft) (d : Draft) → IsToldOf c d → d.version ≡ lent c.version
+pub version_told : (c : CompactDraft) (d : Draft) → IsReadFrom c d → d.version ≡ lent c.version
 version_told c d told = ap (λ (x : Draft). x.version) (sym (same_draft c d told)) ∙ told.draft.read_as.version_is
 
 -- the kind of the draft's key has a status
-pub status_kind : (c : CompactDraft) (d : Draft) → IsToldOf c d → has_status c.key.kind ≡ true → has_status d.object.key.kind ≡ true
+pub status_kind : (c : CompactDraft) (d : Draft) → IsReadFrom c d → has_status c.key.kind ≡ true → has_status d.object.key.kind ≡ true
 status_kind c d told has = ap (λ (k : Key). has_status k.kind) (key_told c d told) ∙ has

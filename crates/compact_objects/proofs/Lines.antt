@@ -13,7 +13,7 @@ use Rattle.trees.specs.Canonical.{IsCanonical}
 use Rattle.trees.specs.Reading.{tree_reading}
 use Rattle.trees.proofs.PutOrder.{canonical_found}
 use Rattle.compact.specs.Notes.{IsLine, OfMembers}
-use Rattle.compact.specs.Reads.{IsTaken}
+use Rattle.compact.specs.Reads.{IsSorted}
 use Rattle.compact.specs.declared.scanner.Tables.{Tables}
 use Rattle.objects.specs.Reading.{most_bytes, reading_of_data}
 use Rattle.compact_objects.specs.Drafts.{IsDraftOf}
@@ -35,7 +35,7 @@ pub record IsTakenMap (line text : List ℕ) (tables : Tables) : Type 0 where
   pub noted : IsLine tables members
   pub canonical : IsCanonical (map_of members)
 
-pub taken_map : (line text rest : List ℕ) (tables : Tables) → IsTaken line text tables → text ≡ 123 ∷ rest → IsTakenMap line text tables
+pub taken_map : (line text rest : List ℕ) (tables : Tables) → IsSorted line text tables → text ≡ 123 ∷ rest → IsTakenMap line text tables
 taken_map line text rest tables t begins =
     let m = map_begun t.found rest (sym t.now ∙ begins) in
     record {

@@ -17,7 +17,7 @@ use Rattle.objects.specs.Object.{is_held, without_held}
 use Rattle.objects.specs.Text.{unless_zero}
 use Rattle.compact_objects.specs.Merging.{WritesBelow, WritesStep, held_with, rest_text, some_text, without}
 use Rattle.compact_objects.specs.Seaming.{WritesToVersion, member_with, members_with, metadata_with}
-use Rattle.compact_objects.specs.declared.merge.Part.TheVariants.{Metadata}
+use Rattle.compact_objects.specs.declared.merge.MapKind.TheVariants.{Metadata}
 use Rattle.compact_objects.proofs.Merging.{key_text}
 
 -- ---- the brace of a map

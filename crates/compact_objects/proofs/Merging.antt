@@ -17,7 +17,7 @@ use Rattle.compact.specs.Notes.{AreEntries, entries_of, entry_of}
 use Rattle.compact.specs.declared.table.Entry.{Entry}
 use Rattle.objects.specs.Merged.{IsBelowAll, puts}
 use Rattle.compact_objects.specs.Merging.{AreBelow, IsKept, WritesBelow, WritesStep, field_text, is_set, other_text, rest_text, some_text, without}
-use Rattle.compact_objects.specs.declared.merge.Part.{Part}
+use Rattle.compact_objects.specs.declared.merge.MapKind.{MapKind}
 
 abbrev Set : Type 0
 Set = List (List ℕ × Option Data)
@@ -99,7 +99,7 @@ has_first ms key value left left2 entries entries2 e is are f at =
       text_is = refl;
     }
 
-pub other_is : (part : Part) (k v : List ℕ) → is_set part k ≡ false → field_text k v ≡ other_text part k v
+pub other_is : (part : MapKind) (k v : List ℕ) → is_set part k ≡ false → field_text k v ≡ other_text part k v
 other_is part k v kept = ap (λ b. cond b [] (field_text k v)) (sym kept)
 
 passed_at : (b : Bool) (hs : Set) (l v : List ℕ) (e : Data) (ms : Members) → escape l ≡ l → AreAbove l hs → v ≡ compact_text e
@@ -112,7 +112,7 @@ passed_at false hs l v e ms own above is =
 -- ---- a walk over the members
 
 -- none of these keys has been passed over
-abbrev AreKept : Part → Set → Members → Members → Type 0
+abbrev AreKept : MapKind → Set → Members → Members → Type 0
 AreKept part [] ms rest = ⊤
 AreKept part (h ∷ hs) ms rest = IsKept part h.0 ms rest × AreKept part hs ms rest
 
@@ -120,11 +120,11 @@ below_by : (b : Bool) (k l : List ℕ) (d : Data) (ms : Members) → slice_cmp n
 below_by true k l d ms above h = h
 below_by false k l d ms above h = (above, h)
 
-kept_all : (part : Part) (hs : Set) (ms : Members) → AreKept part hs ms ms
+kept_all : (part : MapKind) (hs : Set) (ms : Members) → AreKept part hs ms ms
 kept_all part [] ms = tt
 kept_all part (h ∷ hs) ms = (record { found = refl; below = λ b. b }, kept_all part hs ms)
 
-kept_past : (part : Part) (hs : Set) (l : List ℕ) (d : Data) (ms rest : Members) → AreAbove l hs → AreKept part hs rest (member l d ms) → AreKept part hs rest ms
+kept_past : (part : MapKind) (hs : Set) (l : List ℕ) (d : Data) (ms rest : Members) → AreAbove l hs → AreKept part hs rest (member l d ms) → AreKept part hs rest ms
 kept_past part [] l d ms rest above kept = tt
 kept_past part (h ∷ hs) l d ms rest above kept = (
   record {
@@ -135,7 +135,7 @@ kept_past part (h ∷ hs) l d ms rest above kept = (
 )
 
 -- These are left: with whatever is set of those that may be, all is written.
-pub record Going (part : Part) (P : Set → Type 0) (ms : Members) (left : List ℕ) (entries : List Entry) (old new : List ℕ) : Type 0 where
+pub record Going (part : MapKind) (P : Set → Type 0) (ms : Members) (left : List ℕ) (entries : List Entry) (old new : List ℕ) : Type 0 where
   pub rest : Members
   pub bytes : List ℕ
   pub left_is : IsLeft rest left
@@ -145,7 +145,7 @@ pub record Going (part : Part) (P : Set → Type 0) (ms : Members) (left : List 
   pub written : (hs : Set) → P hs → rest_text part hs ms ≡ bytes ++ rest_text part hs rest
   pub kept : (hs : Set) → P hs → AreKept part hs ms rest
 
-pub going_begins : (part : Part) (P : Set → Type 0) (ms : Members) (left : List ℕ) (entries : List Entry) (old : List ℕ) → AreAscending ms → IsLeft ms left → AreEntries entries ms → Going part P ms left entries old old
+pub going_begins : (part : MapKind) (P : Set → Type 0) (ms : Members) (left : List ℕ) (entries : List Entry) (old : List ℕ) → AreAscending ms → IsLeft ms left → AreEntries entries ms → Going part P ms left entries old old
 going_begins part P ms left entries old ascending is are = record {
   rest = ms;
   bytes = [];
@@ -157,7 +157,7 @@ going_begins part P ms left entries old ascending is are = record {
   kept = λ hs p. kept_all part hs ms;
 }
 
-pub going_on : (part : Part) (P : Set → Type 0) (ms : Members) (left left2 : List ℕ) (entries entries2 : List Entry) (old mid new key value : List ℕ) → (g : Going part P ms left entries old mid)
+pub going_on : (part : MapKind) (P : Set → Type 0) (ms : Members) (left left2 : List ℕ) (entries entries2 : List Entry) (old mid new key value : List ℕ) → (g : Going part P ms left entries old mid)
     → IsFirst g.rest key value left2 entries2 → ((hs : Set) → P hs → AreAbove key hs) → new ≡ mid ++ other_text part key value → Going part P ms left2 entries2 old new
 going_on part P ms left left2 entries entries2 old mid new key value g f above is =
     let own = (subst (AreEntries entries) f.is g.entries_are).1 in
@@ -181,7 +181,7 @@ before_without_at : (b : Bool) (k l : List ℕ) (d : Data) (ms : Members) → sl
 before_without_at true k l d ms first later = later
 before_without_at false k l d ms first later = first
 
-pub before_without : (part : Part) (k : List ℕ) (ms : Members) → ComesBefore k ms → AreAscending ms → ComesBefore k (without part ms)
+pub before_without : (part : MapKind) (k : List ℕ) (ms : Members) → ComesBefore k ms → AreAscending ms → ComesBefore k (without part ms)
 before_without part k no_members before ascending = tt
 before_without part k (member l d ms) before ascending =
     before_without_at (is_set part l) k l d (without part ms) before (before_without part k ms (before_next k l ms before ascending.0) ascending.1)
@@ -190,13 +190,13 @@ at_key : (b : Bool) (k : List ℕ) (ms others : Members) → b ≡ true → Come
 at_key true k ms others set before = before
 at_key false k ms others set before = absurd cc
 
-before_equal : (part : Part) (k l : List ℕ) (d : Data) (ms : Members) → slice_cmp nat_cmp k l ≡ Equal → is_set part k ≡ true → AreAscending (member l d ms) → ComesBefore k (without part (member l d ms))
+before_equal : (part : MapKind) (k l : List ℕ) (d : Data) (ms : Members) → slice_cmp nat_cmp k l ≡ Equal → is_set part k ≡ true → AreAscending (member l d ms) → ComesBefore k (without part (member l d ms))
 before_equal part k l d ms equal set ascending =
     let same : k ≡ l = equal_texts k l equal in
     at_key (is_set part l) k (without part ms) (member l d (without part ms)) (subst (λ t. is_set part t ≡ true) same set)
     (before_without part k ms (subst (λ t. ComesBefore t ms) (sym same) ascending.0) ascending.1)
 
-below : (part : Part) (k : List ℕ) (ms : Members) (left : List ℕ) (entries : List Entry) (old new : List ℕ) → (g : Going part (StartAt k) ms left entries old new) → ComesBefore k (without part g.rest)
+below : (part : MapKind) (k : List ℕ) (ms : Members) (left : List ℕ) (entries : List Entry) (old new : List ℕ) → (g : Going part (StartAt k) ms left entries old new) → ComesBefore k (without part g.rest)
     → WritesBelow part k ms left entries old new
 below part k ms left entries old new g before = record {
   rest = g.rest;
@@ -211,21 +211,21 @@ below part k ms left entries old new g before = record {
   kept_above = λ q above. (g.kept ((k, None) ∷ (q, None) ∷ []) (refl, (above, tt))).1.0;
 }
 
-stopped : (part : Part) (k l : List ℕ) (d : Data) (ms : Members) → (o : Ordering) → slice_cmp nat_cmp k l ≡ o → (o ≡ Less) ⊎ (o ≡ Equal) → is_set part k ≡ true → AreAscending (member l d ms) → ComesBefore k (without part (member l d ms))
+stopped : (part : MapKind) (k l : List ℕ) (d : Data) (ms : Members) → (o : Ordering) → slice_cmp nat_cmp k l ≡ o → (o ≡ Less) ⊎ (o ≡ Equal) → is_set part k ≡ true → AreAscending (member l d ms) → ComesBefore k (without part (member l d ms))
 stopped part k l d ms o is (inl less) set ascending = before_without part k (member l d ms) (is ∙ less) ascending
 stopped part k l d ms o is (inr equal) set ascending = before_equal part k l d ms (is ∙ equal) set ascending
 
-pub below_stop : (part : Part) (k : List ℕ) (ms : Members) (left : List ℕ) (entries : List Entry) (old new key value left2 : List ℕ) (entries2 : List Entry) (o : Ordering) → (g : Going part (StartAt k) ms left entries old new)
+pub below_stop : (part : MapKind) (k : List ℕ) (ms : Members) (left : List ℕ) (entries : List Entry) (old new key value left2 : List ℕ) (entries2 : List Entry) (o : Ordering) → (g : Going part (StartAt k) ms left entries old new)
     → IsFirst g.rest key value left2 entries2 → slice_cmp nat_cmp k key ≡ o → (o ≡ Less) ⊎ (o ≡ Equal) → is_set part k ≡ true → WritesBelow part k ms left entries old new
 below_stop part k ms left entries old new key value left2 entries2 o g f is stop set =
     below part k ms left entries old new g
     (subst (λ m. ComesBefore k (without part m)) (sym f.is) (stopped part k key f.d f.others o is stop set (subst AreAscending f.is g.ascending)))
 
-pub below_none : (part : Part) (k : List ℕ) (ms : Members) (left : List ℕ) (entries : List Entry) (old new : List ℕ) → (g : Going part (StartAt k) ms left entries old new) → g.rest ≡ no_members
+pub below_none : (part : MapKind) (k : List ℕ) (ms : Members) (left : List ℕ) (entries : List Entry) (old new : List ℕ) → (g : Going part (StartAt k) ms left entries old new) → g.rest ≡ no_members
     → WritesBelow part k ms left entries old new
 below_none part k ms left entries old new g none = below part k ms left entries old new g (subst (λ m. ComesBefore k (without part m)) (sym none) tt)
 
-pub all_written : (part : Part) (ms : Members) (left : List ℕ) (entries : List Entry) (old mid new : List ℕ) → (g : Going part IsNone ms left entries old mid) → g.rest ≡ no_members → new ≡ mid ++ 125 ∷ []
+pub all_written : (part : MapKind) (ms : Members) (left : List ℕ) (entries : List Entry) (old mid new : List ℕ) → (g : Going part IsNone ms left entries old mid) → g.rest ≡ no_members → new ≡ mid ++ 125 ∷ []
     → new ≡ old ++ members_text true (without part ms)
 all_written part ms left entries old mid new g none is =
     is ∙ ap (λ t. t ++ 125 ∷ []) g.new_is ∙ append_assoc old g.bytes (125 ∷ [])
@@ -251,16 +251,16 @@ before_puts [] k ms h later = h
 before_puts (x ∷ hs) k ms h later = before_some k x.0 x.1 (puts hs ms) later.0 (before_puts hs k ms h later.1)
 
 -- with the member of that key before those that are left
-pub key_text : (part : Part) (k : List ℕ) (v : Option Data) (ms : Members) (left : List ℕ) (entries : List Entry) (old new : List ℕ) → (w : WritesBelow part k ms left entries old new)
+pub key_text : (part : MapKind) (k : List ℕ) (v : Option Data) (ms : Members) (left : List ℕ) (entries : List Entry) (old new : List ℕ) → (w : WritesBelow part k ms left entries old new)
     → (hs : Set) → IsBelowAll k hs → rest_text part ((k, v) ∷ hs) ms ≡ w.bytes ++ (some_text k v ++ rest_text part hs w.rest)
 key_text part k v ms left entries old new w hs later =
     w.written hs v later ∙ ap (λ t. w.bytes ++ t) (text_some k v (puts hs (without part w.rest)) (before_puts hs k (without part w.rest) w.before later))
 
-pub below_at : (part : Part) (j k : List ℕ) (ms : Members) (left : List ℕ) (entries : List Entry) (old new : List ℕ) → j ≡ k → WritesBelow part j ms left entries old new → WritesBelow part k ms left entries old new
+pub below_at : (part : MapKind) (j k : List ℕ) (ms : Members) (left : List ℕ) (entries : List Entry) (old new : List ℕ) → j ≡ k → WritesBelow part j ms left entries old new → WritesBelow part k ms left entries old new
 below_at part j k ms left entries old new is w = subst (λ x. WritesBelow part x ms left entries old new) is w
 
 -- the member of that key was written after those below it
-pub step_written : (part : Part) (k : List ℕ) (v : Option Data) (ms : Members) (left : List ℕ) (entries : List Entry) (old mid new : List ℕ) → (w : WritesBelow part k ms left entries old mid) → new ≡ mid ++ some_text k v
+pub step_written : (part : MapKind) (k : List ℕ) (v : Option Data) (ms : Members) (left : List ℕ) (entries : List Entry) (old mid new : List ℕ) → (w : WritesBelow part k ms left entries old mid) → new ≡ mid ++ some_text k v
     → WritesStep part k v ms left entries old new
 step_written part k v ms left entries old mid new w is = record {
   rest = w.rest;

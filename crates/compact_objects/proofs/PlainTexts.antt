@@ -15,9 +15,9 @@ use Rattle.objects.specs.Names.{is_dns_label, is_subdomain_byte}
 use Rattle.objects.specs.Text.{unless_zero}
 use Rattle.objects.specs.Uid.{twelve_digits, uid_prefix, uid_text}
 use Rattle.compact_objects.specs.Merging.{held_key, is_set, some_text, uid_data}
-use Rattle.compact_objects.specs.declared.held.Held.{Held}
-use Rattle.compact_objects.specs.declared.held.Held.TheVariants.{DeletionTimestamp, Generation, Name, Namespace, Uid}
-use Rattle.compact_objects.specs.declared.merge.Part.TheVariants.{Metadata}
+use Rattle.compact_objects.specs.declared.held.HeldMember.{HeldMember}
+use Rattle.compact_objects.specs.declared.held.HeldMember.TheVariants.{DeletionTimestamp, Generation, Name, Namespace, Uid}
+use Rattle.compact_objects.specs.declared.merge.MapKind.TheVariants.{Metadata}
 use Rattle.compact_objects.proofs.PlainNames.{label_plain, name_plain, plain_bytes}
 
 pub same_plain : (k l : List ℕ) → escape l ≡ l → k ≡ l → escape k ≡ k
@@ -98,7 +98,7 @@ uid_member n other =
     ap (λ t. codes ",\"uid\":\"" ++ (t ++ 34 ∷ [])) (sym (uid_plain n ∙ uid_by (n == 0) n refl other))
     ∙ some_member (codes "uid") n (string (uid_text n)) other
 
-pub held_is_set : (h : Held) → is_set Metadata (held_key h) ≡ true
+pub held_is_set : (h : HeldMember) → is_set Metadata (held_key h) ≡ true
 held_is_set (DeletionTimestamp s) = refl
 held_is_set (Generation n) = refl
 held_is_set (Name s) = refl

@@ -27,7 +27,7 @@ use Rattle.objects.specs.Text.{unless_zero}
 use Rattle.objects.specs.Uid.{uid_text}
 use Rattle.objects.proofs.SeamTexts.{printable-append}
 use Rattle.compact_objects.specs.Merging.{held_with, is_set, uid_data, without}
-use Rattle.compact_objects.specs.declared.merge.Part.{Part}
+use Rattle.compact_objects.specs.declared.merge.MapKind.{MapKind}
 
 -- ---- numbers
 
@@ -156,7 +156,7 @@ writable_without_by : (b : Bool) (l : List ℕ) (d : Data) (ms : Members) → Is
 writable_without_by true l d ms one all = all
 writable_without_by false l d ms one all = (one, all)
 
-pub writable_without : (part : Part) (ms : Members) → AreWritable ms → AreWritable (without part ms)
+pub writable_without : (part : MapKind) (ms : Members) → AreWritable ms → AreWritable (without part ms)
 writable_without part no_members all = tt
 writable_without part (member l d ms) all = writable_without_by (is_set part l) l d (without part ms) all.0 (writable_without part ms all.1)
 

@@ -14,7 +14,7 @@ use Rattle.objects.specs.Seams.{spec_text, status_text, version_text}
 use Rattle.objects.proofs.SplicedTexts.{with_end}
 use Rattle.compact_objects.specs.Merging.{AreBelow, WritesBelow, object_with, rest_text, uid_data, without}
 use Rattle.compact_objects.specs.Seaming.{HasSpecAlone, HasSpecAtEnd, IsEnd, IsSpecAlone, WritesFront, WritesObject, WritesToVersion, member_with, metadata_with}
-use Rattle.compact_objects.specs.declared.merge.Part.TheVariants.{Metadata, Object}
+use Rattle.compact_objects.specs.declared.merge.MapKind.TheVariants.{Metadata, Object}
 use Rattle.compact_objects.proofs.Maps.{begun_text, behind, has_put, some_behind, with_next}
 use Rattle.compact_objects.proofs.Merging.{key_text}
 

@@ -19,7 +19,7 @@ use Rattle.compact_objects.specs.Texts.{with_meta}
 use Rattle.requests.specs.Change.{stamp, updates}
 use Rattle.requests.specs.Verdict.{has_status, updated}
 use Rattle.requests.specs.declared.verdict.Verdict.TheVariants.{Same, Write}
-use Rattle.compact_objects.specs.Told.{IsToldOf}
+use Rattle.compact_objects.specs.ReadFrom.{IsReadFrom}
 use Rattle.compact_objects.specs.Writes.{IsUpdateOf}
 use Rattle.compact_objects.proofs.KnownDrafts.{canonical_told, integral_told, spec_told, status_kind}
 
@@ -52,7 +52,7 @@ pub written_update : (o : Object) (d : Draft) (n : ℕ) (p : Object) → same_da
 written_update o d n p apart is = (ap (λ b. cond b (Same o) (Write (updates (updated o d)))) apart, is)
 
 -- the text of what an update with the draft makes, found from what was printed
-pub update_indexed : (c : CompactDraft) (d : Draft) (told : IsToldOf c d) (o : Object) (s new : IndexedText) (found : Option IndexedText) (indexed : IsIndexedText o s) (some : s.version ≢ 0) (meta : Meta) (n : ℕ) (end : List ℕ) → has_status c.key.kind ≡ true
+pub update_indexed : (c : CompactDraft) (d : Draft) (told : IsReadFrom c d) (o : Object) (s new : IndexedText) (found : Option IndexedText) (indexed : IsIndexedText o s) (some : s.version ≢ 0) (meta : Meta) (n : ℕ) (end : List ℕ) → has_status c.key.kind ≡ true
     → ((value : Option Data) → lent c.spec ≡ option_map compact_text value → IsCanonicalStatus value → IfSome value (λ e. has_float e ≡ false)
     → meta ≡ record { uid = o.meta.uid; revision = n; generation = generation_after o.meta.generation (same_found (member_of (codes "spec") o.body) value); deletion = o.meta.deletion })
     → end ≡ (indexed_parts o s indexed some).rest

@@ -3,7 +3,7 @@ pub mod Maps
 pub mod Drafts
 pub mod Texts
 pub mod Lines
-pub mod Told
+pub mod ReadFrom
 -- ---- what only proofs use
 pub mod Cursors
 pub mod Merging

@@ -13,7 +13,7 @@ use Rattle.objects.specs.Meta.{MetaParts}
 use Rattle.objects.specs.Object.{without_held}
 use Rattle.objects.specs.Seams.{spec_text, status_text, version_text}
 use Rattle.compact_objects.specs.Merging.{AreBelow, IsKept, held_with, object_with, rest_text, some_text, uid_data, without}
-use Rattle.compact_objects.specs.declared.merge.Part.TheVariants.{Metadata, Object}
+use Rattle.compact_objects.specs.declared.merge.MapKind.TheVariants.{Metadata, Object}
 
 -- These members are left, and the text has been written up to the resource version, whatever version and UID come next.
 pub record WritesToVersion (whole : Data → Option Data → List ℕ) (left : List ℕ) (entries : List Entry) (old new : List ℕ) : Type 0 where

@@ -6,7 +6,7 @@ ghost use Rattle.requests.specs.Change.{creates, stamp};
 ghost use Rattle.requests.specs.Judgments.{judged_at};
 ghost use Rattle.requests.specs.Verdict.{born, has_status, verdict};
 ghost use Rattle.requests.specs.declared.request.Request.TheVariants.{Create};
-ghost use Rattle.compact_objects.specs.Told.{IsToldOf};
+ghost use Rattle.compact_objects.specs.ReadFrom.{IsReadFrom};
 
 use crate::draft::CompactDraft;
 use crate::print::indexed;
@@ -22,9 +22,9 @@ pub fn judge_create(
     draft: &CompactDraft<'_>,
     number: u64,
 ) -> Result<Option<Judgment<Printed>>, Memory>
-    requires told { (d : Draft) × IsToldOf draft.now d }
+    requires told { (d : Draft) × IsReadFrom draft.now d }
     requires small { number < 2 ^ 48 }
-    ensures { (d : Draft) (current : Option SpecObject) → IsToldOf draft.now d → is_some current ≡ is_there
+    ensures { (d : Draft) (current : Option SpecObject) → IsReadFrom draft.now d → is_some current ≡ is_there
         → IfOk result (λ found. IfSome found (λ judged. judged ≡ judged_at number (verdict (Create d) current))) }
 {
     if !has_status(draft.key.kind) {
@@ -41,10 +41,10 @@ pub fn judge_create(
 
 /// The text of the draft's object as it is made at that number.
 fn created(alloc: Global, draft: &CompactDraft<'_>, number: u64) -> Result<Option<Printed>, Memory>
-    requires told { (d : Draft) × IsToldOf draft.now d }
+    requires told { (d : Draft) × IsReadFrom draft.now d }
     requires status { has_status draft.now.key.kind ≡ true }
     requires small { number < 2 ^ 48 }
-    ensures { (d : Draft) → IsToldOf draft.now d → IfOk result (λ found. IfSome found (λ text. text ≡ stamp (creates (born d.object)) number)) }
+    ensures { (d : Draft) → IsReadFrom draft.now d → IfOk result (λ found. IfSome found (λ text. text ≡ stamp (creates (born d.object)) number)) }
 {
     let meta = first_meta(number);
     let text = indexed(alloc, draft, &meta, b"}");

@@ -14,7 +14,7 @@ use trees::Text;
 
 /// A member of the metadata that the key or the meta holds, with its value. A number that is 0 stands for none.
 #[derive(Clone, Copy, Drop)]
-pub(crate) enum Held<'a> {
+pub(crate) enum HeldMember<'a> {
     DeletionTimestamp(Option<&'a str>),
     Generation(u64),
     Name(PlainText<'a>),
@@ -22,18 +22,18 @@ pub(crate) enum Held<'a> {
     Uid(u64),
 }
 
-impl<'a> Held<'a> {
+impl<'a> HeldMember<'a> {
     /// The key of the member.
     #[inline(always)]
     pub(crate) fn key(self) -> &'static str
         ensures { result.now ≡ held_key self.entry }
     {
         match self {
-            Held::DeletionTimestamp(_) => "deletionTimestamp",
-            Held::Generation(_) => "generation",
-            Held::Name(_) => "name",
-            Held::Namespace(_) => "namespace",
-            Held::Uid(_) => "uid",
+            HeldMember::DeletionTimestamp(_) => "deletionTimestamp",
+            HeldMember::Generation(_) => "generation",
+            HeldMember::Name(_) => "name",
+            HeldMember::Namespace(_) => "namespace",
+            HeldMember::Uid(_) => "uid",
         }
     }
 }
@@ -50,15 +50,19 @@ pub(crate) fn held_text<'a>(text: Option<&'a Text>) -> Option<&'a str>
 
 /// Writes the held member with a comma before it, if there is one. Inline, since each caller knows which member it is.
 #[inline(always)]
-pub(crate) fn write_held(alloc: Global, held: Held<'_>, out: &mut Vec<u8>) -> Result<(), AllocError>
+pub(crate) fn write_held(
+    alloc: Global,
+    held: HeldMember<'_>,
+    out: &mut Vec<u8>,
+) -> Result<(), AllocError>
     ensures { OnOk result (out.new.items ≡ out.old.items ++ some_text (held_key held.entry) (held_data held.entry)) }
 {
     match held {
-        Held::DeletionTimestamp(time) => write_deletion_timestamp(alloc, time, out),
-        Held::Generation(number) => write_generation(number, out),
-        Held::Name(name) => write_plain(b",\"name\":\"", name, out),
-        Held::Namespace(namespace) => write_plain(b",\"namespace\":\"", namespace, out),
-        Held::Uid(number) => write_uid(number, out),
+        HeldMember::DeletionTimestamp(time) => write_deletion_timestamp(alloc, time, out),
+        HeldMember::Generation(number) => write_generation(number, out),
+        HeldMember::Name(name) => write_plain(b",\"name\":\"", name, out),
+        HeldMember::Namespace(namespace) => write_plain(b",\"namespace\":\"", namespace, out),
+        HeldMember::Uid(number) => write_uid(number, out),
     }
 }
 

@@ -7,28 +7,28 @@ ghost use Rattle.compact.specs.Fields.{IsFirst, IsLeft};
 ghost use Rattle.compact.specs.Notes.{AreEntries};
 ghost use Rattle.compact.specs.declared.table.Entry.{Entry};
 ghost use Rattle.compact_objects.specs.Merging.{field_text, held_data, held_key, is_set, other_text, without, WritesBelow, WritesStep};
-ghost use Rattle.compact_objects.specs.declared.merge.Part.TheVariants.{Metadata as MetadataPart};
+ghost use Rattle.compact_objects.specs.declared.merge.MapKind.TheVariants.{Metadata as MetadataPart};
 ghost use Rattle.objects.specs.Object.{is_held};
 
-use crate::held::{Held, write_held};
+use crate::held::{HeldMember, write_held};
 use compact::{Fields, compare_keys};
 use std::alloc::{AllocError, Global};
 use std::cmp::Ordering;
 
 /// Which map: an object, or its metadata.
 #[derive(Clone, Copy, Drop)]
-pub(crate) enum Part {
+pub(crate) enum MapKind {
     Object,
     Metadata,
 }
 
 // Whether the store sets the member of that key.
-fn is_set(part: Part, key: &[u8]) -> bool
+fn is_set(part: MapKind, key: &[u8]) -> bool
     ensures { result ≡ is_set part key.now }
 {
     match part {
-        Part::Object => "metadata".as_bytes() == key || "status".as_bytes() == key,
-        Part::Metadata => is_held(key),
+        MapKind::Object => "metadata".as_bytes() == key || "status".as_bytes() == key,
+        MapKind::Metadata => is_held(key),
     }
 }
 
@@ -47,7 +47,12 @@ fn is_held(key: &[u8]) -> bool
 }
 
 // Writes the member of that key as it is written, with a comma before it, unless the store sets it.
-fn write_other(part: Part, key: &[u8], member: &[u8], out: &mut Vec<u8>) -> Result<(), AllocError>
+fn write_other(
+    part: MapKind,
+    key: &[u8],
+    member: &[u8],
+    out: &mut Vec<u8>,
+) -> Result<(), AllocError>
     ensures { (value : List ℕ) → 44 ∷ member.now ≡ field_text key.now value
         → OnOk result (out.new.items ≡ out.old.items ++ other_text part key.now value) }
 {
@@ -80,7 +85,7 @@ fn front_of(text: &[u8], end: usize) -> &[u8]
 
 /// Writes the members below the key, and returns the others.
 pub(crate) fn write_below<'t, 'e>(
-    part: Part,
+    part: MapKind,
     fields: Fields<'t, 'e>,
     key: &str,
     out: &mut Vec<u8>,
@@ -105,20 +110,20 @@ pub(crate) fn write_below<'t, 'e>(
 pub(crate) fn write_step<'t, 'e>(
     alloc: Global,
     fields: Fields<'t, 'e>,
-    held: Held<'_>,
+    held: HeldMember<'_>,
     out: &mut Vec<u8>,
 ) -> Result<Fields<'t, 'e>, AllocError>
     ensures { (ms : Members) → AreAscending ms → IsLeft ms fields.entry.left.now → AreEntries fields.entry.entries.now ms
         → IfOk result (λ rest. WritesStep MetadataPart (held_key held.entry) (held_data held.entry) ms rest.left.now rest.entries.now out.old.items out.new.items) }
 {
-    let rest = write_below(Part::Metadata, fields, held.key(), out)?;
+    let rest = write_below(MapKind::Metadata, fields, held.key(), out)?;
     write_held(alloc, held, out)?;
     Ok(rest)
 }
 
 /// Writes the members that are left, and the closing brace.
 pub(crate) fn write_rest(
-    part: Part,
+    part: MapKind,
     fields: Fields<'_, '_>,
     out: &mut Vec<u8>,
 ) -> Result<(), AllocError>

@@ -10,7 +10,7 @@ ghost use Rattle.json.specs.Print.{ArePrintableOrBad};
 ghost use Rattle.objects.specs.declared.object.Draft.{Draft};
 ghost use Rattle.compact_objects.specs.Drafts.{IsDraftOf};
 ghost use Rattle.compact_objects.specs.Texts.{with_meta};
-ghost use Rattle.compact.specs.Reads.{IsTaken};
+ghost use Rattle.compact.specs.Reads.{IsSorted};
 ghost use Rattle.compact_objects.specs.Lines.{IsDraftOfLine};
 
 use crate::draft::CompactDraft;
@@ -29,7 +29,7 @@ pub fn draft_of_line<'a>(
     text: &'a [u8],
     tables: &'a Tables,
 ) -> Result<Option<CompactDraft<'a>>, Memory>
-    ensures { (line : List ℕ) → IsTaken line text.now tables.now → IfOk result (λ found. IfSome found (λ c. IsDraftOfLine c line)) }
+    ensures { (line : List ℕ) → IsSorted line text.now tables.now → IfOk result (λ found. IfSome found (λ c. IsDraftOfLine c line)) }
 {
     if !text.starts_with(b"{") {
         return Ok(None);

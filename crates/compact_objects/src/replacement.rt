@@ -12,7 +12,7 @@ ghost use Rattle.std.specs.Option.{option_copied};
 ghost use Rattle.requests.specs.Judgments.{judged_at};
 ghost use Rattle.requests.specs.Verdict.{has_status, verdict};
 ghost use Rattle.requests.specs.declared.request.Request.TheVariants.{Update};
-ghost use Rattle.compact_objects.specs.Told.{IsToldOf};
+ghost use Rattle.compact_objects.specs.ReadFrom.{IsReadFrom};
 ghost use Rattle.compact_objects.specs.Writes.{IsUpdateOf};
 
 use crate::draft::CompactDraft;
@@ -32,10 +32,10 @@ pub fn judge_update(
     draft: &CompactDraft<'_>,
     number: u64,
 ) -> Result<Option<Judgment<Printed>>, Memory>
-    requires told { (d : Draft) × IsToldOf draft.now d }
+    requires told { (d : Draft) × IsReadFrom draft.now d }
     requires key { IfSome (option_copied current) (λ o. o.key ≡ draft.now.key) }
     requires number { number ≢ 0 }
-    ensures { (d : Draft) → IsToldOf draft.now d
+    ensures { (d : Draft) → IsReadFrom draft.now d
         → IfOk result (λ found. IfSome found (λ judged. judged ≡ judged_at number (verdict (Update d) (option_copied current.entry)))) }
 {
     if !has_status(draft.key.kind) {
@@ -58,11 +58,11 @@ fn updated(
     draft: &CompactDraft<'_>,
     number: u64,
 ) -> Result<Option<Printed>, Memory>
-    requires told { (d : Draft) × IsToldOf draft.now d }
+    requires told { (d : Draft) × IsReadFrom draft.now d }
     requires status { has_status draft.now.key.kind ≡ true }
     requires key { current.now.key ≡ draft.now.key }
     requires number { number ≢ 0 }
-    ensures { (d : Draft) → IsToldOf draft.now d → IfOk result (λ found. IfSome found (IsUpdateOf current.now d number)) }
+    ensures { (d : Draft) → IsReadFrom draft.now d → IfOk result (λ found. IfSome found (IsUpdateOf current.now d number)) }
 {
     let old = current.indexed();
     // 0 says that the text has no seams, or that it is not known where its spec is and what its generation is.

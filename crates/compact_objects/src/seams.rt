@@ -8,11 +8,11 @@ ghost use Rattle.objects.specs.Seams.{version_text};
 ghost use Rattle.compact_objects.specs.Maps.{IsMap};
 ghost use Rattle.compact_objects.specs.Seaming.{HasSpecAlone, IsEnd, IsSpecAlone, WritesFront, WritesObject, WritesToVersion, member_with, members_with};
 ghost use Rattle.compact_objects.specs.Merging.{rest_text, uid_data};
-ghost use Rattle.compact_objects.specs.declared.merge.Part.TheVariants.{Metadata as MetadataPart};
+ghost use Rattle.compact_objects.specs.declared.merge.MapKind.TheVariants.{Metadata as MetadataPart};
 
-use crate::held::{Held, held_text};
+use crate::held::{HeldMember, held_text};
 use crate::map::Map;
-use crate::merge::{Part, write_below, write_rest, write_step};
+use crate::merge::{MapKind, write_below, write_rest, write_step};
 use crate::plain_text::{plain_name, plain_namespace};
 use compact::Fields;
 use objects::{Key, Memory, Meta};
@@ -54,7 +54,7 @@ pub(crate) fn write_object(
     write_version(meta.revision, out)?;
     write_after_version(alloc, behind.versioned, meta, out)?;
     let begin = out.len();
-    let last = write_below(Part::Object, behind.others, "status", out)?;
+    let last = write_below(MapKind::Object, behind.others, "status", out)?;
     if !ends_there(last) {
         return Ok(None);
     }
@@ -83,7 +83,7 @@ fn write_front<'t>(
         → IfOk result (λ behind. WritesFront key.now meta.now os ms behind.versioned.left.now behind.versioned.entries.now behind.others.left.now behind.others.entries.now out.new.items) }
 {
     let fields = object.table.fields(object.text);
-    let others = write_below(Part::Object, fields, "metadata", out)?;
+    let others = write_below(MapKind::Object, fields, "metadata", out)?;
     let versioned = write_to_version(alloc, metadata, key, meta, out)?;
     begin_map(0, out);
     Ok(Behind { versioned, others })
@@ -176,15 +176,15 @@ fn write_members<'t>(
         → IfOk result (λ rest. WritesToVersion (members_with key.now meta.now ms) rest.left.now rest.entries.now out.old.items out.new.items) }
 {
     let fields = metadata.table.fields(metadata.text);
-    let deletion = Held::DeletionTimestamp(held_text(meta.deletion.as_ref()));
+    let deletion = HeldMember::DeletionTimestamp(held_text(meta.deletion.as_ref()));
     let deleted = write_step(alloc, fields, deletion, out)?;
-    let generation = Held::Generation(meta.generation);
+    let generation = HeldMember::Generation(meta.generation);
     let generated = write_step(alloc, deleted, generation, out)?;
-    let name = Held::Name(plain_name(key));
+    let name = HeldMember::Name(plain_name(key));
     let named = write_step(alloc, generated, name, out)?;
-    let namespace = Held::Namespace(plain_namespace(key));
+    let namespace = HeldMember::Namespace(plain_namespace(key));
     let spaced = write_step(alloc, named, namespace, out)?;
-    let rest = write_below(Part::Metadata, spaced, "resourceVersion", out)?;
+    let rest = write_below(MapKind::Metadata, spaced, "resourceVersion", out)?;
     out.extend_from_slice(b",\"resourceVersion\":")?;
     Ok(rest)
 }
@@ -199,8 +199,8 @@ fn write_after_version(
     ensures { (ms : Members) → AreAscending ms → IsLeft ms versioned.entry.left.now → AreEntries versioned.entry.entries.now ms
         → OnOk result (out.new.items ≡ out.old.items ++ rest_text MetadataPart ((codes "uid", uid_data meta.now.uid) ∷ []) ms) }
 {
-    let known = write_step(alloc, versioned, Held::Uid(meta.uid), out)?;
-    write_rest(Part::Metadata, known, out)?;
+    let known = write_step(alloc, versioned, HeldMember::Uid(meta.uid), out)?;
+    write_rest(MapKind::Metadata, known, out)?;
     Ok(())
 }
 

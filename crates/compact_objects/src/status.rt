@@ -9,7 +9,7 @@ ghost use Rattle.std.specs.Option.{option_copied};
 ghost use Rattle.requests.specs.Judgments.{judged_at};
 ghost use Rattle.requests.specs.Verdict.{status_unless_same, verdict};
 ghost use Rattle.requests.specs.declared.request.Request.TheVariants.{UpdateStatus};
-ghost use Rattle.compact_objects.specs.Told.{IsToldOf};
+ghost use Rattle.compact_objects.specs.ReadFrom.{IsReadFrom};
 
 use crate::draft::CompactDraft;
 use objects::{Memory, Printed, Printer, ends_so, spliced};
@@ -25,8 +25,8 @@ pub fn judge_status(
     draft: &CompactDraft<'_>,
     number: u64,
 ) -> Result<Option<Judgment<Printed>>, Memory>
-    requires { (d : Draft) × IsToldOf draft.now d }
-    ensures { (d : Draft) → IsToldOf draft.now d
+    requires { (d : Draft) × IsReadFrom draft.now d }
+    ensures { (d : Draft) → IsReadFrom draft.now d
         → IfOk result (λ found. IfSome found (λ judged. judged ≡ judged_at number (verdict (UpdateStatus d) (option_copied current.entry)))) }
 {
     if !has_status(draft.key.kind) {
@@ -46,8 +46,8 @@ fn status_unless_same(
     draft: &CompactDraft<'_>,
     number: u64,
 ) -> Result<Option<Judgment<Printed>>, Memory>
-    requires { (d : Draft) × IsToldOf draft.now d }
-    ensures { (d : Draft) → IsToldOf draft.now d
+    requires { (d : Draft) × IsReadFrom draft.now d }
+    ensures { (d : Draft) → IsReadFrom draft.now d
         → IfOk result (λ found. IfSome found (λ judged. judged ≡ judged_at number (status_unless_same current.now d))) }
 {
     let old = current.indexed();

@@ -1,7 +1,7 @@
--- Callers that are named for the first time, and the place of the next event.
+-- CallerPhases that are named for the first time, and the place of the next event.
 use Rattle.std.proofs.Common.{◌≡◌, ℕ, suc, ◌+◌, true, false, cond, Option, Some, None, refl, sym, ap, ◌∙◌, subst, nat_eq, add-one, is_some, option_map}
 use Rattle.requests.specs.declared.reply.Reply.{Reply}
-use Rattle.history.specs.declared.callers.Callers.{Callers}
+use Rattle.history.specs.declared.callers.CallerPhases.{CallerPhases}
 use Rattle.interleavings.specs.declared.event.Event.{Event}
 use Rattle.history.specs.declared.machine.Machine.{Machine}
 use Rattle.history.specs.declared.phase.Phase.TheVariants as code
@@ -22,7 +22,7 @@ unfolding Keeps Stays
 stays_twice m n k first second = ((second.0.0 ∙ first.0.0, λ z w a sh. second.0.1 z w a (first.0.1 z w a sh)), λ c. second.1 c ∙ first.1 c)
 
 -- a caller that is named for the first time
-pub admitted_same : (old new : Callers) (c : ℕ) → named_phase old c ≡ None → Enters old new c code.Idle → (d : ℕ) → phase_at new d ≡ phase_at old d
+pub admitted_same : (old new : CallerPhases) (c : ℕ) → named_phase old c ≡ None → Enters old new c code.Idle → (d : ℕ) → phase_at new d ≡ phase_at old d
 admitted_same old new c none e d = by (compare d c)
   where
     by : Compared d c → phase_at new d ≡ phase_at old d

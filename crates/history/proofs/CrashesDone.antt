@@ -2,7 +2,7 @@
 use Rattle.std.proofs.Common.{◌≡◌, ℕ, ◌-◌, ◌<◌, List, [], ◌∷◌, length, set, Some, None, refl, sym, ap, ◌∙◌, subst, arith}
 use Rattle.objects.specs.ShardOf.{shard_of}
 use Rattle.plain_store.specs.Store.{Objects}
-use Rattle.history.specs.declared.callers.Callers.{Callers}
+use Rattle.history.specs.declared.callers.CallerPhases.{CallerPhases}
 use Rattle.interleavings.specs.declared.event.Event.TheVariants.{Crash, Part}
 use Rattle.history.specs.declared.machine.Machine.{Machine}
 use Rattle.history.specs.declared.phase.Phase.{Phase as CodePhase}
@@ -17,14 +17,14 @@ use Rattle.history.proofs.Showing.{entered_own, entered_other, released, shows_d
 use Rattle.history.proofs.Stepping.{holding_code, holding_is, nothing, steps}
 
 -- a caller that enters the phase that it has
-pub same_phases : (old new : Callers) (c : ℕ) → Enters old new c (phase_at old c) → (d : ℕ) → phase_at new d ≡ phase_at old d
+pub same_phases : (old new : CallerPhases) (c : ℕ) → Enters old new c (phase_at old c) → (d : ℕ) → phase_at new d ≡ phase_at old d
 same_phases old new c e d = by (compare d c)
   where
     by : Compared d c → phase_at new d ≡ phase_at old d
     by (same x b) = ap (phase_at new) x ∙ entered_own old new c (phase_at old c) e ∙ ap (phase_at old) (sym x)
     by (other x b) = entered_other old new c (phase_at old c) e d x
 
-module _ (z : Size) (w : World) (a : Arrangement) (m : Machine) (sh : Shows z w a m) (c : ℕ) (cs : Callers) where
+module _ (z : Size) (w : World) (a : Arrangement) (m : Machine) (sh : Shows z w a m) (c : ℕ) (cs : CallerPhases) where
   abbrev entered_machine : Machine
   entered_machine = record m { callers = cs }
 

@@ -16,9 +16,9 @@ use Rattle.interleavings.specs.Log.{Writing, value}
 use Rattle.interleavings.specs.Step.{begun_unless, checked, checked_by, checked_in, compacted, compacted_by, drawn_by, floored, with_reply_if, happens, judged, part, published, raised, read, read_at, read_at_by, read_by, replied, reserved}
 use Rattle.interleavings.specs.World.{Phase, Idle, Called, Holding, Drawn, Waiting, Reading, Gone, Size, World, shard}
 use Rattle.interleavings.proofs.Basics.{changed-same}
-use Rattle.history.specs.declared.standing.Standing.TheVariants as standing
+use Rattle.history.specs.declared.caller_phase.CallerPhase.TheVariants as caller_phase
 use Rattle.history.specs.NextStep.{can_rise, goes_on, next_step}
-use Rattle.history.specs.Standing.{asked, standing_of}
+use Rattle.history.specs.CallerPhase.{first_step, caller_phase_of}
 
 abbrev parts_of : Phase → List ℕ
 parts_of Idle = []
@@ -70,7 +70,7 @@ module _ (z : Size) (w : World) (c : ℕ) where
       (judged_elsewhere p r k (verdict r (value w.log w.drawn k))))
 
   begins : (p : ℕ) (r : Request) (q : Route) → w.phase c ≡ Called p r → route r ≡ q
-      → (e : Event) → goes_on is_held w.frontier (can_rise w) c (standing.Called (asked z.shards q)) ≡ Some e → happens z w e ≢ w
+      → (e : Event) → goes_on is_held w.frontier (can_rise w) c (caller_phase.Called (first_step z.shards q)) ≡ Some e → happens z w e ≢ w
   unfolding shard
   begins p r (writes k) at to e next = checks p r k (w.holder (shard z k)) at to refl e next
   begins p r (gets k) at to e next =
@@ -98,7 +98,7 @@ module _ (z : Size) (w : World) (c : ℕ) where
       (ap (replied z w c) at ∙ ap (λ b. with_reply_if b w c reply) is) (record { there = _; is = changed-same w.phase c _; other = λ x. absurd cc }))
   waits saw p reply false is at e next = rises_on (w.log w.frontier) refl e next
 
-  leads : (ph : Phase) → w.phase c ≡ ph → (e : Event) → goes_on is_held w.frontier (can_rise w) c (standing_of z.shards ph) ≡ Some e → happens z w e ≢ w
+  leads : (ph : Phase) → w.phase c ≡ ph → (e : Event) → goes_on is_held w.frontier (can_rise w) c (caller_phase_of z.shards ph) ≡ Some e → happens z w e ≢ w
   leads Idle at e next = absurd cc
   leads (Called p r) at e next = begins p r (route r) at refl e next
   leads (Holding t) at e next =

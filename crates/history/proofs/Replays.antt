@@ -9,7 +9,7 @@ use Rattle.history.specs.declared.phase.Phase.TheVariants as code
 use Rattle.interleavings.specs.declared.trace.Item.{Item}
 use Rattle.history.specs.After.{IsAfter, IsReplyTo, ReplayParts}
 use Rattle.history.specs.Named.{named, with_named}
-use Rattle.history.specs.declared.names.Names.{Names}
+use Rattle.history.specs.declared.names.NamedCallers.{NamedCallers}
 use Rattle.interleavings.specs.Order.{order}
 use Rattle.interleavings.specs.Linearization.{IsLegal}
 use Rattle.interleavings.specs.Trace.{trace}
@@ -20,20 +20,20 @@ use Rattle.interleavings.proofs.Runs.{orders_are_legal}
 use Rattle.history.proofs.Naming.{named_more}
 use Rattle.history.proofs.Reached.{run_stays, run_steps}
 
-abbrev parts : Machine → Names → ReplayParts
+abbrev parts : Machine → NamedCallers → ReplayParts
 parts m n = record { machine = m; names = n }
 
-pub names_next : (es : List Event) (e : Event) (n n' : Names) → n.callers.keys ≡ named [] es → n'.callers.keys ≡ with_named n.callers.keys (named_by e) → n'.callers.keys ≡ named [] (es ++ e ∷ [])
+pub names_next : (es : List Event) (e : Event) (n n' : NamedCallers) → n.callers.keys ≡ named [] es → n'.callers.keys ≡ with_named n.callers.keys (named_by e) → n'.callers.keys ≡ named [] (es ++ e ∷ [])
 names_next es e n n' were noted = noted ∙ ap (λ ks. with_named ks (named_by e)) were ∙ sym (named_more es [] e)
 
 -- one event more
-pub after_next : (z : Size) (es : List Event) (e : Event) (m m' : Machine) (n n' : Names) → IsAfter z es (parts m n) → Steps e m m' → m'.now_at ≡ m.now_at + 1 → n'.callers.keys ≡ with_named n.callers.keys (named_by e) → length n'.callers.keys ≤ 4096
+pub after_next : (z : Size) (es : List Event) (e : Event) (m m' : Machine) (n n' : NamedCallers) → IsAfter z es (parts m n) → Steps e m m' → m'.now_at ≡ m.now_at + 1 → n'.callers.keys ≡ with_named n.callers.keys (named_by e) → length n'.callers.keys ≤ 4096
     → IsAfter z (es ++ e ∷ []) (parts m' n')
 unfolding IsAfter
 after_next z es e m m' n n' after steps place noted few = (run_steps z es e m m' after.0 steps place, (names_next es e n n' after.1.0 noted, few))
 
 -- the event was refused
-pub after_still : (z : Size) (es : List Event) (m m' : Machine) (n n' : Names) → IsAfter z es (parts m n) → Stays m m' → n'.callers.keys ≡ n.callers.keys → IsAfter z es (parts m' n')
+pub after_still : (z : Size) (es : List Event) (m m' : Machine) (n n' : NamedCallers) → IsAfter z es (parts m n) → Stays m m' → n'.callers.keys ≡ n.callers.keys → IsAfter z es (parts m' n')
 unfolding IsAfter
 after_still z es m m' n n' after stays same =
     let few = after.1.1 in

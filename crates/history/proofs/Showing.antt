@@ -1,7 +1,7 @@
 -- What a machine still shows once one of its pieces has changed.
 use Rattle.std.proofs.Common.{◌≡◌, ◌≢◌, ℕ, ◌<◌, Bool, true, false, cond, List, [], ◌∷◌, ◌++◌, length, get_or, set, Option, Some, None, refl, sym, ap, ◌∙◌, subst, nat_eq, arith, get_or-set_same, get_or-set_other, ne_eqb, eq-eqb}
 use Rattle.std.proofs.Math.ListN.{length-set}
-use Rattle.history.specs.declared.callers.Callers.{Callers}
+use Rattle.history.specs.declared.callers.CallerPhases.{CallerPhases}
 use Rattle.history.specs.declared.machine.Machine.{Machine}
 use Rattle.history.specs.declared.parking.Parking.{Parking}
 use Rattle.history.specs.declared.parking.Waiter.{Waiter}
@@ -12,7 +12,7 @@ use Rattle.history.specs.Replayed.{Enters, IsShown, IsTracked, IsUnread, Shows, 
 use Rattle.interleavings.proofs.Basics.{Compared, same, other, compare, changed-same, changed-other, changed_all, eq_self}
 use Rattle.history.proofs.Waiters.{staying_more, staying_same, staying_twice, waiters_more, waiters_passed, waiters_rest, waiters_without}
 
-module _ (old new : Callers) (c : ℕ) (ph : CodePhase) (e : Enters old new c ph) where
+module _ (old new : CallerPhases) (c : ℕ) (ph : CodePhase) (e : Enters old new c ph) where
   pub entered_own : phase_at new c ≡ ph
   entered_own = ap or_idle (e.0 c ∙ ap (λ b. cond b (Some ph) (named_phase old c)) (eq_self c))
 
@@ -33,7 +33,7 @@ module _ (old new : Callers) (c : ℕ) (ph : CodePhase) (e : Enters old new c ph
 
 module _ (z : Size) (w : World) (a : Arrangement) (m : Machine) (sh : Shows z w a m) where
   -- a caller enters a phase
-  pub shows_entered : (cs : Callers) (c : ℕ) (ph : CodePhase) (to : Phase) → Enters m.callers cs c ph → IsShown ph to → is_dropped ph ≡ drops m.callers c → IsUnread m.compacted to → Shows z (record w { phase = changed w.phase c to }) a (record m { callers = cs })
+  pub shows_entered : (cs : CallerPhases) (c : ℕ) (ph : CodePhase) (to : Phase) → Enters m.callers cs c ph → IsShown ph to → is_dropped ph ≡ drops m.callers c → IsUnread m.compacted to → Shows z (record w { phase = changed w.phase c to }) a (record m { callers = cs })
   shows_entered cs c ph to e own stays unread = record {
     capacity = sh.capacity;
     small = sh.small;
@@ -52,7 +52,7 @@ module _ (z : Size) (w : World) (a : Arrangement) (m : Machine) (sh : Shows z w 
   }
 
   -- the same callers
-  pub shows_named : (cs : Callers) → ((c : ℕ) → phase_at cs c ≡ phase_at m.callers c) → (IsTracked m.callers → IsTracked cs) → Shows z w a (record m { callers = cs })
+  pub shows_named : (cs : CallerPhases) → ((c : ℕ) → phase_at cs c ≡ phase_at m.callers c) → (IsTracked m.callers → IsTracked cs) → Shows z w a (record m { callers = cs })
   shows_named cs e tracks = record {
     capacity = sh.capacity;
     small = sh.small;
@@ -71,7 +71,7 @@ module _ (z : Size) (w : World) (a : Arrangement) (m : Machine) (sh : Shows z w 
   }
 
   -- a caller crashes while its reply waits
-  pub shows_dropped : (cs : Callers) (c : ℕ) (ph : CodePhase) (to : Phase) → Enters m.callers cs c ph → IsShown ph to → is_dropped ph ≡ true → IsUnread m.compacted to
+  pub shows_dropped : (cs : CallerPhases) (c : ℕ) (ph : CodePhase) (to : Phase) → Enters m.callers cs c ph → IsShown ph to → is_dropped ph ≡ true → IsUnread m.compacted to
       → Shows z (record w { phase = changed w.phase c to }) (record { order = a.order; parked = without c a.parked }) (record m { callers = cs })
   shows_dropped cs c ph to e own gone unread = record {
     capacity = sh.capacity;

@@ -7,21 +7,21 @@ use Rattle.interleavings.specs.World.{Phase, Idle, Called, Holding, Drawn, Waiti
 use Rattle.history.specs.declared.machine.Machine.{Machine}
 use Rattle.history.specs.declared.phase.Phase.{Phase as CodePhase}
 use Rattle.history.specs.declared.phase.Phase.TheVariants as code
-use Rattle.history.specs.declared.standing.Standing.{Standing}
-use Rattle.history.specs.declared.standing.Standing.TheVariants as standing
+use Rattle.history.specs.declared.caller_phase.CallerPhase.{CallerPhase}
+use Rattle.history.specs.declared.caller_phase.CallerPhase.TheVariants as caller_phase
 use Rattle.history.specs.NextStep.{can_rise, goes_on, next_step}
 use Rattle.history.specs.Replayed.{IsShown, Shows, phase_at}
-use Rattle.history.specs.Standing.{asked, one_shard, standing_in, standing_of}
+use Rattle.history.specs.CallerPhase.{first_step, one_shard, caller_phase_in, caller_phase_of}
 use Rattle.interleavings.proofs.Quiets.{shard_below}
 
-pub standing_shown : (n : ℕ) (p : CodePhase) (ph : Phase) → IsShown p ph → standing_in n p ≡ standing_of n ph
-standing_shown n (code.Reading k p r left) ph h = ap (standing.Reading k (one_shard n (route r))) (sym h.1.1.1) ∙ ap (standing_of n) (sym h.1.1.0)
-standing_shown n _ ph h = ap (standing_of n) (sym h)
+pub standing_shown : (n : ℕ) (p : CodePhase) (ph : Phase) → IsShown p ph → caller_phase_in n p ≡ caller_phase_of n ph
+standing_shown n (code.Reading k p r left) ph h = ap (caller_phase.Reading k (one_shard n (route r))) (sym h.1.1.1) ∙ ap (caller_phase_of n) (sym h.1.1.0)
+standing_shown n _ ph h = ap (caller_phase_of n) (sym h)
 
 -- there are so many shards, and who holds them is looked up only among them
 module _ (held seen : ℕ → Bool) (f : ℕ) (r : Bool) (c : ℕ) where
   goes_asked : (z : Size) → 0 < z.shards → ((s : ℕ) → s < z.shards → held s ≡ seen s)
-      → (q : Route) → goes_on held f r c (standing.Called (asked z.shards q)) ≡ goes_on seen f r c (standing.Called (asked z.shards q))
+      → (q : Route) → goes_on held f r c (caller_phase.Called (first_step z.shards q)) ≡ goes_on seen f r c (caller_phase.Called (first_step z.shards q))
   unfolding shard
   goes_asked z some same (writes k) = ap (λ b. if b then None else Some (event.Check c)) (same (shard z k) (shard_below z k some))
   goes_asked z some same (gets k) = refl
@@ -29,12 +29,12 @@ module _ (held seen : ℕ → Bool) (f : ℕ) (r : Bool) (c : ℕ) where
   goes_asked z some same (lists_at kind namespace number) = refl
   goes_asked z some same (compacts to) = refl
 
-  goes_reading : (n : ℕ) (one : Option ℕ) (left : ℕ) → goes_on held f r c (standing.Reading n one left) ≡ goes_on seen f r c (standing.Reading n one left)
+  goes_reading : (n : ℕ) (one : Option ℕ) (left : ℕ) → goes_on held f r c (caller_phase.Reading n one left) ≡ goes_on seen f r c (caller_phase.Reading n one left)
   goes_reading n one zero = refl
   goes_reading n one (suc left) = refl
 
   pub goes_same : (z : Size) → 0 < z.shards → ((s : ℕ) → s < z.shards → held s ≡ seen s)
-      → (ph : Phase) → goes_on held f r c (standing_of z.shards ph) ≡ goes_on seen f r c (standing_of z.shards ph)
+      → (ph : Phase) → goes_on held f r c (caller_phase_of z.shards ph) ≡ goes_on seen f r c (caller_phase_of z.shards ph)
   goes_same z some same Idle = refl
   goes_same z some same (Called p q) = goes_asked z some same (route q)
   goes_same z some same (Holding t) = refl
@@ -49,9 +49,9 @@ is_some_map f None = refl
 is_some_map f (Some x) = refl
 
 pub standing_is : (z : Size) (w : World) (a : Arrangement) (m : Machine) (c : ℕ) → Shows z w a m
-    → standing_in (length m.shards.items) (phase_at m.callers c) ≡ standing_of z.shards (w.phase c)
+    → caller_phase_in (length m.shards.items) (phase_at m.callers c) ≡ caller_phase_of z.shards (w.phase c)
 standing_is z w a m c sh =
-    ap (λ n. standing_in n (phase_at m.callers c)) sh.log.count ∙ standing_shown z.shards (phase_at m.callers c) (w.phase c) (sh.phases c)
+    ap (λ n. caller_phase_in n (phase_at m.callers c)) sh.log.count ∙ standing_shown z.shards (phase_at m.callers c) (w.phase c) (sh.phases c)
 
 pub rises : (z : Size) (w : World) (a : Arrangement) (m : Machine) → Shows z w a m → is_some (get_or m.places.items m.frontier None) ≡ can_rise w
 rises z w a m sh =
@@ -59,11 +59,11 @@ rises z w a m sh =
 
 pub next_is : (z : Size) (w : World) (a : Arrangement) (m : Machine) (c : ℕ) → 0 < z.shards → Shows z w a m
     → goes_on (λ s. is_some (get_or m.holders.items s None)) m.frontier (is_some (get_or m.places.items m.frontier None)) c
-    (standing_in (length m.shards.items) (phase_at m.callers c)) ≡ next_step z w c
+    (caller_phase_in (length m.shards.items) (phase_at m.callers c)) ≡ next_step z w c
 next_is z w a m c some sh =
     let held : ℕ → Bool = λ s. is_some (get_or m.holders.items s None) in
     let seen : ℕ → Bool = λ s. is_some (w.holder s) in
-    let at : Standing = standing_of z.shards (w.phase c) in
+    let at : CallerPhase = caller_phase_of z.shards (w.phase c) in
     ap (goes_on held m.frontier (is_some (get_or m.places.items m.frontier None)) c) (standing_is z w a m c sh)
     ∙ ap (λ n. goes_on held n (is_some (get_or m.places.items m.frontier None)) c at) sh.frontier
     ∙ ap (λ b. goes_on held w.frontier b c at) (rises z w a m sh)

@@ -17,7 +17,7 @@ use Rattle.requests.specs.declared.version.Version.{Version}
 use Rattle.versions.specs.Records.{IsAbove, current, newest, version_at}
 use Rattle.versions.specs.Shard as versions
 use Rattle.versions.specs.Shard.{Shard, pushed}
-use Rattle.history.specs.declared.callers.Callers.{Callers}
+use Rattle.history.specs.declared.callers.CallerPhases.{CallerPhases}
 use Rattle.interleavings.specs.declared.event.Event.TheVariants.{Call, Check, Reserve, Raise}
 use Rattle.history.specs.declared.machine.Machine.{Machine}
 use Rattle.history.specs.declared.phase.Phase.TheVariants as code
@@ -111,7 +111,7 @@ module _ (m : Machine) (c place : ℕ) (r : Request) (k : Key) (s : ℕ) (phase_
       (at z w a sh) (changed-same w.phase c (Holding t)) (holds z w a sh)
 
 -- ---- Call
-pub call_done : (m : Machine) (c : ℕ) (r : Request) (m' : Machine) (cs : Callers) → is_idle (phase_at m.callers c) ≡ true → Enters m.callers cs c (code.Called m.now_at r)
+pub call_done : (m : Machine) (c : ℕ) (r : Request) (m' : Machine) (cs : CallerPhases) → is_idle (phase_at m.callers c) ≡ true → Enters m.callers cs c (code.Called m.now_at r)
     → m'.items.items ≡ m.items.items ++ item.Call m.now_at c r ∷ [] → (e : m' ≡ record m { items = m'.items; callers = cs }) → Does (Call c r) m m'
 unfolding Does
 call_done m c r m' cs phase_is entering is e = λ z w a sh facts.

@@ -5,9 +5,9 @@ use Rattle.requests.specs.declared.reply.Reply.{Reply}
 use Rattle.interleavings.specs.declared.event.Event.{Event}
 use Rattle.interleavings.specs.declared.event.Event.TheVariants as event
 use Rattle.history.specs.declared.machine.Machine.{Machine}
-use Rattle.history.specs.declared.names.Names.{Names}
+use Rattle.history.specs.declared.names.NamedCallers.{NamedCallers}
 use Rattle.history.specs.contracts.machine.Machine as machine
-use Rattle.history.specs.contracts.names.Names as names
+use Rattle.history.specs.contracts.names.NamedCallers as names
 use Rattle.history.specs.Named.{named}
 use Rattle.history.specs.Replayed.{IsRun, delivered_at}
 use Rattle.interleavings.specs.declared.trace.Run.{Run}
@@ -19,10 +19,10 @@ use Rattle.interleavings.specs.World.{Size}
 -- a replay: the world of its run, and the callers that its events have named
 pub record ReplayParts : Type 0 where
   pub machine : Machine
-  pub names : Names
+  pub names : NamedCallers
 
 abbrev pub replay_coded : Coded ReplayParts
-replay_coded = code_by (Machine × Names) (coded× machine.the_row.coded names.the_row.coded) (λ r. (r.machine, r.names)) (λ p. record { machine = p.0; names = p.1 }) (λ _. refl)
+replay_coded = code_by (Machine × NamedCallers) (coded× machine.the_row.coded names.the_row.coded) (λ r. (r.machine, r.names)) (λ p. record { machine = p.0; names = p.1 }) (λ _. refl)
 
 -- the replay has handled these events, and no others
 unfoldable pub IsAfter : Size → List Event → ReplayParts → Type 0

@@ -5,7 +5,7 @@ pub mod Begun
 pub mod Mirrors
 pub mod NextStep
 pub mod Replayed
-pub mod Standing
+pub mod CallerPhase
 -- ---- of the crate below
 pub use Rattle.interleavings.specs.Callers
 pub use Rattle.interleavings.specs.Examples

@@ -3,17 +3,17 @@ use Rattle.std.specs.Prelude.{ℕ, zero, suc, Bool, nat_le, Option, Some, None, 
 use Rattle.interleavings.specs.declared.event.Event.{Event}
 use Rattle.interleavings.specs.declared.event.Event.TheVariants as event
 use Rattle.interleavings.specs.World.{Size, World}
-use Rattle.history.specs.declared.standing.Asked.TheVariants.{Write, Read, ReadAt, Compaction}
-use Rattle.history.specs.declared.standing.Standing.{Standing}
-use Rattle.history.specs.declared.standing.Standing.TheVariants.{Idle, Called, Holding, Drawn, Waiting, Reading, Gone, Left}
-use Rattle.history.specs.Standing.{standing_of}
+use Rattle.history.specs.declared.caller_phase.FirstStep.TheVariants.{Write, Read, ReadAt, Compaction}
+use Rattle.history.specs.declared.caller_phase.CallerPhase.{CallerPhase}
+use Rattle.history.specs.declared.caller_phase.CallerPhase.TheVariants.{Idle, Called, Holding, Drawn, Waiting, Reading, Gone, Left}
+use Rattle.history.specs.CallerPhase.{caller_phase_of}
 
 -- A caller that waits can get its reply once the frontier has reached what it saw. Until then the frontier is raised,
 -- if it can be.
 abbrev pub step_in_wait : (frontier : ℕ) → (can_rise : Bool) → (caller saw : ℕ) → Option Event
 step_in_wait frontier can_rise c saw = if nat_le saw frontier then Some (event.Reply c) else if can_rise then Some event.Raise else None
 
-abbrev pub goes_on : (is_held : ℕ → Bool) → (frontier : ℕ) → (can_rise : Bool) → (caller : ℕ) → Standing → Option Event
+abbrev pub goes_on : (is_held : ℕ → Bool) → (frontier : ℕ) → (can_rise : Bool) → (caller : ℕ) → CallerPhase → Option Event
 goes_on is_held frontier can_rise c Idle = None
 goes_on is_held frontier can_rise c (Called (Write shard)) = if is_held shard then None else Some (event.Check c)
 goes_on is_held frontier can_rise c (Called Read) = Some (event.Read c)
@@ -32,4 +32,4 @@ abbrev pub can_rise : World → Bool
 can_rise w = is_some (w.log w.frontier)
 
 abbrev pub next_step : Size → World → (caller : ℕ) → Option Event
-next_step z w c = goes_on (λ s. is_some (w.holder s)) w.frontier (can_rise w) c (standing_of z.shards (w.phase c))
+next_step z w c = goes_on (λ s. is_some (w.holder s)) w.frontier (can_rise w) c (caller_phase_of z.shards (w.phase c))

@@ -16,7 +16,7 @@ use Rattle.objects.specs.declared.kind.Kind.{Kind}
 use Rattle.versions.specs.Records.{Records, version_at}
 use Rattle.versions.specs.Shard as versions
 use Rattle.versions.specs.Shard.{Shard}
-use Rattle.history.specs.declared.callers.Callers.{Callers}
+use Rattle.history.specs.declared.callers.CallerPhases.{CallerPhases}
 use Rattle.history.specs.declared.decision.Decision.{Decision}
 use Rattle.history.specs.declared.decision.Decision.TheVariants.{Hold, Wait}
 use Rattle.interleavings.specs.declared.event.Event.{Event}
@@ -65,17 +65,17 @@ abbrev pub or_idle : Option CodePhase → CodePhase
 or_idle None = code.Idle
 or_idle (Some ph) = ph
 
-abbrev pub named_phase : Callers → ℕ → Option CodePhase
+abbrev pub named_phase : CallerPhases → ℕ → Option CodePhase
 named_phase callers c = get nat_cmp callers.phases c
 
-abbrev pub phase_at : Callers → ℕ → CodePhase
+abbrev pub phase_at : CallerPhases → ℕ → CodePhase
 phase_at callers c = or_idle (named_phase callers c)
 
 abbrev pub is_dropped : CodePhase → Bool
 is_dropped code.Dropped = true
 is_dropped phase = false
 
-abbrev pub drops : Callers → ℕ → Bool
+abbrev pub drops : CallerPhases → ℕ → Bool
 drops callers c = is_dropped (phase_at callers c)
 
 abbrev pub is_idle : CodePhase → Bool
@@ -149,18 +149,18 @@ abbrev pub reads_at : ℕ → CodePhase → Bool
 reads_at n p = option_map_or (λ t. nat_eq t.0 n) (reading_in p) false
 
 -- the reads that are open are those of the phases
-abbrev pub IsTracked : Callers → Type 0
+abbrev pub IsTracked : CallerPhases → Type 0
 IsTracked callers = (n c : ℕ) → is_open callers.open_reads n c ≡ reads_at n (phase_at callers c)
 
 -- the caller is in this phase, and each other where it was
-abbrev pub Replaces : Callers → Callers → ℕ → CodePhase → Type 0
+abbrev pub Replaces : CallerPhases → CallerPhases → ℕ → CodePhase → Type 0
 Replaces old new c ph = (d : ℕ) → named_phase new d ≡ cond (nat_eq d c) (Some ph) (named_phase old d)
 
 -- and the reads that are open are still those of the phases
-abbrev pub Enters : Callers → Callers → ℕ → CodePhase → Type 0
+abbrev pub Enters : CallerPhases → CallerPhases → ℕ → CodePhase → Type 0
 Enters old new c ph = Replaces old new c ph × (IsTracked old → IsTracked new)
 
-abbrev pub Same : Callers → Callers → Type 0
+abbrev pub Same : CallerPhases → CallerPhases → Type 0
 Same old new = ((d : ℕ) → named_phase new d ≡ named_phase old d) × (IsTracked old → IsTracked new)
 
 -- ---- what a request that was called reads of now, or at a number, and the floor that it sets

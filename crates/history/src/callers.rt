@@ -14,17 +14,17 @@ use std::collections::BTreeMap;
 
 /// The phase of each caller. One that no event has named yet is idle.
 #[derive(Drop)]
-pub(crate) struct Callers {
+pub(crate) struct CallerPhases {
     pub phases: BTreeMap<u64, Phase>,
     pub open_reads: OpenReads,
 }
 
-impl Callers {
-    pub(crate) fn new(alloc: Global) -> Callers
+impl CallerPhases {
+    pub(crate) fn new(alloc: Global) -> CallerPhases
         ensures unnamed { (c : ℕ) → named_phase result c ≡ None }
         ensures tracked { IsTracked result }
     {
-        Callers {
+        CallerPhases {
             phases: BTreeMap::new(alloc),
             open_reads: OpenReads::new(alloc),
         }
@@ -101,7 +101,7 @@ impl Callers {
     }
 }
 
-impl Callers {
+impl CallerPhases {
     /// The request of a caller, and the place of its call, before any step of it is made.
     pub(crate) fn called(&self, caller: u64) -> Option<(u64, &Request)>
         ensures { option_map (λ p. (p.0, p.1.now)) result ≡ called_in (phase_at self.now caller) }

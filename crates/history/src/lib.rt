@@ -2,6 +2,7 @@
 //! What a run is, its law and the check of an order are re-exported from the crates below.
 #![tactic(auto)]
 
+mod caller_phase;
 mod callers;
 mod compaction;
 mod decision;
@@ -15,11 +16,11 @@ mod phase;
 mod read_steps;
 mod replay_error;
 mod replaying;
-mod standing;
 mod stepped;
 mod whole;
 mod write_steps;
 
+pub use caller_phase::{CallerPhase, FirstStep};
 pub use interleavings::{
     Event, Item, Run, Trace, built_orders_are_legal, callers_keep_their_order,
     compactions_spare_reads, runs_are_linearizable, short_orders, short_runs,
@@ -29,5 +30,4 @@ pub use names::MAX_CALLERS;
 pub use order_check::check_order;
 pub use replay_error::ReplayError;
 pub use replaying::Replay;
-pub use standing::{Asked, Standing};
 pub use whole::replay;

@@ -2,7 +2,7 @@ ghost use Rattle.std.specs.Prelude.{◌≡◌, ◌<◌, true, length, OnOk, OnEr
 ghost use Rattle.objects.specs.ShardOf.{shard_of};
 ghost use Rattle.history.specs.Replayed.{Settles, Stays, Waits, is_undecided, phase_at};
 
-use crate::callers::Callers;
+use crate::callers::CallerPhases;
 use crate::parking::{Parking, Waiter};
 use crate::phase::Phase;
 use interleavings::Item;
@@ -18,7 +18,7 @@ pub(crate) struct Machine {
     pub shards: Vec<Shard>,
     /// For each shard the caller that holds it.
     pub holders: Vec<Option<u64>>,
-    pub callers: Callers,
+    pub callers: CallerPhases,
     /// For each number allocated the place of its call, once the number is filled.
     pub places: Vec<Option<u64>>,
     pub parking: Parking,

@@ -12,15 +12,15 @@ pub const MAX_CALLERS: usize = 4096;
 
 /// The callers that the events have named.
 #[derive(Drop)]
-pub(crate) struct Names {
+pub(crate) struct NamedCallers {
     pub callers: BTreeSet<u64>,
 }
 
-impl Names {
-    pub(crate) fn new(alloc: Global) -> Names
+impl NamedCallers {
+    pub(crate) fn new(alloc: Global) -> NamedCallers
         ensures { result.callers.keys ≡ [] }
     {
-        Names {
+        NamedCallers {
             callers: BTreeSet::new(alloc),
         }
     }

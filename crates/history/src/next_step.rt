@@ -6,9 +6,9 @@ ghost use Rattle.interleavings.specs.declared.event.Event.{Event};
 ghost use Rattle.interleavings.specs.Trace.{after};
 ghost use Rattle.interleavings.specs.World.{Size, opening};
 
+use crate::caller_phase::{CallerPhase, FirstStep};
 use crate::machine::Machine;
 use crate::replaying::Replay;
-use crate::standing::{Asked, Standing};
 use interleavings::Event;
 
 impl Machine {
@@ -39,27 +39,27 @@ impl Machine {
     }
 
     /// The step of a caller in that phase.
-    fn goes_on(&self, caller: u64, standing: Standing) -> Option<Event>
+    fn goes_on(&self, caller: u64, caller_phase: CallerPhase) -> Option<Event>
         ensures { result ≡ goes_on (λ s. is_some (get_or self.now.holders.items s None)) self.now.frontier
-            (is_some (get_or self.now.places.items self.now.frontier None)) caller standing }
+            (is_some (get_or self.now.places.items self.now.frontier None)) caller caller_phase }
     {
-        match standing {
-            Standing::Called(Asked::Write { shard }) => {
+        match caller_phase {
+            CallerPhase::Called(FirstStep::Write { shard }) => {
                 if self.has_holder(shard) {
                     return None;
                 }
                 Some(Event::Check(caller))
             }
-            Standing::Called(Asked::Read) => Some(Event::Read(caller)),
-            Standing::Called(Asked::ReadAt) => Some(Event::ReadAt(caller)),
-            Standing::Called(Asked::Compaction) => Some(Event::Compact(caller)),
-            Standing::Holding { shard: _ } => Some(Event::Reserve(caller)),
-            Standing::Drawn {
+            CallerPhase::Called(FirstStep::Read) => Some(Event::Read(caller)),
+            CallerPhase::Called(FirstStep::ReadAt) => Some(Event::ReadAt(caller)),
+            CallerPhase::Called(FirstStep::Compaction) => Some(Event::Compact(caller)),
+            CallerPhase::Holding { shard: _ } => Some(Event::Reserve(caller)),
+            CallerPhase::Drawn {
                 number: _,
                 shard: _,
             } => Some(Event::Publish(caller)),
-            Standing::Waiting { saw } => self.step_in_wait(caller, saw),
-            Standing::Reading {
+            CallerPhase::Waiting { saw } => self.step_in_wait(caller, saw),
+            CallerPhase::Reading {
                 number: _,
                 shard: _,
                 left,
@@ -69,9 +69,9 @@ impl Machine {
                 }
                 Some(Event::Part(caller))
             }
-            Standing::Idle
-            | Standing::Gone
-            | Standing::Left {
+            CallerPhase::Idle
+            | CallerPhase::Gone
+            | CallerPhase::Left {
                 number: _,
                 shard: _,
             } => None,
@@ -93,6 +93,7 @@ impl Replay {
     pub fn next_step(&self, caller: u64) -> Option<Event>
         ensures { (size : Size) (events : List Event) → IsAfter size events self.now → result ≡ next_step size (after size opening events) caller }
     {
-        self.machine.goes_on(caller, self.machine.standing(caller))
+        self.machine
+            .goes_on(caller, self.machine.caller_phase(caller))
     }
 }

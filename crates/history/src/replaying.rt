@@ -1,5 +1,5 @@
 use crate::machine::Machine;
-use crate::names::Names;
+use crate::names::NamedCallers;
 use std::marker::Model;
 
 /// A run so far, one event after another. Some list of events leads to each, so a step requires only room for one more
@@ -7,7 +7,7 @@ use std::marker::Model;
 #[derive(Drop)]
 pub struct Replay {
     pub(crate) machine: Machine,
-    pub(crate) names: Names,
+    pub(crate) names: NamedCallers,
 }
 
 impl Model for Replay {

@@ -11,9 +11,9 @@ ghost use Rattle.plain_store.specs.Reached.{most_revisions};
 ghost use Rattle.versions.specs.Shard.{opening as fresh};
 ghost use Rattle.history.specs.declared.replay_error.ReplayError.TheVariants.{Memory as OutOfMemory};
 
-use crate::callers::Callers;
+use crate::callers::CallerPhases;
 use crate::machine::Machine;
-use crate::names::Names;
+use crate::names::NamedCallers;
 use crate::parking::Parking;
 use crate::replay_error::ReplayError;
 use crate::replaying::Replay;
@@ -48,7 +48,7 @@ impl Replay {
         let machine = opened(alloc, shards, capacity)?;
         Ok(Replay {
             machine,
-            names: Names::new(alloc),
+            names: NamedCallers::new(alloc),
         })
     }
 
@@ -149,7 +149,7 @@ fn opened(alloc: Global, shards: usize, capacity: u64) -> Result<Machine, Replay
         capacity,
         shards: held,
         holders,
-        callers: Callers::new(alloc),
+        callers: CallerPhases::new(alloc),
         places: Vec::new(alloc),
         parking: Parking::new(alloc),
         frontier: 0,

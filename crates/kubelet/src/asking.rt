@@ -5,7 +5,7 @@ ghost use Rattle.objects.specs.Tree.{data_of};
 ghost use Rattle.objects.specs.Again.{text_unless_zero};
 ghost use Rattle.objects.specs.Uid.{uid_text};
 ghost use Rattle.requests.specs.declared.request.Request.TheVariants.{Delete, UpdateStatus};
-ghost use Rattle.kubelet.specs.Kubelet.{has_ended, is_left, is_ready, kubelet_asks, kubelet_asks_all, made_ready, ready_condition, ready_status, turn_asks, turn_asks_all};
+ghost use Rattle.kubelet.specs.Kubelet.{has_ended, is_left, is_ready, kubelet_requests_for, kubelet_requests_of, made_ready, ready_condition, ready_status, turn_requests_for, turn_requests_of};
 
 use objects::{Draft, Items, Members, Memory, Object, Text, Tree, uid_text};
 use requests::{Request, uid_precondition, version_precondition};
@@ -86,7 +86,7 @@ fn is_ready(readiness: Readiness) -> bool
 
 /// The kubelet's request for a pod, if there is one.
 fn asked_of(alloc: Global, pod: &Object) -> Result<Option<Request>, Memory>
-    ensures { IfOk result (λ asked. option_to_list asked ≡ kubelet_asks pod.now) }
+    ensures { IfOk result (λ asked. option_to_list asked ≡ kubelet_requests_for pod.now) }
 {
     let view = read_pod(pod);
     if view.terminating {
@@ -100,7 +100,7 @@ fn asked_of(alloc: Global, pod: &Object) -> Result<Option<Request>, Memory>
 
 /// Adds the kubelet's request for a pod.
 fn put_asked(alloc: Global, pod: &Object, asked: &mut Vec<Request>) -> Result<(), Memory>
-    ensures { OnOk result (asked.new.items ≡ asked.old.items ++ kubelet_asks pod.now) }
+    ensures { OnOk result (asked.new.items ≡ asked.old.items ++ kubelet_requests_for pod.now) }
 {
     let Some(request) = asked_of(alloc, pod)? else {
         return Ok(());
@@ -124,7 +124,7 @@ fn is_left(pod: &Object) -> bool
 
 /// Adds the kubelet's request for a pod in a turn.
 fn put_asked_in_turn(alloc: Global, pod: &Object, asked: &mut Vec<Request>) -> Result<(), Memory>
-    ensures { OnOk result (asked.new.items ≡ asked.old.items ++ turn_asks pod.now) }
+    ensures { OnOk result (asked.new.items ≡ asked.old.items ++ turn_requests_for pod.now) }
 {
     if is_left(pod) {
         return Ok(());
@@ -135,7 +135,7 @@ fn put_asked_in_turn(alloc: Global, pod: &Object, asked: &mut Vec<Request>) -> R
 /// The requests of the kubelet of a race for these pods, one after another. A marked pod is deleted by its UID; another
 /// one that is not ready gets the status of a ready one, by its UID and version.
 pub fn kubelet_requests(alloc: Global, pods: &[Object]) -> Result<Vec<Request>, Memory>
-    ensures { IfOk result (λ asked. asked.items ≡ kubelet_asks_all pods.now) }
+    ensures { IfOk result (λ asked. asked.items ≡ kubelet_requests_of pods.now) }
 {
     let mut asked = Vec::new(alloc);
     for pod in pods {
@@ -148,7 +148,7 @@ pub fn kubelet_requests(alloc: Global, pods: &[Object]) -> Result<Vec<Request>, 
 /// Kubernetes runs no such pod again: its phase, `Failed` or `Succeeded`, is final, and a controller deletes the pod
 /// and makes it again.
 pub fn turn_requests(alloc: Global, pods: &[Object]) -> Result<Vec<Request>, Memory>
-    ensures { IfOk result (λ asked. asked.items ≡ turn_asks_all pods.now) }
+    ensures { IfOk result (λ asked. asked.items ≡ turn_requests_of pods.now) }
 {
     let mut asked = Vec::new(alloc);
     for pod in pods {

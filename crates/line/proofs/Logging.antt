@@ -10,7 +10,7 @@ use Rattle.line.specs.declared.view.NotedView.{NotedView}
 use Rattle.line.specs.View.{seats_of}
 use Rattle.line.specs.Rule.{count_of, frontier_of, drawn_of, Fits, Rule}
 use Rattle.line.specs.Notes.{name_of, notes_of, notes_up_to, observation, IsLegal}
-use Rattle.line.specs.NotedRule.{IsApart, CreateMissingClaims, AreBelow, IsTrueOf, NotedRule, IsTrueObservation, zero_if, plain_of, shard_of, caller_of, cutter_of}
+use Rattle.line.specs.NotedRule.{IsApart, AreCutOff, AreBelow, IsTrueOf, NotedRule, IsTrueObservation, zero_if, plain_of, shard_of, caller_of, cutter_of}
 use Rattle.line.specs.NotedSteps.{Matches, IsObserved}
 use Rattle.line.specs.NotedView.{drew_noted, with_plain, observed, named, first_noted, cut_off, shard_noted, caller_noted, entered, left_over, stayed, left_with, told, made_after}
 use Rattle.line.proofs.Sums.{sum_by-set}
@@ -46,7 +46,7 @@ module _ {E : Type 0} (home by : E → ℕ) (accepts : List (ℕ × E) → E →
       named = λ j c x ex. each_of (λ y. y.caller ≡ Some c → (0 < c) × (c < most)) w (mine c) (λ k y ne ey. b.named k c y ey) j x ex;
     }
 
-    made_set : (w : NotedView E) (log : List E) (count : ℕ) → CreateMissingClaims home count log vs → ((i : ℕ) → w.shard ≡ Some i → v.shard ≡ Some i) → ((m : ℕ) → w.made ≡ Some m → v.made ≡ Some m) → CreateMissingClaims home count log (set vs id w)
+    made_set : (w : NotedView E) (log : List E) (count : ℕ) → AreCutOff home count log vs → ((i : ℕ) → w.shard ≡ Some i → v.shard ≡ Some i) → ((m : ℕ) → w.made ≡ Some m → v.made ≡ Some m) → AreCutOff home count log (set vs id w)
     made_set w log count m shard made = record {
       noted = m.noted;
       seats = λ j i x ex. each_of (λ y. y.shard ≡ Some i → i < count) w (λ e. m.seats id i v at (shard i e)) (λ k y ne ey. m.seats k i y ey) j x ex;

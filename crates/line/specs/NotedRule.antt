@@ -37,7 +37,7 @@ module _ {E : Type 0} where
     IsTrueObservation log o = (o.drawn ≤ length log) × (o.notes ≡ notes_of home o.shard 1 (take o.drawn log))
 
     -- so many shards' seats were cut off, and no note is of another shard
-    pub record CreateMissingClaims (made : ℕ) (log : List E) (vs : List (NotedView E)) : Type 0 where
+    pub record AreCutOff (made : ℕ) (log : List E) (vs : List (NotedView E)) : Type 0 where
       pub noted : (n : ℕ) (e : E) → get_elem? log n ≡ some e → home e < made
       pub seats : (j i : ℕ) (v : NotedView E) → get_elem? vs j ≡ some v → v.shard ≡ Some i → i < made
       pub cutter : (j m : ℕ) (v : NotedView E) → get_elem? vs j ≡ some v → v.made ≡ Some m → m ≡ made
@@ -71,7 +71,7 @@ module _ {E : Type 0} where
         pub most : ℕ
         pub below : AreBelow by most log views
         pub count : ℕ
-        pub made : CreateMissingClaims home count log views
+        pub made : AreCutOff home count log views
         pub shards : IsApart shard_of views
         pub callers : IsApart caller_of views
         pub cutters : IsApart cutter_of views

@@ -41,7 +41,7 @@ pub use printed::{IndexedText, Printed, Printer};
 pub use read::{read_collection, read_draft, read_key, read_object};
 pub use replace::{generation_after, may_be_same, spec_bytes};
 pub use rewrite::same_found;
-pub use shape::{are_owners, are_texts};
+pub use shape::are_texts;
 pub use shard::shard_of;
 pub use splice::{ends_so, spliced, status_end};
 pub use status::only_the_set_member_changes;

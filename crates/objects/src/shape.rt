@@ -44,7 +44,7 @@ pub fn are_texts(entries: &[(Text, Tree)]) -> bool
 }
 
 /// Whether each of these is an owner reference as an object may have it: a map with a text `uid`.
-pub fn are_owners(items: &[Tree]) -> bool
+pub(crate) fn are_owners(items: &[Tree]) -> bool
     ensures { result ≡ are_owners (items_of items.now) }
 {
     items.iter().all(is_owner)

@@ -54,13 +54,13 @@ impl Walk {
             return Ok(false);
         };
         let answer = self.answers.remove(&place);
-        let answer_fits = self.hear(items, answer, request)?;
+        let answer_fits = self.check_reply(items, answer, request)?;
         self.latest = self.latest.max(place);
         Ok(answer_fits)
     }
 
     /// Sends the store the request, and says whether its reply is the one of the item with that index.
-    fn hear(
+    fn check_reply(
         &mut self,
         items: &[Item],
         answer: Option<usize>,

@@ -16,8 +16,8 @@ use Rattle.outcomes.specs.declared.outcome.Outcome.{Outcome}
 use Rattle.replay_lines.specs.Events.{◌>>=◌, Reads, count_in, line_members}
 use Rattle.replay_lines.specs.declared.fault.ScriptError.{ScriptError}
 use Rattle.outcome_lines.specs.Litmus.{AskInTurn, Parts, crashed, line_of, litmus_by, litmus_of, opened, parts_of, with_before, with_line, with_lines}
-use Rattle.outcome_lines.specs.declared.line.Line.{Line}
-use Rattle.outcome_lines.specs.declared.line.Line.TheVariants.{Before, Race}
+use Rattle.outcome_lines.specs.declared.line.LitmusLine.{LitmusLine}
+use Rattle.outcome_lines.specs.declared.line.LitmusLine.TheVariants.{Before, Race}
 use Rattle.outcome_lines.proofs.Telling.{told_other, told_own}
 
 -- none of the requests is the caller's
@@ -86,7 +86,7 @@ before_stops : (asks : List Ask) (p q : Parts) (r : Request) → with_before ask
 before_stops [] p q r is stop = subst (λ (l : Parts). Stop l.asks) (given _ _ is) stop
 before_stops (a ∷ asks) p q r is stop = absurd cc
 
-line_stops : (p q : Parts) (line : Line) → with_line p line ≡ Some q → Stop p.asks → Stop q.asks
+line_stops : (p q : Parts) (line : LitmusLine) → with_line p line ≡ Some q → Stop p.asks → Stop q.asks
 line_stops p q (Before r) is stop = before_stops p.asks p q r is stop
 line_stops p q (Race a) is stop = go (crashed p.asks a.caller) refl
   where

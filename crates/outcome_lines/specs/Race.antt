@@ -9,8 +9,8 @@ use Rattle.controller_outcomes.specs.declared.race.Race.{Race}
 use Rattle.controller_outcomes.specs.declared.race.Racer.{Racer}
 use Rattle.cluster_scripts.specs.Sets.{SetParts, set_of, set_parts}
 use Rattle.replay_lines.specs.Events.{◌>>=◌, count_in, line_members}
-use Rattle.outcome_lines.specs.declared.line.Line.{Line}
-use Rattle.outcome_lines.specs.declared.line.Line.TheVariants.{Before, Race as Asks}
+use Rattle.outcome_lines.specs.declared.line.LitmusLine.{LitmusLine}
+use Rattle.outcome_lines.specs.declared.line.LitmusLine.TheVariants.{Before, Race as Asks}
 use Rattle.outcome_lines.specs.declared.race_line.RaceLine.{RaceLine}
 use Rattle.outcome_lines.specs.declared.race_line.RaceLine.TheVariants as line
 use Rattle.outcome_lines.specs.Litmus.{crash_in, line_in}
@@ -55,7 +55,7 @@ racer_in ms = do
   Some (record { set = set; rounds = rounds; may_crash = may_crash })
 
 -- only controllers race
-abbrev pub begun_by : Line → Option LineParts
+abbrev pub begun_by : LitmusLine → Option LineParts
 begun_by (Before request) = Some (Begins request)
 begun_by (Asks ask) = None
 

@@ -81,7 +81,7 @@ fn reply_to(caller: u64, items: &[Item]) -> Option<&Reply>
 
 /// A request that a caller of a litmus test makes, the reply that it gets, and the requests and replies after it.
 #[derive(Clone, Copy, Drop)]
-pub(crate) struct Asked<'a> {
+pub(crate) struct FirstAsk<'a> {
     pub(crate) request: &'a Request,
     pub(crate) reply: Option<&'a Reply>,
     pub(crate) asks: &'a [Ask],
@@ -93,7 +93,7 @@ pub(crate) fn first_ask<'a>(
     caller: u64,
     asks: &'a [Ask],
     replies: &'a [Option<Reply>],
-) -> Option<Asked<'a>>
+) -> Option<FirstAsk<'a>>
     ensures none { IfNone result (told asks.now replies.now caller ≡ []) }
     ensures some { IfSome result (λ asked. told asks.now replies.now caller
         ≡ record { request = asked.request.now; reply = option_copied asked.reply } ∷ told asked.asks.now asked.replies.now caller) }
@@ -105,7 +105,7 @@ pub(crate) fn first_ask<'a>(
             return None;
         };
         if ask.caller == caller {
-            return Some(Asked {
+            return Some(FirstAsk {
                 request: &ask.request,
                 reply: reply.as_ref(),
                 asks: asks_behind,

@@ -11,7 +11,7 @@ use std::alloc::Global;
 
 /// A request, of the beginning or of a racing caller.
 #[derive(Drop)]
-pub(crate) enum Line {
+pub(crate) enum LitmusLine {
     Before(Request),
     Race(Ask),
 }
@@ -22,7 +22,7 @@ pub(crate) fn read_line(
     alloc: Global,
     reader: &mut TreeReader,
     line: &[u8],
-) -> Result<Line, ScriptError>
+) -> Result<LitmusLine, ScriptError>
     ensures { Reads (λ said. said) result (line_of line.now) }
 {
     let members = read_members(reader, line)?;
@@ -30,7 +30,7 @@ pub(crate) fn read_line(
 }
 
 /// The same, given the members of the line.
-pub(crate) fn line_in(alloc: Global, members: Members) -> Result<Line, ScriptError>
+pub(crate) fn line_in(alloc: Global, members: Members) -> Result<LitmusLine, ScriptError>
     ensures { Reads (λ said. said) result (line_in members) }
 {
     let Some(crashes) = crash_in(&members) else {
@@ -55,14 +55,14 @@ pub(crate) fn crash_in(members: &Members) -> Option<bool>
 }
 
 #[tactic(auto, using(replay_lines::proofs::Readings::fails_bind))]
-fn race_in(alloc: Global, members: Members, crashes: bool) -> Result<Line, ScriptError>
+fn race_in(alloc: Global, members: Members, crashes: bool) -> Result<LitmusLine, ScriptError>
     ensures { Reads (λ said. said) result (race_in members crashes) }
 {
     let Some(caller) = count_in(&members, "caller") else {
         return Err(ScriptError::BadScript);
     };
     let request = request_in(alloc, members)?;
-    Ok(Line::Race(Ask {
+    Ok(LitmusLine::Race(Ask {
         caller,
         request,
         crashes,
@@ -71,12 +71,12 @@ fn race_in(alloc: Global, members: Members, crashes: bool) -> Result<Line, Scrip
 
 // No caller crashes within a request of the beginning.
 #[tactic(auto, using(replay_lines::proofs::Readings::fails_bind))]
-fn before_in(alloc: Global, members: Members, crashes: bool) -> Result<Line, ScriptError>
+fn before_in(alloc: Global, members: Members, crashes: bool) -> Result<LitmusLine, ScriptError>
     ensures { Reads (λ said. said) result (before_in members crashes) }
 {
     if crashes {
         return Err(ScriptError::BadScript);
     }
     let request = request_in(alloc, members)?;
-    Ok(Line::Before(request))
+    Ok(LitmusLine::Before(request))
 }

@@ -3,7 +3,7 @@ ghost use Rattle.std.specs.Prelude.{◌≡◌};
 ghost use Rattle.outcome_lines.specs.Race.{begun_by, begun_in, line_parts, race_line_in, race_line_of, racer_in, racer_parts};
 ghost use Rattle.replay_lines.specs.Events.{Reads};
 
-use crate::line::{Line, crash_in, line_in};
+use crate::line::{LitmusLine, crash_in, line_in};
 use cluster_scripts::set_of;
 use controller_outcomes::Racer;
 use objects::{Members, TreeReader};
@@ -74,12 +74,12 @@ fn begun_in(alloc: Global, members: Members) -> Result<RaceLine, ScriptError>
 }
 
 /// Only controllers race.
-fn begun_by(line: Line) -> Result<RaceLine, ScriptError>
+fn begun_by(line: LitmusLine) -> Result<RaceLine, ScriptError>
     ensures { Reads line_parts result (begun_by line) }
 {
     match line {
-        Line::Before(request) => Ok(RaceLine::Before(request)),
-        Line::Race(ask) => {
+        LitmusLine::Before(request) => Ok(RaceLine::Before(request)),
+        LitmusLine::Race(ask) => {
             drop(ask);
             Err(ScriptError::BadScript)
         }

@@ -1,10 +1,10 @@
 ghost use Rattle.std.specs.Prelude.{◌≡◌, IfOk};
 ghost use Rattle.plain.specs.Lines.{lines};
 ghost use Rattle.outcome_lines.specs.Litmus.{AskInTurn, crashed, litmus_of, opened, parts_of, with_before, with_line, with_lines};
-ghost use Rattle.outcome_lines.specs.declared.line.Line.TheVariants.{Race};
+ghost use Rattle.outcome_lines.specs.declared.line.LitmusLine.TheVariants.{Race};
 ghost use Rattle.replay_lines.specs.Events.{Reads};
 
-use crate::line::{Line, read_line};
+use crate::line::{LitmusLine, read_line};
 use objects::TreeReader;
 use outcomes::{Ask, Litmus};
 use plain::{Request, split_line};
@@ -72,12 +72,12 @@ fn read_lines(
     Ok(litmus)
 }
 
-fn with_line(litmus: Litmus, line: Line) -> Result<Litmus, ScriptError>
+fn with_line(litmus: Litmus, line: LitmusLine) -> Result<Litmus, ScriptError>
     ensures { Reads parts_of result (with_line (parts_of litmus) line) }
 {
     match line {
-        Line::Before(request) => with_before(litmus, request),
-        Line::Race(ask) => with_race(litmus, ask),
+        LitmusLine::Before(request) => with_before(litmus, request),
+        LitmusLine::Race(ask) => with_race(litmus, ask),
     }
 }
 

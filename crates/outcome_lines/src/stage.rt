@@ -1,6 +1,6 @@
 // The events of a run in which requests are brought to their replies, one after another.
 use crate::fault::ScriptingError;
-use history::{Event, Replay, Standing};
+use history::{CallerPhase, Event, Replay};
 use outcomes::{Ask, Litmus, Outcome};
 use plain::Request;
 use std::alloc::Global;
@@ -61,7 +61,7 @@ impl Stage {
     ) -> Result<(), ScriptingError> {
         let (asks, order) = (litmus.asks.as_slice(), outcome.order.as_slice());
         self.begin(beginner, litmus.beginning.as_slice())?;
-        self.go_on(asks, order)?;
+        self.run_asks(asks, order)?;
         self.end(asks, order)
     }
 
@@ -73,7 +73,7 @@ impl Stage {
         Ok(())
     }
 
-    fn go_on(&mut self, asks: &[Ask], order: &[usize]) -> Result<(), ScriptingError> {
+    fn run_asks(&mut self, asks: &[Ask], order: &[usize]) -> Result<(), ScriptingError> {
         for index in order {
             let Some(ask) = asks.get(*index) else {
                 return Err(ScriptingError::NoScript);
@@ -93,17 +93,17 @@ impl Stage {
             let ask = &asks[i];
             if !order.contains(&i) {
                 self.call(ask.caller, &ask.request)?;
-                self.happen(Event::Crash(ask.caller))?;
+                self.apply_event(Event::Crash(ask.caller))?;
             }
         }
         Ok(())
     }
 
     fn call(&mut self, caller: u64, request: &Request) -> Result<(), ScriptingError> {
-        self.happen(Event::Call(caller, request.clone()?))
+        self.apply_event(Event::Call(caller, request.clone()?))
     }
 
-    fn happen(&mut self, event: Event) -> Result<(), ScriptingError> {
+    fn apply_event(&mut self, event: Event) -> Result<(), ScriptingError> {
         self.step(&event)?;
         self.events.push(event)?;
         Ok(())
@@ -124,7 +124,7 @@ impl Stage {
             let Some(event) = self.replay.next_step(caller) else {
                 return Ok(());
             };
-            self.happen(event)?;
+            self.apply_event(event)?;
         }
         Ok(())
     }
@@ -132,36 +132,36 @@ impl Stage {
     /// Brings the caller's request into effect, and lets the caller crash. A number that it left is published.
     fn carry_to_crash(&mut self, caller: u64) -> Result<(), ScriptingError> {
         for _ in 0..MOST_STEPS {
-            if is_taken(self.replay.standing(caller)) {
+            if is_taken(self.replay.caller_phase(caller)) {
                 break;
             }
             let Some(event) = self.replay.next_step(caller) else {
                 break;
             };
-            self.happen(event)?;
+            self.apply_event(event)?;
         }
-        self.happen(Event::Crash(caller))?;
-        if let Standing::Left {
+        self.apply_event(Event::Crash(caller))?;
+        if let CallerPhase::Left {
             number: _,
             shard: _,
-        } = self.replay.standing(caller)
+        } = self.replay.caller_phase(caller)
         {
-            self.happen(Event::Publish(caller))?;
-            self.happen(Event::Raise)?;
+            self.apply_event(Event::Publish(caller))?;
+            self.apply_event(Event::Raise)?;
         }
         Ok(())
     }
 }
 
 /// Whether the caller's request is in effect, whatever becomes of the caller.
-fn is_taken(standing: Standing) -> bool {
+fn is_taken(standing: CallerPhase) -> bool {
     matches!(
         standing,
-        Standing::Drawn {
+        CallerPhase::Drawn {
             number: _,
             shard: _
-        } | Standing::Waiting { saw: _ }
-            | Standing::Reading {
+        } | CallerPhase::Waiting { saw: _ }
+            | CallerPhase::Reading {
                 number: _,
                 shard: _,
                 left: _

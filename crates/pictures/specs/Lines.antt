@@ -3,9 +3,9 @@
 use Rattle.std.specs.Prelude.{ℕ, suc, ◌-◌, ◌+◌, Bool, true, false, List, [], ◌++◌, Option, Some, None, codes, decimal}
 use Rattle.requests.specs.declared.request.Request.{Request}
 use Rattle.requests.specs.declared.reply.Reply.{Reply}
-use Rattle.history.specs.declared.standing.Asked.TheVariants.{Write, Read, ReadAt, Compaction}
-use Rattle.history.specs.declared.standing.Standing.{Standing}
-use Rattle.history.specs.declared.standing.Standing.TheVariants.{Idle, Called, Holding, Drawn, Waiting, Reading, Gone, Left}
+use Rattle.history.specs.declared.caller_phase.FirstStep.TheVariants.{Write, Read, ReadAt, Compaction}
+use Rattle.history.specs.declared.caller_phase.CallerPhase.{CallerPhase}
+use Rattle.history.specs.declared.caller_phase.CallerPhase.TheVariants.{Idle, Called, Holding, Drawn, Waiting, Reading, Gone, Left}
 use Rattle.pictures.specs.Labels.{reply_words, request_words}
 
 -- ---- the forms of a line: `FROM ARROW TO: PLACE: TEXT`, and `Note over WHO: PLACE: TEXT`
@@ -34,27 +34,27 @@ abbrev pub note_over_frontier : (place : ℕ) → (text : List ℕ) → List ℕ
 note_over_frontier place text = codes "    Note over F" ++ labelled place text
 
 -- ---- Call
-abbrev pub call_line : (place caller : ℕ) → Request → (before : Standing) → List ℕ
+abbrev pub call_line : (place caller : ℕ) → Request → (before : CallerPhase) → List ℕ
 call_line place c r Idle = note_over_caller c place (request_words r ++ codes "\n")
 call_line place c r _ = []
 
 -- ---- Check: an accepted write holds its shard, and another one waits for the frontier to reach what it saw
-abbrev pub checked_line : (place caller shard : ℕ) → (after : Standing) → List ℕ
+abbrev pub checked_line : (place caller shard : ℕ) → (after : CallerPhase) → List ℕ
 checked_line place c s (Holding held) = caller_to_shard c s place (codes "check, holds the shard\n")
 checked_line place c s (Waiting saw) = caller_to_shard c s place (codes "check, sees " ++ (decimal saw ++ codes "\n"))
 checked_line place c s _ = []
 
-abbrev pub check_line : (place caller : ℕ) → (before after : Standing) → List ℕ
+abbrev pub check_line : (place caller : ℕ) → (before after : CallerPhase) → List ℕ
 check_line place c (Called (Write s)) after = checked_line place c s after
 check_line place c _ after = []
 
 -- ---- Reserve
-abbrev pub drawn_line : (place caller : ℕ) → (after : Standing) → List ℕ
+abbrev pub drawn_line : (place caller : ℕ) → (after : CallerPhase) → List ℕ
 drawn_line place c (Drawn number s) = note_over_caller c place (codes "draws " ++ (decimal number ++ codes "\n"))
 drawn_line place c (Waiting saw) = note_over_caller c place (codes "no number is left\n")
 drawn_line place c _ = []
 
-abbrev pub reserve_line : (place caller : ℕ) → (before after : Standing) → List ℕ
+abbrev pub reserve_line : (place caller : ℕ) → (before after : CallerPhase) → List ℕ
 reserve_line place c (Holding s) after = drawn_line place c after
 reserve_line place c _ after = []
 
@@ -70,7 +70,7 @@ abbrev pub left_line : (place caller number shard : ℕ) → List ℕ
 left_line place c number s =
     note_over_shard s place (codes "publish " ++ (decimal number ++ (codes " of caller " ++ (decimal c ++ codes "\n"))))
 
-abbrev pub publish_lines : (place caller : ℕ) → (before : Standing) → (can_rise : Bool) → (frontier : ℕ) → List ℕ
+abbrev pub publish_lines : (place caller : ℕ) → (before : CallerPhase) → (can_rise : Bool) → (frontier : ℕ) → List ℕ
 publish_lines place c (Drawn number s) can_rise frontier = published_line place c number s ++ hole_line can_rise frontier
 publish_lines place c (Left number s) can_rise frontier = left_line place c number s ++ hole_line can_rise frontier
 publish_lines place c _ can_rise frontier = []
@@ -81,20 +81,20 @@ raise_line place true frontier = note_over_frontier place (codes "raised to " ++
 raise_line place false frontier = []
 
 -- ---- Read, ReadAt and Compact
-abbrev pub begun_line : (place caller : ℕ) → (after : Standing) → List ℕ
+abbrev pub begun_line : (place caller : ℕ) → (after : CallerPhase) → List ℕ
 begun_line place c (Reading number s left) = caller_to_frontier c place (codes "read at " ++ (decimal number ++ codes "\n"))
 begun_line place c (Waiting saw) = caller_to_frontier c place (codes "read, denied\n")
 begun_line place c _ = []
 
-abbrev pub read_line : (place caller : ℕ) → (before after : Standing) → List ℕ
+abbrev pub read_line : (place caller : ℕ) → (before after : CallerPhase) → List ℕ
 read_line place c (Called Read) after = begun_line place c after
 read_line place c _ after = []
 
-abbrev pub read_at_line : (place caller : ℕ) → (before after : Standing) → List ℕ
+abbrev pub read_at_line : (place caller : ℕ) → (before after : CallerPhase) → List ℕ
 read_at_line place c (Called ReadAt) after = begun_line place c after
 read_at_line place c _ after = []
 
-abbrev pub compact_line : (place caller : ℕ) → (before : Standing) → List ℕ
+abbrev pub compact_line : (place caller : ℕ) → (before : CallerPhase) → List ℕ
 compact_line place c (Called Compaction) = caller_to_frontier c place (codes "compact\n")
 compact_line place c _ = []
 
@@ -103,7 +103,7 @@ abbrev pub answering : (shards : ℕ) → (of_get : Option ℕ) → (left : ℕ)
 answering shards (Some s) left = s
 answering shards None left = shards - left
 
-abbrev pub part_line : (shards place caller : ℕ) → (before : Standing) → List ℕ
+abbrev pub part_line : (shards place caller : ℕ) → (before : CallerPhase) → List ℕ
 part_line shards place c (Reading number of_get (suc left)) =
     shard_to_caller (answering shards of_get (suc left)) c place (codes "part at " ++ (decimal number ++ codes "\n"))
 part_line shards place c _ = []
@@ -114,7 +114,7 @@ reply_line place c (Some reply) = frontier_to_caller c place (reply_words reply 
 reply_line place c None = []
 
 -- ---- Crash
-abbrev pub crash_line : (place caller : ℕ) → (before : Standing) → List ℕ
+abbrev pub crash_line : (place caller : ℕ) → (before : CallerPhase) → List ℕ
 crash_line place c Gone = []
 crash_line place c (Left number s) = []
 crash_line place c _ = codes "    C" ++ (decimal c ++ (codes "-xF" ++ labelled place (codes "crash\n")))

@@ -8,9 +8,9 @@ use Rattle.interleavings.specs.Trace.{reply_in}
 use Rattle.interleavings.specs.World.{Size, World, opening}
 use Rattle.history.specs.NextStep.{can_rise}
 use Rattle.interleavings.specs.Callers.{named_by}
-use Rattle.history.specs.Standing.{standing_of}
-use Rattle.history.specs.declared.standing.Standing.{Standing}
-use Rattle.history.specs.declared.standing.Standing.TheVariants as standing
+use Rattle.history.specs.CallerPhase.{caller_phase_of}
+use Rattle.history.specs.declared.caller_phase.CallerPhase.{CallerPhase}
+use Rattle.history.specs.declared.caller_phase.CallerPhase.TheVariants as standing
 use Rattle.pictures.specs.Heading.{heading}
 use Rattle.pictures.specs.Lines.{call_line, check_line, compact_line, crash_line, part_line, publish_lines, raise_line, read_at_line, read_line, reply_line, reserve_line}
 use Rattle.pictures.specs.Shown.{shown_callers, shows}
@@ -18,13 +18,13 @@ use Rattle.pictures.specs.declared.snapshot.Snapshot.{Snapshot}
 use Rattle.pictures.specs.declared.shown.Shown.{Shown}
 
 -- ---- what lines show of the world before an event, and after it
-abbrev pub standing_by : Size → World → Option ℕ → Standing
-standing_by z w None = standing.Idle
-standing_by z w (Some c) = standing_of z.shards (w.phase c)
+abbrev pub caller_phase_by : Size → World → Option ℕ → CallerPhase
+caller_phase_by z w None = standing.Idle
+caller_phase_by z w (Some c) = caller_phase_of z.shards (w.phase c)
 
 -- the state of the event's caller, the frontier, and whether the next number is filled
 abbrev pub snapshot_of : Size → World → Option ℕ → Snapshot
-snapshot_of z w caller = record { standing = standing_by z w caller; can_rise = can_rise w; frontier = w.frontier }
+snapshot_of z w caller = record { standing = caller_phase_by z w caller; can_rise = can_rise w; frontier = w.frontier }
 
 -- the reply that an event gives, if any: what it adds to the trace
 abbrev pub delivered : (before after : World) → Option Reply

@@ -9,8 +9,8 @@ use Rattle.requests.specs.declared.reply.Reply.TheVariants.{Created, Found, List
 use Rattle.interleavings.specs.declared.event.Event.{Event}
 use Rattle.interleavings.specs.declared.event.Event.TheVariants as event
 use Rattle.history.specs.Named.{named, with_named}
-use Rattle.history.specs.declared.standing.Standing.{Standing}
-use Rattle.history.specs.declared.standing.Standing.TheVariants.{Waiting}
+use Rattle.history.specs.declared.caller_phase.CallerPhase.{CallerPhase}
+use Rattle.history.specs.declared.caller_phase.CallerPhase.TheVariants.{Waiting}
 use Rattle.pictures.specs.declared.shown.Shown.{Shown}
 use Rattle.pictures.specs.declared.shown.Shown.TheVariants.{All, Writes}
 
@@ -36,12 +36,12 @@ answers_write (Compacted revision) = false
 answers_write (Refused reason) = refuses_write reason
 
 -- The same, by its caller's state before it: a get that finds nothing is refused as a write may be, but while it reads.
-abbrev pub is_reply_to_write : (before : Standing) → Option Reply → Bool
+abbrev pub is_reply_to_write : (before : CallerPhase) → Option Reply → Bool
 is_reply_to_write (Waiting saw) (Some reply) = answers_write reply
 is_reply_to_write _ _ = false
 
 -- whether an event is a step of a write, or a crash, by its caller's state before it and by the reply that it gives
-abbrev pub is_of_write : Event → (before : Standing) → (delivered : Option Reply) → Bool
+abbrev pub is_of_write : Event → (before : CallerPhase) → (delivered : Option Reply) → Bool
 is_of_write (event.Call c r) before delivered = is_write r
 is_of_write (event.Check c) before delivered = true
 is_of_write (event.Reserve c) before delivered = true
@@ -59,7 +59,7 @@ is_all All = true
 is_all Writes = false
 
 -- whether the lines of the event are shown
-abbrev pub shows : Shown → Event → (before : Standing) → (delivered : Option Reply) → Bool
+abbrev pub shows : Shown → Event → (before : CallerPhase) → (delivered : Option Reply) → Bool
 shows shown e before delivered = is_all shown || is_of_write e before delivered
 
 -- ---- the participants

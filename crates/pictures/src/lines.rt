@@ -1,10 +1,10 @@
 //! The line of each event that is enabled, by its index and by its caller's state before and after it.
 ghost use Rattle.std.specs.Prelude.{◌≡◌, ◌<◌, ◌-◌, ◌^◌, ◌++◌, string_bytes, OnOk};
-ghost use Rattle.history.specs.declared.standing.Standing.TheVariants.{Idle};
+ghost use Rattle.history.specs.declared.caller_phase.CallerPhase.TheVariants.{Idle};
 ghost use Rattle.pictures.specs.Lines.{answering, begun_line, call_line, check_line, checked_line, compact_line, crash_line, drawn_line, hole_line, left_line, part_line, publish_lines, published_line, raise_line, read_at_line, read_line, reply_line, reserve_line};
 
 use crate::labels::{put_reply, put_request};
-use history::{Asked, Standing};
+use history::{CallerPhase, FirstStep};
 use requests::{Reply, Request};
 use std::alloc::AllocError;
 
@@ -12,13 +12,13 @@ pub(crate) fn put_call(
     place: u64,
     caller: u64,
     request: &Request,
-    before: Standing,
+    before: CallerPhase,
     out: &mut String,
 ) -> Result<(), AllocError>
     ensures { OnOk result (string_bytes out.new ≡ string_bytes out.old ++ call_line place caller request.now before) }
 {
     match before {
-        Standing::Idle => put_called(place, caller, request, out),
+        CallerPhase::Idle => put_called(place, caller, request, out),
         _ => Ok(()),
     }
 }
@@ -39,14 +39,16 @@ fn put_called(
 pub(crate) fn put_check(
     place: u64,
     caller: u64,
-    before: Standing,
-    after: Standing,
+    before: CallerPhase,
+    after: CallerPhase,
     out: &mut String,
 ) -> Result<(), AllocError>
     ensures { OnOk result (string_bytes out.new ≡ string_bytes out.old ++ check_line place caller before after) }
 {
     match before {
-        Standing::Called(Asked::Write { shard }) => put_checked(place, caller, shard, after, out),
+        CallerPhase::Called(FirstStep::Write { shard }) => put_checked(
+            place, caller, shard, after, out,
+        ),
         _ => Ok(()),
     }
 }
@@ -55,19 +57,19 @@ fn put_checked(
     place: u64,
     caller: u64,
     shard: usize,
-    after: Standing,
+    after: CallerPhase,
     out: &mut String,
 ) -> Result<(), AllocError>
     ensures { OnOk result (string_bytes out.new ≡ string_bytes out.old ++ checked_line place caller shard after) }
 {
     match after {
-        Standing::Holding { shard: _ } => {
+        CallerPhase::Holding { shard: _ } => {
             write!(
                 out,
                 "    C{caller}->>S{shard}: {place}: check, holds the shard\n"
             )
         }
-        Standing::Waiting { saw } => {
+        CallerPhase::Waiting { saw } => {
             write!(
                 out,
                 "    C{caller}->>S{shard}: {place}: check, sees {saw}\n"
@@ -80,26 +82,31 @@ fn put_checked(
 pub(crate) fn put_reserve(
     place: u64,
     caller: u64,
-    before: Standing,
-    after: Standing,
+    before: CallerPhase,
+    after: CallerPhase,
     out: &mut String,
 ) -> Result<(), AllocError>
     ensures { OnOk result (string_bytes out.new ≡ string_bytes out.old ++ reserve_line place caller before after) }
 {
     match before {
-        Standing::Holding { shard: _ } => put_drawn(place, caller, after, out),
+        CallerPhase::Holding { shard: _ } => put_drawn(place, caller, after, out),
         _ => Ok(()),
     }
 }
 
-fn put_drawn(place: u64, caller: u64, after: Standing, out: &mut String) -> Result<(), AllocError>
+fn put_drawn(
+    place: u64,
+    caller: u64,
+    after: CallerPhase,
+    out: &mut String,
+) -> Result<(), AllocError>
     ensures { OnOk result (string_bytes out.new ≡ string_bytes out.old ++ drawn_line place caller after) }
 {
     match after {
-        Standing::Drawn { number, shard: _ } => {
+        CallerPhase::Drawn { number, shard: _ } => {
             write!(out, "    Note over C{caller}: {place}: draws {number}\n")
         }
-        Standing::Waiting { saw: _ } => {
+        CallerPhase::Waiting { saw: _ } => {
             write!(out, "    Note over C{caller}: {place}: no number is left\n")
         }
         _ => Ok(()),
@@ -110,7 +117,7 @@ fn put_drawn(place: u64, caller: u64, after: Standing, out: &mut String) -> Resu
 pub(crate) fn put_publish(
     place: u64,
     caller: u64,
-    before: Standing,
+    before: CallerPhase,
     can_rise: bool,
     frontier: u64,
     out: &mut String,
@@ -119,11 +126,11 @@ pub(crate) fn put_publish(
     ensures { OnOk result (string_bytes out.new ≡ string_bytes out.old ++ publish_lines place caller before can_rise frontier) }
 {
     match before {
-        Standing::Drawn { number, shard } => {
+        CallerPhase::Drawn { number, shard } => {
             put_published(place, caller, number, shard, out)?;
             put_hole(can_rise, frontier, out)
         }
-        Standing::Left { number, shard } => {
+        CallerPhase::Left { number, shard } => {
             put_left(place, caller, number, shard, out)?;
             put_hole(can_rise, frontier, out)
         }
@@ -187,14 +194,14 @@ pub(crate) fn put_raise(
 pub(crate) fn put_read(
     place: u64,
     caller: u64,
-    before: Standing,
-    after: Standing,
+    before: CallerPhase,
+    after: CallerPhase,
     out: &mut String,
 ) -> Result<(), AllocError>
     ensures { OnOk result (string_bytes out.new ≡ string_bytes out.old ++ read_line place caller before after) }
 {
     match before {
-        Standing::Called(Asked::Read) => put_begun(place, caller, after, out),
+        CallerPhase::Called(FirstStep::Read) => put_begun(place, caller, after, out),
         _ => Ok(()),
     }
 }
@@ -202,28 +209,36 @@ pub(crate) fn put_read(
 pub(crate) fn put_read_at(
     place: u64,
     caller: u64,
-    before: Standing,
-    after: Standing,
+    before: CallerPhase,
+    after: CallerPhase,
     out: &mut String,
 ) -> Result<(), AllocError>
     ensures { OnOk result (string_bytes out.new ≡ string_bytes out.old ++ read_at_line place caller before after) }
 {
     match before {
-        Standing::Called(Asked::ReadAt) => put_begun(place, caller, after, out),
+        CallerPhase::Called(FirstStep::ReadAt) => put_begun(place, caller, after, out),
         _ => Ok(()),
     }
 }
 
-fn put_begun(place: u64, caller: u64, after: Standing, out: &mut String) -> Result<(), AllocError>
+fn put_begun(
+    place: u64,
+    caller: u64,
+    after: CallerPhase,
+    out: &mut String,
+) -> Result<(), AllocError>
     ensures { OnOk result (string_bytes out.new ≡ string_bytes out.old ++ begun_line place caller after) }
 {
     match after {
-        Standing::Reading {
+        CallerPhase::Reading {
             number,
             shard: _,
             left: _,
         } => write!(out, "    C{caller}->>F: {place}: read at {number}\n"),
-        Standing::Waiting { saw: _ } => write!(out, "    C{caller}->>F: {place}: read, denied\n"),
+        CallerPhase::Waiting { saw: _ } => write!(
+            out,
+            "    C{caller}->>F: {place}: read, denied\n"
+        ),
         _ => Ok(()),
     }
 }
@@ -231,13 +246,16 @@ fn put_begun(place: u64, caller: u64, after: Standing, out: &mut String) -> Resu
 pub(crate) fn put_compact(
     place: u64,
     caller: u64,
-    before: Standing,
+    before: CallerPhase,
     out: &mut String,
 ) -> Result<(), AllocError>
     ensures { OnOk result (string_bytes out.new ≡ string_bytes out.old ++ compact_line place caller before) }
 {
     match before {
-        Standing::Called(Asked::Compaction) => write!(out, "    C{caller}->>F: {place}: compact\n"),
+        CallerPhase::Called(FirstStep::Compaction) => write!(
+            out,
+            "    C{caller}->>F: {place}: compact\n"
+        ),
         _ => Ok(()),
     }
 }
@@ -246,13 +264,13 @@ pub(crate) fn put_part(
     shards: usize,
     place: u64,
     caller: u64,
-    before: Standing,
+    before: CallerPhase,
     out: &mut String,
 ) -> Result<(), AllocError>
     ensures { OnOk result (string_bytes out.new ≡ string_bytes out.old ++ part_line shards place caller before) }
 {
     match before {
-        Standing::Reading {
+        CallerPhase::Reading {
             number,
             shard,
             left,
@@ -311,14 +329,14 @@ fn put_reply_line(
 pub(crate) fn put_crash(
     place: u64,
     caller: u64,
-    before: Standing,
+    before: CallerPhase,
     out: &mut String,
 ) -> Result<(), AllocError>
     ensures { OnOk result (string_bytes out.new ≡ string_bytes out.old ++ crash_line place caller before) }
 {
     match before {
-        Standing::Gone
-        | Standing::Left {
+        CallerPhase::Gone
+        | CallerPhase::Left {
             number: _,
             shard: _,
         } => Ok(()),

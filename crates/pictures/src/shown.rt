@@ -2,7 +2,7 @@
 ghost use Rattle.std.specs.Prelude.{◌≡◌};
 ghost use Rattle.pictures.specs.Shown.{answers_write, is_of_write, is_reply_to_write, refuses_write, shows};
 
-use history::Standing;
+use history::CallerPhase;
 use interleavings::Event;
 use requests::{Reason, Reply};
 
@@ -19,7 +19,7 @@ pub enum Shown {
 pub(crate) fn shows(
     shown: Shown,
     event: &Event,
-    before: Standing,
+    before: CallerPhase,
     delivered: &Option<Reply>,
 ) -> bool
     ensures { result ≡ shows shown event.now before delivered.now }
@@ -30,7 +30,7 @@ pub(crate) fn shows(
     }
 }
 
-fn is_of_write(event: &Event, before: Standing, delivered: &Option<Reply>) -> bool
+fn is_of_write(event: &Event, before: CallerPhase, delivered: &Option<Reply>) -> bool
     ensures { result ≡ is_of_write event.now before delivered.now }
 {
     match event {
@@ -42,11 +42,11 @@ fn is_of_write(event: &Event, before: Standing, delivered: &Option<Reply>) -> bo
     }
 }
 
-fn is_reply_to_write(before: Standing, delivered: &Option<Reply>) -> bool
+fn is_reply_to_write(before: CallerPhase, delivered: &Option<Reply>) -> bool
     ensures { result ≡ is_reply_to_write before delivered.now }
 {
     match (before, delivered) {
-        (Standing::Waiting { saw: _ }, Some(reply)) => answers_write(reply),
+        (CallerPhase::Waiting { saw: _ }, Some(reply)) => answers_write(reply),
         _ => false,
     }
 }

@@ -8,12 +8,12 @@ use Rattle.serde_json.specs.Data.{Data, Members, object as map_of}
 use Rattle.serde_json.specs.Find.{get_member}
 use Rattle.serde_json.specs.Written.{compact_text}
 use Rattle.compact.specs.Notes.{IsLine, OfMembers}
-use Rattle.compact.specs.Reads.{IsTaken}
+use Rattle.compact.specs.Reads.{IsSorted}
 use Rattle.compact.specs.declared.scanner.Tables.{Tables}
 use Rattle.compact_objects.specs.Maps.{IsMap}
 use Rattle.compact_objects.specs.declared.draft.CompactDraft.{CompactDraft}
 use Rattle.compact_objects.specs.Lines.{IsDraftOfLine}
-use Rattle.compact_objects.specs.Told.{IsToldOf}
+use Rattle.compact_objects.specs.ReadFrom.{IsReadFrom}
 use Rattle.objects.specs.Reading.{draft_in, draft_of, most_bytes, reading_of_data}
 use Rattle.objects.specs.declared.key.Key.{Key}
 use Rattle.objects.specs.declared.object.Draft.{Draft}
@@ -90,7 +90,7 @@ judged_over v w d make s k result n current made written named is number there j
 -- ---- the line
 
 -- the draft of a line is read from what its object reads as
-pub told : (c : CompactDraft) (line : List ℕ) → IsDraftOfLine c line → (d : Draft) × IsToldOf c d
+pub told : (c : CompactDraft) (line : List ℕ) → IsDraftOfLine c line → (d : Draft) × IsReadFrom c d
 told c line d = (
   d.draft.read_as.draft,
   record {
@@ -119,8 +119,8 @@ IsAnswered line old new printed = answer old line ≡ (new, compact_text (reply_
 answer_is : (line : List ℕ) (old new : Store) (r : Request) (printed : PrintedReply) → request_of line ≡ Ok r → (new, reply_printed printed) ≡ step old r → IsAnswered line old new printed
 answer_is line old new r printed read took = ap (answered old) read ∙ ap (λ (p : Store × Reply). (p.0, compact_text (reply_data p.1))) (sym took)
 
-pub taken_as : (line a b : List ℕ) (s t : Tables) → IsTaken line a s → b ≡ a → t ≡ s → IsTaken line b t
-taken_as line a b s t taken text tables = subst (λ x. IsTaken line x t) (sym text) (subst (IsTaken line a) (sym tables) taken)
+pub taken_as : (line a b : List ℕ) (s t : Tables) → IsSorted line a s → b ≡ a → t ≡ s → IsSorted line b t
+taken_as line a b s t taken text tables = subst (λ x. IsSorted line x t) (sym text) (subst (IsSorted line a) (sym tables) taken)
 
 -- ---- a text
 
@@ -131,8 +131,8 @@ text_told bytes P Q (Err e) b h is good = absurd (let bad : false ≡ true = sym
 -- ---- the reply
 
 pub answered_by : {E : Type 0} (line text : List ℕ) (tables : Tables) (c : CompactDraft) (v : Verb) (old new : Store) (result : Result (Option PrintedReply) E)
-    → IsTaken line text tables → IsDraftOfLine c line → length line ≤ most_bytes → is_utf8 line ≡ true → ((ms : Members) → IsMap text tables.line ms → verb_in ms ≡ Ok v)
-    → ((d : Draft) → IsToldOf c d → IfOk result (λ found. IfSome found (IsTakenBy v d old new)))
+    → IsSorted line text tables → IsDraftOfLine c line → length line ≤ most_bytes → is_utf8 line ≡ true → ((ms : Members) → IsMap text tables.line ms → verb_in ms ≡ Ok v)
+    → ((d : Draft) → IsReadFrom c d → IfOk result (λ found. IfSome found (IsTakenBy v d old new)))
     → IfOk result (λ found. IfSome found (IsAnswered line old new))
 unfolding told
 answered_by line text tables c v old new result t d short valid named took =

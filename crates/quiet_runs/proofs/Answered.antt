@@ -21,8 +21,8 @@ use Rattle.interleavings.specs.Step.{accepted_reply, all_shards, begun, begun_un
 use Rattle.interleavings.specs.World.{Draw, Phase, Called, Holding, Drawn, Waiting, Reading, Size, World, changed, shard}
 use Rattle.interleavings.proofs.Basics.{Compared, same, other, compare, Least, atmost, above, least, changed-same, changed-other, is_key_at}
 use Rattle.history.specs.NextStep.{can_rise, goes_on, next_step}
-use Rattle.history.specs.declared.standing.Standing.TheVariants as standing
-use Rattle.history.specs.Standing.{asked, standing_of}
+use Rattle.history.specs.declared.caller_phase.CallerPhase.TheVariants as standing
+use Rattle.history.specs.CallerPhase.{first_step, caller_phase_of}
 use Rattle.rounds.specs.Reconciler.{Reconciler}
 use Rattle.cluster_runs.specs.Cluster.{Cluster, hand_if, is_used}
 use Rattle.cluster_runs.specs.Turns.{carried_in}
@@ -74,8 +74,8 @@ module _ (z : Size) (count : ℕ) (reconcilers : ℕ → Reconciler) (n : ℕ) (
   Inner e = IsInner z count reconcilers n k0 there e
 
   -- the next step from the caller's phase
-  next_at : (w : World) (ph : Phase) → w.phase n ≡ ph → next_step z w n ≡ goes_on (λ s. is_some (w.holder s)) w.frontier (can_rise w) n (standing_of z.shards ph)
-  next_at w ph at = ap (λ x. goes_on (λ s. is_some (w.holder s)) w.frontier (can_rise w) n (standing_of z.shards x)) at
+  next_at : (w : World) (ph : Phase) → w.phase n ≡ ph → next_step z w n ≡ goes_on (λ s. is_some (w.holder s)) w.frontier (can_rise w) n (caller_phase_of z.shards ph)
+  next_at w ph at = ap (λ x. goes_on (λ s. is_some (w.holder s)) w.frontier (can_rise w) n (caller_phase_of z.shards x)) at
 
   apart : (w : World) (ph : Phase) (m : ℕ) → m ≢ n → changed w.phase n ph m ≡ w.phase m
   apart w ph m ne = changed-other w.phase n ph m ne
@@ -201,7 +201,7 @@ module _ (z : Size) (count : ℕ) (reconcilers : ℕ → Reconciler) (n : ℕ) (
 
         next : next_step z w n ≡ Some (event.Check n)
         next =
-            next_at w (Called p r) at ∙ ap (λ ro. goes_on (λ s. is_some (w.holder s)) w.frontier (can_rise w) n (standing.Called (asked z.shards ro))) is
+            next_at w (Called p r) at ∙ ap (λ ro. goes_on (λ s. is_some (w.holder s)) w.frontier (can_rise w) n (standing.Called (first_step z.shards ro))) is
             ∙ ap (λ o. if is_some o then None else Some (event.Check n)) free
 
         judging : (d : Verdict) → verdict r (value w.log w.drawn q) ≡ d → happens z w (event.Check n) ≡ judged z w n p q d
@@ -238,8 +238,8 @@ module _ (z : Size) (count : ℕ) (reconcilers : ℕ → Reconciler) (n : ℕ) (
         settles (event.ReadAt n) (begun_unless z w n p r number (Some reason)) 0 (Refused reason) reads_at next (is ∙ ap (begun_unless z w n p r number) ed) refl (omega arith)
     by_list_at number next None ed is = begins (event.ReadAt n) number (all_shards z) reads_at next (is ∙ ap (begun_unless z w n p r number) ed) every
 
-    next_by : (ro : Route) → route r ≡ ro → next_step z w n ≡ goes_on (λ s. is_some (w.holder s)) w.frontier (can_rise w) n (standing.Called (asked z.shards ro))
-    next_by ro is = next_at w (Called p r) at ∙ ap (λ ro. goes_on (λ s. is_some (w.holder s)) w.frontier (can_rise w) n (standing.Called (asked z.shards ro))) is
+    next_by : (ro : Route) → route r ≡ ro → next_step z w n ≡ goes_on (λ s. is_some (w.holder s)) w.frontier (can_rise w) n (standing.Called (first_step z.shards ro))
+    next_by ro is = next_at w (Called p r) at ∙ ap (λ ro. goes_on (λ s. is_some (w.holder s)) w.frontier (can_rise w) n (standing.Called (first_step z.shards ro))) is
 
     pub by_route : (ro : Route) → route r ≡ ro → Comes (steps_of_a_request z) (suc (suc (suc (suc (suc fuel))))) k
     by_route (writes q) is = by_write q is

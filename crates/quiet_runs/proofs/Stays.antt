@@ -14,7 +14,7 @@ use Rattle.interleavings.proofs.Basics.{Compared, same, other, compare}
 use Rattle.interleavings.proofs.Invariant.{Opens}
 use Rattle.interleavings.proofs.Runs.{begins, run_goes}
 use Rattle.history.specs.NextStep.{can_rise, goes_on, next_step}
-use Rattle.history.specs.Standing.{standing_of}
+use Rattle.history.specs.CallerPhase.{caller_phase_of}
 use Rattle.rounds.specs.Phase.{asks}
 use Rattle.rounds.specs.Reconciler.{Reconciler}
 use Rattle.rounds.specs.Transcript.{Incarnation}
@@ -50,7 +50,7 @@ idle_is (Reading number p q parts found) is = absurd cc
 idle_is (Gone left) is = absurd cc
 
 abbrev next_from : Size → World → ℕ → Phase → Option Event
-next_from z w n ph = goes_on (λ s. is_some (w.holder s)) w.frontier (can_rise w) n (standing_of z.shards ph)
+next_from z w n ph = goes_on (λ s. is_some (w.holder s)) w.frontier (can_rise w) n (caller_phase_of z.shards ph)
 
 module _ (z : Size) (count : ℕ) (reconcilers : ℕ → Reconciler) where
   -- a caller that has sent nothing has no next step

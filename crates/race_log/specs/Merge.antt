@@ -7,7 +7,7 @@ use Rattle.requests.specs.declared.request.Request.{Request}
 use Rattle.requests.specs.declared.reply.Reply.{Reply}
 use Rattle.interleavings.specs.declared.trace.Item.{Item}
 use Rattle.interleavings.specs.declared.trace.Item.TheVariants as item
-use Rattle.race_log.specs.declared.part.Asked.{Asked}
+use Rattle.race_log.specs.declared.part.TimedExchange.{TimedExchange}
 use Rattle.race_log.specs.declared.part.Part.{Part}
 
 -- a caller sends a request, or gets a reply
@@ -25,11 +25,11 @@ abbrev pub event : (place caller : ℕ) → Said → Event
 event place caller said = record { place = place; caller = caller; said = said }
 
 -- of a part: a call, its reply, the next call ..
-abbrev pub asked_events : ℕ → Asked → List Event
-asked_events caller a = event a.call caller (asks a.request) ∷ event a.place caller (told a.reply) ∷ []
+abbrev pub exchange_events : ℕ → TimedExchange → List Event
+exchange_events caller a = event a.call caller (asks a.request) ∷ event a.place caller (told a.reply) ∷ []
 
 abbrev pub part_events : Part → List Event
-part_events p = flat_map (asked_events p.caller) p.asked.items
+part_events p = flat_map (exchange_events p.caller) p.exchanges.items
 
 -- of all parts, one part after another
 abbrev pub events_of : List Part → List Event

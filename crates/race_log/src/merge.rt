@@ -1,10 +1,10 @@
 // The log of a race, from the parts of its callers.
 ghost use Rattle.std.specs.Prelude.{◌≡◌, ◌==◌, ◌<◌, ◌++◌, ◌∷◌, [], ℕ, false, length, List, IfOk, OnOk, if◌then◌else◌, MatchOption};
-ghost use Rattle.race_log.specs.Merge.{IsMergeOf, Event, event, asked_events, part_events, events_of};
+ghost use Rattle.race_log.specs.Merge.{IsMergeOf, Event, event, exchange_events, part_events, events_of};
 ghost use Rattle.race_log.specs.Waiting.{AreTurnsOf, HasHeard, Hears, Holds, left_of, said};
 
 use crate::log::Log;
-use crate::part::{Asked, Part};
+use crate::part::{Part, TimedExchange};
 use objects::Memory;
 use requests::{Reply, Request};
 use std::alloc::Global;
@@ -79,16 +79,16 @@ impl Waiting {
     }
 
     /// Appends a call and its reply.
-    fn put_asked(&mut self, caller: u64, asked: Asked) -> Result<(), Memory>
-        ensures { (es : List Event) → Holds self.old es → OnOk result (Holds self.new (es ++ asked_events caller asked)) }
+    fn put_exchange(&mut self, caller: u64, exchanges: TimedExchange) -> Result<(), Memory>
+        ensures { (es : List Event) → Holds self.old es → OnOk result (Holds self.new (es ++ exchange_events caller exchanges)) }
     {
-        let Asked {
+        let TimedExchange {
             call,
             request,
             place,
             number,
             reply,
-        } = asked;
+        } = exchanges;
         let called = self.put(call, caller, Word::Asks(request));
         let replied = self.put(place, caller, Word::Told(number, reply));
         called?;
@@ -99,9 +99,9 @@ impl Waiting {
     fn put_part(&mut self, part: Part) -> Result<(), Memory>
         ensures { (es : List Event) → Holds self.old es → OnOk result (Holds self.new (es ++ part_events part)) }
     {
-        let Part { caller, asked } = part;
-        for one in asked {
-            self.put_asked(caller, one)?;
+        let Part { caller, exchanges } = part;
+        for one in exchanges {
+            self.put_exchange(caller, one)?;
         }
         Ok(())
     }
@@ -120,7 +120,7 @@ impl Waiting {
 
 impl Log {
     /// Notes what the caller adds next.
-    fn hear(&mut self, queues: &mut Queues, caller: u64) -> Result<(), Memory>
+    fn note_next(&mut self, queues: &mut Queues, caller: u64) -> Result<(), Memory>
         requires { 0 < length (left_of caller queues.old) }
         ensures { OnOk result (Hears caller self.old.items.items self.new.items.items queues.old queues.new) }
     {
@@ -140,7 +140,7 @@ fn log_of(alloc: Global, queues: Queues, turns: &[(u64, u64)]) -> Result<Log, Me
     let mut left = queues;
     let mut log = Log::new(alloc);
     for (_, caller) in turns {
-        log.hear(&mut left, *caller)?;
+        log.note_next(&mut left, *caller)?;
     }
     Ok(log)
 }

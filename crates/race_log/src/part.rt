@@ -3,7 +3,7 @@ use requests::{Reply, Request};
 
 /// A request and its reply.
 #[derive(Drop)]
-pub struct Asked {
+pub struct TimedExchange {
     /// The place of the call, a number from one counter that all threads share.
     pub call: u64,
     pub request: Request,
@@ -18,5 +18,5 @@ pub struct Asked {
 #[derive(Drop)]
 pub struct Part {
     pub caller: u64,
-    pub asked: Vec<Asked>,
+    pub exchanges: Vec<TimedExchange>,
 }

@@ -14,7 +14,7 @@ same_spec {S} p q is = ap (λ (x : PartOf S). x.spec) is
 pub same_number : {S : Type 0} (p q : PartOf S) → p ≡ q → p.number ≡ q.number
 same_number {S} p q is = ap (λ (x : PartOf S). x.number) is
 
-pub creator_is : (gave : Gives) (spec : RaceSpec) (p : Part) → p.caller ≡ spec.controllers + 1 → HasAsked gave (creates_set spec.replicas) [] p.asked.items → IsPartOf gave spec p
+pub creator_is : (gave : Gives) (spec : RaceSpec) (p : Part) → p.caller ≡ spec.controllers + 1 → HasAsked gave (creates_set spec.replicas) [] p.exchanges.items → IsPartOf gave spec p
 creator_is gave spec p number asked = record {
   controller = λ low. absurd (let n = number in omega arith);
   kubelet = λ is. absurd (let n = number in omega arith);

@@ -1,12 +1,12 @@
 -- One more turn of the operator.
 use Rattle.std.proofs.Common.{◌≡◌, ℕ, ◌+◌, List, [], ◌∷◌, ◌++◌, length, length-append, refl, sym, ap, ◌∙◌, subst, arith}
 use Rattle.requests.specs.declared.request.Request.{Request}
-use Rattle.race_log.specs.declared.part.Asked.{Asked}
+use Rattle.race_log.specs.declared.part.TimedExchange.{TimedExchange}
 use Rattle.race_log.specs.Operator.{operator_asks}
 use Rattle.racing.specs.Parts.{AsksFrom, Gives, HasAsked, HasOperated}
 use Rattle.racing.proofs.Standing.{given_more}
 
-asks_more : (replicas n : ℕ) (xs : List Asked) (a : Asked) → AsksFrom replicas n xs → a.request ≡ operator_asks replicas (n + length xs) → AsksFrom replicas n (xs ++ a ∷ [])
+asks_more : (replicas n : ℕ) (xs : List TimedExchange) (a : TimedExchange) → AsksFrom replicas n xs → a.request ≡ operator_asks replicas (n + length xs) → AsksFrom replicas n (xs ++ a ∷ [])
 asks_more replicas n [] a all is = let e : n + 0 ≡ n = omega arith in (is ∙ ap (operator_asks replicas) e, tt)
 asks_more replicas n (x ∷ xs) a all is =
     let e : n + length (x ∷ xs) ≡ (n + 1) + length xs = omega arith in
@@ -15,7 +15,7 @@ asks_more replicas n (x ∷ xs) a all is =
 pub operated_first : (gave : Gives) (replicas : ℕ) → HasOperated gave replicas 0 []
 operated_first gave replicas = record { given = tt; many = refl; asks = tt }
 
-pub operated_more : (gave : Gives) (replicas n : ℕ) (r : Request) (xs ys : List Asked) → HasOperated gave replicas n xs → r ≡ operator_asks replicas n → HasAsked gave r xs ys
+pub operated_more : (gave : Gives) (replicas n : ℕ) (r : Request) (xs ys : List TimedExchange) → HasOperated gave replicas n xs → r ≡ operator_asks replicas n → HasAsked gave r xs ys
     → HasOperated gave replicas (n + 1) ys
 operated_more gave replicas n r xs ys was is asked =
     let turn : n ≡ 0 + length xs = (let m = was.many in omega arith) in

@@ -4,7 +4,7 @@ use Rattle.std.proofs.Crossing.{crosses}
 use Rattle.std.proofs.MapsCrossing.{crosses as maps}
 use Rattle.interleavings.specs.contracts.trace.Item as Item
 use Rattle.race_log.specs.contracts.log.Log as Log
-use Rattle.race_log.specs.contracts.part.Asked as Asked
+use Rattle.race_log.specs.contracts.part.TimedExchange as TimedExchange
 use Rattle.race_log.specs.contracts.part.Part as Part
 use Rattle.store.proofs.Sent.{reply-send, request-send}
 
@@ -14,8 +14,8 @@ Item-send = search (reply-send, request-send, sendable, crosses) depth 40
 pub Log-send : IsSend Log.the_row
 Log-send = search (Item-send, sendable, crosses, maps) depth 40
 
-pub Asked-send : IsSend Asked.the_row
-Asked-send = search (reply-send, request-send, sendable, crosses) depth 40
+pub TimedExchange-send : IsSend TimedExchange.the_row
+TimedExchange-send = search (reply-send, request-send, sendable, crosses) depth 40
 
 pub Part-send : IsSend Part.the_row
-Part-send = search (Asked-send, sendable, crosses) depth 40
+Part-send = search (TimedExchange-send, sendable, crosses) depth 40

@@ -6,18 +6,18 @@ use Rattle.rounds.specs.Incarnation.{Follows, phase_after}
 use Rattle.rounds.specs.Phase.{Phase, asks, reading_set, takes}
 use Rattle.rounds.specs.Reconciler.{Reconciler}
 use Rattle.rounds.specs.Transcript.{Exchange}
-use Rattle.race_log.specs.declared.part.Asked.{Asked}
+use Rattle.race_log.specs.declared.part.TimedExchange.{TimedExchange}
 use Rattle.racing.specs.Parts.{AreGiven, Gives, HasAsked, IsStanding, IsTurning, Turns, begins, begun_at, exchanges_of, last_reply, left_after, left_by, rounds_in, turns_in, turns_to}
 
-exchanges_more : (xs : List Asked) (a : Asked) → exchanges_of (xs ++ a ∷ []) ≡ exchanges_of xs ++ (a.request, a.reply) ∷ []
+exchanges_more : (xs : List TimedExchange) (a : TimedExchange) → exchanges_of (xs ++ a ∷ []) ≡ exchanges_of xs ++ (a.request, a.reply) ∷ []
 exchanges_more [] a = refl
 exchanges_more (x ∷ xs) a = ap (λ es. (x.request, x.reply) ∷ es) (exchanges_more xs a)
 
-pub given_more : (gave : Gives) (xs : List Asked) (a : Asked) → AreGiven gave xs → gave a.request a.reply a.number → AreGiven gave (xs ++ a ∷ [])
+pub given_more : (gave : Gives) (xs : List TimedExchange) (a : TimedExchange) → AreGiven gave xs → gave a.request a.reply a.number → AreGiven gave (xs ++ a ∷ [])
 given_more gave [] a all one = (one, tt)
 given_more gave (x ∷ xs) a all one = (all.0, given_more gave xs a all.1 one)
 
-last_more : (xs : List Asked) (a : Asked) → last_reply (xs ++ a ∷ []) ≡ Some a.reply
+last_more : (xs : List TimedExchange) (a : TimedExchange) → last_reply (xs ++ a ∷ []) ≡ Some a.reply
 last_more [] a = refl
 last_more (x ∷ []) a = refl
 last_more (x ∷ y ∷ xs) a = last_more (y ∷ xs) a
@@ -51,7 +51,7 @@ some_is x y e = cc
 
 -- ---- a controller
 
-stands_with : (gave : Gives) (c : Reconciler) (n : ℕ) (phase : Phase) (xs : List Asked) (a : Asked) → IsStanding gave c n phase xs
+stands_with : (gave : Gives) (c : Reconciler) (n : ℕ) (phase : Phase) (xs : List TimedExchange) (a : TimedExchange) → IsStanding gave c n phase xs
     → a.request ≡ asks c phase → gave a.request a.reply a.number → IsStanding gave c (n + begins a.request) (takes c phase a.reply) (xs ++ a ∷ [])
 stands_with gave c n phase xs a stands is given = record {
   given = given_more gave xs a stands.given given;
@@ -62,7 +62,7 @@ stands_with gave c n phase xs a stands is given = record {
       ∙ ap (λ p. takes c p a.reply) stands.phase_is;
 }
 
-pub stands_more : (gave : Gives) (c : Reconciler) (n : ℕ) (phase : Phase) (r : Request) (xs ys : List Asked) (reply : Reply) → IsStanding gave c n phase xs
+pub stands_more : (gave : Gives) (c : Reconciler) (n : ℕ) (phase : Phase) (r : Request) (xs ys : List TimedExchange) (reply : Reply) → IsStanding gave c n phase xs
     → r ≡ asks c phase → HasAsked gave r xs ys → last_reply ys ≡ Some reply → IsStanding gave c (n + begins r) (takes c phase reply) ys
 stands_more gave c n phase r xs ys reply stands is asked last =
     let a = asked.asked in
@@ -78,7 +78,7 @@ stands_first gave c = record { given = tt; follows = tt; many = refl; phase_is =
 
 -- ---- the kubelet
 
-turning_with : (gave : Gives) (turns : ℕ) (left : List Request) (xs : List Asked) (a : Asked) → IsTurning gave turns left xs
+turning_with : (gave : Gives) (turns : ℕ) (left : List Request) (xs : List TimedExchange) (a : TimedExchange) → IsTurning gave turns left xs
     → a.request ≡ turns_to left → gave a.request a.reply a.number → IsTurning gave (turns + begun_at left) (left_by left a.reply) (xs ++ a ∷ [])
 turning_with gave turns left xs a turning is given = record {
   given = given_more gave xs a turning.given given;
@@ -91,7 +91,7 @@ turning_with gave turns left xs a turning is given = record {
 }
 
 -- a list begins one more turn
-pub turning_more : (gave : Gives) (turns : ℕ) (r : Request) (xs ys : List Asked) (reply : Reply) → IsTurning gave turns [] xs
+pub turning_more : (gave : Gives) (turns : ℕ) (r : Request) (xs ys : List TimedExchange) (reply : Reply) → IsTurning gave turns [] xs
     → r ≡ turns_to [] → HasAsked gave r xs ys → last_reply ys ≡ Some reply → IsTurning gave (turns + 1) (left_by [] reply) ys
 turning_more gave turns r xs ys reply turning is asked last =
     let a = asked.asked in
@@ -99,7 +99,7 @@ turning_more gave turns r xs ys reply turning is asked last =
     subst (λ t. IsTurning gave (turns + 1) (left_by [] t) ys) said
     (subst (λ zs. IsTurning gave (turns + 1) (left_by [] a.reply) zs) (sym asked.longer) (turning_with gave turns [] xs a turning (asked.request_is ∙ is) asked.given))
 
-pub turning_next : (gave : Gives) (turns : ℕ) (left : List Request) (r : Request) (xs ys : List Asked) → IsTurning gave turns (r ∷ left) xs → HasAsked gave r xs ys → IsTurning gave turns left ys
+pub turning_next : (gave : Gives) (turns : ℕ) (left : List Request) (r : Request) (xs ys : List TimedExchange) → IsTurning gave turns (r ∷ left) xs → HasAsked gave r xs ys → IsTurning gave turns left ys
 turning_next gave turns left r xs ys was asked =
     let e : turns + 0 ≡ turns = omega arith in
     subst (λ n. IsTurning gave n left ys) e

@@ -8,13 +8,13 @@ use Rattle.requests.specs.declared.request.Request.TheVariants as request
 use Rattle.requests.specs.declared.request.Request.TheVariants.{Get}
 use Rattle.requests.specs.declared.reply.Reply.{Reply}
 use Rattle.requests.specs.declared.reply.Reply.TheVariants.{Listed}
-use Rattle.kubelet.specs.Kubelet.{kubelet_asks_all}
+use Rattle.kubelet.specs.Kubelet.{kubelet_requests_of}
 use Rattle.rounds.specs.Incarnation.{Follows, phase_after}
 use Rattle.rounds.specs.Phase.{Phase, asks, reading_set}
 use Rattle.rounds.specs.Reconciler.{Reconciler}
 use Rattle.rounds.specs.Transcript.{Exchange}
 use Rattle.plan_requests.specs.Reconciler.{reconciler_with}
-use Rattle.race_log.specs.declared.part.Asked.{Asked}
+use Rattle.race_log.specs.declared.part.TimedExchange.{TimedExchange}
 use Rattle.race_log.specs.declared.part.Part.{Part}
 use Rattle.race_log.specs.declared.spec.RaceSpec.{RaceSpec}
 use Rattle.race_log.specs.declared.judge.RaceHistory.{RaceHistory}
@@ -28,24 +28,24 @@ use Rattle.race_log.specs.RaceSet.{creates_set, set_name, set_namespace}
 abbrev pub Gives : Type 1
 Gives = Request → Reply → ℕ → Type 0
 
-abbrev pub exchanges_of : List Asked → List Exchange
+abbrev pub exchanges_of : List TimedExchange → List Exchange
 exchanges_of [] = []
 exchanges_of (a ∷ more) = (a.request, a.reply) ∷ exchanges_of more
 
 -- each reply is one that the store gave to its request
-abbrev pub AreGiven : Gives → List Asked → Type 0
+abbrev pub AreGiven : Gives → List TimedExchange → Type 0
 AreGiven gave [] = ⊤
 AreGiven gave (a ∷ more) = gave a.request a.reply a.number × AreGiven gave more
 
 -- the last reply, if there is one
-abbrev pub last_reply : List Asked → Option Reply
+abbrev pub last_reply : List TimedExchange → Option Reply
 last_reply [] = None
 last_reply (a ∷ []) = Some a.reply
 last_reply (a ∷ b ∷ more) = last_reply (b ∷ more)
 
 -- that request was sent too, and the store gave it a reply
-pub record HasAsked (gave : Gives) (request : Request) (old new : List Asked) : Type 0 where
-  pub asked : Asked
+pub record HasAsked (gave : Gives) (request : Request) (old new : List TimedExchange) : Type 0 where
+  pub asked : TimedExchange
   pub longer : new ≡ old ++ asked ∷ []
   pub request_is : asked.request ≡ request
   pub given : gave asked.request asked.reply asked.number
@@ -67,16 +67,16 @@ rounds_in (e ∷ es) = begins e.0 + rounds_in es
 
 -- A controller that began at the read of its set has sent and got this, and is then in this phase. So many rounds are
 -- begun.
-pub record IsStanding (gave : Gives) (c : Reconciler) (rounds : ℕ) (phase : Phase) (asked : List Asked) : Type 0 where
-  pub given : AreGiven gave asked
-  pub follows : Follows c reading_set (exchanges_of asked)
-  pub many : rounds_in (exchanges_of asked) ≡ rounds
-  pub phase_is : phase_after c reading_set (exchanges_of asked) ≡ phase
+pub record IsStanding (gave : Gives) (c : Reconciler) (rounds : ℕ) (phase : Phase) (exchanges : List TimedExchange) : Type 0 where
+  pub given : AreGiven gave exchanges
+  pub follows : Follows c reading_set (exchanges_of exchanges)
+  pub many : rounds_in (exchanges_of exchanges) ≡ rounds
+  pub phase_is : phase_after c reading_set (exchanges_of exchanges) ≡ phase
 
 -- It made so many rounds, from the read of its set on, and begins the next one.
-pub record HasMadeRounds (gave : Gives) (c : Reconciler) (rounds : ℕ) (asked : List Asked) : Type 0 where
+pub record HasMadeRounds (gave : Gives) (c : Reconciler) (rounds : ℕ) (exchanges : List TimedExchange) : Type 0 where
   pub phase : Phase
-  pub stands : IsStanding gave c rounds phase asked
+  pub stands : IsStanding gave c rounds phase exchanges
   pub ended : is_get (asks c phase) ≡ true
 
 -- the reconciler of the controllers of a race
@@ -89,7 +89,7 @@ abbrev pub lists_pods : Request
 lists_pods = request.List Pod set_namespace 0
 
 abbrev pub asks_after : Reply → List Request
-asks_after (Listed objects revision) = kubelet_asks_all objects
+asks_after (Listed objects revision) = kubelet_requests_of objects
 asks_after _ = []
 
 -- What it sends if these requests are left of its turn, and what is then left. Each turn begins with a list of the
@@ -121,44 +121,44 @@ turns_in left [] = 0
 turns_in left (e ∷ es) = begun_at left + turns_in (left_by left e.1) es
 
 -- this was sent and replied, by which so many turns are begun, and these requests are left of the last one
-pub record IsTurning (gave : Gives) (turns : ℕ) (left : List Request) (asked : List Asked) : Type 0 where
-  pub given : AreGiven gave asked
-  pub follows : Turns [] (exchanges_of asked)
-  pub many : turns_in [] (exchanges_of asked) ≡ turns
-  pub left_is : left_after [] (exchanges_of asked) ≡ left
+pub record IsTurning (gave : Gives) (turns : ℕ) (left : List Request) (exchanges : List TimedExchange) : Type 0 where
+  pub given : AreGiven gave exchanges
+  pub follows : Turns [] (exchanges_of exchanges)
+  pub many : turns_in [] (exchanges_of exchanges) ≡ turns
+  pub left_is : left_after [] (exchanges_of exchanges) ≡ left
 
 -- how many turns it makes at most, for each round of a controller
 abbrev pub most_turns : ℕ
 most_turns = 64
 
 -- It made whole turns, at least one, and no more than a race of so many rounds may have.
-pub record HasTurned (gave : Gives) (rounds : ℕ) (asked : List Asked) : Type 0 where
+pub record HasTurned (gave : Gives) (rounds : ℕ) (exchanges : List TimedExchange) : Type 0 where
   pub turns : ℕ
-  pub turning : IsTurning gave turns [] asked
+  pub turning : IsTurning gave turns [] exchanges
   pub some : 0 < turns
   pub few : 0 < rounds → turns ≤ rounds * most_turns
 
 -- ---- the operator
 
 -- the requests of the turns from n on
-abbrev pub AsksFrom : (replicas n : ℕ) → List Asked → Type 0
+abbrev pub AsksFrom : (replicas n : ℕ) → List TimedExchange → Type 0
 AsksFrom replicas n [] = ⊤
 AsksFrom replicas n (a ∷ more) = (a.request ≡ operator_asks replicas n) × AsksFrom replicas (n + 1) more
 
 -- it made so many turns, from the first one on
-pub record HasOperated (gave : Gives) (replicas turns : ℕ) (asked : List Asked) : Type 0 where
-  pub given : AreGiven gave asked
-  pub many : length asked ≡ turns
-  pub asks : AsksFrom replicas 0 asked
+pub record HasOperated (gave : Gives) (replicas turns : ℕ) (exchanges : List TimedExchange) : Type 0 where
+  pub given : AreGiven gave exchanges
+  pub many : length exchanges ≡ turns
+  pub asks : AsksFrom replicas 0 exchanges
 
 -- ---- all of them
 
 -- by its number: a controller, the kubelet, the caller that created the set, or the operator
 pub record IsPartOf (gave : Gives) (spec : RaceSpec) (p : Part) : Type 0 where
-  pub controller : p.caller < spec.controllers → HasMadeRounds gave racer spec.rounds p.asked.items
-  pub kubelet : p.caller ≡ spec.controllers → HasTurned gave spec.rounds p.asked.items
-  pub creator : p.caller ≡ spec.controllers + 1 → HasAsked gave (creates_set spec.replicas) [] p.asked.items
-  pub operator : p.caller ≡ spec.controllers + 2 → HasOperated gave spec.replicas spec.rounds p.asked.items
+  pub controller : p.caller < spec.controllers → HasMadeRounds gave racer spec.rounds p.exchanges.items
+  pub kubelet : p.caller ≡ spec.controllers → HasTurned gave spec.rounds p.exchanges.items
+  pub creator : p.caller ≡ spec.controllers + 1 → HasAsked gave (creates_set spec.replicas) [] p.exchanges.items
+  pub operator : p.caller ≡ spec.controllers + 2 → HasOperated gave spec.replicas spec.rounds p.exchanges.items
 
 abbrev pub caller_of : Part → ℕ
 caller_of p = p.caller

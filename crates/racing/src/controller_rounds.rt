@@ -4,11 +4,11 @@ ghost use Rattle.rounds.specs.Phase.{asks, reading_set};
 ghost use Rattle.controllers.specs.Controller.{is_waiting, phase_of, reconciler_of};
 ghost use Rattle.racing.specs.Parts.{HasMadeRounds, IsStanding, begins, is_get, racer};
 
-use crate::field::{Field, last_reply};
+use crate::field::{RaceContext, last_reply};
 use crate::shared::SharedStore;
 use controllers::Controller;
 use objects::Memory;
-use race_log::{Asked, NAMESPACE, SET};
+use race_log::{NAMESPACE, SET, TimedExchange};
 use requests::Request;
 use std::alloc::Global;
 use std::sync::Wait;
@@ -39,20 +39,20 @@ fn is_get(request: &Request) -> bool
 #[tactic(auto, using(crate::proofs::Standing::stands_more))]
 fn make_step<S: SharedStore, R: Wait, G: Gate>(
     rt: &R,
-    field: &Field<'_, S, G>,
+    field: &RaceContext<'_, S, G>,
     caller: &mut S::Caller,
     controller: &mut Controller,
-    asked: &mut Vec<Asked>,
+    exchanges: &mut Vec<TimedExchange>,
     request: Request,
 ) -> Result<(), Memory>
     requires waits { is_waiting controller.old ≡ true }
     requires request { request ≡ asks (reconciler_of controller.old) (phase_of controller.old) }
-    ensures stands { (rounds : ℕ) → IsStanding S.gave (reconciler_of controller.old) rounds (phase_of controller.old) asked.old.items
-        → OnOk result (IsStanding S.gave (reconciler_of controller.old) (rounds + begins request) (phase_of controller.new) asked.new.items) }
+    ensures stands { (rounds : ℕ) → IsStanding S.gave (reconciler_of controller.old) rounds (phase_of controller.old) exchanges.old.items
+        → OnOk result (IsStanding S.gave (reconciler_of controller.old) (rounds + begins request) (phase_of controller.new) exchanges.new.items) }
     ensures same { OnOk result (reconciler_of controller.new ≡ reconciler_of controller.old) }
 {
-    field.ask(rt, caller, asked, request)?;
-    match last_reply(asked.as_slice()) {
+    field.ask(rt, caller, exchanges, request)?;
+    match last_reply(exchanges.as_slice()) {
         Some(reply) => controller.take(reply),
         None => Err(Memory),
     }
@@ -61,28 +61,28 @@ fn make_step<S: SharedStore, R: Wait, G: Gate>(
 /// One round: the controller's requests, up to the read of the set with which the next round begins.
 fn make_round<S: SharedStore, R: Wait, G: Gate>(
     rt: &R,
-    field: &Field<'_, S, G>,
+    field: &RaceContext<'_, S, G>,
     caller: &mut S::Caller,
     controller: &mut Controller,
-    asked: &mut Vec<Asked>,
+    exchanges: &mut Vec<TimedExchange>,
     rounds: u64,
 ) -> Result<(), Memory>
-    requires stands { IsStanding S.gave racer rounds (phase_of controller.old) asked.old.items }
+    requires stands { IsStanding S.gave racer rounds (phase_of controller.old) exchanges.old.items }
     requires begins { is_get (asks racer (phase_of controller.old)) ≡ true }
     requires racer { reconciler_of controller.old ≡ racer }
-    ensures stands { OnOk result (IsStanding S.gave racer (rounds + 1) (phase_of controller.new) asked.new.items) }
+    ensures stands { OnOk result (IsStanding S.gave racer (rounds + 1) (phase_of controller.new) exchanges.new.items) }
     ensures begins { OnOk result (is_get (asks racer (phase_of controller.new)) ≡ true) }
     ensures racer { OnOk result (reconciler_of controller.new ≡ racer) }
 {
     let request = controller.next()?;
-    make_step(rt, field, caller, controller, asked, request)?;
+    make_step(rt, field, caller, controller, exchanges, request)?;
     for _ in rt.forever() {
         let request = controller.next()?;
         if is_get(&request) {
             drop(request);
             return Ok(());
         }
-        make_step(rt, field, caller, controller, asked, request)?;
+        make_step(rt, field, caller, controller, exchanges, request)?;
     }
     unreachable!()
 }
@@ -99,31 +99,31 @@ fn compact<S: SharedStore, R: Wait>(rt: &R, store: &S, caller: &mut S::Caller) {
 #[tactic(auto, using(crate::proofs::Standing::stands_first, crate::proofs::First::begins_first))]
 fn make_rounds<S: SharedStore, R: Wait, G: Gate>(
     rt: &R,
-    field: &Field<'_, S, G>,
+    field: &RaceContext<'_, S, G>,
     me: u64,
     caller: &mut S::Caller,
-) -> Result<Vec<Asked>, Memory>
-    ensures { IfOk result (λ asked. HasMadeRounds S.gave racer field.now.course.now.spec.rounds asked.items) }
+) -> Result<Vec<TimedExchange>, Memory>
+    ensures { IfOk result (λ exchanges. HasMadeRounds S.gave racer field.now.course.now.spec.rounds exchanges.items) }
 {
     let mut controller = controller(field.course.alloc)?;
-    let mut asked = Vec::new(field.course.alloc);
+    let mut exchanges = Vec::new(field.course.alloc);
     for round in 0..field.course.spec.rounds {
         field.course.begin_round();
         field.gate.round(me, round + 1);
-        make_round(rt, field, caller, &mut controller, &mut asked, round)?;
+        make_round(rt, field, caller, &mut controller, &mut exchanges, round)?;
         compact(rt, field.store, caller);
     }
-    Ok(asked)
+    Ok(exchanges)
 }
 
 /// All rounds of a controller; then it has ended, even if memory ran out.
 pub(crate) fn run_controller<S: SharedStore, R: Wait, G: Gate>(
     rt: &R,
-    field: &Field<'_, S, G>,
+    field: &RaceContext<'_, S, G>,
     me: u64,
     mut caller: S::Caller,
-) -> Result<Vec<Asked>, Memory>
-    ensures { IfOk result (λ asked. HasMadeRounds S.gave racer field.now.course.now.spec.rounds asked.items) }
+) -> Result<Vec<TimedExchange>, Memory>
+    ensures { IfOk result (λ exchanges. HasMadeRounds S.gave racer field.now.course.now.spec.rounds exchanges.items) }
 {
     let made = make_rounds(rt, field, me, &mut caller);
     field.course.end();

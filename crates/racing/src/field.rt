@@ -6,21 +6,21 @@ use crate::asking::answered;
 use crate::course::Course;
 use crate::shared::SharedStore;
 use objects::Memory;
-use race_log::Asked;
+use race_log::TimedExchange;
 use requests::{Reply, Request};
 use std::sync::Wait;
 use store::Gate;
 
 /// The store, the gate and the race.
-pub(crate) struct Field<'a, S, G> {
+pub(crate) struct RaceContext<'a, S, G> {
     pub store: &'a S,
     pub gate: &'a G,
     pub course: &'a Course,
 }
 
-impl<S, G> Drop for Field<'_, S, G> {
+impl<S, G> Drop for RaceContext<'_, S, G> {
     fn drop(self) {
-        let Field {
+        let RaceContext {
             store: _,
             gate: _,
             course: _,
@@ -29,25 +29,25 @@ impl<S, G> Drop for Field<'_, S, G> {
 }
 
 /// The last reply.
-pub(crate) fn last_reply(asked: &[Asked]) -> Option<&Reply>
-    ensures { option_map (λ r. r.now) result ≡ last_reply asked.now }
+pub(crate) fn last_reply(exchanges: &[TimedExchange]) -> Option<&Reply>
+    ensures { option_map (λ r. r.now) result ≡ last_reply exchanges.now }
 {
-    match asked.last() {
+    match exchanges.last() {
         Some(last) => Some(&last.reply),
         None => None,
     }
 }
 
-impl<S: SharedStore, G: Gate> Field<'_, S, G> {
+impl<S: SharedStore, G: Gate> RaceContext<'_, S, G> {
     /// Sends the request, and appends it to the part, with the store's reply and the places of both.
     pub(crate) fn ask<R: Wait>(
         &self,
         rt: &R,
         caller: &mut S::Caller,
-        asked: &mut Vec<Asked>,
+        exchanges: &mut Vec<TimedExchange>,
         request: Request,
     ) -> Result<(), Memory>
-        ensures { OnOk result (HasAsked S.gave request asked.old.items asked.new.items) }
+        ensures { OnOk result (HasAsked S.gave request exchanges.old.items exchanges.new.items) }
     {
         let Ok(noted) = request.clone() else {
             drop(request);
@@ -57,7 +57,7 @@ impl<S: SharedStore, G: Gate> Field<'_, S, G> {
         match answered(rt, self.store, self.gate, caller, request) {
             Ok((reply, number)) => {
                 let place = self.course.next_place();
-                asked.push(Asked {
+                exchanges.push(TimedExchange {
                     call,
                     request: noted,
                     place,

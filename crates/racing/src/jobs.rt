@@ -6,7 +6,7 @@ ghost use Rattle.racing.specs.Parts.{CountFrom, operators_in};
 
 use crate::controller_rounds::run_controller;
 use crate::course::Course;
-use crate::field::Field;
+use crate::field::RaceContext;
 use crate::kubelet_turns::run_kubelet;
 use crate::operator_turns::run_operator;
 use crate::shared::SharedStore;
@@ -75,7 +75,7 @@ pub(crate) fn operators_of<S: SharedStore, R: Wait>(
 /// The part that the job yields.
 fn part_of<S: SharedStore, R: Wait, G: Gate>(
     rt: &R,
-    field: &Field<'_, S, G>,
+    field: &RaceContext<'_, S, G>,
     job: Job<S::Caller>,
 ) -> Result<Part, Memory>
     requires { IsJob field.now.course.now.spec job }
@@ -84,15 +84,15 @@ fn part_of<S: SharedStore, R: Wait, G: Gate>(
     match job {
         Job::Controller(me, caller) => Ok(Part {
             caller: me,
-            asked: run_controller(rt, field, me, caller)?,
+            exchanges: run_controller(rt, field, me, caller)?,
         }),
         Job::Kubelet(me, caller) => Ok(Part {
             caller: me,
-            asked: run_kubelet(rt, field, caller)?,
+            exchanges: run_kubelet(rt, field, caller)?,
         }),
         Job::Operator(me, caller) => Ok(Part {
             caller: me,
-            asked: run_operator(rt, field, caller)?,
+            exchanges: run_operator(rt, field, caller)?,
         }),
     }
 }
@@ -100,7 +100,7 @@ fn part_of<S: SharedStore, R: Wait, G: Gate>(
 /// Does the job once all threads are there, and gives up if one of them could not be made.
 pub(crate) fn run_job<S: SharedStore, R: Wait, G: Gate>(
     rt: &R,
-    field: &Field<'_, S, G>,
+    field: &RaceContext<'_, S, G>,
     job: Job<S::Caller>,
 ) -> Result<Part, Memory>
     requires { IsJob field.now.course.now.spec job }

@@ -4,10 +4,10 @@ ghost use Rattle.objects.specs.Key.{key_parts};
 ghost use Rattle.requests.specs.declared.request.Request.{Request};
 ghost use Rattle.racing.specs.Parts.{HasTurned, IsTurning, asks_after, left_by, lists_pods, turns_to};
 
-use crate::field::{Field, last_reply};
+use crate::field::{RaceContext, last_reply};
 use crate::shared::SharedStore;
 use objects::{Key, Kind, Memory, Text};
-use race_log::{Asked, NAMESPACE, SET, kubelet_requests};
+use race_log::{NAMESPACE, SET, TimedExchange, kubelet_requests};
 use requests::{Reply, Request};
 use std::alloc::Global;
 use std::sync::Wait;
@@ -61,16 +61,16 @@ fn key_of_set(alloc: Global) -> Result<Key, Memory> {
 #[tactic(auto, using(crate::proofs::Standing::turning_more))]
 fn begin_turn<S: SharedStore, R: Wait, G: Gate>(
     rt: &R,
-    field: &Field<'_, S, G>,
+    field: &RaceContext<'_, S, G>,
     caller: &mut S::Caller,
-    asked: &mut Vec<Asked>,
+    exchanges: &mut Vec<TimedExchange>,
     turns: u64,
 ) -> Result<Vec<Request>, Memory>
-    requires { IsTurning S.gave turns [] asked.old.items }
-    ensures { IfOk result (λ left. IsTurning S.gave (turns + 1) left.items asked.new.items) }
+    requires { IsTurning S.gave turns [] exchanges.old.items }
+    ensures { IfOk result (λ left. IsTurning S.gave (turns + 1) left.items exchanges.new.items) }
 {
-    field.ask(rt, caller, asked, list_of_pods(field.course.alloc)?)?;
-    match last_reply(asked.as_slice()) {
+    field.ask(rt, caller, exchanges, list_of_pods(field.course.alloc)?)?;
+    match last_reply(exchanges.as_slice()) {
         Some(reply) => requests_after(field.course.alloc, reply),
         None => Err(Memory),
     }
@@ -81,18 +81,18 @@ fn begin_turn<S: SharedStore, R: Wait, G: Gate>(
 #[tactic(auto, using(crate::proofs::Standing::turning_next))]
 fn make_turn<S: SharedStore, R: Wait, G: Gate>(
     rt: &R,
-    field: &Field<'_, S, G>,
+    field: &RaceContext<'_, S, G>,
     caller: &mut S::Caller,
-    asked: &mut Vec<Asked>,
+    exchanges: &mut Vec<TimedExchange>,
     turns: u64,
 ) -> Result<bool, Memory>
-    requires { IsTurning S.gave turns [] asked.old.items }
-    ensures { OnOk result (IsTurning S.gave (turns + 1) [] asked.new.items) }
+    requires { IsTurning S.gave turns [] exchanges.old.items }
+    ensures { OnOk result (IsTurning S.gave (turns + 1) [] exchanges.new.items) }
 {
-    let requests = begin_turn(rt, field, caller, asked, turns)?;
+    let requests = begin_turn(rt, field, caller, exchanges, turns)?;
     let is_busy = !requests.is_empty();
     for request in requests {
-        field.ask(rt, caller, asked, request)?;
+        field.ask(rt, caller, exchanges, request)?;
     }
     Ok(is_busy)
 }
@@ -101,7 +101,7 @@ fn make_turn<S: SharedStore, R: Wait, G: Gate>(
 /// looks. An earlier list would show what the last one showed.
 fn wait_for_news<S: SharedStore, R: Wait, G: Gate>(
     rt: &R,
-    field: &Field<'_, S, G>,
+    field: &RaceContext<'_, S, G>,
     caller: &mut S::Caller,
     key: &Key,
 ) -> Result<(), Memory> {
@@ -121,21 +121,21 @@ fn wait_for_news<S: SharedStore, R: Wait, G: Gate>(
 /// One turn, and then more until all controllers have ended, at most 64 for each round in all.
 pub(crate) fn run_kubelet<S: SharedStore, R: Wait, G: Gate>(
     rt: &R,
-    field: &Field<'_, S, G>,
+    field: &RaceContext<'_, S, G>,
     mut caller: S::Caller,
-) -> Result<Vec<Asked>, Memory>
-    ensures { IfOk result (λ asked. HasTurned S.gave field.now.course.now.spec.rounds asked.items) }
+) -> Result<Vec<TimedExchange>, Memory>
+    ensures { IfOk result (λ exchanges. HasTurned S.gave field.now.course.now.spec.rounds exchanges.items) }
 {
     let key = key_of_set(field.course.alloc)?;
-    let mut asked = Vec::new(field.course.alloc);
-    make_turn(rt, field, &mut caller, &mut asked, 0)?;
+    let mut exchanges = Vec::new(field.course.alloc);
+    make_turn(rt, field, &mut caller, &mut exchanges, 0)?;
     for turns in 1..field.course.spec.rounds.saturating_mul(TURNS) {
         if field.course.has_ended() {
-            return Ok(asked);
+            return Ok(exchanges);
         }
-        if !make_turn(rt, field, &mut caller, &mut asked, turns)? {
+        if !make_turn(rt, field, &mut caller, &mut exchanges, turns)? {
             wait_for_news(rt, field, &mut caller, &key)?;
         }
     }
-    Ok(asked)
+    Ok(exchanges)
 }

@@ -2,10 +2,10 @@
 ghost use Rattle.std.specs.Prelude.{IfOk};
 ghost use Rattle.racing.specs.Parts.{HasOperated};
 
-use crate::field::Field;
+use crate::field::RaceContext;
 use crate::shared::SharedStore;
 use objects::Memory;
-use race_log::{Asked, operator_request};
+use race_log::{TimedExchange, operator_request};
 use std::sync::Wait;
 use store::Gate;
 
@@ -14,19 +14,19 @@ use store::Gate;
 #[tactic(auto, using(crate::proofs::Operating::operated_first))]
 pub(crate) fn run_operator<S: SharedStore, R: Wait, G: Gate>(
     rt: &R,
-    field: &Field<'_, S, G>,
+    field: &RaceContext<'_, S, G>,
     mut caller: S::Caller,
-) -> Result<Vec<Asked>, Memory>
-    ensures { IfOk result (λ asked. HasOperated S.gave field.now.course.now.spec.replicas field.now.course.now.spec.rounds asked.items) }
+) -> Result<Vec<TimedExchange>, Memory>
+    ensures { IfOk result (λ exchanges. HasOperated S.gave field.now.course.now.spec.replicas field.now.course.now.spec.rounds exchanges.items) }
 {
     let controllers = field.course.spec.controllers;
-    let mut asked = Vec::new(field.course.alloc);
+    let mut exchanges = Vec::new(field.course.alloc);
     for turn in 0..field.course.spec.rounds {
         field
             .course
             .wait_for_rounds(rt, turn.saturating_mul(controllers));
         let request = operator_request(field.course.alloc, field.course.spec.replicas, turn)?;
-        field.ask(rt, &mut caller, &mut asked, request)?;
+        field.ask(rt, &mut caller, &mut exchanges, request)?;
     }
-    Ok(asked)
+    Ok(exchanges)
 }

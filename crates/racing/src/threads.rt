@@ -7,11 +7,11 @@ ghost use Rattle.racing.specs.Jobs.{IsJob, IsPartAt, number_of};
 ghost use Rattle.racing.specs.Parts.{AreParts, CountFrom, HasAsked, IsPartOf, caller_of, operators_in};
 
 use crate::course::Course;
-use crate::field::Field;
+use crate::field::RaceContext;
 use crate::jobs::{Job, operators_of, racers_of, run_job};
 use crate::shared::SharedStore;
 use objects::Memory;
-use race_log::{Asked, Part, RaceSpec, set_creation};
+use race_log::{Part, RaceSpec, TimedExchange, set_creation};
 use std::sync::Wait;
 use std::thread;
 use std::thread::{Promise, PromisedHandle, Scope, Threads};
@@ -64,7 +64,7 @@ where
             {
                 run_job(
                     rt,
-                    &Field {
+                    &RaceContext {
                         store,
                         gate,
                         course,
@@ -136,7 +136,7 @@ fn join_race<S: SharedStore, R: Threads>(
     rt: &R,
     course: &Course,
     children: Children<'_, S>,
-    creation: Vec<Asked>,
+    creation: Vec<TimedExchange>,
 ) -> Result<Vec<Part>, Memory>
     requires few { course.now.spec.controllers ≤ 64 }
     requires creation { HasAsked S.gave (creates_set course.now.spec.replicas) [] creation.items }
@@ -153,7 +153,7 @@ fn join_race<S: SharedStore, R: Threads>(
     let caller = course.spec.controllers + 1;
     parts.push(Part {
         caller,
-        asked: creation,
+        exchanges: creation,
     })?;
     join_all(rt, &course.spec, &mut parts, operators)?;
     Ok(parts)
@@ -162,15 +162,15 @@ fn join_race<S: SharedStore, R: Threads>(
 /// Creates the set, and returns once it exists.
 fn create_set<S: SharedStore, R: Wait, G: Gate>(
     rt: &R,
-    field: &Field<'_, S, G>,
-) -> Result<Vec<Asked>, Memory>
-    ensures { IfOk result (λ asked. HasAsked S.gave (creates_set field.now.course.now.spec.replicas) [] asked.items) }
+    field: &RaceContext<'_, S, G>,
+) -> Result<Vec<TimedExchange>, Memory>
+    ensures { IfOk result (λ exchanges. HasAsked S.gave (creates_set field.now.course.now.spec.replicas) [] exchanges.items) }
 {
     let mut caller = field.store.caller(rt)?;
     let creation = set_creation(field.course.alloc, field.course.spec.replicas)?;
-    let mut asked = Vec::new(field.course.alloc);
-    field.ask(rt, &mut caller, &mut asked, creation)?;
-    Ok(asked)
+    let mut exchanges = Vec::new(field.course.alloc);
+    field.ask(rt, &mut caller, &mut exchanges, creation)?;
+    Ok(exchanges)
 }
 
 /// Creates the set, runs all threads, and joins them. They begin once all of them are there.
@@ -189,7 +189,7 @@ where
 {
     let creation = create_set(
         rt,
-        &Field {
+        &RaceContext {
             store,
             gate,
             course,

@@ -67,7 +67,7 @@ fn last_reason(controller: &Controller) -> Result<Option<PlanError>, AllocError>
 
 /// Handles a reply, and returns why the plan is refused, if the reply completes the reading for a plan that is.
 #[tactic(auto, using(crate::proofs::Passing::passed_over))]
-fn hear(controller: &mut Controller, reply: &Reply) -> Result<Option<PlanError>, Memory>
+fn on_reply(controller: &mut Controller, reply: &Reply) -> Result<Option<PlanError>, Memory>
     requires { refusal_of controller.old ≡ None }
     ensures reason { IfOk result (λ reason. reason ≡ refusal_after (refusals_of controller.old) (phase_of controller.old) reply.now None) }
     ensures phase { OnOk result (phase_of controller.new ≡ takes (reconciler_of controller.old) (phase_of controller.old) reply.now) }
@@ -117,7 +117,7 @@ pub(crate) fn reason_at(
     ensures heard { OnOk result (HasHeard spec.now caller reply.now standing.old standing.new) }
 {
     let mut controller = taken_out(alloc, spec, standing, caller)?;
-    let reason = hear(&mut controller, reply)?;
+    let reason = on_reply(&mut controller, reply)?;
     standing.insert(caller, controller)?;
     Ok(reason)
 }

@@ -9,7 +9,7 @@ use std::alloc::AllocError;
 
 /// Appends a refused plan in words, as `plan refused: BadSpec`, or `plan refused: Foreign web-1` for a pod that is not
 /// the set's.
-pub fn put_refused(reason: &PlanError, out: &mut String) -> Result<(), AllocError>
+pub(crate) fn put_refused(reason: &PlanError, out: &mut String) -> Result<(), AllocError>
     ensures { OnOk result (string_bytes out.new ≡ string_bytes out.old ++ refused_words reason.now) }
 {
     let name = plan_error_name(reason);

@@ -9,7 +9,6 @@ mod notes;
 mod refused_plan;
 mod telling;
 
-pub use labels::put_refused;
 pub use laws::callers_stand_as_their_controllers;
 pub use notes::RefusedNotes;
 pub use refused_plan::RefusedPlan;

@@ -13,8 +13,8 @@ use Rattle.interleavings.specs.declared.event.Event.{Event}
 use Rattle.interleavings.specs.declared.event.Event.TheVariants as event
 use Rattle.replay_lines.specs.declared.fault.ScriptError.{ScriptError}
 use Rattle.replay_lines.specs.declared.fault.ScriptError.TheVariants as errors
-use Rattle.replay_lines.specs.declared.step.Step.{Step}
-use Rattle.replay_lines.specs.declared.step.Step.TheVariants as step
+use Rattle.replay_lines.specs.declared.step.CallerStep.{CallerStep}
+use Rattle.replay_lines.specs.declared.step.CallerStep.TheVariants as step
 
 infixl 10 ◌>>=◌
 abbrev pub ◌>>=◌ : {A B : Type 0} → Option A → (A → Option B) → Option B
@@ -50,7 +50,7 @@ abbrev pub count_in : List ℕ → Members → Option ℕ
 count_in name ms = option_and_then count_of (get_member name ms)
 
 -- the step of this name
-abbrev pub step_named : List ℕ → Option Step
+abbrev pub step_named : List ℕ → Option CallerStep
 step_named s =
     if bytes_eq s (codes "check") then Some step.Check
     else if bytes_eq s (codes "reserve") then Some step.Reserve
@@ -64,7 +64,7 @@ step_named s =
     else None
 
 -- a step of one caller
-abbrev pub event_at : Step → ℕ → Event
+abbrev pub event_at : CallerStep → ℕ → Event
 event_at step.Check caller = event.Check caller
 event_at step.Reserve caller = event.Reserve caller
 event_at step.Publish caller = event.Publish caller

@@ -8,7 +8,7 @@ use objects::Members;
 
 /// A step of one caller that has no request.
 #[derive(Clone, Copy)]
-enum Step {
+enum CallerStep {
     Check,
     Reserve,
     Publish,
@@ -20,28 +20,28 @@ enum Step {
     Crash,
 }
 
-impl Step {
-    fn named(name: &str) -> Option<Step>
+impl CallerStep {
+    fn named(name: &str) -> Option<CallerStep>
         ensures { result ≡ step_named name.now }
     {
         if name == "check" {
-            Some(Step::Check)
+            Some(CallerStep::Check)
         } else if name == "reserve" {
-            Some(Step::Reserve)
+            Some(CallerStep::Reserve)
         } else if name == "publish" {
-            Some(Step::Publish)
+            Some(CallerStep::Publish)
         } else if name == "read" {
-            Some(Step::Read)
+            Some(CallerStep::Read)
         } else if name == "readat" {
-            Some(Step::ReadAt)
+            Some(CallerStep::ReadAt)
         } else if name == "compact" {
-            Some(Step::Compact)
+            Some(CallerStep::Compact)
         } else if name == "part" {
-            Some(Step::Part)
+            Some(CallerStep::Part)
         } else if name == "reply" {
-            Some(Step::Reply)
+            Some(CallerStep::Reply)
         } else if name == "crash" {
-            Some(Step::Crash)
+            Some(CallerStep::Crash)
         } else {
             None
         }
@@ -52,15 +52,15 @@ impl Step {
         ensures { result ≡ event_at self caller }
     {
         match self {
-            Step::Check => Event::Check(caller),
-            Step::Reserve => Event::Reserve(caller),
-            Step::Publish => Event::Publish(caller),
-            Step::Read => Event::Read(caller),
-            Step::ReadAt => Event::ReadAt(caller),
-            Step::Compact => Event::Compact(caller),
-            Step::Part => Event::Part(caller),
-            Step::Reply => Event::Reply(caller),
-            Step::Crash => Event::Crash(caller),
+            CallerStep::Check => Event::Check(caller),
+            CallerStep::Reserve => Event::Reserve(caller),
+            CallerStep::Publish => Event::Publish(caller),
+            CallerStep::Read => Event::Read(caller),
+            CallerStep::ReadAt => Event::ReadAt(caller),
+            CallerStep::Compact => Event::Compact(caller),
+            CallerStep::Part => Event::Part(caller),
+            CallerStep::Reply => Event::Reply(caller),
+            CallerStep::Crash => Event::Crash(caller),
         }
     }
 }
@@ -73,6 +73,6 @@ pub fn step_in(word: &str, members: &Members) -> Option<Event>
     if word == "raise" {
         return Some(Event::Raise);
     }
-    let step = Step::named(word)?;
+    let step = CallerStep::named(word)?;
     Some(step.by(count_in(members, "caller")?))
 }

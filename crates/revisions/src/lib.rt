@@ -12,4 +12,4 @@ mod view;
 pub use built::owned_metadata;
 pub use history::expired_revisions;
 pub use plan::{RevisionPlan, Revisions, revision_plan};
-pub use view::{RevisionView, read_revision};
+pub use view::RevisionView;

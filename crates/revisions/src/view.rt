@@ -20,7 +20,7 @@ pub struct RevisionView<'a> {
 
 /// Reads what a plan needs of a ControllerRevision (Kubernetes API reference, apps/v1, ControllerRevision). It takes no
 /// memory.
-pub fn read_revision(revision: &Object) -> RevisionView<'_>
+pub(crate) fn read_revision(revision: &Object) -> RevisionView<'_>
     ensures { result.object.now ≡ revision.now }
 {
     RevisionView {

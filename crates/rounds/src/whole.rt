@@ -59,7 +59,7 @@ pub fn run_whole<A: Api, C: ControlLoop>(
     runs_keep_promises();
     let mut taken = Vec::new(alloc);
     for event in events {
-        if let Err(fault) = happen(api, controllers, event, &mut taken) {
+        if let Err(fault) = apply_event(api, controllers, event, &mut taken) {
             return WholeRun {
                 taken,
                 fault: Some(fault),
@@ -69,7 +69,7 @@ pub fn run_whole<A: Api, C: ControlLoop>(
     WholeRun { taken, fault: None }
 }
 
-fn happen<A: Api, C: ControlLoop>(
+fn apply_event<A: Api, C: ControlLoop>(
     api: &mut A,
     controllers: &mut [C],
     event: &WholeEvent,

@@ -69,7 +69,7 @@ impl<H: Sharding, N: Naming> Caller<H, N> {
     }
 
     /// Learns what another caller has seen.
-    fn hear(&mut self, line: &Line<Writing, ByShards<H>>, other: &mut Caller<H, N>)
+    fn learn_seen(&mut self, line: &Line<Writing, ByShards<H>>, other: &mut Caller<H, N>)
         requires { IsLine N.line N.capacity line.now }
         ensures other { other.new ≡ other.old }
         ensures reported { self.new ≡ record self.old { reported = other.old.seen } }
@@ -111,6 +111,6 @@ pub(crate) fn meet<H: Sharding, N: Naming>(
 {
     // In this order: what the second learns bounds only the frontiers that it loads later.
     first.frontier(line);
-    second.hear(line, first);
+    second.learn_seen(line, first);
     second.frontier(line);
 }

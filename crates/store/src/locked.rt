@@ -20,7 +20,7 @@ use crate::caller::Caller;
 use crate::gate::Gate;
 use crate::naming::{Naming, Sharding};
 use crate::ticket::Ticket;
-use crate::write_steps::hand_in;
+use crate::write_steps::write_locked;
 use crate::writing::{ByShards, Writing};
 use line::{Line, ShardSeat};
 use objects::{Key, Kind, Memory, Object, Text};
@@ -211,7 +211,7 @@ impl<H: Sharding, N: Naming> Locked<H, N> {
         line.enter(&mut self.seat, seat);
         // By the seat of both, and before the verdict: so the number that is drawn is above the shard's floor.
         let loaded = line.look(&mut self.seat);
-        let handed = hand_in::<H, N, G>(
+        let handed = write_locked::<H, N, G>(
             line,
             &mut self.seat,
             &mut self.shard,

@@ -30,7 +30,7 @@ use std::snapshot::Snapshot;
 use versions::Shard;
 
 /// Decides the write over the newest record of its key, and carries it out.
-pub(crate) fn hand_in<H: Sharding, N: Naming, G: Gate>(
+pub(crate) fn write_locked<H: Sharding, N: Naming, G: Gate>(
     line: &Line<Writing, ByShards<H>>,
     seat: &mut ShardSeat<Writing>,
     shard: &mut Shard,
@@ -60,7 +60,7 @@ pub(crate) fn hand_in<H: Sharding, N: Naming, G: Gate>(
     let asked = Snapshot::of(&request);
     let (saw, verdict) = decide(shard, request)?;
     match verdict {
-        Verdict::Refuse(reason) => Ok(unwritten(
+        Verdict::Refuse(reason) => Ok(answer_unwritten(
             line,
             seat,
             shard,
@@ -70,7 +70,7 @@ pub(crate) fn hand_in<H: Sharding, N: Naming, G: Gate>(
             saw,
             Reply::Refused(reason),
         )),
-        Verdict::Same(object) => Ok(unwritten(
+        Verdict::Same(object) => Ok(answer_unwritten(
             line,
             seat,
             shard,
@@ -102,7 +102,7 @@ fn decide(shard: &Shard, request: Request) -> Result<(u64, Verdict), Memory>
 }
 
 /// A write that changes nothing.
-fn unwritten<H: Sharding, N: Naming>(
+fn answer_unwritten<H: Sharding, N: Naming>(
     line: &Line<Writing, ByShards<H>>,
     seat: &mut ShardSeat<Writing>,
     shard: &Shard,

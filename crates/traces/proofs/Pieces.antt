@@ -7,7 +7,7 @@ use Rattle.pictures.proofs.Pieces.{four, two}
 use Rattle.traces.specs.Enabled.{is_enabled}
 use Rattle.traces.specs.Lines.{caller_words, event_line, event_words, head, verdict_words}
 use Rattle.traces.specs.Places.{place_words}
-use Rattle.traces.specs.declared.snapshot.Snapshot.{Snapshot}
+use Rattle.traces.specs.declared.run_state.RunState.{RunState}
 
 five : (old one two_of three_of four_of new a b c d e : List ℕ) → one ≡ old ++ a → two_of ≡ one ++ b → three_of ≡ two_of ++ c → four_of ≡ three_of ++ d
     → new ≡ four_of ++ e → new ≡ old ++ (a ++ (b ++ (c ++ (d ++ e))))
@@ -20,7 +20,7 @@ pub head_put : (role : ℕ → List ℕ) (place : ℕ) (caller : Option ℕ) (ol
 head_put role place caller old one new first second =
     two old one new (decimal place ++ codes ": ") (caller_words role caller) first second ∙ ap (λ t. old ++ t) (append_assoc (decimal place) (codes ": ") (caller_words role caller))
 
-pub line_put : (role : ℕ → List ℕ) (place : ℕ) (e : Event) (before after : Snapshot) (delivered : Option Reply) (caller : Option ℕ) (enabled : Bool)
+pub line_put : (role : ℕ → List ℕ) (place : ℕ) (e : Event) (before after : RunState) (delivered : Option Reply) (caller : Option ℕ) (enabled : Bool)
     (old one two_of three_of four_of new : List ℕ) → caller ≡ named_by e → enabled ≡ is_enabled e before
     → one ≡ old ++ head role place caller → two_of ≡ one ++ event_words e delivered → three_of ≡ two_of ++ verdict_words enabled
     → four_of ≡ three_of ++ place_words caller enabled after → new ≡ four_of ++ codes "\n" → new ≡ old ++ event_line role place e before after delivered

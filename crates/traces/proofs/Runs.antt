@@ -14,15 +14,15 @@ use Rattle.history.specs.Named.{callers, named}
 use Rattle.history.specs.NextStep.{can_rise, goes_on, next_step}
 use Rattle.interleavings.specs.Callers.{named_by}
 use Rattle.history.specs.Replayed.{delivered_at}
-use Rattle.history.specs.declared.standing.Asked.TheVariants.{Write}
-use Rattle.history.specs.declared.standing.Standing.{Standing}
-use Rattle.history.specs.declared.standing.Standing.TheVariants as standing
+use Rattle.history.specs.declared.caller_phase.FirstStep.TheVariants.{Write}
+use Rattle.history.specs.declared.caller_phase.CallerPhase.{CallerPhase}
+use Rattle.history.specs.declared.caller_phase.CallerPhase.TheVariants as standing
 use Rattle.history.proofs.Naming.{more_named, named_append}
 use Rattle.history.proofs.Reached.{after_more}
-use Rattle.pictures.specs.Picture.{delivered, standing_by}
+use Rattle.pictures.specs.Picture.{delivered, caller_phase_by}
 use Rattle.pictures.proofs.Runs.{taken_more}
-use Rattle.traces.specs.declared.snapshot.Snapshot.{Snapshot}
-use Rattle.traces.specs.Enabled.{is_held, snapshot_of}
+use Rattle.traces.specs.declared.run_state.RunState.{RunState}
+use Rattle.traces.specs.Enabled.{is_held, run_state_of}
 use Rattle.traces.specs.Lines.{event_line}
 use Rattle.traces.specs.Traced.{line_between, texts_of}
 
@@ -38,7 +38,7 @@ delivered_is z events c reply is =
     by None = ap reply_in (drop-append_seam (trace z events) [])
     by (Some r) = ap reply_in (drop-append_seam (trace z events) (delivered_at (length events) c (Some r)))
 
-line_delivered : (role : ℕ → List ℕ) (z : Size) (events : List Event) (e : Event) (reply : Option Reply) (place : ℕ) (before now : Snapshot) → IsReplyTo z events e reply
+line_delivered : (role : ℕ → List ℕ) (z : Size) (events : List Event) (e : Event) (reply : Option Reply) (place : ℕ) (before now : RunState) → IsReplyTo z events e reply
     → event_line role place e before now reply ≡ event_line role place e before now (delivered (after z opening events) (step z (after z opening events) e))
 line_delivered role z events (event.Reply c) reply place before now is =
     ap (event_line role place (event.Reply c) before now) (sym (delivered_is z events c reply is))
@@ -54,17 +54,17 @@ line_delivered role z events (event.Part c) reply place before now is = refl
 line_delivered role z events (event.Crash c) reply place before now is = refl
 
 -- what was put for an event is its line between two worlds
-pub step_line : (role : ℕ → List ℕ) (z : Size) (events : List Event) (e : Event) (place : ℕ) (caller : Option ℕ) (before now : Snapshot) (reply : Option Reply) (old new : List ℕ)
-    → place ≡ length events → caller ≡ named_by e → before ≡ snapshot_of z (after z opening events) caller
-    → now ≡ snapshot_of z (after z opening (events ++ e ∷ [])) caller → IsReplyTo z events e reply → new ≡ old ++ event_line role place e before now reply
+pub step_line : (role : ℕ → List ℕ) (z : Size) (events : List Event) (e : Event) (place : ℕ) (caller : Option ℕ) (before now : RunState) (reply : Option Reply) (old new : List ℕ)
+    → place ≡ length events → caller ≡ named_by e → before ≡ run_state_of z (after z opening events) caller
+    → now ≡ run_state_of z (after z opening (events ++ e ∷ [])) caller → IsReplyTo z events e reply → new ≡ old ++ event_line role place e before now reply
     → new ≡ old ++ line_between role z (length events) e (after z opening events) (step z (after z opening events) e)
 step_line role z events e place caller before now reply old new at who before_is now_is is put =
     let w : World = after z opening events in
     put ∙ ap (λ n. old ++ event_line role n e before now reply) at
-    ∙ ap (λ m. old ++ event_line role (length events) e m now reply) (before_is ∙ ap (snapshot_of z w) who)
-    ∙ ap (λ m. old ++ event_line role (length events) e (snapshot_of z w (named_by e)) m reply)
-    (now_is ∙ ap (λ v. snapshot_of z v caller) (after_more z events opening e) ∙ ap (snapshot_of z (step z w e)) who)
-    ∙ ap (λ t. old ++ t) (line_delivered role z events e reply (length events) (snapshot_of z w (named_by e)) (snapshot_of z (step z w e) (named_by e)) is)
+    ∙ ap (λ m. old ++ event_line role (length events) e m now reply) (before_is ∙ ap (run_state_of z w) who)
+    ∙ ap (λ m. old ++ event_line role (length events) e (run_state_of z w (named_by e)) m reply)
+    (now_is ∙ ap (λ v. run_state_of z v caller) (after_more z events opening e) ∙ ap (run_state_of z (step z w e)) who)
+    ∙ ap (λ t. old ++ t) (line_delivered role z events e reply (length events) (run_state_of z w (named_by e)) (run_state_of z (step z w e) (named_by e)) is)
 
 -- ---- one text after another
 concat_more : (texts : List (List ℕ)) (text : List ℕ) → concat (texts ++ text ∷ []) ≡ concat texts ++ text
@@ -136,7 +136,7 @@ none_where true e = refl
 none_where false e = refl
 
 -- a write that is to be checked has no next step exactly if its shard is held
-pub held_is : (z : Size) (w : World) (c shard : ℕ) (s : Standing) (waits : Bool) → s ≡ standing.Called (Write shard) → s ≡ standing_by z w (Some c)
+pub held_is : (z : Size) (w : World) (c shard : ℕ) (s : CallerPhase) (waits : Bool) → s ≡ standing.Called (Write shard) → s ≡ caller_phase_by z w (Some c)
     → waits ≡ is_none (next_step z w c) → waits ≡ is_held w s
 held_is z w c shard s waits is stands none =
     none ∙ ap (λ p. is_none (goes_on (λ i. is_some (w.holder i)) w.frontier (can_rise w) c p)) (sym stands ∙ is)

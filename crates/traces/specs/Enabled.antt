@@ -10,69 +10,69 @@ use Rattle.interleavings.specs.declared.event.Event.{Event}
 use Rattle.interleavings.specs.declared.event.Event.TheVariants as event
 use Rattle.interleavings.specs.World.{Size, World}
 use Rattle.history.specs.NextStep.{can_rise}
-use Rattle.history.specs.declared.standing.Asked.TheVariants.{Write, Read, ReadAt, Compaction}
-use Rattle.history.specs.declared.standing.Standing.{Standing}
-use Rattle.history.specs.declared.standing.Standing.TheVariants.{Idle, Called, Holding, Drawn, Waiting, Reading, Gone, Left}
-use Rattle.pictures.specs.Picture.{standing_by}
-use Rattle.traces.specs.declared.snapshot.Snapshot.{Snapshot}
+use Rattle.history.specs.declared.caller_phase.FirstStep.TheVariants.{Write, Read, ReadAt, Compaction}
+use Rattle.history.specs.declared.caller_phase.CallerPhase.{CallerPhase}
+use Rattle.history.specs.declared.caller_phase.CallerPhase.TheVariants.{Idle, Called, Holding, Drawn, Waiting, Reading, Gone, Left}
+use Rattle.pictures.specs.Picture.{caller_phase_by}
+use Rattle.traces.specs.declared.run_state.RunState.{RunState}
 
 -- ---- what a line shows of the world before an event, and after it
 -- whether the shard in which a write is to be checked is held
-abbrev pub is_held : World → Standing → Bool
+abbrev pub is_held : World → CallerPhase → Bool
 is_held w (Called (Write shard)) = is_some (w.holder shard)
 is_held w _ = false
 
 -- the state of the event's caller, and whether its shard is held; the frontier, and whether the next number is filled
-abbrev pub snapshot_of : Size → World → (caller : Option ℕ) → Snapshot
-snapshot_of z w caller =
-    record { standing = standing_by z w caller; is_held = is_held w (standing_by z w caller); can_rise = can_rise w; frontier = w.frontier }
+abbrev pub run_state_of : Size → World → (caller : Option ℕ) → RunState
+run_state_of z w caller =
+    record { standing = caller_phase_by z w caller; is_held = is_held w (caller_phase_by z w caller); can_rise = can_rise w; frontier = w.frontier }
 
 -- ---- by the caller's state
-abbrev pub is_idle : Standing → Bool
+abbrev pub is_idle : CallerPhase → Bool
 is_idle Idle = true
 is_idle _ = false
 
-abbrev pub may_check : Standing → (is_held : Bool) → Bool
+abbrev pub may_check : CallerPhase → (is_held : Bool) → Bool
 may_check (Called (Write shard)) held = not held
 may_check _ held = false
 
-abbrev pub asks_read : Standing → Bool
+abbrev pub asks_read : CallerPhase → Bool
 asks_read (Called Read) = true
 asks_read _ = false
 
-abbrev pub asks_read_at : Standing → Bool
+abbrev pub asks_read_at : CallerPhase → Bool
 asks_read_at (Called ReadAt) = true
 asks_read_at _ = false
 
-abbrev pub asks_compaction : Standing → Bool
+abbrev pub asks_compaction : CallerPhase → Bool
 asks_compaction (Called Compaction) = true
 asks_compaction _ = false
 
-abbrev pub is_holding : Standing → Bool
+abbrev pub is_holding : CallerPhase → Bool
 is_holding (Holding shard) = true
 is_holding _ = false
 
-abbrev pub has_drawn : Standing → Bool
+abbrev pub has_drawn : CallerPhase → Bool
 has_drawn (Drawn number shard) = true
 has_drawn (Left number shard) = true
 has_drawn _ = false
 
-abbrev pub has_parts_left : Standing → Bool
+abbrev pub has_parts_left : CallerPhase → Bool
 has_parts_left (Reading number shard (suc left)) = true
 has_parts_left _ = false
 
-abbrev pub may_reply : Standing → (frontier : ℕ) → Bool
+abbrev pub may_reply : CallerPhase → (frontier : ℕ) → Bool
 may_reply (Waiting saw) frontier = nat_le saw frontier
 may_reply (Reading number shard zero) frontier = true
 may_reply _ frontier = false
 
-abbrev pub is_gone : Standing → Bool
+abbrev pub is_gone : CallerPhase → Bool
 is_gone Gone = true
 is_gone (Left number shard) = true
 is_gone _ = false
 
--- ---- whether an event is enabled, by the snapshot before it
-abbrev pub is_enabled : Event → (before : Snapshot) → Bool
+-- ---- whether an event is enabled, by the run_state before it
+abbrev pub is_enabled : Event → (before : RunState) → Bool
 is_enabled (event.Call c r) before = is_idle before.standing
 is_enabled (event.Check c) before = may_check before.standing before.is_held
 is_enabled (event.Reserve c) before = is_holding before.standing

@@ -7,7 +7,7 @@ use Rattle.interleavings.specs.Callers.{named_by}
 use Rattle.pictures.specs.Labels.{reply_words, request_words}
 use Rattle.traces.specs.Enabled.{is_enabled}
 use Rattle.traces.specs.Places.{place_words}
-use Rattle.traces.specs.declared.snapshot.Snapshot.{Snapshot}
+use Rattle.traces.specs.declared.run_state.RunState.{RunState}
 
 -- `7: web, controller 0, caller 2: `, with `role` for the words before a caller's number. A Raise names no caller
 abbrev pub caller_words : (role : ℕ → List ℕ) → (caller : Option ℕ) → List ℕ
@@ -40,7 +40,7 @@ abbrev pub verdict_words : (enabled : Bool) → List ℕ
 verdict_words true = codes ": "
 verdict_words false = codes ": not enabled: "
 
--- by the snapshot before the event and the one after it, and by the reply that its caller gets
-abbrev pub event_line : (role : ℕ → List ℕ) → (place : ℕ) → Event → (before after : Snapshot) → (delivered : Option Reply) → List ℕ
+-- by the run_state before the event and the one after it, and by the reply that its caller gets
+abbrev pub event_line : (role : ℕ → List ℕ) → (place : ℕ) → Event → (before after : RunState) → (delivered : Option Reply) → List ℕ
 event_line role place e before after delivered =
     head role place (named_by e) ++ (event_words e delivered ++ (verdict_words (is_enabled e before) ++ (place_words (named_by e) (is_enabled e before) after ++ codes "\n")))

@@ -1,21 +1,21 @@
 -- The state of a caller, and of the frontier, in words.
 use Rattle.std.specs.Prelude.{ℕ, ◌+◌, Bool, true, false, nat_le, List, ◌++◌, Option, Some, None, codes, decimal, if◌then◌else◌, ◌==◌}
-use Rattle.history.specs.declared.standing.Asked.{Asked}
-use Rattle.history.specs.declared.standing.Asked.TheVariants.{Write, Read, ReadAt, Compaction}
-use Rattle.history.specs.declared.standing.Standing.{Standing}
-use Rattle.history.specs.declared.standing.Standing.TheVariants.{Idle, Called, Holding, Drawn, Waiting, Reading, Gone, Left}
-use Rattle.traces.specs.declared.snapshot.Snapshot.{Snapshot}
+use Rattle.history.specs.declared.caller_phase.FirstStep.{FirstStep}
+use Rattle.history.specs.declared.caller_phase.FirstStep.TheVariants.{Write, Read, ReadAt, Compaction}
+use Rattle.history.specs.declared.caller_phase.CallerPhase.{CallerPhase}
+use Rattle.history.specs.declared.caller_phase.CallerPhase.TheVariants.{Idle, Called, Holding, Drawn, Waiting, Reading, Gone, Left}
+use Rattle.traces.specs.declared.run_state.RunState.{RunState}
 
 -- ---- `next is check, in shard 2`, and if the shard is held, `next is check, in shard 2, which is held`
 abbrev pub check_words : (shard : ℕ) → (is_held : Bool) → List ℕ
 check_words shard true = codes "next is check, in shard " ++ (decimal shard ++ codes ", which is held")
 check_words shard false = codes "next is check, in shard " ++ decimal shard
 
-abbrev pub asked_words : Asked → (is_held : Bool) → List ℕ
-asked_words (Write shard) held = check_words shard held
-asked_words Read held = codes "next is read"
-asked_words ReadAt held = codes "next is readat"
-asked_words Compaction held = codes "next is compact"
+abbrev pub first_step_words : FirstStep → (is_held : Bool) → List ℕ
+first_step_words (Write shard) held = check_words shard held
+first_step_words Read held = codes "next is read"
+first_step_words ReadAt held = codes "next is readat"
+first_step_words Compaction held = codes "next is compact"
 
 -- ---- a reply is given once the frontier has reached what its caller saw
 abbrev pub waiting_words : (saw frontier : ℕ) → List ℕ
@@ -34,15 +34,15 @@ drawn_words number shard = codes "holds shard " ++ (decimal shard ++ (codes ", h
 abbrev pub left_words : (number shard : ℕ) → List ℕ
 left_words number shard = codes "gone, " ++ (decimal number ++ (codes " is still to be published in shard " ++ decimal shard))
 
-abbrev pub standing_words : Standing → (is_held : Bool) → (frontier : ℕ) → List ℕ
-standing_words Idle held frontier = codes "idle"
-standing_words (Called asked) held frontier = asked_words asked held
-standing_words (Holding shard) held frontier = codes "holds shard " ++ decimal shard
-standing_words (Drawn number shard) held frontier = drawn_words number shard
-standing_words (Waiting saw) held frontier = waiting_words saw frontier
-standing_words (Reading number shard left) held frontier = reading_words number left
-standing_words Gone held frontier = codes "gone"
-standing_words (Left number shard) held frontier = left_words number shard
+abbrev pub caller_phase_words : CallerPhase → (is_held : Bool) → (frontier : ℕ) → List ℕ
+caller_phase_words Idle held frontier = codes "idle"
+caller_phase_words (Called first_step) held frontier = first_step_words first_step held
+caller_phase_words (Holding shard) held frontier = codes "holds shard " ++ decimal shard
+caller_phase_words (Drawn number shard) held frontier = drawn_words number shard
+caller_phase_words (Waiting saw) held frontier = waiting_words saw frontier
+caller_phase_words (Reading number shard left) held frontier = reading_words number left
+caller_phase_words Gone held frontier = codes "gone"
+caller_phase_words (Left number shard) held frontier = left_words number shard
 
 -- ---- where the frontier is, and why it does not rise
 abbrev pub frontier_words : (enabled : Bool) → (frontier : ℕ) → List ℕ
@@ -50,6 +50,6 @@ frontier_words true frontier = codes "the frontier is " ++ decimal frontier
 frontier_words false frontier = codes "the frontier is " ++ (decimal frontier ++ (codes ", and " ++ (decimal (frontier + 1) ++ codes " is not filled")))
 
 -- ---- for an event that names a caller the caller's state, and for a Raise, which names none, where the frontier is
-abbrev pub place_words : (caller : Option ℕ) → (enabled : Bool) → (after : Snapshot) → List ℕ
+abbrev pub place_words : (caller : Option ℕ) → (enabled : Bool) → (after : RunState) → List ℕ
 place_words None enabled after = frontier_words enabled after.frontier
-place_words (Some c) enabled after = standing_words after.standing after.is_held after.frontier
+place_words (Some c) enabled after = caller_phase_words after.standing after.is_held after.frontier

@@ -7,12 +7,12 @@ use Rattle.interleavings.specs.Step.{step}
 use Rattle.interleavings.specs.World.{Size, World, opening}
 use Rattle.interleavings.specs.Callers.{named_by}
 use Rattle.pictures.specs.Picture.{delivered}
-use Rattle.traces.specs.Enabled.{snapshot_of}
+use Rattle.traces.specs.Enabled.{run_state_of}
 use Rattle.traces.specs.Lines.{event_line}
 
 abbrev pub line_between : (role : ℕ → List ℕ) → Size → (place : ℕ) → Event → (before after : World) → List ℕ
 line_between role z place e before after =
-    event_line role place e (snapshot_of z before (named_by e)) (snapshot_of z after (named_by e)) (delivered before after)
+    event_line role place e (run_state_of z before (named_by e)) (run_state_of z after (named_by e)) (delivered before after)
 
 -- ---- the text of each event: its line, and then the note at its index. The first event has this index
 abbrev pub texts_of : (role note : ℕ → List ℕ) → Size → (place : ℕ) → World → List Event → List (List ℕ)

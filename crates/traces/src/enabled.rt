@@ -1,13 +1,13 @@
-//! Which events are enabled, by the snapshot before them.
+//! Which events are enabled, by the run_state before them.
 ghost use Rattle.std.specs.Prelude.{◌≡◌};
 ghost use Rattle.traces.specs.Enabled.{asks_compaction, asks_read, asks_read_at, has_drawn, has_parts_left, is_enabled, is_gone, is_holding, is_idle, may_check, may_reply};
 
-use crate::snapshot::Snapshot;
-use history::{Asked, Standing};
+use crate::run_state::RunState;
+use history::{CallerPhase, FirstStep};
 use interleavings::Event;
 
-/// Whether an event is enabled, by the snapshot before it.
-pub(crate) fn is_enabled(event: &Event, before: Snapshot) -> bool
+/// Whether an event is enabled, by the run_state before it.
+pub(crate) fn is_enabled(event: &Event, before: RunState) -> bool
     ensures { result ≡ is_enabled event.now before }
 {
     match event {
@@ -25,54 +25,54 @@ pub(crate) fn is_enabled(event: &Event, before: Snapshot) -> bool
     }
 }
 
-fn is_idle(standing: Standing) -> bool
+fn is_idle(standing: CallerPhase) -> bool
     ensures { result ≡ is_idle standing }
 {
-    matches!(standing, Standing::Idle)
+    matches!(standing, CallerPhase::Idle)
 }
 
-fn may_check(standing: Standing, is_held: bool) -> bool
+fn may_check(standing: CallerPhase, is_held: bool) -> bool
     ensures { result ≡ may_check standing is_held }
 {
     match standing {
-        Standing::Called(Asked::Write { shard: _ }) => !is_held,
+        CallerPhase::Called(FirstStep::Write { shard: _ }) => !is_held,
         _ => false,
     }
 }
 
-fn asks_read(standing: Standing) -> bool
+fn asks_read(standing: CallerPhase) -> bool
     ensures { result ≡ asks_read standing }
 {
-    matches!(standing, Standing::Called(Asked::Read))
+    matches!(standing, CallerPhase::Called(FirstStep::Read))
 }
 
-fn asks_read_at(standing: Standing) -> bool
+fn asks_read_at(standing: CallerPhase) -> bool
     ensures { result ≡ asks_read_at standing }
 {
-    matches!(standing, Standing::Called(Asked::ReadAt))
+    matches!(standing, CallerPhase::Called(FirstStep::ReadAt))
 }
 
-fn asks_compaction(standing: Standing) -> bool
+fn asks_compaction(standing: CallerPhase) -> bool
     ensures { result ≡ asks_compaction standing }
 {
-    matches!(standing, Standing::Called(Asked::Compaction))
+    matches!(standing, CallerPhase::Called(FirstStep::Compaction))
 }
 
-fn is_holding(standing: Standing) -> bool
+fn is_holding(standing: CallerPhase) -> bool
     ensures { result ≡ is_holding standing }
 {
-    matches!(standing, Standing::Holding { shard: _ })
+    matches!(standing, CallerPhase::Holding { shard: _ })
 }
 
-fn has_drawn(standing: Standing) -> bool
+fn has_drawn(standing: CallerPhase) -> bool
     ensures { result ≡ has_drawn standing }
 {
     match standing {
-        Standing::Drawn {
+        CallerPhase::Drawn {
             number: _,
             shard: _,
         }
-        | Standing::Left {
+        | CallerPhase::Left {
             number: _,
             shard: _,
         } => true,
@@ -80,11 +80,11 @@ fn has_drawn(standing: Standing) -> bool
     }
 }
 
-fn has_parts_left(standing: Standing) -> bool
+fn has_parts_left(standing: CallerPhase) -> bool
     ensures { result ≡ has_parts_left standing }
 {
     match standing {
-        Standing::Reading {
+        CallerPhase::Reading {
             number: _,
             shard: _,
             left,
@@ -93,12 +93,12 @@ fn has_parts_left(standing: Standing) -> bool
     }
 }
 
-fn may_reply(standing: Standing, frontier: u64) -> bool
+fn may_reply(standing: CallerPhase, frontier: u64) -> bool
     ensures { result ≡ may_reply standing frontier }
 {
     match standing {
-        Standing::Waiting { saw } => saw <= frontier,
-        Standing::Reading {
+        CallerPhase::Waiting { saw } => saw <= frontier,
+        CallerPhase::Reading {
             number: _,
             shard: _,
             left,
@@ -107,12 +107,12 @@ fn may_reply(standing: Standing, frontier: u64) -> bool
     }
 }
 
-fn is_gone(standing: Standing) -> bool
+fn is_gone(standing: CallerPhase) -> bool
     ensures { result ≡ is_gone standing }
 {
     match standing {
-        Standing::Gone
-        | Standing::Left {
+        CallerPhase::Gone
+        | CallerPhase::Left {
             number: _,
             shard: _,
         } => true,

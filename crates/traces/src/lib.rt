@@ -6,9 +6,9 @@ mod laws;
 mod lines;
 mod notes;
 mod places;
-mod snapshot;
+mod run_state;
 mod tracing;
 
 pub use laws::enabled_events_change_the_world;
-pub use notes::{NoNotes, Notes};
+pub use notes::Notes;
 pub use tracing::{trace_by_lines, trace_lines};

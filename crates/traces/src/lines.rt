@@ -4,18 +4,18 @@ ghost use Rattle.traces.specs.Lines.{caller_words, event_line, event_words, give
 
 use crate::enabled::is_enabled;
 use crate::places::put_place;
-use crate::snapshot::Snapshot;
+use crate::run_state::RunState;
 use interleavings::Event;
 use pictures::{Roles, put_reply, put_request};
 use requests::Reply;
 use std::alloc::AllocError;
 
-/// Appends the line of an event, by the snapshots before and after it and by the reply that its caller gets.
+/// Appends the line of an event, by the states before and after it and by the reply that its caller gets.
 pub(crate) fn put_line<R: Roles>(
     place: u64,
     event: &Event,
-    before: Snapshot,
-    after: Snapshot,
+    before: RunState,
+    after: RunState,
     delivered: &Option<Reply>,
     roles: &R,
     out: &mut String,

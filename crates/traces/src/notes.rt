@@ -16,7 +16,7 @@ pub trait Notes {
 
 /// No notes.
 #[derive(Clone, Copy, Drop)]
-pub struct NoNotes;
+pub(crate) struct NoNotes;
 
 impl Notes for NoNotes {
     ghost note = { λ _ place. no_note place };

@@ -1,16 +1,16 @@
 //! The state of a caller, and of the frontier, in words.
 ghost use Rattle.std.specs.Prelude.{◌≡◌, ◌<◌, ◌-◌, ◌^◌, ◌++◌, string_bytes, OnOk};
-ghost use Rattle.traces.specs.Places.{asked_words, check_words, drawn_words, frontier_words, left_words, place_words, reading_words, standing_words, waiting_words};
+ghost use Rattle.traces.specs.Places.{first_step_words, check_words, drawn_words, frontier_words, left_words, place_words, reading_words, caller_phase_words, waiting_words};
 
-use crate::snapshot::Snapshot;
-use history::{Asked, Standing};
+use crate::run_state::RunState;
+use history::{CallerPhase, FirstStep};
 use std::alloc::AllocError;
 
 /// Appends the state of the event's caller, or, if the event names none, where the frontier is.
 pub(crate) fn put_place(
     caller: Option<u64>,
     enabled: bool,
-    after: Snapshot,
+    after: RunState,
     out: &mut String,
 ) -> Result<(), AllocError>
     requires { after.frontier < 2 ^ 64 - 1 }
@@ -34,37 +34,37 @@ fn put_frontier(enabled: bool, frontier: u64, out: &mut String) -> Result<(), Al
 }
 
 fn put_standing(
-    standing: Standing,
+    standing: CallerPhase,
     is_held: bool,
     frontier: u64,
     out: &mut String,
 ) -> Result<(), AllocError>
-    ensures { OnOk result (string_bytes out.new ≡ string_bytes out.old ++ standing_words standing is_held frontier) }
+    ensures { OnOk result (string_bytes out.new ≡ string_bytes out.old ++ caller_phase_words standing is_held frontier) }
 {
     match standing {
-        Standing::Idle => out.push_str("idle"),
-        Standing::Called(asked) => put_asked(asked, is_held, out),
-        Standing::Holding { shard } => write!(out, "holds shard {shard}"),
-        Standing::Drawn { number, shard } => put_drawn(number, shard, out),
-        Standing::Waiting { saw } => put_waiting(saw, frontier, out),
-        Standing::Reading {
+        CallerPhase::Idle => out.push_str("idle"),
+        CallerPhase::Called(first_step) => put_first_step(first_step, is_held, out),
+        CallerPhase::Holding { shard } => write!(out, "holds shard {shard}"),
+        CallerPhase::Drawn { number, shard } => put_drawn(number, shard, out),
+        CallerPhase::Waiting { saw } => put_waiting(saw, frontier, out),
+        CallerPhase::Reading {
             number,
             shard: _,
             left,
         } => put_reading(number, left, out),
-        Standing::Gone => out.push_str("gone"),
-        Standing::Left { number, shard } => put_left(number, shard, out),
+        CallerPhase::Gone => out.push_str("gone"),
+        CallerPhase::Left { number, shard } => put_left(number, shard, out),
     }
 }
 
-fn put_asked(asked: Asked, is_held: bool, out: &mut String) -> Result<(), AllocError>
-    ensures { OnOk result (string_bytes out.new ≡ string_bytes out.old ++ asked_words asked is_held) }
+fn put_first_step(first_step: FirstStep, is_held: bool, out: &mut String) -> Result<(), AllocError>
+    ensures { OnOk result (string_bytes out.new ≡ string_bytes out.old ++ first_step_words first_step is_held) }
 {
-    match asked {
-        Asked::Write { shard } => put_check(shard, is_held, out),
-        Asked::Read => out.push_str("next is read"),
-        Asked::ReadAt => out.push_str("next is readat"),
-        Asked::Compaction => out.push_str("next is compact"),
+    match first_step {
+        FirstStep::Write { shard } => put_check(shard, is_held, out),
+        FirstStep::Read => out.push_str("next is read"),
+        FirstStep::ReadAt => out.push_str("next is readat"),
+        FirstStep::Compaction => out.push_str("next is compact"),
     }
 }
 

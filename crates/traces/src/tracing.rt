@@ -11,7 +11,7 @@ ghost use Rattle.traces.specs.Traced.{line_between, line_words, section, texts_o
 
 use crate::lines::put_line;
 use crate::notes::{NoNotes, Notes};
-use crate::snapshot::take_snapshot;
+use crate::run_state::take_run_state;
 use history::{Replay, ReplayError};
 use interleavings::Event;
 use pictures::Roles;
@@ -111,9 +111,9 @@ fn put_told<R: Roles>(
 {
     let place = replay.events();
     let caller = event.caller();
-    let before = take_snapshot(replay, caller);
+    let before = take_run_state(replay, caller);
     let delivered = replay.step(event)?;
-    let after = take_snapshot(replay, caller);
+    let after = take_run_state(replay, caller);
     let put = put_line(place, event, before, after, &delivered, roles, out);
     drop(delivered);
     Ok(put?)

@@ -5,7 +5,7 @@ ghost use Rattle.serde_json.specs.Data.{Members};
 ghost use Rattle.serde_json.specs.Find.{get_member};
 ghost use Rattle.serde_json.specs.Written.{compact_text};
 ghost use Rattle.compact_objects.specs.Maps.{IsMap};
-ghost use Rattle.compact_objects.specs.Told.{IsToldOf};
+ghost use Rattle.compact_objects.specs.ReadFrom.{IsReadFrom};
 ghost use Rattle.objects.specs.declared.object.Draft.{Draft};
 ghost use Rattle.plain_store.specs.PrintedReplies.{reply_printed};
 ghost use Rattle.plain_store.specs.Store.{step};
@@ -77,8 +77,8 @@ fn write_by(
     verb: Verb,
     draft: &CompactDraft<'_>,
 ) -> Result<Option<PrintedReply>, Memory>
-    requires { (d : Draft) × IsToldOf draft.now d }
-    ensures step { (d : Draft) → IsToldOf draft.now d
+    requires { (d : Draft) × IsReadFrom draft.now d }
+    ensures step { (d : Draft) → IsReadFrom draft.now d
         → IfOk result (λ found. IfSome found (λ printed. (r : Request) × (write_of verb d ≡ Some r) × ((plain.new, reply_printed printed) ≡ step plain.old r))) }
     ensures none { IfOk result (λ found. found ≡ None → plain.new ≡ plain.old) }
 {
@@ -96,8 +96,8 @@ fn judged_by(
     verb: Verb,
     draft: &CompactDraft<'_>,
 ) -> Result<Option<Judgment<Printed>>, Memory>
-    requires { (d : Draft) × IsToldOf draft.now d }
-    ensures judged { (d : Draft) → IsToldOf draft.now d
+    requires { (d : Draft) × IsReadFrom draft.now d }
+    ensures judged { (d : Draft) → IsReadFrom draft.now d
         → IfOk result (λ found. IfSome found (λ judged. (r : Request) × (write_of verb d ≡ Some r) × IsJudged plain.old r draft.now.key judged)) }
     ensures same { plain.new ≡ plain.old }
 {

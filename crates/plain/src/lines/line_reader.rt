@@ -1,7 +1,7 @@
 // What reads lines, one after another, in memory that it keeps from line to line.
 ghost use Rattle.std.specs.Prelude.{◌≡◌, ◌≤◌, IsTrue, length, true, IfOk, ◌-◌, cond, nat_eq};
 ghost use Rattle.std.specs.Str.{is_utf8};
-ghost use Rattle.compact.specs.Reads.{IsTaken};
+ghost use Rattle.compact.specs.Reads.{IsSorted};
 ghost use Rattle.objects.specs.Reading.{most_bytes};
 
 use compact::Scanner;
@@ -86,7 +86,7 @@ impl LineReader {
     /// Puts a copy of the line into byte order, if that can be done with no tree of it and it is the line's turn to be
     /// tried. If not, nothing is said of the line.
     pub(crate) fn put_in_order(&mut self, line: &[u8]) -> Result<bool, AllocError>
-        ensures taken { IfOk result (λ is_taken. IsTrue is_taken → IsTaken line.now self.new.text.items self.new.scanner.tables) }
+        ensures taken { IfOk result (λ is_taken. IsTrue is_taken → IsSorted line.now self.new.text.items self.new.scanner.tables) }
         ensures short { IfOk result (λ is_taken. IsTrue is_taken → length line.now ≤ most_bytes) }
         ensures utf8 { IfOk result (λ is_taken. IsTrue is_taken → is_utf8 line.now ≡ true) }
     {

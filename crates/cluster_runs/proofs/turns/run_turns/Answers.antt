@@ -33,9 +33,9 @@ pub returns-in_err-callers-clause-stopped : goal.returns-in_err-callers-clause-s
 returns-in_err-callers-clause-stopped g c =
     at_err c.from_residual-in_err-callers.result _ (λ reconcilers made. (0, fresh_stand g.C.ControlLoop.reconciler g.C.ControlLoop.phase reconcilers c.args.controllers.now c.requires made))
 
-pub go-requires : goal.go-requires
+pub apply_turns-requires : goal.apply_turns-requires
 unfolding HasTaken
-go-requires g c =
+apply_turns-requires g c =
     let z : Size = record { capacity = c.args.capacity; shards = c.args.shards } in record {
       present = sym c.in_ok-callers.ensures.callers.count_is;
       follows = (z, subst (λ l. IsAfter z l c.in_ok-replay.replay) (sym c.new-2.ensures.items) c.in_ok-replay.ensures.opened);
@@ -45,18 +45,18 @@ pub returns-in_err-ends-clause-stopped : goal.returns-in_err-ends-clause-stopped
 returns-in_err-ends-clause-stopped g c =
     at_err c.from_residual-in_err-ends.result _ (λ reconcilers made.
     let z : Size = record { capacity = c.args.capacity; shards = c.args.shards } in
-    (goes_stops g.C.ControlLoop.reconciler g.C.ControlLoop.phase g.C.ControlLoop.is_waiting z reconcilers c.args.namespaces.now c.args.turns.now (record { replay = c.in_ok-replay.replay; callers = c.in_ok-callers.callers; events = c.new-2.result }) c.args.controllers.now c.go.new.controllers (start_shows g.C.ControlLoop.reconciler g.C.ControlLoop.phase g.C.ControlLoop.is_waiting z reconcilers (record { replay = c.in_ok-replay.replay; callers = c.in_ok-callers.callers; events = c.new-2.result }) c.args.controllers.now c.requires made c.in_ok-replay.ensures.opened c.new-2.ensures.items c.in_ok-callers.ensures.callers) c.in_err-ends.field-0.0 c.in_err-ends.ensures.goes_along.halts).0)
+    (goes_stops g.C.ControlLoop.reconciler g.C.ControlLoop.phase g.C.ControlLoop.is_waiting z reconcilers c.args.namespaces.now c.args.turns.now (record { replay = c.in_ok-replay.replay; callers = c.in_ok-callers.callers; events = c.new-2.result }) c.args.controllers.now c.apply_turns.new.controllers (start_shows g.C.ControlLoop.reconciler g.C.ControlLoop.phase g.C.ControlLoop.is_waiting z reconcilers (record { replay = c.in_ok-replay.replay; callers = c.in_ok-callers.callers; events = c.new-2.result }) c.args.controllers.now c.requires made c.in_ok-replay.ensures.opened c.new-2.ensures.items c.in_ok-callers.ensures.callers) c.in_err-ends.field-0.0 c.in_err-ends.ensures.goes_along.halts).0)
 
 pub returns-in_err-ends-clause-filled : goal.returns-in_err-ends-clause-filled
 returns-in_err-ends-clause-filled g c = λ failed few reconcilers made.
     let z : Size = record { capacity = c.args.capacity; shards = c.args.shards } in
-    (goes_stops g.C.ControlLoop.reconciler g.C.ControlLoop.phase g.C.ControlLoop.is_waiting z reconcilers c.args.namespaces.now c.args.turns.now (record { replay = c.in_ok-replay.replay; callers = c.in_ok-callers.callers; events = c.new-2.result }) c.args.controllers.now c.go.new.controllers (start_shows g.C.ControlLoop.reconciler g.C.ControlLoop.phase g.C.ControlLoop.is_waiting z reconcilers (record { replay = c.in_ok-replay.replay; callers = c.in_ok-callers.callers; events = c.new-2.result }) c.args.controllers.now c.requires made c.in_ok-replay.ensures.opened c.new-2.ensures.items c.in_ok-callers.ensures.callers) c.in_err-ends.field-0.0 c.in_err-ends.ensures.goes_along.halts).1 (search (rules, failed))
+    (goes_stops g.C.ControlLoop.reconciler g.C.ControlLoop.phase g.C.ControlLoop.is_waiting z reconcilers c.args.namespaces.now c.args.turns.now (record { replay = c.in_ok-replay.replay; callers = c.in_ok-callers.callers; events = c.new-2.result }) c.args.controllers.now c.apply_turns.new.controllers (start_shows g.C.ControlLoop.reconciler g.C.ControlLoop.phase g.C.ControlLoop.is_waiting z reconcilers (record { replay = c.in_ok-replay.replay; callers = c.in_ok-callers.callers; events = c.new-2.result }) c.args.controllers.now c.requires made c.in_ok-replay.ensures.opened c.new-2.ensures.items c.in_ok-callers.ensures.callers) c.in_err-ends.field-0.0 c.in_err-ends.ensures.goes_along.halts).1 (search (rules, failed))
 
 pub returns-in_err-ends-clause-too_many : goal.returns-in_err-ends-clause-too_many
 returns-in_err-ends-clause-too_many g c = λ failed reconcilers made.
     let z : Size = record { capacity = c.args.capacity; shards = c.args.shards } in
     let count = length c.args.controllers.now in
-    let full = (goes_stops g.C.ControlLoop.reconciler g.C.ControlLoop.phase g.C.ControlLoop.is_waiting z reconcilers c.args.namespaces.now c.args.turns.now (record { replay = c.in_ok-replay.replay; callers = c.in_ok-callers.callers; events = c.new-2.result }) c.args.controllers.now c.go.new.controllers (start_shows g.C.ControlLoop.reconciler g.C.ControlLoop.phase g.C.ControlLoop.is_waiting z reconcilers (record { replay = c.in_ok-replay.replay; callers = c.in_ok-callers.callers; events = c.new-2.result }) c.args.controllers.now c.requires made c.in_ok-replay.ensures.opened c.new-2.ensures.items c.in_ok-callers.ensures.callers) c.in_err-ends.field-0.0 c.in_err-ends.ensures.goes_along.halts).1 (search (rules, failed)) in
+    let full = (goes_stops g.C.ControlLoop.reconciler g.C.ControlLoop.phase g.C.ControlLoop.is_waiting z reconcilers c.args.namespaces.now c.args.turns.now (record { replay = c.in_ok-replay.replay; callers = c.in_ok-callers.callers; events = c.new-2.result }) c.args.controllers.now c.apply_turns.new.controllers (start_shows g.C.ControlLoop.reconciler g.C.ControlLoop.phase g.C.ControlLoop.is_waiting z reconcilers (record { replay = c.in_ok-replay.replay; callers = c.in_ok-callers.callers; events = c.new-2.result }) c.args.controllers.now c.requires made c.in_ok-replay.ensures.opened c.new-2.ensures.items c.in_ok-callers.ensures.callers) c.in_err-ends.field-0.0 c.in_err-ends.ensures.goes_along.halts).1 (search (rules, failed)) in
     let many = full.2.many in
     let less = used_grow z count reconcilers (start count) (events_of_turns z count reconcilers c.args.namespaces.now c.args.turns.now) (full.0 + 1) in
     omega (arith, many, less)
@@ -77,11 +77,11 @@ pub returns-clause-run : goal.returns-clause-run
 returns-clause-run g c = λ reconcilers made.
     let z : Size = record { capacity = c.args.capacity; shards = c.args.shards } in
     let count = length c.args.controllers.now in
-    let shows = goes_all g.C.ControlLoop.reconciler g.C.ControlLoop.phase g.C.ControlLoop.is_waiting z reconcilers c.args.namespaces.now c.args.turns.now (record { replay = c.in_ok-replay.replay; callers = c.in_ok-callers.callers; events = c.new-2.result }) c.args.controllers.now c.go.new.controllers (start_shows g.C.ControlLoop.reconciler g.C.ControlLoop.phase g.C.ControlLoop.is_waiting z reconcilers (record { replay = c.in_ok-replay.replay; callers = c.in_ok-callers.callers; events = c.new-2.result }) c.args.controllers.now c.requires made c.in_ok-replay.ensures.opened c.new-2.ensures.items c.in_ok-callers.ensures.callers) c.go.new.self c.in_ok-ends.ensures.goes_along.leads in
+    let shows = goes_all g.C.ControlLoop.reconciler g.C.ControlLoop.phase g.C.ControlLoop.is_waiting z reconcilers c.args.namespaces.now c.args.turns.now (record { replay = c.in_ok-replay.replay; callers = c.in_ok-callers.callers; events = c.new-2.result }) c.args.controllers.now c.apply_turns.new.controllers (start_shows g.C.ControlLoop.reconciler g.C.ControlLoop.phase g.C.ControlLoop.is_waiting z reconcilers (record { replay = c.in_ok-replay.replay; callers = c.in_ok-callers.callers; events = c.new-2.result }) c.args.controllers.now c.requires made c.in_ok-replay.ensures.opened c.new-2.ensures.items c.in_ok-callers.ensures.callers) c.apply_turns.new.self c.in_ok-ends.ensures.goes_along.leads in
     record {
       handed = shows.0.0.events_are;
       run_is = c.finish.ensures z _ shows.0.0.taken;
-      owned = owned_by (length c.go.new.controllers) (cluster_after z count reconcilers (events_of_turns z count reconcilers c.args.namespaces.now c.args.turns.now)) c.go.new.self.callers shows.0.1;
+      owned = owned_by (length c.apply_turns.new.controllers) (cluster_after z count reconcilers (events_of_turns z count reconcilers c.args.namespaces.now c.args.turns.now)) c.apply_turns.new.self.callers shows.0.1;
       few = shows.0.1.few;
     }
 
@@ -89,8 +89,8 @@ pub returns-clause-stand : goal.returns-clause-stand
 returns-clause-stand g c = λ reconcilers made.
     let z : Size = record { capacity = c.args.capacity; shards = c.args.shards } in
     let count = length c.args.controllers.now in
-    shown_stand g.C.ControlLoop.reconciler g.C.ControlLoop.phase g.C.ControlLoop.is_waiting z reconcilers (cluster_after z count reconcilers (events_of_turns z count reconcilers c.args.namespaces.now c.args.turns.now)) c.go.new.self c.go.new.controllers
-    (goes_all g.C.ControlLoop.reconciler g.C.ControlLoop.phase g.C.ControlLoop.is_waiting z reconcilers c.args.namespaces.now c.args.turns.now (record { replay = c.in_ok-replay.replay; callers = c.in_ok-callers.callers; events = c.new-2.result }) c.args.controllers.now c.go.new.controllers (start_shows g.C.ControlLoop.reconciler g.C.ControlLoop.phase g.C.ControlLoop.is_waiting z reconcilers (record { replay = c.in_ok-replay.replay; callers = c.in_ok-callers.callers; events = c.new-2.result }) c.args.controllers.now c.requires made c.in_ok-replay.ensures.opened c.new-2.ensures.items c.in_ok-callers.ensures.callers) c.go.new.self c.in_ok-ends.ensures.goes_along.leads)
+    shown_stand g.C.ControlLoop.reconciler g.C.ControlLoop.phase g.C.ControlLoop.is_waiting z reconcilers (cluster_after z count reconcilers (events_of_turns z count reconcilers c.args.namespaces.now c.args.turns.now)) c.apply_turns.new.self c.apply_turns.new.controllers
+    (goes_all g.C.ControlLoop.reconciler g.C.ControlLoop.phase g.C.ControlLoop.is_waiting z reconcilers c.args.namespaces.now c.args.turns.now (record { replay = c.in_ok-replay.replay; callers = c.in_ok-callers.callers; events = c.new-2.result }) c.args.controllers.now c.apply_turns.new.controllers (start_shows g.C.ControlLoop.reconciler g.C.ControlLoop.phase g.C.ControlLoop.is_waiting z reconcilers (record { replay = c.in_ok-replay.replay; callers = c.in_ok-callers.callers; events = c.new-2.result }) c.args.controllers.now c.requires made c.in_ok-replay.ensures.opened c.new-2.ensures.items c.in_ok-callers.ensures.callers) c.apply_turns.new.self c.in_ok-ends.ensures.goes_along.leads)
 
 not_err : {T E : Type 0} (x : T) (e : E) → IsErrOf (Ok x) e → ⊥
 not_err x e is = cc
@@ -99,7 +99,7 @@ pub returns-clause-promises : goal.returns-clause-promises
 returns-clause-promises g c = λ reconcilers made sound.
     let z : Size = record { capacity = c.args.capacity; shards = c.args.shards } in
     let count = length c.args.controllers.now in
-    let shows = goes_all g.C.ControlLoop.reconciler g.C.ControlLoop.phase g.C.ControlLoop.is_waiting z reconcilers c.args.namespaces.now c.args.turns.now (record { replay = c.in_ok-replay.replay; callers = c.in_ok-callers.callers; events = c.new-2.result }) c.args.controllers.now c.go.new.controllers (start_shows g.C.ControlLoop.reconciler g.C.ControlLoop.phase g.C.ControlLoop.is_waiting z reconcilers (record { replay = c.in_ok-replay.replay; callers = c.in_ok-callers.callers; events = c.new-2.result }) c.args.controllers.now c.requires made c.in_ok-replay.ensures.opened c.new-2.ensures.items c.in_ok-callers.ensures.callers) c.go.new.self c.in_ok-ends.ensures.goes_along.leads in
+    let shows = goes_all g.C.ControlLoop.reconciler g.C.ControlLoop.phase g.C.ControlLoop.is_waiting z reconcilers c.args.namespaces.now c.args.turns.now (record { replay = c.in_ok-replay.replay; callers = c.in_ok-callers.callers; events = c.new-2.result }) c.args.controllers.now c.apply_turns.new.controllers (start_shows g.C.ControlLoop.reconciler g.C.ControlLoop.phase g.C.ControlLoop.is_waiting z reconcilers (record { replay = c.in_ok-replay.replay; callers = c.in_ok-callers.callers; events = c.new-2.result }) c.args.controllers.now c.requires made c.in_ok-replay.ensures.opened c.new-2.ensures.items c.in_ok-callers.ensures.callers) c.apply_turns.new.self c.in_ok-ends.ensures.goes_along.leads in
     let run_is = c.finish.ensures z _ shows.0.0.taken in
     let some = within z.shards 64 (λ bad. not_err c.in_ok-replay.replay BadShards (c.in_ok-replay.ensures.bad_shards.1 bad)) in
     let room = within z.capacity most_revisions (λ bad. not_err c.in_ok-replay.replay BadCapacity (c.in_ok-replay.ensures.bad_capacity.1 (some.0, some.1, bad))) in
@@ -109,4 +109,4 @@ returns-clause-promises g c = λ reconcilers made sound.
 pub returns-clause-ends : goal.returns-clause-ends
 returns-clause-ends g c = λ reconcilers made.
     let z : Size = record { capacity = c.args.capacity; shards = c.args.shards } in
-    goes_ends g.C.ControlLoop.reconciler g.C.ControlLoop.phase g.C.ControlLoop.is_waiting z reconcilers c.args.namespaces.now c.args.turns.now (record { replay = c.in_ok-replay.replay; callers = c.in_ok-callers.callers; events = c.new-2.result }) c.args.controllers.now c.go.new.controllers (start_shows g.C.ControlLoop.reconciler g.C.ControlLoop.phase g.C.ControlLoop.is_waiting z reconcilers (record { replay = c.in_ok-replay.replay; callers = c.in_ok-callers.callers; events = c.new-2.result }) c.args.controllers.now c.requires made c.in_ok-replay.ensures.opened c.new-2.ensures.items c.in_ok-callers.ensures.callers) c.in_ok-ends.ends.items c.in_ok-ends.ensures.ends
+    goes_ends g.C.ControlLoop.reconciler g.C.ControlLoop.phase g.C.ControlLoop.is_waiting z reconcilers c.args.namespaces.now c.args.turns.now (record { replay = c.in_ok-replay.replay; callers = c.in_ok-callers.callers; events = c.new-2.result }) c.args.controllers.now c.apply_turns.new.controllers (start_shows g.C.ControlLoop.reconciler g.C.ControlLoop.phase g.C.ControlLoop.is_waiting z reconcilers (record { replay = c.in_ok-replay.replay; callers = c.in_ok-callers.callers; events = c.new-2.result }) c.args.controllers.now c.requires made c.in_ok-replay.ensures.opened c.new-2.ensures.items c.in_ok-callers.ensures.callers) c.in_ok-ends.ends.items c.in_ok-ends.ensures.ends

@@ -1,6 +1,6 @@
 use Rattle.std.proofs.Common.{codes, refl, subst, sym}
 use Rattle.clap.specs.Words.{found_of, one_of, rows_of}
-use Rattle.commands.specs.Asked.{IsRaceBy}
+use Rattle.commands.specs.CommandLine.{IsRaceBy}
 use Rattle.commands.proofs.Serving.{false-true, rows-met, under-met, under-unmet, scripted_other}
 use Rattle.commands.proofs.args.other_in.Goals as goal
 

@@ -15,5 +15,5 @@ returns c =
     let one_is = c.in_ok-arg.ensures.shape script.own ∙ ap₂ with_rule top_is script_is in
     let brief = c.flag_arg.ensures in
     let two_is = c.in_ok-arg-2.ensures.shape brief.own ∙ ap₂ with_rule one_is brief.rule in
-    let finals = c.flag_arg-2.ensures in
-    IfOk-weaker c.arg-3.result _ _ (λ r h. h.shape finals.own ∙ ap₂ with_rule two_is finals.rule) c.arg-3.ensures
+    let final_stores = c.flag_arg-2.ensures in
+    IfOk-weaker c.arg-3.result _ _ (λ r h. h.shape final_stores.own ∙ ap₂ with_rule two_is final_stores.rule) c.arg-3.ensures

@@ -2,12 +2,12 @@ use Rattle.std.proofs.Common.{◌≡◌, rules, map, Some, codes, [], refl, sym,
 use Rattle.std.specs.Prelude.{unwrap_or}
 use Rattle.clap.specs.Kinds.{HasKind}
 use Rattle.clap.specs.Words.{app_of, found_of, rows_of, subcommand_name_of, subcommand_of, subcommand_rows_of}
-use Rattle.commands.specs.declared.args.Asked.{Asked}
-use Rattle.commands.specs.declared.args.Asked.TheVariants.{Plan}
-use Rattle.commands.specs.Asked.{IsAsked}
+use Rattle.commands.specs.declared.args.CommandLine.{CommandLine}
+use Rattle.commands.specs.declared.args.CommandLine.TheVariants.{Plan}
+use Rattle.commands.specs.CommandLine.{IsCommandLine}
 use Rattle.commands.specs.Forms.{IsFlagBy}
 use Rattle.commands.specs.Grammar.{IsDigitsBy, faults_of, rows_under, stsctl_app}
-use Rattle.commands.proofs.Asked.{failed, parsed}
+use Rattle.commands.proofs.CommandLine.{failed, parsed}
 use Rattle.commands.proofs.Serving.{asked-plan, digits-is, false-true, met, other_asked, plan-is, plan_flag-is, rows-met, under-met, under-unmet}
 use Rattle.commands.proofs.args.read_words.Goals.{in-Some, in-None}
 use Rattle.commands.proofs.args.read_words.Goals as goal
@@ -36,7 +36,7 @@ returns-clause-asked g c =
           let rows : rows_under (codes "plan") (subcommand_rows_of m) ≡ rows_of (found_of plan) =
           rows-met (codes "plan") m (rows_of (found_of plan)) (said.found.0 refl) said.rows in
           let says = w.plan_words.ensures in
-          let asked : IsAsked words (Plan w.plan_words.result) = (
+          let asked : IsCommandLine words (Plan w.plan_words.result) = (
             asked-plan words m none same (under-met (codes "plan") m (said.found.0 refl)),
             (
               says.namespace ∙ ap (λ o. unwrap_or o (codes "default")) (plan-is words m (codes "namespace") (rows_of (found_of plan)) same rows),
@@ -45,13 +45,13 @@ returns-clause-asked g c =
               says.some,
               says.most,
               subst (λ t. IsFlagBy t w.plan_words.result.brief) (plan_flag-is words m (codes "brief") (rows_of (found_of plan)) same rows) says.brief,
-              subst (λ t. IsFlagBy t w.plan_words.result.place) (plan_flag-is words m (codes "where") (rows_of (found_of plan)) same rows) says.place,
+              subst (λ t. IsFlagBy t w.plan_words.result.shows_line) (plan_flag-is words m (codes "where") (rows_of (found_of plan)) same rows) says.shows_line,
             ),
           ) in
-          subst (λ (a : Asked). IsAsked words a) (sym w.result-is) asked
+          subst (λ (a : CommandLine). IsCommandLine words a) (sym w.result-is) asked
       | in-None w ↦
           let other : subcommand_name_of m ≡ Some (codes "plan") → ⊥ = λ is. false-true (w.in-None.ensures.found.1 is) in
-          let asked : IsAsked words w.other_in.result =
+          let asked : IsCommandLine words w.other_in.result =
           other_asked words m w.other_in.result none same (under-unmet (codes "plan") m other) w.other_in.ensures in
-          subst (λ (a : Asked). IsAsked words a) (sym w.result-is) asked
+          subst (λ (a : CommandLine). IsCommandLine words a) (sym w.result-is) asked
     ]

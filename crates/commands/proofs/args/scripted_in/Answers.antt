@@ -1,6 +1,6 @@
 use Rattle.std.proofs.Common.{codes, refl, subst, sym}
 use Rattle.clap.specs.Words.{found_of, one_of, rows_of}
-use Rattle.commands.specs.Asked.{IsScriptBy}
+use Rattle.commands.specs.CommandLine.{IsScriptBy}
 use Rattle.commands.proofs.Serving.{false-true, rows-met, served_scripted, under-met, under-unmet}
 use Rattle.commands.proofs.args.scripted_in.Goals as goal
 

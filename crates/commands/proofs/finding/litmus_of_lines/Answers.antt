@@ -7,7 +7,7 @@ use Rattle.commands.proofs.finding.litmus_of_lines.Goals as goal
 pub returns-in_err-litmus-clause-refused : goal.returns-in_err-litmus-clause-refused
 returns-in_err-litmus-clause-refused c =
     error_has c.from_residual.result _ _ c.from_residual.ensures.1
-    (λ halt is. refused_litmus c.in_err-litmus.field-0.0 c.args.sought.choice (name_of halt) c.args.input.now is.1 c.in_err-litmus.ensures.read)
+    (λ halt is. refused_litmus c.in_err-litmus.field-0.0 c.args.options.choice (name_of halt) c.args.input.now is.1 c.in_err-litmus.ensures.read)
 
 pub returns-clause-found : goal.returns-clause-found
 returns-clause-found c =
@@ -16,4 +16,4 @@ returns-clause-found c =
 pub returns-clause-refused : goal.returns-clause-refused
 returns-clause-refused c =
     IfErr-weaker c.outcomes_of_litmus.result _ _
-    (λ halt made. refused_finding (name_of halt) c.args.sought.choice c.args.input.now c.in_ok-litmus.litmus c.in_ok-litmus.ensures.read made) c.outcomes_of_litmus.ensures.refused
+    (λ halt made. refused_finding (name_of halt) c.args.options.choice c.args.input.now c.in_ok-litmus.litmus c.in_ok-litmus.ensures.read made) c.outcomes_of_litmus.ensures.refused

@@ -1,15 +1,15 @@
 use Rattle.std.proofs.Common.{rules, map, inl, inr, refl, ap, subst}
-use Rattle.commands.specs.declared.args.Asked.{Asked}
-use Rattle.commands.specs.Asked.{IsAsked}
+use Rattle.commands.specs.declared.args.CommandLine.{CommandLine}
+use Rattle.commands.specs.CommandLine.{IsCommandLine}
 use Rattle.commands.specs.Grammar.{Cluster, Outcomes, Plan, Race, Replay, Serve, faults_of, is_mistake, is_request}
-use Rattle.commands.proofs.Asked.{list_any-kind, no_kind, no_mistake, no_request, only_memory}
+use Rattle.commands.proofs.CommandLine.{list_any-kind, no_kind, no_mistake, no_request, only_memory}
 use Rattle.commands.proofs.Serving.{serves_nothing}
 use Rattle.commands.proofs.program.command.Goals as goal
 
 pub returns-in-Ok-Serve-clause-cause : goal.returns-in-Ok-Serve-clause-cause
 returns-in-Ok-Serve-clause-cause g c = λ is.
     let words = map g.S.AsStr.text c.args.words.now in
-    let asked = subst (λ (a : Asked). IsAsked words a) c.in-Ok-Serve.field-0-is c.in-Ok-Serve.ensures.asked in
+    let asked = subst (λ (a : CommandLine). IsCommandLine words a) c.in-Ok-Serve.field-0-is c.in-Ok-Serve.ensures.asked in
     elim (c.run_serve.ensures.cause (search (rules, is))) [
       | inl read ↦ inl read
       | inr (inl wrote) ↦ inr (inl wrote)
@@ -27,7 +27,7 @@ returns-in-Ok-Serve-clause-spared g c = λ failed.
 pub returns-in-Ok-Plan-clause-planned_part : goal.returns-in-Ok-Plan-clause-planned_part
 returns-in-Ok-Plan-clause-planned_part g c = λ is plans.
     let words = map g.S.AsStr.text c.args.words.now in
-    let asked = subst (λ (a : Asked). IsAsked words a) c.in-Ok-Plan.field-0-is c.in-Ok-Plan.ensures.asked in
+    let asked = subst (λ (a : CommandLine). IsCommandLine words a) c.in-Ok-Plan.field-0-is c.in-Ok-Plan.ensures.asked in
     elim (c.run_plan.ensures.part is) [
       | inl same ↦ inl same
       | inr part ↦ inr (c.in-Ok-Plan.plan, asked.1, part)
@@ -93,17 +93,17 @@ returns-in-Err-clause-silent g c = λ some none.
 
 pub returns-in-Ok-Replay-clause-replayed : goal.returns-in-Ok-Replay-clause-replayed
 returns-in-Ok-Replay-clause-replayed g c = λ is asks.
-    let asked = subst (λ (a : Asked). IsAsked (map g.S.AsStr.text c.args.words.now) a) c.in-Ok-Replay.field-0-is c.in-Ok-Replay.ensures.asked in
+    let asked = subst (λ (a : CommandLine). IsCommandLine (map g.S.AsStr.text c.args.words.now) a) c.in-Ok-Replay.field-0-is c.in-Ok-Replay.ensures.asked in
     (c.in-Ok-Replay.asked.form, asked.1.0, c.run_word.ensures.answered is)
 
 pub returns-in-Ok-Cluster-clause-clustered : goal.returns-in-Ok-Cluster-clause-clustered
 returns-in-Ok-Cluster-clause-clustered g c = λ is asks.
-    let asked = subst (λ (a : Asked). IsAsked (map g.S.AsStr.text c.args.words.now) a) c.in-Ok-Cluster.field-0-is c.in-Ok-Cluster.ensures.asked in
+    let asked = subst (λ (a : CommandLine). IsCommandLine (map g.S.AsStr.text c.args.words.now) a) c.in-Ok-Cluster.field-0-is c.in-Ok-Cluster.ensures.asked in
     (c.in-Ok-Cluster.asked.form, asked.1.0, c.run_word-in-Ok-Cluster.ensures.answered is)
 
 pub returns-in-Ok-Replay-clause-replayed_part : goal.returns-in-Ok-Replay-clause-replayed_part
 returns-in-Ok-Replay-clause-replayed_part g c = λ is asks.
-    let asked = subst (λ (a : Asked). IsAsked (map g.S.AsStr.text c.args.words.now) a) c.in-Ok-Replay.field-0-is c.in-Ok-Replay.ensures.asked in
+    let asked = subst (λ (a : CommandLine). IsCommandLine (map g.S.AsStr.text c.args.words.now) a) c.in-Ok-Replay.field-0-is c.in-Ok-Replay.ensures.asked in
     elim (c.run_word.ensures.part is) [
       | inl same ↦ inl same
       | inr part ↦ inr (c.in-Ok-Replay.asked.form, asked.1.0, part)
@@ -116,7 +116,7 @@ returns-in-Err-clause-replayed_part g c = λ is asks.
 
 pub returns-in-Ok-Cluster-clause-clustered_part : goal.returns-in-Ok-Cluster-clause-clustered_part
 returns-in-Ok-Cluster-clause-clustered_part g c = λ is asks.
-    let asked = subst (λ (a : Asked). IsAsked (map g.S.AsStr.text c.args.words.now) a) c.in-Ok-Cluster.field-0-is c.in-Ok-Cluster.ensures.asked in
+    let asked = subst (λ (a : CommandLine). IsCommandLine (map g.S.AsStr.text c.args.words.now) a) c.in-Ok-Cluster.field-0-is c.in-Ok-Cluster.ensures.asked in
     elim (c.run_word-in-Ok-Cluster.ensures.part is) [
       | inl same ↦ inl same
       | inr part ↦ inr (c.in-Ok-Cluster.asked.form, asked.1.0, part)
@@ -129,8 +129,8 @@ returns-in-Err-clause-clustered_part g c = λ is asks.
 
 pub returns-in-Ok-Outcomes-clause-found : goal.returns-in-Ok-Outcomes-clause-found
 returns-in-Ok-Outcomes-clause-found g c = λ is asks.
-    let asked = subst (λ (a : Asked). IsAsked (map g.S.AsStr.text c.args.words.now) a) c.in-Ok-Outcomes.field-0-is c.in-Ok-Outcomes.ensures.asked in
-    (c.in-Ok-Outcomes.sought, asked.1, c.run_word-in-Ok-Outcomes.ensures.answered is)
+    let asked = subst (λ (a : CommandLine). IsCommandLine (map g.S.AsStr.text c.args.words.now) a) c.in-Ok-Outcomes.field-0-is c.in-Ok-Outcomes.ensures.asked in
+    (c.in-Ok-Outcomes.options, asked.1, c.run_word-in-Ok-Outcomes.ensures.answered is)
 
 pub returns-in-Err-clause-found : goal.returns-in-Err-clause-found
 returns-in-Err-clause-found g c = λ is asks.
@@ -138,10 +138,10 @@ returns-in-Err-clause-found g c = λ is asks.
 
 pub returns-in-Ok-Outcomes-clause-found_part : goal.returns-in-Ok-Outcomes-clause-found_part
 returns-in-Ok-Outcomes-clause-found_part g c = λ is asks.
-    let asked = subst (λ (a : Asked). IsAsked (map g.S.AsStr.text c.args.words.now) a) c.in-Ok-Outcomes.field-0-is c.in-Ok-Outcomes.ensures.asked in
+    let asked = subst (λ (a : CommandLine). IsCommandLine (map g.S.AsStr.text c.args.words.now) a) c.in-Ok-Outcomes.field-0-is c.in-Ok-Outcomes.ensures.asked in
     elim (c.run_word-in-Ok-Outcomes.ensures.part is) [
       | inl same ↦ inl same
-      | inr part ↦ inr (c.in-Ok-Outcomes.sought, asked.1, part)
+      | inr part ↦ inr (c.in-Ok-Outcomes.options, asked.1, part)
     ]
 
 pub returns-in-Err-clause-found_part : goal.returns-in-Err-clause-found_part
@@ -151,7 +151,7 @@ returns-in-Err-clause-found_part g c = λ is asks.
 
 pub returns-in-Ok-Race-clause-raced_part : goal.returns-in-Ok-Race-clause-raced_part
 returns-in-Ok-Race-clause-raced_part g c = λ is asks.
-    let asked = subst (λ (a : Asked). IsAsked (map g.S.AsStr.text c.args.words.now) a) c.in-Ok-Race.field-0-is c.in-Ok-Race.ensures.asked in
+    let asked = subst (λ (a : CommandLine). IsCommandLine (map g.S.AsStr.text c.args.words.now) a) c.in-Ok-Race.field-0-is c.in-Ok-Race.ensures.asked in
     elim (c.run_race.ensures.part is) [
       | inl same ↦ inl same
       | inr part ↦ inr (c.in-Ok-Race.race, asked.1, part)

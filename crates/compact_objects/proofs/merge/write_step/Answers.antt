@@ -1,6 +1,6 @@
 use Rattle.std.proofs.Common.{ap, ◌∙◌}
 use Rattle.compact_objects.specs.Merging.{is_set}
-use Rattle.compact_objects.specs.declared.merge.Part.TheVariants.{Metadata}
+use Rattle.compact_objects.specs.declared.merge.MapKind.TheVariants.{Metadata}
 use Rattle.compact_objects.proofs.Merging.{below_at, step_written}
 use Rattle.compact_objects.proofs.PlainTexts.{held_is_set}
 use Rattle.compact_objects.proofs.merge.write_step.Goals as goal

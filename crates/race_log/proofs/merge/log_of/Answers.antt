@@ -6,14 +6,14 @@ use Rattle.race_log.proofs.merge.log_of.Goals as goal
 pub loop-caller-init : goal.loop-caller-init
 loop-caller-init c = subst (λ items. Midway c.args.turns.now c.args.queues 0 items c.args.queues) (sym c.new-log.ensures.items) (midway_start c.args.turns.now c.args.queues c.requires)
 
-pub hear-requires : goal.hear-requires
-hear-requires c =
+pub note_next-requires : goal.note_next-requires
+note_next-requires c =
     has_more c.args.turns.now c.args.queues c.loop-caller.caller-index c.loop-caller.log.items.items c.loop-caller.left (0, 0) c.loop-caller-test.true c.loop-caller.invariant
 
 pub loop-caller-preserved : goal.loop-caller-preserved
 loop-caller-preserved c =
-    midway_next c.args.turns.now c.args.queues c.loop-caller.caller-index c.loop-caller.log.items.items c.hear.new.self.items.items c.loop-caller.left c.hear.new.queues (0, 0)
-    c.loop-caller-test.true c.loop-caller.invariant c.in_ok-hear.ensures
+    midway_next c.args.turns.now c.args.queues c.loop-caller.caller-index c.loop-caller.log.items.items c.note_next.new.self.items.items c.loop-caller.left c.note_next.new.queues (0, 0)
+    c.loop-caller-test.true c.loop-caller.invariant c.in_ok-note_next.ensures
 
 pub returns : goal.returns
 returns c =

@@ -13,14 +13,14 @@ loop-preserved g c =
     let next = c.in_ok-request-2.ensures in
     let step = c.in_ok-make_step-2.ensures in
     let one : reconciler_of c.next-in-loop-2.new.self ≡ racer = next.reconciler ∙ was.racer in
-    let here : IsStanding gave racer n (phase_of c.next-in-loop-2.new.self) c.loop.asked.items =
-    subst (λ p. IsStanding gave racer n p c.loop.asked.items) (sym next.phase) was.stands in
-    let more = step.stands n (subst (λ r. IsStanding gave r n (phase_of c.next-in-loop-2.new.self) c.loop.asked.items) (sym one) here) in
+    let here : IsStanding gave racer n (phase_of c.next-in-loop-2.new.self) c.loop.exchanges.items =
+    subst (λ p. IsStanding gave racer n p c.loop.exchanges.items) (sym next.phase) was.stands in
+    let more = step.stands n (subst (λ r. IsStanding gave r n (phase_of c.next-in-loop-2.new.self) c.loop.exchanges.items) (sym one) here) in
     let not : is_get c.in_ok-request-2.request ≡ false = sym c.is_get.ensures ∙ c.if-is_get.false in
     record {
       can = tt;
       finite = tt;
-      stands = subst (λ k. IsStanding gave racer k (phase_of c.make_step-in-loop.new.controller) c.make_step-in-loop.new.asked.items) (no_begin c.in_ok-request-2.request n not)
-          (subst (λ r. IsStanding gave r (n + begins c.in_ok-request-2.request) (phase_of c.make_step-in-loop.new.controller) c.make_step-in-loop.new.asked.items) one more);
+      stands = subst (λ k. IsStanding gave racer k (phase_of c.make_step-in-loop.new.controller) c.make_step-in-loop.new.exchanges.items) (no_begin c.in_ok-request-2.request n not)
+          (subst (λ r. IsStanding gave r (n + begins c.in_ok-request-2.request) (phase_of c.make_step-in-loop.new.controller) c.make_step-in-loop.new.exchanges.items) one more);
       racer = step.same ∙ one;
     }

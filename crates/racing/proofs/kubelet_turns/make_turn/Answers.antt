@@ -9,4 +9,4 @@ loop-request-preserved g c =
     let gave = g.S.SharedStore.gave in
     let turns = c.args.turns + 1 in
     let steps : into_iter_items c.loop-request.request-iterator ≡ c.in-Some.request ∷ into_iter_items c.next.new.self = search rules in
-    turning_next gave turns (into_iter_items c.next.new.self) c.in-Some.request _ _ (subst (λ l. IsTurning gave turns l c.loop-request.asked.items) steps c.loop-request.invariant) c.in_ok-ask.ensures
+    turning_next gave turns (into_iter_items c.next.new.self) c.in-Some.request _ _ (subst (λ l. IsTurning gave turns l c.loop-request.exchanges.items) steps c.loop-request.invariant) c.in_ok-ask.ensures

@@ -14,7 +14,7 @@ returns g c =
     let spec = c.args.course.now.spec in
     let racers = c.args.children.racers.items in
     let parts = c.join_all.new.parts.items in
-    let creation : Part = record { caller = spec.controllers + 1; asked = c.args.creation } in
+    let creation : Part = record { caller = spec.controllers + 1; exchanges = c.args.creation } in
     let none = c.new-parts.ensures.items in
     let items = c.in_ok-push.ensures.items in
     let callers : map caller_of parts ≡ map promised_number racers = c.in_ok-join_all.ensures.numbers ∙ ap (λ l. map caller_of l ++ map promised_number racers) none in

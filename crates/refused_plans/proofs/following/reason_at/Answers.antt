@@ -11,7 +11,7 @@ returns-clause-heard c =
     let new = c.in_ok-reason in
     let reply = c.args.reply.now in
     record {
-      now = c.hear.new.controller;
+      now = c.on_reply.new.controller;
       is_of = record {
         reconciler = new.ensures.reconciler ∙ old.ensures.is_of.reconciler;
         refusals = new.ensures.refusals ∙ old.ensures.is_of.refusals;
@@ -20,5 +20,5 @@ returns-clause-heard c =
       phase =
           new.ensures.phase ∙ ap (λ r. takes r (phase_of old.controller) reply) old.ensures.is_of.reconciler
           ∙ ap (λ p. takes (reconciler_for c.args.spec.now) p reply) old.ensures.phase;
-      entries = replaced c.args.standing.now c.taken_out.new.standing c.insert.new.self c.args.caller c.hear.new.controller old.ensures.rest c.in_ok-insert.ensures.updates;
+      entries = replaced c.args.standing.now c.taken_out.new.standing c.insert.new.self c.args.caller c.on_reply.new.controller old.ensures.rest c.in_ok-insert.ensures.updates;
     }

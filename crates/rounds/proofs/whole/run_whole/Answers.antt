@@ -16,7 +16,7 @@ returns-in-Err-clause-begun g c = λ reconcilers made.
       | inl before ↦ (i, before)
       | inr more ↦ (
         i + 1,
-        subst (Matches (g.A.Api.store c.happen.new.api) c.happen.new.taken.items)
+        subst (Matches (g.A.Api.store c.apply_event.new.api) c.apply_event.new.taken.items)
             (ap (happens (length c.loop-event.controllers) reconcilers w) c.event-item.is
             ∙ ap (λ n. happens n reconcilers w (slice_index_or c.args.events.now i c.event-item.result)) c.loop-event.invariant.0
             ∙ run_more count reconcilers (start s) c.args.events.now i c.event-item.result c.loop-event-test.true) more,
@@ -25,8 +25,8 @@ returns-in-Err-clause-begun g c = λ reconcilers made.
 
 pub returns-in-Err-clause-reached : goal.returns-in-Err-clause-reached
 returns-in-Err-clause-reached g c =
-    taken_or (still_idle (g.A.Api.store c.args.api.now) (g.A.Api.store c.loop-event.api) (g.A.Api.store c.happen.new.api) c.loop-event.taken.items c.happen.new.taken.items
-    c.loop-event.invariant.1 c.happen.ensures.reached)
+    taken_or (still_idle (g.A.Api.store c.args.api.now) (g.A.Api.store c.loop-event.api) (g.A.Api.store c.apply_event.new.api) c.loop-event.taken.items c.apply_event.new.taken.items
+    c.loop-event.invariant.1 c.apply_event.ensures.reached)
 
 pub returns-in-Err-clause-stopped : goal.returns-in-Err-clause-stopped
 returns-in-Err-clause-stopped g c = λ reconcilers made.
@@ -42,7 +42,7 @@ returns-in-Err-clause-stopped g c = λ reconcilers made.
       stand = fault.0;
       matches = elim fault.1 [
         | inl before ↦ inl before
-        | inr more ↦ inr (subst (Matches (g.A.Api.store c.happen.new.api) c.happen.new.taken.items)
+        | inr more ↦ inr (subst (Matches (g.A.Api.store c.apply_event.new.api) c.apply_event.new.taken.items)
             (ap (happens (length c.loop-event.controllers) reconcilers w) c.event-item.is
             ∙ ap (λ n. happens n reconcilers w (slice_index_or c.args.events.now i c.event-item.result)) c.loop-event.invariant.0
             ∙ run_more count reconcilers (start s) c.args.events.now i c.event-item.result c.loop-event-test.true) more)
@@ -60,14 +60,14 @@ returns-in-Err-clause-promises g c = λ reconcilers made sound reached.
 
 pub loop-event-preserved : goal.loop-event-preserved
 loop-event-preserved g c = (
-  c.happen.ensures.many ∙ c.loop-event.invariant.0,
-  still_idle (g.A.Api.store c.args.api.now) (g.A.Api.store c.loop-event.api) (g.A.Api.store c.happen.new.api) c.loop-event.taken.items c.happen.new.taken.items
-      c.loop-event.invariant.1 c.happen.ensures.reached,
+  c.apply_event.ensures.many ∙ c.loop-event.invariant.0,
+  still_idle (g.A.Api.store c.args.api.now) (g.A.Api.store c.loop-event.api) (g.A.Api.store c.apply_event.new.api) c.loop-event.taken.items c.apply_event.new.taken.items
+      c.loop-event.invariant.1 c.apply_event.ensures.reached,
   λ reconcilers w shows.
       let count = length c.args.controllers.now in
       let i = c.loop-event.event-index in
       let now = run count reconcilers w (take i c.args.events.now) in
-      subst (Shows g.C.ControlLoop.reconciler g.C.ControlLoop.phase reconcilers (g.A.Api.store c.happen.new.api) c.happen.new.controllers c.happen.new.taken.items)
+      subst (Shows g.C.ControlLoop.reconciler g.C.ControlLoop.phase reconcilers (g.A.Api.store c.apply_event.new.api) c.apply_event.new.controllers c.apply_event.new.taken.items)
       (ap (happens (length c.loop-event.controllers) reconcilers now) c.event-item.is
       ∙ ap (λ n. happens n reconcilers now (slice_index_or c.args.events.now i c.event-item.result)) c.loop-event.invariant.0
       ∙ run_more count reconcilers w c.args.events.now i c.event-item.result c.loop-event-test.true)

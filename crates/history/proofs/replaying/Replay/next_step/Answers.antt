@@ -8,9 +8,9 @@ use Rattle.history.proofs.Reached.{run_stands}
 use Rattle.history.proofs.Standings.{next_is}
 use Rattle.history.proofs.replaying.Replay.next_step.Goals as goal
 
-pub standing-requires : goal.standing-requires
+pub caller_phase-requires : goal.caller_phase-requires
 unfolding IsAfter
-standing-requires c = let r = c.self.invariant in run_stands r.size r.events c.self.inside.machine r.after.0
+caller_phase-requires c = let r = c.self.invariant in run_stands r.size r.events c.self.inside.machine r.after.0
 
 pub returns : goal.returns
 unfolding IsAfter
@@ -18,5 +18,5 @@ returns c = λ size events after.
     let m = c.self.inside.machine in
     let run = (subst (IsAfter size events) (sym c.self.view_is) after).0 in
     c.goes_on.ensures
-    ∙ ap (goes_on (λ s. is_some (get_or m.holders.items s None)) m.frontier (is_some (get_or m.places.items m.frontier None)) c.args.caller) c.standing.ensures
+    ∙ ap (goes_on (λ s. is_some (get_or m.holders.items s None)) m.frontier (is_some (get_or m.places.items m.frontier None)) c.args.caller) c.caller_phase.ensures
     ∙ next_is size (world_after size opening events) (arrangement size opening beginning events) m c.args.caller run.some run.shows

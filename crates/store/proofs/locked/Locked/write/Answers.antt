@@ -16,8 +16,8 @@ use Rattle.store.proofs.Visits.{left_caller, left_view, looked_past, looked_ther
 use Rattle.store.proofs.Writes.{handed_back, handed_begins, handed_once, handed_own}
 use Rattle.store.proofs.locked.Locked.write.Goals as goal
 
-pub hand_in-handed-requires : goal.hand_in-handed-requires
-hand_in-handed-requires g c =
+pub write_locked-handed-requires : goal.write_locked-handed-requires
+write_locked-handed-requires g c =
     let S = g.H.Sharding.shards in
     let C = g.N.Naming.capacity in
     let own = subst (IsCaller g.N.Naming.line S) (sym c.take.ensures.value ∙ c.in-Some.is) c.caller.invariant in
@@ -57,11 +57,11 @@ pub invariant_of-self : goal.invariant_of-self
 invariant_of-self g c =
     let both = c.enter.ensures.both in
     let looked = c.look-loaded.ensures.looked in
-    let holds = c.hand_in-handed.ensures.holds in
+    let holds = c.write_locked-handed.ensures.holds in
     let stays = c.leave.ensures.stayed in
     let low = holds.agrees.floor in
     let same = ap (λ (n : NotedView Writing). length n.seen) stays in (
-      c.leave.ensures.line.0 ∙ c.hand_in-handed.ensures.line ∙ c.look-loaded.ensures.line ∙ c.enter.ensures.line ∙ c.self.invariant.0,
+      c.leave.ensures.line.0 ∙ c.write_locked-handed.ensures.line ∙ c.look-loaded.ensures.line ∙ c.enter.ensures.line ∙ c.self.invariant.0,
       ap (λ (n : NotedView Writing). n.shard) stays ∙ holds.shard ∙ ap (λ (n : NotedView Writing). n.shard) looked ∙ ap (λ (n : NotedView Writing). n.shard) both ∙ c.self.invariant.1,
       ap (λ (n : NotedView Writing). n.caller) stays,
       ap (λ (n : NotedView Writing). n.plain.pending) stays ∙ holds.pending,
@@ -70,8 +70,8 @@ invariant_of-self g c =
 
 pub invariant_of-caller : goal.invariant_of-caller
 invariant_of-caller g c = (
-  c.leave.ensures.line.1 ∙ c.hand_in-handed.ensures.line ∙ c.look-loaded.ensures.line ∙ c.enter.ensures.line ∙ c.self.invariant.0,
-  left_view g.H.Sharding.shards 0 c.hand_in-handed.new.seat.view c.leave.result.view c.leave.ensures.left c.hand_in-handed.ensures.holds.caller,
+  c.leave.ensures.line.1 ∙ c.write_locked-handed.ensures.line ∙ c.look-loaded.ensures.line ∙ c.enter.ensures.line ∙ c.self.invariant.0,
+  left_view g.H.Sharding.shards 0 c.write_locked-handed.new.seat.view c.leave.result.view c.leave.ensures.left c.write_locked-handed.ensures.holds.caller,
 )
 
 pub returns-clause-begins : goal.returns-clause-begins
@@ -79,58 +79,58 @@ returns-clause-begins g c =
     let own = subst (IsCaller g.N.Naming.line g.H.Sharding.shards) (sym c.take.ensures.value ∙ c.in-Some.is) c.caller.invariant in
     let within = c.look-loaded.ensures.risen.1 in
     let size = c.requires.line.1 in
-    handed_begins g.H.Sharding.shards g.N.Naming.capacity c.args.caller.now c.self.inside.seat.view c.in-Some.seat.view c.enter.new.seat.view c.look-loaded.new.seat.view c.hand_in-handed.new.seat.view c.leave.result.view c.hand_in-handed.new.shard c.look-loaded.result
-    (ap (λ o. caller_by (view_or o)) (sym c.in-Some.is ∙ c.take.ensures.value) ∙ c.caller.view_is) c.enter.ensures.both c.look-loaded.ensures.looked c.look-loaded.ensures.sees own.1 (omega arith) c.hand_in-handed.ensures.holds c.leave.ensures.left
+    handed_begins g.H.Sharding.shards g.N.Naming.capacity c.args.caller.now c.self.inside.seat.view c.in-Some.seat.view c.enter.new.seat.view c.look-loaded.new.seat.view c.write_locked-handed.new.seat.view c.leave.result.view c.write_locked-handed.new.shard c.look-loaded.result
+    (ap (λ o. caller_by (view_or o)) (sym c.in-Some.is ∙ c.take.ensures.value) ∙ c.caller.view_is) c.enter.ensures.both c.look-loaded.ensures.looked c.look-loaded.ensures.sees own.1 (omega arith) c.write_locked-handed.ensures.holds c.leave.ensures.left
 
 pub returns-clause-loaded : goal.returns-clause-loaded
 returns-clause-loaded g c =
     let own = subst (IsCaller g.N.Naming.line g.H.Sharding.shards) (sym c.take.ensures.value ∙ c.in-Some.is) c.caller.invariant in
     let within = c.look-loaded.ensures.risen.1 in
     let size = c.requires.line.1 in
-    handed_once g.H.Sharding.shards g.N.Naming.capacity c.args.caller.now c.self.inside.seat.view c.in-Some.seat.view c.enter.new.seat.view c.look-loaded.new.seat.view c.hand_in-handed.new.seat.view c.leave.result.view c.hand_in-handed.new.shard c.look-loaded.result
-    (ap (λ o. caller_by (view_or o)) (sym c.in-Some.is ∙ c.take.ensures.value) ∙ c.caller.view_is) c.enter.ensures.both c.look-loaded.ensures.looked c.look-loaded.ensures.sees own.1 (omega arith) c.hand_in-handed.ensures.holds c.leave.ensures.left
+    handed_once g.H.Sharding.shards g.N.Naming.capacity c.args.caller.now c.self.inside.seat.view c.in-Some.seat.view c.enter.new.seat.view c.look-loaded.new.seat.view c.write_locked-handed.new.seat.view c.leave.result.view c.write_locked-handed.new.shard c.look-loaded.result
+    (ap (λ o. caller_by (view_or o)) (sym c.in-Some.is ∙ c.take.ensures.value) ∙ c.caller.view_is) c.enter.ensures.both c.look-loaded.ensures.looked c.look-loaded.ensures.sees own.1 (omega arith) c.write_locked-handed.ensures.holds c.leave.ensures.left
 
 pub returns-clause-ticket : goal.returns-clause-ticket
 returns-clause-ticket g c =
     let S = g.H.Sharding.shards in
     let C = g.N.Naming.capacity in
-    subst (λ (x : Caller). IfOk c.hand_in-handed.result (λ t. IsTicketOf S C t x × (t.request ≡ c.args.request) × (t.since ≡ length c.args.caller.now.seen) × IsSome t.reply)) (sym (left_caller S 0 c.hand_in-handed.new.seat.view c.leave.result.view c.leave.ensures.left))
-    (subst (λ n. IfOk c.hand_in-handed.result (λ t. IsTicketOf S C t (caller_by c.hand_in-handed.new.seat.view) × (t.request ≡ c.args.request) × (t.since ≡ n) × IsSome t.reply)) c.seen-since.ensures c.hand_in-handed.ensures.ticket)
+    subst (λ (x : Caller). IfOk c.write_locked-handed.result (λ t. IsTicketOf S C t x × (t.request ≡ c.args.request) × (t.since ≡ length c.args.caller.now.seen) × IsSome t.reply)) (sym (left_caller S 0 c.write_locked-handed.new.seat.view c.leave.result.view c.leave.ensures.left))
+    (subst (λ n. IfOk c.write_locked-handed.result (λ t. IsTicketOf S C t (caller_by c.write_locked-handed.new.seat.view) × (t.request ≡ c.args.request) × (t.since ≡ n) × IsSome t.reply)) c.seen-since.ensures c.write_locked-handed.ensures.ticket)
 
 pub returns-clause-own : goal.returns-clause-own
 returns-clause-own g c =
     let own = subst (IsCaller g.N.Naming.line g.H.Sharding.shards) (sym c.take.ensures.value ∙ c.in-Some.is) c.caller.invariant in
     let within = c.look-loaded.ensures.risen.1 in
     let size = c.requires.line.1 in
-    if_ok (λ t. WritesOwn (caller_by c.look-loaded.new.seat.view) t (caller_by c.hand_in-handed.new.seat.view)) (λ t. WritesOwn c.args.caller.now t (caller_by c.leave.result.view)) c.hand_in-handed.result
-    (handed_own g.H.Sharding.shards g.N.Naming.capacity c.args.caller.now c.self.inside.seat.view c.in-Some.seat.view c.enter.new.seat.view c.look-loaded.new.seat.view c.hand_in-handed.new.seat.view c.leave.result.view c.hand_in-handed.new.shard c.look-loaded.result
-    (ap (λ o. caller_by (view_or o)) (sym c.in-Some.is ∙ c.take.ensures.value) ∙ c.caller.view_is) c.enter.ensures.both c.look-loaded.ensures.looked c.look-loaded.ensures.sees own.1 (omega arith) c.hand_in-handed.ensures.holds c.leave.ensures.left)
-    c.hand_in-handed.ensures.own
+    if_ok (λ t. WritesOwn (caller_by c.look-loaded.new.seat.view) t (caller_by c.write_locked-handed.new.seat.view)) (λ t. WritesOwn c.args.caller.now t (caller_by c.leave.result.view)) c.write_locked-handed.result
+    (handed_own g.H.Sharding.shards g.N.Naming.capacity c.args.caller.now c.self.inside.seat.view c.in-Some.seat.view c.enter.new.seat.view c.look-loaded.new.seat.view c.write_locked-handed.new.seat.view c.leave.result.view c.write_locked-handed.new.shard c.look-loaded.result
+    (ap (λ o. caller_by (view_or o)) (sym c.in-Some.is ∙ c.take.ensures.value) ∙ c.caller.view_is) c.enter.ensures.both c.look-loaded.ensures.looked c.look-loaded.ensures.sees own.1 (omega arith) c.write_locked-handed.ensures.holds c.leave.ensures.left)
+    c.write_locked-handed.ensures.own
 
 pub returns-clause-wrote : goal.returns-clause-wrote
 returns-clause-wrote g c =
     let before = ap (λ (n : NotedView Writing). n.notes) c.look-loaded.ensures.looked ∙ ap (λ (n : NotedView Writing). n.notes) c.enter.ensures.both ∙ ap (λ (l : Locked). l.notes) c.self.view_is in
     let after = ap (λ (n : NotedView Writing). n.notes) c.leave.ensures.stayed in
-    subst (λ l. IfOk c.hand_in-handed.result (λ t. WritesNotes c.args.self.now.notes t l)) (sym after)
-    (subst (λ l. IfOk c.hand_in-handed.result (λ t. WritesNotes l t c.hand_in-handed.new.seat.view.notes)) before c.hand_in-handed.ensures.wrote)
+    subst (λ l. IfOk c.write_locked-handed.result (λ t. WritesNotes c.args.self.now.notes t l)) (sym after)
+    (subst (λ l. IfOk c.write_locked-handed.result (λ t. WritesNotes l t c.write_locked-handed.new.seat.view.notes)) before c.write_locked-handed.ensures.wrote)
 
 pub returns-clause-outcome : goal.returns-clause-outcome
 returns-clause-outcome g c =
-    subst (λ (l : Locked). IfOk c.hand_in-handed.result (λ t. (k : Key) → key_named c.args.request ≡ Some k → IsOutcome g.N.Naming.capacity l.shard.records (number_in (newest l.shard.records k)) (verdict c.args.request (current l.shard.records k)) t c.hand_in-handed.new.shard.records))
-    c.self.view_is c.hand_in-handed.ensures.outcome
+    subst (λ (l : Locked). IfOk c.write_locked-handed.result (λ t. (k : Key) → key_named c.args.request ≡ Some k → IsOutcome g.N.Naming.capacity l.shard.records (number_in (newest l.shard.records k)) (verdict c.args.request (current l.shard.records k)) t c.write_locked-handed.new.shard.records))
+    c.self.view_is c.write_locked-handed.ensures.outcome
 
 pub returns-clause-floor : goal.returns-clause-floor
-returns-clause-floor g c = c.hand_in-handed.ensures.floor ∙ ap (λ (l : Locked). l.shard.floor) c.self.view_is
+returns-clause-floor g c = c.write_locked-handed.ensures.floor ∙ ap (λ (l : Locked). l.shard.floor) c.self.view_is
 
 pub returns-clause-memory : goal.returns-clause-memory
 returns-clause-memory g c =
     let own = subst (IsCaller g.N.Naming.line g.H.Sharding.shards) (sym c.take.ensures.value ∙ c.in-Some.is) c.caller.invariant in
     let within = c.look-loaded.ensures.risen.1 in
     let size = c.requires.line.1 in
-    let notes = λ (e : c.hand_in-handed.new.seat.view ≡ c.look-loaded.new.seat.view). ap (λ (n : NotedView Writing). n.notes) c.leave.ensures.stayed ∙ ap (λ (n : NotedView Writing). n.notes) e ∙ ap (λ (n : NotedView Writing). n.notes) c.look-loaded.ensures.looked ∙ ap (λ (n : NotedView Writing). n.notes) c.enter.ensures.both in
-    on_err c.hand_in-handed.result
-    (λ (e : (c.hand_in-handed.new.seat.view ≡ c.look-loaded.new.seat.view) × (c.hand_in-handed.new.shard ≡ c.self.inside.shard)).
-    let back = handed_back g.H.Sharding.shards g.N.Naming.capacity c.args.caller.now c.self.inside.seat.view c.in-Some.seat.view c.enter.new.seat.view c.look-loaded.new.seat.view c.hand_in-handed.new.seat.view c.leave.result.view c.hand_in-handed.new.shard c.look-loaded.result
-    (ap (λ o. caller_by (view_or o)) (sym c.in-Some.is ∙ c.take.ensures.value) ∙ c.caller.view_is) c.enter.ensures.both c.look-loaded.ensures.looked c.look-loaded.ensures.sees own.1 (omega arith) c.hand_in-handed.ensures.holds c.leave.ensures.left e.0 in
+    let notes = λ (e : c.write_locked-handed.new.seat.view ≡ c.look-loaded.new.seat.view). ap (λ (n : NotedView Writing). n.notes) c.leave.ensures.stayed ∙ ap (λ (n : NotedView Writing). n.notes) e ∙ ap (λ (n : NotedView Writing). n.notes) c.look-loaded.ensures.looked ∙ ap (λ (n : NotedView Writing). n.notes) c.enter.ensures.both in
+    on_err c.write_locked-handed.result
+    (λ (e : (c.write_locked-handed.new.seat.view ≡ c.look-loaded.new.seat.view) × (c.write_locked-handed.new.shard ≡ c.self.inside.shard)).
+    let back = handed_back g.H.Sharding.shards g.N.Naming.capacity c.args.caller.now c.self.inside.seat.view c.in-Some.seat.view c.enter.new.seat.view c.look-loaded.new.seat.view c.write_locked-handed.new.seat.view c.leave.result.view c.write_locked-handed.new.shard c.look-loaded.result
+    (ap (λ o. caller_by (view_or o)) (sym c.in-Some.is ∙ c.take.ensures.value) ∙ c.caller.view_is) c.enter.ensures.both c.look-loaded.ensures.looked c.look-loaded.ensures.sees own.1 (omega arith) c.write_locked-handed.ensures.holds c.leave.ensures.left e.0 in
     (left_as c.self.inside.index _ _ _ _ (notes e.0) e.1 ∙ c.self.view_is, back))
-    c.hand_in-handed.ensures.memory
+    c.write_locked-handed.ensures.memory
