@@ -1,7 +1,7 @@
 //! Allocation failures. `checks/allocations` refuses each allocation of each test in turn, and each test has to pass. A
 //! test says nothing if its own setup is refused memory.
 use crate::sample::{GET_SET, LIST_CLAIMS, LIST_PODS, LIST_REVISIONS, LIST_SETS, STATUS};
-use crate::turns::{Turn, happen};
+use crate::turns::{Turn, turns_hold};
 use crate::{clusters, wholes};
 
 /// One of two runs is refused no allocation, and reaches its end.
@@ -70,5 +70,5 @@ static PHASES: [Turn; 4] = [
 
 #[test]
 fn a_controller_goes_on_after_an_allocation_failure(rt: HostRuntime) {
-    assert!(rt; happen(rt.alloc(), PHASES.as_slice()).unwrap_or(true));
+    assert!(rt; turns_hold(rt.alloc(), PHASES.as_slice()).unwrap_or(true));
 }

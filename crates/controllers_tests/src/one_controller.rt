@@ -1,6 +1,6 @@
 //! What one controller sends, and what it does after replies that a store does not give, or that it does not wait for.
-use crate::sample::{Asked, GET_SET, LIST_CLAIMS, LIST_SETS, ONE, STATUS};
-use crate::turns::{Turn, happen};
+use crate::sample::{GET_SET, LIST_CLAIMS, LIST_SETS, Named, ONE, STATUS};
+use crate::turns::{Turn, turns_hold};
 use std::process::Abort;
 use std::test::Fail;
 
@@ -21,11 +21,11 @@ const TWO_CLAIMS: &str =
 
 const DELETE: &str = r#"{"do":"delete","kind":"StatefulSet","name":"web"}"#;
 
-const DELETE_POD: Asked = ("delete", "Pod", "web-0");
+const DELETE_POD: Named = ("delete", "Pod", "web-0");
 
-const DELETE_DATA: Asked = ("delete", "PersistentVolumeClaim", "data-web-0");
+const DELETE_DATA: Named = ("delete", "PersistentVolumeClaim", "data-web-0");
 
-const DELETE_LOGS: Asked = ("delete", "PersistentVolumeClaim", "logs-web-0");
+const DELETE_LOGS: Named = ("delete", "PersistentVolumeClaim", "logs-web-0");
 
 /// The idea, and what happens. If the set does not exist, a controller has listed the claims after two requests, and
 /// waits for the list of sets.
@@ -127,7 +127,7 @@ fn assert_so(rt: &impl Abort, is_so: bool, row: &str) {
 #[test]
 fn a_controller_asks_in_turn(rt: HostRuntime) -> Result<(), Fail> {
     for row in ROWS.iter() {
-        assert_so(&rt, happen(rt.alloc(), row.1)?, row.0);
+        assert_so(&rt, turns_hold(rt.alloc(), row.1)?, row.0);
     }
     Ok(())
 }

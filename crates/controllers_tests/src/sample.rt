@@ -16,19 +16,19 @@ pub(crate) const ONE: &str =
     r#"{"do":"create","object":{"kind":"StatefulSet","metadata":{"name":"web"},"spec":{"replicas":1,"template":{}}}}"#;
 
 /// A request's verb, the kind that it names, and the name, which a list has none of.
-pub(crate) type Asked = (&'static str, &'static str, &'static str);
+pub(crate) type Named = (&'static str, &'static str, &'static str);
 
-pub(crate) const GET_SET: Asked = ("get", "StatefulSet", "web");
+pub(crate) const GET_SET: Named = ("get", "StatefulSet", "web");
 
-pub(crate) const STATUS: Asked = ("status", "StatefulSet", "web");
+pub(crate) const STATUS: Named = ("status", "StatefulSet", "web");
 
-pub(crate) const LIST_SETS: Asked = ("list", "StatefulSet", "");
+pub(crate) const LIST_SETS: Named = ("list", "StatefulSet", "");
 
-pub(crate) const LIST_REVISIONS: Asked = ("list", "ControllerRevision", "");
+pub(crate) const LIST_REVISIONS: Named = ("list", "ControllerRevision", "");
 
-pub(crate) const LIST_PODS: Asked = ("list", "Pod", "");
+pub(crate) const LIST_PODS: Named = ("list", "Pod", "");
 
-pub(crate) const LIST_CLAIMS: Asked = ("list", "PersistentVolumeClaim", "");
+pub(crate) const LIST_CLAIMS: Named = ("list", "PersistentVolumeClaim", "");
 
 /// A controller of the set `web` in the namespace `default`.
 #[tactic(auto, unfolding(objects::specs::Names::is_dns_label))]
@@ -53,11 +53,11 @@ pub(crate) fn request_of(alloc: Global, line: &str) -> Result<Request, Memory> {
     }
 }
 
-fn is_named(verb: &str, key: &Key, wanted: &Asked) -> bool {
+fn is_named(verb: &str, key: &Key, wanted: &Named) -> bool {
     verb == wanted.0 && key.kind.name() == wanted.1 && key.name.as_str() == wanted.2
 }
 
-pub(crate) fn is_asked(request: &Request, wanted: &Asked) -> bool {
+pub(crate) fn is_asked(request: &Request, wanted: &Named) -> bool {
     match request {
         Request::Create(draft) => is_named("create", &draft.object.key, wanted),
         Request::Get(key) => is_named("get", key, wanted),

@@ -1,5 +1,5 @@
 //! What happens to one controller, turn by turn. If an allocation is refused, the call is repeated once.
-use crate::sample::{Asked, controller, is_asked, request_of, store};
+use crate::sample::{Named, controller, is_asked, request_of, store};
 use controllers::Controller;
 use objects::{Memory, Object};
 use plain::{Reason, Reply, Request};
@@ -10,9 +10,9 @@ use std::alloc::Global;
 /// What happens to the controller of the set `web`.
 pub(crate) enum Turn {
     /// Its next request is this one.
-    Next(Asked),
+    Next(Named),
     /// It sends these, and the store replies.
-    Asks(&'static [Asked]),
+    Asks(&'static [Named]),
     /// The store replies to so many of its requests.
     Goes(u8),
     /// Its reply says that nothing is there, or that it is a compaction's, or that what it asked to delete is removed,
@@ -45,7 +45,7 @@ fn takes_at_last(web: &mut Controller, reply: Reply) -> bool {
     is_taken
 }
 
-fn is_next(web: &mut Controller, wanted: &Asked) -> bool {
+fn is_next(web: &mut Controller, wanted: &Named) -> bool {
     let Some(request) = next_at_last(web) else {
         return false;
     };
@@ -73,7 +73,7 @@ fn goes(plain: &mut Trees, web: &mut Controller, times: u8) -> Result<bool, Memo
 
 /// It is called once: a second `next` that is refused memory would leave the request open, and the reply between would
 /// end the round.
-fn asks_next(plain: &mut Trees, web: &mut Controller, wanted: &Asked) -> Result<bool, Memory> {
+fn asks_next(plain: &mut Trees, web: &mut Controller, wanted: &Named) -> Result<bool, Memory> {
     let Some(request) = next_at_last(web) else {
         return Ok(false);
     };
@@ -85,7 +85,7 @@ fn asks_next(plain: &mut Trees, web: &mut Controller, wanted: &Asked) -> Result<
     Ok(takes_at_last(web, reply))
 }
 
-fn asks(plain: &mut Trees, web: &mut Controller, wanted: &[Asked]) -> Result<bool, Memory> {
+fn asks(plain: &mut Trees, web: &mut Controller, wanted: &[Named]) -> Result<bool, Memory> {
     for asked in wanted {
         if !asks_next(plain, web, asked)? {
             return Ok(false);
@@ -168,8 +168,8 @@ fn happen_over(alloc: Global, plain: &mut Trees, turns: &[Turn]) -> Result<bool,
     are_so
 }
 
-/// Whether the turns happen as they say, with a new controller and a new store.
-pub(crate) fn happen(alloc: Global, turns: &[Turn]) -> Result<bool, Memory> {
+/// Whether the turns turns_hold as they say, with a new controller and a new store.
+pub(crate) fn turns_hold(alloc: Global, turns: &[Turn]) -> Result<bool, Memory> {
     let mut plain = store(alloc)?;
     let are_so = happen_over(alloc, &mut plain, turns);
     drop(plain);

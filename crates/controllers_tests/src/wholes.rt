@@ -5,7 +5,7 @@ ghost use Rattle.controllers.specs.Controller.{phase_of};
 ghost use Rattle.controllers.specs.Phase.{reading_set};
 
 use crate::sample::{
-    Asked, GET_SET, LIST_CLAIMS, LIST_PODS, LIST_REVISIONS, LIST_SETS, ONE, STATUS, controller,
+    GET_SET, LIST_CLAIMS, LIST_PODS, LIST_REVISIONS, LIST_SETS, Named, ONE, STATUS, controller,
     is_asked, request_of, store,
 };
 use controllers::{Controller, Taken, WholeEvent, WholeRun, run_whole};
@@ -14,15 +14,15 @@ use plain::Reply;
 use plain_store::Trees;
 use std::alloc::Global;
 
-const CREATE_SET: Asked = ("create", "StatefulSet", "web");
+const CREATE_SET: Named = ("create", "StatefulSet", "web");
 
-const CREATE_REVISION: Asked = ("create", "ControllerRevision", "web-10203acf9b");
+const CREATE_REVISION: Named = ("create", "ControllerRevision", "web-10203acf9b");
 
-const CREATE_POD: Asked = ("create", "Pod", "web-0");
+const CREATE_POD: Named = ("create", "Pod", "web-0");
 
 /// Whether the controller sent it, what, and the reply, with the version of its object or with how many it lists. The
 /// controller crashes before its third round.
-static TAKEN: [(bool, Asked, &str, u64); 21] = [
+static TAKEN: [(bool, Named, &str, u64); 21] = [
     (false, CREATE_SET, "Created", 1),
     (true, GET_SET, "Found", 1),
     (true, LIST_REVISIONS, "Listed", 0),
@@ -105,7 +105,7 @@ fn is_told(reply: &Reply, word: &str, number: u64) -> bool {
     }
 }
 
-fn is_entry(entry: &Taken, wanted: &(bool, Asked, &'static str, u64)) -> bool {
+fn is_entry(entry: &Taken, wanted: &(bool, Named, &'static str, u64)) -> bool {
     let (who, request, reply) = entry;
     who.is_some() == wanted.0 && is_asked(request, &wanted.1) && is_told(reply, wanted.2, wanted.3)
 }

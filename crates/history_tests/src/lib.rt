@@ -1,10 +1,9 @@
-//! What only calls show of replays and of orders: orders that no replay makes, traces that are no history, and what is
-//! left after a refused allocation. Runs over lines are in `examples/replay` and `checks/races`.
+//! What only calls show of a run, of the plain store and of a shard.
 #![tactic(auto)]
 
 #[cfg(test)]
-mod allocation_failures;
+mod runs;
 #[cfg(test)]
-mod orders;
+mod served;
 #[cfg(test)]
-mod steps;
+mod shards;

@@ -1,16 +1,9 @@
-//! What only a call of `objects` and `trees` shows: objects that no line brings in, allocation failures, and what is
-//! too long or too deep for a line. What lines show is in `examples/serve/`.
+//! What only calls show of objects, their texts and compact lines.
 #![tactic(auto)]
 
 #[cfg(test)]
-mod allocation_failures;
+mod compact_lines;
 #[cfg(test)]
-mod asserts;
+mod object_texts;
 #[cfg(test)]
-mod keys;
-#[cfg(test)]
-mod limits;
-#[cfg(test)]
-mod rewrites;
-#[cfg(test)]
-mod texts;
+mod packed_texts;

@@ -1,19 +1,9 @@
-//! What a store replies, by one caller and by threads.
+//! What the line of numbers, the running store and races over it return, by one caller and by threads.
 #![tactic(auto)]
 
 #[cfg(test)]
-mod allocation_failures;
+mod numbering;
 #[cfg(test)]
-mod asking;
+mod races;
 #[cfg(test)]
-mod callers;
-#[cfg(test)]
-mod crowds;
-#[cfg(test)]
-mod gates;
-#[cfg(test)]
-mod meeting;
-#[cfg(test)]
-mod rows;
-#[cfg(test)]
-mod scenes;
+mod running;
