@@ -64,7 +64,8 @@ fn is_gone(owner: Option<u64>, listed: &BTreeSet<u64>, listed_at: u64) -> bool
     }
 }
 
-fn owner_number(owner: &Tree) -> Option<u64>
+/// The number of the UID that an owner reference names, if it is one that the store gives.
+pub fn owner_number(owner: &Tree) -> Option<u64>
     ensures { result ≡ owner_number (data_of owner.now) }
 {
     uid_number(owner.as_map()?.get("uid")?.as_text()?)

@@ -5,5 +5,5 @@ mod deletes;
 mod laws;
 mod listed;
 
-pub use deletes::collect;
+pub use deletes::{collect, owner_number};
 pub use laws::{collected_claims_are_collectable, owned_claims_stay};

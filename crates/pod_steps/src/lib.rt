@@ -20,7 +20,7 @@ pub use laws::{
     plans_go_by_first_pods, replacements_go_downward, replacements_wait_for_all_in_order,
     the_first_pod_of_a_name_counts,
 };
-pub use listing::replicas_of;
+pub use listing::{by_ordinal, replicas_of};
 pub use planner::pod_steps;
 pub use replica::Replica;
 pub use status::{Counts, counts_of, is_rolled_out};

@@ -29,8 +29,9 @@ fn put_pod(
     Ok(())
 }
 
-/// The pods with names of the set, by their ordinals. Of several with one name the first counts.
-fn by_ordinal(
+/// The pods with names of the set, by their ordinals, given the names of its update and current revisions. Of several with
+/// one name the first counts.
+pub fn by_ordinal(
     alloc: Global,
     set: &Set,
     update: &str,

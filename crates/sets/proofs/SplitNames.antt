@@ -65,7 +65,7 @@ is_split_there name set i is =
 one_split_name : (name s t : List ℕ) (i j : ℕ) → IsPodName name s i → IsPodName name t j → (s ≡ t) × (i ≡ j)
 one_split_name name s t i j a b = pod_names-differ s t i j (omega (arith, a.fits)) (omega (arith, b.fits)) (sym a.joined ∙ b.joined)
 
-same_split_name : (name : List ℕ) (given : Option (List ℕ × ℕ)) → IfSome given (λ s. IsPodName name s.0 s.1) → IfNone given ((set : List ℕ) (ordinal : ℕ) → IsPodName name set ordinal → ⊥) → given ≡ split_name_in name
+pub same_split_name : (name : List ℕ) (given : Option (List ℕ × ℕ)) → IfSome given (λ s. IsPodName name s.0 s.1) → IfNone given ((set : List ℕ) (ordinal : ℕ) → IsPodName name set ordinal → ⊥) → given ≡ split_name_in name
 unfolding split_name_in
 same_split_name name None some none =
     elim (split_name_in name) as (λ o. split_name_in name ≡ o → None ≡ o) [
@@ -84,7 +84,7 @@ same_split_name name (Some s) some none =
         ap length is.joined ∙ length-append (set ++ codes "-") (decimal i) ∙ ap (λ n. n + length (decimal i)) (length-append set (codes "-")) in
         omega arith
 
-abbrev split_name_seen : Option (Bor (List ℕ) × ℕ) → Option (List ℕ × ℕ)
+abbrev pub split_name_seen : Option (Bor (List ℕ) × ℕ) → Option (List ℕ × ℕ)
 split_name_seen p = option_map (λ s. (s.0.now, s.1)) p
 
 some_split_name : (P : List ℕ → ℕ → Type 0) (p : Option (Bor (List ℕ) × ℕ)) → IfSome p (λ s. P s.0.now s.1) → IfSome (split_name_seen p) (λ s. P s.0 s.1)
@@ -95,10 +95,14 @@ no_split_name : (A : Type 0) (p : Option (Bor (List ℕ) × ℕ)) → IfNone p A
 no_split_name A None h = h
 no_split_name A (Some s) h = tt
 
+-- what is split off a name is what its definition says
+pub seen_split_name : (name : List ℕ) (p : Option (Bor (List ℕ) × ℕ)) → IfSome p (λ s. IsPodName name s.0.now s.1) → IfNone p ((set : List ℕ) (ordinal : ℕ) → IsPodName name set ordinal → ⊥) → split_name_seen p ≡ split_name_in name
+seen_split_name name p some none = same_split_name name (split_name_seen p) (some_split_name (IsPodName name) p some) (no_split_name _ p none)
+
 -- what is read of a pod is one view
 pub one_view : (o : Object) (view : PodView) → IsViewOf o view → pod_parts view ≡ view_of o
 one_view o view is =
-    is.parts ∙ ap (λ split_name. pod_with split_name o) (same_split_name o.key.name (split_name_of view) (some_split_name (IsPodName o.key.name) view.split_name is.set_pod) (no_split_name _ view.split_name is.no_set_pod))
+    is.parts ∙ ap (λ split_name. pod_with split_name o) (seen_split_name o.key.name view.split_name is.set_pod is.no_set_pod)
 
 pub same_views : (os : List Object) (views : List PodView) → AreViews os views → map pod_parts views ≡ map view_of os
 same_views [] [] are = refl

@@ -4,7 +4,7 @@ use Rattle.std.proofs.lemmas.Bool.{and_parts, leb-true}
 use Rattle.std.specs.List.{Contains}
 use Rattle.objects.specs.declared.object.Object.{Object}
 use Rattle.set_views.specs.declared.policies.Policy.TheVariants.{OrderedReady}
-use Rattle.set_views.specs.declared.policies.Strategy.TheVariants.{RollingUpdate}
+use Rattle.set_views.specs.declared.policies.Strategy.TheVariants.{OnDelete, RollingUpdate}
 use Rattle.set_views.specs.Pod.{PodParts}
 use Rattle.set_views.specs.Set.{SetParts}
 use Rattle.set_views.specs.Predicates.{in_range}
@@ -15,9 +15,10 @@ use Rattle.pod_steps.specs.Listed.{replica_of}
 use Rattle.pod_steps.specs.Replicas as replicas
 use Rattle.pod_steps.specs.Replicas.{AreInOrder, Pods, is_failed, is_settled, pod_at}
 use Rattle.pod_steps.specs.Step.{pod_steps}
-use Rattle.pod_steps.specs.FullSteps.{full_steps}
+use Rattle.pod_steps.specs.FullSteps.{full_steps, update_steps, update_steps_by}
 use Rattle.pod_steps.proofs.Causes.{deleted, replaced_from_partition, replaced_in_turn, replaced_where_all_healthy}
 use Rattle.pod_steps.proofs.Firsts.{is_listed, replicas_in_order}
+use Rattle.pod_steps.proofs.ParallelPlans.{nowhere}
 use Rattle.pod_steps.proofs.Replaced.{IsReplaced, by_the_update, none_is_absent, one_is_touched, replaced_is_outdated}
 use Rattle.sets.specs.declared.action.Action.{Action}
 use Rattle.sets.specs.declared.action.Action.TheVariants.{DeletePod}
@@ -85,6 +86,19 @@ module _ (set : SetParts) (claims : Claims) (listed : List PodParts) (owned : Li
         | None ↦ λ none. absurd (none_is_absent set pods i uid pod sorted gone j within none)
       ] refl
 
+-- the deleted pod is the next to be updated
+next_to_update : (set : SetParts) (claims : Claims) (listed : List PodParts) (owned : List Object) (current update : Object) (actions : List Action) (pods : Pods) (over : IsOver set claims listed owned current update actions pods) (name : List ℕ) (uid partition : ℕ) → set.strategy ≡ RollingUpdate partition → (g : Gone set current update listed pods name uid) → in_range set g.i ≡ true → is_failed g.pod.readiness ≡ false → IsNextToUpdate set update.key.name listed partition g.i g.pod
+next_to_update set claims listed owned current update actions pods over name uid partition rolling g within staying =
+    let gone = replaced set current update listed pods name uid g within staying in
+    let by = by_the_update set pods g.i uid g.replica g.sorted gone in
+    let old = replaced_is_outdated set pods g.i uid g.replica g.here by in
+    record {
+      reached = leb-true partition g.i (replaced_from_partition set pods partition g.i uid rolling by);
+      outdated = ap (λ (r : Replica). r.updated) g.same ∙ old.0;
+      staying = ap (λ (r : Replica). r.terminating) g.same ∙ old.1;
+      above = targets_above set claims listed owned current update actions pods over g.i uid partition g.replica g.sorted gone rolling;
+    }
+
 pub updated_downward : (set : SetParts) (claims : Claims) (listed : List PodParts) (owned : List Object) (current update : Object) (actions : List Action) (name : List ℕ) (uid partition : ℕ) → set.strategy ≡ RollingUpdate partition → plan_of_pods set claims listed owned current update ≡ Ok actions → Contains actions (DeletePod name uid) → (i : ℕ) × (name ≡ name_at set i) × ((pod : PodParts) × IsPodAt set listed i pod × (in_range set i ≡ true → is_failed pod.readiness ≡ false → IsNextToUpdate set update.key.name listed partition i pod))
 updated_downward set claims listed owned current update actions name uid partition rolling e h =
     let p = planned_over set claims listed owned current update actions e in
@@ -94,16 +108,28 @@ updated_downward set claims listed owned current update actions name uid partiti
       (
         g.pod,
         g.at,
+        next_to_update set claims listed owned current update actions p.0 p.1 name uid partition rolling g,
+      ),
+    )
+
+-- a pod in range that has not failed is deleted by a rolling update alone
+pub updated_by_rolling : (set : SetParts) (claims : Claims) (listed : List PodParts) (owned : List Object) (current update : Object) (actions : List Action) (name : List ℕ) (uid : ℕ) → plan_of_pods set claims listed owned current update ≡ Ok actions → Contains actions (DeletePod name uid) → (i : ℕ) × (name ≡ name_at set i) × ((pod : PodParts) × IsPodAt set listed i pod × (in_range set i ≡ true → is_failed pod.readiness ≡ false → (partition : ℕ) × (set.strategy ≡ RollingUpdate partition) × IsNextToUpdate set update.key.name listed partition i pod))
+unfolding update_steps
+updated_by_rolling set claims listed owned current update actions name uid e h =
+    let p = planned_over set claims listed owned current update actions e in
+    let g = gone_from set claims listed owned current update actions p.0 name uid p.1 h in
+    let Next : Type 0 = (partition : ℕ) × (set.strategy ≡ RollingUpdate partition) × IsNextToUpdate set update.key.name listed partition g.i g.pod in (
+      g.i,
+      g.named,
+      (
+        g.pod,
+        g.at,
         λ within staying.
-            let gone = replaced set current update listed p.0 name uid g within staying in
-            let by = by_the_update set p.0 g.i uid g.replica g.sorted gone in
-            let old = replaced_is_outdated set p.0 g.i uid g.replica g.here by in
-            record {
-              reached = leb-true partition g.i (replaced_from_partition set p.0 partition g.i uid rolling by);
-              outdated = ap (λ (r : Replica). r.updated) g.same ∙ old.0;
-              staying = ap (λ (r : Replica). r.terminating) g.same ∙ old.1;
-              above = targets_above set claims listed owned current update actions p.0 p.1 g.i uid partition g.replica g.sorted gone rolling;
-            },
+            let by = by_the_update set p.0 g.i uid g.replica g.sorted (replaced set current update listed p.0 name uid g within staying) in
+            elim (set.strategy) as (λ s. set.strategy ≡ s → Contains (update_steps_by s set p.0) (steps.DeletePod g.i uid) → Next) [
+              | RollingUpdate partition ↦ λ rolling _. (partition, rolling, next_to_update set claims listed owned current update actions p.0 p.1 name uid partition rolling g within staying)
+              | OnDelete ↦ λ _ none. absurd (nowhere (steps.DeletePod g.i uid) none)
+            ] refl by,
       ),
     )
 
