@@ -56,7 +56,7 @@ next_are_tended set pods next round i pod here =
     after_is_tended set (steps_on set pods) i (round.new i) (pod_at pods i) pod (round.are_new i) (sym (round.is_next i) ∙ here)
 
 -- ---- out of range nothing is made
-is_create : (i : ℕ) (a : Step) → creates i a ≡ true → (revision : Revision) × (a ≡ CreatePod i revision)
+pub is_create : (i : ℕ) (a : Step) → creates i a ≡ true → (revision : Revision) × (a ≡ CreatePod i revision)
 is_create i (CreatePod j revision) h = (revision, ap (λ (n : ℕ). CreatePod n revision) (eqb-true j i h))
 is_create i (MakeClaims j) h = absurd (cc)
 is_create i (KeepClaims j) h = absurd (cc)

@@ -30,7 +30,7 @@ use Rattle.convergence.proofs.Moves.{all_healthy, none_beyond, steps_on, update}
 use Rattle.convergence.proofs.Sums.{sum_below, sum_under}
 
 -- ---- steps that a test finds
-has_step : (p : Step → Bool) (xs : List Step) (a : Step) → Contains xs a → p a ≡ true → list_any p xs ≡ true
+pub has_step : (p : Step → Bool) (xs : List Step) (a : Step) → Contains xs a → p a ≡ true → list_any p xs ≡ true
 has_step p [] a h t = absurd (nowhere a h)
 has_step p (x ∷ xs) a h t =
     elim (Contains-append_cases (x ∷ []) xs a h) [
@@ -38,7 +38,7 @@ has_step p (x ∷ xs) a h t =
       | inr k ↦ elim (p x) as (λ b. (b || list_any p xs) ≡ true) [ true ↦ refl | false ↦ has_step p xs a k t ]
     ]
 
-is_delete : (i : ℕ) (a : Step) → deletes i a ≡ true → (uid : ℕ) × (a ≡ DeletePod i uid)
+pub is_delete : (i : ℕ) (a : Step) → deletes i a ≡ true → (uid : ℕ) × (a ≡ DeletePod i uid)
 is_delete i (DeletePod j uid) h = (uid, ap (λ (n : ℕ). DeletePod n uid) (eqb-true j i h))
 is_delete i (MakeClaims j) h = absurd (cc)
 is_delete i (KeepClaims j) h = absurd (cc)

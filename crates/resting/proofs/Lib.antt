@@ -3,3 +3,14 @@ pub mod Lists
 pub mod Still
 pub mod Turns
 pub mod TurnsOnPods
+pub mod Acts
+pub mod NewPods
+pub mod PlanLists
+pub mod CreatedRevisions
+pub mod PlansOnPods
+pub mod RoundsOnPods
+pub mod PlainPods
+pub mod RoundsOver
+pub mod Accepting
+pub mod AcceptablePlans
+pub mod UpToDate

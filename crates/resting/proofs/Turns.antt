@@ -36,7 +36,7 @@ use Rattle.set_views.specs.declared.readiness.Readiness.{Readiness}
 use Rattle.set_views.specs.declared.readiness.Readiness.TheVariants.{Failed, NotReady, Ready}
 use Rattle.set_views.specs.Readiness.{readiness_of, readiness_with}
 use Rattle.set_views.specs.Values.{inside}
-use Rattle.kubelet.specs.Kubelet.{has_ended, is_ready, made_ready, ready_status, turn_asks, turn_asks_all}
+use Rattle.kubelet.specs.Kubelet.{has_ended, is_ready, made_ready, ready_status, turn_requests_for, turn_requests_of}
 use Rattle.plain_store.specs.AtKey.{Has}
 use Rattle.plain_store.specs.Filed.{AreFiled}
 use Rattle.plain_store.specs.Route.{route}
@@ -53,30 +53,30 @@ abbrev status : Data → Option Data
 status = member_of (codes "status")
 
 -- ---- preconditions as they were read
-same_text : (t : List ℕ) → differs (Some t) t ≡ false
+pub same_text : (t : List ℕ) → differs (Some t) t ≡ false
 same_text [] = refl
 same_text (c ∷ cs) = ap not ((bytes_eq-Decides (c ∷ cs) (c ∷ cs)).1 refl)
 
-same_unless_zero : (n : ℕ) (t : List ℕ) → differs (text_unless_zero n t) t ≡ false
+pub same_unless_zero : (n : ℕ) (t : List ℕ) → differs (text_unless_zero n t) t ≡ false
 same_unless_zero n t = elim (n == 0) as (λ b. differs (if b then None else Some t) t ≡ false) [ true ↦ refl | false ↦ same_text t ]
 
-meets_its_own : (o : Object) → conflicts (text_unless_zero o.meta.revision (decimal o.meta.revision)) (text_unless_zero o.meta.uid (uid_text o.meta.uid)) o ≡ false
+pub meets_its_own : (o : Object) → conflicts (text_unless_zero o.meta.revision (decimal o.meta.revision)) (text_unless_zero o.meta.uid (uid_text o.meta.uid)) o ≡ false
 meets_its_own o = (λ k. same_unless_zero o.meta.revision (decimal o.meta.revision) k || same_unless_zero o.meta.uid (uid_text o.meta.uid) k)
 
 -- ---- one request under a key
 gone : (s : Store) (k : Key) → finite.get (finite.remove s.objects k) k ≡ None
 gone s k = get-remove key_cmp_total s.objects k k ∙ ap (λ b. cond b None (finite.get s.objects k)) ((eq_by_cmp_equiv key_cmp_total).refl k)
 
-written : (s : Store) (k : Key) (o : Object) → finite.get (finite.insert s.objects k o) k ≡ Some o
+pub written : (s : Store) (k : Key) (o : Object) → finite.get (finite.insert s.objects k o) k ≡ Some o
 written s k o = get-insert key_cmp_total s.objects k o k ∙ ap (λ b. cond b (Some o) (finite.get s.objects k)) ((eq_by_cmp_equiv key_cmp_total).refl k)
 
-not_full : (s : Store) → s.counter < s.capacity → s.counter == s.capacity ≡ false
+pub not_full : (s : Store) → s.counter < s.capacity → s.counter == s.capacity ≡ false
 not_full s room = elim (s.counter == s.capacity) as (λ b. s.counter == s.capacity ≡ b → b ≡ false) [
   | true ↦ λ h. let same : s.counter ≡ s.capacity = eqb-true s.counter s.capacity h in absurd (omega arith)
   | false ↦ λ h. refl
 ] refl
 
-carried : (s : Store) (k : Key) (c : Change) → s.counter < s.capacity → carried_out s k (Write c) ≡ (with_change s k c, accepted c (stamp c (s.counter + 1)))
+pub carried : (s : Store) (k : Key) (c : Change) → s.counter < s.capacity → carried_out s k (Write c) ≡ (with_change s k c, accepted c (stamp c (s.counter + 1)))
 carried s k c room = ap (λ b. if b then (s, Refused StoreFull) else (with_change s k c, accepted c (stamp c (s.counter + 1)))) (not_full s room)
 
 no_moment : (k : Kind) → graceful k None ≡ None
@@ -188,7 +188,7 @@ becomes_ready s o there pod has staying starting room =
 abbrev asks_by : Bool → Readiness → Object → List Request
 asks_by marked r o = if not marked && has_ended r then [] else if marked then Delete o.key (Some (uid_text o.meta.uid)) None None ∷ [] else if is_ready r then [] else UpdateStatus (made_ready o) ∷ []
 
-tends_one : (s : Store) (o : Object) → Has s o.key o → o.key.kind ≡ Pod → HasMembers o.body → s.counter < s.capacity → Tends s (after s (turn_asks o)) o
+tends_one : (s : Store) (o : Object) → Has s o.key o → o.key.kind ≡ Pod → HasMembers o.body → s.counter < s.capacity → Tends s (after s (turn_requests_for o)) o
 tends_one s o there pod has room =
     elim (is_some o.meta.deletion) as (λ m. is_some o.meta.deletion ≡ m → Tends s (after s (asks_by m (readiness_of o.body) o)) o) [
       | true ↦ λ marked. taken_away s o there marked room
@@ -231,22 +231,22 @@ one_then_all : (s : Store) (first rest : List Request) → after s (first ++ res
 one_then_all s [] rest = refl
 one_then_all s (r ∷ first) rest = one_then_all (step s r).0 first rest
 
-tends_all : (s : Store) (os : List Object) → IsStrictlySortedBy key_cmp (own_keys os) → AllByRecursion (IsThere s) os → s.counter + length os ≤ s.capacity → TendsAll s (after s (turn_asks_all os)) os
+tends_all : (s : Store) (os : List Object) → IsStrictlySortedBy key_cmp (own_keys os) → AllByRecursion (IsThere s) os → s.counter + length os ≤ s.capacity → TendsAll s (after s (turn_requests_of os)) os
 unfolding IsStrictlySortedBy
 tends_all s [] sorted all room = record { here = tt; elsewhere = λ q apart. refl }
 tends_all s (o ∷ os) sorted all room =
     let there = all.0 in
     let one = tends_one s o there.0 there.1 there.2 (omega (arith, room)) in
-    let t = after s (turn_asks o) in
+    let t = after s (turn_requests_for o) in
     let kept = one.counter in
     let same = one.capacity in
     let later = tends_all t os sorted.1 (still_there s t o os one sorted.0 all.1) (omega (arith, room, kept, same)) in
-    let end = after t (turn_asks_all os) in
+    let end = after t (turn_requests_of os) in
     let P : Store → Type 0 = λ x. TendsAll s x (o ∷ os) in
     let Q : Option Object → Type 0 = λ x. TendsTo (Some o) x in
     let first = subst Q (sym (later.elsewhere o.key (not_below o.key os sorted.0))) one.here in
     let whole : TendsAll s end (o ∷ os) = record { here = (first, later.here); elsewhere = λ q apart. later.elsewhere q apart.1 ∙ one.elsewhere q apart.0 } in
-    subst P (sym (one_then_all s (turn_asks o) (turn_asks_all os))) whole
+    subst P (sym (one_then_all s (turn_requests_for o) (turn_requests_of os))) whole
 
 -- ---- the pods of a namespace
 pub is_pod : (kind : Kind) → kind_index kind == kind_index Pod ≡ true → kind ≡ Pod
@@ -279,12 +279,12 @@ none_of_others s namespace k [] out all = tt
 none_of_others s namespace k (o ∷ os) out all =
     ((λ same. (let clash : false ≡ true = sym out ∙ (ap (is_of Pod namespace) same ∙ all.0.1) in absurd (cc))), none_of_others s namespace k os out all.1)
 
-pub turn_is_over : (s : Store) (namespace : List ℕ) → MayTurn namespace s → IsTurnOver namespace s (after s (turn_asks_all (collection s.objects Pod namespace)))
+pub turn_is_over : (s : Store) (namespace : List ℕ) → MayTurn namespace s → IsTurnOver namespace s (after s (turn_requests_of (collection s.objects Pod namespace)))
 turn_is_over s namespace may =
     let pods = collection s.objects Pod namespace in
     let listed_all = all_listed s namespace may.filed pods (λ o at. at) in
     let all = tends_all s pods (once s.objects Pod namespace may.filed) (all_there s namespace pods may.members listed_all) may.room in
-    let t = after s (turn_asks_all pods) in
+    let t = after s (turn_requests_of pods) in
     record {
       pods = λ k of. elim (finite.get s.objects k) as (λ x. finite.get s.objects k ≡ x → TendsTo x (finite.get t.objects k)) [
         | None ↦ λ h. all.elsewhere k (none_has s namespace k pods h listed_all) ∙ h

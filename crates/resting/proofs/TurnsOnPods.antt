@@ -42,13 +42,13 @@ use Rattle.resting.specs.Turns.{IsMadeReady, IsTurnOver, TendsTo, ready_or_ended
 use Rattle.resting.proofs.Turns.{is_pod}
 
 -- ---- the pods of a namespace
-abbrev pods_in : Store → List ℕ → List Object
+abbrev pub pods_in : Store → List ℕ → List Object
 pods_in s namespace = collection s.objects Pod namespace
 
-abbrev IsPodIn : Store → List ℕ → Object → Type 0
+abbrev pub IsPodIn : Store → List ℕ → Object → Type 0
 IsPodIn s namespace o = Has s o.key o × (is_of Pod namespace o.key ≡ true)
 
-key_is : (namespace : List ℕ) (k : Key) → is_of Pod namespace k ≡ true → k ≡ key_parts Pod namespace k.name
+pub key_is : (namespace : List ℕ) (k : Key) → is_of Pod namespace k ≡ true → k ≡ key_parts Pod namespace k.name
 key_is namespace k of =
     let parts = and_parts (kind_index k.kind == kind_index Pod) (bytes_eq k.namespace namespace) of in
     λ j. key_parts (is_pod k.kind parts.0 j) ((bytes_eq-Decides k.namespace namespace).0 parts.1 j) k.name
@@ -88,13 +88,13 @@ module _ (set : SetParts) (s : Store) (filed : AreFiled s.objects) where
   from_listed o at = is_there o (filtered (in_namespace set Pod) o (pods_in s space) (first_among (filter (in_namespace set Pod) (pods_in s space)) o at)).0
 
 -- ---- the pod of an ordinal
-abbrev found_at : SetParts → Store → ℕ → Option PodParts
+abbrev pub found_at : SetParts → Store → ℕ → Option PodParts
 found_at set s i = find (is_named set i) (views_of set (pods_in s set.object.key.namespace))
 
-abbrev IsPodAt : SetParts → Store → ℕ → Object → Type 0
+abbrev pub IsPodAt : SetParts → Store → ℕ → Object → Type 0
 IsPodAt set s i o = IsPodIn s set.object.key.namespace o × (is_named set i (view_of o) ≡ true)
 
-found_some : (set : SetParts) (s : Store) (i : ℕ) (pod : PodParts) → AreFiled s.objects → found_at set s i ≡ Some pod → (o : Object) × IsPodAt set s i o × (view_of o ≡ pod)
+pub found_some : (set : SetParts) (s : Store) (i : ℕ) (pod : PodParts) → AreFiled s.objects → found_at set s i ≡ Some pod → (o : Object) × IsPodAt set s i o × (view_of o ≡ pod)
 unfolding views_of
 found_some set s i pod filed is =
     let f = found_in_map (is_named set i) (listed_pods set (pods_in s set.object.key.namespace)) pod is in
@@ -103,7 +103,7 @@ found_some set s i pod filed is =
 one_at : (set : SetParts) (s : Store) (i : ℕ) (a b : Object) → IsPodAt set s i a → IsPodAt set s i b → a ≡ b
 one_at set s i a b is_a is_b = one_pod s set.object.key.namespace a b is_a.0 is_b.0 (named_is set i a is_a.1 ∙ sym (named_is set i b is_b.1))
 
-found_by : (set : SetParts) (s : Store) (i : ℕ) (o : Object) → AreFiled s.objects → IsPodAt set s i o → found_at set s i ≡ Some (view_of o)
+pub found_by : (set : SetParts) (s : Store) (i : ℕ) (o : Object) → AreFiled s.objects → IsPodAt set s i o → found_at set s i ≡ Some (view_of o)
 unfolding views_of
 found_by set s i o filed is =
     elim (found_at set s i) as (λ x. found_at set s i ≡ x → x ≡ Some (view_of o)) [
@@ -114,7 +114,7 @@ found_by set s i o filed is =
     ] refl
 
 -- ---- before and after
-abbrev is_called : SetParts → ℕ → Key → Bool
+abbrev pub is_called : SetParts → ℕ → Key → Bool
 is_called set i k = option_map_or (λ (j : ℕ). i == j) (option_and_then (λ (x : List ℕ × ℕ). if bytes_eq x.0 set.object.key.name then Some x.1 else None) (split_name_in k.name)) false
 
 module _ (set : SetParts) (s t : Store) (filed : AreFiled s.objects) (turn : IsTurnOver set.object.key.namespace s t) where
@@ -179,7 +179,7 @@ module _ (set : SetParts) (s t : Store) (filed : AreFiled s.objects) (turn : IsT
       ] refl
 
 -- ---- replicas
-abbrev own : Option Replica → Option Replica
+abbrev pub own : Option Replica → Option Replica
 own None = None
 own (Some y) = if y.owned then Some y else None
 
@@ -196,7 +196,7 @@ at_owned es i sorted =
       ] refl
     ] refl
 
-at_store : (set : SetParts) (update current : List ℕ) (s : Store) (pods : Pods) (i : ℕ) → replicas_in set update current (views_of set (pods_in s set.object.key.namespace)) ≡ Ok pods
+pub at_store : (set : SetParts) (update current : List ℕ) (s : Store) (pods : Pods) (i : ℕ) → replicas_in set update current (views_of set (pods_in s set.object.key.namespace)) ≡ Ok pods
     → pod_at pods i ≡ own (option_map (replica_of set update current) (found_at set s i))
 at_store set update current s pods i e =
     let listed_views = views_of set (pods_in s set.object.key.namespace) in
@@ -205,10 +205,10 @@ at_store set update current s pods i e =
     ∙ (at_owned named i (listed_in_order set update current listed_views) ∙ ap own (first_counts set update current listed_views i))
 
 -- ---- what of a pod does not hang on its status
-not_status : codes "metadata" ≢ codes "status"
+pub not_status : codes "metadata" ≢ codes "status"
 not_status e = true≢false (ap (λ (l : List ℕ). bytes_eq l (codes "metadata")) e)
 
-metadata_is : (body : Data) → metadata_of body ≡ option_and_then as_object (member_of (codes "metadata") body)
+pub metadata_is : (body : Data) → metadata_of body ≡ option_and_then as_object (member_of (codes "metadata") body)
 metadata_is body =
     elim (as_object body) as (λ x. option_and_then (object_at (codes "metadata")) x ≡ option_and_then as_object (option_and_then (get_member (codes "metadata")) x)) [
       | None ↦ refl
@@ -221,7 +221,7 @@ same_metadata o p is = metadata_is p.body ∙ (ap (option_and_then as_object) (i
 abbrev label_in : Option Members → Option (List ℕ)
 label_in m = option_and_then (text_at (codes "controller-revision-hash")) (option_and_then (object_at (codes "labels")) m)
 
-abbrev replica_with : SetParts → List ℕ → List ℕ → Option Members → ℕ → Readiness → Bool → Replica
+abbrev pub replica_with : SetParts → List ℕ → List ℕ → Option Members → ℕ → Readiness → Bool → Replica
 replica_with set update current m uid readiness terminating = record {
   owned = is_controlled set.object.meta.uid (unwrap_or (option_and_then (items_at (codes "ownerReferences")) m) no_items);
   uid = uid;
@@ -260,14 +260,13 @@ own_gone y marked =
     ]
 
 -- ---- both
-pub turn_on_pods : (set : SetParts) (update current : List ℕ) (s t : Store) (pods next : Pods) → AreFiled s.objects → IsTurnOver set.object.key.namespace s t
-    → replicas_in set update current (views_of set (pods_in s set.object.key.namespace)) ≡ Ok pods → replicas_in set update current (views_of set (pods_in t set.object.key.namespace)) ≡ Ok next
-    → (i : ℕ) → pod_at next i ≡ tended (pod_at pods i)
-turn_on_pods set update current s t pods next filed turn is is_next i =
+-- the set's own pod of the ordinal, if there is one in the store
+abbrev pub own_at : SetParts → List ℕ → List ℕ → Store → ℕ → Option Replica
+own_at set update current s i = own (option_map (replica_of set update current) (found_at set s i))
+
+pub turn_at : (set : SetParts) (update current : List ℕ) (s t : Store) → AreFiled s.objects → IsTurnOver set.object.key.namespace s t → (i : ℕ) → own_at set update current t i ≡ tended (own_at set update current s i)
+turn_at set update current s t filed turn i =
     let replica : PodParts → Replica = replica_of set update current in
-    let end : pod_at next i ≡ own (option_map replica (found_at set t i)) = at_store set update current t next i is_next in
-    let start : pod_at pods i ≡ own (option_map replica (found_at set s i)) = at_store set update current s pods i is in
-    let between : own (option_map replica (found_at set t i)) ≡ tended (own (option_map replica (found_at set s i))) =
     elim (found_at set s i) as (λ x. found_at set s i ≡ x → own (option_map replica (found_at set t i)) ≡ tended (own (option_map replica x))) [
       | None ↦ λ h. ap (λ x. own (option_map replica x)) (none_after set s t filed turn i h)
       | Some pod ↦ λ h.
@@ -281,5 +280,10 @@ turn_on_pods set update current s t pods next filed turn is is_next i =
                 ap (λ x. own (option_map replica x)) (found_by set t i l.0 (still_filed set s t filed turn) l.1)
                 ∙ (ap (λ y. own (Some y)) (replica_made_ready set update current o l.0 l.2) ∙ own_tended (replica (view_of o)) staying)
           ] refl)
-    ] refl in
-    end ∙ (between ∙ ap tended (sym start))
+    ] refl
+
+pub turn_on_pods : (set : SetParts) (update current : List ℕ) (s t : Store) (pods next : Pods) → AreFiled s.objects → IsTurnOver set.object.key.namespace s t
+    → replicas_in set update current (views_of set (pods_in s set.object.key.namespace)) ≡ Ok pods → replicas_in set update current (views_of set (pods_in t set.object.key.namespace)) ≡ Ok next
+    → (i : ℕ) → pod_at next i ≡ tended (pod_at pods i)
+turn_on_pods set update current s t pods next filed turn is is_next i =
+    at_store set update current t next i is_next ∙ (turn_at set update current s t filed turn i ∙ ap tended (sym (at_store set update current s pods i is)))

@@ -5,6 +5,7 @@ use Rattle.objects.specs.declared.key.Key.{Key}
 use Rattle.objects.specs.declared.kind.Kind.{Kind}
 use Rattle.objects.specs.declared.kind.Kind.TheVariants.{StatefulSet, Pod, PersistentVolumeClaim, ControllerRevision}
 use Rattle.objects.specs.declared.object.Object.{Object}
+use Rattle.requests.specs.declared.request.Request.{Request}
 use Rattle.set_views.specs.declared.readiness.Readiness.TheVariants.{NotReady}
 use Rattle.set_views.specs.Readiness.{readiness_of}
 use Rattle.set_views.specs.Set.{SetParts}
@@ -16,13 +17,13 @@ use Rattle.rounds.specs.Reconciler.{Reconciler}
 use Rattle.resting.specs.Rest.{RestsOver}
 
 -- the controller sends its next request to the store, and continues from the reply
-abbrev pub asked : Reconciler → Store × Phase → Store × Phase
-asked c now = ((step now.0 (asks c now.1)).0, takes c now.1 (step now.0 (asks c now.1)).1)
+abbrev pub exchanged : Reconciler → Store × Phase → Store × Phase
+exchanged c now = ((step now.0 (asks c now.1)).0, takes c now.1 (step now.0 (asks c now.1)).1)
 
 -- so many requests, one after another
-abbrev pub asked_times : ℕ → Reconciler → Store × Phase → Store × Phase
-asked_times zero c now = now
-asked_times (suc n) c now = asked_times n c (asked c now)
+abbrev pub exchanged_times : ℕ → Reconciler → Store × Phase → Store × Phase
+exchanged_times zero c now = now
+exchanged_times (suc n) c now = exchanged_times n c (exchanged c now)
 
 -- the requests of a round that has nothing to write
 abbrev pub reads_of_a_round : ℕ
@@ -35,6 +36,10 @@ listed_in s key kind = collection s.objects kind key.namespace
 -- what may own a claim there
 abbrev pub owners_in : Store → Key → List (List Object)
 owners_in s key = map (listed_in s key) (StatefulSet ∷ Pod ∷ ControllerRevision ∷ PersistentVolumeClaim ∷ [])
+
+-- the requests of the plan over what the store shows
+abbrev pub plan_over : Reconciler → Store → Object → List Request
+plan_over c s set = c.plan set (listed_in s c.set ControllerRevision) (listed_in s c.set Pod) (listed_in s c.set PersistentVolumeClaim)
 
 -- nothing is planned over what the store shows, and no claim is to be collected
 pub record IsStill (c : Reconciler) (s : Store) : Type 0 where

@@ -1,27 +1,39 @@
-// When a plan is empty, that a store then stays as it is, and what a kubelet's turn does to one.
-ghost use Rattle.std.specs.Prelude.{◌≡◌, ◌↔◌, ℕ, List, [], Ok};
+// When a plan is empty, that a store then stays as it is, and what a plan and a kubelet's turn do to one.
+ghost use Rattle.std.specs.Prelude.{◌≡◌, ◌≢◌, ◌↔◌, ◌⊎◌, ◌+◌, ◌≤◌, ℕ, List, [], length, Some, Ok};
+ghost use Rattle.std.specs.FinMap as map;
 ghost use Rattle.std.specs.List.{AllByRecursion};
 ghost use Rattle.objects.specs.declared.key.Key.{Key};
 ghost use Rattle.objects.specs.declared.kind.Kind.TheVariants.{Pod};
 ghost use Rattle.objects.specs.declared.object.Object.{Object};
+ghost use Rattle.requests.specs.declared.request.Request.{Request};
 ghost use Rattle.set_views.specs.Pod.{PodParts};
 ghost use Rattle.set_views.specs.Set.{SetParts};
+ghost use Rattle.pod_steps.specs.declared.replica.Replica.{Replica};
 ghost use Rattle.pod_steps.specs.Replicas.{AreInOrder, Pods, pod_at};
 ghost use Rattle.pod_steps.specs.Listed.{replicas_in};
+ghost use Rattle.pod_steps.specs.Step.{pod_steps};
+ghost use Rattle.pod_steps.specs.FullSteps.{full_steps};
 ghost use Rattle.pod_steps.specs.Views.{listed_pods};
 ghost use Rattle.sets.specs.Actions.{Claims};
 ghost use Rattle.sets.specs.FullPlan.{full_plan};
+ghost use Rattle.sets.specs.Plan.{most_actions};
 ghost use Rattle.sets.specs.PlanOfLists.{plan_of_lists, views_of};
-ghost use Rattle.kubelet.specs.Kubelet.{turn_asks_all};
+ghost use Rattle.kubelet.specs.Kubelet.{turn_requests_of};
+ghost use Rattle.plain_store.specs.AtKey.{Has};
 ghost use Rattle.plain_store.specs.Run.{after};
 ghost use Rattle.plain_store.specs.Store.{Store, collection};
-ghost use Rattle.rounds.specs.Phase.{reading_set};
+ghost use Rattle.rounds.specs.Phase.{listing_old_claims, reading_set};
 ghost use Rattle.rounds.specs.Reconciler.{Reconciler};
 ghost use Rattle.plan_requests.specs.Reconciler.{reconciler_with};
-ghost use Rattle.convergence.specs.Rounds.{tended};
-ghost use Rattle.convergence.specs.Standing.{AreTended};
+ghost use Rattle.convergence.specs.Rounds.{IsRound, tended};
+ghost use Rattle.convergence.specs.Left.{most_rounds};
+ghost use Rattle.convergence.specs.Standing.{AreTended, Stands};
+ghost use Rattle.convergence.specs.Stopped.{IsStopped};
+ghost use Rattle.resting.specs.Accepting.{AreAccepted, IsAcceptable, NameApart};
+ghost use Rattle.resting.specs.Acting.{IsCreated, IsPlannedOver, MayAct, after_both, after_plan, after_steps, planned_requests, views_in};
 ghost use Rattle.resting.specs.Rest.{IsAtRest, RestsOver};
-ghost use Rattle.resting.specs.Still.{IsStill, IsTendedPod, ShowsRest, asked_times, reads_of_a_round};
+ghost use Rattle.resting.specs.Still.{IsStill, IsTendedPod, ShowsRest, exchanged_times, plan_over, reads_of_a_round};
+ghost use Rattle.resting.specs.RoundsOver.{AreRoundsOver};
 ghost use Rattle.resting.specs.Turns.{IsTurnOver, MayTurn};
 
 use set_views::Policy;
@@ -41,20 +53,20 @@ pub fn empty_plans_are_of_sets_at_rest()
 /// If a store shows nothing to plan and no claim to collect, a whole round only reads, and leaves the store as it is.
 #[tactic(auto, using(crate::proofs::Still::stays))]
 pub fn rounds_over_still_stores_write_nothing()
-    ensures { (c : Reconciler) (s : Store) → IsStill c s → asked_times reads_of_a_round c (s, reading_set) ≡ (s, reading_set) }
+    ensures { (c : Reconciler) (s : Store) → IsStill c s → exchanged_times reads_of_a_round c (s, reading_set) ≡ (s, reading_set) }
 {}
 
 /// So it is if the set of a controller is at rest, and no claim is left to collect: each further round is the same nine reads.
 #[tactic(auto, using(crate::proofs::Still::rest_stays))]
 pub fn stores_of_sets_at_rest_stay()
     ensures { (key : Key) (digits : ℕ) (moment : List ℕ) (s : Store) → ShowsRest key digits s
-        → asked_times reads_of_a_round (reconciler_with key digits moment) (s, reading_set) ≡ (s, reading_set) }
+        → exchanged_times reads_of_a_round (reconciler_with key digits moment) (s, reading_set) ≡ (s, reading_set) }
 {}
 
 /// A kubelet sends no request in its turn if each pod is unmarked, and ready or failed.
 #[tactic(auto, using(crate::proofs::Still::turns_ask_none))]
-pub fn turns_over_tended_pods_ask_nothing()
-    ensures { (pods : List Object) → AllByRecursion IsTendedPod pods → turn_asks_all pods ≡ [] }
+pub fn turns_over_tended_pods_send_nothing()
+    ensures { (pods : List Object) → AllByRecursion IsTendedPod pods → turn_requests_of pods ≡ [] }
 {}
 
 /// A kubelet's turn over a store removes each marked pod of the namespace, and makes each other one ready that has not failed.
@@ -62,10 +74,59 @@ pub fn turns_over_tended_pods_ask_nothing()
 /// revision left for each pod.
 pub fn turns_tend_the_pods()
     ensures store { (s : Store) (namespace : List ℕ) → MayTurn namespace s
-        → IsTurnOver namespace s (after s (turn_asks_all (collection s.objects Pod namespace))) }
+        → IsTurnOver namespace s (after s (turn_requests_of (collection s.objects Pod namespace))) }
     ensures pods { (set : SetParts) (update current : List ℕ) (s : Store) (pods next : Pods) → let namespace = set.object.key.namespace in
-        let end = after s (turn_asks_all (collection s.objects Pod namespace)) in
+        let end = after s (turn_requests_of (collection s.objects Pod namespace)) in
         MayTurn namespace s → replicas_in set update current (views_of set (collection s.objects Pod namespace)) ≡ Ok pods
         → replicas_in set update current (views_of set (collection end.objects Pod namespace)) ≡ Ok next
         → (i : ℕ) → pod_at next i ≡ tended (pod_at pods i) }
+{}
+
+/// Writes under keys of their own are accepted one after another if the store would accept each, and has a number left for each.
+#[tactic(auto, using(crate::proofs::Accepting::all_accepted))]
+pub fn writes_apart_are_accepted()
+    ensures { (s : Store) (requests : List Request) → NameApart requests → AllByRecursion (IsAcceptable s) requests
+        → s.counter + length requests ≤ s.capacity → AreAccepted s requests }
+{}
+
+/// Each request of a plan is such over the store that the plan was made over: it names an object at the version and the UID that were
+/// listed, or one that was not there.
+pub fn planned_requests_are_acceptable()
+    ensures { (set : SetParts) (digits : ℕ) (moment : List ℕ) (s : Store) → IsPlannedOver set digits s → moment ≢ [] → MayAct set most_actions s
+        → Has s set.object.key set.object → AllByRecursion (IsAcceptable s) (planned_requests set digits moment s) }
+{}
+
+/// A controller whose requests are accepted reads four times, sends its plan, and leaves what the plan's requests leave.
+#[tactic(auto, using(crate::proofs::Accepting::plan_is_carried_out))]
+pub fn accepted_plans_are_carried_out()
+    ensures { (c : Reconciler) (s : Store) (set : Object) → map.get s.objects c.set ≡ Some set → AreAccepted s (plan_over c s set)
+        → exchanged_times (length (plan_over c s set)) c (exchanged_times 4 c (s, reading_set)) ≡ (after s (plan_over c s set), listing_old_claims) }
+{}
+
+/// A plan of at most 1,024 actions whose update revision is in place, carried out in the store that it was made over, does to the
+/// set's pods what its steps say: a pod that it deletes is marked, one that it creates is there, of its revision and not ready
+/// yet, and each other one is as it was.
+pub fn plans_act_on_the_pods()
+    ensures { (set : SetParts) (digits : ℕ) (moment : List ℕ) (s : Store) (plan : IsPlannedOver set digits s) (next : Pods)
+        → moment ≢ [] → MayAct set most_actions s
+        → replicas_in set plan.update.key.name plan.current.key.name (views_in set (after_plan set digits moment s)) ≡ Ok next
+        → (i : ℕ) → (new : Replica) × IsCreated set i new × (pod_at next i ≡ after_steps (pod_steps (full_steps set plan.pods)) i new (pod_at plan.pods i)) }
+{}
+
+/// With a kubelet's turn after it, it is a round on pods, as the laws of `convergence` have it.
+pub fn plans_and_turns_are_rounds_on_pods()
+    ensures { (set : SetParts) (digits : ℕ) (moment : List ℕ) (s : Store) (plan : IsPlannedOver set digits s) (next : Pods)
+        → moment ≢ [] → MayAct set most_actions s → MayTurn set.object.key.namespace (after_plan set digits moment s)
+        → replicas_in set plan.update.key.name plan.current.key.name (views_in set (after_both set digits moment s)) ≡ Ok next
+        → IsRound set plan.pods next }
+{}
+
+/// So two rounds for each replica, one for each condemned pod and one more bring the pods of a store to what the spec says,
+/// whatever they were; unless a failed pod stops the set, under OrderedReady. Meanwhile the spec stays, no plan is refused, the
+/// update revision is in place, and nobody else writes.
+pub fn sets_come_to_stand_in_stores()
+    ensures { (set : SetParts) (update current : List ℕ) (digits k : ℕ) (s t : Store) (pods last : Pods)
+        → AreRoundsOver set update digits k s t
+        → replicas_in set update current (views_in set s) ≡ Ok pods → replicas_in set update current (views_in set t) ≡ Ok last
+        → most_rounds set pods + 1 ≤ k → Stands set last ⊎ ((set.policy ≡ Policy.OrderedReady) × IsStopped set pods) }
 {}

@@ -1,9 +1,12 @@
-//! Sets at rest: their plans are empty, and rounds over them write nothing. And a kubelet's turn over a store.
+//! Sets at rest: their plans are empty, and rounds over them write nothing. And what a plan and a kubelet's turn do to a store.
 #![tactic(auto)]
 
 mod laws;
 
 pub use laws::{
-    empty_plans_are_of_sets_at_rest, rounds_over_still_stores_write_nothing,
-    stores_of_sets_at_rest_stay, turns_over_tended_pods_ask_nothing, turns_tend_the_pods,
+    accepted_plans_are_carried_out, empty_plans_are_of_sets_at_rest,
+    planned_requests_are_acceptable, plans_act_on_the_pods, plans_and_turns_are_rounds_on_pods,
+    rounds_over_still_stores_write_nothing, sets_come_to_stand_in_stores,
+    stores_of_sets_at_rest_stay, turns_over_tended_pods_send_nothing, turns_tend_the_pods,
+    writes_apart_are_accepted,
 };

@@ -1,0 +1,34 @@
+-- Requests that a store accepts, one after another.
+use Rattle.std.specs.Prelude.{◌≡◌, ◌≢◌, Bool, true, false, ⊤, List, [], ◌∷◌, Some}
+use Rattle.std.specs.FinMap as finite
+use Rattle.std.specs.List.{AllByRecursion}
+use Rattle.objects.specs.declared.key.Key.{Key}
+use Rattle.requests.specs.declared.request.Request.{Request}
+use Rattle.requests.specs.declared.verdict.Verdict.{Verdict}
+use Rattle.requests.specs.declared.verdict.Verdict.TheVariants.{Refuse, Same, Write}
+use Rattle.requests.specs.Keys.{key_named}
+use Rattle.requests.specs.Verdict.{is_write, verdict}
+use Rattle.plain_store.specs.Store.{Store, step}
+use Rattle.rounds.specs.Accepted.{succeeded}
+
+abbrev pub is_refused : Verdict → Bool
+is_refused (Refuse reason) = true
+is_refused (Same o) = false
+is_refused (Write c) = false
+
+-- the request is a write, and what the store has under its key is no reason to refuse it
+pub record IsAcceptable (s : Store) (r : Request) : Type 0 where
+  pub write : is_write r ≡ true
+  pub key : Key
+  pub named : key_named r ≡ Some key
+  pub fits : is_refused (verdict r (finite.get s.objects key)) ≡ false
+
+-- no two of them name one key
+abbrev pub NameApart : List Request → Type 0
+NameApart [] = ⊤
+NameApart (r ∷ rs) = AllByRecursion (λ x. key_named x ≢ key_named r) rs × NameApart rs
+
+-- each is accepted, over what those before it have left
+abbrev pub AreAccepted : Store → List Request → Type 0
+AreAccepted s [] = ⊤
+AreAccepted s (r ∷ rs) = (succeeded r (step s r).1 ≡ true) × AreAccepted (step s r).0 rs
