@@ -25,14 +25,14 @@ counts-none (Ok x) old new unread same = same
 counts-none (Err Read) old new unread same = absurd (false-true (sym unread))
 counts-none (Err Memory) old new unread same = same
 counts-none (Err (Refused name)) old new unread same = same
-counts-none (Err (RefusedAt name line)) old new unread same = same
+counts-none (Err (RefusedAt name line fault)) old new unread same = same
 
 -- a halt for the reader's failure counts one
 pub read-fails : (halt : Halt) (old new : ℕ) → CountsReads {A = ℕ} (Err halt) old new → is_read halt ≡ true → old < new
 read-fails Read old new counts is = counts
 read-fails Memory old new counts is = absurd (false-true is)
 read-fails (Refused name) old new counts is = absurd (false-true is)
-read-fails (RefusedAt name line) old new counts is = absurd (false-true is)
+read-fails (RefusedAt name line fault) old new counts is = absurd (false-true is)
 
 same-less : (old new : ℕ) → new ≡ old → old < new → ⊥
 same-less old new same less = omega arith
@@ -44,7 +44,7 @@ spared-unwritten Same halt old new wrote counts same (inr write) = absurd (same-
 spared-unwritten Same Read old new wrote counts same (inl read) = same refl
 spared-unwritten Same Memory old new wrote counts same (inl read) = absurd (same-less old new counts read)
 spared-unwritten Same (Refused name) old new wrote counts same (inl read) = absurd (same-less old new counts read)
-spared-unwritten Same (RefusedAt name line) old new wrote counts same (inl read) = absurd (same-less old new counts read)
+spared-unwritten Same (RefusedAt name line fault) old new wrote counts same (inl read) = absurd (same-less old new counts read)
 
 -- if the reader did not fail, the writer did
 pub spared-read : (Same Wrote : Type 0) (old new : ℕ) → new ≡ old → (Wrote → Same) → (old < new) ⊎ Wrote → Same

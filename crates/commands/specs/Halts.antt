@@ -12,7 +12,7 @@ abbrev pub is_read : Halt → Bool
 is_read Read = true
 is_read Memory = false
 is_read (Refused name) = false
-is_read (RefusedAt name line) = false
+is_read (RefusedAt name line fault) = false
 
 -- the reader's failures before and after: one is counted exactly if the reader failed
 abbrev pub CountsReads : {A : Type 0} → Result A Halt → ℕ → ℕ → Type 0
@@ -20,7 +20,7 @@ CountsReads (Ok x) old new = new ≡ old
 CountsReads (Err Read) old new = old < new
 CountsReads (Err Memory) old new = new ≡ old
 CountsReads (Err (Refused name)) old new = new ≡ old
-CountsReads (Err (RefusedAt name line)) old new = new ≡ old
+CountsReads (Err (RefusedAt name line fault)) old new = new ≡ old
 
 -- what a fault of the input is
 abbrev pub halt_of : InputFault → Halt
@@ -32,18 +32,18 @@ abbrev pub told_line : (shows_line : Bool) → Option ℕ → Option ℕ
 told_line true line = line
 told_line false line = None
 
--- what is written of a refusal: its name, and in a line of its own the number of the line for which the input is
--- refused, if that is named
-abbrev pub refused_as : Option ℕ → (name : List ℕ) → List ℕ
-refused_as None name = name
-refused_as (Some n) name = name ++ 10 ∷ (codes "line " ++ decimal n)
+-- what is written of a refusal: its name, and in a line of its own, if that is named, the number of the line for which
+-- the input is refused, and what is wrong in it, if that is known
+abbrev pub refused_as : Option ℕ → (fault name : List ℕ) → List ℕ
+refused_as None fault name = name
+refused_as (Some n) fault name = name ++ 10 ∷ (codes "line " ++ (decimal n ++ fault))
 
 -- what is written of the refusal of an input, if it is refused
 abbrev pub name_of : Halt → Option (List ℕ)
 name_of Read = None
 name_of Memory = None
 name_of (Refused name) = Some name.now
-name_of (RefusedAt name line) = Some (refused_as (Some line) name.now)
+name_of (RefusedAt name line fault) = Some (refused_as (Some line) fault.now name.now)
 
 -- there is a name, of which this is written
 abbrev pub IsNamed : Option (List ℕ) → (List ℕ → Type 0) → Type 0

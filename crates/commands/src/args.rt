@@ -187,7 +187,7 @@ fn plan_grammar<'a>(alloc: Global) -> Result<Command<'a>, AllocError>
         .arg(flag_arg(
             alloc,
             "brief",
-            "Print each action in words instead, as `Create Pod web-0`",
+            "Print each action in words instead, and why, as `Delete Pod web-2: out of range`",
         ))?
         .arg(where_arg(alloc))
 }
@@ -288,7 +288,7 @@ fn where_arg<'a>(alloc: Global) -> Arg<'a>
     flag_arg(
         alloc,
         "where",
-        "Tell the number of the line for which the input is refused, as `line 7`",
+        "Tell the number of the line for which the input is refused, as `line 7`, and what is wrong in it, if that is known",
     )
 }
 

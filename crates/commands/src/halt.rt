@@ -29,8 +29,8 @@ pub(crate) enum Halt {
     Memory,
     /// The input is refused, by this name.
     Refused(&'static str),
-    /// The same, for the line of this number.
-    RefusedAt(&'static str, u64),
+    /// The same, for the line of this number, in which that is wrong.
+    RefusedAt(&'static str, u64, &'static str),
 }
 
 impl From<AllocError> for Halt {
@@ -142,13 +142,13 @@ impl From<ScriptingError> for Halt {
     }
 }
 
-/// A refusal by that name, and for that line if one is to be named.
-pub(crate) fn halt_at(name: &'static str, line: Option<u64>) -> Halt
+/// A refusal by that name, and for that line, with what is wrong in it, if one is to be named.
+pub(crate) fn halt_at(name: &'static str, line: Option<u64>, fault: &'static str) -> Halt
     ensures read { is_read result ≡ false }
-    ensures named { name_of result ≡ Some (refused_as line name.now) }
+    ensures named { name_of result ≡ Some (refused_as line fault.now name.now) }
 {
     match line {
-        Some(line) => Halt::RefusedAt(name, line),
+        Some(line) => Halt::RefusedAt(name, line, fault),
         None => Halt::Refused(name),
     }
 }
@@ -171,6 +171,6 @@ pub(crate) fn report_halt<F: Sink>(heap: &mut TrackedAlloc, halt: Halt, faults: 
             FAILURE
         }
         Halt::Refused(name) => write_refusal(faults, name),
-        Halt::RefusedAt(name, line) => write_refusal_at(faults, name, line),
+        Halt::RefusedAt(name, line, fault) => write_refusal_at(faults, name, line, fault),
     }
 }

@@ -85,6 +85,8 @@ More in docs/CLUSTERS.md"#;
 pub(crate) const PLAN_END: &str =
     r#"Whole input, of a set that is new; from a file as `stsctl plan --set web < FILE`:
 {"kind":"StatefulSet","metadata":{"name":"web","uid":"00000000-0000-4000-8000-000000000001"},"spec":{"replicas":3,"template":{}}}
+Its pods, claims and revisions come in the same input; from a cluster by examples/kubectl.jq:
+kubectl get sts,po,pvc,controllerrevision -o json | jq -c -f kubectl.jq | stsctl plan --set web
 
 Exit status:
   0  all was answered

@@ -4,12 +4,15 @@ ghost use Rattle.plan_lines.specs.Objects.{lists_of, nothing, read_from};
 ghost use Rattle.set_views.specs.Set.{set_parts};
 ghost use Rattle.sets.specs.Plan.{IsPlan};
 ghost use Rattle.plain.specs.Streams.{Puts, PutsPart};
+ghost use Rattle.plan_lines.specs.Formats.{actions_text, json_text};
+ghost use Rattle.reasons.specs.Reasons.{grounds_of_lists};
+ghost use Rattle.sets.specs.declared.action.Action.{Action};
 ghost use Rattle.commands.specs.Forms.{WritesBy};
 ghost use Rattle.commands.specs.Halts.{CountsReads, Tells, is_read, name_of, told_line};
 ghost use Rattle.objects.specs.Steps.{Fails};
 ghost use Rattle.plain.specs.Lines.{lines};
 ghost use Rattle.plan_lines.specs.RefusedLines.{refused_line_of};
-ghost use Rattle.commands.specs.Planning.{IsInputRefusal, IsPlanOf, IsPlanOfSetRefused, IsPlanOver, IsPlanRefusal, IsPlanRefusedBy, IsPlanText, IsRefusedOver, actions_of, format_by};
+ghost use Rattle.commands.specs.Planning.{IsInputRefusal, IsPlanOfSetRefused, IsPlanRefusal, IsPlanRefusedBy, IsPlanText, IsRefusedOver, IsTextOfSet, IsTextOver, fault_words, planned_text, text_by, text_with};
 
 use crate::args::PlanWords;
 use crate::halt::{Halt, halt_at, report_halt};
@@ -17,10 +20,20 @@ use crate::status::{BAD_WORDS, FAILURE, REFUSED, SUCCESS, TrackedAlloc};
 use objects::{Memory, ReadError};
 use plain::{RequestError, Sink, Source, read_all};
 use plan_lines::{
-    Format, Listed, OutputFault, named_set, read_objects, refused_object_line, write_actions,
+    Format, Listed, OutputFault, closing_lines, named_set, read_objects, refused_object_line,
+    write_actions,
 };
+use reasons::Why;
 use sets::{Plan, Set, read_set};
 use std::alloc::Global;
+
+/// A plan, what its reasons depend on if it is to be in words, and the lines after its actions.
+#[derive(Drop)]
+struct Planned {
+    plan: Plan,
+    why: Option<Why>,
+    closing: Vec<u8>,
+}
 
 /// Plans the requested set, given the objects that the reader has, and writes the actions.
 pub(crate) fn run_plan<R: Source, W: Sink, F: Sink>(
@@ -49,27 +62,29 @@ pub(crate) fn run_plan<R: Source, W: Sink, F: Sink>(
     ensures silent { result ≡ REFUSED → writer.new ≡ writer.old }
 {
     match plan_of_input(heap.alloc, asked, reader) {
-        Ok(plan) => write_plan(heap, asked, &plan, writer),
+        Ok(planned) => write_plan(heap, &planned, writer),
         Err(halt) => report_halt(heap, halt, faults),
     }
 }
 
-/// Writes the actions of the plan.
-fn write_plan<W: Sink>(
-    heap: &mut TrackedAlloc,
-    asked: &PlanWords<'_>,
-    plan: &Plan,
-    writer: &mut W,
-) -> u8
+/// Writes the actions of the plan, and the lines after them.
+fn write_plan<W: Sink>(heap: &mut TrackedAlloc, planned: &Planned, writer: &mut W) -> u8
     ensures status { result < BAD_WORDS }
-    ensures all { result ≡ SUCCESS → Puts (W.written writer.old) (actions_of asked.now plan.now) (W.written writer.new) }
-    ensures part { PutsPart (W.written writer.old) (actions_of asked.now plan.now) (W.written writer.new) }
+    ensures all { result ≡ SUCCESS → Puts (W.written writer.old) (planned_text planned.now) (W.written writer.new) }
+    ensures part { PutsPart (W.written writer.old) (planned_text planned.now) (W.written writer.new) }
     ensures cause { result ≡ FAILURE → (W.failures writer.old < W.failures writer.new) ⊎ (heap.new.refused ≡ true) }
     ensures memory { result ≢ FAILURE → heap.new.refused ≡ heap.old.refused }
     ensures spared { W.failures writer.old < W.failures writer.new → heap.new.refused ≡ heap.old.refused }
 {
-    let format = format_by(asked.brief);
-    match write_actions(heap.alloc, format, plan.actions.as_slice(), writer) {
+    let actions = planned.plan.actions.as_slice();
+    let format = format_by(&planned.why);
+    match write_actions(
+        heap.alloc,
+        format,
+        actions,
+        planned.closing.as_slice(),
+        writer,
+    ) {
         Ok(()) => SUCCESS,
         Err(OutputFault::Write) => FAILURE,
         Err(OutputFault::Memory) => {
@@ -79,11 +94,14 @@ fn write_plan<W: Sink>(
     }
 }
 
-/// How the actions are written.
-fn format_by(brief: bool) -> Format
-    ensures { result ≡ format_by brief }
+/// How the actions are written: in words if there are reasons.
+fn format_by(why: &Option<Why>) -> Format<'_>
+    ensures { (actions : List Action) → actions_text result actions ≡ text_with why.now actions }
 {
-    if brief { Format::Brief } else { Format::Json }
+    match why {
+        None => Format::Json,
+        Some(why) => Format::Brief(why),
+    }
 }
 
 /// The plan, given all that the reader has.
@@ -91,11 +109,11 @@ fn plan_of_input<R: Source>(
     alloc: Global,
     asked: &PlanWords<'_>,
     reader: &mut R,
-) -> Result<Plan, Halt>
+) -> Result<Planned, Halt>
     requires some { 1 ≤ asked.now.digits }
     requires most { asked.now.digits ≤ 64 }
-    ensures planned { IfOk result (λ plan. IfSome (R.remaining reader.old)
-        (λ input. (R.remaining reader.new ≡ Some []) × IsPlanOf asked.now input plan)) }
+    ensures planned { IfOk result (λ planned. IfSome (R.remaining reader.old)
+        (λ input. (R.remaining reader.new ≡ Some []) × IsPlanText asked.now input (planned_text planned))) }
     ensures refused { IfErr result (λ halt. IfSome (name_of halt) (IsPlanRefusedBy asked.now (R.remaining reader.old) (R.remaining reader.new))) }
     ensures reads { CountsReads result (R.failures reader.old) (R.failures reader.new) }
 {
@@ -104,10 +122,10 @@ fn plan_of_input<R: Source>(
 }
 
 /// The plan, given the lines of its objects.
-fn plan_of_lines(alloc: Global, asked: &PlanWords<'_>, input: &[u8]) -> Result<Plan, Halt>
+fn plan_of_lines(alloc: Global, asked: &PlanWords<'_>, input: &[u8]) -> Result<Planned, Halt>
     requires some { 1 ≤ asked.now.digits }
     requires most { asked.now.digits ≤ 64 }
-    ensures planned { IfOk result (λ plan. IsPlanOf asked.now input.now plan) }
+    ensures planned { IfOk result (λ planned. IsPlanText asked.now input.now (planned_text planned)) }
     ensures refused { IfErr result (λ halt. IfSome (name_of halt) (IsPlanRefusal asked.now input.now)) }
     ensures read { IfErr result (λ halt. is_read halt ≡ false) }
 {
@@ -126,9 +144,25 @@ fn no_objects(alloc: Global, shows_line: bool, error: ReadError, input: &[u8]) -
     match error {
         ReadError::Memory => Halt::Memory,
         error => match line_told(alloc, shows_line, input) {
-            Ok(line) => halt_at(RequestError::Read(error).name(), line),
+            Ok(line) => halt_at(RequestError::Read(error).name(), line, fault_words(error)),
             Err(Memory) => Halt::Memory,
         },
+    }
+}
+
+/// What is wrong in a line that is no object.
+fn fault_words(error: ReadError) -> &'static str
+    ensures { result.now ≡ fault_words error }
+{
+    match error {
+        ReadError::NotJson => ": it is not JSON",
+        ReadError::NotWhole => ": a number is not whole",
+        ReadError::NoKind => ": kind",
+        ReadError::UnknownKind => ": kind or apiVersion",
+        ReadError::BadName => ": metadata.name or metadata.namespace",
+        ReadError::BadMeta => ": another member of metadata",
+        ReadError::TooLong => ": it is too long",
+        ReadError::Memory => "",
     }
 }
 
@@ -144,10 +178,10 @@ fn line_told(alloc: Global, shows_line: bool, input: &[u8]) -> Result<Option<u64
 }
 
 /// The plan, given the objects that were listed.
-fn plan_of_objects(alloc: Global, asked: &PlanWords<'_>, listed: &Listed) -> Result<Plan, Halt>
+fn plan_of_objects(alloc: Global, asked: &PlanWords<'_>, listed: &Listed) -> Result<Planned, Halt>
     requires some { 1 ≤ asked.now.digits }
     requires most { asked.now.digits ≤ 64 }
-    ensures planned { IfOk result (λ plan. IsPlanOver asked.now (lists_of listed.now) plan) }
+    ensures planned { IfOk result (λ planned. IsTextOver asked.now (lists_of listed.now) (planned_text planned)) }
     ensures refused { IfErr result (λ halt. IfSome (name_of halt) (IsRefusedOver asked.now (lists_of listed.now))) }
     ensures read { IfErr result (λ halt. is_read halt ≡ false) }
 {
@@ -155,7 +189,64 @@ fn plan_of_objects(alloc: Global, asked: &PlanWords<'_>, listed: &Listed) -> Res
         return Err(Halt::Refused("NotFound"));
     };
     let set = read_set(alloc, object)?;
-    plan_of_set(alloc, asked.digits, listed, &set)
+    plan_to_write(alloc, asked, listed, set)
+}
+
+/// The plan of this set, with what is needed to write it.
+fn plan_to_write(
+    alloc: Global,
+    asked: &PlanWords<'_>,
+    listed: &Listed,
+    set: Set,
+) -> Result<Planned, Halt>
+    requires some { 1 ≤ asked.now.digits }
+    requires most { asked.now.digits ≤ 64 }
+    ensures planned { IfOk result (λ planned. IsTextOfSet asked.now (set_parts set) (lists_of listed.now) (planned_text planned)) }
+    ensures refused { IfErr result (λ halt. IfSome (name_of halt) (IsPlanOfSetRefused (set_parts set) (lists_of listed.now) asked.now.digits)) }
+    ensures read { IfErr result (λ halt. is_read halt ≡ false) }
+{
+    let plan = plan_of_set(alloc, asked.digits, listed, &set)?;
+    if asked.brief {
+        Ok(in_words(alloc, asked.digits, listed, set, plan)?)
+    } else {
+        drop(set);
+        Ok(in_json(alloc, plan))
+    }
+}
+
+/// A plan that is to be written as JSON.
+fn in_json(alloc: Global, plan: Plan) -> Planned
+    ensures { planned_text result ≡ json_text plan.actions.items }
+{
+    Planned {
+        plan,
+        why: None,
+        closing: Vec::new(alloc),
+    }
+}
+
+/// A plan of the set that is to be written in words.
+fn in_words(
+    alloc: Global,
+    digits: usize,
+    listed: &Listed,
+    set: Set,
+    plan: Plan,
+) -> Result<Planned, Memory>
+    requires some { 1 ≤ digits }
+    requires most { digits ≤ 64 }
+    ensures { IfOk result (λ planned. planned_text planned ≡ text_by true
+        (grounds_of_lists (set_parts set) digits listed.now.revisions.items listed.now.pods.items) listed.now.claims.items plan.actions.items) }
+{
+    let pods = listed.pods.as_slice();
+    let why = Why::of(alloc, set, pods, listed.revisions.as_slice(), digits)?;
+    let actions = plan.actions.as_slice();
+    let closing = closing_lines(alloc, &why, actions, listed.claims.as_slice())?;
+    Ok(Planned {
+        plan,
+        why: Some(why),
+        closing,
+    })
 }
 
 /// The plan of this set.

@@ -139,6 +139,6 @@ pub fn command<T: Threads + Wait + Sync, S: AsStr, R: Source, W: Sink, F: Sink>(
         Ok(CommandLine::Outcomes(options)) => {
             run_word(heap, &Finding { options }, reader, writer, faults)
         }
-        Err(error) => explain(heap, &error, writer, faults),
+        Err(error) => explain(heap, words, &error, writer, faults),
     }
 }

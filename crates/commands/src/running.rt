@@ -93,7 +93,7 @@ fn no_script<S: Runnable>(alloc: Global, shows_line: bool, error: ScriptError, i
     match error {
         ScriptError::Memory => Halt::Memory,
         ScriptError::BadScript => match line_told::<S>(alloc, shows_line, input) {
-            Ok(line) => halt_at("BadScript", line),
+            Ok(line) => halt_at("BadScript", line, ""),
             Err(Memory) => Halt::Memory,
         },
     }

@@ -1,5 +1,5 @@
 //! Exit statuses, and what is written with each.
-ghost use Rattle.std.specs.Prelude.{◌≡◌, ◌≢◌, ◌<◌, ◌⊎◌, IfNone, OnSome, Some, false};
+ghost use Rattle.std.specs.Prelude.{◌≡◌, ◌≢◌, ◌<◌, ◌⊎◌, ◌++◌, ◌∷◌, IfNone, OnSome, Some, codes, decimal, false};
 ghost use Rattle.plain.specs.Streams.{Puts, PutsPart};
 ghost use Rattle.commands.specs.Halts.{Tells, refusal_text, refused_as};
 
@@ -71,34 +71,43 @@ pub(crate) fn write_refusal<F: Sink>(faults: &mut F, name: &str) -> u8
     REFUSED
 }
 
-/// The same for an input that is refused for a line, followed by `line N` and a line end.
-pub(crate) fn write_refusal_at<F: Sink>(faults: &mut F, name: &str, line: u64) -> u8
+/// The same for an input that is refused for a line, followed by `line N`, what is wrong in it, and a line end.
+pub(crate) fn write_refusal_at<F: Sink>(faults: &mut F, name: &str, line: u64, fault: &str) -> u8
     ensures status { result ≡ REFUSED }
-    ensures all { Tells (refused_as (Some line) name.now) (F.written faults.old) (F.written faults.new) (F.failures faults.old) (F.failures faults.new) }
+    ensures all { Tells (refused_as (Some line) fault.now name.now) (F.written faults.old) (F.written faults.new) (F.failures faults.old) (F.failures faults.new) }
 {
-    let _ = put_refusal_at(faults, name, line);
+    let _ = put_refusal_at(faults, name, line, fault);
     REFUSED
 }
 
-fn put_refusal_at<F: Sink>(faults: &mut F, name: &str, line: u64) -> Option<()>
-    ensures put { OnSome result (Puts (F.written faults.old) (refusal_text (refused_as (Some line) name.now)) (F.written faults.new)) }
+fn put_refusal_at<F: Sink>(faults: &mut F, name: &str, line: u64, fault: &str) -> Option<()>
+    ensures put { OnSome result (Puts (F.written faults.old) (refusal_text (refused_as (Some line) fault.now name.now)) (F.written faults.new)) }
     ensures failed { IfNone result (F.failures faults.old < F.failures faults.new) }
 {
     write_all(faults, b"refused: ")?;
-    put_named(faults, name, line)?;
+    put_named(faults, name, line, fault)?;
     write_all(faults, b"\n")
 }
 
-fn put_named<F: Sink>(faults: &mut F, name: &str, line: u64) -> Option<()>
-    ensures put { OnSome result (Puts (F.written faults.old) (refused_as (Some line) name.now) (F.written faults.new)) }
+fn put_named<F: Sink>(faults: &mut F, name: &str, line: u64, fault: &str) -> Option<()>
+    ensures put { OnSome result (Puts (F.written faults.old) (refused_as (Some line) fault.now name.now) (F.written faults.new)) }
+    ensures well { OnSome result (F.failures faults.new ≡ F.failures faults.old) }
+    ensures failed { IfNone result (F.failures faults.old < F.failures faults.new) }
+{
+    write_all(faults, name.as_bytes())?;
+    put_line(faults, line, fault)
+}
+
+fn put_line<F: Sink>(faults: &mut F, line: u64, fault: &str) -> Option<()>
+    ensures put { OnSome result (Puts (F.written faults.old) (10 ∷ (codes "line " ++ (decimal line ++ fault.now))) (F.written faults.new)) }
     ensures well { OnSome result (F.failures faults.new ≡ F.failures faults.old) }
     ensures failed { IfNone result (F.failures faults.old < F.failures faults.new) }
 {
     let mut digits = itoa::Buffer::new();
     let number = digits.format(line);
-    write_all(faults, name.as_bytes())?;
     write_all(faults, b"\nline ")?;
-    write_all(faults, number.as_bytes())
+    write_all(faults, number.as_bytes())?;
+    write_all(faults, fault.as_bytes())
 }
 
 fn put_refusal<F: Sink>(faults: &mut F, name: &str) -> Option<()>

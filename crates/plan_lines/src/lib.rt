@@ -3,11 +3,13 @@
 
 mod action_line;
 mod brief;
+mod closing;
 mod listed;
 mod output;
 mod refusal;
 mod wrong_line;
 
+pub use closing::closing_lines;
 pub use listed::{Listed, named_set, read_objects};
 pub use output::{Format, OutputFault, write_actions};
 pub use refusal::plan_error_name;

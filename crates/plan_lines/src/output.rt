@@ -9,31 +9,32 @@ use crate::action_line::put_action;
 use crate::brief::put_brief;
 use objects::Memory;
 use plain::{Sink, write_all};
+use reasons::Why;
 use sets::Action;
 use std::alloc::{AllocError, Global};
 use thiserror::Error;
 
 /// How a line shows an action.
 #[derive(Clone, Copy, Drop)]
-pub enum Format {
+pub enum Format<'a> {
     /// As compact JSON, with all that is needed to do it.
     Json,
-    /// In words, for a person: only names.
-    Brief,
+    /// In words, for a person: only names, and why.
+    Brief(&'a Why),
 }
 
 /// Appends the line of the action.
 fn put_formatted(
     alloc: Global,
-    format: Format,
+    format: Format<'_>,
     action: &Action,
     out: Vec<u8>,
 ) -> Result<Vec<u8>, AllocError>
-    ensures { IfOk result (λ text. text.items ≡ out.items ++ (action_text format action.now ++ 10 ∷ [])) }
+    ensures { IfOk result (λ text. text.items ≡ out.items ++ (action_text format.entry action.now ++ 10 ∷ [])) }
 {
     match format {
         Format::Json => put_action(alloc, action, out),
-        Format::Brief => put_brief(action, out),
+        Format::Brief(why) => put_brief(why, action, out),
     }
 }
 
@@ -67,7 +68,8 @@ impl From<AllocError> for OutputFault {
     }
 }
 
-/// Writes the actions, one a line and in order. Brief shows each in words, as `Create Pod web-0`, and Json as:
+/// Writes the actions, one a line and in order, and then the last lines. Brief shows each in words, as `Delete Pod web-2:
+/// out of range`, and Json as:
 ///
 /// - `{"do":A,"object":O}` for CreateClaim, CreatePod, UpdateClaim, WriteRevision and WriteStatus;
 /// - `{"do":"DeletePod","name":N,"uid":U}`;
@@ -82,18 +84,20 @@ impl From<AllocError> for OutputFault {
 /// If the writer failed or memory ran out, what was written is a prefix of the lines.
 pub fn write_actions<W: Sink>(
     alloc: Global,
-    format: Format,
+    format: Format<'_>,
     actions: &[Action],
+    last: &[u8],
     writer: &mut W,
 ) -> Result<(), OutputFault>
-    ensures all { OnOk result (Puts (W.written writer.old) (actions_text format actions.now) (W.written writer.new)) }
-    ensures part { PutsPart (W.written writer.old) (actions_text format actions.now) (W.written writer.new) }
+    ensures all { OnOk result (Puts (W.written writer.old) (actions_text format.entry actions.now ++ last.now) (W.written writer.new)) }
+    ensures part { PutsPart (W.written writer.old) (actions_text format.entry actions.now ++ last.now) (W.written writer.new) }
     ensures writes { CountsWrites result (W.failures writer.old) (W.failures writer.new) }
 {
     let mut lines = Vec::new(alloc);
     for action in actions {
         lines = put_line(alloc, format, action, lines, writer)?;
     }
+    lines.extend_from_slice(last)?;
     write_all(writer, lines.as_slice()).ok_or(OutputFault::Write)
 }
 
@@ -101,14 +105,14 @@ pub fn write_actions<W: Sink>(
 /// waits.
 fn put_line<W: Sink>(
     alloc: Global,
-    format: Format,
+    format: Format<'_>,
     action: &Action,
     waiting: Vec<u8>,
     writer: &mut W,
 ) -> Result<Vec<u8>, OutputFault>
-    ensures put { IfOk result (λ left. PutsBut (W.written writer.old) (waiting.items ++ (action_text format action.now ++ 10 ∷ []))
+    ensures put { IfOk result (λ left. PutsBut (W.written writer.old) (waiting.items ++ (action_text format.entry action.now ++ 10 ∷ []))
         left.items (W.written writer.new)) }
-    ensures part { OnErr result (PutsPart (W.written writer.old) (waiting.items ++ (action_text format action.now ++ 10 ∷ []))
+    ensures part { OnErr result (PutsPart (W.written writer.old) (waiting.items ++ (action_text format.entry action.now ++ 10 ∷ []))
         (W.written writer.new)) }
     ensures writes { CountsWrites result (W.failures writer.old) (W.failures writer.new) }
 {

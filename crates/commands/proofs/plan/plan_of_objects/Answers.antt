@@ -11,13 +11,13 @@ pub returns-clause-planned : goal.returns-clause-planned
 returns-clause-planned c =
     let asked = c.args.asked.now in
     let found = sym (c.in-Some.ensures ∙ ap (λ sets. find (is_named asked.namespace.now asked.name.now) sets) c.as_slice.ensures.value) in
-    IfOk-weaker c.plan_of_set.result _ _
-    (λ plan planned. (c.in-Some.object.now, found, (set_parts c.in_ok-set.set, c.in_ok-set.ensures, planned))) c.plan_of_set.ensures.planned
+    IfOk-weaker c.plan_to_write.result _ _
+    (λ plan planned. (c.in-Some.object.now, found, (set_parts c.in_ok-set.set, c.in_ok-set.ensures, planned))) c.plan_to_write.ensures.planned
 
 pub returns-clause-refused : goal.returns-clause-refused
 returns-clause-refused c =
     let asked = c.args.asked.now in
     let found = sym (c.in-Some.ensures ∙ ap (λ sets. find (is_named asked.namespace.now asked.name.now) sets) c.as_slice.ensures.value) in
-    IfErr-weaker c.plan_of_set.result _ _
+    IfErr-weaker c.plan_to_write.result _ _
     (λ halt refused. IfSome_then (name_of halt) refused
-    (λ name is. inr (c.in-Some.object.now, found, inr (set_parts c.in_ok-set.set, c.in_ok-set.ensures, is)))) c.plan_of_set.ensures.refused
+    (λ name is. inr (c.in-Some.object.now, found, inr (set_parts c.in_ok-set.set, c.in_ok-set.ensures, is)))) c.plan_to_write.ensures.refused
