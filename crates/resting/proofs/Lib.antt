@@ -6,11 +6,16 @@ pub mod TurnsOnPods
 pub mod Acts
 pub mod NewPods
 pub mod PlanLists
+pub mod Pairs
 pub mod CreatedRevisions
 pub mod PlansOnPods
 pub mod RoundsOnPods
 pub mod PlainPods
-pub mod RoundsOver
 pub mod Accepting
 pub mod AcceptablePlans
 pub mod UpToDate
+pub mod StepsApart
+pub mod TemplateNames
+pub mod PlanApart
+pub mod AcceptedPlans
+pub mod RoundsOver

@@ -127,11 +127,11 @@ low_by set i name (Some x) each h =
       | false ↦ λ e. absurd (true≢false (sym e))
     ] h
 
-low : (set : SetParts) (i : ℕ) (k : Key) → is_called set i k ≡ true → i ≤ most_ordinal
+pub low : (set : SetParts) (i : ℕ) (k : Key) → is_called set i k ≡ true → i ≤ most_ordinal
 unfolding split_name_in
 low set i k h = low_by set i k.name (split_name_in k.name) (λ x e. found_below k.name (length k.name) x e) h
 
-apart : (set : SetParts) (i j : ℕ) → i ≤ most_ordinal → j ≤ most_ordinal → pod_key set i ≡ pod_key set j → i ≡ j
+pub apart : (set : SetParts) (i j : ℕ) → i ≤ most_ordinal → j ≤ most_ordinal → pod_key set i ≡ pod_key set j → i ≡ j
 apart set i j at_i at_j same =
     (pod_names-differ set.object.key.name set.object.key.name i j (omega arith) (omega arith) (ap (λ (k : Key). k.name) same)).1
 

@@ -1,5 +1,5 @@
 -- Each action of a plan is about an object as the store has it, or makes one where there is none.
-use Rattle.std.proofs.Common.{◌≡◌, ◌≢◌, ◌-◌, inl, inr, ℕ, zero, suc, Bool, true, false, cond, not, if◌then◌else◌, List, [], ◌∷◌, ◌++◌, map, take, length, filter, find, bytes_eq, option_and_then, Option, Some, None, Result, Ok, Err, refl, sym, ap, ◌∙◌, subst, true≢false}
+use Rattle.std.proofs.Common.{◌≡◌, ◌≢◌, ◌-◌, inl, inr, ℕ, Bool, true, false, cond, not, if◌then◌else◌, List, [], ◌∷◌, ◌++◌, map, length, find, bytes_eq, option_and_then, Option, Some, None, Result, Ok, Err, refl, sym, ap, ◌∙◌, subst, true≢false}
 use Rattle.std.specs.Prelude.{◌&&◌, ◌+◌, IfSome}
 use Rattle.std.specs.FinMap as finite
 use Rattle.std.specs.List.{AllByRecursion, Contains, flat_map, list_any}
@@ -55,6 +55,7 @@ use Rattle.resting.specs.Accepting.{IsAcceptable}
 use Rattle.resting.specs.Acting.{IsPlannedOver, MayAct, planned_requests, views_in}
 use Rattle.resting.specs.Still.{listed_in}
 use Rattle.resting.proofs.AcceptablePlans.{IsUpToDate, acceptable}
+use Rattle.resting.proofs.Pairs.{all_filtered, all_taken}
 use Rattle.resting.proofs.PlanLists.{all_append, all_by, all_filter_map, all_flat, pod_key}
 use Rattle.resting.proofs.PlansOnPods.{deleted_pod, key_at, nothing_there, there_by}
 use Rattle.resting.proofs.RoundsOnPods.{are_claims, claims_there, may_send, replicas_are, sent_is}
@@ -78,19 +79,6 @@ none_passes p (y ∷ ys) x none at =
         | inr later ↦ none_passes p ys x e later
       ]
     ] refl none
-
-all_filtered : {X : Type 0} (P : X → Type 0) (p : X → Bool) (xs : List X) → AllByRecursion P xs → AllByRecursion P (filter p xs)
-all_filtered P p [] all = tt
-all_filtered P p (x ∷ xs) all =
-    elim (p x) as (λ b. AllByRecursion P (cond b (x ∷ filter p xs) (filter p xs))) [
-      | true ↦ (all.0, all_filtered P p xs all.1)
-      | false ↦ all_filtered P p xs all.1
-    ]
-
-all_taken : {X : Type 0} (P : X → Type 0) (n : ℕ) (xs : List X) → AllByRecursion P xs → AllByRecursion P (take n xs)
-all_taken P zero xs all = tt
-all_taken P (suc n) [] all = tt
-all_taken P (suc n) (x ∷ xs) all = (all.0, all_taken P n xs all.1)
 
 -- ---- revisions that are owned
 owned_in : List Object → Result revision_plans.PlanParts PlanError → List Object
@@ -119,7 +107,7 @@ planned_owned set held digits owned =
       | false ↦ refl
     ]
 
-settled_owned : (set : SetParts) (held : List ℕ → Bool) (digits : ℕ) (all owned : List Object) (current update : Object) → plan_of set held digits all ≡ Ok (settled owned current update) → owned ≡ all
+pub settled_owned : (set : SetParts) (held : List ℕ → Bool) (digits : ℕ) (all owned : List Object) (current update : Object) → plan_of set held digits all ≡ Ok (settled owned current update) → owned ≡ all
 unfolding owned_in
 settled_owned set held digits all owned current update is = ap (owned_in all) (sym is) ∙ planned_owned set held digits all
 

@@ -9,6 +9,7 @@ use Rattle.requests.specs.declared.request.Request.{Request}
 use Rattle.set_views.specs.Firsts.{is_held}
 use Rattle.set_views.specs.Pod.{PodParts}
 use Rattle.set_views.specs.Set.{SetParts}
+use Rattle.set_views.specs.SetReading.{set_of}
 use Rattle.pod_steps.specs.declared.replica.Replica.{Replica}
 use Rattle.pod_steps.specs.declared.step.Revision.TheVariants.{Update}
 use Rattle.pod_steps.specs.declared.step.Step.{Step}
@@ -69,6 +70,11 @@ pub record MayAct (set : SetParts) (writes : ℕ) (s : Store) : Type 0 where
   pub name : 0 < length set.object.key.name
   pub ordinals : set.start + set.replicas ≤ 2 ^ 31
   pub room : s.counter + writes ≤ s.capacity
+
+-- the set is that of the store
+pub record IsReadIn (s : Store) (set : SetParts) : Type 0 where
+  pub there : Has s set.object.key set.object
+  pub read : set_of set.object ≡ Ok set
 
 -- ---- on pods
 -- a deleted pod stays until a kubelet takes it away

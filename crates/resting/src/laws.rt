@@ -30,7 +30,7 @@ ghost use Rattle.convergence.specs.Left.{most_rounds};
 ghost use Rattle.convergence.specs.Standing.{AreTended, Stands};
 ghost use Rattle.convergence.specs.Stopped.{IsStopped};
 ghost use Rattle.resting.specs.Accepting.{AreAccepted, IsAcceptable, NameApart};
-ghost use Rattle.resting.specs.Acting.{IsCreated, IsPlannedOver, MayAct, after_both, after_plan, after_steps, planned_requests, views_in};
+ghost use Rattle.resting.specs.Acting.{IsCreated, IsPlannedOver, IsReadIn, MayAct, after_both, after_plan, after_steps, planned_requests, views_in};
 ghost use Rattle.resting.specs.Rest.{IsAtRest, RestsOver};
 ghost use Rattle.resting.specs.Still.{IsStill, IsTendedPod, ShowsRest, exchanged_times, plan_over, reads_of_a_round};
 ghost use Rattle.resting.specs.RoundsOver.{AreRoundsOver};
@@ -94,6 +94,14 @@ pub fn writes_apart_are_accepted()
 pub fn planned_requests_are_acceptable()
     ensures { (set : SetParts) (digits : ℕ) (moment : List ℕ) (s : Store) → IsPlannedOver set digits s → moment ≢ [] → MayAct set most_actions s
         → Has s set.object.key set.object → AllByRecursion (IsAcceptable s) (planned_requests set digits moment s) }
+{}
+
+/// No two requests of a plan name one key. So all are accepted, if the set is that of the store.
+pub fn planned_requests_are_accepted()
+    ensures apart { (set : SetParts) (digits : ℕ) (moment : List ℕ) (s : Store) → IsPlannedOver set digits s → moment ≢ [] → MayAct set most_actions s
+        → IsReadIn s set → NameApart (planned_requests set digits moment s) }
+    ensures accepted { (set : SetParts) (digits : ℕ) (moment : List ℕ) (s : Store) → IsPlannedOver set digits s → moment ≢ [] → MayAct set most_actions s
+        → IsReadIn s set → AreAccepted s (planned_requests set digits moment s) }
 {}
 
 /// A controller whose requests are accepted reads four times, sends its plan, and leaves what the plan's requests leave.
