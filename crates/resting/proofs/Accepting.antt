@@ -37,7 +37,7 @@ use Rattle.resting.proofs.Turns.{carried}
 
 -- ---- one request
 -- its verdict leads to a reply that its sender takes for success, unless it is a refusal
-abbrev Succeeds : Request → Verdict → Type 0
+abbrev pub Succeeds : Request → Verdict → Type 0
 Succeeds r (Refuse reason) = ⊤
 Succeeds r (Same o) = succeeded r (Unchanged o) ≡ true
 Succeeds r (Write c) = (n : ℕ) → succeeded r (accepted c (stamp c n)) ≡ true
@@ -76,7 +76,7 @@ of_deleted k uid version at None o = λ n. refl
 of_deleted k uid version at (Some time) o =
     elim (is_some o.meta.deletion) as (λ b. Succeeds (Delete k uid version at) (if b then Same o else Write (marks (marked time o)))) [ true ↦ refl | false ↦ λ n. refl ]
 
-of_delete : (k : Key) (uid version at : Option (List ℕ)) (current : Option Object) → Succeeds (Delete k uid version at) (on_delete version uid at current)
+pub of_delete : (k : Key) (uid version at : Option (List ℕ)) (current : Option Object) → Succeeds (Delete k uid version at) (on_delete version uid at current)
 of_delete k uid version at None = tt
 of_delete k uid version at (Some o) =
     elim (conflicts version uid o) as (λ b. Succeeds (Delete k uid version at) (if b then Refuse Conflict else deleted (graceful o.key.kind at) o)) [

@@ -18,4 +18,5 @@ pub mod StepsApart
 pub mod TemplateNames
 pub mod PlanApart
 pub mod AcceptedPlans
+pub mod WholeRounds
 pub mod RoundsOver

@@ -25,7 +25,7 @@ use Rattle.resting.specs.Rest.{RestsOver}
 use Rattle.resting.specs.Still.{IsStill, IsTendedPod, ShowsRest, exchanged, exchanged_times, listed_in, plan_over}
 use Rattle.resting.proofs.Lists.{rest_is_empty}
 
-least : (n : ℕ) → min (min (min n n) n) n ≡ n
+pub least : (n : ℕ) → min (min (min n n) n) n ≡ n
 least n = omega arith
 
 abbrev At : Store → Phase → Store × Phase

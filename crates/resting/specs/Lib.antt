@@ -5,3 +5,4 @@ pub mod Turns
 pub mod Acting
 pub mod RoundsOver
 pub mod Accepting
+pub mod WholeRounds

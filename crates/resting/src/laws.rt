@@ -33,6 +33,7 @@ ghost use Rattle.resting.specs.Accepting.{AreAccepted, IsAcceptable, NameApart};
 ghost use Rattle.resting.specs.Acting.{IsCreated, IsPlannedOver, IsReadIn, MayAct, after_both, after_plan, after_steps, planned_requests, views_in};
 ghost use Rattle.resting.specs.Rest.{IsAtRest, RestsOver};
 ghost use Rattle.resting.specs.Still.{IsStill, IsTendedPod, ShowsRest, exchanged_times, plan_over, reads_of_a_round};
+ghost use Rattle.resting.specs.WholeRounds.{EndsRound, after_round};
 ghost use Rattle.resting.specs.RoundsOver.{AreRoundsOver};
 ghost use Rattle.resting.specs.Turns.{IsTurnOver, MayTurn};
 
@@ -109,6 +110,13 @@ pub fn planned_requests_are_accepted()
 pub fn accepted_plans_are_carried_out()
     ensures { (c : Reconciler) (s : Store) (set : Object) → map.get s.objects c.set ≡ Some set → AreAccepted s (plan_over c s set)
         → exchanged_times (length (plan_over c s set)) c (exchanged_times 4 c (s, reading_set)) ≡ (after s (plan_over c s set), listing_old_claims) }
+{}
+
+/// So a set's controller ends its round: it reads nine times, sends each request of its plan, and then each delete of a collection,
+/// which takes place over what the plan has left.
+pub fn controllers_end_their_rounds()
+    ensures { (set : SetParts) (digits : ℕ) (moment : List ℕ) (s : Store) → let c = reconciler_with set.object.key digits moment in
+        IsPlannedOver set digits s → moment ≢ [] → MayAct set most_actions s → IsReadIn s set → EndsRound c set.object s (after_round c s set.object) }
 {}
 
 /// A plan of at most 1,024 actions whose update revision is in place, carried out in the store that it was made over, does to the

@@ -4,7 +4,7 @@
 mod laws;
 
 pub use laws::{
-    accepted_plans_are_carried_out, empty_plans_are_of_sets_at_rest,
+    accepted_plans_are_carried_out, controllers_end_their_rounds, empty_plans_are_of_sets_at_rest,
     planned_requests_are_acceptable, planned_requests_are_accepted, plans_act_on_the_pods,
     plans_and_turns_are_rounds_on_pods, rounds_over_still_stores_write_nothing,
     sets_come_to_stand_in_stores, stores_of_sets_at_rest_stay, turns_over_tended_pods_send_nothing,
