@@ -19,4 +19,5 @@ pub mod TemplateNames
 pub mod PlanApart
 pub mod AcceptedPlans
 pub mod WholeRounds
+pub mod Collections
 pub mod RoundsOver

@@ -64,7 +64,7 @@ pub meets_its_own : (o : Object) → conflicts (text_unless_zero o.meta.revision
 meets_its_own o = (λ k. same_unless_zero o.meta.revision (decimal o.meta.revision) k || same_unless_zero o.meta.uid (uid_text o.meta.uid) k)
 
 -- ---- one request under a key
-gone : (s : Store) (k : Key) → finite.get (finite.remove s.objects k) k ≡ None
+pub gone : (s : Store) (k : Key) → finite.get (finite.remove s.objects k) k ≡ None
 gone s k = get-remove key_cmp_total s.objects k k ∙ ap (λ b. cond b None (finite.get s.objects k)) ((eq_by_cmp_equiv key_cmp_total).refl k)
 
 pub written : (s : Store) (k : Key) (o : Object) → finite.get (finite.insert s.objects k o) k ≡ Some o
@@ -79,7 +79,7 @@ not_full s room = elim (s.counter == s.capacity) as (λ b. s.counter == s.capaci
 pub carried : (s : Store) (k : Key) (c : Change) → s.counter < s.capacity → carried_out s k (Write c) ≡ (with_change s k c, accepted c (stamp c (s.counter + 1)))
 carried s k c room = ap (λ b. if b then (s, Refused StoreFull) else (with_change s k c, accepted c (stamp c (s.counter + 1)))) (not_full s room)
 
-no_moment : (k : Kind) → graceful k None ≡ None
+pub no_moment : (k : Kind) → graceful k None ≡ None
 no_moment StatefulSet = refl
 no_moment Pod = refl
 no_moment PersistentVolumeClaim = refl
@@ -203,7 +203,7 @@ tends_one s o there pod has room =
 abbrev IsThere : Store → Object → Type 0
 IsThere s o = Has s o.key o × (o.key.kind ≡ Pod) × HasMembers o.body
 
-abbrev own_keys : List Object → List Key
+abbrev pub own_keys : List Object → List Key
 own_keys os = map (λ (o : Object). o.key) os
 
 abbrev AreAbove : Key → List Object → Type 0
@@ -223,7 +223,7 @@ record TendsAll (s t : Store) (os : List Object) : Type 0 where
   here : AllByRecursion (λ (o : Object). TendsTo (Some o) (finite.get t.objects o.key)) os
   elsewhere : (q : Key) → AllByRecursion (λ (o : Object). q ≢ o.key) os → finite.get t.objects q ≡ finite.get s.objects q
 
-not_below : (k : Key) (os : List Object) → AreAbove k os → AllByRecursion (λ (o : Object). k ≢ o.key) os
+pub not_below : (k : Key) (os : List Object) → AreAbove k os → AllByRecursion (λ (o : Object). k ≢ o.key) os
 not_below k [] above = tt
 not_below k (o ∷ os) above = (λ same. apart_from k o.key above.0 (sym same), not_below k os above.1)
 

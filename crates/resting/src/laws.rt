@@ -20,6 +20,7 @@ ghost use Rattle.sets.specs.Plan.{most_actions};
 ghost use Rattle.sets.specs.PlanOfLists.{plan_of_lists, views_of};
 ghost use Rattle.kubelet.specs.Kubelet.{turn_requests_of};
 ghost use Rattle.plain_store.specs.AtKey.{Has};
+ghost use Rattle.plain_store.specs.Filed.{AreFiled};
 ghost use Rattle.plain_store.specs.Run.{after};
 ghost use Rattle.plain_store.specs.Store.{Store, collection};
 ghost use Rattle.rounds.specs.Phase.{listing_old_claims, reading_set};
@@ -33,7 +34,7 @@ ghost use Rattle.resting.specs.Accepting.{AreAccepted, IsAcceptable, NameApart};
 ghost use Rattle.resting.specs.Acting.{IsCreated, IsPlannedOver, IsReadIn, MayAct, after_both, after_plan, after_steps, planned_requests, views_in};
 ghost use Rattle.resting.specs.Rest.{IsAtRest, RestsOver};
 ghost use Rattle.resting.specs.Still.{IsStill, IsTendedPod, ShowsRest, exchanged_times, plan_over, reads_of_a_round};
-ghost use Rattle.resting.specs.WholeRounds.{EndsRound, after_round};
+ghost use Rattle.resting.specs.WholeRounds.{EndsRound, IsCollectedOver, after_round, collection_over};
 ghost use Rattle.resting.specs.RoundsOver.{AreRoundsOver};
 ghost use Rattle.resting.specs.Turns.{IsTurnOver, MayTurn};
 
@@ -117,6 +118,12 @@ pub fn accepted_plans_are_carried_out()
 pub fn controllers_end_their_rounds()
     ensures { (set : SetParts) (digits : ℕ) (moment : List ℕ) (s : Store) → let c = reconciler_with set.object.key digits moment in
         IsPlannedOver set digits s → moment ≢ [] → MayAct set most_actions s → IsReadIn s set → EndsRound c set.object s (after_round c s set.object) }
+{}
+
+/// A collection deletes each claim whose owners are gone, and nothing else. So it leaves the pods as they are.
+pub fn collections_take_ownerless_claims()
+    ensures { (key : Key) (digits : ℕ) (moment : List ℕ) (s : Store) → let requests = collection_over (reconciler_with key digits moment) s in
+        AreFiled s.objects → s.counter + length requests ≤ s.capacity → IsCollectedOver key s (after s requests) }
 {}
 
 /// A plan of at most 1,024 actions whose update revision is in place, carried out in the store that it was made over, does to the
