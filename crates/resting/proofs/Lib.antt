@@ -20,4 +20,7 @@ pub mod PlanApart
 pub mod AcceptedPlans
 pub mod WholeRounds
 pub mod Collections
+pub mod ReadParts
+pub mod ReadAgain
+pub mod PlanOnSet
 pub mod RoundsOver

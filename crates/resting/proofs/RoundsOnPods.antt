@@ -167,22 +167,22 @@ module _ (set : SetParts) (digits : ℕ) (moment : List ℕ) (s : Store) (plan :
         ]
       ]
 
-  -- at an ordinal
-  pub round_at : MayTurn set.object.key.namespace (after_plan set digits moment s)
-      → (i : ℕ) → (new : Replica) × IsNew set i new × (own_now (after_both set digits moment s) i ≡ after_round steps_now i new (pod_at plan.pods i))
-  round_at turns i =
-      let a = own_after_plan i in (
-        made_ready a.0,
-        new_then i a.0 a.1,
-        turn_at set plan.update.key.name plan.current.key.name (after_plan set digits moment s) (after_both set digits moment s) turns.filed (turn_is_over (after_plan set digits moment s) set.object.key.namespace turns) i
-            ∙ (ap tended a.2 ∙ tended_then steps_now i a.0 (pod_at plan.pods i) a.1.staying),
-      )
+  -- at an ordinal, if the turn takes what the plan has left there
+  pub round_at : (t : Store) → ((i : ℕ) → own_now t i ≡ tended (own_now (after_plan set digits moment s) i))
+      → (i : ℕ) → (new : Replica) × IsNew set i new × (own_now t i ≡ after_round steps_now i new (pod_at plan.pods i))
+  round_at t turned i =
+      let a = own_after_plan i in
+      (made_ready a.0, new_then i a.0 a.1, turned i ∙ (ap tended a.2 ∙ tended_then steps_now i a.0 (pod_at plan.pods i) a.1.staying))
 
   pub round_on_pods : (next : Pods) → MayTurn set.object.key.namespace (after_plan set digits moment s)
       → replicas_in set plan.update.key.name plan.current.key.name (views_in set (after_both set digits moment s)) ≡ Ok next → IsRound set plan.pods next
-  round_on_pods next turns shown = record {
-    in_order = replicas_in_order set plan.update.key.name plan.current.key.name (views_in set (after_both set digits moment s)) next shown;
-    new = λ i. (round_at turns i).0;
-    are_new = λ i. (round_at turns i).1;
-    is_next = λ i. at_store set plan.update.key.name plan.current.key.name (after_both set digits moment s) next i shown ∙ (round_at turns i).2;
-  }
+  round_on_pods next turns shown =
+      let end = after_both set digits moment s in
+      let turned : (i : ℕ) → own_now end i ≡ tended (own_now (after_plan set digits moment s) i) =
+      turn_at set plan.update.key.name plan.current.key.name (after_plan set digits moment s) end turns.filed (turn_is_over (after_plan set digits moment s) set.object.key.namespace turns) in
+      record {
+        in_order = replicas_in_order set plan.update.key.name plan.current.key.name (views_in set end) next shown;
+        new = λ i. (round_at end turned i).0;
+        are_new = λ i. (round_at end turned i).1;
+        is_next = λ i. at_store set plan.update.key.name plan.current.key.name end next i shown ∙ (round_at end turned i).2;
+      }

@@ -1,11 +1,15 @@
 -- Rounds over a store bring the pods of a set to what its spec says, as rounds on pods do.
-use Rattle.std.proofs.Common.{◌≡◌, ◌⊎◌, inl, inr, ◌+◌, ◌*◌, ◌≤◌, ◌==◌, ℕ, zero, suc, true, false, if◌then◌else◌, List, map, filter, find, bytes_eq, option_map, option_and_then, Option, Some, None, Ok, refl, sym, ap, ◌∙◌, subst}
+use Rattle.std.proofs.Common.{◌≡◌, ◌⊎◌, inl, inr, ◌+◌, ◌*◌, ◌≤◌, ◌==◌, ℕ, zero, suc, true, false, if◌then◌else◌, List, map, filter, find, bytes_eq, option_map, option_and_then, Option, Some, None, Result, Ok, refl, sym, ap, ◌∙◌, subst}
 use Rattle.std.specs.Prelude.{◌&&◌}
-use Rattle.std.specs.List.{list_any}
+use Rattle.std.specs.FinMap as finite
+use Rattle.std.specs.List.{AllByRecursion, list_any}
 use Rattle.std.specs.Option.{option_map_or}
+use Rattle.std.proofs.lemmas.Option.{same_Some}
 use Rattle.objects.specs.declared.key.Key.{Key}
-use Rattle.objects.specs.declared.kind.Kind.TheVariants.{Pod}
+use Rattle.objects.specs.declared.kind.Kind.{Kind}
+use Rattle.objects.specs.declared.kind.Kind.TheVariants.{Pod, StatefulSet}
 use Rattle.objects.specs.declared.object.Object.{Object}
+use Rattle.objects.specs.Key.{kind_index}
 use Rattle.set_views.specs.declared.policies.Policy.TheVariants.{OrderedReady}
 use Rattle.set_views.specs.declared.policies.Strategy.{Strategy}
 use Rattle.set_views.specs.declared.readiness.Readiness.TheVariants.{Ready}
@@ -14,6 +18,8 @@ use Rattle.set_views.specs.Owners.{is_controlled}
 use Rattle.set_views.specs.Pod.{PodParts}
 use Rattle.set_views.specs.Predicates.{is_kind}
 use Rattle.set_views.specs.Set.{SetParts}
+use Rattle.set_views.specs.SetReading.{set_of}
+use Rattle.set_views.specs.declared.fault.PlanError.{PlanError}
 use Rattle.pod_steps.specs.declared.replica.Replica.{Replica}
 use Rattle.pod_steps.specs.declared.step.Step.{Step}
 use Rattle.pod_steps.specs.FullSteps.{full_steps, revision_at}
@@ -22,18 +28,32 @@ use Rattle.pod_steps.specs.Replicas.{AreInOrder, Pods, is_failed, is_out_of_rang
 use Rattle.pod_steps.specs.Step.{pod_steps}
 use Rattle.pod_steps.proofs.Firsts.{replicas_in_order}
 use Rattle.pod_steps.proofs.Same.{same_pods}
-use Rattle.plain_store.specs.Store.{Store, collection}
+use Rattle.plain_store.specs.AtKey.{Has}
+use Rattle.plain_store.specs.Filed.{AreFiled}
+use Rattle.plain_store.specs.Run.{after}
+use Rattle.plain_store.specs.Store.{Store, collection, is_of}
+use Rattle.rounds.specs.Phase.{Phase}
+use Rattle.plan_requests.specs.Reconciler.{reconciler_with}
 use Rattle.sets.specs.PlanOfLists.{view_of, views_of}
 use Rattle.convergence.specs.Left.{most_rounds}
-use Rattle.convergence.specs.Rounds.{AreRounds, IsNew, IsRound, after_round, creates, deletes, made_ready, tended}
+use Rattle.convergence.specs.Rounds.{AreRounds, IsNew, IsRound, after_round as after_round_of, creates, deletes, made_ready, tended}
 use Rattle.convergence.specs.Standing.{Stands}
 use Rattle.convergence.specs.Stopped.{IsLeftOver, IsStopped}
 use Rattle.convergence.proofs.Comes.{comes_to_stand}
-use Rattle.resting.specs.Acting.{after_both, views_in}
+use Rattle.resting.specs.Acting.{IsReadIn, after_plan, after_turn, views_in}
 use Rattle.resting.specs.RoundsOver.{AreRoundsOver, IsAlike, IsRoundOver}
+use Rattle.resting.specs.Still.{plan_over}
+use Rattle.resting.specs.WholeRounds.{after_round, collection_over}
+use Rattle.resting.proofs.AcceptedPlans.{all_are_accepted}
+use Rattle.resting.proofs.Collections.{others_stay, same_found_at}
 use Rattle.resting.proofs.PlainPods.{all_plain, as_many, at_plain, healthy_plain, plain, plain_in_order, steps_alike, steps_plain}
+use Rattle.resting.proofs.PlanOnSet.{on_status_alone}
+use Rattle.resting.proofs.PlansOnPods.{filed_run}
+use Rattle.resting.proofs.ReadAgain.{IsLike, IsOnStatus, like_itself, read_again, stays_like}
 use Rattle.resting.proofs.RoundsOnPods.{replicas_are, round_at}
-use Rattle.resting.proofs.TurnsOnPods.{at_store, found_at, own, own_at}
+use Rattle.resting.proofs.Turns.{turn_is_over}
+use Rattle.resting.proofs.TurnsOnPods.{at_store, found_at, own, own_at, turn_at}
+use Rattle.resting.proofs.WholeRounds.{controller_round, plan_over_is}
 
 -- ---- rounds on pods, with no word on the current revision
 made_ready_plain : (pod : Replica) → plain (made_ready pod) ≡ made_ready (plain pod)
@@ -48,7 +68,7 @@ tended_plain (Some pod) =
       | false ↦ ap Some (made_ready_plain pod)
     ]
 
-round_plain : (steps : List Step) (i : ℕ) (new : Replica) (here : Option Replica) → option_map plain (after_round steps i new here) ≡ after_round steps i (plain new) (option_map plain here)
+round_plain : (steps : List Step) (i : ℕ) (new : Replica) (here : Option Replica) → option_map plain (after_round_of steps i new here) ≡ after_round_of steps i (plain new) (option_map plain here)
 round_plain steps i new here =
     elim (list_any (deletes i) steps) as (λ b. option_map plain (if b then None else if list_any (creates i) steps then Some new else tended here) ≡ (if b then None else if list_any (creates i) steps then Some (plain new) else tended (option_map plain here))) [
       | true ↦ refl
@@ -63,6 +83,23 @@ new_plain set now i new alike is = record {
   ready = is.ready;
   staying = is.staying;
   updated = λ at. is.updated (ap (λ (x : Strategy). revision_at x i) alike.strategy ∙ at);
+}
+
+-- ---- two reads of a set
+same_parts : (a b : SetParts) → ◌≡◌ {A = Result SetParts PlanError} (Ok a) (Ok b) → a ≡ b
+same_parts a b e = cc
+
+alike_as_is : (set : SetParts) → IsAlike set set
+alike_as_is set = record { key = refl; uid = refl; start = refl; replicas = refl; policy = refl; strategy = refl }
+
+alike_on : (set now next : SetParts) → IsAlike set now → IsAlike now next → IsAlike set next
+alike_on set now next a b = record {
+  key = b.key ∙ a.key;
+  uid = b.uid ∙ a.uid;
+  start = b.start ∙ a.start;
+  replicas = b.replicas ∙ a.replicas;
+  policy = b.policy ∙ a.policy;
+  strategy = b.strategy ∙ a.strategy;
 }
 
 -- ---- the pods that two reads of a set find in a store
@@ -116,8 +153,8 @@ module _ (set : SetParts) (update current : List ℕ) (digits : ℕ) where
     are = λ i. at_plain pods i ∙ ap (option_map plain) (at_store set update current s pods i shown);
   }
 
-  seen_plan : (s t : Store) (round : IsRoundOver set update digits s t) → IsSeen (all_plain round.plan.pods) s
-  seen_plan s t round =
+  seen_plan : (s t : Store) (round : IsRoundOver set update digits s t) → IsAlike set round.now → IsSeen (all_plain round.plan.pods) s
+  seen_plan s t round alike =
       let now = round.now in
       let plan = round.plan in
       let shown = replicas_are now digits round.moment s plan in
@@ -125,48 +162,125 @@ module _ (set : SetParts) (update current : List ℕ) (digits : ℕ) where
         in_order = plain_in_order plan.pods (replicas_in_order now plan.update.key.name plan.current.key.name (views_in now s) plan.pods shown);
         are = λ i.
             at_plain plan.pods i
-            ∙ (ap (option_map plain) (at_store now plan.update.key.name plan.current.key.name s plan.pods i shown) ∙ seen_by now plan.update.key.name plan.current.key.name s i round.alike round.update_is);
+            ∙ (ap (option_map plain) (at_store now plan.update.key.name plan.current.key.name s plan.pods i shown) ∙ seen_by now plan.update.key.name plan.current.key.name s i alike round.update_is);
       }
 
   one_seen : (s : Store) (es fs : Pods) → IsSeen es s → IsSeen fs s → es ≡ fs
   one_seen s es fs at_es at_fs = same_pods es fs at_es.in_order at_fs.in_order (λ i. at_es.are i ∙ sym (at_fs.are i))
 
-  at_round : (s t : Store) (round : IsRoundOver set update digits s t) (i : ℕ)
-      → (new : Replica) × IsNew set i new × (seen t i ≡ after_round (pod_steps (full_steps set (all_plain round.plan.pods))) i new (pod_at (all_plain round.plan.pods) i))
-  at_round s t round i =
+  -- what the controller leaves is what its plan does, but for claims
+  between_is : (s t : Store) (round : IsRoundOver set update digits s t) → round.between ≡ after_round (reconciler_with round.now.object.key digits round.moment) s round.now.object
+  between_is s t round =
+      let now = round.now in
+      let accepted = all_are_accepted now digits round.moment s round.plan round.is_time round.may_act round.is_read.there round.is_read.read in
+      ap (λ (x : Store × Phase). x.0) (sym round.ends ∙ controller_round now digits round.moment s round.is_read.there round.is_read.read accepted)
+
+  own_between : (s t : Store) (round : IsRoundOver set update digits s t) (i : ℕ)
+      → own_at round.now round.plan.update.key.name round.plan.current.key.name round.between i
+      ≡ own_at round.now round.plan.update.key.name round.plan.current.key.name (after_plan round.now digits round.moment s) i
+  own_between s t round i =
+      let now = round.now in
+      let c = reconciler_with now.object.key digits round.moment in
+      let u = round.plan.update.key.name in
+      let v = round.plan.current.key.name in
+      let planned = after s (plan_over c s now.object) in
+      let same_plan : planned ≡ after_plan now digits round.moment s = ap (after s) (plan_over_is now digits round.moment s round.is_read.read) in
+      let filed : AreFiled planned.objects = filed_run s (plan_over c s now.object) round.may_act.filed in
+      let P : Store → Type 0 = λ x. own_at now u v x i ≡ own_at now u v (after_plan now digits round.moment s) i in
+      let stays : own_at now u v (after_round c s now.object) i ≡ own_at now u v planned i =
+      ap (λ x. own (option_map (replica_of now u v) x))
+      (same_found_at now planned (after_round c s now.object) i filed (filed_run planned (collection_over c planned) filed) (λ k pod. others_stay now.object.key planned filed digits round.moment Pod k refl pod)) in
+      subst P (sym (between_is s t round)) (stays ∙ ap (λ x. own_at now u v x i) same_plan)
+
+  at_round : (s t : Store) (round : IsRoundOver set update digits s t) (alike : IsAlike set round.now) (i : ℕ)
+      → (new : Replica) × IsNew set i new × (seen t i ≡ after_round_of (pod_steps (full_steps set (all_plain round.plan.pods))) i new (pod_at (all_plain round.plan.pods) i))
+  at_round s t round alike i =
       let now = round.now in
       let plan = round.plan in
-      let done = round_at now digits round.moment s plan round.is_time round.may_act round.may_turn i in
-      let steps : pod_steps (full_steps now plan.pods) ≡ pod_steps (full_steps set (all_plain plan.pods)) = ap pod_steps (steps_alike set now plan.pods round.alike ∙ sym (steps_plain set plan.pods)) in (
+      let u = plan.update.key.name in
+      let v = plan.current.key.name in
+      let done = round_at now digits round.moment s plan round.is_time round.may_act (after_turn now.object.key.namespace round.between) (λ j. turn_at now u v round.between (after_turn now.object.key.namespace round.between) round.may_turn.filed (turn_is_over round.between now.object.key.namespace round.may_turn) j ∙ ap tended (own_between s t round j)) i in
+      let steps : pod_steps (full_steps now plan.pods) ≡ pod_steps (full_steps set (all_plain plan.pods)) = ap pod_steps (steps_alike set now plan.pods alike ∙ sym (steps_plain set plan.pods)) in (
         plain done.0,
-        new_plain set now i done.0 round.alike done.1,
+        new_plain set now i done.0 alike done.1,
         ap (λ x. seen x i) round.left
-            ∙ (sym (seen_by now plan.update.key.name plan.current.key.name (after_both now digits round.moment s) i round.alike round.update_is)
+            ∙ (sym (seen_by now u v (after_turn now.object.key.namespace round.between) i alike round.update_is)
             ∙ (ap (option_map plain) done.2
             ∙ (round_plain (pod_steps (full_steps now plan.pods)) i done.0 (pod_at plan.pods i)
-            ∙ λ j. after_round (steps j) i (plain done.0) (sym (at_plain plan.pods i) j)))),
+            ∙ λ j. after_round_of (steps j) i (plain done.0) (sym (at_plain plan.pods i) j)))),
       )
 
-  one_round : (s t : Store) (es fs : Pods) → IsSeen es s → IsSeen fs t → IsRoundOver set update digits s t → IsRound set es fs
-  one_round s t es fs at_es at_fs round =
+  one_round : (s t : Store) (es fs : Pods) → IsSeen es s → IsSeen fs t → (round : IsRoundOver set update digits s t) → IsAlike set round.now → IsRound set es fs
+  one_round s t es fs at_es at_fs round alike =
       let first = all_plain round.plan.pods in
       let P : Pods → Type 0 = λ x. IsRound set x fs in
-      subst P (one_seen s first es (seen_plan s t round) at_es) (record {
+      subst P (one_seen s first es (seen_plan s t round alike) at_es) (record {
         in_order = at_fs.in_order;
-        new = λ i. (at_round s t round i).0;
-        are_new = λ i. (at_round s t round i).1;
-        is_next = λ i. at_fs.are i ∙ (at_round s t round i).2;
+        new = λ i. (at_round s t round alike i).0;
+        are_new = λ i. (at_round s t round alike i).1;
+        is_next = λ i. at_fs.are i ∙ (at_round s t round alike i).2;
       })
 
-  seen_next : (k : ℕ) (s t : Store) (last : Pods) → IsSeen last t → AreRoundsOver set update digits k s t → (pods : Pods) × IsSeen pods s
-  seen_next zero s t last at_last same = (last, subst (IsSeen last) (sym same) at_last)
-  seen_next (suc k) s t last at_last rounds = (all_plain rounds.1.plan.pods, seen_plan s rounds.0 rounds.1)
+  -- ---- the set, read again
+  abbrev IsHere : Store → Type 0
+  IsHere s = (here : SetParts) × IsReadIn s here × IsAlike set here
 
-  rounds_seen : (k : ℕ) (s t : Store) (pods last : Pods) → IsSeen pods s → IsSeen last t → AreRoundsOver set update digits k s t → AreRounds set k pods last
-  rounds_seen zero s t pods last at_pods at_last same = one_seen t pods last (subst (IsSeen pods) same at_pods) at_last
-  rounds_seen (suc k) s t pods last at_pods at_last rounds =
-      let next = seen_next k rounds.0 t last at_last rounds.2 in
-      (next.0, one_round s rounds.0 pods next.0 at_pods next.1 rounds.1, rounds_seen k rounds.0 t next.0 last next.1 at_last rounds.2)
+  same_read : (s : Store) (here now : SetParts) → IsReadIn s here → IsReadIn s now → now.object.key ≡ here.object.key → here ≡ now
+  same_read s here now at_here at_now keys =
+      let object : here.object ≡ now.object = same_Some here.object now.object (sym at_here.there ∙ (ap (finite.get s.objects) (sym keys) ∙ at_now.there)) in
+      same_parts here now (sym at_here.read ∙ (ap set_of object ∙ at_now.read))
+
+  alike_now : (s t : Store) → IsHere s → (round : IsRoundOver set update digits s t) → IsAlike set round.now
+  alike_now s t here round =
+      let P : SetParts → Type 0 = λ x. IsAlike set x in
+      subst P (same_read s here.0 round.now here.1 round.is_read (round.key_is ∙ sym here.2.key)) here.2
+
+  like_then : (s t : Store) (round : IsRoundOver set update digits s t) → IsLike round.now round.is_read.read t
+  like_then s t round =
+      let now = round.now in
+      let key = now.object.key in
+      let c = reconciler_with key digits round.moment in
+      let read = round.is_read.read in
+      let planned = after s (plan_over c s now.object) in
+      let filed : AreFiled planned.objects = filed_run s (plan_over c s now.object) round.may_act.filed in
+      let sends : AllByRecursion (IsOnStatus now read) (plan_over c s now.object) =
+      subst (AllByRecursion (IsOnStatus now read)) (sym (plan_over_is now digits round.moment s read)) (on_status_alone now digits round.moment s round.plan round.is_time round.may_act round.is_read.there read) in
+      let first : IsLike now read planned = stays_like now read s (plan_over c s now.object) sends (like_itself now read s round.is_read.there) in
+      let stays : finite.get (after_round c s now.object).objects key ≡ finite.get planned.objects key = others_stay key planned filed digits round.moment StatefulSet key refl round.may_act.kind in
+      let second : IsLike now read (after_round c s now.object) = (first.0, stays ∙ first.1, first.2) in
+      let P : Store → Type 0 = λ x. IsLike now read x in
+      let third : IsLike now read round.between = subst P (sym (between_is s t round)) second in
+      let turn = turn_is_over round.between key.namespace round.may_turn in
+      let no_pod : is_of Pod key.namespace key ≡ false = ap (λ (x : Kind). kind_index x == kind_index Pod && bytes_eq key.namespace key.namespace) round.may_act.kind in
+      subst P (sym round.left) (third.0, turn.others key no_pod ∙ third.1, third.2)
+
+  here_then : (s t : Store) → IsHere s → (round : IsRoundOver set update digits s t) → IsHere t
+  here_then s t here round =
+      let now = round.now in
+      let like = like_then s t round in
+      let again = read_again now.object like.0 now round.is_read.read like.2 in
+      let next : SetParts = again.0 in
+      let object : next.object ≡ like.0 = again.1.object in
+      let key : next.object.key ≡ now.object.key = again.1.alike.key in
+      let P : Object → Type 0 = λ x. Has t next.object.key x in (
+        next,
+        record {
+          there = subst P (sym object) (ap (finite.get t.objects) key ∙ like.1);
+          read = ap set_of object ∙ again.1.read;
+        },
+        alike_on set now next (alike_now s t here round) again.1.alike,
+      )
+
+  seen_next : (k : ℕ) (s t : Store) (last : Pods) → IsHere s → IsSeen last t → AreRoundsOver set update digits k s t → (pods : Pods) × IsSeen pods s
+  seen_next zero s t last here at_last same = (last, subst (IsSeen last) (sym same) at_last)
+  seen_next (suc k) s t last here at_last rounds = (all_plain rounds.1.plan.pods, seen_plan s rounds.0 rounds.1 (alike_now s rounds.0 here rounds.1))
+
+  rounds_seen : (k : ℕ) (s t : Store) (pods last : Pods) → IsHere s → IsSeen pods s → IsSeen last t → AreRoundsOver set update digits k s t → AreRounds set k pods last
+  rounds_seen zero s t pods last here at_pods at_last same = one_seen t pods last (subst (IsSeen pods) same at_pods) at_last
+  rounds_seen (suc k) s t pods last here at_pods at_last rounds =
+      let later = here_then s rounds.0 here rounds.1 in
+      let next = seen_next k rounds.0 t last later at_last rounds.2 in
+      (next.0, one_round s rounds.0 pods next.0 at_pods next.1 rounds.1 (alike_now s rounds.0 here rounds.1), rounds_seen k rounds.0 t next.0 last later next.1 at_last rounds.2)
 
   -- ---- back to pods as they are
   none_plain : (here : Option Replica) → option_map plain here ≡ None → here ≡ None
@@ -207,11 +321,11 @@ module _ (set : SetParts) (update current : List ℕ) (digits : ℕ) where
   as_far : (pods : Pods) → most_rounds set (all_plain pods) ≡ most_rounds set pods
   as_far pods = ap (λ n. 2 * set.replicas + n) (as_many (is_out_of_range set) pods (λ e. refl))
 
-  pub stand_over : (s t : Store) (k : ℕ) (pods last : Pods) → AreRoundsOver set update digits k s t → replicas_in set update current (views_in set s) ≡ Ok pods → replicas_in set update current (views_in set t) ≡ Ok last
+  pub stand_over : (s t : Store) (k : ℕ) (pods last : Pods) → IsReadIn s set → AreRoundsOver set update digits k s t → replicas_in set update current (views_in set s) ≡ Ok pods → replicas_in set update current (views_in set t) ≡ Ok last
       → most_rounds set pods + 1 ≤ k → Stands set last ⊎ ((set.policy ≡ OrderedReady) × IsStopped set pods)
-  stand_over s t k pods last rounds first end enough =
+  stand_over s t k pods last read rounds first end enough =
       let at_pods = seen_list s pods first in
-      elim (comes_to_stand set (all_plain pods) (all_plain last) k at_pods.in_order (rounds_seen k s t (all_plain pods) (all_plain last) at_pods (seen_list t last end) rounds)
+      elim (comes_to_stand set (all_plain pods) (all_plain last) k at_pods.in_order (rounds_seen k s t (all_plain pods) (all_plain last) (set, read, alike_as_is set) at_pods (seen_list t last end) rounds)
       (subst (λ (n : ℕ). n + 1 ≤ k) (sym (as_far pods)) enough)) [
         | inl stands ↦ inl (stands_then last stands)
         | inr stopped ↦ inr (stopped.0, stopped_then pods stopped.1)

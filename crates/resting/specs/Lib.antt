@@ -3,6 +3,6 @@ pub mod Rest
 pub mod Still
 pub mod Turns
 pub mod Acting
-pub mod RoundsOver
 pub mod Accepting
 pub mod WholeRounds
+pub mod RoundsOver

@@ -1,10 +1,12 @@
--- Rounds over a store to which nobody else writes, one after another.
+-- Rounds of a controller and a kubelet over a store to which nobody else writes, one after another.
 use Rattle.std.specs.Prelude.{◌≡◌, ◌≢◌, ℕ, zero, suc, List, []}
 use Rattle.set_views.specs.Set.{SetParts}
 use Rattle.sets.specs.Plan.{most_actions}
 use Rattle.plain_store.specs.Store.{Store}
-use Rattle.resting.specs.Acting.{IsPlannedOver, MayAct, after_both, after_plan}
+use Rattle.plan_requests.specs.Reconciler.{reconciler_with}
+use Rattle.resting.specs.Acting.{IsPlannedOver, IsReadIn, MayAct, after_turn}
 use Rattle.resting.specs.Turns.{MayTurn}
+use Rattle.resting.specs.WholeRounds.{EndsRound}
 
 -- the same set as another read has it, when only its status, its template or its claims have changed
 pub record IsAlike (set other : SetParts) : Type 0 where
@@ -15,19 +17,24 @@ pub record IsAlike (set other : SetParts) : Type 0 where
   pub policy : other.policy ≡ set.policy
   pub strategy : other.strategy ≡ set.strategy
 
--- A plan and a kubelet's turn lead from one store to the other. The plan's pods are made from the revision of that name.
+-- A round of a set's controller and a kubelet's turn lead from one store to the other. Pods are made from the update revision of
+-- that name.
 pub record IsRoundOver (set : SetParts) (update : List ℕ) (digits : ℕ) (s t : Store) : Type 0 where
-  -- the set as it was read for this round
+  -- the set as the controller reads it
   pub now : SetParts
-  pub alike : IsAlike set now
+  pub key_is : now.object.key ≡ set.object.key
+  pub is_read : IsReadIn s now
   pub plan : IsPlannedOver now digits s
   pub update_is : plan.update.key.name ≡ update
   -- the time with which pods are marked
   pub moment : List ℕ
   pub is_time : moment ≢ []
   pub may_act : MayAct now most_actions s
-  pub may_turn : MayTurn now.object.key.namespace (after_plan now digits moment s)
-  pub left : t ≡ after_both now digits moment s
+  -- what the controller leaves
+  pub between : Store
+  pub ends : EndsRound (reconciler_with now.object.key digits moment) now.object s between
+  pub may_turn : MayTurn now.object.key.namespace between
+  pub left : t ≡ after_turn now.object.key.namespace between
 
 -- so many rounds, one after another
 abbrev pub AreRoundsOver : SetParts → List ℕ → ℕ → ℕ → Store → Store → Type 0

@@ -144,12 +144,12 @@ pub fn plans_and_turns_are_rounds_on_pods()
         → IsRound set plan.pods next }
 {}
 
-/// So two rounds for each replica, one for each condemned pod and one more bring the pods of a store to what the spec says,
-/// whatever they were; unless a failed pod stops the set, under OrderedReady. Meanwhile the spec stays, no plan is refused, the
-/// update revision is in place, and nobody else writes.
+/// So two rounds of the controller and the kubelet for each replica, one for each condemned pod and one more bring the pods of a store
+/// to what the spec says, whatever they were; unless a failed pod stops the set, under OrderedReady. Meanwhile nobody else writes, no plan
+/// is refused, and the update revision is in place.
 pub fn sets_come_to_stand_in_stores()
     ensures { (set : SetParts) (update current : List ℕ) (digits k : ℕ) (s t : Store) (pods last : Pods)
-        → AreRoundsOver set update digits k s t
+        → IsReadIn s set → AreRoundsOver set update digits k s t
         → replicas_in set update current (views_in set s) ≡ Ok pods → replicas_in set update current (views_in set t) ≡ Ok last
         → most_rounds set pods + 1 ≤ k → Stands set last ⊎ ((set.policy ≡ Policy.OrderedReady) × IsStopped set pods) }
 {}
