@@ -24,3 +24,8 @@ pub mod ReadParts
 pub mod ReadAgain
 pub mod PlanOnSet
 pub mod RoundsOver
+pub mod Newest
+pub mod Choices
+pub mod OwnedAgain
+pub mod UpdateStays
+pub mod RevisionRounds

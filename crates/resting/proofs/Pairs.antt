@@ -32,7 +32,7 @@ all_mapped : {X Y : Type 0} (P : Y → Type 0) (f : X → Y) (xs : List X) → A
 all_mapped P f [] all = tt
 all_mapped P f (x ∷ xs) all = (all.0, all_mapped P f xs all.1)
 
-all_put : {X : Type 0} (P : X → Type 0) (cmp : X → X → Ordering) (x : X) (ys : List X) → P x → AllByRecursion P ys → AllByRecursion P (put_in_order cmp x ys)
+pub all_put : {X : Type 0} (P : X → Type 0) (cmp : X → X → Ordering) (x : X) (ys : List X) → P x → AllByRecursion P ys → AllByRecursion P (put_in_order cmp x ys)
 all_put P cmp x [] here all = (here, tt)
 all_put P cmp x (y ∷ ys) here all =
     elim (is_lt (cmp y x)) as (λ b. AllByRecursion P (if b then y ∷ put_in_order cmp x ys else x ∷ y ∷ ys)) [

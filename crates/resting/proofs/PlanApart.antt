@@ -263,7 +263,7 @@ module _ (set : SetParts) where
   in_gone false os a at = let m = in_map deletion os a at in ap (λ (x : Action). (target set x).kind) m.2
 
   -- ---- the status
-  of_status : (parts : StatusParts) → ArePaired (HaveOthers set) (status_write set parts) × ((a : Action) → Among a (status_write set parts) → target set a ≡ set.object.key)
+  pub of_status : (parts : StatusParts) → ArePaired (HaveOthers set) (status_write set parts) × ((a : Action) → Among a (status_write set parts) → target set a ≡ set.object.key)
   unfolding built_status
   of_status parts =
       let status = object (new_status set parts (old_status set)) in

@@ -86,7 +86,7 @@ new_plain set now i new alike is = record {
 }
 
 -- ---- two reads of a set
-same_parts : (a b : SetParts) → ◌≡◌ {A = Result SetParts PlanError} (Ok a) (Ok b) → a ≡ b
+pub same_parts : (a b : SetParts) → ◌≡◌ {A = Result SetParts PlanError} (Ok a) (Ok b) → a ≡ b
 same_parts a b e = cc
 
 alike_as_is : (set : SetParts) → IsAlike set set
@@ -169,7 +169,7 @@ module _ (set : SetParts) (update current : List ℕ) (digits : ℕ) where
   one_seen s es fs at_es at_fs = same_pods es fs at_es.in_order at_fs.in_order (λ i. at_es.are i ∙ sym (at_fs.are i))
 
   -- what the controller leaves is what its plan does, but for claims
-  between_is : (s t : Store) (round : IsRoundOver set update digits s t) → round.between ≡ after_round (reconciler_with round.now.object.key digits round.moment) s round.now.object
+  pub between_is : (s t : Store) (round : IsRoundOver set update digits s t) → round.between ≡ after_round (reconciler_with round.now.object.key digits round.moment) s round.now.object
   between_is s t round =
       let now = round.now in
       let accepted = all_are_accepted now digits round.moment s round.plan round.is_time round.may_act round.is_read.there round.is_read.read in
@@ -235,7 +235,7 @@ module _ (set : SetParts) (update current : List ℕ) (digits : ℕ) where
       let P : SetParts → Type 0 = λ x. IsAlike set x in
       subst P (same_read s here.0 round.now here.1 round.is_read (round.key_is ∙ sym here.2.key)) here.2
 
-  like_then : (s t : Store) (round : IsRoundOver set update digits s t) → IsLike round.now round.is_read.read t
+  pub like_then : (s t : Store) (round : IsRoundOver set update digits s t) → IsLike round.now round.is_read.read t
   like_then s t round =
       let now = round.now in
       let key = now.object.key in

@@ -58,10 +58,10 @@ one_pod s namespace a b is_a is_b name =
     let key : a.key ≡ b.key = key_is namespace a.key is_a.1 ∙ (ap (key_parts Pod namespace) name ∙ sym (key_is namespace b.key is_b.1)) in
     same_Some a b (sym is_a.0 ∙ (ap (finite.get s.objects) key ∙ is_b.0))
 
-abbrev AreApart : List Object → Type 0
+abbrev pub AreApart : List Object → Type 0
 AreApart os = (a b : Object) → Among a os → Among b os → a.key.name ≡ b.key.name → a ≡ b
 
-all_first : (os : List Object) (o : Object) → AreApart os → Among o os → Among o (first_of_each os)
+pub all_first : (os : List Object) (o : Object) → AreApart os → Among o os → Among o (first_of_each os)
 all_first [] o apart at = at
 all_first (x ∷ os) o apart (inl is) = inl is
 all_first (x ∷ os) o apart (inr at) =

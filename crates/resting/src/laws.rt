@@ -3,11 +3,14 @@ ghost use Rattle.std.specs.Prelude.{◌≡◌, ◌≢◌, ◌↔◌, ◌⊎◌, 
 ghost use Rattle.std.specs.FinMap as map;
 ghost use Rattle.std.specs.List.{AllByRecursion};
 ghost use Rattle.objects.specs.declared.key.Key.{Key};
-ghost use Rattle.objects.specs.declared.kind.Kind.TheVariants.{Pod};
+ghost use Rattle.objects.specs.declared.kind.Kind.TheVariants.{ControllerRevision, Pod};
 ghost use Rattle.objects.specs.declared.object.Object.{Object};
 ghost use Rattle.requests.specs.declared.request.Request.{Request};
+ghost use Rattle.set_views.specs.Firsts.{is_held};
 ghost use Rattle.set_views.specs.Pod.{PodParts};
 ghost use Rattle.set_views.specs.Set.{SetParts};
+ghost use Rattle.revisions.specs.Plan.{PlanParts, plan_of, settled};
+ghost use Rattle.revisions.specs.Revision.{listed};
 ghost use Rattle.pod_steps.specs.declared.replica.Replica.{Replica};
 ghost use Rattle.pod_steps.specs.Replicas.{AreInOrder, Pods, pod_at};
 ghost use Rattle.pod_steps.specs.Listed.{replicas_in};
@@ -17,7 +20,7 @@ ghost use Rattle.pod_steps.specs.Views.{listed_pods};
 ghost use Rattle.sets.specs.Actions.{Claims};
 ghost use Rattle.sets.specs.FullPlan.{full_plan};
 ghost use Rattle.sets.specs.Plan.{most_actions};
-ghost use Rattle.sets.specs.PlanOfLists.{plan_of_lists, views_of};
+ghost use Rattle.sets.specs.PlanOfLists.{owned_of, plan_of_lists, views_of};
 ghost use Rattle.kubelet.specs.Kubelet.{turn_requests_of};
 ghost use Rattle.plain_store.specs.AtKey.{Has};
 ghost use Rattle.plain_store.specs.Filed.{AreFiled};
@@ -33,9 +36,9 @@ ghost use Rattle.convergence.specs.Stopped.{IsStopped};
 ghost use Rattle.resting.specs.Accepting.{AreAccepted, IsAcceptable, NameApart};
 ghost use Rattle.resting.specs.Acting.{IsCreated, IsPlannedOver, IsReadIn, MayAct, after_both, after_plan, after_steps, planned_requests, views_in};
 ghost use Rattle.resting.specs.Rest.{IsAtRest, RestsOver};
-ghost use Rattle.resting.specs.Still.{IsStill, IsTendedPod, ShowsRest, exchanged_times, plan_over, reads_of_a_round};
+ghost use Rattle.resting.specs.Still.{IsStill, IsTendedPod, ShowsRest, exchanged_times, listed_in, plan_over, reads_of_a_round};
 ghost use Rattle.resting.specs.WholeRounds.{EndsRound, IsCollectedOver, after_round, collection_over};
-ghost use Rattle.resting.specs.RoundsOver.{AreRoundsOver};
+ghost use Rattle.resting.specs.RoundsOver.{AreRoundsOver, IsRoundOver};
 ghost use Rattle.resting.specs.Turns.{IsTurnOver, MayTurn};
 
 use set_views::Policy;
@@ -142,6 +145,14 @@ pub fn plans_and_turns_are_rounds_on_pods()
         → moment ≢ [] → MayAct set most_actions s → MayTurn set.object.key.namespace (after_plan set digits moment s)
         → replicas_in set plan.update.key.name plan.current.key.name (views_in set (after_both set digits moment s)) ≡ Ok next
         → IsRound set plan.pods next }
+{}
+
+/// Once in place the update revision stays: after a round the next plan has the same one, unchanged, unless it is refused.
+pub fn update_revisions_stay_in_place()
+    ensures { (set : SetParts) (update : List ℕ) (digits : ℕ) (s t : Store) (round : IsRoundOver set update digits s t) (next : SetParts) (parts : PlanParts)
+        → let revisions = listed_in t next.object.key ControllerRevision in
+        IsReadIn t next → next.object.key ≡ set.object.key → plan_of next (is_held (listed next revisions)) digits (owned_of next revisions) ≡ Ok parts
+        → (owned : List Object) × (current : Object) × (parts ≡ settled owned current round.plan.update) }
 {}
 
 /// So two rounds of the controller and the kubelet for each replica, one for each condemned pod and one more bring the pods of a store
