@@ -29,3 +29,4 @@ pub mod Choices
 pub mod OwnedAgain
 pub mod UpdateStays
 pub mod RevisionRounds
+pub mod StandOver

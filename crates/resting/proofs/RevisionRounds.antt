@@ -30,7 +30,7 @@ use Rattle.sets.proofs.Owned.{total}
 use Rattle.plan_requests.specs.Reconciler.{reconciler_with}
 use Rattle.rounds.specs.Reconciler.{Reconciler}
 use Rattle.resting.specs.Acting.{IsReadIn, planned_requests}
-use Rattle.resting.specs.RoundsOver.{IsAlike, IsRoundOver}
+use Rattle.resting.specs.RoundsOver.{IsAlike}
 use Rattle.resting.specs.Still.{plan_over}
 use Rattle.resting.specs.WholeRounds.{after_round}
 use Rattle.resting.proofs.Acts.{IsElsewhere, untouched}
@@ -41,7 +41,7 @@ use Rattle.resting.proofs.OwnedAgain.{kind_of, one_of_name, owned_back, owned_by
 use Rattle.resting.proofs.Pairs.{in_reverse}
 use Rattle.resting.proofs.PlansOnPods.{filed_run}
 use Rattle.resting.proofs.ReadAgain.{IsReadLike, read_again}
-use Rattle.resting.proofs.RoundsOver.{between_is, like_then, same_parts}
+use Rattle.resting.proofs.RoundsOver.{IsPlacedRound, between_is, like_then, same_parts}
 use Rattle.resting.proofs.Turns.{turn_is_over}
 use Rattle.resting.proofs.UpdateStays.{SparesOrTakes, kept_or_gone, newest, spared_or_taken, update_elsewhere, update_there}
 use Rattle.resting.proofs.WholeRounds.{plan_over_is}
@@ -51,7 +51,7 @@ second_ties Less b h = absurd (true≢false (sym (ap is_eq h)))
 second_ties Equal b h = h
 second_ties Greater b h = absurd (true≢false (sym (ap is_eq h)))
 
-module _ (set : SetParts) (update : List ℕ) (digits : ℕ) (s t : Store) (round : IsRoundOver set update digits s t) where
+module _ (set : SetParts) (update : List ℕ) (digits : ℕ) (s t : Store) (round : IsPlacedRound set update digits s t) where
   abbrev now : SetParts
   now = round.now
 

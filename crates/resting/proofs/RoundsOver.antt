@@ -1,5 +1,5 @@
 -- Rounds over a store bring the pods of a set to what its spec says, as rounds on pods do.
-use Rattle.std.proofs.Common.{◌≡◌, ◌⊎◌, inl, inr, ◌+◌, ◌*◌, ◌≤◌, ◌==◌, ℕ, zero, suc, true, false, if◌then◌else◌, List, map, filter, find, bytes_eq, option_map, option_and_then, Option, Some, None, Result, Ok, refl, sym, ap, ◌∙◌, subst}
+use Rattle.std.proofs.Common.{◌≡◌, ◌≢◌, ◌⊎◌, inl, inr, ◌+◌, ◌*◌, ◌≤◌, ◌==◌, ℕ, true, false, if◌then◌else◌, List, [], map, filter, find, bytes_eq, option_map, option_and_then, Option, Some, None, Result, Ok, refl, sym, ap, ◌∙◌, subst}
 use Rattle.std.specs.Prelude.{◌&&◌}
 use Rattle.std.specs.FinMap as finite
 use Rattle.std.specs.List.{AllByRecursion, list_any}
@@ -34,16 +34,18 @@ use Rattle.plain_store.specs.Run.{after}
 use Rattle.plain_store.specs.Store.{Store, collection, is_of}
 use Rattle.rounds.specs.Phase.{Phase}
 use Rattle.plan_requests.specs.Reconciler.{reconciler_with}
+use Rattle.sets.specs.Plan.{most_actions}
 use Rattle.sets.specs.PlanOfLists.{view_of, views_of}
 use Rattle.convergence.specs.Left.{most_rounds}
 use Rattle.convergence.specs.Rounds.{AreRounds, IsNew, IsRound, after_round as after_round_of, creates, deletes, made_ready, tended}
 use Rattle.convergence.specs.Standing.{Stands}
 use Rattle.convergence.specs.Stopped.{IsLeftOver, IsStopped}
 use Rattle.convergence.proofs.Comes.{comes_to_stand}
-use Rattle.resting.specs.Acting.{IsReadIn, after_plan, after_turn, views_in}
-use Rattle.resting.specs.RoundsOver.{AreRoundsOver, IsAlike, IsRoundOver}
+use Rattle.resting.specs.Acting.{IsPlannedOver, IsReadIn, MayAct, after_plan, after_turn, views_in}
+use Rattle.resting.specs.Turns.{MayTurn}
+use Rattle.resting.specs.RoundsOver.{IsAlike}
 use Rattle.resting.specs.Still.{plan_over}
-use Rattle.resting.specs.WholeRounds.{after_round, collection_over}
+use Rattle.resting.specs.WholeRounds.{EndsRound, after_round, collection_over}
 use Rattle.resting.proofs.AcceptedPlans.{all_are_accepted}
 use Rattle.resting.proofs.Collections.{others_stay, same_found_at}
 use Rattle.resting.proofs.PlainPods.{all_plain, as_many, at_plain, healthy_plain, plain, plain_in_order, steps_alike, steps_plain}
@@ -54,6 +56,21 @@ use Rattle.resting.proofs.RoundsOnPods.{replicas_are, round_at}
 use Rattle.resting.proofs.Turns.{turn_is_over}
 use Rattle.resting.proofs.TurnsOnPods.{at_store, found_at, own, own_at, turn_at}
 use Rattle.resting.proofs.WholeRounds.{controller_round, plan_over_is}
+
+-- a round whose plan is made with the update revision of that name in place
+pub record IsPlacedRound (set : SetParts) (update : List ℕ) (digits : ℕ) (s t : Store) : Type 0 where
+  pub now : SetParts
+  pub key_is : now.object.key ≡ set.object.key
+  pub is_read : IsReadIn s now
+  pub plan : IsPlannedOver now digits s
+  pub update_is : plan.update.key.name ≡ update
+  pub moment : List ℕ
+  pub is_time : moment ≢ []
+  pub may_act : MayAct now most_actions s
+  pub between : Store
+  pub ends : EndsRound (reconciler_with now.object.key digits moment) now.object s between
+  pub may_turn : MayTurn now.object.key.namespace between
+  pub left : t ≡ after_turn now.object.key.namespace between
 
 -- ---- rounds on pods, with no word on the current revision
 made_ready_plain : (pod : Replica) → plain (made_ready pod) ≡ made_ready (plain pod)
@@ -89,7 +106,7 @@ new_plain set now i new alike is = record {
 pub same_parts : (a b : SetParts) → ◌≡◌ {A = Result SetParts PlanError} (Ok a) (Ok b) → a ≡ b
 same_parts a b e = cc
 
-alike_as_is : (set : SetParts) → IsAlike set set
+pub alike_as_is : (set : SetParts) → IsAlike set set
 alike_as_is set = record { key = refl; uid = refl; start = refl; replicas = refl; policy = refl; strategy = refl }
 
 alike_on : (set now next : SetParts) → IsAlike set now → IsAlike now next → IsAlike set next
@@ -122,9 +139,9 @@ module _ (set : SetParts) (update current : List ℕ) (digits : ℕ) where
   abbrev seen : Store → ℕ → Option Replica
   seen s i = option_map plain (own_at set update current s i)
 
-  record IsSeen (pods : Pods) (s : Store) : Type 0 where
-    in_order : AreInOrder pods
-    are : (i : ℕ) → pod_at pods i ≡ seen s i
+  pub record IsSeen (pods : Pods) (s : Store) : Type 0 where
+    pub in_order : AreInOrder pods
+    pub are : (i : ℕ) → pod_at pods i ≡ seen s i
 
   same_replica : (now : SetParts) (u c : List ℕ) (pod : PodParts) → IsAlike set now → u ≡ update → plain (replica_of now u c pod) ≡ plain (replica_of set update current pod)
   same_replica now u c pod alike is =
@@ -147,13 +164,13 @@ module _ (set : SetParts) (update current : List ℕ) (digits : ℕ) where
   seen_by now u c s i alike is =
       ap (λ found. option_map plain (own (option_map (replica_of now u c) found))) (same_found set now s i alike) ∙ same_own now u c (found_at set s i) alike is
 
-  seen_list : (s : Store) (pods : Pods) → replicas_in set update current (views_in set s) ≡ Ok pods → IsSeen (all_plain pods) s
+  pub seen_list : (s : Store) (pods : Pods) → replicas_in set update current (views_in set s) ≡ Ok pods → IsSeen (all_plain pods) s
   seen_list s pods shown = record {
     in_order = plain_in_order pods (replicas_in_order set update current (views_in set s) pods shown);
     are = λ i. at_plain pods i ∙ ap (option_map plain) (at_store set update current s pods i shown);
   }
 
-  seen_plan : (s t : Store) (round : IsRoundOver set update digits s t) → IsAlike set round.now → IsSeen (all_plain round.plan.pods) s
+  pub seen_plan : (s t : Store) (round : IsPlacedRound set update digits s t) → IsAlike set round.now → IsSeen (all_plain round.plan.pods) s
   seen_plan s t round alike =
       let now = round.now in
       let plan = round.plan in
@@ -165,17 +182,17 @@ module _ (set : SetParts) (update current : List ℕ) (digits : ℕ) where
             ∙ (ap (option_map plain) (at_store now plan.update.key.name plan.current.key.name s plan.pods i shown) ∙ seen_by now plan.update.key.name plan.current.key.name s i alike round.update_is);
       }
 
-  one_seen : (s : Store) (es fs : Pods) → IsSeen es s → IsSeen fs s → es ≡ fs
+  pub one_seen : (s : Store) (es fs : Pods) → IsSeen es s → IsSeen fs s → es ≡ fs
   one_seen s es fs at_es at_fs = same_pods es fs at_es.in_order at_fs.in_order (λ i. at_es.are i ∙ sym (at_fs.are i))
 
   -- what the controller leaves is what its plan does, but for claims
-  pub between_is : (s t : Store) (round : IsRoundOver set update digits s t) → round.between ≡ after_round (reconciler_with round.now.object.key digits round.moment) s round.now.object
+  pub between_is : (s t : Store) (round : IsPlacedRound set update digits s t) → round.between ≡ after_round (reconciler_with round.now.object.key digits round.moment) s round.now.object
   between_is s t round =
       let now = round.now in
       let accepted = all_are_accepted now digits round.moment s round.plan round.is_time round.may_act round.is_read.there round.is_read.read in
       ap (λ (x : Store × Phase). x.0) (sym round.ends ∙ controller_round now digits round.moment s round.is_read.there round.is_read.read accepted)
 
-  own_between : (s t : Store) (round : IsRoundOver set update digits s t) (i : ℕ)
+  own_between : (s t : Store) (round : IsPlacedRound set update digits s t) (i : ℕ)
       → own_at round.now round.plan.update.key.name round.plan.current.key.name round.between i
       ≡ own_at round.now round.plan.update.key.name round.plan.current.key.name (after_plan round.now digits round.moment s) i
   own_between s t round i =
@@ -192,7 +209,7 @@ module _ (set : SetParts) (update current : List ℕ) (digits : ℕ) where
       (same_found_at now planned (after_round c s now.object) i filed (filed_run planned (collection_over c planned) filed) (λ k pod. others_stay now.object.key planned filed digits round.moment Pod k refl pod)) in
       subst P (sym (between_is s t round)) (stays ∙ ap (λ x. own_at now u v x i) same_plan)
 
-  at_round : (s t : Store) (round : IsRoundOver set update digits s t) (alike : IsAlike set round.now) (i : ℕ)
+  at_round : (s t : Store) (round : IsPlacedRound set update digits s t) (alike : IsAlike set round.now) (i : ℕ)
       → (new : Replica) × IsNew set i new × (seen t i ≡ after_round_of (pod_steps (full_steps set (all_plain round.plan.pods))) i new (pod_at (all_plain round.plan.pods) i))
   at_round s t round alike i =
       let now = round.now in
@@ -210,7 +227,7 @@ module _ (set : SetParts) (update current : List ℕ) (digits : ℕ) where
             ∙ λ j. after_round_of (steps j) i (plain done.0) (sym (at_plain plan.pods i) j)))),
       )
 
-  one_round : (s t : Store) (es fs : Pods) → IsSeen es s → IsSeen fs t → (round : IsRoundOver set update digits s t) → IsAlike set round.now → IsRound set es fs
+  pub one_round : (s t : Store) (es fs : Pods) → IsSeen es s → IsSeen fs t → (round : IsPlacedRound set update digits s t) → IsAlike set round.now → IsRound set es fs
   one_round s t es fs at_es at_fs round alike =
       let first = all_plain round.plan.pods in
       let P : Pods → Type 0 = λ x. IsRound set x fs in
@@ -222,20 +239,20 @@ module _ (set : SetParts) (update current : List ℕ) (digits : ℕ) where
       })
 
   -- ---- the set, read again
-  abbrev IsHere : Store → Type 0
+  abbrev pub IsHere : Store → Type 0
   IsHere s = (here : SetParts) × IsReadIn s here × IsAlike set here
 
-  same_read : (s : Store) (here now : SetParts) → IsReadIn s here → IsReadIn s now → now.object.key ≡ here.object.key → here ≡ now
+  pub same_read : (s : Store) (here now : SetParts) → IsReadIn s here → IsReadIn s now → now.object.key ≡ here.object.key → here ≡ now
   same_read s here now at_here at_now keys =
       let object : here.object ≡ now.object = same_Some here.object now.object (sym at_here.there ∙ (ap (finite.get s.objects) (sym keys) ∙ at_now.there)) in
       same_parts here now (sym at_here.read ∙ (ap set_of object ∙ at_now.read))
 
-  alike_now : (s t : Store) → IsHere s → (round : IsRoundOver set update digits s t) → IsAlike set round.now
+  pub alike_now : (s t : Store) → IsHere s → (round : IsPlacedRound set update digits s t) → IsAlike set round.now
   alike_now s t here round =
       let P : SetParts → Type 0 = λ x. IsAlike set x in
       subst P (same_read s here.0 round.now here.1 round.is_read (round.key_is ∙ sym here.2.key)) here.2
 
-  pub like_then : (s t : Store) (round : IsRoundOver set update digits s t) → IsLike round.now round.is_read.read t
+  pub like_then : (s t : Store) (round : IsPlacedRound set update digits s t) → IsLike round.now round.is_read.read t
   like_then s t round =
       let now = round.now in
       let key = now.object.key in
@@ -254,7 +271,7 @@ module _ (set : SetParts) (update current : List ℕ) (digits : ℕ) where
       let no_pod : is_of Pod key.namespace key ≡ false = ap (λ (x : Kind). kind_index x == kind_index Pod && bytes_eq key.namespace key.namespace) round.may_act.kind in
       subst P (sym round.left) (third.0, turn.others key no_pod ∙ third.1, third.2)
 
-  here_then : (s t : Store) → IsHere s → (round : IsRoundOver set update digits s t) → IsHere t
+  pub here_then : (s t : Store) → IsHere s → (round : IsPlacedRound set update digits s t) → IsHere t
   here_then s t here round =
       let now = round.now in
       let like = like_then s t round in
@@ -270,17 +287,6 @@ module _ (set : SetParts) (update current : List ℕ) (digits : ℕ) where
         },
         alike_on set now next (alike_now s t here round) again.1.alike,
       )
-
-  seen_next : (k : ℕ) (s t : Store) (last : Pods) → IsHere s → IsSeen last t → AreRoundsOver set update digits k s t → (pods : Pods) × IsSeen pods s
-  seen_next zero s t last here at_last same = (last, subst (IsSeen last) (sym same) at_last)
-  seen_next (suc k) s t last here at_last rounds = (all_plain rounds.1.plan.pods, seen_plan s rounds.0 rounds.1 (alike_now s rounds.0 here rounds.1))
-
-  rounds_seen : (k : ℕ) (s t : Store) (pods last : Pods) → IsHere s → IsSeen pods s → IsSeen last t → AreRoundsOver set update digits k s t → AreRounds set k pods last
-  rounds_seen zero s t pods last here at_pods at_last same = one_seen t pods last (subst (IsSeen pods) same at_pods) at_last
-  rounds_seen (suc k) s t pods last here at_pods at_last rounds =
-      let later = here_then s rounds.0 here rounds.1 in
-      let next = seen_next k rounds.0 t last later at_last rounds.2 in
-      (next.0, one_round s rounds.0 pods next.0 at_pods next.1 rounds.1 (alike_now s rounds.0 here rounds.1), rounds_seen k rounds.0 t next.0 last later next.1 at_last rounds.2)
 
   -- ---- back to pods as they are
   none_plain : (here : Option Replica) → option_map plain here ≡ None → here ≡ None
@@ -321,12 +327,10 @@ module _ (set : SetParts) (update current : List ℕ) (digits : ℕ) where
   as_far : (pods : Pods) → most_rounds set (all_plain pods) ≡ most_rounds set pods
   as_far pods = ap (λ n. 2 * set.replicas + n) (as_many (is_out_of_range set) pods (λ e. refl))
 
-  pub stand_over : (s t : Store) (k : ℕ) (pods last : Pods) → IsReadIn s set → AreRoundsOver set update digits k s t → replicas_in set update current (views_in set s) ≡ Ok pods → replicas_in set update current (views_in set t) ≡ Ok last
+  pub stand_by : (s t : Store) (k : ℕ) (pods last : Pods) → AreRounds set k (all_plain pods) (all_plain last) → replicas_in set update current (views_in set s) ≡ Ok pods
       → most_rounds set pods + 1 ≤ k → Stands set last ⊎ ((set.policy ≡ OrderedReady) × IsStopped set pods)
-  stand_over s t k pods last read rounds first end enough =
-      let at_pods = seen_list s pods first in
-      elim (comes_to_stand set (all_plain pods) (all_plain last) k at_pods.in_order (rounds_seen k s t (all_plain pods) (all_plain last) (set, read, alike_as_is set) at_pods (seen_list t last end) rounds)
-      (subst (λ (n : ℕ). n + 1 ≤ k) (sym (as_far pods)) enough)) [
+  stand_by s t k pods last rounds first enough =
+      elim (comes_to_stand set (all_plain pods) (all_plain last) k (seen_list s pods first).in_order rounds (subst (λ (n : ℕ). n + 1 ≤ k) (sym (as_far pods)) enough)) [
         | inl stands ↦ inl (stands_then last stands)
         | inr stopped ↦ inr (stopped.0, stopped_then pods stopped.1)
       ]

@@ -1,5 +1,5 @@
 -- What a round leaves in a store to which nobody else writes: the requests of a plan are carried out, and then a kubelet has its turn.
-use Rattle.std.specs.Prelude.{◌≡◌, ◌+◌, ◌^◌, ◌≤◌, ◌<◌, ℕ, true, false, List, length, Option, Some, option_map, Ok, if◌then◌else◌}
+use Rattle.std.specs.Prelude.{◌≡◌, ◌+◌, ◌^◌, ◌≤◌, ◌<◌, ℕ, true, false, List, [], length, Option, Some, option_map, Ok, if◌then◌else◌}
 use Rattle.std.specs.List.{list_any}
 use Rattle.objects.specs.declared.key.Key.{Key}
 use Rattle.objects.specs.declared.kind.Kind.TheVariants.{ControllerRevision, PersistentVolumeClaim, Pod, StatefulSet}
@@ -15,7 +15,7 @@ use Rattle.pod_steps.specs.declared.step.Revision.TheVariants.{Update}
 use Rattle.pod_steps.specs.declared.step.Step.{Step}
 use Rattle.pod_steps.specs.FullSteps.{revision_at}
 use Rattle.pod_steps.specs.Replicas.{Pods, is_failed}
-use Rattle.revisions.specs.Plan.{plan_of, settled}
+use Rattle.revisions.specs.Plan.{PlanParts, created, plan_of, renumbered, settled}
 use Rattle.revisions.specs.Revision.{listed}
 use Rattle.claims.specs.Listed.{listed_claim}
 use Rattle.kubelet.specs.Kubelet.{turn_requests_of}
@@ -58,6 +58,20 @@ pub record IsPlannedOver (set : SetParts) (digits : ℕ) (s : Store) : Type 0 wh
   pub in_place : plan_of set (is_held (listed set (listed_in s set.object.key ControllerRevision))) digits (owned_of set (listed_in s set.object.key ControllerRevision)) ≡ Ok (settled owned current update)
   pub fit : fitting_pods set update.key.name current.key.name (views_in set s) ≡ Ok pods
   pub whole : length (full_plan set (listed_claim set (listed_in s set.object.key PersistentVolumeClaim)) (views_in set s) owned current update pods) ≤ most_actions
+
+-- if a revision is written there is nothing else in the plan
+abbrev pub AreWhole : SetParts → Store → PlanParts → Type 0
+AreWhole set s (created o) = (pods : Pods) × (fitting_pods set [] [] (views_in set s) ≡ Ok pods)
+AreWhole set s (renumbered o) = (pods : Pods) × (fitting_pods set [] [] (views_in set s) ≡ Ok pods)
+AreWhole set s (settled owned current update) =
+    (pods : Pods) × (fitting_pods set update.key.name current.key.name (views_in set s) ≡ Ok pods)
+    × (length (full_plan set (listed_claim set (listed_in s set.object.key PersistentVolumeClaim)) (views_in set s) owned current update pods) ≤ most_actions)
+
+-- the same, but that the plan may have to put the update revision in place
+pub record IsUnrefusedOver (set : SetParts) (digits : ℕ) (s : Store) : Type 0 where
+  pub revisions : PlanParts
+  pub are : plan_of set (is_held (listed set (listed_in s set.object.key ControllerRevision))) digits (owned_of set (listed_in s set.object.key ControllerRevision)) ≡ Ok revisions
+  pub whole : AreWhole set s revisions
 
 -- A store over which a plan of the set may be carried out, and the set as it was read there: each object is under its key, which
 -- the API allows, and has a UID that a store gives. The ordinals are those that the API has, and numbers are left for so many

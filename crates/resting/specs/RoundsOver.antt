@@ -4,7 +4,7 @@ use Rattle.set_views.specs.Set.{SetParts}
 use Rattle.sets.specs.Plan.{most_actions}
 use Rattle.plain_store.specs.Store.{Store}
 use Rattle.plan_requests.specs.Reconciler.{reconciler_with}
-use Rattle.resting.specs.Acting.{IsPlannedOver, IsReadIn, MayAct, after_turn}
+use Rattle.resting.specs.Acting.{IsReadIn, IsUnrefusedOver, MayAct, after_turn}
 use Rattle.resting.specs.Turns.{MayTurn}
 use Rattle.resting.specs.WholeRounds.{EndsRound}
 
@@ -17,15 +17,13 @@ pub record IsAlike (set other : SetParts) : Type 0 where
   pub policy : other.policy ≡ set.policy
   pub strategy : other.strategy ≡ set.strategy
 
--- A round of a set's controller and a kubelet's turn lead from one store to the other. Pods are made from the update revision of
--- that name.
-pub record IsRoundOver (set : SetParts) (update : List ℕ) (digits : ℕ) (s t : Store) : Type 0 where
+-- A round of a set's controller and a kubelet's turn lead from one store to the other. The plan is not refused.
+pub record IsRoundOver (set : SetParts) (digits : ℕ) (s t : Store) : Type 0 where
   -- the set as the controller reads it
   pub now : SetParts
   pub key_is : now.object.key ≡ set.object.key
   pub is_read : IsReadIn s now
-  pub plan : IsPlannedOver now digits s
-  pub update_is : plan.update.key.name ≡ update
+  pub plan : IsUnrefusedOver now digits s
   -- the time with which pods are marked
   pub moment : List ℕ
   pub is_time : moment ≢ []
@@ -37,6 +35,6 @@ pub record IsRoundOver (set : SetParts) (update : List ℕ) (digits : ℕ) (s t 
   pub left : t ≡ after_turn now.object.key.namespace between
 
 -- so many rounds, one after another
-abbrev pub AreRoundsOver : SetParts → List ℕ → ℕ → ℕ → Store → Store → Type 0
-AreRoundsOver set update digits zero s t = s ≡ t
-AreRoundsOver set update digits (suc k) s t = (next : Store) × IsRoundOver set update digits s next × AreRoundsOver set update digits k next t
+abbrev pub AreRoundsOver : SetParts → ℕ → ℕ → Store → Store → Type 0
+AreRoundsOver set digits zero s t = s ≡ t
+AreRoundsOver set digits (suc k) s t = (next : Store) × IsRoundOver set digits s next × AreRoundsOver set digits k next t

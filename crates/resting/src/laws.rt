@@ -149,18 +149,19 @@ pub fn plans_and_turns_are_rounds_on_pods()
 
 /// Once in place the update revision stays: after a round the next plan has the same one, unchanged, unless it is refused.
 pub fn update_revisions_stay_in_place()
-    ensures { (set : SetParts) (update : List ℕ) (digits : ℕ) (s t : Store) (round : IsRoundOver set update digits s t) (next : SetParts) (parts : PlanParts)
+    ensures { (set : SetParts) (digits : ℕ) (s t : Store) (plan : IsPlannedOver set digits s) (next : SetParts) (parts : PlanParts)
         → let revisions = listed_in t next.object.key ControllerRevision in
-        IsReadIn t next → next.object.key ≡ set.object.key → plan_of next (is_held (listed next revisions)) digits (owned_of next revisions) ≡ Ok parts
-        → (owned : List Object) × (current : Object) × (parts ≡ settled owned current round.plan.update) }
+        IsReadIn s set → IsRoundOver set digits s t → IsReadIn t next → next.object.key ≡ set.object.key
+        → plan_of next (is_held (listed next revisions)) digits (owned_of next revisions) ≡ Ok parts
+        → (owned : List Object) × (current : Object) × (parts ≡ settled owned current plan.update) }
 {}
 
 /// So two rounds of the controller and the kubelet for each replica, one for each condemned pod and one more bring the pods of a store
-/// to what the spec says, whatever they were; unless a failed pod stops the set, under OrderedReady. Meanwhile nobody else writes, no plan
-/// is refused, and the update revision is in place.
+/// to what the spec says, whatever they were; unless a failed pod stops the set, under OrderedReady. Before the first one the
+/// update revision is in place; meanwhile nobody else writes, and no plan is refused.
 pub fn sets_come_to_stand_in_stores()
-    ensures { (set : SetParts) (update current : List ℕ) (digits k : ℕ) (s t : Store) (pods last : Pods)
-        → IsReadIn s set → AreRoundsOver set update digits k s t
+    ensures { (set : SetParts) (digits k : ℕ) (s t : Store) (plan : IsPlannedOver set digits s) (current : List ℕ) (pods last : Pods)
+        → let update = plan.update.key.name in IsReadIn s set → AreRoundsOver set digits k s t
         → replicas_in set update current (views_in set s) ≡ Ok pods → replicas_in set update current (views_in set t) ≡ Ok last
         → most_rounds set pods + 1 ≤ k → Stands set last ⊎ ((set.policy ≡ Policy.OrderedReady) × IsStopped set pods) }
 {}
