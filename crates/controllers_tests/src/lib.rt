@@ -9,6 +9,8 @@ mod clusters;
 #[cfg(test)]
 mod one_controller;
 #[cfg(test)]
+mod refused_crash;
+#[cfg(test)]
 mod sample;
 #[cfg(test)]
 mod turns;

@@ -45,7 +45,7 @@ fn takes_at_last(web: &mut Controller, reply: Reply) -> bool {
     is_taken
 }
 
-fn is_next(web: &mut Controller, wanted: &Named) -> bool {
+pub(crate) fn is_next(web: &mut Controller, wanted: &Named) -> bool {
     let Some(request) = next_at_last(web) else {
         return false;
     };

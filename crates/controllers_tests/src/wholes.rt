@@ -60,7 +60,7 @@ fn add_events(alloc: Global, events: &mut Vec<WholeEvent>) -> Result<(), Memory>
     add_asks(events, 5)
 }
 
-fn controllers(alloc: Global) -> Result<Vec<Controller>, Memory>
+pub(crate) fn controllers(alloc: Global) -> Result<Vec<Controller>, Memory>
     ensures { IfOk result (λ cs. AllByRecursion (λ c. phase_of c ≡ reading_set) cs.items) }
 {
     let mut controllers = Vec::new(alloc);
