@@ -65,6 +65,13 @@ fn repeated(alloc: Global, part: &[u8], count: usize, end: &[u8]) -> Result<Vec<
     Ok(text)
 }
 
+/// The same where the two differ and are alike in turn, and each second quote of the text is in the base.
+fn has_length_in_turn(alloc: Global, count: usize, length: usize) -> Result<bool, AllocError> {
+    let base = repeated(alloc, b"\"aaaaaaaaa\"sssssssss", count, b"")?;
+    let text = repeated(alloc, b"\"bbbbbbbbb\"ccccccccc\"sssssssss", count, b"")?;
+    has_length(alloc, &base, &text, length)
+}
+
 /// Whether the delta has so many bytes between two texts that differ in so many quoted parts, and then are alike.
 fn has_length_past(alloc: Global, count: usize, length: usize) -> Result<bool, AllocError> {
     let base = repeated(alloc, b"\"aaaaaaaaa", count, b"\"the same end")?;
@@ -87,5 +94,10 @@ fn long_texts_are_copied_added_and_skipped(rt: HostRuntime) -> Result<(), AllocE
     assert!(rt; has_length_past(rt.alloc(), 1_000, 40 * 3 + 9_999 + 40 * 3)?);
     // After 1,024 quotes no more are looked for, and the end is added too: 11,012 bytes by 44 pieces.
     assert!(rt; has_length_past(rt.alloc(), 1_100, 44 * 3 + 11_012)?);
+    // In each part a piece adds 19 bytes, those of two quotes, the first of which is looked for in vain; the last piece copies the end.
+    assert!(rt; has_length_in_turn(rt.alloc(), 1_000, 1_000 * (3 + 19) + 3)?);
+    // The first quote of part 1,024 is the last that is looked for: 77 parts of 30 bytes but for their first quote are added by 10
+    // pieces.
+    assert!(rt; has_length_in_turn(rt.alloc(), 1_100, 1_023 * (3 + 19) + 10 * 3 + 77 * 30 - 1)?);
     Ok(())
 }
