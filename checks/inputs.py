@@ -19,7 +19,8 @@ LABELS = 2_000  # of a claim template, and of a selector
 LABELLED = 150  # pods that have such a claim
 VOLUMES = 10_000  # of a pod, and as many claim templates
 HEALTHY = 1_000  # pods, each with one of its claims
-PIECE = 2_000  # lists of a text of 10,000 bytes, in one piece of the input; then a twentieth of them
+PIECE = 2_000  # lists of a text of 10,000 bytes, in one piece of the input
+FEW = 6  # of them, whose replies are just fewer than are written together
 TRIES = 1_024  # names that a new revision may get, of two hexadecimal digits
 PODS = 64  # that callers of a replay write, get and list
 SHARDS = 64  # of its store
@@ -49,6 +50,12 @@ def unlike(mark):
     """Updates of one object, back and forth between two texts that have nothing alike, and in which that mark often stands."""
     first, second = ((mark + letter * LETTERS) * QUOTES for letter in "ab")
     return created("x", first) + (updated(second) + updated(first)) * 3
+
+
+def without_quotes(mark):
+    """Updates of one object, back and forth between a text without quotes and one in which that mark often stands."""
+    plain, marked = "t" * (QUOTES * (LETTERS + 2)), (mark + "a" * LETTERS) * QUOTES
+    return created("x", plain) + (updated(marked) + updated(plain)) * 3
 
 
 def version(number, name, members):
