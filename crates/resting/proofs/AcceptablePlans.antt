@@ -39,11 +39,11 @@ deleted_is None o = refl
 deleted_is (Some at) o = elim (is_some o.meta.deletion) as (λ b. is_refused (if b then Same o else Write (marks (marked at o))) ≡ false) [ true ↦ refl | false ↦ refl ]
 
 -- an object as it was read meets the one that is there
-meets : (o there : Object) → o.meta ≡ there.meta → conflicts (as_read o).version (as_read o).uid there ≡ false
+pub meets : (o there : Object) → o.meta ≡ there.meta → conflicts (as_read o).version (as_read o).uid there ≡ false
 meets o there same =
     ap (λ (m : Meta). conflicts (text_unless_zero m.revision (decimal m.revision)) (text_unless_zero m.uid (uid_text m.uid)) there) same ∙ meets_its_own there
 
-create_is : (s : Store) (o : Object) → finite.get s.objects o.key ≡ None → IsAcceptable s (Create (draft o))
+pub create_is : (s : Store) (o : Object) → finite.get s.objects o.key ≡ None → IsAcceptable s (Create (draft o))
 create_is s o free = record { write = refl; key = o.key; named = refl; fits = ap (λ found. is_refused (on_create (draft o) found)) free }
 
 update_is : (s : Store) (o there : Object) → Has s o.key there → o.meta ≡ there.meta → there.key.kind ≡ kinds.PersistentVolumeClaim → IsAcceptable s (Update (as_read o))

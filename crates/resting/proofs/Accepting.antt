@@ -93,7 +93,7 @@ at_own_key : (s : Store) (r : Request) (k q : Key) → Some k ≡ Some q → is_
 at_own_key s r k q same kept =
     let key : k ≡ q = same_Some k q same in ap (λ (x : Key). is_refused (verdict r (finite.get s.objects x))) key ∙ kept
 
-is_accepted : (s : Store) (r : Request) → IsAcceptable s r → s.counter < s.capacity → succeeded r (step s r).1 ≡ true
+pub is_accepted : (s : Store) (r : Request) → IsAcceptable s r → s.counter < s.capacity → succeeded r (step s r).1 ≡ true
 unfolding step route
 is_accepted s (Create d) is room = succeeds s d.object.key (Create d) (on_create d (finite.get s.objects d.object.key)) (of_create d (finite.get s.objects d.object.key)) (at_own_key s (Create d) d.object.key is.key is.named is.fits) room
 is_accepted s (Update d) is room = succeeds s d.object.key (Update d) (on_update d (finite.get s.objects d.object.key)) (of_update d (finite.get s.objects d.object.key)) (at_own_key s (Update d) d.object.key is.key is.named is.fits) room

@@ -53,7 +53,7 @@ create_taken : (s : Store) (o p : Object) → Has s o.key p → step s (Create (
 unfolding step route
 create_taken s o p there = ap (λ x. carried_out s o.key (on_create (draft o) x)) there
 
-create_free : (s : Store) (o : Object) → finite.get s.objects o.key ≡ None → s.counter < s.capacity → step s (Create (draft o)) ≡ (with_change s o.key (creates (born o)), accepted (creates (born o)) (stamp (creates (born o)) (s.counter + 1)))
+pub create_free : (s : Store) (o : Object) → finite.get s.objects o.key ≡ None → s.counter < s.capacity → step s (Create (draft o)) ≡ (with_change s o.key (creates (born o)), accepted (creates (born o)) (stamp (creates (born o)) (s.counter + 1)))
 unfolding step route
 create_free s o free room = ap (λ x. carried_out s o.key (on_create (draft o) x)) free ∙ carried s o.key (creates (born o)) room
 

@@ -30,3 +30,7 @@ pub mod OwnedAgain
 pub mod UpdateStays
 pub mod RevisionRounds
 pub mod StandOver
+pub mod RevisionPlans
+pub mod WrittenRounds
+pub mod NewRevisions
+pub mod PutInPlace

@@ -51,7 +51,7 @@ module _ {X : Type 0} (cmp : X → X → Ordering) (total : IsTotalOrder cmp) wh
         | false ↦ λ more. ((more, all_by (AtLeast y) (AtLeast x) ys (λ z. still_above x y z more) up.0), up)
       ] refl
 
-  ascends : (xs : List X) → ArePaired AtLeast (in_order cmp xs)
+  pub ascends : (xs : List X) → ArePaired AtLeast (in_order cmp xs)
   ascends [] = tt
   ascends (x ∷ xs) = put_ascends x (in_order cmp xs) (ascends xs)
 
@@ -88,7 +88,7 @@ module _ {X : Type 0} (cmp : X → X → Ordering) (total : IsTotalOrder cmp) wh
   in_order_among (y ∷ xs) x (inr more) = put_among y (in_order cmp xs) x (inr (in_order_among xs x more))
 
   -- what is last is not less than any
-  last_is : (xs : List X) (h : X) (older : List X) → ArePaired AtLeast xs → reverse xs ≡ h ∷ older → (y : X) → Among y xs → AtMost h y
+  pub last_is : (xs : List X) (h : X) (older : List X) → ArePaired AtLeast xs → reverse xs ≡ h ∷ older → (y : X) → Among y xs → AtMost h y
   last_is xs h older up is y at =
       let down : ArePaired AtMost (h ∷ older) = subst (ArePaired AtMost) is (descends xs up) in
       elim (subst (Among y) is (among_reverse xs y at)) [

@@ -42,7 +42,7 @@ revisions_in s set = listed_in s set.object.key ControllerRevision
 abbrev pub IsOwnedIn : Store → SetParts → Object → Type 0
 IsOwnedIn s set o = Has s o.key o × (is_of ControllerRevision set.object.key.namespace o.key ≡ true) × (owns_revision set o ≡ true)
 
-key_is : (space : List ℕ) (k : Key) → is_of ControllerRevision space k ≡ true → k ≡ key_parts ControllerRevision space k.name
+pub key_is : (space : List ℕ) (k : Key) → is_of ControllerRevision space k ≡ true → k ≡ key_parts ControllerRevision space k.name
 key_is space k of =
     let parts = and_parts (kind_index k.kind == kind_index ControllerRevision) (bytes_eq k.namespace space) of in
     let kind = is_revision k.kind parts.0 in

@@ -109,7 +109,7 @@ same_parts a b e = cc
 pub alike_as_is : (set : SetParts) → IsAlike set set
 alike_as_is set = record { key = refl; uid = refl; start = refl; replicas = refl; policy = refl; strategy = refl }
 
-alike_on : (set now next : SetParts) → IsAlike set now → IsAlike now next → IsAlike set next
+pub alike_on : (set now next : SetParts) → IsAlike set now → IsAlike now next → IsAlike set next
 alike_on set now next a b = record {
   key = b.key ∙ a.key;
   uid = b.uid ∙ a.uid;

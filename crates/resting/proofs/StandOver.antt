@@ -16,23 +16,18 @@ use Rattle.convergence.specs.Left.{most_rounds}
 use Rattle.convergence.specs.Rounds.{AreRounds}
 use Rattle.convergence.specs.Standing.{Stands}
 use Rattle.convergence.specs.Stopped.{IsStopped}
-use Rattle.resting.specs.Acting.{AreWhole, IsPlannedOver, IsReadIn, views_in}
-use Rattle.resting.specs.RoundsOver.{AreRoundsOver, IsRoundOver}
+use Rattle.resting.specs.Acting.{AreWhole, IsReadIn, views_in}
+use Rattle.resting.specs.RoundsOver.{AreRoundsOver, IsInPlace, IsRoundOver}
 use Rattle.resting.proofs.OwnedAgain.{revisions_in}
 use Rattle.resting.proofs.PlainPods.{all_plain}
 use Rattle.resting.proofs.RevisionRounds.{stays_in_place}
-use Rattle.resting.proofs.RoundsOver.{IsHere, IsPlacedRound, IsSeen, alike_as_is, alike_now, here_then, one_round, one_seen, seen_list, seen_plan, same_read, stand_by}
+use Rattle.resting.proofs.RoundsOver.{IsHere, IsPlacedRound, IsSeen, alike_now, here_then, one_round, one_seen, seen_list, seen_plan, same_read, stand_by}
 
-abbrev revisions_of : SetParts → ℕ → Store → Result PlanParts PlanError
+abbrev pub revisions_of : SetParts → ℕ → Store → Result PlanParts PlanError
 revisions_of set digits s = plan_of set (is_held (listed set (revisions_in s set))) digits (owned_of set (revisions_in s set))
 
 same_plan : (a b : PlanParts) → ◌≡◌ {A = Result PlanParts PlanError} (Ok a) (Ok b) → a ≡ b
 same_plan a b e = cc
-
--- in the store the set's update revision is in place, and is this one, unless the plan is refused
-abbrev pub IsInPlace : SetParts → ℕ → Object → Store → Type 0
-IsInPlace set digits chosen s = (next : SetParts) (parts : PlanParts) → IsReadIn s next → next.object.key ≡ set.object.key → revisions_of next digits s ≡ Ok parts
-    → (owned : List Object) × (current : Object) × (parts ≡ settled owned current chosen)
 
 module _ (set : SetParts) (current : List ℕ) (digits : ℕ) (chosen : Object) where
   abbrev update : List ℕ
@@ -73,11 +68,11 @@ module _ (set : SetParts) (current : List ℕ) (digits : ℕ) (chosen : Object) 
       let stays = stays_in_place set update digits s t r next read key (is_held (listed next (revisions_in t next))) digits parts parts_are in
       (owned, unwrap_or (named_current next owned) r.plan.update, stays ∙ ap (settled owned (unwrap_or (named_current next owned) r.plan.update)) is)
 
-  pub in_place_at : (s : Store) → IsReadIn s set → (plan : IsPlannedOver set digits s) → plan.update ≡ chosen → IsInPlace set digits chosen s
-  in_place_at s read plan is next parts at_next key parts_are =
-      let same : set ≡ next = same_read set update update digits s set next read at_next key in
-      let here : revisions_of set digits s ≡ Ok parts = ap (λ (x : SetParts). revisions_of x digits s) same ∙ parts_are in
-      (plan.owned, plan.current, same_plan parts (settled plan.owned plan.current plan.update) (sym here ∙ plan.in_place) ∙ ap (settled plan.owned plan.current) is)
+  pub in_place_at : (s : Store) (now : SetParts) → IsReadIn s now → now.object.key ≡ set.object.key → (owned : List Object) (newer : Object) → revisions_of now digits s ≡ Ok (settled owned newer chosen) → IsInPlace set digits chosen s
+  in_place_at s now read key_is owned newer is next parts at_next key parts_are =
+      let same : now ≡ next = same_read set update update digits s now next read at_next (key ∙ sym key_is) in
+      let here : revisions_of now digits s ≡ Ok parts = ap (λ (x : SetParts). revisions_of x digits s) same ∙ parts_are in
+      (owned, newer, same_plan parts (settled owned newer chosen) (sym here ∙ is))
 
   seen_next : (k : ℕ) (s t : Store) (last : Pods) → IsHere set update current digits s → IsInPlace set digits chosen s → IsSeen set update current digits last t → AreRoundsOver set digits k s t → (pods : Pods) × IsSeen set update current digits pods s
   seen_next zero s t last here at at_last same = (last, subst (IsSeen set update current digits last) (sym same) at_last)
@@ -95,10 +90,10 @@ module _ (set : SetParts) (current : List ℕ) (digits : ℕ) (chosen : Object) 
       let next = seen_next k rounds.0 t last here_later at_later at_last rounds.2 in
       (next.0, one_round set update current digits s rounds.0 pods next.0 at_pods next.1 r.0 alike, rounds_seen k rounds.0 t next.0 last here_later at_later next.1 at_last rounds.2)
 
-  pub stand_over : (k : ℕ) (s t : Store) (pods last : Pods) → IsReadIn s set → IsInPlace set digits chosen s → AreRoundsOver set digits k s t
+  pub stand_over : (k : ℕ) (s t : Store) (pods last : Pods) → IsHere set update current digits s → IsInPlace set digits chosen s → AreRoundsOver set digits k s t
       → replicas_in set update current (views_in set s) ≡ Ok pods → replicas_in set update current (views_in set t) ≡ Ok last
       → most_rounds set pods + 1 ≤ k → Stands set last ⊎ ((set.policy ≡ OrderedReady) × IsStopped set pods)
-  stand_over k s t pods last read at rounds first end enough =
+  stand_over k s t pods last here at rounds first end enough =
       let at_pods = seen_list set update current digits s pods first in
       stand_by set update current digits s t k pods last
-      (rounds_seen k s t (all_plain pods) (all_plain last) (set, read, alike_as_is set) at at_pods (seen_list set update current digits t last end) rounds) first enough
+      (rounds_seen k s t (all_plain pods) (all_plain last) here at at_pods (seen_list set update current digits t last end) rounds) first enough

@@ -41,7 +41,7 @@ abbrev pub AreApart : Step → Step → Type 0
 AreApart a b = (ordinal_of a ≢ ordinal_of b) ⊎ (is_of_pod a ≢ is_of_pod b)
 
 -- ---- pods
-found_among : {X : Type 0} (q : X → Bool) (xs : List X) (x : X) → find q xs ≡ Some x → Among x xs
+pub found_among : {X : Type 0} (q : X → Bool) (xs : List X) (x : X) → find q xs ≡ Some x → Among x xs
 found_among q [] x e = absurd (cc)
 found_among q (y ∷ ys) x e =
     elim (q y) as (λ b. cond b (Some y) (find q ys) ≡ Some x → Among x (y ∷ ys)) [

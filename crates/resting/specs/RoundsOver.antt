@@ -1,10 +1,17 @@
 -- Rounds of a controller and a kubelet over a store to which nobody else writes, one after another.
-use Rattle.std.specs.Prelude.{◌≡◌, ◌≢◌, ℕ, zero, suc, List, []}
+use Rattle.std.specs.Prelude.{◌≡◌, ◌≢◌, ℕ, zero, suc, List, [], Ok}
+use Rattle.objects.specs.declared.kind.Kind.TheVariants.{ControllerRevision}
+use Rattle.objects.specs.declared.object.Object.{Object}
+use Rattle.set_views.specs.Firsts.{is_held}
 use Rattle.set_views.specs.Set.{SetParts}
+use Rattle.revisions.specs.Plan.{PlanParts, plan_of, settled}
+use Rattle.revisions.specs.Revision.{listed}
 use Rattle.sets.specs.Plan.{most_actions}
+use Rattle.sets.specs.PlanOfLists.{owned_of}
 use Rattle.plain_store.specs.Store.{Store}
 use Rattle.plan_requests.specs.Reconciler.{reconciler_with}
 use Rattle.resting.specs.Acting.{IsReadIn, IsUnrefusedOver, MayAct, after_turn}
+use Rattle.resting.specs.Still.{listed_in}
 use Rattle.resting.specs.Turns.{MayTurn}
 use Rattle.resting.specs.WholeRounds.{EndsRound}
 
@@ -38,3 +45,9 @@ pub record IsRoundOver (set : SetParts) (digits : ℕ) (s t : Store) : Type 0 wh
 abbrev pub AreRoundsOver : SetParts → ℕ → ℕ → Store → Store → Type 0
 AreRoundsOver set digits zero s t = s ≡ t
 AreRoundsOver set digits (suc k) s t = (next : Store) × IsRoundOver set digits s next × AreRoundsOver set digits k next t
+
+-- Whenever the set is read in the store, this update revision is in place, unless its plan is refused.
+abbrev pub IsInPlace : SetParts → ℕ → Object → Store → Type 0
+IsInPlace set digits update s = (now : SetParts) (revisions : PlanParts) → IsReadIn s now → now.object.key ≡ set.object.key
+    → plan_of now (is_held (listed now (listed_in s now.object.key ControllerRevision))) digits (owned_of now (listed_in s now.object.key ControllerRevision)) ≡ Ok revisions
+    → (owned : List Object) × (current : Object) × (revisions ≡ settled owned current update)

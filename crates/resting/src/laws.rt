@@ -1,16 +1,14 @@
 // When a plan is empty, that a store then stays as it is, and what a plan and a kubelet's turn do to one.
-ghost use Rattle.std.specs.Prelude.{◌≡◌, ◌≢◌, ◌↔◌, ◌⊎◌, ◌+◌, ◌≤◌, ℕ, List, [], length, Some, Ok};
+ghost use Rattle.std.specs.Prelude.{◌≡◌, ◌≢◌, ◌↔◌, ◌⊎◌, ◌+◌, ◌≤◌, ℕ, false, List, [], length, Some, Ok};
 ghost use Rattle.std.specs.FinMap as map;
 ghost use Rattle.std.specs.List.{AllByRecursion};
+ghost use Rattle.serde_json.specs.Written.{members_have_float};
 ghost use Rattle.objects.specs.declared.key.Key.{Key};
-ghost use Rattle.objects.specs.declared.kind.Kind.TheVariants.{ControllerRevision, Pod};
+ghost use Rattle.objects.specs.declared.kind.Kind.TheVariants.{Pod};
 ghost use Rattle.objects.specs.declared.object.Object.{Object};
 ghost use Rattle.requests.specs.declared.request.Request.{Request};
-ghost use Rattle.set_views.specs.Firsts.{is_held};
 ghost use Rattle.set_views.specs.Pod.{PodParts};
 ghost use Rattle.set_views.specs.Set.{SetParts};
-ghost use Rattle.revisions.specs.Plan.{PlanParts, plan_of, settled};
-ghost use Rattle.revisions.specs.Revision.{listed};
 ghost use Rattle.pod_steps.specs.declared.replica.Replica.{Replica};
 ghost use Rattle.pod_steps.specs.Replicas.{AreInOrder, Pods, pod_at};
 ghost use Rattle.pod_steps.specs.Listed.{replicas_in};
@@ -20,7 +18,7 @@ ghost use Rattle.pod_steps.specs.Views.{listed_pods};
 ghost use Rattle.sets.specs.Actions.{Claims};
 ghost use Rattle.sets.specs.FullPlan.{full_plan};
 ghost use Rattle.sets.specs.Plan.{most_actions};
-ghost use Rattle.sets.specs.PlanOfLists.{owned_of, plan_of_lists, views_of};
+ghost use Rattle.sets.specs.PlanOfLists.{plan_of_lists, views_of};
 ghost use Rattle.kubelet.specs.Kubelet.{turn_requests_of};
 ghost use Rattle.plain_store.specs.AtKey.{Has};
 ghost use Rattle.plain_store.specs.Filed.{AreFiled};
@@ -36,9 +34,9 @@ ghost use Rattle.convergence.specs.Stopped.{IsStopped};
 ghost use Rattle.resting.specs.Accepting.{AreAccepted, IsAcceptable, NameApart};
 ghost use Rattle.resting.specs.Acting.{IsCreated, IsPlannedOver, IsReadIn, MayAct, after_both, after_plan, after_steps, planned_requests, views_in};
 ghost use Rattle.resting.specs.Rest.{IsAtRest, RestsOver};
-ghost use Rattle.resting.specs.Still.{IsStill, IsTendedPod, ShowsRest, exchanged_times, listed_in, plan_over, reads_of_a_round};
+ghost use Rattle.resting.specs.Still.{IsStill, IsTendedPod, ShowsRest, exchanged_times, plan_over, reads_of_a_round};
 ghost use Rattle.resting.specs.WholeRounds.{EndsRound, IsCollectedOver, after_round, collection_over};
-ghost use Rattle.resting.specs.RoundsOver.{AreRoundsOver, IsRoundOver};
+ghost use Rattle.resting.specs.RoundsOver.{AreRoundsOver, IsInPlace, IsRoundOver};
 ghost use Rattle.resting.specs.Turns.{IsTurnOver, MayTurn};
 
 use set_views::Policy;
@@ -147,21 +145,25 @@ pub fn plans_and_turns_are_rounds_on_pods()
         → IsRound set plan.pods next }
 {}
 
-/// Once in place the update revision stays: after a round the next plan has the same one, unchanged, unless it is refused.
-pub fn update_revisions_stay_in_place()
-    ensures { (set : SetParts) (digits : ℕ) (s t : Store) (plan : IsPlannedOver set digits s) (next : SetParts) (parts : PlanParts)
-        → let revisions = listed_in t next.object.key ControllerRevision in
-        IsReadIn s set → IsRoundOver set digits s t → IsReadIn t next → next.object.key ≡ set.object.key
-        → plan_of next (is_held (listed next revisions)) digits (owned_of next revisions) ≡ Ok parts
-        → (owned : List Object) × (current : Object) × (parts ≡ settled owned current plan.update) }
+/// After a round that is not refused the update revision is in place: it was, or the round's plan has written it. And it stays: after
+/// each further round it is the same one. Its template has no fraction, as no object that was read has, and each UID is above 0.
+pub fn update_revisions_are_put_in_place()
+    ensures put { (set : SetParts) (digits : ℕ) (s t : Store) (round : IsRoundOver set digits s t) → members_have_float round.now.template ≡ false
+        → ((key : Key) (o : Object) → Has s key o → 1 ≤ o.meta.uid) → (update : Object) × IsInPlace set digits update t }
+    ensures kept { (set : SetParts) (update : Object) (digits : ℕ) (s t : Store) → IsInPlace set digits update s → IsRoundOver set digits s t → IsInPlace set digits update t }
 {}
 
 /// So two rounds of the controller and the kubelet for each replica, one for each condemned pod and one more bring the pods of a store
-/// to what the spec says, whatever they were; unless a failed pod stops the set, under OrderedReady. Before the first one the
-/// update revision is in place; meanwhile nobody else writes, and no plan is refused.
+/// to what the spec says, whatever they were; unless a failed pod stops the set, under OrderedReady. Before them the update
+/// revision is in place, or one round puts it there; meanwhile nobody else writes, and no plan is refused.
 pub fn sets_come_to_stand_in_stores()
-    ensures { (set : SetParts) (digits k : ℕ) (s t : Store) (plan : IsPlannedOver set digits s) (current : List ℕ) (pods last : Pods)
-        → let update = plan.update.key.name in IsReadIn s set → AreRoundsOver set digits k s t
-        → replicas_in set update current (views_in set s) ≡ Ok pods → replicas_in set update current (views_in set t) ≡ Ok last
+    ensures in_place { (set : SetParts) (update : Object) (digits k : ℕ) (s t : Store) (current : List ℕ) (pods last : Pods)
+        → IsReadIn s set → IsInPlace set digits update s → AreRoundsOver set digits k s t
+        → replicas_in set update.key.name current (views_in set s) ≡ Ok pods → replicas_in set update.key.name current (views_in set t) ≡ Ok last
         → most_rounds set pods + 1 ≤ k → Stands set last ⊎ ((set.policy ≡ Policy.OrderedReady) × IsStopped set pods) }
+    ensures from_any { (set : SetParts) (digits k : ℕ) (r s t : Store) (first : IsRoundOver set digits r s)
+        → IsReadIn r set → members_have_float first.now.template ≡ false → ((key : Key) (o : Object) → Has r key o → 1 ≤ o.meta.uid)
+        → AreRoundsOver set digits k s t → (update : Object) × IsInPlace set digits update s × ((current : List ℕ) (pods last : Pods)
+        → replicas_in set update.key.name current (views_in set s) ≡ Ok pods → replicas_in set update.key.name current (views_in set t) ≡ Ok last
+        → most_rounds set pods + 1 ≤ k → Stands set last ⊎ ((set.policy ≡ Policy.OrderedReady) × IsStopped set pods)) }
 {}
