@@ -34,3 +34,4 @@ pub mod RevisionPlans
 pub mod WrittenRounds
 pub mod NewRevisions
 pub mod PutInPlace
+pub mod AllAccepted

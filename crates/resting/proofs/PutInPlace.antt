@@ -26,7 +26,7 @@ use Rattle.resting.proofs.RoundsOver.{IsHere, here_then}
 use Rattle.resting.proofs.StandOver.{in_place_at, in_place_then, placed, revisions_of}
 use Rattle.resting.proofs.WrittenRounds.{here_written, written_in_place}
 
-some_uid : (n : ℕ) → 1 ≤ n → n == 0 ≡ false
+pub some_uid : (n : ℕ) → 1 ≤ n → n == 0 ≡ false
 some_uid n some =
     elim (n == 0) as (λ b. n == 0 ≡ b → b ≡ false) [
       | true ↦ λ h. let none : n ≡ 0 = eqb-true n 0 h in absurd (omega arith)

@@ -32,7 +32,7 @@ ghost use Rattle.convergence.specs.Left.{most_rounds};
 ghost use Rattle.convergence.specs.Standing.{AreTended, Stands};
 ghost use Rattle.convergence.specs.Stopped.{IsStopped};
 ghost use Rattle.resting.specs.Accepting.{AreAccepted, IsAcceptable, NameApart};
-ghost use Rattle.resting.specs.Acting.{IsCreated, IsPlannedOver, IsReadIn, MayAct, after_both, after_plan, after_steps, planned_requests, views_in};
+ghost use Rattle.resting.specs.Acting.{IsCreated, IsPlannedOver, IsReadIn, IsUnrefusedOver, MayAct, after_both, after_plan, after_steps, planned_requests, views_in};
 ghost use Rattle.resting.specs.Rest.{IsAtRest, RestsOver};
 ghost use Rattle.resting.specs.Still.{IsStill, IsTendedPod, ShowsRest, exchanged_times, plan_over, reads_of_a_round};
 ghost use Rattle.resting.specs.WholeRounds.{EndsRound, IsCollectedOver, after_round, collection_over};
@@ -99,12 +99,15 @@ pub fn planned_requests_are_acceptable()
         → Has s set.object.key set.object → AllByRecursion (IsAcceptable s) (planned_requests set digits moment s) }
 {}
 
-/// No two requests of a plan name one key. So all are accepted, if the set is that of the store.
+/// No two requests of a plan name one key. So all are accepted, if the set is that of the store; also if the plan writes a revision.
 pub fn planned_requests_are_accepted()
     ensures apart { (set : SetParts) (digits : ℕ) (moment : List ℕ) (s : Store) → IsPlannedOver set digits s → moment ≢ [] → MayAct set most_actions s
         → IsReadIn s set → NameApart (planned_requests set digits moment s) }
     ensures accepted { (set : SetParts) (digits : ℕ) (moment : List ℕ) (s : Store) → IsPlannedOver set digits s → moment ≢ [] → MayAct set most_actions s
         → IsReadIn s set → AreAccepted s (planned_requests set digits moment s) }
+    ensures unrefused { (set : SetParts) (digits : ℕ) (moment : List ℕ) (s : Store) → IsUnrefusedOver set digits s → moment ≢ [] → MayAct set most_actions s
+        → IsReadIn s set → members_have_float set.template ≡ false → ((key : Key) (o : Object) → Has s key o → 1 ≤ o.meta.uid)
+        → AreAccepted s (planned_requests set digits moment s) }
 {}
 
 /// A controller whose requests are accepted reads four times, sends its plan, and leaves what the plan's requests leave.
