@@ -120,8 +120,11 @@ pub fn accepted_plans_are_carried_out()
 /// So a set's controller ends its round: it reads nine times, sends each request of its plan, and then each delete of a collection,
 /// which takes place over what the plan has left.
 pub fn controllers_end_their_rounds()
-    ensures { (set : SetParts) (digits : ℕ) (moment : List ℕ) (s : Store) → let c = reconciler_with set.object.key digits moment in
+    ensures in_place { (set : SetParts) (digits : ℕ) (moment : List ℕ) (s : Store) → let c = reconciler_with set.object.key digits moment in
         IsPlannedOver set digits s → moment ≢ [] → MayAct set most_actions s → IsReadIn s set → EndsRound c set.object s (after_round c s set.object) }
+    ensures unrefused { (set : SetParts) (digits : ℕ) (moment : List ℕ) (s : Store) → let c = reconciler_with set.object.key digits moment in
+        IsUnrefusedOver set digits s → moment ≢ [] → MayAct set most_actions s → IsReadIn s set → members_have_float set.template ≡ false
+        → ((key : Key) (o : Object) → Has s key o → 1 ≤ o.meta.uid) → EndsRound c set.object s (after_round c s set.object) }
 {}
 
 /// A collection deletes each claim whose owners are gone, and nothing else. So it leaves the pods as they are.
