@@ -112,7 +112,7 @@ still_acceptable s r x other is = record {
   fits = ap (λ found. is_refused (verdict x found)) (step_elsewhere s r is.key (λ same. other (is.named ∙ same))) ∙ is.fits;
 }
 
-all_still : (s : Store) (r : Request) (rs : List Request) → AllByRecursion (λ x. key_named x ≢ key_named r) rs → AllByRecursion (IsAcceptable s) rs → AllByRecursion (IsAcceptable (step s r).0) rs
+pub all_still : (s : Store) (r : Request) (rs : List Request) → AllByRecursion (λ x. key_named x ≢ key_named r) rs → AllByRecursion (IsAcceptable s) rs → AllByRecursion (IsAcceptable (step s r).0) rs
 all_still s r [] others all = tt
 all_still s r (x ∷ rs) others all = (still_acceptable s r x others.0 all.0, all_still s r rs others.1 all.1)
 

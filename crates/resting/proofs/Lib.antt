@@ -35,3 +35,4 @@ pub mod WrittenRounds
 pub mod NewRevisions
 pub mod PutInPlace
 pub mod AllAccepted
+pub mod Alone

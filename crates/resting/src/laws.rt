@@ -31,7 +31,7 @@ ghost use Rattle.convergence.specs.Rounds.{IsRound, tended};
 ghost use Rattle.convergence.specs.Left.{most_rounds};
 ghost use Rattle.convergence.specs.Standing.{AreTended, Stands};
 ghost use Rattle.convergence.specs.Stopped.{IsStopped};
-ghost use Rattle.resting.specs.Accepting.{AreAccepted, IsAcceptable, NameApart};
+ghost use Rattle.resting.specs.Accepting.{AreAccepted, DoesAsAlone, IsAcceptable, NameApart};
 ghost use Rattle.resting.specs.Acting.{IsCreated, IsPlannedOver, IsReadIn, IsUnrefusedOver, MayAct, after_both, after_plan, after_steps, planned_requests, views_in};
 ghost use Rattle.resting.specs.Rest.{IsAtRest, RestsOver};
 ghost use Rattle.resting.specs.Still.{IsStill, IsTendedPod, ShowsRest, exchanged_times, plan_over, reads_of_a_round};
@@ -90,6 +90,14 @@ pub fn turns_tend_the_pods()
 pub fn writes_apart_are_accepted()
     ensures { (s : Store) (requests : List Request) → NameApart requests → AllByRecursion (IsAcceptable s) requests
         → s.counter + length requests ≤ s.capacity → AreAccepted s requests }
+{}
+
+/// And each does what it would do alone: under its key is what its verdict over the first store says. So do the requests of a plan.
+pub fn writes_apart_do_as_alone()
+    ensures any { (s : Store) (requests : List Request) → NameApart requests → AllByRecursion (IsAcceptable s) requests
+        → s.counter + length requests ≤ s.capacity → AllByRecursion (DoesAsAlone s (after s requests)) requests }
+    ensures planned { (set : SetParts) (digits : ℕ) (moment : List ℕ) (s : Store) → IsPlannedOver set digits s → moment ≢ [] → MayAct set most_actions s
+        → IsReadIn s set → AllByRecursion (DoesAsAlone s (after_plan set digits moment s)) (planned_requests set digits moment s) }
 {}
 
 /// Each request of a plan is such over the store that the plan was made over: it names an object at the version and the UID that were
