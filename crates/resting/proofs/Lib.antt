@@ -36,3 +36,5 @@ pub mod NewRevisions
 pub mod PutInPlace
 pub mod AllAccepted
 pub mod Alone
+pub mod StatusAgain
+pub mod StatusWritten

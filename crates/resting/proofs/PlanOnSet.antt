@@ -35,6 +35,7 @@ use Rattle.plan_requests.proofs.PlannedActions.{among_all, in_requests}
 use Rattle.resting.specs.Acting.{IsPlannedOver, MayAct, planned_requests, views_in}
 use Rattle.resting.specs.Still.{listed_in}
 use Rattle.resting.proofs.AcceptedPlans.{claim_key_is, distinct, known_low}
+use Rattle.resting.proofs.Acts.{IsElsewhere}
 use Rattle.resting.proofs.Pairs.{in_flat}
 use Rattle.resting.proofs.PlanApart.{IsPlaceBy, in_gone, of_action, of_step, target}
 use Rattle.resting.proofs.ReadAgain.{IsOnStatus}
@@ -61,7 +62,8 @@ status_is set parts a at =
 on_set : (set : SetParts) (claims : Claims) (views : List PodParts) (owned : List Object) (current update : Object) (pods : Pods)
     → ((name : List ℕ) (o : Object) → claims name ≡ Some o → o.key ≡ key_parts kinds.PersistentVolumeClaim set.object.key.namespace name) → are_distinct (names_of set.claims) ≡ true
     → AreInOrder pods → ((i : ℕ) → IsKnown set pods i → i ≤ most_ordinal)
-    → (a : Action) → Among a (full_plan set claims views owned current update pods) → ((target set a).kind ≢ kinds.StatefulSet) ⊎ IsStatus set a
+    → (a : Action) → Among a (full_plan set claims views owned current update pods)
+    → ((target set a).kind ≢ kinds.StatefulSet) ⊎ Among a (status_write set (status_of set pods (current_name set pods current update) update.key.name))
 unfolding full_plan
 on_set set claims views owned current update pods keyed different sorted low a at =
     let all = full_steps set pods in
@@ -69,7 +71,7 @@ on_set set claims views owned current update pods keyed different sorted low a a
     let done = flat_map (actions_of set claims current update) all in
     let gone = deletions set views owned name update.key.name all in
     elim (among_either a (done ++ gone) (status_write set (status_of set pods name update.key.name)) at) [
-      | inr last ↦ inr (status_is set (status_of set pods name update.key.name) a last)
+      | inr last ↦ inr last
       | inl before ↦ elim (among_either a done gone before) [
         | inl here ↦
             let m = in_flat (actions_of set claims current update) all a here in
@@ -86,24 +88,49 @@ module _ (set : SetParts) (digits : ℕ) (moment : List ℕ) (s : Store) (plan :
   abbrev space : List ℕ
   space = set.object.key.namespace
 
-  of_one : (a : Action) (r : Request) → Among r (request_of space moment a) → ((target set a).kind ≢ kinds.StatefulSet) ⊎ IsStatus set a → IsOnStatus set is_read r
-  of_one a r at (inl other) = inl (λ same. other (ap (λ (k : Key). k.kind) (sym (same_Some set.object.key (target set a) (same ∙ (of_action set moment a).0 r at))) ∙ may.kind))
-  of_one a r at (inr status) =
+  abbrev full : List Action
+  full = full_plan set (claims_there set digits moment s plan) (views_in set s) plan.owned plan.current plan.update plan.pods
+
+  -- the status that the plan counts
+  abbrev pub counted : StatusParts
+  counted = status_of set plan.pods (current_name set plan.pods plan.current plan.update) plan.update.key.name
+
+  of_action_of : (a : Action) → Among a full → ((target set a).kind ≢ kinds.StatefulSet) ⊎ Among a (status_write set counted)
+  of_action_of a at =
+      let shown = replicas_are set digits moment s plan in
+      let sorted : AreInOrder plan.pods = replicas_in_order set plan.update.key.name plan.current.key.name (views_in set s) plan.pods shown in
+      on_set set (claims_there set digits moment s plan) (views_in set s) plan.owned plan.current plan.update plan.pods (claim_key_is set (listed_in s set.object.key kinds.PersistentVolumeClaim))
+      (distinct set digits moment s plan some may is_there is_read) sorted (known_low set digits moment s plan some may is_there is_read) a at
+
+  elsewhere : (a : Action) (r : Request) → Among r (request_of space moment a) → (target set a).kind ≢ kinds.StatefulSet → IsElsewhere set.object.key r
+  elsewhere a r at other same = other (ap (λ (k : Key). k.kind) (sym (same_Some set.object.key (target set a) (same ∙ (of_action set moment a).0 r at))) ∙ may.kind)
+
+  of_status : (a : Action) (r : Request) → Among r (request_of space moment a) → IsStatus set a → IsOnStatus set is_read r
+  of_status a r at status =
       let P : Action → Type 0 = λ x. Among r (request_of space moment x) in
       elim (subst P status.1 at) [
         | inl is ↦ inr (status.0, is)
         | inr none ↦ absurd none
       ]
 
-  pub on_status_alone : AllByRecursion (IsOnStatus set is_read) (planned_requests set digits moment s)
-  on_status_alone =
-      let claims = claims_there set digits moment s plan in
-      let full = full_plan set claims (views_in set s) plan.owned plan.current plan.update plan.pods in
-      let shown = replicas_are set digits moment s plan in
-      let sorted : AreInOrder plan.pods = replicas_in_order set plan.update.key.name plan.current.key.name (views_in set s) plan.pods shown in
-      subst (AllByRecursion (IsOnStatus set is_read)) (sym (sent_is set digits moment s plan))
-      (all_among (IsOnStatus set is_read) (requests_of space moment full) (λ r at.
+  of_one : (a : Action) (r : Request) → Among r (request_of space moment a) → ((target set a).kind ≢ kinds.StatefulSet) ⊎ Among a (status_write set counted) → IsOnStatus set is_read r
+  of_one a r at (inl other) = inl (elsewhere a r at other)
+  of_one a r at (inr last) = of_status a r at (status_is set counted a last)
+
+  off_one : status_write set counted ≡ [] → (a : Action) (r : Request) → Among r (request_of space moment a) → ((target set a).kind ≢ kinds.StatefulSet) ⊎ Among a (status_write set counted) → IsElsewhere set.object.key r
+  off_one none a r at (inl other) = elsewhere a r at other
+  off_one none a r at (inr last) = absurd (subst (Among a) none last)
+
+  all_by : (P : Request → Type 0) → ((a : Action) (r : Request) → Among r (request_of space moment a) → ((target set a).kind ≢ kinds.StatefulSet) ⊎ Among a (status_write set counted) → P r) → AllByRecursion P (planned_requests set digits moment s)
+  all_by P each =
+      subst (AllByRecursion P) (sym (sent_is set digits moment s plan))
+      (all_among P (requests_of space moment full) (λ r at.
       let m = in_requests space moment full r at in
-      of_one m.0 r m.2
-      (on_set set claims (views_in set s) plan.owned plan.current plan.update plan.pods (claim_key_is set (listed_in s set.object.key kinds.PersistentVolumeClaim))
-      (distinct set digits moment s plan some may is_there is_read) sorted (known_low set digits moment s plan some may is_there is_read) m.0 m.1)))
+      each m.0 r m.2 (of_action_of m.0 m.1)))
+
+  pub on_status_alone : AllByRecursion (IsOnStatus set is_read) (planned_requests set digits moment s)
+  on_status_alone = all_by (IsOnStatus set is_read) of_one
+
+  -- if the plan writes no status, nothing of it is about the set
+  pub off_the_set : status_write set counted ≡ [] → AllByRecursion (IsElsewhere set.object.key) (planned_requests set digits moment s)
+  off_the_set none = all_by (IsElsewhere set.object.key) (off_one none)

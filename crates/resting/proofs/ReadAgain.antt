@@ -42,6 +42,7 @@ pub record IsReadLike (set : SetParts) (p : Object) (now : SetParts) : Type 0 wh
   pub object : now.object ≡ p
   pub alike : IsAlike set now
   pub template : now.template ≡ set.template
+  pub collisions : now.collisions ≡ set.collisions
 
 pub read_again : (o p : Object) (set : SetParts) → set_of o ≡ Ok set → ReadsAlike o p → (now : SetParts) × IsReadLike set p now
 unfolding set_of
@@ -66,11 +67,12 @@ read_again o p set is a =
           strategy = ap (λ (x : SetParts). x.strategy) same;
         };
         template = ap (λ (x : SetParts). x.template) same;
+        collisions = ap (λ (x : SetParts). x.collisions) same;
       },
     )
 
 -- ---- a status
-replaced : (b : Data) (ms : Members) (v : Option Data) → option_and_then as_object (member_of (codes "spec") b) ≡ Some ms → member_of (codes "status") (with_member (codes "status") v b) ≡ v
+pub replaced : (b : Data) (ms : Members) (v : Option Data) → option_and_then as_object (member_of (codes "spec") b) ≡ Some ms → member_of (codes "status") (with_member (codes "status") v b) ≡ v
 replaced null ms v is = absurd (cc)
 replaced (boolean b) ms v is = absurd (cc)
 replaced (number n) ms v is = absurd (cc)

@@ -1,5 +1,5 @@
 // When a plan is empty, that a store then stays as it is, and what a plan and a kubelet's turn do to one.
-ghost use Rattle.std.specs.Prelude.{◌≡◌, ◌≢◌, ◌↔◌, ◌⊎◌, ◌+◌, ◌≤◌, ℕ, false, List, [], length, Some, Ok};
+ghost use Rattle.std.specs.Prelude.{◌≡◌, ◌≢◌, ◌↔◌, ◌⊎◌, ◌+◌, ◌≤◌, ℕ, false, List, [], length, Some, None, Ok};
 ghost use Rattle.std.specs.FinMap as map;
 ghost use Rattle.std.specs.List.{AllByRecursion};
 ghost use Rattle.serde_json.specs.Written.{members_have_float};
@@ -16,7 +16,8 @@ ghost use Rattle.pod_steps.specs.Step.{pod_steps};
 ghost use Rattle.pod_steps.specs.FullSteps.{full_steps};
 ghost use Rattle.pod_steps.specs.Views.{listed_pods};
 ghost use Rattle.sets.specs.Actions.{Claims};
-ghost use Rattle.sets.specs.FullPlan.{full_plan};
+ghost use Rattle.manifests.specs.BuiltStatus.{built_status, old_status};
+ghost use Rattle.sets.specs.FullPlan.{current_name, full_plan, status_of};
 ghost use Rattle.sets.specs.Plan.{most_actions};
 ghost use Rattle.sets.specs.PlanOfLists.{plan_of_lists, views_of};
 ghost use Rattle.kubelet.specs.Kubelet.{turn_requests_of};
@@ -149,6 +150,15 @@ pub fn plans_act_on_the_pods()
         → moment ≢ [] → MayAct set most_actions s
         → replicas_in set plan.update.key.name plan.current.key.name (views_in set (after_plan set digits moment s)) ≡ Ok next
         → (i : ℕ) → (new : Replica) × IsCreated set i new × (pod_at next i ≡ after_steps (pod_steps (full_steps set plan.pods)) i new (pod_at plan.pods i)) }
+{}
+
+/// After it the set has the status that was counted: from the same pods and the same revisions no other is built. The status that
+/// was there has no fraction, as no object that was read has.
+pub fn plans_write_the_status()
+    ensures { (set : SetParts) (digits : ℕ) (moment : List ℕ) (s : Store) (plan : IsPlannedOver set digits s) (next : SetParts)
+        → moment ≢ [] → MayAct set most_actions s → IsReadIn s set → members_have_float (old_status set) ≡ false
+        → IsReadIn (after_plan set digits moment s) next → next.object.key ≡ set.object.key
+        → built_status next (status_of set plan.pods (current_name set plan.pods plan.current plan.update) plan.update.key.name) ≡ None }
 {}
 
 /// With a kubelet's turn after it, it is a round on pods, as the laws of `convergence` have it.
