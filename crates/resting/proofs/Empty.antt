@@ -33,7 +33,7 @@ map_empty : {X Y : Type 0} (f : X → Y) (xs : List X) → map f xs ≡ [] → x
 map_empty f [] e = refl
 map_empty f (x ∷ xs) e = absurd (cc)
 
-none_any : {X : Type 0} (p : X → Bool) (xs : List X) → filter p xs ≡ [] → list_any p xs ≡ false
+pub none_any : {X : Type 0} (p : X → Bool) (xs : List X) → filter p xs ≡ [] → list_any p xs ≡ false
 none_any p [] e = refl
 none_any p (x ∷ xs) e =
     elim (p x) as (λ b. cond b (x ∷ filter p xs) (filter p xs) ≡ [] → (b || list_any p xs) ≡ false) [

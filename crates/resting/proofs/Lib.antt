@@ -38,3 +38,4 @@ pub mod AllAccepted
 pub mod Alone
 pub mod StatusAgain
 pub mod StatusWritten
+pub mod Expired

@@ -16,6 +16,7 @@ ghost use Rattle.pod_steps.specs.Step.{pod_steps};
 ghost use Rattle.pod_steps.specs.FullSteps.{full_steps};
 ghost use Rattle.pod_steps.specs.Views.{listed_pods};
 ghost use Rattle.sets.specs.Actions.{Claims};
+ghost use Rattle.revisions.specs.History.{expired_revisions};
 ghost use Rattle.manifests.specs.BuiltStatus.{built_status, old_status};
 ghost use Rattle.sets.specs.FullPlan.{current_name, full_plan, status_of};
 ghost use Rattle.sets.specs.Plan.{most_actions};
@@ -152,8 +153,16 @@ pub fn plans_act_on_the_pods()
         → (i : ℕ) → (new : Replica) × IsCreated set i new × (pod_at next i ≡ after_steps (pod_steps (full_steps set plan.pods)) i new (pod_at plan.pods i)) }
 {}
 
-/// After it the set has the status that was counted: from the same pods and the same revisions no other is built. The status that
-/// was there has no fraction, as no object that was read has.
+/// With a kubelet's turn after it, it is a round on pods, as the laws of `convergence` have it.
+pub fn plans_and_turns_are_rounds_on_pods()
+    ensures { (set : SetParts) (digits : ℕ) (moment : List ℕ) (s : Store) (plan : IsPlannedOver set digits s) (next : Pods)
+        → moment ≢ [] → MayAct set most_actions s → MayTurn set.object.key.namespace (after_plan set digits moment s)
+        → replicas_in set plan.update.key.name plan.current.key.name (views_in set (after_both set digits moment s)) ≡ Ok next
+        → IsRound set plan.pods next }
+{}
+
+/// A plan leaves the set with the status that it counted: from the same pods and revisions no other is built. The status that was
+/// there has no fraction, as no object that was read has.
 pub fn plans_write_the_status()
     ensures { (set : SetParts) (digits : ℕ) (moment : List ℕ) (s : Store) (plan : IsPlannedOver set digits s) (next : SetParts)
         → moment ≢ [] → MayAct set most_actions s → IsReadIn s set → members_have_float (old_status set) ≡ false
@@ -161,12 +170,12 @@ pub fn plans_write_the_status()
         → built_status next (status_of set plan.pods (current_name set plan.pods plan.current plan.update) plan.update.key.name) ≡ None }
 {}
 
-/// With a kubelet's turn after it, it is a round on pods, as the laws of `convergence` have it.
-pub fn plans_and_turns_are_rounds_on_pods()
-    ensures { (set : SetParts) (digits : ℕ) (moment : List ℕ) (s : Store) (plan : IsPlannedOver set digits s) (next : Pods)
-        → moment ≢ [] → MayAct set most_actions s → MayTurn set.object.key.namespace (after_plan set digits moment s)
-        → replicas_in set plan.update.key.name plan.current.key.name (views_in set (after_both set digits moment s)) ≡ Ok next
-        → IsRound set plan.pods next }
+/// If a plan creates, deletes and waits for no pod, it removes each revision that has expired.
+pub fn plans_remove_expired_revisions()
+    ensures { (set : SetParts) (digits : ℕ) (moment : List ℕ) (s : Store) (plan : IsPlannedOver set digits s)
+        → moment ≢ [] → MayAct set most_actions s → IsReadIn s set → pod_steps (full_steps set plan.pods) ≡ []
+        → AllByRecursion (λ (o : Object). map.get (after_plan set digits moment s).objects o.key ≡ None)
+        (expired_revisions set (views_in set s) (current_name set plan.pods plan.current plan.update) plan.update.key.name plan.owned) }
 {}
 
 /// After a round that is not refused the update revision is in place: it was, or the round's plan has written it. And it stays: after
