@@ -1,8 +1,7 @@
 -- Where a plan takes no pod step, it removes each revision that has expired.
-use Rattle.std.proofs.Common.{◌≡◌, ◌≢◌, ◌-◌, ◌^◌, ℕ, Bool, true, false, not, if◌then◌else◌, List, [], ◌∷◌, ◌++◌, inl, inr, length, map, Option, Some, None, Ok, refl, sym, ap, ◌∙◌, subst, true≢false}
-use Rattle.std.specs.Prelude.{nat_lt}
+use Rattle.std.proofs.Common.{◌≡◌, ◌≢◌, ◌-◌, ℕ, Bool, true, false, not, if◌then◌else◌, List, [], ◌∷◌, ◌++◌, inl, length, map, Option, Some, None, Ok, refl, sym, ap, ◌∙◌, subst, true≢false}
 use Rattle.std.specs.FinMap as finite
-use Rattle.std.specs.List.{AllByRecursion, flat_map, list_any}
+use Rattle.std.specs.List.{AllByRecursion, flat_map}
 use Rattle.std.proofs.lemmas.Bool.{lt-ltb}
 use Rattle.std.proofs.lemmas.Option.{same_Some}
 use Rattle.objects.specs.declared.key.Key.{Key}
@@ -17,8 +16,7 @@ use Rattle.requests.specs.declared.reply.Reason.TheVariants.{Conflict}
 use Rattle.requests.specs.declared.verdict.Verdict.{Verdict}
 use Rattle.requests.specs.declared.verdict.Verdict.TheVariants.{Refuse}
 use Rattle.requests.specs.Lists.{Has as Among}
-use Rattle.requests.specs.Verdict.{conflicts, deleted, graceful, on_delete, verdict}
-use Rattle.set_views.specs.Pod.{PodParts}
+use Rattle.requests.specs.Verdict.{conflicts, deleted, graceful, on_delete}
 use Rattle.set_views.specs.Set.{SetParts}
 use Rattle.set_views.specs.SetReading.{set_of}
 use Rattle.revisions.specs.History.{expired_revisions, history, is_live}
@@ -29,41 +27,21 @@ use Rattle.plain_store.specs.AtKey.{Has}
 use Rattle.plain_store.specs.Store.{Store}
 use Rattle.sets.specs.declared.action.Action.{Action}
 use Rattle.sets.specs.Actions.{actions_of, version_or_empty}
-use Rattle.sets.specs.FullPlan.{current_name, deletion, deletions, full_plan, status_of, status_write}
+use Rattle.sets.specs.FullPlan.{current_name, deletion, full_plan, status_of, status_write}
 use Rattle.sets.specs.Plan.{most_actions}
 use Rattle.sets.specs.PlanOfLists.{owned_of}
 use Rattle.sets.proofs.Ordered.{all_among}
-use Rattle.plan_requests.specs.Planned.{deletions as delete_requests, request_of, requests_of}
+use Rattle.plan_requests.specs.Planned.{deletions as delete_requests, request_of}
 use Rattle.plan_requests.proofs.PlannedActions.{among_all}
 use Rattle.resting.specs.Accepting.{DoesAsAlone, IsAcceptable, IsLeftBy, is_refused}
 use Rattle.resting.specs.Acting.{IsPlannedOver, MayAct, after_plan, planned_requests, views_in}
 use Rattle.resting.proofs.Alone.{plan_alone}
 use Rattle.resting.proofs.Empty.{none_any}
-use Rattle.resting.proofs.OwnedAgain.{IsOwnedIn, key_is, kind_of, owned_there, revisions_in}
-use Rattle.resting.proofs.Pairs.{all_filtered, all_taken}
+use Rattle.resting.proofs.OwnedAgain.{key_is, owned_there, revisions_in}
+use Rattle.resting.proofs.Pairs.{all_filtered, all_taken, among_flat, among_left, among_map, among_right}
 use Rattle.resting.proofs.RoundsOnPods.{claims_there, sent_is}
 use Rattle.resting.proofs.UpdateStays.{owned_is}
 use Rattle.resting.proofs.UpToDate.{all_acceptable}
-
--- ---- lists
-among_left : {X : Type 0} (xs ys : List X) (x : X) → Among x xs → Among x (xs ++ ys)
-among_left [] ys x at = absurd at
-among_left (y ∷ xs) ys x (inl is) = inl is
-among_left (y ∷ xs) ys x (inr more) = inr (among_left xs ys x more)
-
-pub among_right : {X : Type 0} (xs ys : List X) (y : X) → Among y ys → Among y (xs ++ ys)
-among_right [] ys y at = at
-among_right (x ∷ xs) ys y at = inr (among_right xs ys y at)
-
-among_map : {X Y : Type 0} (f : X → Y) (xs : List X) (x : X) → Among x xs → Among (f x) (map f xs)
-among_map f [] x at = absurd at
-among_map f (y ∷ xs) x (inl is) = inl (ap f is)
-among_map f (y ∷ xs) x (inr more) = inr (among_map f xs x more)
-
-among_flat : {X Y : Type 0} (f : X → List Y) (xs : List X) (x : X) (y : Y) → Among x xs → Among y (f x) → Among y (flat_map f xs)
-among_flat f [] x y at here = absurd at
-among_flat f (z ∷ xs) x y (inl is) here = among_left (f z) (flat_map f xs) y (subst (λ w. Among y (f w)) is here)
-among_flat f (z ∷ xs) x y (inr more) here = among_right (f z) (flat_map f xs) y (among_flat f xs x y more here)
 
 -- ---- one delete
 ungraceful : (kind : Kind) → graceful kind None ≡ None

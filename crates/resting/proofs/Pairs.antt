@@ -44,6 +44,26 @@ all_in_order : {X : Type 0} (P : X → Type 0) (cmp : X → X → Ordering) (xs 
 all_in_order P cmp [] all = tt
 all_in_order P cmp (x ∷ xs) all = all_put P cmp x (in_order cmp xs) all.0 (all_in_order P cmp xs all.1)
 
+-- ---- what is in a list is in those that are made from it
+pub among_left : {X : Type 0} (xs ys : List X) (x : X) → Among x xs → Among x (xs ++ ys)
+among_left [] ys x at = absurd at
+among_left (y ∷ xs) ys x (inl is) = inl is
+among_left (y ∷ xs) ys x (inr more) = inr (among_left xs ys x more)
+
+pub among_right : {X : Type 0} (xs ys : List X) (y : X) → Among y ys → Among y (xs ++ ys)
+among_right [] ys y at = at
+among_right (x ∷ xs) ys y at = inr (among_right xs ys y at)
+
+pub among_map : {X Y : Type 0} (f : X → Y) (xs : List X) (x : X) → Among x xs → Among (f x) (map f xs)
+among_map f [] x at = absurd at
+among_map f (y ∷ xs) x (inl is) = inl (ap f is)
+among_map f (y ∷ xs) x (inr more) = inr (among_map f xs x more)
+
+pub among_flat : {X Y : Type 0} (f : X → List Y) (xs : List X) (x : X) (y : Y) → Among x xs → Among y (f x) → Among y (flat_map f xs)
+among_flat f [] x y at here = absurd at
+among_flat f (z ∷ xs) x y (inl is) here = among_left (f z) (flat_map f xs) y (subst (λ w. Among y (f w)) is here)
+among_flat f (z ∷ xs) x y (inr more) here = among_right (f z) (flat_map f xs) y (among_flat f xs x y more here)
+
 -- ---- what is in a list that is made from others
 pub in_flat : {X Y : Type 0} (f : X → List Y) (xs : List X) (y : Y) → Among y (flat_map f xs) → (x : X) × Among x xs × Among y (f x)
 in_flat f [] y at = absurd at

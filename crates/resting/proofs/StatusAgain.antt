@@ -1,5 +1,5 @@
 -- Members that are put over others are put over them again without change.
-use Rattle.std.proofs.Common.{◌≡◌, ℕ, Bool, true, false, List, [], ◌∷◌, bytes_eq, codes, Ordering, Less, Equal, Greater, refl, sym, ap, ◌∙◌}
+use Rattle.std.proofs.Common.{◌≡◌, ℕ, true, false, List, [], ◌∷◌, bytes_eq, codes, Ordering, Less, Equal, Greater, refl, sym, ap, ◌∙◌}
 use Rattle.std.specs.List.{AllByRecursion}
 use Rattle.std.specs.Prelude.{⊤}
 use Rattle.std.specs.Ordering.{is_eq, match_ordering, nat_cmp, ordering_reverse}

@@ -1,7 +1,7 @@
 -- After a plan the set has the status that was built, and the same counts build no other.
-use Rattle.std.proofs.Common.{◌≡◌, ◌≢◌, ◌⊎◌, inl, inr, ℕ, Bool, true, false, not, if◌then◌else◌, List, [], ◌∷◌, ◌++◌, codes, option_and_then, unwrap_or, Option, Some, None, Ok, refl, sym, ap, ◌∙◌, subst, true≢false}
+use Rattle.std.proofs.Common.{◌≡◌, ◌≢◌, inl, ℕ, true, false, not, if◌then◌else◌, List, [], ◌∷◌, ◌++◌, codes, option_and_then, unwrap_or, Option, Some, None, Ok, refl, sym, ap, ◌∙◌, subst, true≢false}
 use Rattle.std.specs.FinMap as finite
-use Rattle.std.specs.List.{AllByRecursion, flat_map}
+use Rattle.std.specs.List.{flat_map}
 use Rattle.std.specs.Option.{option_map_or}
 use Rattle.std.proofs.lemmas.Option.{same_Some}
 use Rattle.serde_json.specs.Data.{Data, Members, no_members, object}
@@ -10,7 +10,7 @@ use Rattle.serde_json.specs.Written.{has_float, members_have_float}
 use Rattle.objects.specs.declared.object.Draft.{Draft}
 use Rattle.objects.specs.declared.object.Object.{Object}
 use Rattle.objects.specs.Same.{same_data}
-use Rattle.objects.specs.Status.{member_of, same_found, with_member}
+use Rattle.objects.specs.Status.{member_of, same_found}
 use Rattle.objects.proofs.Sameness.{same-equal, same-itself}
 use Rattle.requests.specs.declared.request.Request.{Request}
 use Rattle.requests.specs.declared.request.Request.TheVariants.{UpdateStatus}
@@ -19,7 +19,7 @@ use Rattle.requests.specs.declared.verdict.Verdict.{Verdict}
 use Rattle.requests.specs.declared.verdict.Verdict.TheVariants.{Refuse, Same, Write}
 use Rattle.requests.specs.Change.{at_version, updates}
 use Rattle.requests.specs.Lists.{Has as Among}
-use Rattle.requests.specs.Verdict.{has_status, on_status, on_status_of, same_member, status_unless_same, verdict, with_status_of}
+use Rattle.requests.specs.Verdict.{has_status, on_status, on_status_of, same_member, status_unless_same, with_status_of}
 use Rattle.set_views.specs.Set.{SetParts}
 use Rattle.set_views.specs.SetReading.{set_of}
 use Rattle.manifests.specs.BuiltStatus.{StatusParts, built_status, differs, new_status, old_status, set_with, status_in}
@@ -28,7 +28,7 @@ use Rattle.plain_store.specs.AtKey.{Has}
 use Rattle.plain_store.specs.Store.{Store}
 use Rattle.sets.specs.declared.action.Action.{Action}
 use Rattle.sets.specs.declared.action.Action.TheVariants.{WriteStatus}
-use Rattle.sets.specs.Actions.{Claims, actions_of}
+use Rattle.sets.specs.Actions.{actions_of}
 use Rattle.sets.specs.FullPlan.{current_name, deletions, full_plan, status_write}
 use Rattle.sets.specs.Plan.{most_actions}
 use Rattle.plan_requests.specs.Planned.{as_read, request_of, requests_of}
@@ -38,8 +38,9 @@ use Rattle.resting.specs.Acting.{IsPlannedOver, IsReadIn, MayAct, after_plan, pl
 use Rattle.resting.proofs.AcceptedPlans.{IsReadAs, read_as}
 use Rattle.resting.proofs.Acts.{untouched}
 use Rattle.resting.proofs.Alone.{plan_alone}
+use Rattle.resting.proofs.Pairs.{among_right}
 use Rattle.resting.proofs.PlanOnSet.{counted, off_the_set, on_status_alone}
-use Rattle.resting.proofs.ReadAgain.{IsLike, IsReadLike, like_itself, read_again, replaced, stays_like}
+use Rattle.resting.proofs.ReadAgain.{IsLike, like_itself, read_again, replaced, stays_like}
 use Rattle.resting.proofs.ReadParts.{is_from}
 use Rattle.resting.proofs.RoundsOnPods.{claims_there, sent_is}
 use Rattle.resting.proofs.RoundsOver.{same_parts}
@@ -47,10 +48,6 @@ use Rattle.resting.proofs.StatusAgain.{status_again, status_whole}
 use Rattle.resting.proofs.Turns.{meets_its_own}
 
 -- ---- lists
-among_right : {X : Type 0} (xs ys : List X) (y : X) → Among y ys → Among y (xs ++ ys)
-among_right [] ys y at = at
-among_right (x ∷ xs) ys y at = inr (among_right xs ys y at)
-
 requests_right : (space moment : List ℕ) (xs : List Action) (o : Object) → Among (UpdateStatus (as_read o)) (requests_of space moment (xs ++ WriteStatus o ∷ []))
 requests_right space moment [] o = inl refl
 requests_right space moment (x ∷ xs) o = among_right (request_of space moment x) (requests_of space moment (xs ++ WriteStatus o ∷ [])) (UpdateStatus (as_read o)) (requests_right space moment xs o)
