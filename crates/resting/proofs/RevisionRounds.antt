@@ -1,12 +1,11 @@
 -- After a round over a store the update revision is the same one.
-use Rattle.std.proofs.Common.{◌≡◌, ◌==◌, inl, inr, ℕ, Bool, true, false, List, [], ◌∷◌, reverse, bytes_eq, unwrap_or, Some, None, Ok, Ordering, Less, Equal, Greater, refl, sym, ap, ◌∙◌, subst, true≢false}
+use Rattle.std.proofs.Common.{◌≡◌, ◌==◌, inl, inr, ℕ, Bool, false, List, [], ◌∷◌, reverse, bytes_eq, unwrap_or, Some, None, Ok, Ordering, Less, Equal, Greater, refl, sym, ap, ◌∙◌, subst, true≢false}
 use Rattle.std.specs.Prelude.{◌&&◌}
 use Rattle.std.specs.FinMap as finite
 use Rattle.std.specs.Cmp.Lexicographic.{slice_cmp}
 use Rattle.std.specs.List.{AllByRecursion}
 use Rattle.std.specs.Ordering.{is_eq, nat_cmp, ordering_then}
 use Rattle.std.proofs.lemmas.Map.Lookups.{exact_bytes}
-use Rattle.std.proofs.lemmas.Option.{same_Some}
 use Rattle.serde_json.specs.Data.{Members}
 use Rattle.objects.specs.declared.key.Key.{Key}
 use Rattle.objects.specs.declared.kind.Kind.{Kind}
@@ -16,7 +15,6 @@ use Rattle.objects.specs.Key.{kind_index}
 use Rattle.requests.specs.declared.request.Request.{Request}
 use Rattle.requests.specs.Lists.{Has as Among}
 use Rattle.set_views.specs.Set.{SetParts}
-use Rattle.set_views.specs.SetReading.{set_of}
 use Rattle.revisions.specs.Choice.{data_with, has_data, named_current}
 use Rattle.revisions.specs.Plan.{PlanParts, plan_of, settled}
 use Rattle.revisions.specs.Revision.{number_of, owned_among, revision_cmp}
@@ -40,8 +38,7 @@ use Rattle.resting.proofs.Newest.{among_reverse, same_last}
 use Rattle.resting.proofs.OwnedAgain.{kind_of, one_of_name, owned_back, owned_by, owned_there, revisions_in, there_owned}
 use Rattle.resting.proofs.Pairs.{in_reverse}
 use Rattle.resting.proofs.PlansOnPods.{filed_run}
-use Rattle.resting.proofs.ReadAgain.{IsReadLike, read_again}
-use Rattle.resting.proofs.RoundsOver.{IsPlacedRound, between_is, like_then, same_parts}
+use Rattle.resting.proofs.RoundsOver.{IsPlacedRound, between_is, like_then, read_as_before}
 use Rattle.resting.proofs.Turns.{turn_is_over}
 use Rattle.resting.proofs.UpdateStays.{SparesOrTakes, kept_or_gone, newest, spared_or_taken, update_elsewhere, update_there}
 use Rattle.resting.proofs.WholeRounds.{plan_over_is}
@@ -99,23 +96,14 @@ module _ (set : SetParts) (update : List ℕ) (digits : ℕ) (s t : Store) (roun
       subst P (sym round.left) (filed_run round.between (turn_requests_of (collection round.between.objects Pod space)) round.may_turn.filed)
 
   module _ (next : SetParts) (is_read : IsReadIn t next) (key : next.object.key ≡ set.object.key) where
-    like : (p : Object) × Has t now.object.key p × (again : SetParts) × IsReadLike now p again
-    like =
-        let l = like_then set update update digits s t round in
-        let r = read_again now.object l.0 now round.is_read.read l.2 in
-        (l.0, l.1, r.0, r.1)
-
-    same_set : like.2 ≡ next
-    same_set =
-        let keys : next.object.key ≡ now.object.key = key ∙ sym round.key_is in
-        let object : like.0 ≡ next.object = same_Some like.0 next.object (sym like.1 ∙ (ap (finite.get t.objects) (sym keys) ∙ is_read.there)) in
-        same_parts like.2 next (sym like.3.read ∙ (ap set_of object ∙ is_read.read))
+    read_then : IsAlike now next × (next.template ≡ now.template)
+    read_then = read_as_before now next round.is_read.read t (like_then set update update digits s t round) is_read (key ∙ sym round.key_is)
 
     alike : IsAlike now next
-    alike = let P : SetParts → Type 0 = λ x. IsAlike now x in subst P same_set like.3.alike
+    alike = read_then.0
 
     template : next.template ≡ now.template
-    template = let P : SetParts → Type 0 = λ x. x.template ≡ now.template in subst P same_set like.3.template
+    template = read_then.1
 
     abbrev owned_then : List Object
     owned_then = owned_of next (revisions_in t next)

@@ -106,6 +106,17 @@ new_plain set now i new alike is = record {
 pub same_parts : (a b : SetParts) → ◌≡◌ {A = Result SetParts PlanError} (Ok a) (Ok b) → a ≡ b
 same_parts a b e = cc
 
+-- the set that is read in a store like the one before is as it was
+pub read_as_before : (now next : SetParts) (is : set_of now.object ≡ Ok now) (t : Store) → IsLike now is t → IsReadIn t next → next.object.key ≡ now.object.key
+    → IsAlike now next × (next.template ≡ now.template)
+read_as_before now next is t like here keys =
+    let again = read_again now.object like.0 now is like.2 in
+    let object : like.0 ≡ next.object = same_Some like.0 next.object (sym like.1 ∙ (ap (finite.get t.objects) (sym keys) ∙ here.there)) in
+    let same : again.0 ≡ next = same_parts again.0 next (sym again.1.read ∙ (ap set_of object ∙ here.read)) in
+    let P : SetParts → Type 0 = λ x. IsAlike now x in
+    let Q : SetParts → Type 0 = λ x. x.template ≡ now.template in
+    (subst P same again.1.alike, subst Q same again.1.template)
+
 pub alike_as_is : (set : SetParts) → IsAlike set set
 alike_as_is set = record { key = refl; uid = refl; start = refl; replicas = refl; policy = refl; strategy = refl }
 

@@ -47,8 +47,8 @@ use Rattle.resting.proofs.Newest.{among_reverse, ascends, last_is}
 use Rattle.resting.proofs.OwnedAgain.{IsOwnedIn, key_is, kind_of, owned_back, owned_there, revisions_in, there_owned}
 use Rattle.resting.proofs.Pairs.{in_reverse}
 use Rattle.resting.proofs.PlansOnPods.{filed_run}
-use Rattle.resting.proofs.ReadAgain.{IsLike, IsOnStatus, IsReadLike, like_itself, read_again, stays_like}
-use Rattle.resting.proofs.RoundsOver.{IsHere, alike_on, same_parts, same_read}
+use Rattle.resting.proofs.ReadAgain.{IsLike, IsOnStatus, like_itself, read_again, stays_like}
+use Rattle.resting.proofs.RoundsOver.{IsHere, alike_on, read_as_before, same_read}
 use Rattle.resting.proofs.Turns.{turn_is_over}
 use Rattle.resting.proofs.WholeRounds.{controller_round, plan_over_is}
 
@@ -125,22 +125,14 @@ module _ (set : SetParts) (digits : ℕ) (s t : Store) (round : IsRoundOver set 
       (first.0, through StatefulSet now.object.key refl refl round.may_act.kind ∙ first.1, first.2)
 
   module _ (next : SetParts) (is_read : IsReadIn t next) (key : next.object.key ≡ set.object.key) where
-    like : (p : Object) × Has t now.object.key p × (again : SetParts) × IsReadLike now p again
-    like =
-        let again = read_again now.object like_then.0 now round.is_read.read like_then.2 in
-        (like_then.0, like_then.1, again.0, again.1)
-
-    same_set : like.2 ≡ next
-    same_set =
-        let keys : next.object.key ≡ now.object.key = key ∙ sym round.key_is in
-        let object : like.0 ≡ next.object = same_Some like.0 next.object (sym like.1 ∙ (ap (finite.get t.objects) (sym keys) ∙ is_read.there)) in
-        same_parts like.2 next (sym like.3.read ∙ (ap set_of object ∙ is_read.read))
+    read_then : IsAlike now next × (next.template ≡ now.template)
+    read_then = read_as_before now next round.is_read.read t like_then is_read (key ∙ sym round.key_is)
 
     alike : IsAlike now next
-    alike = let P : SetParts → Type 0 = λ x. IsAlike now x in subst P same_set like.3.alike
+    alike = read_then.0
 
     template : next.template ≡ now.template
-    template = let P : SetParts → Type 0 = λ x. x.template ≡ now.template in subst P same_set like.3.template
+    template = read_then.1
 
     abbrev owned_then : List Object
     owned_then = owned_of next (revisions_in t next)
