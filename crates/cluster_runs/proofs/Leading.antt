@@ -1,6 +1,6 @@
 -- Courses, event by event and one after another.
 use Rattle.std.proofs.Common.{◌≡◌, ◌<◌, ◌≤◌, ◌+◌, ◌-◌, ◌++◌, ◌∷◌, [], ℕ, suc, Bool, List, length, Option, None, refl, sym, ap, ◌∙◌, subst, append_assoc, arith, cond, get_or, lt-ltb}
-use Rattle.std.specs.Prelude.{IfErr, IfOk, IsErrOf, OnErr, Result, Ok, Err}
+use Rattle.std.specs.Prelude.{IfErr, IfOk, Result, Err}
 use Rattle.std.proofs.lemmas.List.{append-nil}
 use Rattle.std.proofs.lemmas.Result.{IfErr-weaker, IfOk-weaker}
 use Rattle.requests.specs.declared.reply.Reply.{Reply}
@@ -93,12 +93,6 @@ module _ {X : Type 0} (reconciler : X → Reconciler) (phase : X → Phase) (is_
     },
   )
 
-  -- the same of a call that fails
-  pub event_fails : {D : Type 0} (r : Result D ClusterFault) (e : ClusterEvent) (next : Course) (old : Program) (before now : List X) → OnErr r (Stay reconciler phase before now)
-      → (IsErrOf r TooManyCallers → Exceeds reconciler phase is_waiting e old before) → IfErr r (λ fault. Halts reconciler phase is_waiting fault (event_and e next) old before now)
-  event_fails (Ok d) e next old before now stay exceeds = tt
-  event_fails (Err fault) e next old before now stay exceeds = event_halts fault e next old before now stay (λ is. exceeds (ap Err is))
-
   -- the same of a reply
   pub reply_leads : (n : ℕ) (delivered : Option Reply) (old new : Program) (before now : List X) → Happens reconciler phase is_waiting (Step (event.Reply n)) old new before now
       → Tells reconciler phase is_waiting n delivered old before → Leads reconciler phase is_waiting (reply_to n) (ends_with delivered) old new before now
@@ -132,11 +126,6 @@ module _ {X : Type 0} (reconciler : X → Reconciler) (phase : X → Phase) (is_
       holds = (still_stand reconciler phase before now reconcilers k.phases stay (shown_stand reconciler phase is_waiting z reconcilers k old before shows), λ is. absurd (other is));
     },
   )
-
-  -- a fault that no shown cluster leads to
-  pub never_halts : (fault : ClusterFault) (a : Course) (old : Program) (before now : List X)
-      → ((z : Size) (reconcilers : ℕ → Reconciler) (k : Cluster) → Shows reconciler phase is_waiting z reconcilers k old before → ⊥) → Halts reconciler phase is_waiting fault a old before now
-  never_halts fault a old before now none = (a, λ z reconcilers k shows. absurd (none z reconcilers k shows))
 
   pub first_leads : (a : Course) (reply : Option Reply) (next : Option Reply → Course) (old new : Program) (before now : List X)
       → Leads reconciler phase is_waiting a (ends_with reply) old new before now → Leads reconciler phase is_waiting (followed_by a next) (next reply) old new before now

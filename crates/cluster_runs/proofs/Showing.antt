@@ -157,13 +157,6 @@ module _ (z : Size) (count : ℕ) (k : Cluster) (n : ℕ) (r : Request) where
       by true = refl
       by false = refl
 
-  pub outside_absent : (program : Program) → is_some (k.incarnations n) ≡ true → IsCluster z count k program → IsCluster z count (with_outside k n r (k.incarnations n)) program
-  outside_absent program there is = by (k.incarnations n) there
-    where
-      by : (incarnation : Option Incarnation) → is_some incarnation ≡ true → IsCluster z count (with_outside k n r incarnation) program
-      by None there = absurd (false≢true there)
-      by (Some incarnation) there = is
-
 pub no_incarnation : (incarnation : Option Incarnation) → is_some incarnation ≡ false → incarnation ≡ None
 no_incarnation None is = refl
 no_incarnation (Some incarnation) is = absurd (false≢true (sym is))
@@ -305,13 +298,6 @@ module _ {X : Type 0} (reconciler : X → Reconciler) (phase : X → Phase) (is_
   pub not_idle : (ph : world.Phase) → ph ≢ Idle → is_idle ph ≡ false
   not_idle Idle busy = absurd (busy refl)
   not_idle ph busy = refl
-
-  pub busy_shows : (z : Size) (reconcilers : ℕ → Reconciler) (k : Cluster) (program : Program) (xs : List X) (c : ℕ) → c < length xs → (after z opening k.events).phase (k.callers c) ≢ Idle
-      → Shown z reconcilers k program xs → Shown z reconcilers (happens z (length xs) reconcilers k (Next c)) program xs
-  busy_shows z reconcilers k program xs c low busy shows =
-      subst (λ v. Shown z reconcilers v program xs) (sym (
-      ap (λ b. cond b (with_next z reconcilers k c) k) (lt-ltb c (length xs) low)
-      ∙ ap (λ b. cond b (hand k (event.Call (k.callers c) (asks (reconcilers c) (k.phases c)))) k) (not_idle _ busy))) shows
 
   pub called_shows : (z : Size) (reconcilers : ℕ → Reconciler) (k : Cluster) (old new : Program) (xs : List X) (c : ℕ) (x y : X) (e : Event)
       → slice_get xs c ≡ Some x → reconciler y ≡ reconciler x → phase y ≡ phase x → is_waiting y ≡ true

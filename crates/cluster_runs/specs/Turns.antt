@@ -12,7 +12,7 @@ use Rattle.interleavings.specs.declared.event.Event.TheVariants as event
 use Rattle.interleavings.specs.Trace.{after}
 use Rattle.interleavings.specs.World.{Size, opening}
 use Rattle.history.specs.NextStep.{next_step}
-use Rattle.kubelet.specs.Kubelet.{turn_requests_of}
+use Rattle.rounds.specs.Kubelet.{turn_requests_of}
 use Rattle.rounds.specs.Phase.{asks}
 use Rattle.rounds.specs.Reconciler.{Reconciler}
 use Rattle.cluster_runs.specs.declared.event.ClusterEvent.{ClusterEvent}

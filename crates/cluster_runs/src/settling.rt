@@ -9,10 +9,9 @@ ghost use Rattle.cluster_runs.specs.Turns.{asked_all, asked_as, ends_with, kubel
 
 use crate::cluster::Cluster;
 use crate::fault::ClusterFault;
-use kubelet::turn_requests;
 use objects::{Kind, Memory, Text};
 use requests::{Reply, Request};
-use rounds::ControlLoop;
+use rounds::{ControlLoop, turn_requests};
 use std::alloc::Global;
 
 /// A list of the pods of a namespace, as they are now.

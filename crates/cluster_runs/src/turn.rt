@@ -25,7 +25,7 @@ pub enum Turn {
     /// get or a list. If a write is next, nothing happens. So a `Next` after it calls the write, if the round has one.
     Approach(usize),
     /// So many times, each controller makes a round, in the order of the numbers, and then a kubelet makes a turn. It
-    /// lists the pods of each namespace, and sends for these what `kubelet::turn_requests` says, each brought to its
+    /// lists the pods of each namespace, and sends for these what `rounds::turn_requests` says, each brought to its
     /// reply. If a reply does not come, its turn ends, and the next one begins with the request that is still open. The
     /// kubelet is the lowest caller that was not used when the first `Settle` of the run with a round began, and stays
     /// that caller for all of them.

@@ -4,9 +4,9 @@ use Rattle.std.specs.Option.{IfSome}
 use Rattle.controller_outcomes.specs.declared.race.FinalStore.{FinalStore}
 use Rattle.controller_outcomes.specs.declared.race.Race.{Race}
 use Rattle.outcome_lines.specs.Race.{race_of}
-use Rattle.replay_lines.specs.Events.{Fails}
-use Rattle.replay_lines.specs.declared.fault.ScriptError.{ScriptError}
-use Rattle.replay_lines.specs.declared.fault.ScriptError.TheVariants.{BadScript, Memory}
+use Rattle.scripts.specs.Events.{Fails}
+use Rattle.scripts.specs.declared.fault.ScriptError.{ScriptError}
+use Rattle.scripts.specs.declared.fault.ScriptError.TheVariants.{BadScript, Memory}
 use Rattle.commands.specs.Ending.{AreFinals, IsChosenStore, IsRaceOf, IsRaceRefusal, IsRaceText, IsStoreRefusal, IsStoresRefusal}
 use Rattle.commands.specs.Replaying.{script_refusal}
 

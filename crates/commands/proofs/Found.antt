@@ -6,9 +6,9 @@ use Rattle.std.proofs.lemmas.Option.{slice_get_within}
 use Rattle.std.specs.Option.{IfSome}
 use Rattle.outcome_lines.specs.Litmus.{litmus_of, parts_of}
 use Rattle.outcomes.specs.declared.litmus.Litmus.{Litmus}
-use Rattle.replay_lines.specs.Events.{Fails}
-use Rattle.replay_lines.specs.declared.fault.ScriptError.{ScriptError}
-use Rattle.replay_lines.specs.declared.fault.ScriptError.TheVariants.{BadScript, Memory}
+use Rattle.scripts.specs.Events.{Fails}
+use Rattle.scripts.specs.declared.fault.ScriptError.{ScriptError}
+use Rattle.scripts.specs.declared.fault.ScriptError.TheVariants.{BadScript, Memory}
 use Rattle.interleavings.specs.World.{changed}
 use Rattle.outcomes.specs.Found.{AreNext, IsOutcome}
 use Rattle.outcomes.specs.declared.litmus.Ask.{Ask}

@@ -8,18 +8,18 @@ use Rattle.cluster_runs.specs.declared.fault.ClusterFault.TheVariants as errors
 use Rattle.cluster_runs.specs.declared.run.ClusterRun.{ClusterRun}
 use Rattle.controllers.specs.Cluster.{namespaces_of, reconciler_named, size_of}
 use Rattle.controllers.specs.declared.cluster_spec.ClusterSpec.{ClusterSpec}
-use Rattle.cluster_scripts.specs.Printing.{cluster_text}
-use Rattle.cluster_scripts.specs.Scripts.{cluster_script_of, parts_of}
-use Rattle.cluster_scripts.specs.declared.script.ClusterScript.{ClusterScript}
+use Rattle.scripts.specs.ClusterPrinting.{cluster_text}
+use Rattle.scripts.specs.ClusterScripts.{cluster_script_of, parts_of}
+use Rattle.scripts.specs.declared.cluster_script.ClusterScript.{ClusterScript}
 use Rattle.clap.specs.Words.{Text}
 use Rattle.pictures.specs.Picture.{picture_text}
 use Rattle.pictures.specs.declared.shown.Shown.{Shown}
-use Rattle.refused_plans.specs.RefusedPlans.{refused_plans}
-use Rattle.refused_plans.specs.Labels.{line_at}
-use Rattle.refused_plans.specs.declared.refused_plan.RefusedPlan.{RefusedPlan}
-use Rattle.stories.specs.Story.{story_text}
+use Rattle.traces.specs.RefusedPlans.{refused_plans}
+use Rattle.traces.specs.RefusedLines.{line_at}
+use Rattle.traces.specs.declared.refused_plan.RefusedPlan.{RefusedPlan}
+use Rattle.pictures.specs.Story.{story_text}
 use Rattle.traces.specs.Traced.{trace_by_lines_text}
-use Rattle.cluster_scripts.specs.Refusals.{refused_line_of}
+use Rattle.scripts.specs.Refusals.{refused_cluster_line_of}
 pub use Rattle.outcome_lines.specs.StoreScripts.{events_by}
 use Rattle.commands.specs.Halts.{IsRefusedIn}
 use Rattle.commands.specs.Forms.{IsFormatBy, WritesBy}
@@ -100,7 +100,7 @@ cluster_refusal errors.Memory = None
 
 -- the input is refused for this, as it is no script or as its run is
 abbrev pub IsClusterRefusal : (shows_line : Bool) → (input name : List ℕ) → Type 0
-IsClusterRefusal shows_line input name = IsScriptRefusal cluster_script_of parts_of refused_line_of IsClusterRunRefusal shows_line input name
+IsClusterRefusal shows_line input name = IsScriptRefusal cluster_script_of parts_of refused_cluster_line_of IsClusterRunRefusal shows_line input name
 
 -- All of the reader's bytes were read, and are refused by this name.
 abbrev pub IsClusterRefusedBy : (shows_line : Bool) → Option (List ℕ) → Option (List ℕ) → List ℕ → Type 0

@@ -2,7 +2,7 @@
 use Rattle.std.specs.Prelude.{◌≡◌, ℕ, Bool, List, [], ◌++◌, Option, IsTrue, if◌then◌else◌}
 use Rattle.clap.specs.Words.{Text}
 use Rattle.plain.specs.Streams.{Puts, PutsPart}
-use Rattle.race_lines.specs.History.{history_text}
+use Rattle.scripts.specs.RaceHistory.{history_text}
 use Rattle.race_log.specs.declared.judge.RaceHistory.{RaceHistory}
 use Rattle.race_log.specs.declared.spec.TheConstants.{CAPACITY}
 use Rattle.race_log.specs.Report.{report_text}

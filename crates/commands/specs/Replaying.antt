@@ -8,22 +8,22 @@ use Rattle.history.specs.declared.replay_error.ReplayError.TheVariants as errors
 use Rattle.interleavings.specs.World.{Size}
 use Rattle.interleavings.specs.declared.event.Event.{Event}
 use Rattle.interleavings.specs.declared.trace.Run.{Run}
-use Rattle.replay_lines.specs.Printing.{run_text}
-use Rattle.replay_lines.specs.Scripts.{parts_of, script_of}
-use Rattle.replay_lines.specs.declared.fault.ScriptError.{ScriptError}
+use Rattle.scripts.specs.Printing.{run_text}
+use Rattle.scripts.specs.Scripts.{parts_of, script_of}
+use Rattle.scripts.specs.declared.fault.ScriptError.{ScriptError}
 use Rattle.clap.specs.Words.{Text}
 use Rattle.pictures.specs.Heading.{no_role}
 use Rattle.pictures.specs.Picture.{picture_text}
-use Rattle.stories.specs.Story.{story_text}
+use Rattle.pictures.specs.Story.{story_text}
 use Rattle.traces.specs.Traced.{trace_text}
-use Rattle.replay_lines.specs.Refusals.{refused_line_of}
+use Rattle.scripts.specs.Refusals.{refused_line_of}
 use Rattle.commands.specs.Halts.{IsRefusedIn}
 use Rattle.commands.specs.Forms.{IsFormatBy, WritesBy}
 use Rattle.commands.specs.Grammar.{flag_text}
 use Rattle.commands.specs.Running.{IsScriptRefusal, IsScriptText}
 use Rattle.commands.specs.declared.options.OutputFormat.{OutputFormat}
 use Rattle.commands.specs.declared.options.OutputFormat.TheVariants.{Lines, Picture, Trace, Writes}
-use Rattle.replay_lines.specs.declared.fault.ScriptError.TheVariants.{BadScript, Memory}
+use Rattle.scripts.specs.declared.fault.ScriptError.TheVariants.{BadScript, Memory}
 
 -- the replies of the run of these events, and its order
 abbrev pub IsRunText : Size × List Event → List ℕ → Type 0

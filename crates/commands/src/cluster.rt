@@ -6,15 +6,14 @@ ghost use Rattle.commands.specs.Halts.{is_read, name_of};
 use crate::cluster_roles::ClusterRoles;
 use crate::halt::Halt;
 use crate::running::Runnable;
-use cluster_scripts::{ClusterScript, cluster_text, read_cluster_script, refused_cluster_line};
 use controllers::{ClusterSpec, TurnsRun, run_turns};
 use objects::Memory;
-use pictures::{Shown, picture};
-use refused_plans::{RefusedNotes, RefusedPlan, refused_plans};
-use replay_lines::ScriptError;
+use pictures::{Shown, picture, story};
+use scripts::{
+    ClusterScript, ScriptError, cluster_text, read_cluster_script, refused_cluster_line,
+};
 use std::alloc::Global;
-use stories::story;
-use traces::trace_by_lines;
+use traces::{RefusedNotes, RefusedPlan, refused_plans, trace_by_lines};
 
 /// The line of a script with its first turn.
 const FIRST_TURN: u64 = 2;
@@ -22,8 +21,8 @@ const FIRST_TURN: u64 = 2;
 impl Runnable for ClusterScript {
     ghost use Rattle.std.specs.Prelude.{List};
     ghost use Rattle.cluster_runs.specs.declared.turn.Turn.{Turn};
-    ghost use Rattle.cluster_scripts.specs.Refusals.{refused_line_of};
-    ghost use Rattle.cluster_scripts.specs.Scripts.{ClusterParts, cluster_script_of, parts_of};
+    ghost use Rattle.scripts.specs.Refusals.{refused_cluster_line_of};
+    ghost use Rattle.scripts.specs.ClusterScripts.{ClusterParts, cluster_script_of, parts_of};
     ghost use Rattle.commands.specs.Clustering.{IsClusterRunRefusal, IsClusterShown};
 
     ghost Parts = { ClusterParts × List Turn };
@@ -32,7 +31,7 @@ impl Runnable for ClusterScript {
 
     ghost script_of = { cluster_script_of };
 
-    ghost refused_line = { refused_line_of };
+    ghost refused_line = { refused_cluster_line_of };
 
     ghost is_shown = { IsClusterShown };
 

@@ -16,7 +16,7 @@ use outcome_lines::ScriptingError;
 use outcomes::OutcomesError;
 use plain::{InputFault, RequestError, Sink};
 use plan_lines::plan_error_name;
-use replay_lines::ScriptError;
+use scripts::ScriptError;
 use sets::PlanError;
 use std::alloc::AllocError;
 

@@ -3,10 +3,9 @@ use crate::halt::Halt;
 use crate::running::Runnable;
 use history::replay;
 use objects::Memory;
-use pictures::{NoRoles, Shown, picture};
-use replay_lines::{Script, ScriptError, read_script, refused_line, run_text};
+use pictures::{NoRoles, Shown, picture, story};
+use scripts::{Script, ScriptError, read_script, refused_line, run_text};
 use std::alloc::Global;
-use stories::story;
 use traces::trace_lines;
 
 impl Runnable for Script {
@@ -14,8 +13,8 @@ impl Runnable for Script {
     ghost use Rattle.interleavings.specs.declared.event.Event.{Event};
     ghost use Rattle.std.specs.Prelude.{List};
     ghost use Rattle.commands.specs.Replaying.{IsRunRefusal, IsShownText};
-    ghost use Rattle.replay_lines.specs.Refusals.{refused_line_of};
-    ghost use Rattle.replay_lines.specs.Scripts.{parts_of, script_of};
+    ghost use Rattle.scripts.specs.Refusals.{refused_line_of};
+    ghost use Rattle.scripts.specs.Scripts.{parts_of, script_of};
 
     ghost Parts = { Size × List Event };
 

@@ -2,7 +2,7 @@
 ghost use Rattle.std.specs.Prelude.{◌≡◌, false, IfOk, IfErr, IfSome};
 ghost use Rattle.commands.specs.Halts.{is_read, name_of, told_line};
 ghost use Rattle.commands.specs.Running.{IsScriptRefusal};
-ghost use Rattle.replay_lines.specs.Events.{Fails};
+ghost use Rattle.scripts.specs.Events.{Fails};
 
 use crate::answering::Answer;
 use crate::args::ScriptWords;
@@ -10,7 +10,7 @@ use crate::halt::{Halt, halt_at};
 use crate::options::OutputFormat;
 use objects::Memory;
 use pictures::Shown;
-use replay_lines::ScriptError;
+use scripts::ScriptError;
 use std::alloc::Global;
 use std::marker::PhantomData;
 
@@ -19,7 +19,7 @@ pub(crate) trait Runnable: Drop {
     ghost use Rattle.std.specs.Prelude.{◌≡◌, ℕ, List, Option, false, IfOk, IfErr, IfSome};
     ghost use Rattle.commands.specs.Halts.{is_read, name_of};
     ghost use Rattle.commands.specs.declared.options.OutputFormat.{OutputFormat};
-    ghost use Rattle.replay_lines.specs.Events.{Reads};
+    ghost use Rattle.scripts.specs.Events.{Reads};
 
     /// A script as definitions have it.
     ghost Parts: { Type 0 };

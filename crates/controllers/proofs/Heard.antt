@@ -16,8 +16,8 @@ use Rattle.controllers.specs.declared.controller.Controller.{Controller}
 use Rattle.controllers.specs.Controller.{Refusals, phase_of, reconciler_of, refusal_after, refusal_of, refusals_of, refusals_with}
 use Rattle.controllers.specs.Progress.{is_carrying, is_list, is_listing, is_planning, phase_at, planned_at}
 use Rattle.controllers.specs.Round.{Hears, StandsAt}
-use Rattle.plan_requests.specs.Planned.{or_none, requested, why_not}
-use Rattle.plan_requests.specs.Reconciler.{reconciler_with}
+use Rattle.controllers.specs.Planned.{or_none, requested, why_not}
+use Rattle.controllers.specs.Reconciler.{reconciler_with}
 
 -- a reply without a list ends the round if a list is awaited
 from_none : (next : List Object → ℕ → Phase) (reply : Reply) → is_list reply ≡ false → from_list next reply ≡ phases.reading_set

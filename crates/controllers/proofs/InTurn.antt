@@ -60,9 +60,9 @@ use Rattle.sets.specs.PlanOfLists.{owned_of, plan_of_lists, views_of}
 use Rattle.sets.proofs.Origins.{created_alone, healthy_target, is_from_step, one_pod, origin, planned_over, renumbered_alone}
 use Rattle.rounds.proofs.Lists.{contains_among}
 use Rattle.rounds.specs.Drafts.{draft}
-use Rattle.plan_requests.specs.Planned.{as_read, deletions as removals, key_of, or_none, request_of, requested, requested_for, requests_of}
-use Rattle.plan_requests.proofs.OwnedRevisions.{of_owned}
-use Rattle.plan_requests.proofs.PlannedActions.{among_all, in_requests, of_plan, of_step, refused, writes_alone}
+use Rattle.controllers.specs.Planned.{as_read, deletions as removals, key_of, or_none, request_of, requested, requested_for, requests_of}
+use Rattle.controllers.proofs.OwnedRevisions.{of_owned}
+use Rattle.controllers.proofs.PlannedActions.{among_all, in_requests, of_plan, of_step, refused, writes_alone}
 use Rattle.controllers.specs.InTurn.{IsInTurn, is_on_pod}
 
 all_reversed : {X : Type 0} (P : X → Type 0) (xs : List X) → AllByRecursion P xs → AllByRecursion P (reverse xs)

@@ -1,3 +1,8 @@
+pub mod Ends
+pub mod PlannedActions
+pub mod OwnedRevisions
+pub mod Deletions
+pub mod Soundness
 pub mod Heard
 pub mod Later
 pub mod Wholes

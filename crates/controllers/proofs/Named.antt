@@ -9,7 +9,7 @@ use Rattle.objects.specs.Key.{key_parts}
 use Rattle.rounds.specs.Reconciler.{Reconciler}
 use Rattle.rounds.specs.Sound.{IsSound}
 use Rattle.rounds.specs.World.{AreMadeOf}
-use Rattle.plan_requests.proofs.Soundness.{is_sound}
+use Rattle.controllers.proofs.Soundness.{is_sound}
 use Rattle.controllers.specs.declared.controller.Controller.{Controller}
 use Rattle.controllers.specs.declared.set_spec.SetSpec.{SetSpec}
 use Rattle.controllers.specs.Cluster.{reconciler_for, reconciler_named}

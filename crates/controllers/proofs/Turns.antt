@@ -12,8 +12,8 @@ use Rattle.rounds.specs.Promises.{CreatesArePlanned}
 use Rattle.rounds.specs.Reconciler.{Reconciler}
 use Rattle.rounds.specs.Transcript.{Entry, Exchange, of_incarnation}
 use Rattle.rounds.proofs.Lists.{among_right}
-use Rattle.plan_requests.specs.Planned.{or_none, requested}
-use Rattle.plan_requests.specs.Reconciler.{reconciler_with}
+use Rattle.controllers.specs.Planned.{or_none, requested}
+use Rattle.controllers.specs.Reconciler.{reconciler_with}
 use Rattle.controllers.specs.InTurn.{ComesInTurn, IsInTurn, IsOfSet, PodsComeInTurn}
 use Rattle.controllers.proofs.InTurn.{created_in_turn}
 

@@ -9,10 +9,10 @@ use Rattle.rounds.specs.Sound.{IsSound}
 use Rattle.rounds.specs.World.{AreMadeOf}
 use Rattle.controllers.specs.declared.controller.Controller.{Controller}
 use Rattle.controllers.specs.Controller.{reconciler_of}
-use Rattle.plan_requests.specs.Reconciler.{reconciler_with}
+use Rattle.controllers.specs.Reconciler.{reconciler_with}
 use Rattle.controllers.specs.InTurn.{IsOfSet}
 use Rattle.controllers.specs.Whole.{reconciler_at}
-use Rattle.plan_requests.proofs.Soundness.{is_sound}
+use Rattle.controllers.proofs.Soundness.{is_sound}
 
 made_by : (d : Reconciler) (o : Option Controller) → IfSome o (λ c. reconciler_of c ≡ option_map_or reconciler_of o d)
 made_by d None = tt

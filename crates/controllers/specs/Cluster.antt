@@ -6,7 +6,7 @@ use Rattle.objects.specs.declared.kind.Kind.TheVariants.{StatefulSet}
 use Rattle.objects.specs.Key.{key_parts}
 use Rattle.interleavings.specs.World.{Size}
 use Rattle.rounds.specs.Reconciler.{Reconciler}
-use Rattle.plan_requests.specs.Reconciler.{reconciler_with}
+use Rattle.controllers.specs.Reconciler.{reconciler_with}
 use Rattle.controllers.specs.declared.cluster_spec.ClusterSpec.{ClusterSpec}
 use Rattle.controllers.specs.declared.set_spec.SetSpec.{SetSpec}
 

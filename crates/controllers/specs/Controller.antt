@@ -7,9 +7,9 @@ use Rattle.set_views.specs.declared.fault.PlanError.{PlanError}
 use Rattle.rounds.specs.Phase.{Phase, listing_claims}
 use Rattle.rounds.specs.Reconciler.{Reconciler}
 use Rattle.controllers.specs.declared.controller.Controller.{Controller}
-use Rattle.plan_requests.specs.Planned.{requested, why_not}
+use Rattle.controllers.specs.Planned.{requested, why_not}
 use Rattle.controllers.specs.Progress.{phase_at}
-use Rattle.plan_requests.specs.Reconciler.{reconciler_with}
+use Rattle.controllers.specs.Reconciler.{reconciler_with}
 
 unfoldable pub reconciler_of : Controller → Reconciler
 reconciler_of c = reconciler_with c.set c.digits c.moment

@@ -20,7 +20,7 @@ use Rattle.sets.specs.PlanOfLists.{views_of}
 use Rattle.rounds.specs.Planned.{IsPlanned}
 use Rattle.rounds.specs.Reconciler.{Reconciler}
 use Rattle.rounds.specs.Transcript.{Entry, Exchange, Incarnation, of_incarnation}
-use Rattle.plan_requests.specs.Reconciler.{reconciler_with}
+use Rattle.controllers.specs.Reconciler.{reconciler_with}
 
 -- the request creates or deletes a pod
 abbrev pub is_on_pod : Request → Bool

@@ -5,7 +5,7 @@ use Rattle.requests.specs.declared.request.Request.{Request}
 use Rattle.requests.specs.declared.reply.Reply.{Reply}
 use Rattle.requests.specs.declared.reply.Reply.TheVariants.{Listed}
 use Rattle.set_views.specs.declared.fault.PlanError.{PlanError}
-use Rattle.plan_requests.specs.Planned.{requested}
+use Rattle.controllers.specs.Planned.{requested}
 use Rattle.rounds.specs.Phase as phases
 use Rattle.rounds.specs.Phase.{Phase}
 use Rattle.controllers.specs.declared.progress.Progress.{Progress}

@@ -6,7 +6,7 @@ use Rattle.objects.specs.Key.{key_parts}
 use Rattle.rounds.specs.Reconciler.{Reconciler}
 use Rattle.controllers.specs.declared.controller.Controller.{Controller}
 use Rattle.controllers.specs.Controller.{reconciler_of}
-use Rattle.plan_requests.specs.Reconciler.{reconciler_with}
+use Rattle.controllers.specs.Reconciler.{reconciler_with}
 
 -- the reconciler of the controller with this number; after the last controller, one of a set without a name
 unfoldable pub reconciler_at : List Controller → ℕ → Reconciler

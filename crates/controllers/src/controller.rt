@@ -27,7 +27,7 @@ pub struct Controller {
 
 impl Controller {
     ghost use Rattle.controllers.specs.Controller.{is_waiting, phase_of, reconciler_of, refusal_of, refusals_of, refusals_with};
-    ghost use Rattle.plan_requests.specs.Reconciler.{reconciler_with};
+    ghost use Rattle.controllers.specs.Reconciler.{reconciler_with};
 
     /// The controller of the set with that namespace and name. The names of new revisions have that many digits, and
     /// pods are marked for deletion with that moment. It will read its set first, waits for no reply, and has no

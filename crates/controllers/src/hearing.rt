@@ -7,7 +7,7 @@ ghost use Rattle.rounds.specs.Phase.{acts, deletes, from_set, is_refusal, readin
 ghost use Rattle.objects.specs.declared.key.Key.{Key};
 ghost use Rattle.requests.specs.declared.reply.Reply.TheVariants.{Listed};
 ghost use Rattle.controllers.specs.Progress.{is_list, is_listing, phase_at};
-ghost use Rattle.plan_requests.specs.Reconciler.{reconciler_with};
+ghost use Rattle.controllers.specs.Reconciler.{reconciler_with};
 
 use crate::progress::Progress;
 use collector::collect;

@@ -1,5 +1,6 @@
 //! Laws of controllers, for every set and all lists.
 ghost use Rattle.std.specs.Prelude.{◌≡◌, ℕ, List, Ok};
+ghost use Rattle.objects.specs.declared.key.Key.{Key};
 ghost use Rattle.objects.specs.declared.kind.Kind.TheVariants.{Pod};
 ghost use Rattle.objects.specs.declared.object.Draft.{Draft};
 ghost use Rattle.objects.specs.declared.object.Object.{Object};
@@ -11,9 +12,18 @@ ghost use Rattle.set_views.specs.SetReading.{set_of};
 ghost use Rattle.requests.specs.Lists.{Has};
 ghost use Rattle.rounds.specs.Promises.{CreatesArePlanned};
 ghost use Rattle.rounds.specs.Reconciler.{Reconciler};
+ghost use Rattle.rounds.specs.Sound.{IsSound};
 ghost use Rattle.rounds.specs.Transcript.{Entry};
-ghost use Rattle.plan_requests.specs.Planned.{requested};
+ghost use Rattle.controllers.specs.Planned.{requested};
+ghost use Rattle.controllers.specs.Reconciler.{reconciler_with};
 ghost use Rattle.controllers.specs.InTurn.{IsInTurn, IsOfSet, PodsComeInTurn};
+
+/// The plan of a set reads nothing and compacts nothing, and deletes no objects but pods and revisions that were listed
+/// for it, by the UID that was read. The collection deletes no claims but those that are collectable, as they were
+/// read.
+pub fn reconcilers_are_sound()
+    ensures { (set : Key) (digits : ℕ) (moment : List ℕ) → IsSound (reconciler_with set digits moment) }
+{}
 
 /// Under OrderedReady a controller creates a pod only for an ordinal in range, under a name that none of the pods
 /// listed for that plan has, and only if each lower ordinal in range has a healthy pod of the set among them. No other

@@ -13,8 +13,8 @@ use Rattle.outcomes.specs.Outcomes.{AreAmong, AreInTurn, Exchange, IsExplained, 
 use Rattle.outcomes.specs.declared.litmus.Ask.{Ask}
 use Rattle.outcomes.specs.declared.litmus.Litmus.{Litmus}
 use Rattle.outcomes.specs.declared.outcome.Outcome.{Outcome}
-use Rattle.replay_lines.specs.Events.{◌>>=◌, Reads, count_in, line_members}
-use Rattle.replay_lines.specs.declared.fault.ScriptError.{ScriptError}
+use Rattle.scripts.specs.Events.{◌>>=◌, Reads, count_in, line_members}
+use Rattle.scripts.specs.declared.fault.ScriptError.{ScriptError}
 use Rattle.outcome_lines.specs.Litmus.{AskInTurn, Parts, crashed, line_of, litmus_by, litmus_of, opened, parts_of, with_before, with_line, with_lines}
 use Rattle.outcome_lines.specs.declared.line.LitmusLine.{LitmusLine}
 use Rattle.outcome_lines.specs.declared.line.LitmusLine.TheVariants.{Before, Race}

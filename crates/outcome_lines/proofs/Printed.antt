@@ -6,7 +6,7 @@ use Rattle.requests.specs.declared.reply.Reply.{Reply}
 use Rattle.serde_json.specs.Data.{array}
 use Rattle.serde_json.specs.Written.{outline}
 use Rattle.outcomes.specs.declared.litmus.Ask.{Ask}
-use Rattle.replay_lines.specs.Printing.{numbers}
+use Rattle.scripts.specs.Printing.{numbers}
 use Rattle.outcome_lines.specs.Printing.{answers, line_indices}
 
 pub in_order : (before : List Token) (n : ℕ) (xs ys : List ℕ) → xs ≡ ys

@@ -11,8 +11,8 @@ use Rattle.cluster_runs.specs.Ran.{IsClusterRun}
 use Rattle.cluster_runs.specs.declared.run.ClusterRun.{ClusterRun}
 use Rattle.cluster_runs.specs.declared.turn.Turn.{Turn}
 use Rattle.cluster_runs.specs.declared.turn.Turn.TheVariants as turn
-use Rattle.cluster_scripts.specs.Sets.{set_parts}
-use Rattle.cluster_scripts.specs.declared.script.ClusterScript.{ClusterScript}
+use Rattle.scripts.specs.Sets.{set_parts}
+use Rattle.scripts.specs.declared.cluster_script.ClusterScript.{ClusterScript}
 use Rattle.controllers.specs.Cluster.{reconciler_named, size_of}
 use Rattle.controllers.specs.declared.set_spec.SetSpec.{SetSpec}
 use Rattle.controller_outcomes.specs.declared.race.Race.{Race}

@@ -14,8 +14,8 @@ use Rattle.interleavings.specs.Trace.{trace}
 use Rattle.interleavings.specs.World.{Size}
 use Rattle.interleavings.specs.declared.trace.Run.{Run}
 use Rattle.history.specs.After.{IsRunOf}
-use Rattle.replay_lines.specs.Scripts.{parts_of, script_of}
-use Rattle.replay_lines.specs.declared.script.Script.{Script}
+use Rattle.scripts.specs.Scripts.{parts_of, script_of}
+use Rattle.scripts.specs.declared.script.Script.{Script}
 use Rattle.interleavings.proofs.Basics.{Compared, same, other, compare, eq_self}
 use Rattle.outcomes.specs.Found.{told}
 use Rattle.outcomes.specs.Outcomes.{AreAnswered, Exchange, exchanges_by, reply_to, requests_in}
@@ -39,18 +39,6 @@ pub call_other : (c p d : ℕ) (r : Request) (items : List Item) → d ≢ c →
 call_other c p d r items ne =
     ap (λ b. cond b (record { request = r; reply = reply_to c items } ∷ exchanges_by c items) (exchanges_by c items)) (ne_eqb d c ne)
 
-pub called_again : (c p d : ℕ) (r : Request) (items : List Item) → d ≡ c → reply_to c (item.Call p d r ∷ items) ≡ None
-called_again c p d r items e = ap (λ b. cond b None (reply_to c items)) (ap (λ n. nat_eq n c) e ∙ eq_self c)
-
-pub called_other : (c p d : ℕ) (r : Request) (items : List Item) → d ≢ c → reply_to c (item.Call p d r ∷ items) ≡ reply_to c items
-called_other c p d r items ne = ap (λ b. cond b None (reply_to c items)) (ne_eqb d c ne)
-
-pub replied_own : (c p d : ℕ) (y : Reply) (items : List Item) → d ≡ c → reply_to c (item.Reply p d y ∷ items) ≡ Some y
-replied_own c p d y items e = ap (λ b. cond b (Some y) (reply_to c items)) (ap (λ n. nat_eq n c) e ∙ eq_self c)
-
-pub replied_other : (c p d : ℕ) (y : Reply) (items : List Item) → d ≢ c → reply_to c (item.Reply p d y ∷ items) ≡ reply_to c items
-replied_other c p d y items ne = ap (λ b. cond b (Some y) (reply_to c items)) (ne_eqb d c ne)
-
 pub told_own : (c : ℕ) (a : Ask) (asks : List Ask) (y : Option Reply) (rs : List (Option Reply)) → a.caller ≡ c
     → told (a ∷ asks) (y ∷ rs) c ≡ record { request = a.request; reply = y } ∷ told asks rs c
 told_own c a asks y rs e = ap (λ b. cond b (record { request = a.request; reply = y } ∷ told asks rs c) (told asks rs c)) (ap (λ n. nat_eq n c) e ∙ eq_self c)
@@ -58,10 +46,6 @@ told_own c a asks y rs e = ap (λ b. cond b (record { request = a.request; reply
 pub told_other : (c : ℕ) (a : Ask) (asks : List Ask) (y : Option Reply) (rs : List (Option Reply)) → a.caller ≢ c
     → told (a ∷ asks) (y ∷ rs) c ≡ told asks rs c
 told_other c a asks y rs ne = ap (λ b. cond b (record { request = a.request; reply = y } ∷ told asks rs c) (told asks rs c)) (ne_eqb a.caller c ne)
-
-pub told_none : (c : ℕ) (asks : List Ask) → told asks [] c ≡ []
-told_none c [] = refl
-told_none c (a ∷ asks) = refl
 
 -- ---- what is tested holds
 told_equal : (x y : Option Reply) → same_told x y ≡ true → x ≡ y

@@ -6,7 +6,7 @@ use Rattle.serde_json.specs.Written.{compact_text}
 use Rattle.requests.specs.declared.reply.Reply.{Reply}
 use Rattle.plain.specs.Replies.{reply_data}
 use Rattle.plain.specs.ValueLines.{text_lines}
-use Rattle.replay_lines.specs.Printing.{numbers}
+use Rattle.scripts.specs.Printing.{numbers}
 use Rattle.outcomes.specs.declared.litmus.Ask.{Ask}
 use Rattle.outcomes.specs.declared.litmus.Litmus.{Litmus}
 use Rattle.outcomes.specs.declared.outcome.Outcome.{Outcome}

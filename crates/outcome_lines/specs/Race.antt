@@ -7,8 +7,8 @@ use Rattle.plain.specs.Lines.{lines}
 use Rattle.requests.specs.declared.request.Request.{Request}
 use Rattle.controller_outcomes.specs.declared.race.Race.{Race}
 use Rattle.controller_outcomes.specs.declared.race.Racer.{Racer}
-use Rattle.cluster_scripts.specs.Sets.{SetParts, set_of, set_parts}
-use Rattle.replay_lines.specs.Events.{◌>>=◌, count_in, line_members}
+use Rattle.scripts.specs.Sets.{SetParts, set_of, set_parts}
+use Rattle.scripts.specs.Events.{◌>>=◌, count_in, line_members}
 use Rattle.outcome_lines.specs.declared.line.LitmusLine.{LitmusLine}
 use Rattle.outcome_lines.specs.declared.line.LitmusLine.TheVariants.{Before, Race as Asks}
 use Rattle.outcome_lines.specs.declared.race_line.RaceLine.{RaceLine}

@@ -12,9 +12,9 @@ use Rattle.outcomes.specs.Found.{told}
 use Rattle.outcomes.specs.Outcomes.{AreAnswered, MayHappen, exchanges_by, requests_in}
 use Rattle.outcomes.specs.declared.litmus.Ask.{Ask}
 use Rattle.outcomes.specs.declared.litmus.Litmus.{Litmus}
-use Rattle.replay_lines.specs.Scripts.{script_of}
-use Rattle.replay_lines.specs.declared.fault.ScriptError.{ScriptError}
-use Rattle.replay_lines.specs.declared.fault.ScriptError.TheVariants as script
+use Rattle.scripts.specs.Scripts.{script_of}
+use Rattle.scripts.specs.declared.fault.ScriptError.{ScriptError}
+use Rattle.scripts.specs.declared.fault.ScriptError.TheVariants as script
 use Rattle.outcome_lines.specs.declared.fault.ScriptingError.{ScriptingError}
 use Rattle.outcome_lines.specs.declared.fault.ScriptingError.TheVariants.{Memory, NoScript}
 

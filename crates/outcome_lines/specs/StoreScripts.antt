@@ -11,9 +11,9 @@ use Rattle.cluster_runs.specs.declared.turn.Turn.{Turn}
 use Rattle.cluster_runs.specs.declared.turn.Turn.TheVariants as turn
 use Rattle.cluster_runs.specs.declared.fault.ClusterFault.{ClusterFault}
 use Rattle.cluster_runs.specs.declared.fault.ClusterFault.TheVariants as cluster
-use Rattle.cluster_scripts.specs.Scripts.{cluster_script_of, parts_of}
-use Rattle.cluster_scripts.specs.Sets.{set_parts}
-use Rattle.cluster_scripts.specs.declared.script.ClusterScript.{ClusterScript}
+use Rattle.scripts.specs.ClusterScripts.{cluster_script_of, parts_of}
+use Rattle.scripts.specs.Sets.{set_parts}
+use Rattle.scripts.specs.declared.cluster_script.ClusterScript.{ClusterScript}
 use Rattle.controllers.specs.Cluster.{namespaces_of, reconciler_named, size_of}
 use Rattle.controllers.specs.declared.set_spec.SetSpec.{SetSpec}
 use Rattle.controller_outcomes.specs.Races.{sets_of}

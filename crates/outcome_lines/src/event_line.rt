@@ -1,8 +1,8 @@
 // Lines of a script of `stsctl replay`.
-use cluster_scripts::write_request;
 use history::Event;
 use json::Writer;
 use plain::{Request, end_line, write_integer_member, write_text_member};
+use scripts::write_request;
 use std::alloc::{AllocError, Global};
 
 /// The script of these events, over one shard.

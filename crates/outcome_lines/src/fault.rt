@@ -5,7 +5,7 @@ ghost use Rattle.outcome_lines.specs.StoreScripts.{cluster_fault};
 
 use controllers::ClusterFault;
 use history::ReplayError;
-use replay_lines::ScriptError;
+use scripts::ScriptError;
 use std::alloc::{AllocError, AllocFailed};
 use thiserror::Error;
 

@@ -1,12 +1,12 @@
 // The lines of a litmus test after the first.
 ghost use Rattle.std.specs.Prelude.{◌≡◌};
 ghost use Rattle.outcome_lines.specs.Litmus.{before_in, crash_in, line_in, line_of, race_in};
-ghost use Rattle.replay_lines.specs.Events.{Reads};
+ghost use Rattle.scripts.specs.Events.{Reads};
 
 use objects::{Members, Tree, TreeReader};
 use outcomes::Ask;
 use plain::Request;
-use replay_lines::{ScriptError, count_in, read_members, request_in};
+use scripts::{ScriptError, count_in, read_members, request_in};
 use std::alloc::Global;
 
 /// A request, of the beginning or of a racing caller.
@@ -17,7 +17,7 @@ pub(crate) enum LitmusLine {
 }
 
 /// The request of a line.
-#[tactic(auto, using(replay_lines::proofs::Readings::fails_bind), unfolding(crate::specs::Litmus::line_of))]
+#[tactic(auto, using(scripts::proofs::Readings::fails_bind), unfolding(crate::specs::Litmus::line_of))]
 pub(crate) fn read_line(
     alloc: Global,
     reader: &mut TreeReader,
@@ -54,7 +54,7 @@ pub(crate) fn crash_in(members: &Members) -> Option<bool>
     }
 }
 
-#[tactic(auto, using(replay_lines::proofs::Readings::fails_bind))]
+#[tactic(auto, using(scripts::proofs::Readings::fails_bind))]
 fn race_in(alloc: Global, members: Members, crashes: bool) -> Result<LitmusLine, ScriptError>
     ensures { Reads (λ said. said) result (race_in members crashes) }
 {
@@ -70,7 +70,7 @@ fn race_in(alloc: Global, members: Members, crashes: bool) -> Result<LitmusLine,
 }
 
 // No caller crashes within a request of the beginning.
-#[tactic(auto, using(replay_lines::proofs::Readings::fails_bind))]
+#[tactic(auto, using(scripts::proofs::Readings::fails_bind))]
 fn before_in(alloc: Global, members: Members, crashes: bool) -> Result<LitmusLine, ScriptError>
     ensures { Reads (λ said. said) result (before_in members crashes) }
 {

@@ -7,7 +7,7 @@ ghost use Rattle.json.specs.Tree.{items_tokens, json_tokens};
 ghost use Rattle.outcome_lines.specs.Printing.{answer_data, answers, count_data, line_indices, outcome_data, outcomes_text, told_data};
 ghost use Rattle.outcomes.specs.declared.outcome.Outcome.{Outcome as SpecOutcome};
 ghost use Rattle.plain.specs.ValueLines.{text_lines};
-ghost use Rattle.replay_lines.specs.Printing.{numbers};
+ghost use Rattle.scripts.specs.Printing.{numbers};
 ghost use Rattle.serde_json.specs.Data.{array};
 ghost use Rattle.serde_json.specs.Written.{compact_text, items_outline, outline};
 

@@ -1,14 +1,13 @@
 // The lines of a race of controllers after the first.
 ghost use Rattle.std.specs.Prelude.{◌≡◌};
 ghost use Rattle.outcome_lines.specs.Race.{begun_by, begun_in, line_parts, race_line_in, race_line_of, racer_in, racer_parts};
-ghost use Rattle.replay_lines.specs.Events.{Reads};
+ghost use Rattle.scripts.specs.Events.{Reads};
 
 use crate::line::{LitmusLine, crash_in, line_in};
-use cluster_scripts::set_of;
 use controller_outcomes::Racer;
 use objects::{Members, TreeReader};
 use plain::Request;
-use replay_lines::{ScriptError, count_in, read_members};
+use scripts::{ScriptError, count_in, read_members, set_of};
 use std::alloc::Global;
 
 /// A request of the beginning, or a racing controller.
@@ -19,7 +18,7 @@ pub(crate) enum RaceLine {
 }
 
 /// The request or the controller of a line.
-#[tactic(auto, using(replay_lines::proofs::Readings::fails_bind), unfolding(crate::specs::Race::race_line_of))]
+#[tactic(auto, using(scripts::proofs::Readings::fails_bind), unfolding(crate::specs::Race::race_line_of))]
 pub(crate) fn read_race_line(
     alloc: Global,
     reader: &mut TreeReader,
@@ -31,7 +30,7 @@ pub(crate) fn read_race_line(
     race_line_in(alloc, members)
 }
 
-#[tactic(auto, using(replay_lines::proofs::Readings::fails_bind))]
+#[tactic(auto, using(scripts::proofs::Readings::fails_bind))]
 fn race_line_in(alloc: Global, members: Members) -> Result<RaceLine, ScriptError>
     ensures { Reads line_parts result (race_line_in members) }
 {
@@ -43,7 +42,7 @@ fn race_line_in(alloc: Global, members: Members) -> Result<RaceLine, ScriptError
 }
 
 /// The controller that a line names, its rounds, and whether it may crash.
-#[tactic(auto, using(replay_lines::proofs::Readings::fails_bind))]
+#[tactic(auto, using(scripts::proofs::Readings::fails_bind))]
 fn racer_in(alloc: Global, members: &Members) -> Result<Racer, ScriptError>
     ensures { Reads racer_parts result (racer_in members.now) }
 {
@@ -65,7 +64,7 @@ fn racer_in(alloc: Global, members: &Members) -> Result<Racer, ScriptError>
 }
 
 /// A request of the beginning, as in a line of a litmus test.
-#[tactic(auto, using(replay_lines::proofs::Readings::fails_bind))]
+#[tactic(auto, using(scripts::proofs::Readings::fails_bind))]
 fn begun_in(alloc: Global, members: Members) -> Result<RaceLine, ScriptError>
     ensures { Reads line_parts result (begun_in members) }
 {

@@ -1,10 +1,10 @@
 ghost use Rattle.std.specs.Prelude.{◌≡◌, IfOk, Some, false, map};
-ghost use Rattle.cluster_scripts.specs.Sets.{set_parts};
+ghost use Rattle.scripts.specs.Sets.{set_parts};
 ghost use Rattle.plain.specs.Lines.{lines};
 ghost use Rattle.outcome_lines.specs.Looks.{looks_of};
 ghost use Rattle.outcome_lines.specs.Race.{line_parts, race_of, race_opened, race_parts, racer_parts, with_begun, with_race_line, with_race_lines};
 ghost use Rattle.outcome_lines.specs.declared.race_line.RaceLine.TheVariants.{Controller};
-ghost use Rattle.replay_lines.specs.Events.{Reads};
+ghost use Rattle.scripts.specs.Events.{Reads};
 
 use crate::looks::looks_of;
 use crate::race_line::{RaceLine, read_race_line};
@@ -12,7 +12,7 @@ use controller_outcomes::{Race, Racer};
 use controllers::SetSpec;
 use objects::{Memory, TreeReader};
 use plain::{Request, split_line};
-use replay_lines::{ScriptError, count_in, read_members};
+use scripts::{ScriptError, count_in, read_members};
 use std::alloc::Global;
 
 /// The race of controllers in a text. Its first line is `{"capacity":C}`. Then come lines `{"request":L}`, requests
@@ -25,7 +25,7 @@ use std::alloc::Global;
 /// # Errors
 ///
 /// `BadScript` if a line is none of these, also if it is cut off or empty, or a caller's, or if there is no line.
-#[tactic(auto, using(replay_lines::proofs::Readings::fails_bind), unfolding(crate::specs::Race::race_of))]
+#[tactic(auto, using(scripts::proofs::Readings::fails_bind), unfolding(crate::specs::Race::race_of))]
 pub fn read_race(alloc: Global, text: &[u8]) -> Result<Race, ScriptError>
     ensures read { Reads race_parts result (race_of text.now) }
     ensures looks { IfOk result (λ race. race.looks.items ≡ looks_of race.beginning.items race.racers.items) }
@@ -41,7 +41,7 @@ pub fn read_race(alloc: Global, text: &[u8]) -> Result<Race, ScriptError>
 }
 
 /// The race of the first line alone.
-#[tactic(auto, using(replay_lines::proofs::Readings::fails_bind))]
+#[tactic(auto, using(scripts::proofs::Readings::fails_bind))]
 fn read_race_opening(
     alloc: Global,
     reader: &mut TreeReader,
@@ -62,7 +62,7 @@ fn read_race_opening(
 }
 
 /// The race with the lines of the text.
-#[tactic(auto, using(replay_lines::proofs::Readings::fails_bind))]
+#[tactic(auto, using(scripts::proofs::Readings::fails_bind))]
 fn read_race_lines(
     alloc: Global,
     reader: &mut TreeReader,

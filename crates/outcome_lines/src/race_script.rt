@@ -1,9 +1,9 @@
 // Lines of the script of `stsctl cluster` in which a race follows an order.
-use cluster_scripts::write_request;
 use controller_outcomes::{Move, Race, Racer};
 use controllers::SetSpec;
 use json::Writer;
 use plain::{Request, end_line, write_integer_member, write_text_member};
+use scripts::write_request;
 use std::alloc::{AllocError, Global};
 
 /// The script in which the caller sends the beginning, the controllers send requests in that order, each brought to its

@@ -2,13 +2,13 @@ ghost use Rattle.std.specs.Prelude.{◌≡◌, IfOk};
 ghost use Rattle.plain.specs.Lines.{lines};
 ghost use Rattle.outcome_lines.specs.Litmus.{AskInTurn, crashed, litmus_of, opened, parts_of, with_before, with_line, with_lines};
 ghost use Rattle.outcome_lines.specs.declared.line.LitmusLine.TheVariants.{Race};
-ghost use Rattle.replay_lines.specs.Events.{Reads};
+ghost use Rattle.scripts.specs.Events.{Reads};
 
 use crate::line::{LitmusLine, read_line};
 use objects::TreeReader;
 use outcomes::{Ask, Litmus};
 use plain::{Request, split_line};
-use replay_lines::{ScriptError, count_in, read_members};
+use scripts::{ScriptError, count_in, read_members};
 use std::alloc::Global;
 
 /// The litmus test in a text. Its first line is `{"capacity":C}`. Then come lines `{"request":L}`, requests that are
@@ -21,7 +21,7 @@ use std::alloc::Global;
 ///
 /// `BadScript` if a line is none of these, also if it is cut off or empty, or of a caller that crashed on an earlier
 /// one, or if there is no line.
-#[tactic(auto, using(replay_lines::proofs::Readings::fails_bind), unfolding(crate::specs::Litmus::litmus_of))]
+#[tactic(auto, using(scripts::proofs::Readings::fails_bind), unfolding(crate::specs::Litmus::litmus_of))]
 pub fn read_litmus(alloc: Global, text: &[u8]) -> Result<Litmus, ScriptError>
     ensures read { Reads parts_of result (litmus_of text.now) }
     ensures in_turn { IfOk result (λ litmus. AskInTurn litmus.asks.items) }
@@ -36,7 +36,7 @@ pub fn read_litmus(alloc: Global, text: &[u8]) -> Result<Litmus, ScriptError>
 }
 
 /// The litmus test of the first line alone.
-#[tactic(auto, using(replay_lines::proofs::Readings::fails_bind))]
+#[tactic(auto, using(scripts::proofs::Readings::fails_bind))]
 fn read_opening(alloc: Global, reader: &mut TreeReader, line: &[u8]) -> Result<Litmus, ScriptError>
     ensures { Reads parts_of result (opened line.now) }
 {
@@ -52,7 +52,7 @@ fn read_opening(alloc: Global, reader: &mut TreeReader, line: &[u8]) -> Result<L
 }
 
 /// The litmus test with the lines of the text.
-#[tactic(auto, using(replay_lines::proofs::Readings::fails_bind))]
+#[tactic(auto, using(scripts::proofs::Readings::fails_bind))]
 fn read_lines(
     alloc: Global,
     reader: &mut TreeReader,

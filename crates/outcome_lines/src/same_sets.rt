@@ -1,6 +1,6 @@
 // Whether a script names the sets of a race.
 ghost use Rattle.std.specs.Prelude.{◌≡◌, IsTrue, map};
-ghost use Rattle.cluster_scripts.specs.Sets.{set_parts};
+ghost use Rattle.scripts.specs.Sets.{set_parts};
 ghost use Rattle.outcome_lines.specs.StoreScripts.{are_sets_of, same_set};
 
 use controller_outcomes::Racer;

@@ -9,7 +9,7 @@ use crate::stage::{staged, unused_caller};
 use history::replay;
 use outcomes::{Litmus, Outcome};
 use plain::Reply;
-use replay_lines::read_script;
+use scripts::read_script;
 use std::alloc::Global;
 
 /// The script of `stsctl replay` that shows the outcome, over one shard. Before it is returned, the replies to each

@@ -6,10 +6,10 @@ use crate::fault::ScriptingError;
 use crate::last_told::{ends_with_looks, is_told_last};
 use crate::race_script::script_of_race;
 use crate::same_sets::are_sets_of;
-use cluster_scripts::{ClusterScript, read_cluster_script};
 use controller_outcomes::{FinalStore, Race};
 use controllers::run_turns;
 use plain::Reply;
+use scripts::{ClusterScript, read_cluster_script};
 use std::alloc::Global;
 
 /// The script of `stsctl cluster` that leads to a store that the race can leave, over one shard. A caller sends the

@@ -1,9 +1,8 @@
 -- The lines of actions, one after another, and how much of them was written.
-use Rattle.std.proofs.Common.{◌≡◌, refl, ℕ, ◌+◌, ◌<◌, List, [], ◌∷◌, ◌++◌, map, length, get_or, drop, Option, sym, ap, ◌∙◌, append_assoc, subst}
+use Rattle.std.proofs.Common.{◌≡◌, refl, ℕ, ◌+◌, ◌<◌, List, [], ◌∷◌, ◌++◌, map, length, get_or, drop, Option, sym, ap, ◌∙◌, append_assoc}
 use Rattle.serde_json.specs.Written.{compact_text}
 use Rattle.plain.specs.Streams.{PutsPart}
 use Rattle.plain.specs.ValueLines.{text_lines}
-use Rattle.plain.proofs.Flows.{PutsPart-after, Puts-then}
 use Rattle.sets.specs.declared.action.Action.{Action}
 use Rattle.plan_lines.specs.declared.output.Format.{Format}
 use Rattle.plan_lines.specs.declared.output.Format.TheVariants.{Json, Brief}
@@ -13,6 +12,7 @@ use Rattle.reasons.specs.Why.{grounds}
 use Rattle.plan_lines.specs.Formats.{action_text, actions_text}
 use Rattle.plan_lines.specs.Output.{PutsBut}
 use Rattle.plan_lines.proofs.Finding.{at_drop}
+use Rattle.plan_lines.proofs.Put.{PutsBut-then, PutsBut-part}
 
 -- the lines are that of the first action and those after it
 first_line : (format : Format) (last : List ℕ) (a : Action) (actions : List Action)
@@ -37,25 +37,6 @@ waiting_from format waiting last actions at a inside is =
     ap (λ t. waiting ++ t) (ap (λ l. actions_text format l ++ last) (at_drop actions at a inside is) ∙ first_line format last a (drop (at + 1) actions))
     ∙ sym (append_assoc waiting (action_text format a ++ 10 ∷ []) (actions_text format (drop (at + 1) actions) ++ last))
 
--- more of the bytes was put
-PutsBut-then : (old now new : Option (List ℕ)) (bytes rest some left more : List ℕ) → PutsBut old bytes rest now → rest ≡ some ++ more
-    → PutsBut now some left new → PutsBut old bytes (left ++ more) new
-PutsBut-then old now new bytes rest some left more (put, e, p) cut (next, f, q) = (
-  put ++ next,
-  e ∙ (ap (λ t. put ++ t) (cut ∙ (ap (λ t. t ++ more) f ∙ append_assoc next left more)) ∙ sym (append_assoc put next (left ++ more))),
-  Puts-then old now new put next p q,
-)
-
--- a part of the next bytes was put
-PutsBut-part : (old now new : Option (List ℕ)) (bytes rest some more : List ℕ) → PutsBut old bytes rest now → rest ≡ some ++ more
-    → PutsPart now some new → PutsPart old bytes new
-PutsBut-part old now new bytes rest some more (put, e, p) cut (part, left, f, q) = (
-  put ++ part,
-  left ++ more,
-  e ∙ (ap (λ t. put ++ t) (cut ∙ (ap (λ t. t ++ more) f ∙ append_assoc part left more)) ∙ sym (append_assoc put part (left ++ more))),
-  Puts-then old now new put part p q,
-)
-
 -- the line of an action was appended to what waits, and a part of it all was written
 pub line-put : (format : Format) (last : List ℕ) (old now new : Option (List ℕ)) (all waiting left : List ℕ) (actions : List Action) (at : ℕ) (a : Action)
     → at < length actions → a ≡ get_or actions at a → PutsBut old all (waiting ++ (actions_text format (drop at actions) ++ last)) now
@@ -69,13 +50,3 @@ pub line-part : (format : Format) (last : List ℕ) (old now new : Option (List 
     → PutsPart now (waiting ++ (action_text format a ++ 10 ∷ [])) new → PutsPart old all new
 line-part format last old now new all waiting actions at a inside is so_far next =
     PutsBut-part old now new all _ _ (actions_text format (drop (at + 1) actions) ++ last) so_far (waiting_from format waiting last actions at a inside is) next
-
--- all the rest is what waits, and the last lines
-pub last-part : (old now new : Option (List ℕ)) (all rest shown : List ℕ) → PutsBut old all rest now → rest ≡ shown
-    → PutsPart now shown new → PutsPart old all new
-last-part old now new all rest shown (put, e, p) same q =
-    subst (λ t. PutsPart old t new) (sym (e ∙ ap (λ t. put ++ t) same)) (PutsPart-after old now new put shown p q)
-
--- a prefix is a part
-pub but-part : (old now : Option (List ℕ)) (all rest : List ℕ) → PutsBut old all rest now → PutsPart old all now
-but-part old now all rest (put, e, p) = (put, rest, e, p)

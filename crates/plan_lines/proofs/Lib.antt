@@ -1,4 +1,5 @@
 pub mod Listings
+pub mod Put
 pub mod Actions
 pub mod Finding
 pub mod Wrong

@@ -3,7 +3,7 @@ use Rattle.std.proofs.Common.{◌≡◌, ℕ, ◌+◌, List, [], ◌∷◌, Opti
 use Rattle.std.specs.Prelude.{IfErr, is_ok, is_some, if◌then◌else◌}
 use Rattle.objects.specs.Reading.{reading}
 use Rattle.objects.specs.Steps.{◌>>=◌}
-use Rattle.replay_lines.specs.Refusals.{first_refused}
+use Rattle.plan_lines.specs.RefusedLines.{first_refused}
 use Rattle.plan_lines.specs.Objects.{Lists, read_from, with_last}
 
 step : {A B E : Type 0} (n : ℕ) (r : Result A E) (later line : Option ℕ) (f : A → Result B E) → line ≡ (if is_ok r then later else Some n)

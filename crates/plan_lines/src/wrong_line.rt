@@ -5,9 +5,9 @@ ghost use Rattle.plain.specs.Lines.{lines};
 ghost use Rattle.plan_lines.specs.Objects.{nothing, read_from};
 ghost use Rattle.plan_lines.specs.RefusedLines.{refused_line_of};
 
+use crate::line_test::{LineTest, first_refused};
 use crate::listed::read_line;
 use objects::{Memory, ReadError, TreeReader};
-use replay_lines::{LineTest, first_refused};
 use std::alloc::Global;
 
 /// Lines of an input.

@@ -14,7 +14,7 @@ use Rattle.history.specs.NextStep.{next_step}
 use Rattle.rounds.specs.Reconciler.{Reconciler}
 use Rattle.cluster_runs.specs.declared.event.ClusterEvent.{ClusterEvent}
 use Rattle.cluster_runs.specs.declared.event.ClusterEvent.TheVariants.{Step}
-use Rattle.cluster_runs.specs.Cluster.{Cluster, controller_at, delivered, hand, hand_if, hears, is_used, run, with_step}
+use Rattle.cluster_runs.specs.Cluster.{Cluster, controller_at, delivered, hand, hears, is_used, run, with_step}
 use Rattle.cluster_runs.specs.Cluster as cluster
 use Rattle.cluster_runs.specs.Turns.{Course, carried_in, event_and, reply_of, reply_to, step_and, step_by}
 use Rattle.cluster_runs.proofs.Traces.{after_more}
@@ -36,11 +36,6 @@ module _ (reconcilers : ℕ → Reconciler) (k : Cluster) where
   heard_callers (Some c) (Some reply) = refl
   heard_callers (Some c) None = refl
   heard_callers None o = refl
-
-  heard_incarnations : (c : Option ℕ) (o : Option Reply) → (hears reconcilers k c o).incarnations ≡ k.incarnations
-  heard_incarnations (Some c) (Some reply) = refl
-  heard_incarnations (Some c) None = refl
-  heard_incarnations None o = refl
 
 module _ (z : Size) (count : ℕ) (reconcilers : ℕ → Reconciler) (n : ℕ) (k0 : Cluster) (there : is_used k0 n ≡ true) where
   -- a cluster on the way, whose world is this one: of what k0 had, only the caller has moved

@@ -104,6 +104,3 @@ turning_next gave turns left r xs ys was asked =
     let e : turns + 0 ≡ turns = omega arith in
     subst (λ n. IsTurning gave n left ys) e
     (subst (λ zs. IsTurning gave (turns + 0) left zs) (sym asked.longer) (turning_with gave turns (r ∷ left) xs asked.asked was asked.request_is asked.given))
-
-pub turning_first : (gave : Gives) → IsTurning gave 0 [] []
-turning_first gave = record { given = tt; follows = tt; many = refl; left_is = refl }

@@ -8,12 +8,12 @@ use Rattle.requests.specs.declared.request.Request.TheVariants as request
 use Rattle.requests.specs.declared.request.Request.TheVariants.{Get}
 use Rattle.requests.specs.declared.reply.Reply.{Reply}
 use Rattle.requests.specs.declared.reply.Reply.TheVariants.{Listed}
-use Rattle.kubelet.specs.Kubelet.{kubelet_requests_of}
+use Rattle.rounds.specs.Kubelet.{kubelet_requests_of}
 use Rattle.rounds.specs.Incarnation.{Follows, phase_after}
 use Rattle.rounds.specs.Phase.{Phase, asks, reading_set}
 use Rattle.rounds.specs.Reconciler.{Reconciler}
 use Rattle.rounds.specs.Transcript.{Exchange}
-use Rattle.plan_requests.specs.Reconciler.{reconciler_with}
+use Rattle.controllers.specs.Reconciler.{reconciler_with}
 use Rattle.race_log.specs.declared.part.TimedExchange.{TimedExchange}
 use Rattle.race_log.specs.declared.part.Part.{Part}
 use Rattle.race_log.specs.declared.spec.RaceSpec.{RaceSpec}

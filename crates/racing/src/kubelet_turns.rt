@@ -7,8 +7,9 @@ ghost use Rattle.racing.specs.Parts.{HasTurned, IsTurning, asks_after, left_by, 
 use crate::field::{RaceContext, last_reply};
 use crate::shared::SharedStore;
 use objects::{Key, Kind, Memory, Text};
-use race_log::{NAMESPACE, SET, TimedExchange, kubelet_requests};
+use race_log::{NAMESPACE, SET, TimedExchange};
 use requests::{Reply, Request};
+use rounds::kubelet_requests;
 use std::alloc::Global;
 use std::sync::Wait;
 use store::Gate;

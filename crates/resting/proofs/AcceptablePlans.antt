@@ -26,7 +26,7 @@ use Rattle.set_views.specs.Set.{SetParts}
 use Rattle.sets.specs.declared.action.Action.{Action}
 use Rattle.sets.specs.declared.action.Action.TheVariants.{CreateClaim, CreatePod, DeletePod, UpdateClaim, WriteRevision, DeleteRevision, WriteStatus, Wait}
 use Rattle.sets.specs.Actions.{version_or_empty}
-use Rattle.plan_requests.specs.Planned.{as_read, deletions, request_of}
+use Rattle.controllers.specs.Planned.{as_read, deletions, request_of}
 use Rattle.resting.specs.Accepting.{IsAcceptable, is_refused}
 use Rattle.resting.proofs.Turns.{meets_its_own, same_text}
 

@@ -16,7 +16,7 @@ use Rattle.plain_store.specs.Store.{Store}
 use Rattle.rounds.specs.Drafts.{draft}
 use Rattle.sets.specs.Plan.{most_actions}
 use Rattle.sets.specs.PlanOfLists.{owned_of}
-use Rattle.plan_requests.specs.Planned.{as_read}
+use Rattle.controllers.specs.Planned.{as_read}
 use Rattle.resting.specs.Accepting.{AreAccepted}
 use Rattle.resting.specs.Acting.{AreWhole, IsPlannedOver, IsReadIn, IsUnrefusedOver, MayAct, planned_requests}
 use Rattle.resting.proofs.AcceptedPlans.{all_are_accepted}

@@ -33,8 +33,8 @@ use Rattle.std.specs.List.Sorted.{IsStrictlySortedBy}
 use Rattle.objects.specs.Key.{key_cmp}
 use Rattle.sets.proofs.FirstPods.{kept_among}
 use Rattle.sets.proofs.Ordered.{all_among}
-use Rattle.plan_requests.proofs.PlannedActions.{among_all}
-use Rattle.plan_requests.specs.Reconciler.{reconciler_with}
+use Rattle.controllers.proofs.PlannedActions.{among_all}
+use Rattle.controllers.specs.Reconciler.{reconciler_with}
 use Rattle.resting.specs.Accepting.{NameApart}
 use Rattle.resting.specs.Still.{listed_in, owners_in}
 use Rattle.resting.specs.WholeRounds.{IsCollectedOver, collection_over, is_collected}

@@ -16,7 +16,7 @@ use Rattle.pod_steps.specs.FullSteps.{all_target_steps, condemned_steps, full_st
 use Rattle.pod_steps.specs.Replicas.{Pods, is_due, is_failed, is_out_of_range, lacks_healthy, ordinals, pod_at}
 use Rattle.pod_steps.specs.Step.{is_of_pod}
 use Rattle.rounds.proofs.Lists.{among_contained}
-use Rattle.plan_requests.proofs.PlannedActions.{among_all}
+use Rattle.controllers.proofs.PlannedActions.{among_all}
 use Rattle.resting.proofs.PlanLists.{all_append, all_flat}
 
 abbrev IsOfRevision : SetParts → Step → Type 0

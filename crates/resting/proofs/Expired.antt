@@ -31,8 +31,8 @@ use Rattle.sets.specs.FullPlan.{current_name, deletion, full_plan, status_of, st
 use Rattle.sets.specs.Plan.{most_actions}
 use Rattle.sets.specs.PlanOfLists.{owned_of}
 use Rattle.sets.proofs.Ordered.{all_among}
-use Rattle.plan_requests.specs.Planned.{deletions as delete_requests, request_of}
-use Rattle.plan_requests.proofs.PlannedActions.{among_all}
+use Rattle.controllers.specs.Planned.{deletions as delete_requests, request_of}
+use Rattle.controllers.proofs.PlannedActions.{among_all}
 use Rattle.resting.specs.Accepting.{DoesAsAlone, IsAcceptable, IsLeftBy, is_refused}
 use Rattle.resting.specs.Acting.{IsPlannedOver, MayAct, after_plan, planned_requests, views_in}
 use Rattle.resting.proofs.Alone.{plan_alone}

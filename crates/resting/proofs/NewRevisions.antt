@@ -52,7 +52,7 @@ use Rattle.sets.specs.declared.action.Action.TheVariants.{WriteRevision}
 use Rattle.sets.specs.Plan.{fitting_pods, most_actions, plan_by}
 use Rattle.sets.specs.PlanOfLists.{owned_of, plan_of_lists}
 use Rattle.sets.proofs.FirstPods.{kept_among}
-use Rattle.plan_requests.specs.Planned.{as_read, or_none, requested_for, requests_of}
+use Rattle.controllers.specs.Planned.{as_read, or_none, requested_for, requests_of}
 use Rattle.resting.specs.Acting.{MayAct, planned_requests, views_in}
 use Rattle.resting.specs.Still.{listed_in}
 use Rattle.resting.proofs.AcceptablePlans.{create_is, meets}

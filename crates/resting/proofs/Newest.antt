@@ -7,7 +7,7 @@ use Rattle.std.proofs.lemmas.List.{reverse-append, reverse-reverse}
 use Rattle.requests.specs.Lists.{Has as Among}
 use Rattle.sets.specs.Order.{in_order, put_in_order}
 use Rattle.sets.proofs.Ordered.{all_among, all_in_order}
-use Rattle.plan_requests.proofs.PlannedActions.{among_all}
+use Rattle.controllers.proofs.PlannedActions.{among_all}
 use Rattle.resting.proofs.Pairs.{ArePaired, all_put, in_reverse, pairs_append}
 use Rattle.resting.proofs.PlanLists.{all_by}
 

@@ -7,7 +7,7 @@ use Rattle.requests.specs.Lists.{Has as Among}
 use Rattle.rounds.proofs.Lists.{among_either}
 use Rattle.sets.specs.Order.{in_order, put_in_order}
 use Rattle.sets.proofs.Ordered.{all_among}
-use Rattle.plan_requests.proofs.PlannedActions.{among_all}
+use Rattle.controllers.proofs.PlannedActions.{among_all}
 use Rattle.resting.proofs.PlanLists.{all_append, all_by}
 
 abbrev pub ArePaired : {X : Type 0} → (X → X → Type 0) → List X → Type 0

@@ -48,8 +48,8 @@ use Rattle.sets.specs.PlanOfLists.{owned_of}
 use Rattle.sets.proofs.Ordered.{all_among}
 use Rattle.sets.proofs.Owned.{filtered}
 use Rattle.rounds.specs.Drafts.{draft}
-use Rattle.plan_requests.specs.Planned.{as_read, deletions as delete_requests, request_of, requests_of}
-use Rattle.plan_requests.proofs.PlannedActions.{among_all}
+use Rattle.controllers.specs.Planned.{as_read, deletions as delete_requests, request_of, requests_of}
+use Rattle.controllers.proofs.PlannedActions.{among_all}
 use Rattle.resting.specs.Accepting.{NameApart}
 use Rattle.resting.proofs.Pairs.{ArePaired, in_filter_map, in_flat, in_map, pairs_append, pairs_by, pairs_filter_map, pairs_filtered, pairs_flat, pairs_in_order, pairs_mapped, pairs_taken}
 use Rattle.resting.proofs.PlanLists.{pod_key}

@@ -42,7 +42,7 @@ use Rattle.sets.specs.declared.action.Action.TheVariants.{CreateClaim, CreatePod
 use Rattle.sets.specs.Actions.{Claims, actions_of, changes_in, claim_actions, name_at, new_pod, revision_of}
 use Rattle.sets.specs.FullPlan.{current_name, deletion, deletions, full_plan, status_of, status_write}
 use Rattle.sets.proofs.Ordered.{all_among}
-use Rattle.plan_requests.specs.Planned.{deletion_of, deletions as delete_requests, request_of, requests_of}
+use Rattle.controllers.specs.Planned.{deletion_of, deletions as delete_requests, request_of, requests_of}
 
 -- ---- lists
 pub all_append : {X : Type 0} (P : X → Type 0) (xs ys : List X) → AllByRecursion P xs → AllByRecursion P ys → AllByRecursion P (xs ++ ys)

@@ -16,7 +16,7 @@ use Rattle.plain_store.specs.AtKey.{Has}
 use Rattle.plain_store.specs.Store.{Store}
 use Rattle.rounds.specs.Drafts.{draft}
 use Rattle.sets.specs.PlanOfLists.{owned_of}
-use Rattle.plan_requests.specs.Planned.{as_read}
+use Rattle.controllers.specs.Planned.{as_read}
 use Rattle.resting.specs.Acting.{AreWhole, planned_requests}
 use Rattle.resting.specs.RoundsOver.{IsInPlace, IsRoundOver}
 use Rattle.resting.proofs.NewRevisions.{new_is_written, renewed_is_written, stored, stored_again, writes_created, writes_renumbered, writing}

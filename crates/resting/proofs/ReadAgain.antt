@@ -29,7 +29,7 @@ use Rattle.plain_store.specs.Route.{route}
 use Rattle.plain_store.specs.Run.{after}
 use Rattle.plain_store.specs.Store.{Store, carried_out, step, with_change}
 use Rattle.plain_store.proofs.OneKey.{step_elsewhere}
-use Rattle.plan_requests.specs.Planned.{as_read}
+use Rattle.controllers.specs.Planned.{as_read}
 use Rattle.resting.specs.RoundsOver.{IsAlike}
 use Rattle.resting.proofs.AcceptedPlans.{IsReadAs, read_as}
 use Rattle.resting.proofs.Acts.{IsElsewhere}

@@ -18,14 +18,14 @@ use Rattle.set_views.specs.Set.{SetParts}
 use Rattle.revisions.specs.Choice.{data_with, has_data, named_current}
 use Rattle.revisions.specs.Plan.{PlanParts, plan_of, settled}
 use Rattle.revisions.specs.Revision.{number_of, owned_among, revision_cmp}
-use Rattle.kubelet.specs.Kubelet.{turn_requests_of}
+use Rattle.rounds.specs.Kubelet.{turn_requests_of}
 use Rattle.plain_store.specs.AtKey.{Has}
 use Rattle.plain_store.specs.Filed.{AreFiled}
 use Rattle.plain_store.specs.Run.{after}
 use Rattle.plain_store.specs.Store.{Store, collection, is_of}
 use Rattle.sets.specs.PlanOfLists.{owned_of}
 use Rattle.sets.proofs.Owned.{total}
-use Rattle.plan_requests.specs.Reconciler.{reconciler_with}
+use Rattle.controllers.specs.Reconciler.{reconciler_with}
 use Rattle.rounds.specs.Reconciler.{Reconciler}
 use Rattle.resting.specs.Acting.{IsReadIn, planned_requests}
 use Rattle.resting.specs.RoundsOver.{IsAlike}

@@ -36,7 +36,7 @@ use Rattle.sets.specs.Actions.{Claims}
 use Rattle.sets.specs.FullPlan.{full_plan}
 use Rattle.sets.specs.Plan.{fitting_pods, most_actions, names_fit, plan_by, plan_of_pods}
 use Rattle.sets.specs.PlanOfLists.{plan_of_lists}
-use Rattle.plan_requests.specs.Planned.{deletions, or_none, request_of, requested_for, requests_of}
+use Rattle.controllers.specs.Planned.{deletions, or_none, request_of, requested_for, requests_of}
 use Rattle.convergence.specs.Rounds.{IsNew, IsRound, after_round, creates, deletes, made_ready, tended}
 use Rattle.resting.specs.Acting.{IsCreated, IsPlannedOver, MayAct, after_both, after_plan, after_steps, marked, planned_requests, views_in}
 use Rattle.resting.specs.Still.{listed_in}

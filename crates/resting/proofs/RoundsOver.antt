@@ -33,7 +33,7 @@ use Rattle.plain_store.specs.Filed.{AreFiled}
 use Rattle.plain_store.specs.Run.{after}
 use Rattle.plain_store.specs.Store.{Store, collection, is_of}
 use Rattle.rounds.specs.Phase.{Phase}
-use Rattle.plan_requests.specs.Reconciler.{reconciler_with}
+use Rattle.controllers.specs.Reconciler.{reconciler_with}
 use Rattle.sets.specs.Plan.{most_actions}
 use Rattle.sets.specs.PlanOfLists.{view_of, views_of}
 use Rattle.convergence.specs.Left.{most_rounds}

@@ -31,8 +31,8 @@ use Rattle.sets.specs.declared.action.Action.TheVariants.{WriteStatus}
 use Rattle.sets.specs.Actions.{actions_of}
 use Rattle.sets.specs.FullPlan.{current_name, deletions, full_plan, status_write}
 use Rattle.sets.specs.Plan.{most_actions}
-use Rattle.plan_requests.specs.Planned.{as_read, request_of, requests_of}
-use Rattle.plan_requests.proofs.PlannedActions.{among_all}
+use Rattle.controllers.specs.Planned.{as_read, request_of, requests_of}
+use Rattle.controllers.proofs.PlannedActions.{among_all}
 use Rattle.resting.specs.Accepting.{DoesAsAlone, IsLeftBy}
 use Rattle.resting.specs.Acting.{IsPlannedOver, IsReadIn, MayAct, after_plan, planned_requests, views_in}
 use Rattle.resting.proofs.AcceptedPlans.{IsReadAs, read_as}

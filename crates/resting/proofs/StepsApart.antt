@@ -7,7 +7,7 @@ use Rattle.std.specs.Ordering.{nat_cmp}
 use Rattle.std.proofs.lemmas.Map.Keys.{sorted_tail}
 use Rattle.requests.specs.Lists.{Has as Among}
 use Rattle.sets.proofs.Ordered.{all_among}
-use Rattle.plan_requests.proofs.PlannedActions.{among_all}
+use Rattle.controllers.proofs.PlannedActions.{among_all}
 use Rattle.set_views.specs.declared.policies.Policy.{Policy}
 use Rattle.set_views.specs.declared.policies.Policy.TheVariants.{OrderedReady, Parallel}
 use Rattle.set_views.specs.declared.policies.Strategy.{Strategy}

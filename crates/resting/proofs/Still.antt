@@ -14,13 +14,13 @@ use Rattle.set_views.specs.SetReading.{set_of}
 use Rattle.set_views.specs.Steps.{◌>>=◌}
 use Rattle.objects.specs.Uid.{uid_text}
 use Rattle.requests.specs.declared.request.Request.TheVariants.{Delete, UpdateStatus}
-use Rattle.kubelet.specs.Kubelet.{has_ended, is_ready as kubelet_ready, made_ready, turn_requests_for, turn_requests_of}
+use Rattle.rounds.specs.Kubelet.{has_ended, is_ready as kubelet_ready, made_ready, turn_requests_for, turn_requests_of}
 use Rattle.plain_store.specs.Route.{route}
 use Rattle.plain_store.specs.Store.{Store, found, step}
 use Rattle.rounds.specs.Phase.{Phase, acts, asks, deletes, from_set, listing_claims, listing_old_claims, listing_owner_claims, listing_owner_pods, listing_owner_revisions, listing_owner_sets, listing_pods, listing_revisions, reading_set, takes}
 use Rattle.rounds.specs.Reconciler.{Reconciler}
-use Rattle.plan_requests.specs.Planned.{or_none, requested, requested_for, requests_of}
-use Rattle.plan_requests.specs.Reconciler.{reconciler_with}
+use Rattle.controllers.specs.Planned.{or_none, requested, requested_for, requests_of}
+use Rattle.controllers.specs.Reconciler.{reconciler_with}
 use Rattle.resting.specs.Rest.{RestsOver}
 use Rattle.resting.specs.Still.{IsStill, IsTendedPod, ShowsRest, exchanged, exchanged_times, listed_in, plan_over}
 use Rattle.resting.proofs.Lists.{rest_is_empty}

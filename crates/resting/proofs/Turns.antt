@@ -36,7 +36,7 @@ use Rattle.set_views.specs.declared.readiness.Readiness.{Readiness}
 use Rattle.set_views.specs.declared.readiness.Readiness.TheVariants.{Failed, NotReady, Ready}
 use Rattle.set_views.specs.Readiness.{readiness_of, readiness_with}
 use Rattle.set_views.specs.Values.{inside}
-use Rattle.kubelet.specs.Kubelet.{has_ended, is_ready, made_ready, ready_status, turn_requests_for, turn_requests_of}
+use Rattle.rounds.specs.Kubelet.{has_ended, is_ready, made_ready, ready_status, turn_requests_for, turn_requests_of}
 use Rattle.plain_store.specs.AtKey.{Has}
 use Rattle.plain_store.specs.Filed.{AreFiled}
 use Rattle.plain_store.specs.Route.{route}
@@ -46,7 +46,7 @@ use Rattle.plain_store.specs.Store.{Store, carried_out, collection, is_of, step,
 use Rattle.plain_store.proofs.CompleteLists.{listed, listed_there, once}
 use Rattle.plain_store.proofs.OneKey.{step_elsewhere}
 use Rattle.rounds.proofs.Lists.{among_contained}
-use Rattle.plan_requests.proofs.PlannedActions.{among_all}
+use Rattle.controllers.proofs.PlannedActions.{among_all}
 use Rattle.resting.specs.Turns.{IsMadeReady, IsTurnOver, MayTurn, TendsBy, TendsTo, ready_or_ended}
 
 abbrev status : Data → Option Data

@@ -49,8 +49,8 @@ use Rattle.sets.specs.FullPlan.{current_name, deletion, deletions, full_plan, st
 use Rattle.sets.specs.Plan.{most_actions}
 use Rattle.sets.specs.PlanOfLists.{owned_of}
 use Rattle.sets.proofs.Ordered.{all_among}
-use Rattle.plan_requests.specs.Planned.{request_of}
-use Rattle.plan_requests.proofs.OwnedRevisions.{of_owned}
+use Rattle.controllers.specs.Planned.{request_of}
+use Rattle.controllers.proofs.OwnedRevisions.{of_owned}
 use Rattle.resting.specs.Accepting.{IsAcceptable}
 use Rattle.resting.specs.Acting.{IsPlannedOver, MayAct, planned_requests, views_in}
 use Rattle.resting.specs.Still.{listed_in}

@@ -46,8 +46,8 @@ use Rattle.sets.specs.Plan.{most_actions}
 use Rattle.sets.specs.PlanOfLists.{owned_of}
 use Rattle.sets.proofs.Ordered.{all_among}
 use Rattle.sets.proofs.Owned.{filtered}
-use Rattle.plan_requests.specs.Planned.{deletions as delete_requests, request_of, requests_of}
-use Rattle.plan_requests.proofs.PlannedActions.{among_all, in_requests}
+use Rattle.controllers.specs.Planned.{deletions as delete_requests, request_of, requests_of}
+use Rattle.controllers.proofs.PlannedActions.{among_all, in_requests}
 use Rattle.resting.specs.Acting.{IsPlannedOver, MayAct, planned_requests, views_in}
 use Rattle.resting.specs.Still.{listed_in}
 use Rattle.resting.proofs.AcceptedPlans.{claim_key_is, distinct, known_low}

@@ -27,8 +27,8 @@ use Rattle.plain_store.specs.Store.{Store, carried_out, step, with_change}
 use Rattle.rounds.specs.Accepted.{succeeded}
 use Rattle.rounds.specs.Phase.{Phase, asks, deletes, is_refusal, listing_old_claims, reading_set, takes}
 use Rattle.rounds.specs.Reconciler.{Reconciler}
-use Rattle.plan_requests.specs.Planned.{or_none, requested, requested_for}
-use Rattle.plan_requests.specs.Reconciler.{reconciler_with}
+use Rattle.controllers.specs.Planned.{or_none, requested, requested_for}
+use Rattle.controllers.specs.Reconciler.{reconciler_with}
 use Rattle.resting.specs.Accepting.{AreAccepted}
 use Rattle.resting.specs.Acting.{planned_requests}
 use Rattle.resting.specs.Still.{exchanged, exchanged_times, listed_in, owners_in, plan_over}

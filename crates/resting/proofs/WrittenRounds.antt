@@ -24,7 +24,7 @@ use Rattle.set_views.specs.Set.{SetParts}
 use Rattle.set_views.specs.SetReading.{set_of}
 use Rattle.revisions.specs.Choice.{data_with, has_data, named_current}
 use Rattle.revisions.specs.Revision.{listed, number_of, owned_among, owns_revision, revision_cmp}
-use Rattle.kubelet.specs.Kubelet.{turn_requests_of}
+use Rattle.rounds.specs.Kubelet.{turn_requests_of}
 use Rattle.plain_store.specs.AtKey.{Has}
 use Rattle.plain_store.specs.Filed.{AreFiled}
 use Rattle.plain_store.specs.Run.{after}
@@ -35,7 +35,7 @@ use Rattle.rounds.specs.Phase.{Phase}
 use Rattle.rounds.specs.Reconciler.{Reconciler}
 use Rattle.sets.specs.PlanOfLists.{owned_of}
 use Rattle.sets.proofs.Owned.{total}
-use Rattle.plan_requests.specs.Reconciler.{reconciler_with}
+use Rattle.controllers.specs.Reconciler.{reconciler_with}
 use Rattle.resting.specs.Accepting.{AreAccepted}
 use Rattle.resting.specs.Acting.{IsReadIn, planned_requests}
 use Rattle.resting.specs.RoundsOver.{IsAlike, IsInPlace, IsRoundOver}

@@ -18,7 +18,7 @@ use Rattle.pod_steps.specs.Replicas.{Pods, is_failed}
 use Rattle.revisions.specs.Plan.{PlanParts, created, plan_of, renumbered, settled}
 use Rattle.revisions.specs.Revision.{listed}
 use Rattle.claims.specs.Listed.{listed_claim}
-use Rattle.kubelet.specs.Kubelet.{turn_requests_of}
+use Rattle.rounds.specs.Kubelet.{turn_requests_of}
 use Rattle.sets.specs.FullPlan.{full_plan}
 use Rattle.sets.specs.Plan.{fitting_pods, most_actions}
 use Rattle.sets.specs.PlanOfLists.{owned_of, views_of}
@@ -26,7 +26,7 @@ use Rattle.plain_store.specs.AtKey.{Has}
 use Rattle.plain_store.specs.Filed.{AreFiled}
 use Rattle.plain_store.specs.Run.{after}
 use Rattle.plain_store.specs.Store.{Store, collection}
-use Rattle.plan_requests.specs.Planned.{or_none, requested_for}
+use Rattle.controllers.specs.Planned.{or_none, requested_for}
 use Rattle.convergence.specs.Rounds.{creates, deletes}
 use Rattle.resting.specs.Still.{listed_in}
 

@@ -9,7 +9,7 @@ use Rattle.revisions.specs.Revision.{listed}
 use Rattle.sets.specs.Plan.{most_actions}
 use Rattle.sets.specs.PlanOfLists.{owned_of}
 use Rattle.plain_store.specs.Store.{Store}
-use Rattle.plan_requests.specs.Reconciler.{reconciler_with}
+use Rattle.controllers.specs.Reconciler.{reconciler_with}
 use Rattle.resting.specs.Acting.{IsReadIn, IsUnrefusedOver, MayAct, after_turn}
 use Rattle.resting.specs.Still.{listed_in}
 use Rattle.resting.specs.Turns.{MayTurn}

@@ -6,3 +6,4 @@ pub mod Answered
 pub mod Deletes
 pub mod Runs
 pub mod Showing
+pub mod KubeletWalks

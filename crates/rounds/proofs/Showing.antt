@@ -165,16 +165,6 @@ module _ {X : Type 0} (reconciler : X → Reconciler) (phase : X → Phase) (rec
         controllers = shows.controllers;
       }
 
-  pub absent_asks : (s : Store) (xs : List X) (taken : List Taken) (w : World) (c count : ℕ) → count ≤ c
-      → Shows reconciler phase reconcilers s xs taken w → Shows reconciler phase reconcilers s xs taken (happens count reconcilers w (Ask c))
-  absent_asks s xs taken w c count high shows =
-      subst (Shows reconciler phase reconcilers s xs taken) (sym (ap (λ b. cond b (with_ask reconcilers w c) w) (higher c count high))) shows
-
-  pub absent_crashes : (s : Store) (xs : List X) (taken : List Taken) (w : World) (c count : ℕ) → count ≤ c
-      → Shows reconciler phase reconcilers s xs taken w → Shows reconciler phase reconcilers s xs taken (happens count reconcilers w (Crash c))
-  absent_crashes s xs taken w c count high shows =
-      subst (Shows reconciler phase reconcilers s xs taken) (sym (ap (λ b. cond b (with_crash w c) w) (higher c count high))) shows
-
   -- ---- the beginning
 
   fresh_by : (xs : List X) (rs : ℕ → Reconciler) (i : ℕ) → AllByRecursion (λ x. phase x ≡ reading_set) xs → IfSome (slice_get xs i) (λ x. reconciler x ≡ rs i)

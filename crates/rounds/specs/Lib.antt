@@ -4,6 +4,7 @@ pub mod Before
 pub mod Drafts
 pub mod Examples
 pub mod Incarnation
+pub mod Kubelet
 pub mod Phase
 pub mod Planned
 pub mod Promises

@@ -3,17 +3,11 @@ use Rattle.std.proofs.Common.{◌≡◌, ℕ, Bool, List, ◌++◌, Option, code
 use Rattle.requests.specs.declared.reply.Reply.{Reply}
 use Rattle.interleavings.specs.declared.event.Event.{Event}
 use Rattle.interleavings.specs.Callers.{named_by}
-use Rattle.pictures.proofs.Pieces.{four, two}
+use Rattle.pictures.proofs.Pieces.{five, two}
 use Rattle.traces.specs.Enabled.{is_enabled}
 use Rattle.traces.specs.Lines.{caller_words, event_line, event_words, head, verdict_words}
 use Rattle.traces.specs.Places.{place_words}
 use Rattle.traces.specs.declared.run_state.RunState.{RunState}
-
-five : (old one two_of three_of four_of new a b c d e : List ℕ) → one ≡ old ++ a → two_of ≡ one ++ b → three_of ≡ two_of ++ c → four_of ≡ three_of ++ d
-    → new ≡ four_of ++ e → new ≡ old ++ (a ++ (b ++ (c ++ (d ++ e))))
-five old one two_of three_of four_of new a b c d e first second third fourth fifth =
-    fifth ∙ ap (λ t. t ++ e) (four old one two_of three_of four_of a b c d first second third fourth) ∙ append_assoc old (a ++ (b ++ (c ++ d))) e
-    ∙ ap (λ t. old ++ t) (append_assoc a (b ++ (c ++ d)) e ∙ ap (λ t. a ++ t) (append_assoc b (c ++ d) e ∙ ap (λ t. b ++ t) (append_assoc c d e)))
 
 pub head_put : (role : ℕ → List ℕ) (place : ℕ) (caller : Option ℕ) (old one new : List ℕ) → one ≡ old ++ (decimal place ++ codes ": ") → new ≡ one ++ caller_words role caller
     → new ≡ old ++ head role place caller

@@ -1,6 +1,6 @@
 use Rattle.std.proofs.Common.{◌≡◌, rules, subst}
 use Rattle.plain.specs.Streams.{PutsPart}
-use Rattle.race_lines.specs.History.{history_text}
+use Rattle.scripts.specs.RaceHistory.{history_text}
 use Rattle.commands.specs.Racing.{history_shown}
 use Rattle.commands.proofs.race.write_calls.Goals as goal
 

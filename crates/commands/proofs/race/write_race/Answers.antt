@@ -1,5 +1,5 @@
 use Rattle.std.proofs.Common.{◌∙◌}
-use Rattle.race_lines.proofs.Histories.{ok_where_some}
+use Rattle.scripts.proofs.RaceHistories.{ok_where_some}
 use Rattle.commands.proofs.Raced.{all_behind, part_behind, part_of_more}
 use Rattle.commands.proofs.race.write_race.Goals as goal
 

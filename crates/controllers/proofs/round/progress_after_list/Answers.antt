@@ -1,6 +1,6 @@
 use Rattle.std.proofs.Common.{sym}
 use Rattle.controllers.specs.Progress.{phase_at}
-use Rattle.plan_requests.specs.Reconciler.{reconciler_with}
+use Rattle.controllers.specs.Reconciler.{reconciler_with}
 use Rattle.controllers.proofs.Heard.{list_ends}
 use Rattle.controllers.proofs.round.progress_after_list.Goals as goal
 

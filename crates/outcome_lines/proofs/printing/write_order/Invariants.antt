@@ -1,7 +1,7 @@
 use Rattle.std.proofs.Common.{◌≡◌, ◌++◌, drop, length}
 use Rattle.json.specs.Tree.{items_tokens}
 use Rattle.serde_json.specs.Written.{items_outline}
-use Rattle.replay_lines.specs.Printing.{numbers}
+use Rattle.scripts.specs.Printing.{numbers}
 use Rattle.outcome_lines.specs.Printing.{line_indices}
 use Rattle.outcome_lines.proofs.printing.write_order.Given as goal
 

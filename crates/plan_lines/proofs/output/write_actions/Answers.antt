@@ -2,7 +2,8 @@ use Rattle.std.proofs.Common.{List, ◌++◌, sym, ap, ◌∙◌}
 use Rattle.std.proofs.lemmas.List.{drop_all}
 use Rattle.sets.specs.declared.action.Action.{Action}
 use Rattle.plan_lines.specs.Formats.{actions_text}
-use Rattle.plan_lines.proofs.Actions.{but-part, last-part, line-part, line-put, no-lines}
+use Rattle.plan_lines.proofs.Actions.{line-part, line-put, no-lines}
+use Rattle.plan_lines.proofs.Put.{nothing-more, rest-part}
 use Rattle.plan_lines.proofs.output.write_actions.Goals as goal
 
 pub returns-in_err-lines-clause-part : goal.returns-in_err-lines-clause-part
@@ -19,11 +20,11 @@ loop-action-preserved g c = record {
 }
 
 pub returns-in_err-extend_from_slice-clause-part : goal.returns-in_err-extend_from_slice-clause-part
-returns-in_err-extend_from_slice-clause-part g c = but-part _ _ _ _ c.loop-action.invariant.put
+returns-in_err-extend_from_slice-clause-part g c = nothing-more _ _ _ _ c.loop-action.invariant.put
 
 pub returns-clause-part : goal.returns-clause-part
 returns-clause-part g c =
-    last-part _ _ _ _ _ _ c.loop-action.invariant.put
+    rest-part _ _ _ _ _ _ c.loop-action.invariant.put
     (ap (λ t. c.loop-action.lines.items ++ t)
     (ap (λ (l : List Action). actions_text c.args.format l ++ c.args.last.now) (drop_all c.loop-action.action-index c.args.actions.now c.loop-action-test.false)
     ∙ no-lines c.args.format c.args.last.now)

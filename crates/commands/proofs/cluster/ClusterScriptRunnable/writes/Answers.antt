@@ -4,7 +4,7 @@ use Rattle.cluster_runs.specs.Ran.{IsClusterRun, owner_in}
 use Rattle.cluster_runs.specs.Turns.{events_of_turns}
 use Rattle.cluster_runs.specs.declared.turn.Turn.{Turn}
 use Rattle.controllers.specs.Cluster.{namespaces_of, reconciler_named, size_of}
-use Rattle.stories.specs.Story.{story_text}
+use Rattle.pictures.specs.Story.{story_text}
 use Rattle.commands.specs.Clustering.{IsClusterRunRefusal}
 use Rattle.commands.specs.Roles.{role_by}
 use Rattle.commands.proofs.Replayed.{error_has}

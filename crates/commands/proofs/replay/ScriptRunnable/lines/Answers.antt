@@ -2,7 +2,7 @@ use Rattle.std.proofs.Common.{List, sym, subst}
 use Rattle.std.specs.Option.{IfSome}
 use Rattle.history.specs.After.{IsRunOf}
 use Rattle.interleavings.specs.declared.event.Event.{Event}
-use Rattle.replay_lines.specs.Scripts.{parts_of}
+use Rattle.scripts.specs.Scripts.{parts_of}
 use Rattle.commands.specs.Replaying.{IsRunRefusal}
 use Rattle.commands.proofs.Replayed.{error_has}
 use Rattle.commands.proofs.replay.ScriptRunnable.lines.Goals as goal

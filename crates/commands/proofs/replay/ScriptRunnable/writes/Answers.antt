@@ -3,8 +3,8 @@ use Rattle.std.specs.Option.{IfSome}
 use Rattle.history.specs.After.{IsRunOf}
 use Rattle.interleavings.specs.declared.event.Event.{Event}
 use Rattle.pictures.specs.Heading.{no_role}
-use Rattle.replay_lines.specs.Scripts.{parts_of}
-use Rattle.stories.specs.Story.{story_text}
+use Rattle.scripts.specs.Scripts.{parts_of}
+use Rattle.pictures.specs.Story.{story_text}
 use Rattle.commands.specs.Replaying.{IsRunRefusal}
 use Rattle.commands.proofs.Replayed.{error_has}
 use Rattle.commands.proofs.replay.ScriptRunnable.writes.Goals as goal

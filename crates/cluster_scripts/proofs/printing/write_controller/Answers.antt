@@ -1,9 +1,0 @@
-use Rattle.std.proofs.Common.{◌++◌, ◌∙◌, ap, sym}
-use Rattle.std.proofs.lemmas.Result.{on_ok_weaker}
-use Rattle.cluster_scripts.specs.Printing.{controller_tokens}
-use Rattle.cluster_scripts.proofs.printing.write_controller.Goals as goal
-
-pub returns-in-Some-clause-tokens : goal.returns-in-Some-clause-tokens
-returns-in-Some-clause-tokens c =
-    on_ok_weaker c.write_integer_member.result (λ written.
-    written ∙ ap (λ o. c.args.out.now.tokens ++ controller_tokens o) (sym c.in-Some.is)) c.write_integer_member.ensures.tokens

@@ -1,9 +1,0 @@
-use Rattle.std.proofs.Common.{refl}
-use Rattle.std.proofs.lemmas.Result.{on_ok_weaker}
-use Rattle.plain.proofs.Written.{three}
-use Rattle.cluster_scripts.proofs.request_line.write_names.Goals as goal
-
-pub returns-clause-tokens : goal.returns-clause-tokens
-returns-clause-tokens c =
-    on_ok_weaker c.write_text_member-2.result (λ last.
-    three c.args.out.now.tokens _ _ _ _ _ _ _ c.in_ok-write_kind.ensures.tokens c.in_ok-write_text_member.ensures.tokens last refl) c.write_text_member-2.ensures.tokens

@@ -1,7 +1,0 @@
-use Rattle.kubelet.specs.Kubelet.{turn_requests_for}
-use Rattle.kubelet.proofs.Walks.{asked-next}
-use Rattle.kubelet.proofs.asking.turn_requests.Goals as goal
-
-pub loop-pod-preserved : goal.loop-pod-preserved
-loop-pod-preserved c =
-    asked-next turn_requests_for c.args.pods.now c.loop-pod.pod-index c.pod-item.result _ _ _ c.loop-pod-test.true c.pod-item.is c.loop-pod.invariant c.in_ok-put_asked_in_turn.ensures

@@ -1,2 +1,0 @@
--- ---- what public clauses cite
-pub mod Kubelet

@@ -1,5 +1,0 @@
-pub mod Ends
-pub mod PlannedActions
-pub mod OwnedRevisions
-pub mod Deletions
-pub mod Soundness

@@ -1,3 +1,0 @@
--- ---- what public clauses cite
-pub mod Planned
-pub mod Reconciler

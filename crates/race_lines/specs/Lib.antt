@@ -1,2 +1,0 @@
--- ---- cited by public clauses
-pub mod History

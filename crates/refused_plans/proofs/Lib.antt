@@ -1,4 +1,0 @@
-mod Passing
-mod Told
-mod Noting
-mod InCluster

@@ -1,0 +1,10 @@
+use Rattle.std.proofs.Common.{refl}
+use Rattle.std.proofs.lemmas.Result.{on_ok_weaker}
+use Rattle.plain.proofs.Written.{six}
+use Rattle.scripts.proofs.printing.write_reply_at.Goals as goal
+
+pub returns-clause-tokens : goal.returns-clause-tokens
+returns-clause-tokens c =
+    on_ok_weaker c.end_object.result (λ last.
+    six c.args.out.now.tokens _ _ _ _ _ _ _ _ _ _ _ _ _
+    c.in_ok-begin_object.ensures.ok c.in_ok-write_integer_member.ensures.tokens c.in_ok-write_integer_member-2.ensures.tokens c.in_ok-key.ensures.ok c.in_ok-write_reply.ensures.tokens last refl) c.end_object.ensures.ok

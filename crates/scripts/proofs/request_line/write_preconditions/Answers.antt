@@ -1,0 +1,8 @@
+use Rattle.std.proofs.Common.{refl}
+use Rattle.std.proofs.lemmas.Result.{on_ok_weaker}
+use Rattle.plain.proofs.Written.{two}
+use Rattle.scripts.proofs.request_line.write_preconditions.Goals as goal
+
+pub returns-clause-tokens : goal.returns-clause-tokens
+returns-clause-tokens c =
+    on_ok_weaker c.write_optional-2.result (λ last. two c.args.out.now.tokens _ _ _ _ _ c.in_ok-write_optional.ensures.tokens last refl) c.write_optional-2.ensures.tokens

@@ -1,2 +1,0 @@
-mod Pieces
-mod Asking

@@ -1,5 +1,0 @@
-use Rattle.stories.proofs.Asking.{noted}
-use Rattle.stories.proofs.telling.note.Goals as goal
-
-pub returns : goal.returns
-returns c = noted c.args.asked.now c.insert.new.self c.args.caller c.args.request c.in_ok-insert.ensures.updates

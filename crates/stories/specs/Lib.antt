@@ -1,3 +1,0 @@
-pub mod Story
--- Only private clauses cite these.
-pub mod Asked
