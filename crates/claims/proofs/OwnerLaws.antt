@@ -136,7 +136,7 @@ owned_at false set pod owner ds there all =
     let entry = reference_to set pod owner in
     rw (list_all-append (stays set pod (Some owner)) ds (entry ∷ []), all, new_entry_stays set pod owner, list_any-append (is_of set owner) ds (entry ∷ []), there, new_entry_is_of set pod owner) refl
 
-wanted_again : (set : SetParts) (pod : List ℕ) (owner : Option Owner) (entries : List Data) → are_wanted set pod owner (wanted_entries set pod owner entries) ≡ true
+pub wanted_again : (set : SetParts) (pod : List ℕ) (owner : Option Owner) (entries : List Data) → are_wanted set pod owner (wanted_entries set pod owner entries) ≡ true
 wanted_again set pod None entries = rw (all_pass (stays set pod None) entries) refl
 wanted_again set pod (Some owner) entries =
     let kept = filter (stays set pod (Some owner)) entries in

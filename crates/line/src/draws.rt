@@ -6,7 +6,7 @@ ghost use Rattle.line.specs.NotedView.{drew_for, with_plain};
 ghost use Rattle.line.specs.Seat.{after_fill, shard_seat};
 ghost use Rattle.line.specs.View.{filled_in, used_up};
 
-use crate::line::{Line, MAX_NUMBERS};
+use crate::line::Line;
 use crate::notes::{Judging, Noting};
 use crate::seat::{Drawn, ShardSeat};
 
@@ -26,7 +26,7 @@ impl<E, K: Judging<E>> Line<E, K> {
         ensures next { IfSome result (λ n. (0 < n) × (n ≤ self.now.capacity)
             × All (λ x. x < n) seat.old.view.plain.filled
             × (notes_up_to (n - 1) seat.old.view.notes ≡ seat.old.view.notes) × (seat.old.view.plain.seen < n)) }
-        ensures limit { IfSome result (λ n. n ≤ MAX_NUMBERS) }
+        ensures limit { IfSome result (λ n. n ≤ 1048576) }
         ensures none { IfNone result (seat.new.view ≡ with_plain seat.old.view (used_up seat.old.view.plain)) }
         ensures spent { seat.old.view.plain.spent ≡ true → result ≡ None }
     {

@@ -35,14 +35,13 @@ pub struct Line<E, K: Judging<E>> {
 impl<E, K: Judging<E>> Model for Line<E, K> {
     ghost use Rattle.std.specs.Prelude.{◌≡◌, ◌+◌, ◌<◌, ◌≤◌};
     ghost use Rattle.line.specs.Seat.{Line};
-    ghost use Rattle.line.specs.declared.line.TheConstants.{MAX_NUMBERS};
 
     ghost Value = { Line };
 
     ghost view = { λ l. record { name = l.table.shared.table_id; capacity = l.capacity } };
 
     ghost invariant = { λ l. (l.table.shared.table_id.words ≡ l.capacity + 2) × (l.table.shared.table_id.slots ≡ 0)
-        × (l.table.shared.key ≡ l.capacity) × (0 < l.capacity) × (l.capacity ≤ MAX_NUMBERS) };
+        × (l.table.shared.key ≡ l.capacity) × (0 < l.capacity) × (l.capacity ≤ 1048576) };
 }
 
 /// A new line with its seats: one for each shard, and one for a first caller.
@@ -74,9 +73,9 @@ impl<E, K: Judging<E>> Line<E, K> {
             × AreShards e.line.name capacity e.shards.items) }
         ensures fresh { IfOk result (λ e. All (λ s. (shard_seat s ≡ new_shard_seat e.line.name) × (s.view.caller ≡ None)) e.shards.items) }
         ensures caller { IfOk result (λ e. (caller_seat e.caller ≡ new_caller_seat e.line.name 0) × (e.caller.view.caller ≡ None) × (e.caller.view.seen ≡ [])) }
-        ensures bad_capacity { IsErrOf result LineError.BadCapacity ↔ ((1 ≤ capacity → MAX_NUMBERS < capacity)) }
+        ensures bad_capacity { IsErrOf result LineError.BadCapacity ↔ ((1 ≤ capacity → 1048576 < capacity)) }
         ensures bad_shards { IsErrOf result LineError.BadShards
-            ↔ ((1 ≤ capacity) × (capacity ≤ MAX_NUMBERS) × (1 ≤ shards → MAX_SHARDS < shards)) }
+            ↔ ((1 ≤ capacity) × (capacity ≤ 1048576) × (1 ≤ shards → 64 < shards)) }
     {
         if capacity == 0 || capacity > MAX_NUMBERS {
             return Err(LineError::BadCapacity);
@@ -148,7 +147,7 @@ fn shard_seats<E, K: Judging<E>>(
     shards: usize,
 ) -> Result<Vec<ShardSeat<E>>, AllocError>
     requires table { IsOf table.now.shared.table_id first.old.table_id first.old.me.0.plain }
-    requires shards { (first.old.me ≡ (first_noted first.old.me.0.plain.capacity, [])) × (shards ≤ MAX_SHARDS) }
+    requires shards { (first.old.me ≡ (first_noted first.old.me.0.plain.capacity, [])) × (shards ≤ 64) }
     ensures first { (first.new.table_id ≡ first.old.table_id) × (first.new.me.1 ≡ []) × ((n : ℕ) × IsCut n first.old.me.0 first.new.me.0) }
     ensures seats { IfOk result (λ v. (vec_len v ≡ shards) × AreShards first.old.table_id first.old.me.0.plain.capacity v.items) }
 {

@@ -93,7 +93,7 @@ impl Steps {
     }
 
     /// Whether there is a step that is none on claims.
-    pub fn has_pod_step(&self) -> bool
+    pub(crate) fn has_pod_step(&self) -> bool
         ensures { result ≡ list_any is_of_pod self.now.list.items }
     {
         have_pod_step(&self.list)

@@ -20,9 +20,7 @@ pub use by_text::judge_printed;
 pub use change::Change;
 pub use change_kind::ChangeKind;
 pub use listing::Listing;
-pub use preconditions::{
-    has_status, is_graceful, texts_conflict_with, uid_precondition, version_precondition,
-};
+pub use preconditions::{has_status, uid_precondition, version_precondition};
 pub use reply::{Reason, Reply};
 pub use request::Request;
 pub use table::{decide, decide_whole, judge};

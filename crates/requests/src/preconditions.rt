@@ -50,7 +50,7 @@ pub(crate) fn conflicts_with(
 }
 
 /// Whether a resource version or a UID is given that is not the text of its number. An empty text counts as none.
-pub fn texts_conflict_with(
+pub(crate) fn texts_conflict_with(
     version: Option<&str>,
     uid: Option<&str>,
     revision: u64,
@@ -136,7 +136,7 @@ pub(crate) fn graceful(current: &Object, at: Option<Text>) -> Option<Text>
 }
 
 /// Whether a delete with that time leaves an object of the kind, marked with the time. Only pods are deleted that way.
-pub fn is_graceful(kind: Kind, at: Option<&Text>) -> bool
+pub(crate) fn is_graceful(kind: Kind, at: Option<&Text>) -> bool
     ensures { result ≡ is_some (graceful kind (option_copied at.entry)) }
 {
     match kind {

@@ -32,7 +32,7 @@ pub(crate) fn read_revision(revision: &Object) -> RevisionView<'_>
 
 impl<'a> RevisionView<'a> {
     /// `data`, which never changes: what pods are made from.
-    pub fn data(&self) -> Option<&'a Tree>
+    pub(crate) fn data(&self) -> Option<&'a Tree>
         ensures { option_map (λ t. data_of t.now) result ≡ data_in self.now.object.now }
     {
         self.object.member("data")

@@ -24,7 +24,6 @@ pub use caller::Caller;
 pub use error::StoreError;
 pub use gate::{Gate, NoGate};
 pub use laws::tickets_stay_their_callers;
-pub use locked::Locked;
 pub use naming::{Naming, Sharding};
 pub use sharing::threads_may_share;
 pub use store::Store;

@@ -36,7 +36,7 @@ use versions::Shard;
 /// Each number above the floor has its record; from the floor on the records read as the notes say, and so does each
 /// key's newest record.
 #[derive(Drop)]
-pub struct Locked<H: Sharding, N: Naming> {
+pub(crate) struct Locked<H: Sharding, N: Naming> {
     seat: ShardSeat<Writing>,
     shard: Shard,
     index: u64,
@@ -60,7 +60,7 @@ impl<H: Sharding, N: Naming> Model for Locked<H, N> {
 
 impl<H: Sharding, N: Naming> Locked<H, N> {
     /// A shard with no writes, over a seat that has drawn no number.
-    pub fn new(alloc: Global, seat: ShardSeat<Writing>, index: u64) -> Locked<H, N>
+    pub(crate) fn new(alloc: Global, seat: ShardSeat<Writing>, index: u64) -> Locked<H, N>
         requires { (seat.line ≡ N.line) × (seat.view.shard ≡ Some index) × (seat.view.caller ≡ None)
             × (seat.view.plain.pending ≡ None) × (seat.view.notes ≡ []) × (seat.view.plain.filled ≡ []) }
         ensures { (result.index ≡ index) × (result.notes ≡ []) × (result.shard ≡ opening) }
@@ -74,14 +74,14 @@ impl<H: Sharding, N: Naming> Locked<H, N> {
     }
 
     /// Which of the shards it is.
-    pub fn index(&self) -> u64
+    pub(crate) fn index(&self) -> u64
         ensures { result ≡ self.now.index }
     {
         self.index
     }
 
     /// The number from which on the shard can be read.
-    pub fn floor(&self) -> u64
+    pub(crate) fn floor(&self) -> u64
         ensures { result ≡ self.now.shard.floor }
     {
         self.shard.floor()
@@ -134,7 +134,7 @@ impl<H: Sharding, N: Naming> Locked<H, N> {
     /// # Errors
     ///
     /// Memory.
-    pub fn get(
+    pub(crate) fn get(
         &mut self,
         line: &Line<Writing, ByShards<H>>,
         caller: &mut Caller<H, N>,
@@ -180,7 +180,7 @@ impl<H: Sharding, N: Naming> Locked<H, N> {
     /// # Errors
     ///
     /// Memory. It is refused before a number is drawn: so none was drawn, and the shard is unchanged.
-    pub fn write<G: Gate>(
+    pub(crate) fn write<G: Gate>(
         &mut self,
         // Not used: it is here because the calls around it have one.
         _rt: &impl Wait,

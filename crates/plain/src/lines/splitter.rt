@@ -2,7 +2,6 @@ ghost use Rattle.std.specs.Prelude.{◌≡◌, ◌+◌, ◌<◌, ◌≤◌, ◌^
 ghost use Rattle.plain.specs.Lines.{lines};
 ghost use Rattle.plain.specs.Served.{answer, answers};
 ghost use Rattle.plain.specs.Splits.{NoFeed, with_pending, LeadsTo, FewBefore};
-ghost use Rattle.plain.specs.declared.lines.splitter.TheConstants.{ENOUGH};
 
 use crate::lines::answer::answer_line;
 use crate::lines::line_reader::LineReader;
@@ -100,7 +99,7 @@ pub(crate) fn answer_piece<'a>(
 ) -> Result<Paused<'a>, Memory>
     requires begun { NoFeed splitter.pending.items }
     requires room { splitter.lines + length splitter.pending.items + length piece.now < 2 ^ 64 }
-    requires few { length splitter.replies.items < ENOUGH }
+    requires few { length splitter.replies.items < 65536 }
     ensures reaches { IfOk result (λ v. LeadsTo
         (record { store = plain.old; waiting = splitter.pending.items ++ piece.now; text = splitter.replies.items; count = splitter.lines })
         (record { store = plain.new; waiting = v.splitter.pending.items ++ v.rest.now; text = v.splitter.replies.items; count = v.splitter.lines })) }
@@ -108,8 +107,8 @@ pub(crate) fn answer_piece<'a>(
     ensures count { IfOk result (λ v.
         v.splitter.lines + length v.splitter.pending.items + length v.rest.now ≤ splitter.lines + length splitter.pending.items + length piece.now) }
     ensures shorter { IfOk result (λ v. 0 < length piece.now → length v.rest.now < length piece.now) }
-    ensures few { IfOk result (λ v. FewBefore ENOUGH v.splitter.replies.items) }
-    ensures enough { IfOk result (λ v. 0 < length v.rest.now → ENOUGH ≤ length v.splitter.replies.items) }
+    ensures few { IfOk result (λ v. FewBefore 65536 v.splitter.replies.items) }
+    ensures enough { IfOk result (λ v. 0 < length v.rest.now → 65536 ≤ length v.splitter.replies.items) }
 {
     let mut rest = piece;
     while let Some(at) = memchr(b'\n', rest) {
