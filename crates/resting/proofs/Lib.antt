@@ -39,3 +39,5 @@ pub mod Alone
 pub mod StatusAgain
 pub mod StatusWritten
 pub mod Expired
+pub mod PodsStay
+pub mod CollectedOnce

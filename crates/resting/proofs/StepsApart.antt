@@ -70,7 +70,7 @@ pods_paired (e ∷ es) sorted =
       pods_paired es tail,
     )
 
-none_passes : {X : Type 0} (p : X → Bool) (xs : List X) (x : X) → list_any p xs ≡ false → Among x xs → p x ≡ false
+pub none_passes : {X : Type 0} (p : X → Bool) (xs : List X) (x : X) → list_any p xs ≡ false → Among x xs → p x ≡ false
 none_passes p [] x none at = absurd at
 none_passes p (y ∷ ys) x none at =
     elim (p y) as (λ b. p y ≡ b → (b || list_any p ys) ≡ false → p x ≡ false) [

@@ -1,12 +1,14 @@
 -- A controller's whole round over a store to which nobody else writes.
-use Rattle.std.specs.Prelude.{◌≡◌, ◌+◌, ◌&&◌, ℕ, Bool, true, false, List, length, None}
+use Rattle.std.specs.Prelude.{◌≡◌, ◌+◌, ◌≤◌, ◌&&◌, ℕ, Bool, true, false, List, [], ◌∷◌, length, None}
 use Rattle.std.specs.FinMap as finite
 use Rattle.std.specs.Option.{option_map_or}
 use Rattle.objects.specs.declared.key.Key.{Key}
 use Rattle.objects.specs.declared.kind.Kind.TheVariants.{PersistentVolumeClaim}
 use Rattle.objects.specs.declared.object.Object.{Object}
 use Rattle.requests.specs.declared.request.Request.{Request}
-use Rattle.collector.specs.Collectable.{is_collectable, is_listed}
+use Rattle.objects.specs.Metadata.{owners_of}
+use Rattle.requests.specs.Lists.{Has as Among}
+use Rattle.collector.specs.Collectable.{HasOwner, is_collectable, is_listed}
 use Rattle.plain_store.specs.AtKey.{Has}
 use Rattle.plain_store.specs.Run.{after}
 use Rattle.plain_store.specs.Store.{Store, is_of}
@@ -38,3 +40,7 @@ is_collected s key o = is_of PersistentVolumeClaim key.namespace o.key && is_col
 pub record IsCollectedOver (key : Key) (before after : Store) : Type 0 where
   pub gone : (k : Key) (o : Object) → Has before k o → is_collected before key o ≡ true → finite.get after.objects k ≡ None
   pub others : (k : Key) → option_map_or (is_collected before key) (finite.get before.objects k) false ≡ false → finite.get after.objects k ≡ finite.get before.objects k
+
+-- No claim in the namespace of that key is owned by another one, and each of its owners has a UID that the store has given.
+abbrev pub OwnNoClaim : Key → Store → Type 0
+OwnNoClaim key s = (o : Object) (n : ℕ) → Among o (listed_in s key PersistentVolumeClaim) → HasOwner n (owners_of o.body) → (n ≤ s.counter) × (is_listed (listed_in s key PersistentVolumeClaim ∷ []) n ≡ false)

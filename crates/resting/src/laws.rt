@@ -4,7 +4,7 @@ ghost use Rattle.std.specs.FinMap as map;
 ghost use Rattle.std.specs.List.{AllByRecursion};
 ghost use Rattle.serde_json.specs.Written.{members_have_float};
 ghost use Rattle.objects.specs.declared.key.Key.{Key};
-ghost use Rattle.objects.specs.declared.kind.Kind.TheVariants.{Pod};
+ghost use Rattle.objects.specs.declared.kind.Kind.TheVariants.{PersistentVolumeClaim, Pod};
 ghost use Rattle.objects.specs.declared.object.Object.{Object};
 ghost use Rattle.requests.specs.declared.request.Request.{Request};
 ghost use Rattle.set_views.specs.Pod.{PodParts};
@@ -15,6 +15,7 @@ ghost use Rattle.pod_steps.specs.Listed.{replicas_in};
 ghost use Rattle.pod_steps.specs.Step.{pod_steps};
 ghost use Rattle.pod_steps.specs.FullSteps.{full_steps};
 ghost use Rattle.pod_steps.specs.Views.{listed_pods};
+ghost use Rattle.collector.specs.Collectable.{collection as collectable};
 ghost use Rattle.sets.specs.Actions.{Claims};
 ghost use Rattle.revisions.specs.History.{expired_revisions};
 ghost use Rattle.manifests.specs.BuiltStatus.{built_status, old_status};
@@ -36,8 +37,8 @@ ghost use Rattle.convergence.specs.Stopped.{IsStopped};
 ghost use Rattle.resting.specs.Accepting.{AreAccepted, DoesAsAlone, IsAcceptable, NameApart};
 ghost use Rattle.resting.specs.Acting.{IsCreated, IsPlannedOver, IsReadIn, IsUnrefusedOver, MayAct, after_both, after_plan, after_steps, planned_requests, views_in};
 ghost use Rattle.resting.specs.Rest.{IsAtRest, RestsOver};
-ghost use Rattle.resting.specs.Still.{IsStill, IsTendedPod, ShowsRest, exchanged_times, plan_over, reads_of_a_round};
-ghost use Rattle.resting.specs.WholeRounds.{EndsRound, IsCollectedOver, after_round, collection_over};
+ghost use Rattle.resting.specs.Still.{IsStill, IsTendedPod, ShowsRest, exchanged_times, listed_in, owners_in, plan_over, reads_of_a_round};
+ghost use Rattle.resting.specs.WholeRounds.{EndsRound, IsCollectedOver, OwnNoClaim, after_round, collection_over};
 ghost use Rattle.resting.specs.RoundsOver.{AreRoundsOver, IsInPlace, IsRoundOver};
 ghost use Rattle.resting.specs.Turns.{IsTurnOver, MayTurn};
 
@@ -141,6 +142,13 @@ pub fn controllers_end_their_rounds()
 pub fn collections_take_ownerless_claims()
     ensures { (key : Key) (digits : ℕ) (moment : List ℕ) (s : Store) → let requests = collection_over (reconciler_with key digits moment) s in
         AreFiled s.objects → s.counter + length requests ≤ s.capacity → IsCollectedOver key s (after s requests) }
+{}
+
+/// And it leaves no claim to collect, if no claim owns another one and each owner has a UID that the store has given. Otherwise
+/// a further collection may find some.
+pub fn collections_leave_no_claim_to_collect()
+    ensures { (key : Key) (digits : ℕ) (moment : List ℕ) (s : Store) → let requests = collection_over (reconciler_with key digits moment) s in let end = after s requests in
+        AreFiled s.objects → s.counter + length requests ≤ s.capacity → OwnNoClaim key s → collectable (listed_in end key PersistentVolumeClaim) (owners_in end key) end.counter ≡ [] }
 {}
 
 /// A plan of at most 1,024 actions whose update revision is in place, carried out in the store that it was made over, does to the
