@@ -40,4 +40,5 @@ pub mod StatusAgain
 pub mod StatusWritten
 pub mod Expired
 pub mod PodsStay
+pub mod ClaimsKept
 pub mod CollectedOnce

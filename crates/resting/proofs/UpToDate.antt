@@ -61,7 +61,7 @@ use Rattle.resting.proofs.PlansOnPods.{deleted_pod, key_at, nothing_there, there
 use Rattle.resting.proofs.RoundsOnPods.{are_claims, claims_there, may_send, replicas_are, sent_is}
 
 -- ---- lists
-found_there : (p : Object → Bool) (xs : List Object) (x : Object) → find p xs ≡ Some x → Among x xs
+pub found_there : (p : Object → Bool) (xs : List Object) (x : Object) → find p xs ≡ Some x → Among x xs
 found_there p [] x is = absurd (cc)
 found_there p (y ∷ ys) x is =
     elim (p y) as (λ b. cond b (Some y) (find p ys) ≡ Some x → Among x (y ∷ ys)) [
@@ -69,14 +69,14 @@ found_there p (y ∷ ys) x is =
       | false ↦ λ e. inr (found_there p ys x e)
     ] is
 
-none_passes : (p : Object → Bool) (xs : List Object) (x : Object) → find p xs ≡ None → Among x xs → p x ≡ false
-none_passes p [] x none at = absurd at
-none_passes p (y ∷ ys) x none at =
+pub none_found : (p : Object → Bool) (xs : List Object) (x : Object) → find p xs ≡ None → Among x xs → p x ≡ false
+none_found p [] x none at = absurd at
+none_found p (y ∷ ys) x none at =
     elim (p y) as (λ b. p y ≡ b → cond b (Some y) (find p ys) ≡ None → p x ≡ false) [
       | true ↦ λ t e. absurd (cc)
       | false ↦ λ t e. elim at [
         | inl is ↦ ap p is ∙ t
-        | inr later ↦ none_passes p ys x e later
+        | inr later ↦ none_found p ys x e later
       ]
     ] refl none
 
@@ -132,13 +132,13 @@ module _ (set : SetParts) (digits : ℕ) (moment : List ℕ) (s : Store) (plan :
   abbrev claims : List ℕ → Option Object
   claims = claims_there set digits moment s plan
 
-  claim_there : (name : List ℕ) (o : Object) → claims name ≡ Some o → Has s o.key o
+  pub claim_there : (name : List ℕ) (o : Object) → claims name ≡ Some o → Has s o.key o
   claim_there name o is =
       let os = collection s.objects kinds.PersistentVolumeClaim space in
       let test : Object → Bool = λ x. in_namespace set kinds.PersistentVolumeClaim x && bytes_eq x.key.name name in
       (listed_there s.objects kinds.PersistentVolumeClaim space o may.filed (contains_among o os (found_there test os o is))).0
 
-  claim_free : (name : List ℕ) → claims name ≡ None → finite.get s.objects (key_parts kinds.PersistentVolumeClaim space name) ≡ None
+  pub claim_free : (name : List ℕ) → claims name ≡ None → finite.get s.objects (key_parts kinds.PersistentVolumeClaim space name) ≡ None
   claim_free name none =
       let os = collection s.objects kinds.PersistentVolumeClaim space in
       let k = key_parts kinds.PersistentVolumeClaim space name in
@@ -152,7 +152,7 @@ module _ (set : SetParts) (digits : ℕ) (moment : List ℕ) (s : Store) (plan :
             let passes : test o ≡ true =
             ap (λ (q : Key). (is_kind kinds.PersistentVolumeClaim q.kind && bytes_eq q.namespace space) && bytes_eq q.name name) key
             ∙ λ j. same_space j && (bytes_eq-Decides name name).1 refl j in
-            absurd (true≢false (sym passes ∙ none_passes test os o none at))
+            absurd (true≢false (sym passes ∙ none_found test os o none at))
       ] refl
 
   of_update : (kept : Bool) (claim : Object) (entries : List Data) → Has s claim.key claim → claim.key.kind ≡ kinds.PersistentVolumeClaim → IfSome (if kept then None else Some (changes.Update (with_owner_entries claim entries))) IsOfClaim

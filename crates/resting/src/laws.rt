@@ -1,14 +1,21 @@
 // When a plan is empty, that a store then stays as it is, and what a plan and a kubelet's turn do to one.
-ghost use Rattle.std.specs.Prelude.{◌≡◌, ◌≢◌, ◌↔◌, ◌⊎◌, ◌+◌, ◌≤◌, ℕ, false, List, [], length, Some, None, Ok};
+ghost use Rattle.std.specs.Prelude.{◌≡◌, ◌≢◌, ◌↔◌, ◌⊎◌, ◌+◌, ◌≤◌, ℕ, false, true, List, [], length, Some, None, Ok};
 ghost use Rattle.std.specs.FinMap as map;
 ghost use Rattle.std.specs.List.{AllByRecursion};
 ghost use Rattle.serde_json.specs.Written.{members_have_float};
 ghost use Rattle.objects.specs.declared.key.Key.{Key};
 ghost use Rattle.objects.specs.declared.kind.Kind.TheVariants.{PersistentVolumeClaim, Pod};
 ghost use Rattle.objects.specs.declared.object.Object.{Object};
+ghost use Rattle.objects.specs.Key.{key_parts};
+ghost use Rattle.objects.specs.PodNames.{claim_name};
 ghost use Rattle.requests.specs.declared.request.Request.{Request};
+ghost use Rattle.requests.specs.Lists.{Has as Among};
+ghost use Rattle.set_views.specs.Claims.{Claim};
 ghost use Rattle.set_views.specs.Pod.{PodParts};
+ghost use Rattle.set_views.specs.Predicates.{in_range};
 ghost use Rattle.set_views.specs.Set.{SetParts};
+ghost use Rattle.claims.specs.Changes.{entries_of};
+ghost use Rattle.claims.specs.Owners.{are_wanted, owner_in_range};
 ghost use Rattle.pod_steps.specs.declared.replica.Replica.{Replica};
 ghost use Rattle.pod_steps.specs.Replicas.{AreInOrder, Pods, pod_at};
 ghost use Rattle.pod_steps.specs.Listed.{replicas_in};
@@ -16,7 +23,7 @@ ghost use Rattle.pod_steps.specs.Step.{pod_steps};
 ghost use Rattle.pod_steps.specs.FullSteps.{full_steps};
 ghost use Rattle.pod_steps.specs.Views.{listed_pods};
 ghost use Rattle.collector.specs.Collectable.{collection as collectable};
-ghost use Rattle.sets.specs.Actions.{Claims};
+ghost use Rattle.sets.specs.Actions.{Claims, name_at};
 ghost use Rattle.revisions.specs.History.{expired_revisions};
 ghost use Rattle.manifests.specs.BuiltStatus.{built_status, old_status};
 ghost use Rattle.sets.specs.FullPlan.{current_name, full_plan, status_of};
@@ -26,6 +33,7 @@ ghost use Rattle.rounds.specs.Kubelet.{turn_requests_of};
 ghost use Rattle.plain_store.specs.AtKey.{Has};
 ghost use Rattle.plain_store.specs.Filed.{AreFiled};
 ghost use Rattle.plain_store.specs.Run.{after};
+ghost use Rattle.plain_store.specs.StatusWrites.{HasMembers};
 ghost use Rattle.plain_store.specs.Store.{Store, collection};
 ghost use Rattle.rounds.specs.Phase.{listing_old_claims, reading_set};
 ghost use Rattle.rounds.specs.Reconciler.{Reconciler};
@@ -176,6 +184,15 @@ pub fn plans_write_the_status()
         → moment ≢ [] → MayAct set most_actions s → IsReadIn s set → members_have_float (old_status set) ≡ false
         → IsReadIn (after_plan set digits moment s) next → next.object.key ≡ set.object.key
         → built_status next (status_of set plan.pods (current_name set plan.pods plan.current plan.update) plan.update.key.name) ≡ None }
+{}
+
+/// If the pods stand, each claim of an ordinal in range that is there after a plan has the owners that it is to have: the next
+/// plan updates none of them.
+pub fn plans_give_claims_their_owners()
+    ensures { (set : SetParts) (digits : ℕ) (moment : List ℕ) (s : Store) (plan : IsPlannedOver set digits s)
+        → moment ≢ [] → MayAct set most_actions s → IsReadIn s set → Stands set plan.pods → (i : ℕ) (template : Claim) (claim : Object) → in_range set i ≡ true → Among template set.claims
+        → Has (after_plan set digits moment s) (key_parts PersistentVolumeClaim set.object.key.namespace (claim_name template.0 set.object.key.name i)) claim → HasMembers claim.body
+        → are_wanted set (name_at set i) (owner_in_range set) (entries_of claim) ≡ true }
 {}
 
 /// If a plan creates, deletes and waits for no pod, it removes each revision that has expired.
