@@ -40,5 +40,10 @@ pub mod StatusAgain
 pub mod StatusWritten
 pub mod Expired
 pub mod PodsStay
+pub mod HistoryKept
+pub mod CurrentAgain
+pub mod CountsAgain
 pub mod ClaimsKept
+pub mod RestAgain
+pub mod RestRounds
 pub mod CollectedOnce

@@ -73,7 +73,15 @@ flat_plain : (g : ℕ × Replica → List Step) (es : Pods) → ((e : ℕ × Rep
 flat_plain g [] each = refl
 flat_plain g (e ∷ es) each = λ j. each e j ++ flat_plain g es each j
 
-asked_plain : (g : Replica → Bool) (here : Option Replica) → ((pod : Replica) → g (plain pod) ≡ g pod) → option_map_or g (option_map plain here) false ≡ option_map_or g here false
+pub none_plain : (here : Option Replica) → option_map plain here ≡ None → here ≡ None
+none_plain None is = refl
+none_plain (Some pod) is = absurd (cc)
+
+pub some_plain : (here : Option Replica) (y : Replica) → option_map plain here ≡ Some y → (pod : Replica) × (here ≡ Some pod) × (plain pod ≡ y)
+some_plain None y is = absurd (cc)
+some_plain (Some pod) y is = (pod, refl, (cc))
+
+pub asked_plain : (g : Replica → Bool) (here : Option Replica) → ((pod : Replica) → g (plain pod) ≡ g pod) → option_map_or g (option_map plain here) false ≡ option_map_or g here false
 asked_plain g None each = refl
 asked_plain g (Some pod) each = each pod
 

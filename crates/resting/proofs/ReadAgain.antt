@@ -43,6 +43,9 @@ pub record IsReadLike (set : SetParts) (p : Object) (now : SetParts) : Type 0 wh
   pub alike : IsAlike set now
   pub template : now.template ≡ set.template
   pub collisions : now.collisions ≡ set.collisions
+  pub claims : now.claims ≡ set.claims
+  pub when_deleted : now.when_deleted ≡ set.when_deleted
+  pub history_limit : now.history_limit ≡ set.history_limit
 
 pub read_again : (o p : Object) (set : SetParts) → set_of o ≡ Ok set → ReadsAlike o p → (now : SetParts) × IsReadLike set p now
 unfolding set_of
@@ -68,6 +71,9 @@ read_again o p set is a =
         };
         template = ap (λ (x : SetParts). x.template) same;
         collisions = ap (λ (x : SetParts). x.collisions) same;
+        claims = ap (λ (x : SetParts). x.claims) same;
+        when_deleted = ap (λ (x : SetParts). x.when_deleted) same;
+        history_limit = ap (λ (x : SetParts). x.history_limit) same;
       },
     )
 

@@ -90,7 +90,7 @@ module _ (set : SetParts) (update : List ℕ) (digits : ℕ) (s t : Store) (roun
         | inr none ↦ let clash : None ≡ Some o = sym none ∙ (sym (through o.key kind) ∙ here) in absurd (cc)
       ]
 
-  filed_then : AreFiled t.objects
+  pub filed_then : AreFiled t.objects
   filed_then =
       let P : Store → Type 0 = λ x. AreFiled x.objects in
       subst P (sym round.left) (filed_run round.between (turn_requests_of (collection round.between.objects Pod space)) round.may_turn.filed)
@@ -99,7 +99,7 @@ module _ (set : SetParts) (update : List ℕ) (digits : ℕ) (s t : Store) (roun
     read_then : IsAlike now next × (next.template ≡ now.template)
     read_then = read_as_before now next round.is_read.read t (like_then set update update digits s t round) is_read (key ∙ sym round.key_is)
 
-    alike : IsAlike now next
+    pub alike : IsAlike now next
     alike = read_then.0
 
     template : next.template ≡ now.template
@@ -111,12 +111,12 @@ module _ (set : SetParts) (update : List ℕ) (digits : ℕ) (s t : Store) (roun
     abbrev owned_now : List Object
     owned_now = owned_of now (revisions_in s now)
 
-    part : (o : Object) → Among o owned_then → Among o owned_now
+    pub part : (o : Object) → Among o owned_then → Among o owned_now
     part o at =
         let is = owned_there t next filed_then o at in
         there_owned s now round.may_act.filed o (owned_back s t now next o alike is (was_there o (kind_of next.object.key.namespace o.key is.1) is.0))
 
-    update_then : Among chosen owned_then
+    pub update_then : Among chosen owned_then
     update_then =
         there_owned t next filed_then chosen
         (owned_by s t now next chosen alike (update_there now digits round.moment s round.plan round.is_time round.may_act round.is_read.there round.is_read.read) update_here)

@@ -48,10 +48,10 @@ use Rattle.resting.specs.Still.{plan_over}
 use Rattle.resting.specs.WholeRounds.{EndsRound, after_round, collection_over}
 use Rattle.resting.proofs.AcceptedPlans.{all_are_accepted}
 use Rattle.resting.proofs.Collections.{others_stay, same_found_at}
-use Rattle.resting.proofs.PlainPods.{all_plain, as_many, at_plain, healthy_plain, plain, plain_in_order, steps_alike, steps_plain}
+use Rattle.resting.proofs.PlainPods.{all_plain, as_many, at_plain, healthy_plain, none_plain, plain, plain_in_order, some_plain, steps_alike, steps_plain}
 use Rattle.resting.proofs.PlanOnSet.{on_status_alone}
 use Rattle.resting.proofs.PlansOnPods.{filed_run}
-use Rattle.resting.proofs.ReadAgain.{IsLike, IsOnStatus, like_itself, read_again, stays_like}
+use Rattle.resting.proofs.ReadAgain.{IsLike, IsOnStatus, IsReadLike, like_itself, read_again, stays_like}
 use Rattle.resting.proofs.RoundsOnPods.{replicas_are, round_at}
 use Rattle.resting.proofs.Turns.{turn_is_over}
 use Rattle.resting.proofs.TurnsOnPods.{at_store, found_at, own, own_at, turn_at}
@@ -107,15 +107,18 @@ pub same_parts : (a b : SetParts) → ◌≡◌ {A = Result SetParts PlanError} 
 same_parts a b e = cc
 
 -- the set that is read in a store like the one before is as it was
-pub read_as_before : (now next : SetParts) (is : set_of now.object ≡ Ok now) (t : Store) → IsLike now is t → IsReadIn t next → next.object.key ≡ now.object.key
-    → IsAlike now next × (next.template ≡ now.template)
-read_as_before now next is t like here keys =
+pub read_like_before : (now next : SetParts) (is : set_of now.object ≡ Ok now) (t : Store) → IsLike now is t → IsReadIn t next → next.object.key ≡ now.object.key → IsReadLike now next.object next
+read_like_before now next is t like here keys =
     let again = read_again now.object like.0 now is like.2 in
     let object : like.0 ≡ next.object = same_Some like.0 next.object (sym like.1 ∙ (ap (finite.get t.objects) (sym keys) ∙ here.there)) in
     let same : again.0 ≡ next = same_parts again.0 next (sym again.1.read ∙ (ap set_of object ∙ here.read)) in
-    let P : SetParts → Type 0 = λ x. IsAlike now x in
-    let Q : SetParts → Type 0 = λ x. x.template ≡ now.template in
-    (subst P same again.1.alike, subst Q same again.1.template)
+    let P : SetParts → Type 0 = λ x. IsReadLike now next.object x in
+    let Q : Object → Type 0 = λ o. IsReadLike now o again.0 in
+    subst P same (subst Q object again.1)
+
+pub read_as_before : (now next : SetParts) (is : set_of now.object ≡ Ok now) (t : Store) → IsLike now is t → IsReadIn t next → next.object.key ≡ now.object.key
+    → IsAlike now next × (next.template ≡ now.template)
+read_as_before now next is t like here keys = let again = read_like_before now next is t like here keys in (again.alike, again.template)
 
 pub alike_as_is : (set : SetParts) → IsAlike set set
 alike_as_is set = record { key = refl; uid = refl; start = refl; replicas = refl; policy = refl; strategy = refl }
@@ -140,7 +143,7 @@ found_is : (set : SetParts) (s : Store) (i : ℕ) → found_at set s i ≡ found
 unfolding views_of
 found_is set s i = refl
 
-same_found : (set now : SetParts) (s : Store) (i : ℕ) → IsAlike set now → found_at now s i ≡ found_at set s i
+pub same_found : (set now : SetParts) (s : Store) (i : ℕ) → IsAlike set now → found_at now s i ≡ found_at set s i
 same_found set now s i alike = found_is now s i ∙ (ap (λ (k : Key). found_under k s i) alike.key ∙ sym (found_is set s i))
 
 own_plain : (y : Replica) → option_map plain (own (Some y)) ≡ own (Some (plain y))
@@ -171,7 +174,7 @@ module _ (set : SetParts) (update current : List ℕ) (digits : ℕ) where
   same_own now u c (Some pod) alike is =
       own_plain (replica_of now u c pod) ∙ (ap (λ z. own (Some z)) (same_replica now u c pod alike is) ∙ sym (own_plain (replica_of set update current pod)))
 
-  seen_by : (now : SetParts) (u c : List ℕ) (s : Store) (i : ℕ) → IsAlike set now → u ≡ update → option_map plain (own_at now u c s i) ≡ seen s i
+  pub seen_by : (now : SetParts) (u c : List ℕ) (s : Store) (i : ℕ) → IsAlike set now → u ≡ update → option_map plain (own_at now u c s i) ≡ seen s i
   seen_by now u c s i alike is =
       ap (λ found. option_map plain (own (option_map (replica_of now u c) found))) (same_found set now s i alike) ∙ same_own now u c (found_at set s i) alike is
 
@@ -300,14 +303,6 @@ module _ (set : SetParts) (update current : List ℕ) (digits : ℕ) where
       )
 
   -- ---- back to pods as they are
-  none_plain : (here : Option Replica) → option_map plain here ≡ None → here ≡ None
-  none_plain None is = refl
-  none_plain (Some pod) is = absurd (cc)
-
-  some_plain : (here : Option Replica) (y : Replica) → option_map plain here ≡ Some y → (pod : Replica) × (here ≡ Some pod) × (plain pod ≡ y)
-  some_plain None y is = absurd (cc)
-  some_plain (Some pod) y is = (pod, refl, (cc))
-
   stands_then : (last : Pods) → Stands set (all_plain last) → Stands set last
   stands_then last stands = record {
     healthy = λ i within. sym (healthy_plain set last i) ∙ stands.healthy i within;

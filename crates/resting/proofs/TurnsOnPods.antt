@@ -119,7 +119,7 @@ is_called set i k = option_map_or (λ (j : ℕ). i == j) (option_and_then (λ (x
 
 module _ (set : SetParts) (s t : Store) (filed : AreFiled s.objects) (turn : IsTurnOver set.object.key.namespace s t) where
   -- what is there afterwards was there before, not marked
-  was_there : (k : Key) (p : Object) → is_of Pod set.object.key.namespace k ≡ true → Has t k p → (o : Object) × Has s k o × (is_some o.meta.deletion ≡ false) × IsMadeReady o p
+  pub was_there : (k : Key) (p : Object) → is_of Pod set.object.key.namespace k ≡ true → Has t k p → (o : Object) × Has s k o × (is_some o.meta.deletion ≡ false) × IsMadeReady o p
   was_there k p of here =
       elim (finite.get s.objects k) as (λ x. finite.get s.objects k ≡ x → TendsTo x (finite.get t.objects k) → (o : Object) × Has s k o × (is_some o.meta.deletion ≡ false) × IsMadeReady o p) [
         | None ↦ λ h gone. let clash : None ≡ Some p = sym gone ∙ here in absurd (cc)
@@ -133,7 +133,7 @@ module _ (set : SetParts) (s t : Store) (filed : AreFiled s.objects) (turn : IsT
             ] refl
       ] refl (turn.pods k of)
 
-  still_filed : AreFiled t.objects
+  pub still_filed : AreFiled t.objects
   still_filed k p here =
       elim (is_of Pod set.object.key.namespace k) as (λ b. is_of Pod set.object.key.namespace k ≡ b → p.key ≡ k) [
         | true ↦ λ of. let w = was_there k p of here in w.3.key ∙ filed k w.0 w.1

@@ -178,52 +178,64 @@ module _ (set : SetParts) (digits : ℕ) (moment : List ℕ) (s : Store) (plan :
   update_kind : plan.update.key.kind ≡ kinds.ControllerRevision
   update_kind = kind_of space plan.update.key update_there.1
 
-  not_expired : (o : Object) → Among o (expired_revisions set (views_in set s) name plan.update.key.name plan.owned) → o.key.name ≢ plan.update.key.name
-  not_expired o at same =
+  -- what is live has not expired
+  pub live_stays : (o : Object) → Among o (expired_revisions set (views_in set s) name plan.update.key.name plan.owned) → is_live set (views_in set s) name plan.update.key.name o.key.name ≡ true → ⊥
+  live_stays o at live =
       let old = history set (views_in set s) name plan.update.key.name plan.owned in
       let f = filtered (λ x. not (is_live set (views_in set s) name plan.update.key.name x.key.name)) o plan.owned (among_taken (length old - set.history_limit) old o at) in
-      let live : is_live set (views_in set s) name plan.update.key.name o.key.name ≡ true =
-      ap (λ b. has_pod set (views_in set s) o.key.name || (b || bytes_eq o.key.name name)) ((bytes_eq-Decides o.key.name plan.update.key.name).1 same)
-      ∙ or_true (has_pod set (views_in set s) o.key.name) (bytes_eq o.key.name name) in
       true≢false (sym f.1 ∙ ap not live)
 
-  in_gone : (b : Bool) (a : Action) → Among a (if b then [] else map deletion (expired_revisions set (views_in set s) name plan.update.key.name plan.owned)) → target set a ≢ plan.update.key
-  in_gone true a at same = absurd at
-  in_gone false a at same =
-      let m = in_map deletion (expired_revisions set (views_in set s) name plan.update.key.name plan.owned) a at in
-      not_expired m.0 m.1 (ap (λ (x : Action). (target set x).name) (sym m.2) ∙ ap (λ (q : Key). q.name) same)
+  not_expired : (o : Object) → Among o (expired_revisions set (views_in set s) name plan.update.key.name plan.owned) → o.key.name ≢ plan.update.key.name
+  not_expired o at same =
+      live_stays o at
+      (ap (λ b. has_pod set (views_in set s) o.key.name || (b || bytes_eq o.key.name name)) ((bytes_eq-Decides o.key.name plan.update.key.name).1 same)
+      ∙ or_true (has_pod set (views_in set s) o.key.name) (bytes_eq o.key.name name))
 
-  not_at_place : (p : Bool) (i : ℕ) (q : Key) → IsPlaceBy set p i q → q ≢ plan.update.key
-  not_at_place true i q at same = let clash : kinds.Pod ≡ kinds.ControllerRevision = ap (λ (x : Key). x.kind) (sym at ∙ same) ∙ update_kind in absurd (cc)
-  not_at_place false i q at same = let clash : kinds.PersistentVolumeClaim ≡ kinds.ControllerRevision = ap (λ (x : Key). x.kind) (sym at.1 ∙ same) ∙ update_kind in absurd (cc)
+  -- ---- a revision that has not expired
+  abbrev expired : List Object
+  expired = expired_revisions set (views_in set s) name plan.update.key.name plan.owned
 
-  spares_update : (a : Action) → Among a full → target set a ≢ plan.update.key
-  unfolding full_plan
-  spares_update a at =
-      let all = full_steps set plan.pods in
-      let done = flat_map (actions_of set claims plan.current plan.update) all in
-      let gone = deletions set (views_in set s) plan.owned name plan.update.key.name all in
-      let status = status_write set (status_of set plan.pods name plan.update.key.name) in
-      let shown = replicas_are set digits moment s plan in
-      let sorted = replicas_in_order set plan.update.key.name plan.current.key.name (views_in set s) plan.pods shown in
-      elim (among_either a (done ++ gone) status at) [
-        | inr last ↦ λ same.
-            let clash : kinds.StatefulSet ≡ kinds.ControllerRevision = sym may.kind ∙ (ap (λ (q : Key). q.kind) (sym ((of_status set (status_of set plan.pods name plan.update.key.name)).1 a last) ∙ same) ∙ update_kind) in
-            absurd (cc)
-        | inl before ↦ elim (among_either a done gone before) [
-          | inr there ↦ in_gone (list_any is_of_pod all) a there
-          | inl here ↦
-              let m = in_flat (actions_of set claims plan.current plan.update) all a here in
-              let low : ordinal_of m.0 ≤ most_ordinal =
-              known_low set digits moment s plan some may is_there is_read (ordinal_of m.0) (among_all (λ x. IsKnown set plan.pods (ordinal_of x)) all m.0 (steps_known set plan.pods sorted) m.1) in
-              not_at_place (is_of_pod m.0) (ordinal_of m.0) (target set a)
-              ((of_step set claims (claim_key_is set (listed_in s set.object.key kinds.PersistentVolumeClaim)) (distinct set digits moment s plan some may is_there is_read) plan.current plan.update m.0 low).1 a m.2)
+  module _ (spared : Object) (kind : spared.key.kind ≡ kinds.ControllerRevision) (other : (o : Object) → Among o expired → o.key.name ≢ spared.key.name) where
+    in_gone : (b : Bool) (a : Action) → Among a (if b then [] else map deletion expired) → target set a ≢ spared.key
+    in_gone true a at same = absurd at
+    in_gone false a at same =
+        let m = in_map deletion expired a at in
+        other m.0 m.1 (ap (λ (x : Action). (target set x).name) (sym m.2) ∙ ap (λ (q : Key). q.name) same)
+
+    not_at_place : (p : Bool) (i : ℕ) (q : Key) → IsPlaceBy set p i q → q ≢ spared.key
+    not_at_place true i q at same = let clash : kinds.Pod ≡ kinds.ControllerRevision = ap (λ (x : Key). x.kind) (sym at ∙ same) ∙ kind in absurd (cc)
+    not_at_place false i q at same = let clash : kinds.PersistentVolumeClaim ≡ kinds.ControllerRevision = ap (λ (x : Key). x.kind) (sym at.1 ∙ same) ∙ kind in absurd (cc)
+
+    spares : (a : Action) → Among a full → target set a ≢ spared.key
+    unfolding full_plan
+    spares a at =
+        let all = full_steps set plan.pods in
+        let done = flat_map (actions_of set claims plan.current plan.update) all in
+        let gone = deletions set (views_in set s) plan.owned name plan.update.key.name all in
+        let status = status_write set (status_of set plan.pods name plan.update.key.name) in
+        let shown = replicas_are set digits moment s plan in
+        let sorted = replicas_in_order set plan.update.key.name plan.current.key.name (views_in set s) plan.pods shown in
+        elim (among_either a (done ++ gone) status at) [
+          | inr last ↦ λ same.
+              let clash : kinds.StatefulSet ≡ kinds.ControllerRevision = sym may.kind ∙ (ap (λ (q : Key). q.kind) (sym ((of_status set (status_of set plan.pods name plan.update.key.name)).1 a last) ∙ same) ∙ kind) in
+              absurd (cc)
+          | inl before ↦ elim (among_either a done gone before) [
+            | inr there ↦ in_gone (list_any is_of_pod all) a there
+            | inl here ↦
+                let m = in_flat (actions_of set claims plan.current plan.update) all a here in
+                let low : ordinal_of m.0 ≤ most_ordinal =
+                known_low set digits moment s plan some may is_there is_read (ordinal_of m.0) (among_all (λ x. IsKnown set plan.pods (ordinal_of x)) all m.0 (steps_known set plan.pods sorted) m.1) in
+                not_at_place (is_of_pod m.0) (ordinal_of m.0) (target set a)
+                ((of_step set claims (claim_key_is set (listed_in s set.object.key kinds.PersistentVolumeClaim)) (distinct set digits moment s plan some may is_there is_read) plan.current plan.update m.0 low).1 a m.2)
+          ]
         ]
-      ]
+
+    pub elsewhere_of : AllByRecursion (IsElsewhere spared.key) (planned_requests set digits moment s)
+    elsewhere_of =
+        subst (AllByRecursion (IsElsewhere spared.key)) (sym (sent_is set digits moment s plan))
+        (all_among (IsElsewhere spared.key) (requests_of space moment full) (λ r at same.
+        let m = in_requests space moment full r at in
+        spares m.0 m.1 (sym (same_Some spared.key (target set m.0) (same ∙ (of_action set moment m.0).0 r m.2)))))
 
   pub update_elsewhere : AllByRecursion (IsElsewhere plan.update.key) (planned_requests set digits moment s)
-  update_elsewhere =
-      subst (AllByRecursion (IsElsewhere plan.update.key)) (sym (sent_is set digits moment s plan))
-      (all_among (IsElsewhere plan.update.key) (requests_of space moment full) (λ r at same.
-      let m = in_requests space moment full r at in
-      spares_update m.0 m.1 (sym (same_Some plan.update.key (target set m.0) (same ∙ (of_action set moment m.0).0 r m.2)))))
+  update_elsewhere = elsewhere_of plan.update update_kind not_expired

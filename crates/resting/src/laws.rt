@@ -4,7 +4,7 @@ ghost use Rattle.std.specs.FinMap as map;
 ghost use Rattle.std.specs.List.{AllByRecursion};
 ghost use Rattle.serde_json.specs.Written.{members_have_float};
 ghost use Rattle.objects.specs.declared.key.Key.{Key};
-ghost use Rattle.objects.specs.declared.kind.Kind.TheVariants.{PersistentVolumeClaim, Pod};
+ghost use Rattle.objects.specs.declared.kind.Kind.TheVariants.{ControllerRevision, PersistentVolumeClaim, Pod};
 ghost use Rattle.objects.specs.declared.object.Object.{Object};
 ghost use Rattle.objects.specs.Key.{key_parts};
 ghost use Rattle.objects.specs.PodNames.{claim_name};
@@ -224,4 +224,15 @@ pub fn sets_come_to_stand_in_stores()
         → AreRoundsOver set digits k s t → (update : Object) × IsInPlace set digits update s × ((current : List ℕ) (pods last : Pods)
         → replicas_in set update.key.name current (views_in set s) ≡ Ok pods → replicas_in set update.key.name current (views_in set t) ≡ Ok last
         → most_rounds set pods + 1 ≤ k → Stands set last ⊎ ((set.policy ≡ Policy.OrderedReady) × IsStopped set pods)) }
+{}
+
+/// One round more then leaves the set at rest, whatever the owners of claims, the history and the status were: the set that is read
+/// after it has none of them to change. Before it the pods stand, each as a kubelet's turn leaves it, and the update revision is in
+/// place. The status had no fraction, and the next plan is not refused.
+pub fn sets_that_stand_come_to_rest()
+    ensures { (set : SetParts) (update : Object) (digits : ℕ) (s t : Store) (current : List ℕ) (pods : Pods) → let key = set.object.key in
+        IsReadIn s set → IsInPlace set digits update s → IsRoundOver set digits s t → replicas_in set update.key.name current (views_in set s) ≡ Ok pods → Stands set pods
+        → AllByRecursion IsTendedPod (listed_in s key Pod) → members_have_float (old_status set) ≡ false
+        → (next : SetParts) → IsReadIn t next → next.object.key ≡ key → IsUnrefusedOver next digits t
+        → RestsOver next digits (listed_in t key ControllerRevision) (listed_in t key Pod) (listed_in t key PersistentVolumeClaim) }
 {}
