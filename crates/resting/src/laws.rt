@@ -236,3 +236,15 @@ pub fn sets_that_stand_come_to_rest()
         → (next : SetParts) → IsReadIn t next → next.object.key ≡ key → IsUnrefusedOver next digits t
         → RestsOver next digits (listed_in t key ControllerRevision) (listed_in t key Pod) (listed_in t key PersistentVolumeClaim) }
 {}
+
+/// So two rounds for each replica, one for each condemned pod and two more bring a set to rest, whatever its pods, claims, history and
+/// status were, unless a failed pod stops it. Before them the update revision is in place; meanwhile nobody else writes, and no
+/// plan is refused; at the end no claim is left to collect. Then each further round only reads (`stores_of_sets_at_rest_stay`).
+pub fn sets_come_to_rest_in_stores()
+    ensures { (set : SetParts) (update : Object) (digits k : ℕ) (s t u : Store) (current : List ℕ) (pods last : Pods) → let key = set.object.key in
+        IsReadIn s set → IsInPlace set digits update s → AreRoundsOver set digits k s t
+        → replicas_in set update.key.name current (views_in set s) ≡ Ok pods → replicas_in set update.key.name current (views_in set t) ≡ Ok last → most_rounds set pods + 1 ≤ k
+        → (round : IsRoundOver set digits t u) → members_have_float (old_status round.now) ≡ false
+        → (next : SetParts) → IsReadIn u next → next.object.key ≡ key → IsUnrefusedOver next digits u → collectable (listed_in u key PersistentVolumeClaim) (owners_in u key) u.counter ≡ []
+        → ShowsRest key digits u ⊎ ((set.policy ≡ Policy.OrderedReady) × IsStopped set pods) }
+{}
