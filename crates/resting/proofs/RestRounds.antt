@@ -107,12 +107,11 @@ module _ (set : SetParts) (current : List ℕ) (digits : ℕ) (chosen : Object) 
     none_left = none;
   }
 
-  pub come_to_rest : (k : ℕ) (s t u : Store) (pods last : Pods) → IsReadIn s set → IsInPlace set digits chosen s → AreRoundsOver set digits k s t
+  pub come_to_rest : (k : ℕ) (s t u : Store) (pods last : Pods) → IsHere set update current digits s → IsInPlace set digits chosen s → AreRoundsOver set digits k s t
       → replicas_in set update current (views_in set s) ≡ Ok pods → replicas_in set update current (views_in set t) ≡ Ok last → most_rounds set pods + 1 ≤ k
       → (round : IsRoundOver set digits t u) → members_have_float (old_status round.now) ≡ false → (next : SetParts) → IsReadIn u next → next.object.key ≡ set.object.key → IsUnrefusedOver next digits u
       → collectable (listed_in u set.object.key PersistentVolumeClaim) (owners_in u set.object.key) u.counter ≡ [] → ShowsRest set.object.key digits u ⊎ ((set.policy ≡ OrderedReady) × IsStopped set pods)
-  come_to_rest k s t u pods last read at rounds first end enough round whole next is_read key unrefused none =
-      let here : IsHere set update current digits s = (set, read, alike_as_is set) in
+  come_to_rest k s t u pods last here at rounds first end enough round whole next is_read key unrefused none =
       let kept = here_last k s t here at rounds in
       elim (stand_over set current digits chosen k s t pods last here at rounds first end enough) [
         | inl stands ↦
