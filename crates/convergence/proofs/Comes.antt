@@ -42,15 +42,25 @@ from_free set pods last (suc k) sorted free rounds enough =
     let fewer = next_is_no_more set pods rounds.0 sorted round in
     down set rounds.0 last k round.in_order (next_are_tended set pods rounds.0 round) (λ policy. next_is_unstopped set pods rounds.0 sorted round (free policy)) rounds.2 (omega (arith, few, fewer, enough))
 
-pub comes_to_stand : (set : SetParts) (pods last : Pods) (k : ℕ) → AreInOrder pods → AreRounds set k pods last → most_rounds set pods + 1 ≤ k → Stands set last ⊎ ((set.policy ≡ OrderedReady) × IsStopped set pods)
-comes_to_stand set pods last k sorted rounds enough =
+-- either nothing stops a scale-down, or a failed pod stops it for good
+unless_stopped : (set : SetParts) (pods last : Pods) → AreInOrder pods → (IsFree set pods → Stands set last) → Stands set last ⊎ ((set.policy ≡ OrderedReady) × IsStopped set pods)
+unless_stopped set pods last sorted comes =
     elim (set.policy) as (λ (p : Policy). set.policy ≡ p → Stands set last ⊎ ((set.policy ≡ OrderedReady) × IsStopped set pods)) [
       | OrderedReady ↦ λ policy. elim (stopped_or_not set pods sorted) [
         | inl stopped ↦ inr (policy, stopped)
-        | inr free ↦ inl (from_free set pods last k sorted (λ _. free) rounds enough)
+        | inr free ↦ inl (comes (λ _. free))
       ]
-      | Parallel ↦ λ policy. inl (from_free set pods last k sorted (λ other. absurd (cc)) rounds enough)
+      | Parallel ↦ λ policy. inl (comes (λ other. absurd (cc)))
     ] refl
+
+pub comes_to_stand : (set : SetParts) (pods last : Pods) (k : ℕ) → AreInOrder pods → AreRounds set k pods last → most_rounds set pods + 1 ≤ k → Stands set last ⊎ ((set.policy ≡ OrderedReady) × IsStopped set pods)
+comes_to_stand set pods last k sorted rounds enough = unless_stopped set pods last sorted (λ free. from_free set pods last k sorted free rounds enough)
+
+-- from pods as a kubelet's turn leaves them it takes one round less
+pub tended_come_to_stand : (set : SetParts) (pods last : Pods) (k : ℕ) → AreInOrder pods → AreTended pods → AreRounds set k pods last → most_rounds set pods ≤ k → Stands set last ⊎ ((set.policy ≡ OrderedReady) × IsStopped set pods)
+tended_come_to_stand set pods last k sorted are rounds enough =
+    let few = few_left set pods in
+    unless_stopped set pods last sorted (λ free. down set pods last k sorted are free rounds (omega (arith, few, enough)))
 
 -- under OrderedReady each round counts
 pub exactly : (set : SetParts) (pods last : Pods) (k : ℕ) → AreInOrder pods → set.policy ≡ OrderedReady → AreTended pods → IsUnstopped set pods → AreRounds set k pods last → rounds_left set last ≡ rounds_left set pods - k
