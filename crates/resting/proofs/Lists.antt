@@ -77,10 +77,10 @@ ready_unless_failed Failed starting h = absurd (cc)
 is_tended_as : (set : SetParts) (update current : List ℕ) (pod : PodParts) → IsTendedView pod → IsTended (replica_of set update current pod)
 is_tended_as set update current pod view = record { staying = view.0; ready = λ h. ready_unless_failed pod.readiness view.1 h }
 
-tended_over : (set : SetParts) (update current : List ℕ) (pods : List Object) (replicas : Pods) → AllByRecursion IsTendedPod (listed_pods set pods) → fitting_pods set update current (views_of set pods) ≡ Ok replicas → AreTended replicas
+pub tended_over : (set : SetParts) (update current : List ℕ) (pods : List Object) (replicas : Pods) → AllByRecursion IsTendedPod (listed_pods set pods) → replicas_in set update current (views_of set pods) ≡ Ok replicas → AreTended replicas
 unfolding views_of
 tended_over set update current pods replicas all e i y here =
-    let r = is_listed set update current (views_of set pods) replicas i y (over_fitting set update current (views_of set pods) replicas e) here in
+    let r = is_listed set update current (views_of set pods) replicas i y e here in
     let view = tended_found (is_named set i) (listed_pods set pods) r.0 all r.1 in
     let P : Replica → Type 0 = λ x. IsTended x in
     subst P r.2 (is_tended_as set update current r.0 view)
@@ -141,7 +141,7 @@ unfolding plan_by
 rests set digits revisions pods claims (Ok (created o)) seen is e = absurd (written_is_some set (views_of set pods) (WriteRevision o) e)
 rests set digits revisions pods claims (Ok (renumbered o)) seen is e = absurd (written_is_some set (views_of set pods) (WriteRevision o) e)
 rests set digits revisions pods claims (Ok (settled owned current update)) seen is e =
-    let r = rest_of_pods set (listed_claim set claims) (views_of set pods) owned current update (λ replicas fit policy. tended_over set update.key.name current.key.name pods replicas (seen policy) fit) e in
+    let r = rest_of_pods set (listed_claim set claims) (views_of set pods) owned current update (λ replicas fit policy. tended_over set update.key.name current.key.name pods replicas (seen policy) (over_fitting set update.key.name current.key.name (views_of set pods) replicas fit)) e in
     record { owned = owned; current = current; update = update; replicas = r.0; in_place = is; fit = r.1; at_rest = r.2 }
 rests set digits revisions pods claims (Err x) seen is e = absurd (refused_is_some set (views_of set pods) x e)
 

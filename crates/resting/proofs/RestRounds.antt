@@ -1,5 +1,5 @@
 -- Rounds over a store bring a set to rest.
-use Rattle.std.proofs.Common.{◌≡◌, ◌⊎◌, inl, inr, ◌+◌, ◌≤◌, ℕ, zero, suc, false, List, [], Ok, arith, sym, ap, ◌∙◌, subst}
+use Rattle.std.proofs.Common.{◌≡◌, ◌⊎◌, inl, inr, ◌≤◌, ℕ, zero, suc, false, List, [], ◌∷◌, filter, Ok, arith, sym, ap, ◌∙◌, subst}
 use Rattle.std.specs.FinMap as finite
 use Rattle.std.specs.List.{AllByRecursion}
 use Rattle.std.specs.Option.{is_some}
@@ -12,6 +12,8 @@ use Rattle.set_views.specs.declared.policies.Policy.TheVariants.{OrderedReady}
 use Rattle.set_views.specs.declared.readiness.Readiness.{Readiness}
 use Rattle.set_views.specs.declared.readiness.Readiness.TheVariants.{Failed, NotReady, Ready}
 use Rattle.set_views.specs.Readiness.{readiness_of}
+use Rattle.set_views.specs.Firsts.{first_of_each}
+use Rattle.set_views.specs.Predicates.{in_namespace}
 use Rattle.set_views.specs.Set.{SetParts}
 use Rattle.collector.specs.Collectable.{collection as collectable}
 use Rattle.pod_steps.specs.Listed.{replicas_in}
@@ -22,16 +24,19 @@ use Rattle.plain_store.specs.Store.{Store}
 use Rattle.plain_store.proofs.CompleteLists.{listed_there}
 use Rattle.rounds.proofs.Lists.{contains_among}
 use Rattle.sets.proofs.Ordered.{all_among}
-use Rattle.convergence.specs.Left.{most_rounds}
-use Rattle.convergence.specs.Standing.{Stands}
+use Rattle.sets.proofs.Owned.{first_among}
+use Rattle.controllers.proofs.PlannedActions.{among_all}
+use Rattle.convergence.specs.Standing.{AreTended, Stands}
 use Rattle.convergence.specs.Stopped.{IsStopped}
 use Rattle.resting.specs.Acting.{IsReadIn, IsUnrefusedOver, after_turn, views_in}
 use Rattle.resting.specs.Rest.{RestsOver}
 use Rattle.resting.specs.RoundsOver.{AreRoundsOver, IsAlike, IsInPlace, IsRoundOver}
 use Rattle.resting.specs.Still.{IsTendedPod, ShowsRest, listed_in, owners_in}
 use Rattle.resting.specs.Turns.{IsTurnOver, ready_or_ended}
+use Rattle.resting.proofs.Lists.{tended_over}
+use Rattle.resting.proofs.Pairs.{all_filtered}
 use Rattle.resting.proofs.RestAgain.{rests_over}
-use Rattle.resting.proofs.RoundsOver.{IsHere, alike_as_is, alike_now, here_then, same_read}
+use Rattle.resting.proofs.RoundsOver.{IsEnough, IsHere, alike_as_is, alike_now, here_then, same_read}
 use Rattle.resting.proofs.StandOver.{in_place_then, placed, stand_over}
 use Rattle.resting.proofs.Turns.{turn_is_over}
 use Rattle.resting.proofs.TurnsOnPods.{still_filed, was_there}
@@ -52,12 +57,19 @@ module _ (set : SetParts) (s t : Store) (filed : AreFiled s.objects) (turn : IsT
   all_tended : AllByRecursion IsTendedPod (listed_in t set.object.key Pod)
   all_tended = all_among IsTendedPod (listed_in t set.object.key Pod) one_tended
 
+-- ---- so a plan sees them
+pub seen_tended : (set : SetParts) (update current : List ℕ) (s : Store) (pods : Pods) → AllByRecursion IsTendedPod (listed_in s set.object.key Pod) → replicas_in set update current (views_in set s) ≡ Ok pods → AreTended pods
+seen_tended set update current s pods all shown =
+    let there = filter (in_namespace set Pod) (listed_in s set.object.key Pod) in
+    let kept : AllByRecursion IsTendedPod there = all_filtered IsTendedPod (in_namespace set Pod) (listed_in s set.object.key Pod) all in
+    tended_over set update current (listed_in s set.object.key Pod) pods (all_among IsTendedPod (first_of_each there) (λ o at. among_all IsTendedPod there o kept (first_among there o at))) shown
+
 -- ---- a round tends them
 module _ (set : SetParts) (digits : ℕ) where
   abbrev AreTendedIn : Store → Type 0
   AreTendedIn t = AllByRecursion IsTendedPod (listed_in t set.object.key Pod)
 
-  tended_then : (s t : Store) → IsRoundOver set digits s t → AreTendedIn t
+  pub tended_then : (s t : Store) → IsRoundOver set digits s t → AreTendedIn t
   tended_then s t round =
       let P : Key → Type 0 = λ k. AllByRecursion IsTendedPod (listed_in t k Pod) in
       let Q : Store → Type 0 = λ x. AllByRecursion IsTendedPod (listed_in x round.now.object.key Pod) in
@@ -65,7 +77,7 @@ module _ (set : SetParts) (digits : ℕ) where
       subst P round.key_is (subst Q (sym round.left) (all_tended round.now round.between end round.may_turn.filed (turn_is_over round.between round.now.object.key.namespace round.may_turn)))
 
   -- so do several
-  tended_last : (k : ℕ) (s t : Store) → AreRoundsOver set digits (suc k) s t → AreTendedIn t
+  pub tended_last : (k : ℕ) (s t : Store) → AreRoundsOver set digits (suc k) s t → AreTendedIn t
   tended_last zero s t rounds = subst AreTendedIn rounds.2 (tended_then s rounds.0 rounds.1)
   tended_last (suc k) s t rounds = tended_last k rounds.0 t rounds.2
 
@@ -85,7 +97,7 @@ module _ (set : SetParts) (current : List ℕ) (digits : ℕ) (chosen : Object) 
       here_last k rounds.0 t (here_then set update current digits s rounds.0 here r.0) (in_place_then set current digits chosen s rounds.0 r.0 r.1) rounds.2
 
   -- a round over pods that stand
-  pub rests_after : (t u : Store) (last : Pods) → IsHere set update current digits t → IsInPlace set digits chosen t → (round : IsRoundOver set digits t u) → replicas_in set update current (views_in set t) ≡ Ok last → Stands set last → AreTendedIn set digits t
+  rests_after : (t u : Store) (last : Pods) → IsHere set update current digits t → IsInPlace set digits chosen t → (round : IsRoundOver set digits t u) → replicas_in set update current (views_in set t) ≡ Ok last → Stands set last → AreTendedIn set digits t
       → members_have_float (old_status round.now) ≡ false → (next : SetParts) → IsReadIn u next → next.object.key ≡ set.object.key → IsUnrefusedOver next digits u
       → RestsOver next digits (listed_in u set.object.key ControllerRevision) (listed_in u set.object.key Pod) (listed_in u set.object.key PersistentVolumeClaim)
   rests_after t u last here at round are stands tended whole next is_read key unrefused =
@@ -108,14 +120,13 @@ module _ (set : SetParts) (current : List ℕ) (digits : ℕ) (chosen : Object) 
   }
 
   pub come_to_rest : (k : ℕ) (s t u : Store) (pods last : Pods) → IsHere set update current digits s → IsInPlace set digits chosen s → AreRoundsOver set digits k s t
-      → replicas_in set update current (views_in set s) ≡ Ok pods → replicas_in set update current (views_in set t) ≡ Ok last → most_rounds set pods + 1 ≤ k
+      → replicas_in set update current (views_in set s) ≡ Ok pods → replicas_in set update current (views_in set t) ≡ Ok last → IsEnough set update current digits pods k → AreTendedIn set digits t
       → (round : IsRoundOver set digits t u) → members_have_float (old_status round.now) ≡ false → (next : SetParts) → IsReadIn u next → next.object.key ≡ set.object.key → IsUnrefusedOver next digits u
       → collectable (listed_in u set.object.key PersistentVolumeClaim) (owners_in u set.object.key) u.counter ≡ [] → ShowsRest set.object.key digits u ⊎ ((set.policy ≡ OrderedReady) × IsStopped set pods)
-  come_to_rest k s t u pods last here at rounds first end enough round whole next is_read key unrefused none =
+  come_to_rest k s t u pods last here at rounds first end enough tended round whole next is_read key unrefused none =
       let kept = here_last k s t here at rounds in
       elim (stand_over set current digits chosen k s t pods last here at rounds first end enough) [
         | inl stands ↦
-            let tended = tended_by set digits k s t (omega (arith, enough)) rounds in
             inl (shows u next is_read key (rests_after t u last kept.0 kept.1 round end stands tended whole next is_read key unrefused) none)
         | inr stopped ↦ inr stopped
       ]

@@ -38,9 +38,9 @@ use Rattle.sets.specs.Plan.{most_actions}
 use Rattle.sets.specs.PlanOfLists.{view_of, views_of}
 use Rattle.convergence.specs.Left.{most_rounds}
 use Rattle.convergence.specs.Rounds.{AreRounds, IsNew, IsRound, after_round as after_round_of, creates, deletes, made_ready, tended}
-use Rattle.convergence.specs.Standing.{Stands}
+use Rattle.convergence.specs.Standing.{AreTended, IsTended, Stands}
 use Rattle.convergence.specs.Stopped.{IsLeftOver, IsStopped}
-use Rattle.convergence.proofs.Comes.{comes_to_stand}
+use Rattle.convergence.proofs.Comes.{comes_to_stand, tended_come_to_stand}
 use Rattle.resting.specs.Acting.{IsPlannedOver, IsReadIn, MayAct, after_plan, after_turn, views_in}
 use Rattle.resting.specs.Turns.{MayTurn}
 use Rattle.resting.specs.RoundsOver.{IsAlike}
@@ -333,10 +333,28 @@ module _ (set : SetParts) (update current : List ℕ) (digits : ℕ) where
   as_far : (pods : Pods) → most_rounds set (all_plain pods) ≡ most_rounds set pods
   as_far pods = ap (λ n. 2 * set.replicas + n) (as_many (is_out_of_range set) pods (λ e. refl))
 
+  -- so many rounds are enough: one less from pods as a kubelet's turn leaves them
+  abbrev pub IsEnough : Pods → ℕ → Type 0
+  IsEnough pods k = (most_rounds set pods + 1 ≤ k) ⊎ (AreTended pods × (most_rounds set pods ≤ k))
+
+  plain_are_tended : (pods : Pods) → AreTended pods → AreTended (all_plain pods)
+  plain_are_tended pods are i y here =
+      let p = some_plain (pod_at pods i) y (sym (at_plain pods i) ∙ here) in
+      let is = are i p.0 p.1 in
+      let P : Replica → Type 0 = λ x. IsTended x in
+      subst P p.2 (record { staying = is.staying; ready = is.ready })
+
+  comes_by : (pods last : Pods) (k : ℕ) → AreInOrder (all_plain pods) → AreRounds set k (all_plain pods) (all_plain last) → IsEnough pods k
+      → Stands set (all_plain last) ⊎ ((set.policy ≡ OrderedReady) × IsStopped set (all_plain pods))
+  comes_by pods last k sorted rounds (inl enough) =
+      comes_to_stand set (all_plain pods) (all_plain last) k sorted rounds (subst (λ (n : ℕ). n + 1 ≤ k) (sym (as_far pods)) enough)
+  comes_by pods last k sorted rounds (inr enough) =
+      tended_come_to_stand set (all_plain pods) (all_plain last) k sorted (plain_are_tended pods enough.0) rounds (subst (λ (n : ℕ). n ≤ k) (sym (as_far pods)) enough.1)
+
   pub stand_by : (s t : Store) (k : ℕ) (pods last : Pods) → AreRounds set k (all_plain pods) (all_plain last) → replicas_in set update current (views_in set s) ≡ Ok pods
-      → most_rounds set pods + 1 ≤ k → Stands set last ⊎ ((set.policy ≡ OrderedReady) × IsStopped set pods)
+      → IsEnough pods k → Stands set last ⊎ ((set.policy ≡ OrderedReady) × IsStopped set pods)
   stand_by s t k pods last rounds first enough =
-      elim (comes_to_stand set (all_plain pods) (all_plain last) k (seen_list s pods first).in_order rounds (subst (λ (n : ℕ). n + 1 ≤ k) (sym (as_far pods)) enough)) [
+      elim (comes_by pods last k (seen_list s pods first).in_order rounds enough) [
         | inl stands ↦ inl (stands_then last stands)
         | inr stopped ↦ inr (stopped.0, stopped_then pods stopped.1)
       ]

@@ -1,5 +1,5 @@
 -- Rounds over a store bring the pods of a set to stand, once the update revision is in place.
-use Rattle.std.proofs.Common.{◌≡◌, ◌⊎◌, ◌+◌, ◌≤◌, ℕ, zero, suc, List, unwrap_or, Result, Ok, refl, sym, ap, ◌∙◌, subst}
+use Rattle.std.proofs.Common.{◌≡◌, ◌⊎◌, ℕ, zero, suc, List, unwrap_or, Result, Ok, refl, sym, ap, ◌∙◌, subst}
 use Rattle.objects.specs.declared.object.Object.{Object}
 use Rattle.set_views.specs.declared.fault.PlanError.{PlanError}
 use Rattle.set_views.specs.declared.policies.Policy.TheVariants.{OrderedReady}
@@ -12,7 +12,6 @@ use Rattle.pod_steps.specs.Listed.{replicas_in}
 use Rattle.pod_steps.specs.Replicas.{Pods}
 use Rattle.plain_store.specs.Store.{Store}
 use Rattle.sets.specs.PlanOfLists.{owned_of}
-use Rattle.convergence.specs.Left.{most_rounds}
 use Rattle.convergence.specs.Rounds.{AreRounds}
 use Rattle.convergence.specs.Standing.{Stands}
 use Rattle.convergence.specs.Stopped.{IsStopped}
@@ -21,7 +20,7 @@ use Rattle.resting.specs.RoundsOver.{AreRoundsOver, IsInPlace, IsRoundOver}
 use Rattle.resting.proofs.OwnedAgain.{revisions_in}
 use Rattle.resting.proofs.PlainPods.{all_plain}
 use Rattle.resting.proofs.RevisionRounds.{stays_in_place}
-use Rattle.resting.proofs.RoundsOver.{IsHere, IsPlacedRound, IsSeen, alike_now, here_then, one_round, one_seen, seen_list, seen_plan, same_read, stand_by}
+use Rattle.resting.proofs.RoundsOver.{IsEnough, IsHere, IsPlacedRound, IsSeen, alike_now, here_then, one_round, one_seen, seen_list, seen_plan, same_read, stand_by}
 
 abbrev pub revisions_of : SetParts → ℕ → Store → Result PlanParts PlanError
 revisions_of set digits s = plan_of set (is_held (listed set (revisions_in s set))) digits (owned_of set (revisions_in s set))
@@ -92,7 +91,7 @@ module _ (set : SetParts) (current : List ℕ) (digits : ℕ) (chosen : Object) 
 
   pub stand_over : (k : ℕ) (s t : Store) (pods last : Pods) → IsHere set update current digits s → IsInPlace set digits chosen s → AreRoundsOver set digits k s t
       → replicas_in set update current (views_in set s) ≡ Ok pods → replicas_in set update current (views_in set t) ≡ Ok last
-      → most_rounds set pods + 1 ≤ k → Stands set last ⊎ ((set.policy ≡ OrderedReady) × IsStopped set pods)
+      → IsEnough set update current digits pods k → Stands set last ⊎ ((set.policy ≡ OrderedReady) × IsStopped set pods)
   stand_over k s t pods last here at rounds first end enough =
       let at_pods = seen_list set update current digits s pods first in
       stand_by set update current digits s t k pods last
