@@ -1,6 +1,6 @@
 -- The steps on pods do not depend on which of them are of the current revision, nor on more of the set than its spec.
 use Rattle.std.proofs.Common.{◌≡◌, ℕ, suc, Bool, true, false, cond, not, if◌then◌else◌, List, [], ◌∷◌, ◌++◌, map, filter, find, length, reverse, option_map, Option, Some, None, refl, sym, ap, ◌∙◌, subst}
-use Rattle.std.specs.Prelude.{◌&&◌, ◌-◌, ◌+◌, nat_le}
+use Rattle.std.specs.Prelude.{◌&&◌, ◌-◌, nat_le}
 use Rattle.std.proofs.lemmas.List.{reverse-append}
 use Rattle.std.specs.BTreeMap.{is_at}
 use Rattle.std.specs.List.{flat_map, list_any, range_with_len}

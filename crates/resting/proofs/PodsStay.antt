@@ -1,5 +1,5 @@
 -- A round whose plan takes no pod step leaves tended pods as they are.
-use Rattle.std.proofs.Common.{◌≡◌, ◌≢◌, ◌==◌, Bool, true, false, cond, List, [], ◌∷◌, ℕ, map, filter, decimal, Some, None, Equal, inl, inr, refl, sym, ap, ◌∙◌, subst, true≢false}
+use Rattle.std.proofs.Common.{◌≡◌, ◌==◌, Bool, true, false, cond, List, [], ◌∷◌, ℕ, map, filter, decimal, Some, None, Equal, inl, inr, refl, sym, ap, ◌∙◌, subst, true≢false}
 use Rattle.std.specs.FinMap as finite
 use Rattle.std.specs.FinMap.{get, get-retain_keys, retain_keys, same_map, values}
 use Rattle.std.specs.List.{AllByRecursion}
