@@ -1,5 +1,5 @@
 -- A round over a set whose pods stand leaves a set at rest.
-use Rattle.std.proofs.Common.{◌≡◌, inl, inr, ◌+◌, ℕ, Bool, true, false, if◌then◌else◌, List, [], ◌∷◌, ◌++◌, bytes_eq, option_and_then, Option, Some, None, Ok, refl, sym, ap, ◌∙◌, subst}
+use Rattle.std.proofs.Common.{◌≡◌, inl, inr, ℕ, Bool, true, false, if◌then◌else◌, List, [], ◌∷◌, ◌++◌, bytes_eq, option_and_then, Option, Some, None, Ok, refl, sym, ap, ◌∙◌, subst}
 use Rattle.std.specs.Prelude.{◌&&◌}
 use Rattle.std.specs.FinMap as finite
 use Rattle.std.specs.List.{AllByRecursion, cons_option, filter_map, flat_map}
@@ -27,36 +27,44 @@ use Rattle.pod_steps.specs.Step.{pod_steps}
 use Rattle.pod_steps.proofs.Firsts.{replicas_in_order}
 use Rattle.pod_steps.proofs.OrderedReadyPlans.{after_keep_steps}
 use Rattle.manifests.specs.BuiltStatus.{old_status}
+use Rattle.collector.specs.Collectable.{collection as collectable}
 use Rattle.claims.specs.declared.change.ClaimChange.TheVariants as changes
 use Rattle.claims.specs.Changes.{entries_of, keep_claims, update as update_claim, with_owner_entries}
 use Rattle.claims.specs.Listed.{listed_claim}
 use Rattle.claims.specs.Owners.{are_wanted, owner_in_range, wanted_entries}
 use Rattle.plain_store.specs.AtKey.{Has}
+use Rattle.plain_store.specs.Run.{after}
 use Rattle.plain_store.specs.Store.{Store, collection}
 use Rattle.plain_store.proofs.CompleteLists.{listed_there}
 use Rattle.rounds.proofs.Lists.{contains_among}
+use Rattle.controllers.specs.Reconciler.{reconciler_with}
+use Rattle.rounds.specs.Reconciler.{Reconciler}
 use Rattle.sets.specs.Actions.{Claims, name_at}
 use Rattle.sets.specs.PlanOfLists.{owned_of}
 use Rattle.convergence.specs.Standing.{Stands}
 use Rattle.convergence.proofs.Standing.{standing}
-use Rattle.resting.specs.Acting.{AreWhole, IsPlannedOver, IsReadIn, IsUnrefusedOver, views_in}
+use Rattle.resting.specs.Acting.{AreWhole, IsPlannedOver, IsReadIn, IsUnrefusedOver, after_plan, planned_requests, views_in}
 use Rattle.resting.specs.Rest.{IsAtRest, RestsOver}
 use Rattle.resting.specs.RoundsOver.{IsAlike}
-use Rattle.resting.specs.Still.{IsTendedPod, listed_in}
+use Rattle.resting.specs.Still.{IsTendedPod, listed_in, owners_in, plan_over}
+use Rattle.resting.specs.WholeRounds.{MayCollect, collection_over}
 use Rattle.resting.proofs.AcceptedPlans.{claim_key_is}
 use Rattle.resting.proofs.ClaimsKept.{wanted_then}
+use Rattle.resting.proofs.CollectedOnce.{none_left}
 use Rattle.resting.proofs.CountsAgain.{range_alike, same_name, stand_then, stands_by, status_then}
 use Rattle.resting.proofs.HistoryKept.{none_expired_then, read_then}
 use Rattle.resting.proofs.OwnedAgain.{revisions_in}
 use Rattle.resting.proofs.PodsStay.{left_by_plan, left_is}
 use Rattle.resting.proofs.PlanApart.{claim_key}
 use Rattle.resting.proofs.PlainPods.{all_plain}
+use Rattle.resting.proofs.PlansOnPods.{filed_run}
 use Rattle.resting.proofs.ReadAgain.{IsReadLike}
 use Rattle.resting.proofs.RevisionRounds.{filed_then}
 use Rattle.resting.proofs.RoundsOnPods.{replicas_are}
-use Rattle.resting.proofs.RoundsOver.{IsPlacedRound, one_seen, seen_list, seen_plan}
+use Rattle.resting.proofs.RoundsOver.{IsPlacedRound, between_is, one_seen, seen_list, seen_plan}
 use Rattle.resting.proofs.StandOver.{in_place_then}
 use Rattle.resting.proofs.UpToDate.{found_there, settled_owned}
+use Rattle.resting.proofs.WholeRounds.{plan_over_is}
 
 -- ---- lists
 none_made : {X Y : Type 0} (h : X → Option Y) (xs : List X) → ((x : X) → Among x xs → h x ≡ None) → filter_map h xs ≡ []
@@ -94,6 +102,19 @@ module _ (set : SetParts) (update : List ℕ) (digits : ℕ) (s t : Store) (roun
 
   none : pod_steps (full_steps now round.plan.pods) ≡ []
   none = ap pod_steps kept ∙ after_keep_steps (ordinals now) []
+
+  -- no claim is left to collect
+  pub none_to_collect : let key = now.object.key in MayCollect (reconciler_with key digits round.moment) (after_plan now digits round.moment s)
+      → collectable (listed_in t key kinds.PersistentVolumeClaim) (owners_in t key) t.counter ≡ []
+  none_to_collect may =
+      let key = now.object.key in
+      let c : Reconciler = reconciler_with key digits round.moment in
+      let planned : Store = after_plan now digits round.moment s in
+      let planned_is : after s (plan_over c s now.object) ≡ planned = ap (after s) (plan_over_is now digits round.moment s round.is_read.read) in
+      let collected : t ≡ after planned (collection_over c planned) =
+      left_is set update digits s t round none tended ∙ (between_is set update update digits s t round ∙ ap (λ (x : Store). after x (collection_over c x)) planned_is) in
+      let P : Store → Type 0 = λ x. collectable (listed_in x key kinds.PersistentVolumeClaim) (owners_in x key) x.counter ≡ [] in
+      subst P (sym collected) (none_left key digits round.moment planned (filed_run s (planned_requests now digits round.moment s) round.may_act.filed) may.0 may.1)
 
   module _ (next : SetParts) (is_read : IsReadIn t next) (key : next.object.key ≡ set.object.key) where
     abbrev again : IsReadLike now next.object next
@@ -157,6 +178,13 @@ module _ (set : SetParts) (chosen : Object) (digits : ℕ) (s t : Store) (curren
       one_seen set update current digits s (all_plain round.plan.pods) (all_plain pods) (seen_plan set update current digits s t round alike) (seen_list set update current digits s pods are) in
       stands_by set round.now alike round.plan.pods pods plains stands
 
+  tended_now : AllByRecursion IsTendedPod (listed_in s round.now.object.key kinds.Pod)
+  tended_now = let P : Key → Type 0 = λ k. AllByRecursion IsTendedPod (listed_in s k kinds.Pod) in subst P (sym alike.key) tended
+
+  pub none_over : let key = round.now.object.key in MayCollect (reconciler_with key digits round.moment) (after_plan round.now digits round.moment s)
+      → collectable (listed_in t key kinds.PersistentVolumeClaim) (owners_in t key) t.counter ≡ []
+  none_over = none_to_collect set update digits s t round stands_now tended_now
+
   -- the set at rest, if its plan is not refused
   pub rests_over : (next : SetParts) → IsReadIn t next → next.object.key ≡ set.object.key → IsUnrefusedOver next digits t
       → RestsOver next digits (listed_in t next.object.key kinds.ControllerRevision) (listed_in t next.object.key kinds.Pod) (listed_in t next.object.key kinds.PersistentVolumeClaim)
@@ -173,7 +201,6 @@ module _ (set : SetParts) (chosen : Object) (digits : ℕ) (s t : Store) (curren
         fit = fits.1;
         whole = fits.2;
       } in
-      let P : Key → Type 0 = λ k. AllByRecursion IsTendedPod (listed_in s k kinds.Pod) in
       record {
         owned = plan.owned;
         current = plan.current;
@@ -181,5 +208,5 @@ module _ (set : SetParts) (chosen : Object) (digits : ℕ) (s t : Store) (curren
         replicas = plan.pods;
         in_place = plan.in_place;
         fit = plan.fit;
-        at_rest = rests set update digits s t round stands_now (subst P (sym alike.key) tended) next is_read key whole plan (sym is_chosen);
+        at_rest = rests set update digits s t round stands_now tended_now next is_read key whole plan (sym is_chosen);
       }

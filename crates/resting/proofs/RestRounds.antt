@@ -1,5 +1,5 @@
 -- Rounds over a store bring a set to rest.
-use Rattle.std.proofs.Common.{◌≡◌, ◌⊎◌, inl, inr, ◌≤◌, ℕ, zero, suc, false, List, [], ◌∷◌, filter, Ok, arith, sym, ap, ◌∙◌, subst}
+use Rattle.std.proofs.Common.{◌≡◌, ◌⊎◌, inl, inr, ◌≤◌, ℕ, zero, suc, false, List, [], filter, Ok, arith, sym, ap, ◌∙◌, subst}
 use Rattle.std.specs.FinMap as finite
 use Rattle.std.specs.List.{AllByRecursion}
 use Rattle.std.specs.Option.{is_some}
@@ -25,17 +25,19 @@ use Rattle.plain_store.proofs.CompleteLists.{listed_there}
 use Rattle.rounds.proofs.Lists.{contains_among}
 use Rattle.sets.proofs.Ordered.{all_among}
 use Rattle.sets.proofs.Owned.{first_among}
+use Rattle.controllers.specs.Reconciler.{reconciler_with}
 use Rattle.controllers.proofs.PlannedActions.{among_all}
 use Rattle.convergence.specs.Standing.{AreTended, Stands}
 use Rattle.convergence.specs.Stopped.{IsStopped}
-use Rattle.resting.specs.Acting.{IsReadIn, IsUnrefusedOver, after_turn, views_in}
+use Rattle.resting.specs.Acting.{IsReadIn, IsUnrefusedOver, after_plan, after_turn, views_in}
 use Rattle.resting.specs.Rest.{RestsOver}
 use Rattle.resting.specs.RoundsOver.{AreRoundsOver, IsAlike, IsInPlace, IsRoundOver}
 use Rattle.resting.specs.Still.{IsTendedPod, ShowsRest, listed_in, owners_in}
 use Rattle.resting.specs.Turns.{IsTurnOver, ready_or_ended}
+use Rattle.resting.specs.WholeRounds.{MayCollect}
 use Rattle.resting.proofs.Lists.{tended_over}
 use Rattle.resting.proofs.Pairs.{all_filtered}
-use Rattle.resting.proofs.RestAgain.{rests_over}
+use Rattle.resting.proofs.RestAgain.{none_over, rests_over}
 use Rattle.resting.proofs.RoundsOver.{IsEnough, IsHere, alike_as_is, alike_now, here_then, same_read}
 use Rattle.resting.proofs.StandOver.{in_place_then, placed, stand_over}
 use Rattle.resting.proofs.Turns.{turn_is_over}
@@ -108,6 +110,17 @@ module _ (set : SetParts) (current : List ℕ) (digits : ℕ) (chosen : Object) 
       let Q : SetParts → Type 0 = λ x. members_have_float (old_status x) ≡ false in
       subst P key (rests_over set chosen digits t u current last r.0 r.1 alike are stands tended (subst Q now_is whole) next is_read key unrefused)
 
+  -- its collection leaves no claim to collect
+  collected_after : (t u : Store) (last : Pods) → IsHere set update current digits t → IsInPlace set digits chosen t → (round : IsRoundOver set digits t u) → replicas_in set update current (views_in set t) ≡ Ok last → Stands set last → AreTendedIn set digits t
+      → members_have_float (old_status round.now) ≡ false → MayCollect (reconciler_with set.object.key digits round.moment) (after_plan round.now digits round.moment t)
+      → collectable (listed_in u set.object.key PersistentVolumeClaim) (owners_in u set.object.key) u.counter ≡ []
+  unfolding placed
+  collected_after t u last here at round are stands tended whole may =
+      let r = placed set current digits chosen t u at round in
+      let P : Key → Type 0 = λ k. MayCollect (reconciler_with k digits round.moment) (after_plan round.now digits round.moment t) in
+      let Q : Key → Type 0 = λ k. collectable (listed_in u k PersistentVolumeClaim) (owners_in u k) u.counter ≡ [] in
+      subst Q round.key_is (none_over set chosen digits t u current last r.0 r.1 (alike_now set update current digits t u here r.0) are stands tended whole (subst P (sym round.key_is) may))
+
   shows : (u : Store) (next : SetParts) → IsReadIn u next → next.object.key ≡ set.object.key → RestsOver next digits (listed_in u set.object.key ControllerRevision) (listed_in u set.object.key Pod) (listed_in u set.object.key PersistentVolumeClaim)
       → collectable (listed_in u set.object.key PersistentVolumeClaim) (owners_in u set.object.key) u.counter ≡ [] → ShowsRest set.object.key digits u
   shows u next is_read key rests none = record {
@@ -122,11 +135,17 @@ module _ (set : SetParts) (current : List ℕ) (digits : ℕ) (chosen : Object) 
   pub come_to_rest : (k : ℕ) (s t u : Store) (pods last : Pods) → IsHere set update current digits s → IsInPlace set digits chosen s → AreRoundsOver set digits k s t
       → replicas_in set update current (views_in set s) ≡ Ok pods → replicas_in set update current (views_in set t) ≡ Ok last → IsEnough set update current digits pods k → AreTendedIn set digits t
       → (round : IsRoundOver set digits t u) → members_have_float (old_status round.now) ≡ false → (next : SetParts) → IsReadIn u next → next.object.key ≡ set.object.key → IsUnrefusedOver next digits u
-      → collectable (listed_in u set.object.key PersistentVolumeClaim) (owners_in u set.object.key) u.counter ≡ [] → ShowsRest set.object.key digits u ⊎ ((set.policy ≡ OrderedReady) × IsStopped set pods)
-  come_to_rest k s t u pods last here at rounds first end enough tended round whole next is_read key unrefused none =
+      → (collectable (listed_in u set.object.key PersistentVolumeClaim) (owners_in u set.object.key) u.counter ≡ []) ⊎ MayCollect (reconciler_with set.object.key digits round.moment) (after_plan round.now digits round.moment t)
+      → ShowsRest set.object.key digits u ⊎ ((set.policy ≡ OrderedReady) × IsStopped set pods)
+  come_to_rest k s t u pods last here at rounds first end enough tended round whole next is_read key unrefused collected =
       let kept = here_last k s t here at rounds in
       elim (stand_over set current digits chosen k s t pods last here at rounds first end enough) [
         | inl stands ↦
+            let none : collectable (listed_in u set.object.key PersistentVolumeClaim) (owners_in u set.object.key) u.counter ≡ [] =
+            elim collected [
+              | inl none ↦ none
+              | inr may ↦ collected_after t u last kept.0 kept.1 round end stands tended whole may
+            ] in
             inl (shows u next is_read key (rests_after t u last kept.0 kept.1 round end stands tended whole next is_read key unrefused) none)
         | inr stopped ↦ inr stopped
       ]

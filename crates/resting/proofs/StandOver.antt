@@ -32,7 +32,7 @@ module _ (set : SetParts) (current : List ℕ) (digits : ℕ) (chosen : Object) 
   abbrev update : List ℕ
   update = chosen.key.name
 
-  pub placed : (s t : Store) → IsInPlace set digits chosen s → (round : IsRoundOver set digits s t) → (r : IsPlacedRound set update digits s t) × (r.plan.update ≡ chosen)
+  unfoldable pub placed : (s t : Store) → IsInPlace set digits chosen s → (round : IsRoundOver set digits s t) → (r : IsPlacedRound set update digits s t) × (r.plan.update ≡ chosen)
   placed s t here round =
       let r = here round.now round.plan.revisions round.is_read round.key_is round.plan.are in
       let whole : AreWhole round.now s (settled r.0 r.1 chosen) = subst (AreWhole round.now s) r.2 round.plan.whole in (

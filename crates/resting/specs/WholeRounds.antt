@@ -44,3 +44,7 @@ pub record IsCollectedOver (key : Key) (before after : Store) : Type 0 where
 -- No claim in the namespace of that key is owned by another one, and each of its owners has a UID that the store has given.
 abbrev pub OwnNoClaim : Key → Store → Type 0
 OwnNoClaim key s = (o : Object) (n : ℕ) → Among o (listed_in s key PersistentVolumeClaim) → HasOwner n (owners_of o.body) → (n ≤ s.counter) × (is_listed (listed_in s key PersistentVolumeClaim ∷ []) n ≡ false)
+
+-- a collection over what the store shows leaves no claim to collect: none has an owner that is a claim or to come, and numbers are left for its deletes
+abbrev pub MayCollect : Reconciler → Store → Type 0
+MayCollect c s = (s.counter + length (collection_over c s) ≤ s.capacity) × OwnNoClaim c.set s

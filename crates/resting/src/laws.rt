@@ -46,7 +46,7 @@ ghost use Rattle.resting.specs.Accepting.{AreAccepted, DoesAsAlone, IsAcceptable
 ghost use Rattle.resting.specs.Acting.{IsCreated, IsPlannedOver, IsReadIn, IsUnrefusedOver, MayAct, after_both, after_plan, after_steps, planned_requests, views_in};
 ghost use Rattle.resting.specs.Rest.{IsAtRest, RestsOver};
 ghost use Rattle.resting.specs.Still.{IsStill, IsTendedPod, ShowsRest, exchanged_times, listed_in, owners_in, plan_over, reads_of_a_round};
-ghost use Rattle.resting.specs.WholeRounds.{EndsRound, IsCollectedOver, OwnNoClaim, after_round, collection_over};
+ghost use Rattle.resting.specs.WholeRounds.{EndsRound, IsCollectedOver, MayCollect, OwnNoClaim, after_round, collection_over};
 ghost use Rattle.resting.specs.RoundsOver.{AreRoundsOver, IsInPlace, IsRoundOver};
 ghost use Rattle.resting.specs.Turns.{IsTurnOver, MayTurn};
 
@@ -240,20 +240,23 @@ pub fn sets_that_stand_come_to_rest()
 
 /// So two rounds for each replica, one for each condemned pod and two more bring a set to rest, whatever its pods, claims, history and
 /// status were, unless a failed pod stops it. Before them the update revision is in place; or the first one puts it there, and the
-/// pods are counted after it. Meanwhile nobody else writes, and no plan is refused. At the end no claim is left to collect. Then
-/// each further round only reads (`stores_of_sets_at_rest_stay`).
+/// pods are counted after it. Meanwhile nobody else writes, and no plan is refused. At the end no claim is left to collect; or
+/// the last plan leaves none whose owner is a claim or to come, with numbers for the deletes of its collection. Then each further
+/// round only reads (`stores_of_sets_at_rest_stay`).
 pub fn sets_come_to_rest_in_stores()
     ensures in_place { (set : SetParts) (update : Object) (digits k : ℕ) (s t u : Store) (current : List ℕ) (pods last : Pods) → let key = set.object.key in
         IsReadIn s set → IsInPlace set digits update s → AreRoundsOver set digits k s t
         → replicas_in set update.key.name current (views_in set s) ≡ Ok pods → replicas_in set update.key.name current (views_in set t) ≡ Ok last → most_rounds set pods + 1 ≤ k
         → (round : IsRoundOver set digits t u) → members_have_float (old_status round.now) ≡ false
-        → (next : SetParts) → IsReadIn u next → next.object.key ≡ key → IsUnrefusedOver next digits u → collectable (listed_in u key PersistentVolumeClaim) (owners_in u key) u.counter ≡ []
+        → (next : SetParts) → IsReadIn u next → next.object.key ≡ key → IsUnrefusedOver next digits u
+        → (collectable (listed_in u key PersistentVolumeClaim) (owners_in u key) u.counter ≡ []) ⊎ MayCollect (reconciler_with key digits round.moment) (after_plan round.now digits round.moment t)
         → ShowsRest key digits u ⊎ ((set.policy ≡ Policy.OrderedReady) × IsStopped set pods) }
     ensures from_any { (set : SetParts) (digits k : ℕ) (r s t u : Store) (first : IsRoundOver set digits r s) → let key = set.object.key in
         IsReadIn r set → members_have_float first.now.template ≡ false → ((key : Key) (o : Object) → Has r key o → 1 ≤ o.meta.uid)
         → AreRoundsOver set digits k s t → (update : Object) × IsInPlace set digits update s × ((current : List ℕ) (pods last : Pods)
         → replicas_in set update.key.name current (views_in set s) ≡ Ok pods → replicas_in set update.key.name current (views_in set t) ≡ Ok last → most_rounds set pods ≤ k
         → (round : IsRoundOver set digits t u) → members_have_float (old_status round.now) ≡ false
-        → (next : SetParts) → IsReadIn u next → next.object.key ≡ key → IsUnrefusedOver next digits u → collectable (listed_in u key PersistentVolumeClaim) (owners_in u key) u.counter ≡ []
+        → (next : SetParts) → IsReadIn u next → next.object.key ≡ key → IsUnrefusedOver next digits u
+        → (collectable (listed_in u key PersistentVolumeClaim) (owners_in u key) u.counter ≡ []) ⊎ MayCollect (reconciler_with key digits round.moment) (after_plan round.now digits round.moment t)
         → ShowsRest key digits u ⊎ ((set.policy ≡ Policy.OrderedReady) × IsStopped set pods)) }
 {}
