@@ -1,5 +1,5 @@
 -- A round that writes one revision puts it in place as the update revision.
-use Rattle.std.proofs.Common.{◌≡◌, ◌≢◌, ◌⊎◌, ◌==◌, ◌<◌, inl, inr, ℕ, true, false, cond, List, [], ◌∷◌, reverse, bytes_eq, unwrap_or, Some, Less, Equal, Greater, is_lt, refl, sym, ap, ◌∙◌, subst, true≢false}
+use Rattle.std.proofs.Common.{◌≡◌, ◌≢◌, ◌⊎◌, ◌==◌, ◌<◌, inl, inr, ℕ, true, false, cond, List, [], ◌∷◌, reverse, bytes_eq, option_map, unwrap_or, Some, None, Less, Equal, Greater, is_lt, refl, sym, ap, ◌∙◌, subst, true≢false}
 use Rattle.std.specs.Prelude.{◌&&◌}
 use Rattle.std.specs.FinMap as finite
 use Rattle.std.specs.Cmp.Lexicographic.{slice_cmp}
@@ -24,6 +24,8 @@ use Rattle.set_views.specs.Set.{SetParts}
 use Rattle.set_views.specs.SetReading.{set_of}
 use Rattle.revisions.specs.Choice.{data_with, has_data, named_current}
 use Rattle.revisions.specs.Revision.{listed, number_of, owned_among, owns_revision, revision_cmp}
+use Rattle.pod_steps.specs.Listed.{replica_of}
+use Rattle.convergence.specs.Rounds.{tended}
 use Rattle.rounds.specs.Kubelet.{turn_requests_of}
 use Rattle.plain_store.specs.AtKey.{Has}
 use Rattle.plain_store.specs.Filed.{AreFiled}
@@ -37,19 +39,21 @@ use Rattle.sets.specs.PlanOfLists.{owned_of}
 use Rattle.sets.proofs.Owned.{total}
 use Rattle.controllers.specs.Reconciler.{reconciler_with}
 use Rattle.resting.specs.Accepting.{AreAccepted}
-use Rattle.resting.specs.Acting.{IsReadIn, planned_requests}
+use Rattle.resting.specs.Acting.{IsReadIn, after_turn, planned_requests}
 use Rattle.resting.specs.RoundsOver.{IsAlike, IsInPlace, IsRoundOver}
 use Rattle.resting.specs.Still.{plan_over}
 use Rattle.resting.specs.WholeRounds.{after_round}
 use Rattle.resting.proofs.Choices.{IsNewest, in_place_by}
-use Rattle.resting.proofs.Collections.{others_stay}
+use Rattle.resting.proofs.Collections.{others_stay, same_found_at}
 use Rattle.resting.proofs.Newest.{among_reverse, ascends, last_is}
 use Rattle.resting.proofs.OwnedAgain.{IsOwnedIn, key_is, kind_of, owned_back, owned_there, revisions_in, there_owned}
 use Rattle.resting.proofs.Pairs.{in_reverse}
+use Rattle.resting.proofs.PlainPods.{none_plain, plain}
 use Rattle.resting.proofs.PlansOnPods.{filed_run}
 use Rattle.resting.proofs.ReadAgain.{IsLike, IsOnStatus, like_itself, read_again, stays_like}
-use Rattle.resting.proofs.RoundsOver.{IsHere, alike_on, read_as_before, same_read}
+use Rattle.resting.proofs.RoundsOver.{IsHere, alike_on, read_as_before, same_read, seen_by}
 use Rattle.resting.proofs.Turns.{turn_is_over}
+use Rattle.resting.proofs.TurnsOnPods.{own, own_at, turn_at}
 use Rattle.resting.proofs.WholeRounds.{controller_round, plan_over_is}
 
 less_number : (g h : Object) → number_of g < number_of h → is_lt (revision_cmp g h) ≡ true
@@ -90,6 +94,35 @@ module _ (set : SetParts) (digits : ℕ) (s t : Store) (round : IsRoundOver set 
 
   chosen_kind : chosen.key.kind ≡ ControllerRevision
   chosen_kind = kind_of space chosen.key writes.near
+
+  -- the pods are as they were, until a kubelet tends them
+  between_pods : (k : Key) → k.kind ≡ Pod → finite.get round.between.objects k ≡ finite.get s.objects k
+  between_pods k pod =
+      let other : Some k ≢ key_named r = λ same.
+      let clash : Pod ≡ ControllerRevision = sym pod ∙ (ap (λ (q : Key). q.kind) (same_Some k chosen.key (same ∙ writes.names)) ∙ chosen_kind) in
+      absurd (cc) in
+      ap (λ (x : Store). finite.get x.objects k) between_is
+      ∙ (others_stay now.object.key (after s sent) (filed_run s sent round.may_act.filed) digits round.moment Pod k refl pod
+      ∙ (ap (λ (rs : List Request). finite.get (after s rs).objects k) sent_is ∙ step_elsewhere s r k other))
+
+  tended_only : (update current : List ℕ) (i : ℕ) → own_at now update current t i ≡ tended (own_at now update current s i)
+  tended_only update current i =
+      let same = same_found_at now s round.between i round.may_act.filed round.may_turn.filed between_pods in
+      ap (λ (x : Store). own_at now update current x i) round.left
+      ∙ (turn_at now update current round.between (after_turn space round.between) round.may_turn.filed (turn_is_over round.between space round.may_turn) i
+      ∙ ap (λ found. tended (own (option_map (replica_of now update current) found))) same)
+
+  alike_before : IsHere set [] [] digits s → IsAlike set now
+  alike_before before =
+      let Q : SetParts → Type 0 = λ x. IsAlike set x in
+      subst Q (same_read set [] [] digits s before.0 now before.1 round.is_read (round.key_is ∙ sym before.2.key)) before.2
+
+  -- no pod is where there was none
+  pub none_then : (update current : List ℕ) → IsHere set [] [] digits s → (i : ℕ) → option_map plain (own_at set update current s i) ≡ None → option_map plain (own_at set update current t i) ≡ None
+  none_then update current before i gone =
+      let alike = alike_before before in
+      let none : own_at now update current s i ≡ None = none_plain (own_at now update current s i) (seen_by set update current digits now update current s i alike refl ∙ gone) in
+      sym (seen_by set update current digits now update current t i alike refl) ∙ ap (option_map plain) (tended_only update current i ∙ ap tended none)
 
   -- neither a collection nor a kubelet is about such a kind
   through : (kind : Kind) (k : Key) → kind_index kind == kind_index Pod ≡ false → kind_index kind == 2 ≡ false → k.kind ≡ kind → finite.get t.objects k ≡ finite.get (step s r).0.objects k
@@ -201,8 +234,7 @@ module _ (set : SetParts) (digits : ℕ) (s t : Store) (round : IsRoundOver set 
       let next : SetParts = again.0 in
       let object : next.object ≡ like_then.0 = again.1.object in
       let P : Object → Type 0 = λ x. Has t next.object.key x in
-      let Q : SetParts → Type 0 = λ x. IsAlike set x in
-      let alike_now : IsAlike set now = subst Q (same_read set [] [] digits s before.0 now before.1 round.is_read (round.key_is ∙ sym before.2.key)) before.2 in (
+      let alike_now = alike_before before in (
         next,
         record {
           there = subst P (sym object) (ap (finite.get t.objects) again.1.alike.key ∙ like_then.1);

@@ -1,16 +1,19 @@
 -- Rounds of a controller and a kubelet over a store to which nobody else writes, one after another.
-use Rattle.std.specs.Prelude.{◌≡◌, ◌≢◌, ℕ, zero, suc, List, [], Ok}
+use Rattle.std.specs.Prelude.{◌≡◌, ◌≢◌, ◌≤◌, ℕ, zero, suc, List, [], Ok}
 use Rattle.objects.specs.declared.kind.Kind.TheVariants.{ControllerRevision}
 use Rattle.objects.specs.declared.object.Object.{Object}
 use Rattle.set_views.specs.Firsts.{is_held}
 use Rattle.set_views.specs.Set.{SetParts}
 use Rattle.revisions.specs.Plan.{PlanParts, plan_of, settled}
 use Rattle.revisions.specs.Revision.{listed}
+use Rattle.pod_steps.specs.Listed.{replicas_in}
+use Rattle.pod_steps.specs.Replicas.{Pods}
+use Rattle.convergence.specs.Left.{condemned}
 use Rattle.sets.specs.Plan.{most_actions}
 use Rattle.sets.specs.PlanOfLists.{owned_of}
 use Rattle.plain_store.specs.Store.{Store}
 use Rattle.controllers.specs.Reconciler.{reconciler_with}
-use Rattle.resting.specs.Acting.{IsReadIn, IsUnrefusedOver, MayAct, after_turn}
+use Rattle.resting.specs.Acting.{IsReadIn, IsUnrefusedOver, MayAct, after_turn, views_in}
 use Rattle.resting.specs.Still.{listed_in}
 use Rattle.resting.specs.Turns.{MayTurn}
 use Rattle.resting.specs.WholeRounds.{EndsRound}
@@ -51,3 +54,8 @@ abbrev pub IsInPlace : SetParts → ℕ → Object → Store → Type 0
 IsInPlace set digits update s = (now : SetParts) (revisions : PlanParts) → IsReadIn s now → now.object.key ≡ set.object.key
     → plan_of now (is_held (listed now (listed_in s now.object.key ControllerRevision))) digits (owned_of now (listed_in s now.object.key ControllerRevision)) ≡ Ok revisions
     → (owned : List Object) × (current : Object) × (revisions ≡ settled owned current update)
+
+-- no more pods are out of range than before
+abbrev pub CondemnsNoMore : SetParts → List ℕ → Store → Store → Type 0
+CondemnsNoMore set update s t = (current : List ℕ) (before later : Pods) → replicas_in set update current (views_in set s) ≡ Ok before → replicas_in set update current (views_in set t) ≡ Ok later
+    → condemned set later ≤ condemned set before

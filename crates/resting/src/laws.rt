@@ -47,7 +47,7 @@ ghost use Rattle.resting.specs.Acting.{IsCreated, IsPlannedOver, IsReadIn, IsUnr
 ghost use Rattle.resting.specs.Rest.{IsAtRest, RestsOver};
 ghost use Rattle.resting.specs.Still.{IsStill, IsTendedPod, ShowsRest, exchanged_times, listed_in, owners_in, plan_over, reads_of_a_round};
 ghost use Rattle.resting.specs.WholeRounds.{EndsRound, IsCollectedOver, MayCollect, OwnNoClaim, after_round, collection_over};
-ghost use Rattle.resting.specs.RoundsOver.{AreRoundsOver, IsInPlace, IsRoundOver};
+ghost use Rattle.resting.specs.RoundsOver.{AreRoundsOver, CondemnsNoMore, IsInPlace, IsRoundOver};
 ghost use Rattle.resting.specs.Turns.{IsTurnOver, MayTurn};
 
 use set_views::Policy;
@@ -213,8 +213,8 @@ pub fn update_revisions_are_put_in_place()
 
 /// So two rounds of the controller and the kubelet for each replica, one for each condemned pod and one more bring the pods of a store
 /// to what the spec says, whatever they were; unless a failed pod stops the set, under OrderedReady. Before them the update
-/// revision is in place; or the first one puts it there, and the pods are counted after it. Meanwhile nobody else writes, and no
-/// plan is refused.
+/// revision is in place; or the first one puts it there and condemns no more pods, which are counted after it. Meanwhile nobody else
+/// writes, and no plan is refused.
 pub fn sets_come_to_stand_in_stores()
     ensures in_place { (set : SetParts) (update : Object) (digits k : ℕ) (s t : Store) (current : List ℕ) (pods last : Pods)
         → IsReadIn s set → IsInPlace set digits update s → AreRoundsOver set digits k s t
@@ -222,7 +222,7 @@ pub fn sets_come_to_stand_in_stores()
         → most_rounds set pods + 1 ≤ k → Stands set last ⊎ ((set.policy ≡ Policy.OrderedReady) × IsStopped set pods) }
     ensures from_any { (set : SetParts) (digits k : ℕ) (r s t : Store) (first : IsRoundOver set digits r s)
         → IsReadIn r set → members_have_float first.now.template ≡ false → ((key : Key) (o : Object) → Has r key o → 1 ≤ o.meta.uid)
-        → AreRoundsOver set digits k s t → (update : Object) × IsInPlace set digits update s × ((current : List ℕ) (pods last : Pods)
+        → AreRoundsOver set digits k s t → (update : Object) × IsInPlace set digits update s × CondemnsNoMore set update.key.name r s × ((current : List ℕ) (pods last : Pods)
         → replicas_in set update.key.name current (views_in set s) ≡ Ok pods → replicas_in set update.key.name current (views_in set t) ≡ Ok last
         → most_rounds set pods ≤ k → Stands set last ⊎ ((set.policy ≡ Policy.OrderedReady) × IsStopped set pods)) }
 {}
@@ -239,10 +239,10 @@ pub fn sets_that_stand_come_to_rest()
 {}
 
 /// So two rounds for each replica, one for each condemned pod and two more bring a set to rest, whatever its pods, claims, history and
-/// status were, unless a failed pod stops it. Before them the update revision is in place; or the first one puts it there, and the
-/// pods are counted after it. Meanwhile nobody else writes, and no plan is refused. At the end no claim is left to collect; or
-/// the last plan leaves none whose owner is a claim or to come, with numbers for the deletes of its collection. Then each further
-/// round only reads (`stores_of_sets_at_rest_stay`).
+/// status were, unless a failed pod stops it. Before them the update revision is in place; or the first one puts it there and condemns
+/// no more pods, which are counted after it. Meanwhile nobody else writes, and no plan is refused. At the end no claim is left to
+/// collect; or the last plan leaves none whose owner is a claim or to come, with numbers for the deletes of its collection. Then each
+/// further round only reads (`stores_of_sets_at_rest_stay`).
 pub fn sets_come_to_rest_in_stores()
     ensures in_place { (set : SetParts) (update : Object) (digits k : ℕ) (s t u : Store) (current : List ℕ) (pods last : Pods) → let key = set.object.key in
         IsReadIn s set → IsInPlace set digits update s → AreRoundsOver set digits k s t
@@ -253,7 +253,7 @@ pub fn sets_come_to_rest_in_stores()
         → ShowsRest key digits u ⊎ ((set.policy ≡ Policy.OrderedReady) × IsStopped set pods) }
     ensures from_any { (set : SetParts) (digits k : ℕ) (r s t u : Store) (first : IsRoundOver set digits r s) → let key = set.object.key in
         IsReadIn r set → members_have_float first.now.template ≡ false → ((key : Key) (o : Object) → Has r key o → 1 ≤ o.meta.uid)
-        → AreRoundsOver set digits k s t → (update : Object) × IsInPlace set digits update s × ((current : List ℕ) (pods last : Pods)
+        → AreRoundsOver set digits k s t → (update : Object) × IsInPlace set digits update s × CondemnsNoMore set update.key.name r s × ((current : List ℕ) (pods last : Pods)
         → replicas_in set update.key.name current (views_in set s) ≡ Ok pods → replicas_in set update.key.name current (views_in set t) ≡ Ok last → most_rounds set pods ≤ k
         → (round : IsRoundOver set digits t u) → members_have_float (old_status round.now) ≡ false
         → (next : SetParts) → IsReadIn u next → next.object.key ≡ key → IsUnrefusedOver next digits u
