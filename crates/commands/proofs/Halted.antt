@@ -6,7 +6,7 @@ use Rattle.plain.specs.Faults.{CountsInput}
 use Rattle.plain.specs.declared.devices.input.InputFault.{InputFault}
 use Rattle.plain.specs.declared.devices.input.InputFault.TheVariants as input
 use Rattle.commands.specs.declared.halt.Halt.{Halt}
-use Rattle.commands.specs.declared.halt.Halt.TheVariants.{Read, Memory, Refused, RefusedAt}
+use Rattle.commands.specs.declared.halt.Halt.TheVariants.{Read, Memory, Refused, RefusedAt, Foreign}
 use Rattle.commands.specs.Halts.{CountsReads, halt_of, is_read}
 use Rattle.commands.proofs.Serving.{false-true}
 
@@ -26,6 +26,7 @@ counts-none (Err Read) old new unread same = absurd (false-true (sym unread))
 counts-none (Err Memory) old new unread same = same
 counts-none (Err (Refused name)) old new unread same = same
 counts-none (Err (RefusedAt name line fault)) old new unread same = same
+counts-none (Err (Foreign pod)) old new unread same = same
 
 -- a halt for the reader's failure counts one
 pub read-fails : (halt : Halt) (old new : ℕ) → CountsReads {A = ℕ} (Err halt) old new → is_read halt ≡ true → old < new
@@ -33,6 +34,7 @@ read-fails Read old new counts is = counts
 read-fails Memory old new counts is = absurd (false-true is)
 read-fails (Refused name) old new counts is = absurd (false-true is)
 read-fails (RefusedAt name line fault) old new counts is = absurd (false-true is)
+read-fails (Foreign pod) old new counts is = absurd (false-true is)
 
 same-less : (old new : ℕ) → new ≡ old → old < new → ⊥
 same-less old new same less = omega arith
@@ -45,6 +47,7 @@ spared-unwritten Same Read old new wrote counts same (inl read) = same refl
 spared-unwritten Same Memory old new wrote counts same (inl read) = absurd (same-less old new counts read)
 spared-unwritten Same (Refused name) old new wrote counts same (inl read) = absurd (same-less old new counts read)
 spared-unwritten Same (RefusedAt name line fault) old new wrote counts same (inl read) = absurd (same-less old new counts read)
+spared-unwritten Same (Foreign pod) old new wrote counts same (inl read) = absurd (same-less old new counts read)
 
 -- if the reader did not fail, the writer did
 pub spared-read : (Same Wrote : Type 0) (old new : ℕ) → new ≡ old → (Wrote → Same) → (old < new) ⊎ Wrote → Same

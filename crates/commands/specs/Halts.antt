@@ -5,7 +5,7 @@ use Rattle.plain.specs.Streams.{Puts}
 use Rattle.plain.specs.declared.devices.input.InputFault.{InputFault}
 use Rattle.plain.specs.declared.devices.input.InputFault.TheVariants as input
 use Rattle.commands.specs.declared.halt.Halt.{Halt}
-use Rattle.commands.specs.declared.halt.Halt.TheVariants.{Read, Memory, Refused, RefusedAt}
+use Rattle.commands.specs.declared.halt.Halt.TheVariants.{Read, Memory, Refused, RefusedAt, Foreign}
 
 -- the reader failed
 abbrev pub is_read : Halt → Bool
@@ -13,6 +13,7 @@ is_read Read = true
 is_read Memory = false
 is_read (Refused name) = false
 is_read (RefusedAt name line fault) = false
+is_read (Foreign pod) = false
 
 -- the reader's failures before and after: one is counted exactly if the reader failed
 abbrev pub CountsReads : {A : Type 0} → Result A Halt → ℕ → ℕ → Type 0
@@ -21,6 +22,7 @@ CountsReads (Err Read) old new = old < new
 CountsReads (Err Memory) old new = new ≡ old
 CountsReads (Err (Refused name)) old new = new ≡ old
 CountsReads (Err (RefusedAt name line fault)) old new = new ≡ old
+CountsReads (Err (Foreign pod)) old new = new ≡ old
 
 -- what a fault of the input is
 abbrev pub halt_of : InputFault → Halt
@@ -38,12 +40,18 @@ abbrev pub refused_as : Option ℕ → (fault name : List ℕ) → List ℕ
 refused_as None fault name = name
 refused_as (Some n) fault name = name ++ 10 ∷ (codes "line " ++ (decimal n ++ fault))
 
+-- the same of a plan that is refused for a pod that is not the set's: in a line of its own the pod, if it is to be told
+abbrev pub foreign_as : (told : Bool) → (pod : List ℕ) → List ℕ
+foreign_as false pod = codes "Foreign"
+foreign_as true pod = codes "Foreign" ++ 10 ∷ (codes "Pod " ++ pod)
+
 -- what is written of the refusal of an input, if it is refused
 abbrev pub name_of : Halt → Option (List ℕ)
 name_of Read = None
 name_of Memory = None
 name_of (Refused name) = Some name.now
 name_of (RefusedAt name line fault) = Some (refused_as (Some line) fault.now name.now)
+name_of (Foreign pod) = Some (foreign_as true pod)
 
 -- there is a name, of which this is written
 abbrev pub IsNamed : Option (List ℕ) → (List ℕ → Type 0) → Type 0

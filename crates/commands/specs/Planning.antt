@@ -24,7 +24,7 @@ use Rattle.plan_lines.specs.RefusedLines.{refused_line_of}
 use Rattle.plan_lines.specs.Refusals.{plan_error_name}
 use Rattle.commands.specs.declared.args.PlanWords.{PlanWords}
 use Rattle.commands.specs.declared.plan.Planned.{Planned}
-use Rattle.commands.specs.Halts.{refused_as, told_line}
+use Rattle.commands.specs.Halts.{foreign_as, refused_as, told_line}
 use Rattle.commands.specs.CommandLine.{IsPlanAsked}
 use Rattle.commands.specs.Forms.{WritesBy}
 
@@ -77,28 +77,29 @@ fault_words read.BadMeta = codes ": another member of metadata"
 fault_words read.TooLong = codes ": it is too long"
 fault_words read.Memory = []
 
--- the same of a set, or of its plan
-abbrev pub plan_refusal : PlanError → Option (List ℕ)
-plan_refusal errors.NameTooLong = Some (plan_error_name errors.NameTooLong)
-plan_refusal errors.BadSpec = Some (plan_error_name errors.BadSpec)
-plan_refusal (errors.Foreign name) = Some (plan_error_name (errors.Foreign name))
-plan_refusal errors.OrdinalTooLarge = Some (plan_error_name errors.OrdinalTooLarge)
-plan_refusal errors.NoRevisionName = Some (plan_error_name errors.NoRevisionName)
-plan_refusal errors.Memory = None
+-- the same of a set, or of its plan, and the pod that is not the set's, if it is to be told
+abbrev pub plan_refusal : (shows_pod : Bool) → PlanError → Option (List ℕ)
+plan_refusal shows_pod errors.NameTooLong = Some (plan_error_name errors.NameTooLong)
+plan_refusal shows_pod errors.BadSpec = Some (plan_error_name errors.BadSpec)
+plan_refusal shows_pod (errors.Foreign pod) = Some (foreign_as shows_pod pod)
+plan_refusal shows_pod errors.OrdinalTooLarge = Some (plan_error_name errors.OrdinalTooLarge)
+plan_refusal shows_pod errors.NoRevisionName = Some (plan_error_name errors.NoRevisionName)
+plan_refusal shows_pod errors.Memory = None
 
 -- the plan of the set over these objects is refused by this name
-abbrev pub IsPlanOfSetRefused : SetParts → Lists → ℕ → List ℕ → Type 0
-IsPlanOfSetRefused set lists digits name = (e : PlanError) × (plan_refusal e ≡ Some name) × IsPlan set lists.pods lists.claims lists.revisions digits (Err e)
+abbrev pub IsPlanOfSetRefused : PlanWords → SetParts → Lists → List ℕ → Type 0
+IsPlanOfSetRefused asked set lists name =
+    (e : PlanError) × (plan_refusal asked.shows_line e ≡ Some name) × IsPlan set lists.pods lists.claims lists.revisions asked.digits (Err e)
 
--- the same, or what is read of the set is
-abbrev pub IsSetRefused : Object → Lists → ℕ → List ℕ → Type 0
-IsSetRefused object lists digits name = ((e : PlanError) × (plan_refusal e ≡ Some name) × (set_of object ≡ Err e))
-    ⊎ ((set : SetParts) × (set_of object ≡ Ok set) × IsPlanOfSetRefused set lists digits name)
+-- the same, or what is read of the set is, and that names no pod
+abbrev pub IsSetRefused : PlanWords → Object → Lists → List ℕ → Type 0
+IsSetRefused asked object lists name = ((e : PlanError) × (plan_refusal false e ≡ Some name) × (set_of object ≡ Err e))
+    ⊎ ((set : SetParts) × (set_of object ≡ Ok set) × IsPlanOfSetRefused asked set lists name)
 
 -- No set among the objects is the requested one, which is NotFound, or the first that is has no plan.
 abbrev pub IsRefusedOver : PlanWords → Lists → List ℕ → Type 0
 IsRefusedOver asked lists name = ((find (is_named asked.namespace.now asked.name.now) lists.sets ≡ None) × (name ≡ codes "NotFound"))
-    ⊎ ((object : Object) × (find (is_named asked.namespace.now asked.name.now) lists.sets ≡ Some object) × IsSetRefused object lists asked.digits name)
+    ⊎ ((object : Object) × (find (is_named asked.namespace.now asked.name.now) lists.sets ≡ Some object) × IsSetRefused asked object lists name)
 
 -- A line of the input is no object, for the reason of this name, and for the first such line.
 abbrev pub IsInputRefusal : (shows_line : Bool) → (input name : List ℕ) → Type 0

@@ -7,11 +7,12 @@ ghost use Rattle.commands.specs.Planning.{plan_refusal, read_refusal};
 ghost use Rattle.commands.specs.Replaying.{run_refusal, script_refusal};
 
 use crate::status::{
-    BAD_WORDS, FAILURE, REFUSED, SUCCESS, TrackedAlloc, write_refusal, write_refusal_at,
+    BAD_WORDS, FAILURE, REFUSED, SUCCESS, TrackedAlloc, write_foreign, write_refusal,
+    write_refusal_at,
 };
 use controllers::ClusterFault;
 use history::ReplayError;
-use objects::{Memory, ReadError};
+use objects::{Memory, ReadError, Text};
 use outcome_lines::ScriptingError;
 use outcomes::OutcomesError;
 use plain::{InputFault, RequestError, Sink};
@@ -21,7 +22,7 @@ use sets::PlanError;
 use std::alloc::AllocError;
 
 /// Why there is no output.
-#[derive(Clone, Copy, Drop)]
+#[derive(Drop)]
 pub(crate) enum Halt {
     /// The reader failed.
     Read,
@@ -31,6 +32,8 @@ pub(crate) enum Halt {
     Refused(&'static str),
     /// The same, for the line of this number, in which that is wrong.
     RefusedAt(&'static str, u64, &'static str),
+    /// A plan is refused for the pod of this name, which is not the set's.
+    Foreign(Text),
 }
 
 impl From<AllocError> for Halt {
@@ -72,7 +75,7 @@ impl From<ReadError> for Halt {
 }
 
 impl From<PlanError> for Halt {
-    ghost from_gives = { λ error halt. (is_read halt ≡ false) × (name_of halt ≡ plan_refusal error) };
+    ghost from_gives = { λ error halt. (is_read halt ≡ false) × (name_of halt ≡ plan_refusal false error) };
 
     fn from(error: PlanError) -> Halt {
         match error {
@@ -172,5 +175,6 @@ pub(crate) fn report_halt<F: Sink>(heap: &mut TrackedAlloc, halt: Halt, faults: 
         }
         Halt::Refused(name) => write_refusal(faults, name),
         Halt::RefusedAt(name, line, fault) => write_refusal_at(faults, name, line, fault),
+        Halt::Foreign(pod) => write_foreign(faults, &pod),
     }
 }

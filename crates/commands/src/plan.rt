@@ -12,7 +12,7 @@ ghost use Rattle.commands.specs.Halts.{CountsReads, Tells, is_read, name_of, tol
 ghost use Rattle.objects.specs.Steps.{Fails};
 ghost use Rattle.plain.specs.Lines.{lines};
 ghost use Rattle.plan_lines.specs.RefusedLines.{refused_line_of};
-ghost use Rattle.commands.specs.Planning.{IsInputRefusal, IsPlanOfSetRefused, IsPlanRefusal, IsPlanRefusedBy, IsPlanText, IsRefusedOver, IsTextOfSet, IsTextOver, fault_words, planned_text, text_by, text_with};
+ghost use Rattle.commands.specs.Planning.{IsInputRefusal, IsPlanOfSetRefused, IsPlanRefusal, IsPlanRefusedBy, IsPlanText, IsRefusedOver, IsTextOfSet, IsTextOver, fault_words, plan_refusal, planned_text, text_by, text_with};
 
 use crate::args::PlanWords;
 use crate::halt::{Halt, halt_at, report_halt};
@@ -24,7 +24,7 @@ use plan_lines::{
     write_actions,
 };
 use reasons::Why;
-use sets::{Plan, Set, read_set};
+use sets::{Plan, PlanError, Set, read_set};
 use std::alloc::Global;
 
 /// A plan, what its reasons depend on if it is to be in words, and the lines after its actions.
@@ -202,10 +202,10 @@ fn plan_to_write(
     requires some { 1 ≤ asked.now.digits }
     requires most { asked.now.digits ≤ 64 }
     ensures planned { IfOk result (λ planned. IsTextOfSet asked.now (set_parts set) (lists_of listed.now) (planned_text planned)) }
-    ensures refused { IfErr result (λ halt. IfSome (name_of halt) (IsPlanOfSetRefused (set_parts set) (lists_of listed.now) asked.now.digits)) }
+    ensures refused { IfErr result (λ halt. IfSome (name_of halt) (IsPlanOfSetRefused asked.now (set_parts set) (lists_of listed.now))) }
     ensures read { IfErr result (λ halt. is_read halt ≡ false) }
 {
-    let plan = plan_of_set(alloc, asked.digits, listed, &set)?;
+    let plan = plan_or_halt(alloc, asked, listed, &set)?;
     if asked.brief {
         Ok(in_words(alloc, asked.digits, listed, set, plan)?)
     } else {
@@ -249,22 +249,52 @@ fn in_words(
     })
 }
 
-/// The plan of this set.
-fn plan_of_set(alloc: Global, digits: usize, listed: &Listed, set: &Set) -> Result<Plan, Halt>
-    requires some { 1 ≤ digits }
-    requires most { digits ≤ 64 }
+/// The plan of this set, or why there is none.
+fn plan_or_halt(
+    alloc: Global,
+    asked: &PlanWords<'_>,
+    listed: &Listed,
+    set: &Set,
+) -> Result<Plan, Halt>
+    requires some { 1 ≤ asked.now.digits }
+    requires most { asked.now.digits ≤ 64 }
     ensures planned { IfOk result (λ plan.
-        IsPlan (set_parts set.now) listed.now.pods.items listed.now.claims.items listed.now.revisions.items digits (Ok plan)) }
-    ensures refused { IfErr result (λ halt. IfSome (name_of halt) (IsPlanOfSetRefused (set_parts set.now) (lists_of listed.now) digits)) }
+        IsPlan (set_parts set.now) listed.now.pods.items listed.now.claims.items listed.now.revisions.items asked.now.digits (Ok plan)) }
+    ensures refused { IfErr result (λ halt. IfSome (name_of halt) (IsPlanOfSetRefused asked.now (set_parts set.now) (lists_of listed.now))) }
     ensures read { IfErr result (λ halt. is_read halt ≡ false) }
 {
-    let plan = sets::plan(
+    match plan_of_set(alloc, asked.digits, listed, set) {
+        Ok(plan) => Ok(plan),
+        Err(error) => Err(no_plan(asked.shows_line, error)),
+    }
+}
+
+/// The plan of this set.
+fn plan_of_set(alloc: Global, digits: usize, listed: &Listed, set: &Set) -> Result<Plan, PlanError>
+    requires some { 1 ≤ digits }
+    requires most { digits ≤ 64 }
+    ensures { IsPlan (set_parts set.now) listed.now.pods.items listed.now.claims.items listed.now.revisions.items digits result }
+{
+    sets::plan(
         alloc,
         set,
         listed.pods.as_slice(),
         listed.claims.as_slice(),
         listed.revisions.as_slice(),
         digits,
-    )?;
-    Ok(plan)
+    )
+}
+
+/// Why a set has no plan, with the pod that is not the set's, if it is to be told.
+fn no_plan(shows_pod: bool, error: PlanError) -> Halt
+    ensures read { is_read result ≡ false }
+    ensures named { name_of result ≡ plan_refusal shows_pod error }
+{
+    if !shows_pod {
+        return Halt::from(error);
+    }
+    match error {
+        PlanError::Foreign(pod) => Halt::Foreign(pod),
+        error => Halt::from(error),
+    }
 }

@@ -1,8 +1,9 @@
 //! Exit statuses, and what is written with each.
-ghost use Rattle.std.specs.Prelude.{◌≡◌, ◌≢◌, ◌<◌, ◌⊎◌, ◌++◌, ◌∷◌, IfNone, OnSome, Some, codes, decimal, false};
+ghost use Rattle.std.specs.Prelude.{◌≡◌, ◌≢◌, ◌<◌, ◌⊎◌, ◌++◌, ◌∷◌, IfNone, OnSome, Some, codes, decimal, false, true};
 ghost use Rattle.plain.specs.Streams.{Puts, PutsPart};
-ghost use Rattle.commands.specs.Halts.{Tells, refusal_text, refused_as};
+ghost use Rattle.commands.specs.Halts.{Tells, foreign_as, refusal_text, refused_as};
 
+use objects::Text;
 use plain::{Sink, write_all};
 use std::alloc::Global;
 
@@ -78,6 +79,33 @@ pub(crate) fn write_refusal_at<F: Sink>(faults: &mut F, name: &str, line: u64, f
 {
     let _ = put_refusal_at(faults, name, line, fault);
     REFUSED
+}
+
+/// The same for a plan that is refused for a pod, followed by `Pod` with its name, and a line end.
+pub(crate) fn write_foreign<F: Sink>(faults: &mut F, pod: &Text) -> u8
+    ensures status { result ≡ REFUSED }
+    ensures all { Tells (foreign_as true pod.now) (F.written faults.old) (F.written faults.new) (F.failures faults.old) (F.failures faults.new) }
+{
+    let _ = put_foreign(faults, pod);
+    REFUSED
+}
+
+fn put_foreign<F: Sink>(faults: &mut F, pod: &Text) -> Option<()>
+    ensures put { OnSome result (Puts (F.written faults.old) (refusal_text (foreign_as true pod.now)) (F.written faults.new)) }
+    ensures failed { IfNone result (F.failures faults.old < F.failures faults.new) }
+{
+    write_all(faults, b"refused: ")?;
+    put_pod(faults, pod)?;
+    write_all(faults, b"\n")
+}
+
+fn put_pod<F: Sink>(faults: &mut F, pod: &Text) -> Option<()>
+    ensures put { OnSome result (Puts (F.written faults.old) (foreign_as true pod.now) (F.written faults.new)) }
+    ensures well { OnSome result (F.failures faults.new ≡ F.failures faults.old) }
+    ensures failed { IfNone result (F.failures faults.old < F.failures faults.new) }
+{
+    write_all(faults, b"Foreign\nPod ")?;
+    write_all(faults, pod.as_str().as_bytes())
 }
 
 fn put_refusal_at<F: Sink>(faults: &mut F, name: &str, line: u64, fault: &str) -> Option<()>
