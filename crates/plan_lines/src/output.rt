@@ -1,5 +1,5 @@
 // The output of a plan: the lines of its actions, written as they are printed.
-ghost use Rattle.std.specs.Prelude.{◌≡◌, ◌++◌, ◌∷◌, [], IfOk, OnErr, OnOk};
+ghost use Rattle.std.specs.Prelude.{◌≡◌, ◌<◌, ◌++◌, ◌∷◌, [], length, IfOk, OnErr, OnOk};
 ghost use Rattle.plain.specs.Streams.{Puts, PutsPart};
 ghost use Rattle.plan_lines.specs.Formats.{action_text, actions_text};
 ghost use Rattle.plan_lines.specs.Output.{CountsWrites, PutsBut};
@@ -101,8 +101,8 @@ pub fn write_actions<W: Sink>(
     write_all(writer, lines.as_slice()).ok_or(OutputFault::Write)
 }
 
-/// Appends the line of the action to the lines that wait, and writes them all if they are enough. Returns what still
-/// waits.
+/// Appends the line of the action to the lines that wait, and writes them all if they have 65,536 bytes. Returns what
+/// still waits.
 fn put_line<W: Sink>(
     alloc: Global,
     format: Format<'_>,
@@ -110,11 +110,14 @@ fn put_line<W: Sink>(
     waiting: Vec<u8>,
     writer: &mut W,
 ) -> Result<Vec<u8>, OutputFault>
+    requires { length waiting.items < 65536 }
     ensures put { IfOk result (λ left. PutsBut (W.written writer.old) (waiting.items ++ (action_text format.entry action.now ++ 10 ∷ []))
         left.items (W.written writer.new)) }
     ensures part { OnErr result (PutsPart (W.written writer.old) (waiting.items ++ (action_text format.entry action.now ++ 10 ∷ []))
         (W.written writer.new)) }
     ensures writes { CountsWrites result (W.failures writer.old) (W.failures writer.new) }
+    ensures few { IfOk result (λ left. length left.items < 65536) }
+    ensures enough { length (waiting.items ++ (action_text format.entry action.now ++ 10 ∷ [])) < 65536 → writer.new ≡ writer.old }
 {
     let mut lines = put_formatted(alloc, format, action, waiting)?;
     if ENOUGH <= lines.len() {

@@ -1,5 +1,5 @@
 // The history of a race, written as it is printed.
-ghost use Rattle.std.specs.Prelude.{◌≡◌, ◌++◌, ◌∷◌, [], IfOk, OnErr, OnOk};
+ghost use Rattle.std.specs.Prelude.{◌≡◌, ◌<◌, ◌++◌, ◌∷◌, [], length, IfOk, OnErr, OnOk};
 ghost use Rattle.serde_json.specs.Written.{compact_text};
 ghost use Rattle.plain.specs.Streams.{Puts, PutsPart};
 ghost use Rattle.plan_lines.specs.Output.{CountsWrites, PutsBut};
@@ -48,19 +48,22 @@ pub fn write_history<W: Sink>(
     write_all(writer, rest.as_slice()).ok_or(OutputFault::Write)
 }
 
-/// Appends the line of the item to the lines that wait, and writes them all if they are enough. Returns what still
-/// waits.
+/// Appends the line of the item to the lines that wait, and writes them all if they have 65,536 bytes. Returns what
+/// still waits.
 fn put_line<W: Sink>(
     spec: &RaceSpec,
     item: &Item,
     waiting: Vec<u8>,
     writer: &mut W,
 ) -> Result<Vec<u8>, OutputFault>
+    requires { length waiting.items < 65536 }
     ensures put { IfOk result (λ left. PutsBut (W.written writer.old) (waiting.items ++ (compact_text (item_data spec.now item.now) ++ 10 ∷ []))
         left.items (W.written writer.new)) }
     ensures part { OnErr result (PutsPart (W.written writer.old) (waiting.items ++ (compact_text (item_data spec.now item.now) ++ 10 ∷ []))
         (W.written writer.new)) }
     ensures writes { CountsWrites result (W.failures writer.old) (W.failures writer.new) }
+    ensures few { IfOk result (λ left. length left.items < 65536) }
+    ensures enough { length (waiting.items ++ (compact_text (item_data spec.now item.now) ++ 10 ∷ [])) < 65536 → writer.new ≡ writer.old }
 {
     let mut lines = put_item(spec, item, waiting)?;
     if ENOUGH <= lines.len() {

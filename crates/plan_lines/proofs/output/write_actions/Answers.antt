@@ -17,6 +17,7 @@ loop-action-preserved g c = record {
       line-put c.args.format c.args.last.now _ _ _ _ c.loop-action.lines.items _ c.args.actions.now c.loop-action.action-index c.action-item.result c.loop-action-test.true c.action-item.is
       c.loop-action.invariant.put c.in_ok-lines.ensures.put;
   writes = c.in_ok-lines.ensures.writes ∙ c.loop-action.invariant.writes;
+  few = c.in_ok-lines.ensures.few;
 }
 
 pub returns-in_err-extend_from_slice-clause-part : goal.returns-in_err-extend_from_slice-clause-part

@@ -22,6 +22,7 @@ loop-item-preserved g c =
           (subst (λ (items : List Item). c.item-item.result ≡ get_or items c.loop-item.item-index c.item-item.result) same c.item-item.is) c.loop-item.invariant.put
           c.in_ok-lines.ensures.put;
       writes = c.in_ok-lines.ensures.writes ∙ c.loop-item.invariant.writes;
+      few = c.in_ok-lines.ensures.few;
     }
 
 pub returns-clause-part : goal.returns-clause-part

@@ -1,4 +1,4 @@
-use Rattle.std.proofs.Common.{◌≡◌, ◌++◌, drop}
+use Rattle.std.proofs.Common.{◌≡◌, ◌<◌, ◌++◌, drop, length}
 use Rattle.plan_lines.specs.Output.{PutsBut}
 use Rattle.scripts.specs.RaceHistory.{history_text}
 use Rattle.scripts.proofs.race_history.write_history.Given as goal
@@ -10,4 +10,5 @@ invariant-loop-item g l = record {
       PutsBut (g.W.Sink.written l.fn.writer) (history_text l.spec l.trace.items.items l.order)
       (l.lines.items ++ history_text l.spec (drop l.item-index l.trace.items.items) l.order) (g.W.Sink.written l.writer);
   writes : g.W.Sink.failures l.writer ≡ g.W.Sink.failures l.fn.writer;
+  few : length l.lines.items < 65536;
 }
