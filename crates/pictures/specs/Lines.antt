@@ -38,10 +38,11 @@ abbrev pub call_line : (place caller : ℕ) → Request → (before : CallerPhas
 call_line place c r Idle = note_over_caller c place (request_words r ++ codes "\n")
 call_line place c r _ = []
 
--- ---- Check: an accepted write holds its shard, and another one waits for the frontier to reach what it saw
+-- ---- Check: an accepted write holds its shard. Another one is refused or changes nothing, and waits for the frontier to
+-- reach what it saw
 abbrev pub checked_line : (place caller shard : ℕ) → (after : CallerPhase) → List ℕ
 checked_line place c s (Holding held) = caller_to_shard c s place (codes "check, holds the shard\n")
-checked_line place c s (Waiting saw) = caller_to_shard c s place (codes "check, sees " ++ (decimal saw ++ codes "\n"))
+checked_line place c s (Waiting saw) = caller_to_shard c s place (codes "check, not accepted, sees " ++ (decimal saw ++ codes "\n"))
 checked_line place c s _ = []
 
 abbrev pub check_line : (place caller : ℕ) → (before after : CallerPhase) → List ℕ

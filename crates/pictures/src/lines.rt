@@ -72,7 +72,7 @@ fn put_checked(
         CallerPhase::Waiting { saw } => {
             write!(
                 out,
-                "    C{caller}->>S{shard}: {place}: check, sees {saw}\n"
+                "    C{caller}->>S{shard}: {place}: check, not accepted, sees {saw}\n"
             )
         }
         _ => Ok(()),

@@ -1,10 +1,11 @@
 //! The line of an event.
-ghost use Rattle.std.specs.Prelude.{◌≡◌, ◌<◌, ◌-◌, ◌^◌, ◌++◌, string_bytes, Some, OnOk};
-ghost use Rattle.traces.specs.Lines.{caller_words, event_line, event_words, given_words, head, verdict_words};
+ghost use Rattle.std.specs.Prelude.{◌≡◌, ◌<◌, ◌-◌, ◌^◌, ◌++◌, codes, string_bytes, Some, OnOk};
+ghost use Rattle.traces.specs.Lines.{caller_words, denied_words, event_line, event_words, given_words, head, outcome_words, verdict_words};
 
 use crate::enabled::is_enabled;
 use crate::places::put_place;
 use crate::run_state::RunState;
+use history::CallerPhase;
 use interleavings::Event;
 use pictures::{Roles, put_reply, put_request};
 use requests::Reply;
@@ -27,7 +28,7 @@ pub(crate) fn put_line<R: Roles>(
     let enabled = is_enabled(event, before);
     put_head(place, caller, roles, out)?;
     put_event(event, delivered, out)?;
-    put_verdict(enabled, out)?;
+    put_verdict(event, enabled, after.standing, out)?;
     put_place(caller, enabled, after, out)?;
     write!(out, "\n")
 }
@@ -95,11 +96,37 @@ fn put_given(reply: &Reply, out: &mut String) -> Result<(), AllocError>
     put_reply(reply, out)
 }
 
-fn put_verdict(enabled: bool, out: &mut String) -> Result<(), AllocError>
-    ensures { OnOk result (string_bytes out.new ≡ string_bytes out.old ++ verdict_words enabled) }
+fn put_verdict(
+    event: &Event,
+    enabled: bool,
+    after: CallerPhase,
+    out: &mut String,
+) -> Result<(), AllocError>
+    ensures { OnOk result (string_bytes out.new ≡ string_bytes out.old ++ verdict_words event.now enabled after) }
 {
-    if enabled {
-        return out.push_str(": ");
+    if !enabled {
+        return out.push_str(": not enabled: ");
     }
-    out.push_str(": not enabled: ")
+    put_outcome(event, after, out)
+}
+
+/// Appends a colon, and that a write is not accepted, that no number is left for it, or that a list at a version is denied.
+fn put_outcome(event: &Event, after: CallerPhase, out: &mut String) -> Result<(), AllocError>
+    ensures { OnOk result (string_bytes out.new ≡ string_bytes out.old ++ (codes ": " ++ outcome_words event.now after)) }
+{
+    match after {
+        CallerPhase::Waiting { saw: _ } => put_denied(event, out),
+        _ => out.push_str(": "),
+    }
+}
+
+fn put_denied(event: &Event, out: &mut String) -> Result<(), AllocError>
+    ensures { OnOk result (string_bytes out.new ≡ string_bytes out.old ++ (codes ": " ++ denied_words event.now)) }
+{
+    match event {
+        Event::Check(_) => out.push_str(": not accepted, "),
+        Event::Reserve(_) => out.push_str(": no number is left, "),
+        Event::ReadAt(_) => out.push_str(": denied, "),
+        _ => out.push_str(": "),
+    }
 }
