@@ -16,17 +16,20 @@ use Rattle.history.proofs.Reached.{after_more}
 use Rattle.plain_store.specs.Reached.{most_revisions}
 use Rattle.pictures.specs.declared.snapshot.Snapshot.{Snapshot}
 use Rattle.pictures.specs.Lines.{reply_line}
-use Rattle.pictures.specs.Picture.{lines_between, lines_of, snapshot_of, delivered, shown_lines}
-use Rattle.pictures.specs.Shown.{shows, writer_by, writers}
+use Rattle.pictures.specs.Picture.{caller_phase_by, lines_between, lines_of, participants, snapshot_of, delivered, shown_lines}
+use Rattle.pictures.specs.Shown.{participant, shows}
 use Rattle.pictures.specs.declared.shown.Shown.{Shown}
 
 -- the events up to one are those before it, and it
 pub taken_more : (i : ℕ) (es : List Event) (e : Event) → i < length es → e ≡ get_or es i e → take (i + 1) es ≡ take i es ++ e ∷ []
 taken_more i es e inside is = rw add-one (take-suc es i e inside ∙ ap (λ x. take i es ++ x ∷ []) (sym is))
 
-pub writers_more : (es : List Event) (names : List ℕ) (e : Event) → writers names (es ++ e ∷ []) ≡ with_named (writers names es) (writer_by e)
-writers_more [] names e = refl
-writers_more (x ∷ es) names e = writers_more es (with_named names (writer_by x)) e
+pub participants_more : (shown : Shown) (z : Size) (es : List Event) (names : List ℕ) (w : World) (e : Event)
+    → participants shown z names w (es ++ e ∷ [])
+    ≡ with_named (participants shown z names w es) (participant shown e (caller_phase_by z (after z w es) (named_by e)))
+participants_more shown z [] names w e = refl
+participants_more shown z (x ∷ es) names w e =
+    participants_more shown z es (with_named names (participant shown x (caller_phase_by z w (named_by x)))) (step z w x) e
 
 pub lines_more : (shown : Shown) (z : Size) (es : List Event) (place : ℕ) (w : World) (e : Event)
     → lines_of shown z place w (es ++ e ∷ []) ≡ lines_of shown z place w es ++ lines_between shown z (place + length es) e (after z w es) (step z (after z w es) e)
@@ -39,7 +42,7 @@ lines_more shown z (x ∷ es) place w e =
     ∙ ap (λ p. (first ++ lines_of shown z (suc place) (step z w x) es) ++ lines_between shown z p e (after z (step z w x) es) (step z (after z (step z w x) es) e)) (omega arith)
 
 -- what the caller of a Reply gets is what the event adds to the trace
-delivered_is : (z : Size) (events : List Event) (c : ℕ) (reply : Option Reply) → IsReplyTo z events (event.Reply c) reply
+pub delivered_is : (z : Size) (events : List Event) (c : ℕ) (reply : Option Reply) → IsReplyTo z events (event.Reply c) reply
     → delivered (after z opening events) (step z (after z opening events) (event.Reply c)) ≡ reply
 delivered_is z events c reply is =
     ap (λ (w : World). reply_in (drop (length (trace z events)) w.trace)) (sym (after_more z events opening (event.Reply c)))
@@ -101,3 +104,18 @@ text_next shown z i es e head text new inside is so_far next =
     ∙ ap (λ p. head ++ (lines_of shown z 0 opening done ++ line p)) (omega arith)
     ∙ ap (λ t. head ++ t) (sym (lines_more shown z done 0 opening e))
     ∙ ap (λ xs. head ++ lines_of shown z 0 opening xs) (sym (taken_more i es e inside is))
+
+-- the state of an event's caller before it, as a snapshot has it
+pub phase_before : (z : Size) (events : List Event) (e : Event) (caller : Option ℕ) (before : Snapshot) → caller ≡ named_by e
+    → before ≡ snapshot_of z (after z opening events) caller → before.standing ≡ caller_phase_by z (after z opening events) (named_by e)
+phase_before z events e caller before who is = ap (λ (m : Snapshot). m.standing) (is ∙ ap (snapshot_of z (after z opening events)) who)
+
+-- who takes part up to one event more
+pub named_next : (shown : Shown) (z : Size) (i : ℕ) (es : List Event) (e : Event) (names new : List ℕ) → i < length es → e ≡ get_or es i e
+    → names ≡ participants shown z [] opening (take i es)
+    → new ≡ with_named names (participant shown e (caller_phase_by z (after z opening (take i es)) (named_by e)))
+    → new ≡ participants shown z [] opening (take (i + 1) es)
+named_next shown z i es e names new inside is so_far next =
+    let done = take i es in
+    next ∙ ap (λ names. with_named names (participant shown e (caller_phase_by z (after z opening done) (named_by e)))) so_far
+    ∙ sym (participants_more shown z done [] opening e) ∙ ap (participants shown z [] opening) (sym (taken_more i es e inside is))

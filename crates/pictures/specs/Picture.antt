@@ -6,6 +6,7 @@ use Rattle.interleavings.specs.declared.event.Event.TheVariants as event
 use Rattle.interleavings.specs.Step.{step}
 use Rattle.interleavings.specs.Trace.{reply_in}
 use Rattle.interleavings.specs.World.{Size, World, opening}
+use Rattle.history.specs.Named.{with_named}
 use Rattle.history.specs.NextStep.{can_rise}
 use Rattle.interleavings.specs.Callers.{named_by}
 use Rattle.history.specs.CallerPhase.{caller_phase_of}
@@ -13,7 +14,7 @@ use Rattle.history.specs.declared.caller_phase.CallerPhase.{CallerPhase}
 use Rattle.history.specs.declared.caller_phase.CallerPhase.TheVariants as standing
 use Rattle.pictures.specs.Heading.{heading}
 use Rattle.pictures.specs.Lines.{call_line, check_line, compact_line, crash_line, part_line, publish_lines, raise_line, read_at_line, read_line, reply_line, reserve_line}
-use Rattle.pictures.specs.Shown.{shown_callers, shows}
+use Rattle.pictures.specs.Shown.{participant, shows}
 use Rattle.pictures.specs.declared.snapshot.Snapshot.{Snapshot}
 use Rattle.pictures.specs.declared.shown.Shown.{Shown}
 
@@ -59,5 +60,11 @@ abbrev pub lines_of : Shown → Size → (place : ℕ) → World → List Event 
 lines_of shown z place w [] = []
 lines_of shown z place w (e ∷ es) = lines_between shown z place e w (step z w e) ++ lines_of shown z (suc place) (step z w e) es
 
+-- ---- the callers that take part: these, and those of the events
+abbrev pub participants : Shown → Size → (names : List ℕ) → World → List Event → List ℕ
+participants shown z names w [] = names
+participants shown z names w (e ∷ es) =
+    participants shown z (with_named names (participant shown e (caller_phase_by z w (named_by e)))) (step z w e) es
+
 abbrev pub picture_text : Shown → Size → (role : ℕ → List ℕ) → List Event → List ℕ
-picture_text shown z role events = heading z.shards role (shown_callers shown events) ++ lines_of shown z 0 opening events
+picture_text shown z role events = heading z.shards role (participants shown z [] opening events) ++ lines_of shown z 0 opening events

@@ -1,16 +1,17 @@
 -- What a picture shows of a run: all of it, or only the writes, which are creates, updates, status requests and
 -- deletes.
-use Rattle.std.specs.Prelude.{ℕ, Bool, true, false, ◌||◌, cond, List, [], ◌∷◌, Option, Some, None}
+use Rattle.std.specs.Prelude.{ℕ, Bool, true, false, ◌||◌, cond, Option, Some, None}
 use Rattle.requests.specs.Verdict.{is_write}
+use Rattle.requests.specs.declared.request.Request.{Request}
 use Rattle.requests.specs.declared.reply.Reason.{Reason}
 use Rattle.requests.specs.declared.reply.Reason.TheVariants.{NotFound, AlreadyExists, Conflict, Invalid, StoreFull, Expired, TooLarge}
 use Rattle.requests.specs.declared.reply.Reply.{Reply}
 use Rattle.requests.specs.declared.reply.Reply.TheVariants.{Created, Found, Listed, Updated, Unchanged, Marked, Removed, Compacted, Refused}
 use Rattle.interleavings.specs.declared.event.Event.{Event}
 use Rattle.interleavings.specs.declared.event.Event.TheVariants as event
-use Rattle.history.specs.Named.{named, with_named}
+use Rattle.interleavings.specs.Callers.{named_by}
 use Rattle.history.specs.declared.caller_phase.CallerPhase.{CallerPhase}
-use Rattle.history.specs.declared.caller_phase.CallerPhase.TheVariants.{Waiting}
+use Rattle.history.specs.declared.caller_phase.CallerPhase.TheVariants.{Idle, Waiting}
 use Rattle.pictures.specs.declared.shown.Shown.{Shown}
 use Rattle.pictures.specs.declared.shown.Shown.TheVariants.{All, Writes}
 
@@ -63,26 +64,27 @@ abbrev pub shows : Shown → Event → (before : CallerPhase) → (delivered : O
 shows shown e before delivered = is_all shown || is_of_write e before delivered
 
 -- ---- the participants
+-- the caller, if it is idle and the request is a write: then it calls one
+abbrev pub writer_of : (caller : ℕ) → Request → (before : CallerPhase) → Option ℕ
+writer_of c r Idle = cond (is_write r) (Some c) None
+writer_of c r _ = None
+
 -- the caller that calls a write or crashes, if the event is that
-abbrev pub writer_by : Event → Option ℕ
-writer_by (event.Call c r) = cond (is_write r) (Some c) None
-writer_by (event.Check c) = None
-writer_by (event.Reserve c) = None
-writer_by (event.Publish c) = None
-writer_by event.Raise = None
-writer_by (event.Read c) = None
-writer_by (event.ReadAt c) = None
-writer_by (event.Compact c) = None
-writer_by (event.Part c) = None
-writer_by (event.Reply c) = None
-writer_by (event.Crash c) = Some c
+abbrev pub writer_by : Event → (before : CallerPhase) → Option ℕ
+writer_by (event.Call c r) before = writer_of c r before
+writer_by (event.Check c) before = None
+writer_by (event.Reserve c) before = None
+writer_by (event.Publish c) before = None
+writer_by event.Raise before = None
+writer_by (event.Read c) before = None
+writer_by (event.ReadAt c) before = None
+writer_by (event.Compact c) before = None
+writer_by (event.Part c) before = None
+writer_by (event.Reply c) before = None
+writer_by (event.Crash c) before = Some c
 
--- these names, and those of the callers that call a write or crash
-abbrev pub writers : List ℕ → List Event → List ℕ
-writers names [] = names
-writers names (e ∷ es) = writers (with_named names (writer_by e)) es
-
--- if all is shown, the callers that events name; if only writes are, those that call one or crash
-abbrev pub shown_callers : Shown → List Event → List ℕ
-shown_callers All es = named [] es
-shown_callers Writes es = writers [] es
+-- who takes part by the event: if all is shown, the caller that it names; if only writes are, the one that calls one or
+-- crashes
+abbrev pub participant : Shown → Event → (before : CallerPhase) → Option ℕ
+participant All e before = named_by e
+participant Writes e before = writer_by e before

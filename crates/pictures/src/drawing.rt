@@ -1,21 +1,22 @@
 ghost use Rattle.std.specs.Prelude.{◌≡◌, ◌<◌, ◌≤◌, ◌-◌, ◌^◌, ◌↔◌, ◌⊎◌, ◌++◌, ◌∷◌, [], List, length, string_bytes, IfErr, IfOk, IsErrOf, OnOk};
 ghost use Rattle.plain_store.specs.Reached.{most_revisions};
 ghost use Rattle.history.specs.After.{IsAfter, taken};
-ghost use Rattle.history.specs.Named.{callers};
+ghost use Rattle.history.specs.Named.{callers, with_named};
 ghost use Rattle.interleavings.specs.declared.event.Event.{Event};
+ghost use Rattle.interleavings.specs.Callers.{named_by};
 ghost use Rattle.interleavings.specs.Step.{step};
 ghost use Rattle.interleavings.specs.Trace.{after};
 ghost use Rattle.interleavings.specs.World.{Size, opening};
-ghost use Rattle.pictures.specs.Picture.{event_lines, lines_between, picture_text, shown_lines};
+ghost use Rattle.pictures.specs.Picture.{caller_phase_by, event_lines, lines_between, picture_text, shown_lines};
 ghost use Rattle.pictures.specs.Heading.{heading};
-ghost use Rattle.pictures.specs.Shown.{shown_callers};
+ghost use Rattle.pictures.specs.Shown.{participant};
 
 use crate::heading::put_heading;
 use crate::lines::{
     put_call, put_check, put_compact, put_crash, put_delivered, put_part, put_publish, put_raise,
     put_read, put_read_at, put_reserve,
 };
-use crate::names::shown_callers;
+use crate::names::{note_caller, participant};
 use crate::roles::Roles;
 use crate::shown::{Shown, shows};
 use crate::snapshot::{Snapshot, take_snapshot};
@@ -23,11 +24,12 @@ use history::{Replay, ReplayError};
 use interleavings::Event;
 use requests::Reply;
 use std::alloc::{AllocError, Global};
+use std::collections::BTreeSet;
 
 /// The run of these events from the opening world, as a Mermaid `sequenceDiagram`: the participants, and a line with
 /// its index for each event that is enabled. A publication above a number that is not filled yet has a second line,
 /// which names that number. If only writes are shown, other events have no line, and callers that neither call a write
-/// nor crash do not take part.
+/// nor crash do not take part. A call that is not enabled calls nothing.
 ///
 /// # Errors
 ///
@@ -48,35 +50,37 @@ pub fn picture<R: Roles>(
     ensures too_many { IsErrOf result ReplayError.TooManyCallers → 4096 < callers events.now }
 {
     let mut replay = Replay::new(alloc, shards, capacity)?;
-    let mut text = begin_picture(alloc, shards, events, roles, shown)?;
+    let mut callers = BTreeSet::new(alloc);
+    let mut lines = String::new(alloc);
     for event in events {
-        put_step(shown, shards, &mut replay, event, &mut text)?;
+        put_step(shown, shards, &mut replay, event, &mut callers, &mut lines)?;
     }
+    Ok(under_heading(alloc, shards, &callers, roles, lines.as_str())?)
+}
+
+/// The lines of the participants, and then these.
+fn under_heading<R: Roles>(
+    alloc: Global,
+    shards: usize,
+    callers: &BTreeSet<u64>,
+    roles: &R,
+    lines: &str,
+) -> Result<Vec<u8>, AllocError>
+    ensures { IfOk result (λ text. text.items ≡ heading shards (R.role roles.now) callers.now.keys ++ lines.now) }
+{
+    let mut text = String::new(alloc);
+    put_heading(shards, callers, roles, &mut text)?;
+    text.push_str(lines)?;
     Ok(text.into_bytes())
 }
 
-/// The lines of the participants.
-fn begin_picture<R: Roles>(
-    alloc: Global,
-    shards: usize,
-    events: &[Event],
-    roles: &R,
-    shown: Shown,
-) -> Result<String, AllocError>
-    ensures { IfOk result (λ text. string_bytes text ≡ heading shards (R.role roles.now) (shown_callers shown events.now)) }
-{
-    let callers = shown_callers(alloc, shown, events)?;
-    let mut text = String::new(alloc);
-    put_heading(shards, &callers, roles, &mut text)?;
-    Ok(text)
-}
-
-/// Applies one event, and appends its lines.
+/// Applies one event, notes who takes part by it, and appends its lines.
 fn put_step(
     shown: Shown,
     shards: usize,
     replay: &mut Replay,
     event: &Event,
+    names: &mut BTreeSet<u64>,
     out: &mut String,
 ) -> Result<(), ReplayError>
     requires room { taken replay.old < 2 ^ 64 - 1 }
@@ -84,6 +88,8 @@ fn put_step(
     ensures put { (size : Size) (events : List Event) → IsAfter size events replay.old → size.shards ≡ shards
         → OnOk result (string_bytes out.new ≡ string_bytes out.old
         ++ lines_between shown size (length events) event.now (after size opening events) (step size (after size opening events) event.now)) }
+    ensures named { (size : Size) (events : List Event) → IsAfter size events replay.old
+        → OnOk result (names.new.keys ≡ with_named names.old.keys (participant shown event.now (caller_phase_by size (after size opening events) (named_by event.now)))) }
     ensures reasons { IfErr result (λ reason. (reason ≡ ReplayError.TooManyCallers) ⊎ (reason ≡ ReplayError.Memory)) }
     ensures too_many { (size : Size) (events : List Event) → IsAfter size events replay.old
         → IsErrOf result ReplayError.TooManyCallers → 4096 < callers (events ++ event.now ∷ []) }
@@ -91,6 +97,7 @@ fn put_step(
     let place = replay.events();
     let caller = event.caller();
     let before = take_snapshot(replay, caller);
+    note_caller(names, participant(shown, event, before.standing))?;
     let delivered = replay.step(event)?;
     let after = take_snapshot(replay, caller);
     let put = put_shown(shown, shards, place, event, before, after, &delivered, out);

@@ -15,6 +15,7 @@ mod telling;
 
 pub use drawing::picture;
 pub use labels::{put_reply, put_request};
+pub use names::note_caller;
 pub use roles::{NoRoles, Roles};
 pub use shown::Shown;
 pub use telling::story;

@@ -1,50 +1,48 @@
-//! The callers that events name, and those that write or crash.
-ghost use Rattle.std.specs.Prelude.{◌≡◌, [], IfOk, OnOk};
-ghost use Rattle.history.specs.Named.{named, with_named};
-ghost use Rattle.pictures.specs.Shown.{shown_callers, writer_by, writers};
+//! Who takes part in a picture.
+ghost use Rattle.std.specs.Prelude.{◌≡◌, OnOk};
+ghost use Rattle.history.specs.Named.{with_named};
+ghost use Rattle.pictures.specs.Shown.{participant, writer_by, writer_of};
 
 use crate::shown::Shown;
+use history::CallerPhase;
 use interleavings::Event;
-use std::alloc::{AllocError, Global};
+use requests::Request;
+use std::alloc::AllocError;
 use std::collections::BTreeSet;
 
-/// The callers of what is shown, in ascending order.
-pub(crate) fn shown_callers(
-    alloc: Global,
-    shown: Shown,
-    events: &[Event],
-) -> Result<BTreeSet<u64>, AllocError>
-    ensures { IfOk result (λ callers. callers.keys ≡ shown_callers shown events.now) }
+/// The caller that takes part by the event, if any, by its state before it.
+pub(crate) fn participant(shown: Shown, event: &Event, before: CallerPhase) -> Option<u64>
+    ensures { result ≡ participant shown event.now before }
 {
     match shown {
-        Shown::All => named(alloc, events),
-        Shown::Writes => writers(alloc, events),
+        Shown::All => event.caller(),
+        Shown::Writes => writer_by(event, before),
     }
 }
 
-/// The callers that the events name.
-fn named(alloc: Global, events: &[Event]) -> Result<BTreeSet<u64>, AllocError>
-    ensures { IfOk result (λ callers. callers.keys ≡ named [] events.now) }
+/// The caller, if the event is a call of a write or a crash.
+fn writer_by(event: &Event, before: CallerPhase) -> Option<u64>
+    ensures { result ≡ writer_by event.now before }
 {
-    let mut callers = BTreeSet::new(alloc);
-    for event in events {
-        note(&mut callers, event.caller())?;
+    match event {
+        Event::Call(caller, request) => writer_of(*caller, request, before),
+        Event::Crash(caller) => Some(*caller),
+        _ => None,
     }
-    Ok(callers)
 }
 
-/// The callers that call a write or crash.
-fn writers(alloc: Global, events: &[Event]) -> Result<BTreeSet<u64>, AllocError>
-    ensures { IfOk result (λ callers. callers.keys ≡ writers [] events.now) }
+/// The caller, if it can call, and calls a write.
+fn writer_of(caller: u64, request: &Request, before: CallerPhase) -> Option<u64>
+    ensures { result ≡ writer_of caller request.now before }
 {
-    let mut callers = BTreeSet::new(alloc);
-    for event in events {
-        note(&mut callers, writer_by(event))?;
+    match before {
+        CallerPhase::Idle if request.is_write() => Some(caller),
+        _ => None,
     }
-    Ok(callers)
 }
 
-fn note(callers: &mut BTreeSet<u64>, caller: Option<u64>) -> Result<(), AllocError>
+/// Adds the caller, if there is one and it is not among them.
+pub fn note_caller(callers: &mut BTreeSet<u64>, caller: Option<u64>) -> Result<(), AllocError>
     ensures { OnOk result (callers.new.keys ≡ with_named callers.old.keys caller) }
 {
     let Some(caller) = caller else {
@@ -54,15 +52,4 @@ fn note(callers: &mut BTreeSet<u64>, caller: Option<u64>) -> Result<(), AllocErr
         callers.insert(caller)?;
     }
     Ok(())
-}
-
-/// The caller, if the event is a call of a write or a crash.
-fn writer_by(event: &Event) -> Option<u64>
-    ensures { result ≡ writer_by event.now }
-{
-    match event {
-        Event::Call(caller, request) if request.is_write() => Some(*caller),
-        Event::Crash(caller) => Some(*caller),
-        _ => None,
-    }
 }
