@@ -24,19 +24,22 @@ def shown(request):
 class Cluster:
     """The world of a script of controllers, whose requests are those that the program prints at their indices."""
 
-    def __init__(self, size, said, places):
+    def __init__(self, size, turns, said, places):
         self.world = Interleaved(size["shards"], size["capacity"], places)
         self.callers = list(range(len(size["sets"])))
         self.owners = {caller: caller for caller in self.callers}
         self.names = [one["name"] for one in size["sets"]]
         self.namespaces = list(dict.fromkeys(one.get("namespace", "default") for one in size["sets"]))
         self.kubelet = None
+        self.clients = {line["caller"] for line in turns if line["event"] in ("outside", "ask")}
         self.asked = {line["at"]: line for line in said if "controller" in line}
 
     def role(self, caller):
         """The words before a caller's number."""
         owner = self.owners.get(caller)
-        return "" if owner is None else f"{self.names[owner]}, controller {owner}, "
+        if owner is None:
+            return "" if caller in self.clients else "kubelet, "
+        return f"{self.names[owner]}, controller {owner}, "
 
     def take(self, line):
         event, caller, controller = line["event"], line.get("caller"), line.get("controller")
@@ -244,14 +247,15 @@ def run_cluster(program, lines):
     said = [json.loads(line) for line in said_by(program, ["cluster"], lines)]
     requests = [line["request"] for line in [*lines, *said] if "request" in line]
     keys = {key_of(request) for request in requests if request["do"] not in ("list", "compact")}
-    cluster = Cluster(lines[0], said, places_of(program, lines[0]["shards"], keys))
+    cluster = Cluster(lines[0], lines[1:], said, places_of(program, lines[0]["shards"], keys))
     traced = Traced(cluster.world, cluster.role)
     for number, line in enumerate(lines[1:], 2):
         with traced.section(number):
             cluster.take(line)
     if cluster.asked:
         raise Fault(f"a request at {min(cluster.asked)} that no line calls for")
-    check_trace(traced, [line for line in said_by(program, ["cluster", "--trace"], lines) if "plan refused" not in line])
+    trace, writes = (said_by(program, ["cluster", form], lines) for form in ("--trace", "--writes"))
+    check_trace(traced, [line for line in trace if "plan refused" not in line], writes)
     cluster.check_calls(said)
     check_replies(cluster.world, said)
     return said, list(check_promises(cluster, said[-1]["order"], lines[0]["capacity"]))

@@ -1,4 +1,5 @@
-"""The trace of a run, by docs/REFERENCE.md: a line for each event, with its caller's state after it."""
+"""The trace of a run, and its writes, by docs/REFERENCE.md: a line for each event, with its caller's state after it; and a line for
+each write, at its reply or at the crash of its caller."""
 from contextlib import contextmanager
 
 from judging import Fault
@@ -54,11 +55,16 @@ def standing_words(world, phase):
     return name
 
 
+# The steps after which a caller may wait for its reply at once, and what is said of it then: a write was not accepted, no number
+# was left for it, or a list at a version was denied.
+DENIED = {"check": "not accepted, ", "reserve": "no number is left, ", "readat": "denied, "}
+
+
 class Traced:
-    """Watches a world, and keeps a line for each event."""
+    """Watches a world, and keeps a line for each event, and for each write."""
 
     def __init__(self, world, role=lambda caller: ""):
-        self.world, self.role, self.lines = world, role, []
+        self.world, self.role, self.lines, self.writes = world, role, [], []
         self.taken = {"call": world.call, "step": world.step}
         world.call, world.step = self.call, self.step
 
@@ -78,21 +84,34 @@ class Traced:
     def trace(self, caller, words, take):
         world, place = self.world, self.world.count
         before, replies = (world.phases.get(caller), world.frontier), len(world.replies)
+        asked = world.calls[world.opened[caller]][1] if world.is_open(caller) else None
         take()
         was_enabled = before != (world.phases.get(caller), world.frontier)
+        who = "" if caller is None else f"{self.role(caller)}caller {caller}: "
+        end = words if words == "crash" else None
         if len(world.replies) > replies:
-            words += " " + reply_words(next(reply for at, reply in world.replies.values() if at == place))
-        where = standing_words(world, world.phases.get(caller, ("idle",)))
+            end = reply_words(next(reply for at, reply in world.replies.values() if at == place))
+            words += " " + end
+        if end and asked and asked["do"] in WRITES:
+            self.writes.append(f"{place}: {who}{request_words(asked)}: {end}")
+        phase = world.phases.get(caller, ("idle",))
+        where = standing_words(world, phase)
+        if was_enabled and phase[0] == "waiting":
+            where = DENIED.get(words, "") + where
         if caller is None:
             where = f"the frontier is {world.frontier}" + ("" if was_enabled else f", and {world.frontier + 1} is not filled")
-        who = "" if caller is None else f"{self.role(caller)}caller {caller}: "
         self.lines.append(f"{place}: {who}{words}: {'' if was_enabled else 'not enabled: '}{where}")
 
 
-def check_trace(traced, said):
-    """The printed lines are those of the model."""
-    for one, other in zip(said, traced.lines):
+def check_lines(what, said, lines):
+    for one, other in zip(said, lines):
         if one != other:
-            raise Fault(f"the trace says {one!r}, where {other!r} is to come")
-    if len(said) != len(traced.lines):
-        raise Fault(f"a trace of {len(said)} lines, where {len(traced.lines)} are to come")
+            raise Fault(f"the {what} says {one!r}, where {other!r} is to come")
+    if len(said) != len(lines):
+        raise Fault(f"a {what} of {len(said)} lines, where {len(lines)} are to come")
+
+
+def check_trace(traced, said, writes):
+    """The printed lines are those of the model, and those of the writes."""
+    check_lines("trace", said, traced.lines)
+    check_lines("list of writes", writes, traced.writes)

@@ -25,7 +25,7 @@ use Rattle.commands.specs.Halts.{IsRefusedIn}
 use Rattle.commands.specs.Forms.{IsFormatBy, WritesBy}
 use Rattle.commands.specs.Grammar.{flag_text}
 use Rattle.commands.specs.Replaying.{IsSizeRefusal}
-use Rattle.commands.specs.Roles.{role_by}
+use Rattle.commands.specs.Roles.{clients_of, role_by}
 use Rattle.commands.specs.Running.{IsScriptRefusal, IsScriptText}
 use Rattle.commands.specs.declared.options.OutputFormat.{OutputFormat}
 use Rattle.commands.specs.declared.options.OutputFormat.TheVariants.{Lines, Picture, Trace, Writes}
@@ -40,17 +40,22 @@ IsClusterText script text = (found : ClusterRun)
     × IsClusterRun (size_of script.spec) (length script.spec.sets.items) (reconciler_named script.spec.sets.items) (events_by script) found
     × (text ≡ cluster_text (owner_in found.owners) found.run.trace.items.items found.run.order.items)
 
--- the picture of that run, in which a caller that is or was a controller is named by its set and its number
+-- how that run names its callers
+abbrev pub role_in : ClusterScript → ClusterRun → (caller : ℕ) → List ℕ
+role_in script found n = role_by script.spec.sets.items (clients_of script.turns.items) (owner_in found.owners n) n
+
+-- the picture of that run, in which a caller that is or was a controller is named by its set and its number, and the
+-- kubelet so
 abbrev pub IsClusterPicture : Shown → ClusterScript → List ℕ → Type 0
 IsClusterPicture shown script text = (found : ClusterRun)
     × IsClusterRun (size_of script.spec) (length script.spec.sets.items) (reconciler_named script.spec.sets.items) (events_by script) found
-    × (text ≡ picture_text shown (size_of script.spec) (λ n. role_by script.spec.sets.items (owner_in found.owners n)) found.events.items)
+    × (text ≡ picture_text shown (size_of script.spec) (role_in script found) found.events.items)
 
 -- the writes of that run, in which callers are named so too
 abbrev pub IsClusterStory : ClusterScript → List ℕ → Type 0
 IsClusterStory script text = (found : ClusterRun)
     × IsClusterRun (size_of script.spec) (length script.spec.sets.items) (reconciler_named script.spec.sets.items) (events_by script) found
-    × (text ≡ story_text (λ n. role_by script.spec.sets.items (owner_in found.owners n)) found.run.trace.items.items)
+    × (text ≡ story_text (role_in script found) (size_of script.spec) found.events.items)
 
 -- how many events there are up to the end of each of its turns
 abbrev pub ends_by : ClusterScript → List ℕ
@@ -58,19 +63,20 @@ ends_by script = ends_of_turns (size_of script.spec) (length script.spec.sets.it
 
 -- The trace of a run, under the lines of the script, the first of which is the size. A refused plan is noted at its
 -- index.
-abbrev pub trace_beside : ClusterSpec → ClusterRun → (ends : List ℕ) → List RefusedPlan → List ℕ
-trace_beside spec found ends plans =
-    trace_by_lines_text (λ n. role_by spec.sets.items (owner_in found.owners n)) (line_at spec.sets.items plans)
+abbrev pub trace_beside : ClusterSpec → (clients : List ℕ) → ClusterRun → (ends : List ℕ) → List RefusedPlan → List ℕ
+trace_beside spec clients found ends plans =
+    trace_by_lines_text (λ n. role_by spec.sets.items clients (owner_in found.owners n) n) (line_at spec.sets.items plans)
     (size_of spec) found.events.items ends 2
 
-abbrev pub trace_of : ClusterSpec → ClusterRun → (ends : List ℕ) → List ℕ
-trace_of spec found ends = trace_beside spec found ends (refused_plans (owner_in found.owners) spec.sets.items found.run.trace.items.items)
+abbrev pub trace_of : ClusterScript → ClusterRun → (ends : List ℕ) → List ℕ
+trace_of script found ends =
+    trace_beside script.spec (clients_of script.turns.items) found ends (refused_plans (owner_in found.owners) script.spec.sets.items found.run.trace.items.items)
 
 -- that of the script's run
 abbrev pub IsClusterTrace : ClusterScript → List ℕ → Type 0
 IsClusterTrace script text = (found : ClusterRun)
     × IsClusterRun (size_of script.spec) (length script.spec.sets.items) (reconciler_named script.spec.sets.items) (events_by script) found
-    × (text ≡ trace_of script.spec found (ends_by script))
+    × (text ≡ trace_of script found (ends_by script))
 
 abbrev pub IsClusterShown : OutputFormat → ClusterScript → List ℕ → Type 0
 IsClusterShown Lines script text = IsClusterText script text

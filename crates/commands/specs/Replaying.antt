@@ -29,15 +29,11 @@ use Rattle.scripts.specs.declared.fault.ScriptError.TheVariants.{BadScript, Memo
 abbrev pub IsRunText : Size × List Event → List ℕ → Type 0
 IsRunText script text = (run : Run) × IsRunOf script.0 script.1 run × (text ≡ run_text run.trace.items.items run.order.items)
 
--- the writes of the run of these events, by its calls and replies
-abbrev pub IsStoryText : Size × List Event → List ℕ → Type 0
-IsStoryText script text = (run : Run) × IsRunOf script.0 script.1 run × (text ≡ story_text no_role run.trace.items.items)
-
 -- the text of a run in this form
 abbrev pub IsShownText : OutputFormat → Size × List Event → List ℕ → Type 0
 IsShownText Lines script text = IsRunText script text
 IsShownText (Picture shown) script text = text ≡ picture_text shown script.0 no_role script.1
-IsShownText Writes script text = IsStoryText script text
+IsShownText Writes script text = text ≡ story_text no_role script.0 script.1
 IsShownText Trace script text = text ≡ trace_text no_role script.0 script.1
 
 -- the same for the script in the input

@@ -52,10 +52,8 @@ impl Runnable for Script {
 
     fn writes(&self, alloc: Global) -> Result<Vec<u8>, Halt> {
         let shards = self.shards as usize;
-        let run = replay(alloc, shards, self.capacity, self.events.as_slice())?;
-        let text = story(alloc, run.trace.items.as_slice(), &NoRoles);
-        drop(run);
-        Ok(text?)
+        let events = self.events.as_slice();
+        Ok(story(alloc, shards, self.capacity, events, &NoRoles)?)
     }
 
     fn trace(&self, alloc: Global) -> Result<Vec<u8>, Halt> {

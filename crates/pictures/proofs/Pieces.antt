@@ -14,7 +14,7 @@ from_frontier_on c place text =
     ap (λ t. codes "    F-->>C" ++ t) (append_assoc (decimal c) (labelled place []) text ∙ ap (λ t. decimal c ++ t) (labelled_on place text))
 
 -- what was put in three pieces
-three : (old one two new a b c : List ℕ) → one ≡ old ++ a → two ≡ one ++ b → new ≡ two ++ c → new ≡ old ++ (a ++ (b ++ c))
+pub three : (old one two new a b c : List ℕ) → one ≡ old ++ a → two ≡ one ++ b → new ≡ two ++ c → new ≡ old ++ (a ++ (b ++ c))
 three old one two new a b c first second third =
     third ∙ ap (λ t. t ++ c) (second ∙ ap (λ t. t ++ b) first ∙ append_assoc old a b)
     ∙ append_assoc old (a ++ b) c ∙ ap (λ t. old ++ t) (append_assoc a b c)

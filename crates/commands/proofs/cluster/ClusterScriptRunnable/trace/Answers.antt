@@ -18,7 +18,7 @@ returns-clause-shown c =
     let ends : List Turn → List ℕ =
     λ turns. ends_of_turns (size_of spec) (length spec.sets.items) (reconciler_named spec.sets.items) (namespaces_of spec.sets.items) turns in
     IfOk-weaker c.trace_of_run-text.result _ _
-    (λ text is. (found.run, subst Is c.as_slice.ensures.value c.in_ok-found.ensures.run, is ∙ ap (trace_of spec found.run) (c.in_ok-found.ensures.ends ∙ ap ends c.as_slice.ensures.value)))
+    (λ text is. (found.run, subst Is c.as_slice.ensures.value c.in_ok-found.ensures.run, is ∙ ap (trace_of c.args.self.now found.run) (c.in_ok-found.ensures.ends ∙ ap ends c.as_slice.ensures.value)))
     c.trace_of_run-text.ensures.traced
 
 pub returns-clause-refused : goal.returns-clause-refused
