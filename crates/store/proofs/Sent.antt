@@ -90,7 +90,7 @@ versions-send : IsSend (VersionMap.the_row Object.the_row)
 versions-send = versions_send Object.the_row Object-send
 
 Shard-send : IsSend Shard.the_row
-Shard-send = search (versions-send, sendable, crosses) depth 40
+Shard-send = search (versions-send, key-send, sendable, crosses) depth 40
 
 seat-send : IsSend (ShardSeat.the_row Writing.the_row)
 seat-send = seat_send Writing.the_row

@@ -205,6 +205,13 @@ module _ (v : Versions Object) (are : AreRows v.rows (records_of v.rows)) where
         by true = are
         by false = subst (AreRows (rows.compacted v.rows n)) (sym (records_are (rows.compacted v.rows n) (compacted rs n) compact_are)) compact_are
 
+    pub room_raised : w.room ≡ v.room
+    room_raised = ap (λ (u : Versions Object). u.room) is ∙ by (nat_lt n v.floor)
+      where
+        by : (b : Bool) → (if b then v else record { rows = rows.compacted v.rows n; floor = n; room = v.room }).room ≡ v.room
+        by true = refl
+        by false = refl
+
     pub raised_is : shard_of w ≡ raised (shard_of v) n
     raised_is = ap shard_of is ∙ by (nat_lt n v.floor)
       where

@@ -1,5 +1,6 @@
-ghost use Rattle.std.specs.Prelude.{◌≡◌, ◌≤◌, ℕ, true, Some, IfOk, IfSome, OnOk, OnErr, option_map};
+ghost use Rattle.std.specs.Prelude.{◌≡◌, ◌++◌, ◌∷◌, [], ◌<◌, ◌≤◌, ℕ, true, Some, IfOk, IfSome, OnOk, OnErr, option_map, if◌then◌else◌};
 ghost use Rattle.std.specs.Option.{option_copied};
+ghost use Rattle.std.specs.VecDeque.{deque_capacity, deque_len};
 ghost use Rattle.std.specs.FinMap as map;
 ghost use Rattle.objects.specs.declared.key.Key.{Key};
 ghost use Rattle.requests.specs.Keys.{key_named};
@@ -11,8 +12,16 @@ ghost use Rattle.versions.specs.Shard.{opening, pushed, raised, with_room};
 use objects::{Key, Kind, Memory, Object, Text};
 use requests::{Request, Verdict, Version, decide};
 use std::alloc::Global;
+use std::collections::VecDeque;
 use std::marker::Model;
 use version_map::VersionMap;
+
+/// A key and the number of a removal of it, which waits for a compaction.
+#[derive(Drop)]
+struct Removal {
+    number: u64,
+    key: Key,
+}
 
 /// One shard of a multiversion store: for each of its keys, what it was at each number from the floor on.
 ///
@@ -32,10 +41,14 @@ use version_map::VersionMap;
 #[derive(Drop)]
 pub struct Shard {
     versions: VersionMap<Object>,
+    // In the order of their numbers, with room for one more whenever the versions have room for a push.
+    removed: VecDeque<Removal>,
     alloc: Global,
 }
 
 impl Model for Shard {
+    ghost use Rattle.std.specs.Prelude.{◌<◌, IsSome};
+    ghost use Rattle.std.specs.VecDeque.{deque_capacity, deque_len};
     ghost use Rattle.versions.specs.Held.{AreRows, records_of, shard_of};
     ghost use Rattle.versions.specs.Shard.{Shard, shard_coded};
 
@@ -45,7 +58,8 @@ impl Model for Shard {
 
     ghost view = { λ s. shard_of s.versions };
 
-    ghost invariant = { λ s. AreRows s.versions.rows (records_of s.versions.rows) };
+    ghost invariant = { λ s. AreRows s.versions.rows (records_of s.versions.rows)
+        × (IsSome s.versions.room → deque_len s.removed < deque_capacity s.removed) };
 }
 
 impl Shard {
@@ -55,6 +69,7 @@ impl Shard {
     {
         Shard {
             versions: VersionMap::new(alloc),
+            removed: VecDeque::new(alloc),
             alloc,
         }
     }
@@ -115,29 +130,28 @@ impl Shard {
         ensures made { OnOk result (self.new ≡ with_room self.old key.now) }
         ensures memory { OnErr result (self.new ≡ self.old) }
     {
+        // For the case that the push is a removal.
+        self.removed.reserve(1)?;
         self.versions.make_room(key)
     }
 
     /// Adds a record of the key that room was made for, at a number above all others, and uses the room up. All else
-    /// stays. It never fails for lack of memory.
+    /// stays. It allocates nothing.
     pub fn push(&mut self, number: u64, version: Version)
         requires room { self.old.room ≡ Some version.key }
         requires above { IsAbove self.old.records number }
         ensures { self.new ≡ pushed self.old number version }
     {
-        let is_removal = version.state.is_none();
-        self.versions.push(number, version.state);
-        if is_removal {
-            // If this finds no memory, lists walk over the key after compactions too.
-            self.versions.note_removal(&version.key);
-        }
+        let Version { key, state } = version;
+        enqueue(&mut self.removed, state.is_none(), Removal { number, key });
+        self.versions.push(number, state);
     }
 
     /// Raises the floor to a number, and drops what is no longer read: of each key's records up to it, all but the
     /// last. A number below the floor changes nothing. What each key is now stays, and so do all readings from the
-    /// floor on, and room that was made. It never fails for lack of memory, and its time is that of the records dropped
-    /// and of those that the floor has reached, each of which is looked at once. Lists no longer walk over keys of
-    /// which only a removal is left.
+    /// floor on, and room that was made. Its time is that of the records dropped and of those that the floor has
+    /// reached, each of which is looked at once. Lists no longer walk over keys of which only a removal is left. That
+    /// alone takes memory, and where it is refused, lists walk over the key as before.
     pub fn compact(&mut self, number: u64)
         ensures raised { self.new ≡ raised self.old number }
         ensures newest { (key : Key) → newest self.new.records key ≡ newest self.old.records key }
@@ -145,7 +159,7 @@ impl Shard {
         ensures values { (m : ℕ) (key : Key) → self.new.floor ≤ m → value self.new.records m key ≡ value self.old.records m key }
     {
         self.versions.compact(number);
-        self.versions.hide_removed();
+        hide_removed(&mut self.removed, &mut self.versions);
     }
 
     /// The number from which on the shard can be read.
@@ -160,5 +174,52 @@ impl Shard {
         ensures { result ≡ map.len self.now.records }
     {
         self.versions.records()
+    }
+}
+
+/// Puts a write of a key into the queue, if it is a removal.
+fn enqueue(removed: &mut VecDeque<Removal>, is_removal: bool, next: Removal)
+    requires { deque_len removed.old < deque_capacity removed.old }
+    ensures { removed.new.items ≡ (if is_removal then removed.old.items ++ next ∷ [] else removed.old.items) }
+{
+    if is_removal {
+        removed.push_back_reserved(next);
+    }
+}
+
+/// Keeps lists from walking over the keys of which only a removal up to the floor is left, and takes those out of the
+/// queue.
+fn hide_removed(removed: &mut VecDeque<Removal>, versions: &mut VersionMap<Object>)
+    ensures same { versions.new ≡ versions.old }
+    ensures room { deque_len removed.old < deque_capacity removed.old → deque_len removed.new < deque_capacity removed.new }
+{
+    let floor = versions.floor();
+    for _ in 0..removed.len() {
+        let Some(next) = next_removal(removed, floor) else {
+            break;
+        };
+        note_newest(versions, &next);
+    }
+    versions.hide_removed();
+}
+
+/// Takes the first removal from the queue, if its number is at most the floor.
+fn next_removal(removed: &mut VecDeque<Removal>, floor: u64) -> Option<Removal>
+    ensures { deque_len removed.old < deque_capacity removed.old → deque_len removed.new < deque_capacity removed.new }
+{
+    if floor < removed.front()?.number {
+        return None;
+    }
+    removed.pop_front()
+}
+
+/// Notes a removal to be hidden, unless its key was written since.
+fn note_newest(versions: &mut VersionMap<Object>, removal: &Removal)
+    ensures { versions.new ≡ versions.old }
+{
+    if let Some((number, _)) = versions.newest(&removal.key) {
+        if number == removal.number {
+            versions.note_removal(&removal.key);
+        }
     }
 }
