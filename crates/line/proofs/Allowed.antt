@@ -146,10 +146,10 @@ module _ {S : Type 0} {E : Type 0} (home by : E → ℕ) (accepts : List (ℕ ×
           (refl, (refl, subst (λ n. Matches home by accepts v n seen) here (sees_front home by accepts capacity s.words s.views r id v at ws' same further drawn), old.seen, omega arith)),
         )
 
-    pub may_observe : (i : ℕ) → me.0.shard ≡ Some i → 0 < me.0.plain.capacity → Allows kept slots id me 0 (λ x. x) (λ _ w. (w.1 ≡ me.1) × Observes home by accepts me.0 w.0)
-    may_observe i is live s r _ at _ =
-        let c = observe_keeps home by accepts capacity s.words s.views r id me.0 at i is live in
-        (observed me.0 i c.0, keeps, tt, unmoved s 0 (observed me.0 i c.0) c.2, (refl, (i, c.0, is, c.1, refl)))
+    pub may_observe : (floor i : ℕ) → me.0.shard ≡ Some i → 0 < me.0.plain.capacity → Allows kept slots id me 0 (λ x. x) (λ _ w. (w.1 ≡ me.1) × Observes home by accepts floor me.0 w.0)
+    may_observe floor i is live s r _ at _ =
+        let c = observe_keeps home by accepts capacity s.words s.views r id me.0 at floor i is live in
+        (observed me.0 i c.0 floor, keeps, tt, unmoved s 0 (observed me.0 i c.0 floor) c.2, (refl, (i, c.0, is, c.1, refl)))
 
     pub may_name : me.0.caller ≡ None → Allows kept slots id me 0 (λ x. x) (λ _ w. (w.1 ≡ me.1) × IsNamed home by accepts me.0 w.0)
     may_name alone s r _ at _ = (named me.0 r.most, keeps, tt, unmoved s 0 (named me.0 r.most) (name_keeps home by accepts capacity s.words s.views r id me.0 at alone), (refl, let t = name_tells home by accepts capacity s.words s.views r id me.0 at in (r.most, refl, t.0, t.1, t.2)))

@@ -191,8 +191,8 @@ module _ {E : Type 0} (home by : E → ℕ) (accepts : List (ℕ × E) → E →
         record { of_shard = old.of_shard; of_caller = old.of_caller; seen = old.seen; long = old.long ∙ sym is; observations = old.observations } (reported.0, omega arith)
 
     -- what a shard has is observed
-    pub observe_keeps : (i : ℕ) → v.shard ≡ Some i → 0 < v.plain.capacity → (d : ℕ) × IsObserved home by accepts v i d × NotedRule home by accepts capacity ws (set vs id (observed v i d))
-    observe_keeps i is live =
+    pub observe_keeps : (floor i : ℕ) → v.shard ≡ Some i → 0 < v.plain.capacity → (d : ℕ) × IsObserved home by accepts v i d × NotedRule home by accepts capacity ws (set vs id (observed v i d floor))
+    observe_keeps floor i is live =
         let d : ℕ = drawn_of capacity ws in
         let log = r.log in
         let long = r.long in
@@ -215,8 +215,8 @@ module _ {E : Type 0} (home by : E → ℕ) (accepts : List (ℕ × E) → E →
             of_caller = λ c is. ap (notes_up_to (length v.seen)) (old.of_caller c is) ∙ (ap (λ l. notes_up_to (length v.seen) (notes_of by c 1 l)) (sym rest.1) ∙ notes_up_to_front by c (length v.seen) 1 v.seen rest.0 (omega arith));
             long = old.long;
           },
-          log_stays ws (observed v i d) (subst (Rule capacity ws) (sym (set_again (map plain_of vs) id v.plain plain_at)) r.kept) refl (le_refl (frontier_of ws)) (λ i e. e) (λ c e. e) (λ m e. e)
-              record { of_shard = old.of_shard; of_caller = old.of_caller; seen = old.seen; long = old.long; observations = λ n c q. ⊎_elim (λ t. old.observations n c t) (λ (t : observation i d v.notes ≡ c). subst (IsTrueObservation home log) t (omega arith, old.of_shard i is ∙ ap (notes_of home i 1) (sym whole))) (at_snoc v.observations (observation i d v.notes) c n q) } (r.reported id v at),
+          log_stays ws (observed v i d floor) (subst (Rule capacity ws) (sym (set_again (map plain_of vs) id v.plain plain_at)) r.kept) refl (le_refl (frontier_of ws)) (λ i e. e) (λ c e. e) (λ m e. e)
+              record { of_shard = old.of_shard; of_caller = old.of_caller; seen = old.seen; long = old.long; observations = λ n c q. ⊎_elim (λ t. old.observations n c t) (λ (t : observation i d v.notes floor ≡ c). subst (IsTrueObservation home log) t (omega arith, old.of_shard i is ∙ ap (notes_of home i 1) (sym whole))) (at_snoc v.observations (observation i d v.notes floor) c n q) } (r.reported id v at),
         )
       where
         take_all : (n : ℕ) (xs : List E) → length xs ≤ n → take n xs ≡ xs

@@ -47,9 +47,9 @@ module _ {E : Type 0} where
       pub of_caller : (c : ℕ) → v.caller ≡ Some c → notes_up_to (length v.seen) v.own_notes ≡ notes_of by c 1 v.seen
       pub long : length v.seen ≡ v.plain.seen
 
-    -- what the shard has is noted, by a load of the frontier whose value is not used
-    abbrev pub Observes : NotedView E → NotedView E → Type 0
-    Observes v w = (i d : ℕ) × (v.shard ≡ Some i) × IsObserved v i d × (w ≡ observed v i d)
+    -- what the shard has is noted with its floor, by a load of the frontier whose value is not used
+    abbrev pub Observes : (floor : ℕ) → NotedView E → NotedView E → Type 0
+    Observes floor v w = (i d : ℕ) × (v.shard ≡ Some i) × IsObserved v i d × (w ≡ observed v i d floor)
 
     -- the caller gets a name that no other has, by such a load too
     abbrev pub IsNamed : NotedView E → NotedView E → Type 0

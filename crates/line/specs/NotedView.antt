@@ -36,9 +36,9 @@ module _ {E : Type 0} where
   abbrev pub looked_noted : NotedView E → ℕ → List E → NotedView E
   looked_noted v f s = record v { plain = looked v.plain f; seen = s }
 
-  -- it was noted what the shard i has, when d numbers were drawn
-  abbrev pub observed : NotedView E → ℕ → ℕ → NotedView E
-  observed v i d = record v { observations = v.observations ++ observation i d v.notes ∷ [] }
+  -- it was noted what the shard i has, when d numbers were drawn, and its floor
+  abbrev pub observed : NotedView E → (i d floor : ℕ) → NotedView E
+  observed v i d floor = record v { observations = v.observations ++ observation i d v.notes floor ∷ [] }
 
   -- its caller got the name c
   abbrev pub named : NotedView E → ℕ → NotedView E

@@ -24,8 +24,8 @@ module _ {E : Type 0} where
   notes_up_to m [] = []
   notes_up_to m (p ∷ ps) = keep (leb p.0 m) p (notes_up_to m ps)
 
-  abbrev pub observation : ℕ → ℕ → List (ℕ × E) → Observation E
-  observation shard drawn notes = record { shard = shard; drawn = drawn; notes = notes }
+  abbrev pub observation : (shard drawn : ℕ) → List (ℕ × E) → (floor : ℕ) → Observation E
+  observation shard drawn notes floor = record { shard = shard; drawn = drawn; notes = notes; floor = floor }
 
   module _ (home : E → ℕ) where
     -- each note was accepted over the earlier ones of its shard

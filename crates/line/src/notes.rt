@@ -28,3 +28,14 @@ impl<E> Noting<E> for Brand {
 
     ghost note = { None };
 }
+
+/// The floor that is noted of a shard, which a function picks by a call at `Brand`.
+pub(crate) trait Flooring {
+    ghost use Rattle.std.specs.Prelude.{ℕ};
+
+    ghost floor: { ℕ };
+}
+
+impl Flooring for Brand {
+    ghost floor = { 0 };
+}

@@ -1,5 +1,5 @@
 // The rule of a line's words, what a seat learns by each kind of step, and how new seats are cut off and taken in.
-use crate::notes::{Judging, Noting};
+use crate::notes::{Flooring, Judging, Noting};
 use crate::view::NotedView;
 use atomic_table::{Join, Play, Seat, Split, Table, TableRule};
 use std::alloc::Global;
@@ -73,16 +73,16 @@ impl<E, K: Judging<E>> Play<(), NotedView<E>> for Look<K> {
     ghost then = { λ _ m n w. (w.1 ≡ m.1) × LooksNoted K.home K.by K.accepts m.0 n w.0 };
 }
 
-/// It is noted what a shard has.
-pub(crate) struct Observe<K> {
-    of: PhantomData<K>,
+/// It is noted what a shard has, and its floor.
+pub(crate) struct Observe<K, F> {
+    of: PhantomData<(K, F)>,
 }
 
-impl<E, K: Judging<E>> Play<(), NotedView<E>> for Observe<K> {
+impl<E, K: Judging<E>, F: Flooring> Play<(), NotedView<E>> for Observe<K, F> {
     ghost use Rattle.std.specs.Prelude.{◌≡◌};
     ghost use Rattle.line.specs.NotedSteps.{Observes};
 
-    ghost then = { λ _ m _ w. (w.1 ≡ m.1) × Observes K.home K.by K.accepts m.0 w.0 };
+    ghost then = { λ _ m _ w. (w.1 ≡ m.1) × Observes K.home K.by K.accepts F.floor m.0 w.0 };
 }
 
 /// A caller's seat gets a name.

@@ -7,7 +7,7 @@ ghost use Rattle.line.specs.NotedSteps.{Matches, Observes, IsNamed, MayDraw, Dra
 ghost use Rattle.line.specs.NotedView.{with_plain, saw_noted, looked_noted};
 
 use crate::line::Line;
-use crate::notes::{Judging, Noting};
+use crate::notes::{Flooring, Judging, Noting};
 use crate::rule::{Draw, Fill, Lift, Look, Name, Observe, Place, Try};
 
 // The table loads word 0 when it splits or joins seats: such a load shows nothing new of the frontier.
@@ -77,16 +77,16 @@ impl<E, K: Judging<E>> Line<E, K> {
         self.table.shared.load::<Look<K>>(place, FRONTIER)
     }
 
-    /// Notes what a shard has, by a load of the frontier whose value is not used.
-    pub(crate) fn load_to_observe(&self, place: &mut Place<E>)
+    /// Notes what a shard has and its floor, by a load of the frontier whose value is not used.
+    pub(crate) fn load_to_observe<F: Flooring>(&self, place: &mut Place<E>)
         requires line { IsOf self.now.name place.old.table_id place.old.me.0.plain }
         requires shard { IsSome place.old.me.0.shard }
         ensures line { (place.new.table_id ≡ place.old.table_id) × (place.new.me.1 ≡ place.old.me.1) }
         ensures capacity { place.old.me.0.plain.capacity ≡ self.now.capacity }
-        ensures observed { Observes K.home K.by K.accepts place.old.me.0 place.new.me.0 }
+        ensures observed { Observes K.home K.by K.accepts F.floor place.old.me.0 place.new.me.0 }
     {
         // What a seat knows changes by a step of the table alone, here and below; a load changes no word.
-        let _ = self.table.shared.load::<Observe<K>>(place, FRONTIER);
+        let _ = self.table.shared.load::<Observe<K, F>>(place, FRONTIER);
     }
 
     /// Names a caller, by a load of the frontier whose value is not used.

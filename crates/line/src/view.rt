@@ -31,6 +31,8 @@ pub struct Observation<E> {
     pub drawn: u64,
     /// All notes that the shard had then, each with its number.
     pub notes: LinkedList<(u64, E)>,
+    /// From which number on the shard could be read then, as the visit said.
+    pub floor: u64,
 }
 
 /// What a seat knows, with the notes of the numbers. Only contracts see it: no value of it is made.

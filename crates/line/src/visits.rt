@@ -5,9 +5,10 @@ ghost use Rattle.line.specs.NotedSteps.{Matches, Observes};
 ghost use Rattle.line.specs.NotedView.{entered, left_with, looked_noted, stayed};
 
 use crate::line::Line;
-use crate::notes::Judging;
+use crate::notes::{Flooring, Judging};
 use crate::rule::{Enters, Leaves};
 use crate::seat::{CallerSeat, ShardSeat};
+use std::marker::Brand;
 
 impl<E, K: Judging<E>> Line<E, K> {
     /// A caller's seat enters a shard's, and what the shard's last caller had seen is reported to it. The result is
@@ -39,14 +40,26 @@ impl<E, K: Judging<E>> Line<E, K> {
 
     /// Notes for the caller in a shard's seat what the shard has, by a load of the frontier whose value is not used. It
     /// is noted that the shard's notes are just these if so many numbers are drawn, from those seen to the capacity,
-    /// which a spent seat has.
-    pub fn observe(&self, seat: &mut ShardSeat<E>)
+    /// which a spent seat has. The floor, from which on the shard can be read, is noted with them.
+    pub fn observe(&self, seat: &mut ShardSeat<E>, floor: u64)
         requires { seat.old.line ≡ self.now.name }
         ensures line { seat.new.line ≡ seat.old.line }
         ensures capacity { seat.old.view.plain.capacity ≡ self.now.capacity }
-        ensures observed { Observes K.home K.by K.accepts seat.old.view seat.new.view }
+        ensures observed { Observes K.home K.by K.accepts floor seat.old.view seat.new.view }
     {
-        self.load_to_observe(&mut seat.place);
+        self.observe_with::<Brand>(seat, floor);
+    }
+
+    fn observe_with<F: Flooring>(&self, seat: &mut ShardSeat<E>, floor: u64)
+        requires line { seat.old.line ≡ self.now.name }
+        requires floor { F.floor ≡ floor }
+        ensures line { seat.new.line ≡ seat.old.line }
+        ensures capacity { seat.old.view.plain.capacity ≡ self.now.capacity }
+        ensures observed { Observes K.home K.by K.accepts F.floor seat.old.view seat.new.view }
+    {
+        // For the contract alone; it costs nothing.
+        let _ = floor;
+        self.load_to_observe::<F>(&mut seat.place);
     }
 
     /// The caller's seat, which has seen so much, leaves the shard's. It has all that it learned; the shard's seat

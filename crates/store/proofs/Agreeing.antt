@@ -186,10 +186,20 @@ module _ (s : Shard) (has : List (ℕ × Writing)) (filled : List ℕ) (seen n :
 
 -- ---- a compaction
 
+raised_to : (s t : Shard) (m : ℕ) → t ≡ raised s m → s.floor ≤ m → t ≡ record { records = compacted s.records m; floor = m; room = s.room }
+raised_to s t m is up = is ∙ by (nat_lt m s.floor) refl
+  where
+    by : (b : Bool) → nat_lt m s.floor ≡ b → (if b then s else record { records = compacted s.records m; floor = m; room = s.room }) ≡ record { records = compacted s.records m; floor = m; room = s.room }
+    by false high = refl
+    by true less = absurd (let le = up in grind (arith, nat_tests))
+
+pub floor_raised : (s t : Shard) (m : ℕ) → t ≡ raised s m → s.floor ≤ m → t.floor ≡ m
+floor_raised s t m is up = ap (λ (x : Shard). x.floor) (raised_to s t m is up)
+
 pub agrees_raised : (s t : Shard) (has : List (ℕ × Writing)) (filled : List ℕ) (seen seen' m : ℕ) → Agrees s has filled seen → t ≡ raised s m
     → ((k : Key) → newest t.records k ≡ newest s.records k) → ((x : ℕ) (k : Key) → t.floor ≤ x → value t.records x k ≡ value s.records x k) → s.floor ≤ m → m ≤ seen' → Agrees t has filled seen'
 agrees_raised s t has filled seen seen' m a is latest_ values_ up low =
-    let to : t ≡ record { records = compacted s.records m; floor = m; room = s.room } = is ∙ by (nat_lt m s.floor) refl in
+    let to = raised_to s t m is up in
     let at : t.floor ≡ m = ap (λ (x : Shard). x.floor) to in
     let all : Agrees (record { records = compacted s.records m; floor = m; room = s.room }) has filled seen' = record {
       noted = a.noted;
@@ -203,10 +213,6 @@ agrees_raised s t has filled seen seen' m a is latest_ values_ up low =
       floor = low;
     } in
     subst (λ x. Agrees x has filled seen') (sym to) all
-  where
-    by : (b : Bool) → nat_lt m s.floor ≡ b → (if b then s else record { records = compacted s.records m; floor = m; room = s.room }) ≡ record { records = compacted s.records m; floor = m; room = s.room }
-    by false high = refl
-    by true less = absurd (let le = up in grind (arith, nat_tests))
 
 -- ---- what a lock shows
 

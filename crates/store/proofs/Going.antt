@@ -50,8 +50,8 @@ module _ (shards capacity : ℕ) where
   pub goes_loaded : (c d : Caller) (f : ℕ) → HasLoaded shards capacity c f d → GoesOn c d
   goes_loaded c d f h = record { name = h.name; own_notes = h.own_notes; observations = subst (IsPrefix c.observations) (sym h.observations) (prefix_self c.observations); begins = h.begins; loads = let n = h.loads in omega arith }
 
-  pub noted_stays : (i n : ℕ) (notes : List (ℕ × Writing)) (c d : Caller) → HasObserved shards capacity i notes c n d → Stays c d
-  noted_stays i n notes c d h = record { name = h.name; own_notes = h.own_notes; observations = (observation i n notes ∷ [], sym h.observations); loads = h.loads; seen = h.seen }
+  pub noted_stays : (floor i n : ℕ) (notes : List (ℕ × Writing)) (c d : Caller) → HasObserved shards capacity i notes floor c n d → Stays c d
+  noted_stays floor i n notes c d h = record { name = h.name; own_notes = h.own_notes; observations = (observation i n notes floor ∷ [], sym h.observations); loads = h.loads; seen = h.seen }
 
   -- after a load, and a read there
   pub has_read : (b c d e : Caller) (f : ℕ) → GoesOn b c → HasLoaded shards capacity c f d → Stays d e → HasRead capacity b e

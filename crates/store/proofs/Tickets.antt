@@ -44,10 +44,10 @@ module _ (shards capacity : ℕ) where
   -- ---- a ticket is made
 
   -- of a write that changes nothing
-  pub unwritten_due : (request : Request) (key : Key) (since saw loaded index d : ℕ) (reply : Reply) (notes : List (ℕ × Writing)) (c c' : Caller) → HasObserved shards capacity index notes c d c' → is_write request ≡ true → key_named request ≡ Some key
+  pub unwritten_due : (floor : ℕ) (request : Request) (key : Key) (since saw loaded index d : ℕ) (reply : Reply) (notes : List (ℕ × Writing)) (c c' : Caller) → HasObserved shards capacity index notes floor c d c' → is_write request ≡ true → key_named request ≡ Some key
       → shard_of key shards ≡ index → saw ≡ last_number (last_of key (records_of notes)) → Unwritten (verdict request (current_of notes key)) reply → loaded ≡ length c.seen → since ≤ loaded → ((n : ℕ) → Contains (map number_of notes) n → 0 < n)
       → IsTicketOf shards capacity (record { request = request; since = since; saw = saw; place = max saw loaded; reply = Some reply }) c'
-  unwritten_due request key since saw loaded index d reply notes c c' n write named here saw_is un loaded_is since_le first =
+  unwritten_due floor request key since saw loaded index d reply notes c c' n write named here saw_is un loaded_is since_le first =
       let drawn = n.drawn in
       let low = last_le key d notes n.all in
       record {
@@ -55,8 +55,8 @@ module _ (shards capacity : ℕ) where
         write = write;
         named = named;
         at = length c.observations;
-        entry = observation index d notes;
-        there = subst (λ l. get_elem? l (length c.observations) ≡ some (observation index d notes)) (sym n.observations) (at_last c.observations (observation index d notes) (length c.observations) refl);
+        entry = observation index d notes floor;
+        there = subst (λ l. get_elem? l (length c.observations) ≡ some (observation index d notes floor)) (sym n.observations) (at_last c.observations (observation index d notes floor) (length c.observations) refl);
         home = sym here;
         covers = is_max saw loaded d (omega arith) (omega arith);
         since = omega arith;
@@ -92,7 +92,7 @@ module _ (shards capacity : ℕ) where
 
   -- of a write that was published, or found all numbers drawn, by the seat b, which then has the view p, and y once it
   -- noted what it has
-  module _ (b p y : NotedView Writing) (index : ℕ) (at : b.shard ≡ Some index) (notes : Observes (home_of shards) by_of Accepts p y) (sized : p.plain.capacity ≡ capacity)
+  module _ (floor : ℕ) (b p y : NotedView Writing) (index : ℕ) (at : b.shard ≡ Some index) (notes : Observes (home_of shards) by_of Accepts floor p y) (sized : p.plain.capacity ≡ capacity)
       (request : Request) (change : Change) (key : Key) (since : ℕ) (write : is_write request ≡ true) (named : key_named request ≡ Some key) (here : shard_of key shards ≡ index) (judged : verdict request (current_of b.notes key) ≡ Write change)
       (known : IsCallerView shards b) (since_le : since ≤ length b.seen) where
     d : ℕ
@@ -109,10 +109,10 @@ module _ (shards capacity : ℕ) where
       has_is = ap (λ (x : NotedView Writing). x.notes) full
 
       abbrev after : Caller
-      after = record (caller_by b) { own_notes = b.own_notes ++ (n, note) ∷ []; observations = b.observations ++ observation notes.0 notes.1 p.notes ∷ []; loads = p.plain.loads; tries = length p.plain.tries }
+      after = record (caller_by b) { own_notes = b.own_notes ++ (n, note) ∷ []; observations = b.observations ++ observation notes.0 notes.1 p.notes floor ∷ []; loads = p.plain.loads; tries = length p.plain.tries }
 
       out_is : caller_by y ≡ after
-      out_is = ap caller_by notes.4 ∙ ap (λ (x : NotedView Writing). record { name = name_of x.caller; seen = x.seen; reported = x.reported; own_notes = x.own_notes; observations = x.observations ++ observation notes.0 notes.1 p.notes ∷ []; loads = p.plain.loads; tries = length p.plain.tries }) full
+      out_is = ap caller_by notes.4 ∙ ap (λ (x : NotedView Writing). record { name = name_of x.caller; seen = x.seen; reported = x.reported; own_notes = x.own_notes; observations = x.observations ++ observation notes.0 notes.1 p.notes floor ∷ []; loads = p.plain.loads; tries = length p.plain.tries }) full
 
       pub published_due : IsTicketOf shards capacity (record { request = request; since = since; saw = n; place = n; reply = Some reply }) (caller_by y)
       published_due =
@@ -126,8 +126,8 @@ module _ (shards capacity : ℕ) where
             write = write;
             named = named;
             at = length b.observations;
-            entry = observation notes.0 notes.1 p.notes;
-            there = at_last b.observations (observation notes.0 notes.1 p.notes) (length b.observations) refl;
+            entry = observation notes.0 notes.1 p.notes floor;
+            there = at_last b.observations (observation notes.0 notes.1 p.notes floor) (length b.observations) refl;
             home = shard_is ∙ sym here;
             covers = n_le;
             since = omega arith;
@@ -150,8 +150,8 @@ module _ (shards capacity : ℕ) where
           }
 
     module _ (spent : p ≡ with_plain b (used_up b.plain)) (within : length b.seen ≤ capacity) where
-      out_none : caller_by y ≡ record (caller_by b) { observations = b.observations ++ observation notes.0 notes.1 p.notes ∷ [] }
-      out_none = ap caller_by notes.4 ∙ ap (λ (x : NotedView Writing). record (caller_by x) { observations = x.observations ++ observation notes.0 notes.1 p.notes ∷ [] }) spent
+      out_none : caller_by y ≡ record (caller_by b) { observations = b.observations ++ observation notes.0 notes.1 p.notes floor ∷ [] }
+      out_none = ap caller_by notes.4 ∙ ap (λ (x : NotedView Writing). record (caller_by x) { observations = x.observations ++ observation notes.0 notes.1 p.notes floor ∷ [] }) spent
 
       pub spent_due : IsTicketOf shards capacity (record { request = request; since = since; saw = capacity; place = capacity; reply = Some (Refused StoreFull) }) (caller_by y)
       spent_due =
@@ -166,8 +166,8 @@ module _ (shards capacity : ℕ) where
             write = write;
             named = named;
             at = length b.observations;
-            entry = observation notes.0 notes.1 p.notes;
-            there = at_last b.observations (observation notes.0 notes.1 p.notes) (length b.observations) refl;
+            entry = observation notes.0 notes.1 p.notes floor;
+            there = at_last b.observations (observation notes.0 notes.1 p.notes floor) (length b.observations) refl;
             home = shard_is ∙ sym here;
             covers = omega arith;
             since = omega arith;

@@ -106,7 +106,7 @@ module _ (shards capacity : ℕ) where
   passed_stays v w b z in_ out = subst (λ (x : NotedView Writing). Stays (caller_by w) (caller_by x)) (sym (out ∙ ap left_with in_)) record { name = refl; own_notes = refl; observations = prefix_self w.observations; loads = refl; seen = refl }
 
   -- it notes what the shard has
-  module _ (b y : NotedView Writing) (index : ℕ) (at : b.shard ≡ Some index) (notes : Observes (home_of shards) by_of Accepts b y) where
+  module _ (floor : ℕ) (b y : NotedView Writing) (index : ℕ) (at : b.shard ≡ Some index) (notes : Observes (home_of shards) by_of Accepts floor b y) where
     abbrev i : ℕ
     i = notes.0
 
@@ -126,14 +126,14 @@ module _ (shards capacity : ℕ) where
       own_there = let s = some_of b.caller h.named in
           (observations).of_caller s.0 s.1 ∙ ap (λ o. notes_of by_of (name_of o) 1 b.seen) (sym s.1);
       long = (observations).long;
-      tagged = tags_keep b.own_notes (length b.observations) (length (b.observations ++ observation i d b.notes ∷ [])) h.tagged (let l = length-append b.observations (observation i d b.notes ∷ []) in omega arith);
+      tagged = tags_keep b.own_notes (length b.observations) (length (b.observations ++ observation i d b.notes floor ∷ [])) h.tagged (let l = length-append b.observations (observation i d b.notes floor ∷ []) in omega arith);
     }
 
-    pub noted : b.plain.capacity ≡ capacity → (n : ℕ) × HasObserved shards capacity index b.notes (caller_by b) n (caller_by y)
+    pub noted : b.plain.capacity ≡ capacity → (n : ℕ) × HasObserved shards capacity index b.notes floor (caller_by b) n (caller_by y)
     noted size =
         let within = (observations).within in (
           d,
-          subst (λ (n : NotedView Writing). HasObserved shards capacity index b.notes (caller_by b) d (caller_by n)) (sym notes.4) (subst (λ k. HasObserved shards capacity k b.notes (caller_by b) d (caller_by (observed b i d))) i_is record {
+          subst (λ (n : NotedView Writing). HasObserved shards capacity index b.notes floor (caller_by b) d (caller_by n)) (sym notes.4) (subst (λ k. HasObserved shards capacity k b.notes floor (caller_by b) d (caller_by (observed b i d floor))) i_is record {
             name = refl;
             own_notes = refl;
             observations = refl;
@@ -148,12 +148,12 @@ module _ (shards capacity : ℕ) where
         )
 
   -- the same for one that enters and leaves
-  pub visited : (v w b y z : NotedView Writing) (index : ℕ) → v.shard ≡ Some index → b ≡ entered v w → Observes (home_of shards) by_of Accepts b y → z ≡ left_with y → b.plain.capacity ≡ capacity → (n : ℕ) × HasObserved shards capacity index v.notes (caller_by w) n (caller_by z)
-  visited v w b y z index at in_ notes out size =
-      let n = noted b y index (ap (λ (x : NotedView Writing). x.shard) in_ ∙ at) notes size in
-      let m = subst (λ (x : NotedView Writing). HasObserved shards capacity index x.notes (caller_by x) n.0 (caller_by y)) in_ n.1 in (
+  pub visited : (floor : ℕ) (v w b y z : NotedView Writing) (index : ℕ) → v.shard ≡ Some index → b ≡ entered v w → Observes (home_of shards) by_of Accepts floor b y → z ≡ left_with y → b.plain.capacity ≡ capacity → (n : ℕ) × HasObserved shards capacity index v.notes floor (caller_by w) n (caller_by z)
+  visited floor v w b y z index at in_ notes out size =
+      let n = noted floor b y index (ap (λ (x : NotedView Writing). x.shard) in_ ∙ at) notes size in
+      let m = subst (λ (x : NotedView Writing). HasObserved shards capacity index x.notes floor (caller_by x) n.0 (caller_by y)) in_ n.1 in (
         n.0,
-        subst (λ (x : Caller). HasObserved shards capacity index v.notes (caller_by w) n.0 x) (sym (ap caller_by out)) record {
+        subst (λ (x : Caller). HasObserved shards capacity index v.notes floor (caller_by w) n.0 x) (sym (ap caller_by out)) record {
           name = m.name;
           own_notes = m.own_notes;
           observations = m.observations;

@@ -110,8 +110,8 @@ module _ (shards capacity : ℕ) where
       subst (λ (x : NotedView Writing). AreTagged x.own_notes (length x.observations + 1)) (sym h.1) (tags_keep b.own_notes (length b.observations) (length b.observations + 1) tags (omega arith))
 
   -- once it noted what the shard has, the seat is one of a caller again
-  pub pushed_view : (b p y : NotedView Writing) (request : Request) (change : Change) (o : Option (ℕ × Reply)) → Pushes b request change o p → IsCallerView shards b → Observes (home_of shards) by_of Accepts p y → IsCallerView shards y
-  pushed_view b p y request change o h known notes =
+  pub pushed_view : (floor : ℕ) (b p y : NotedView Writing) (request : Request) (change : Change) (o : Option (ℕ × Reply)) → Pushes b request change o p → IsCallerView shards b → Observes (home_of shards) by_of Accepts floor p y → IsCallerView shards y
+  pushed_view floor b p y request change o h known notes =
       let c = notes.3 in
       let named = subst (λ o. IsSome o) (sym (pushed_keeps b p request change o h).caller) known.named in
       let s = some_of p.caller named in
@@ -121,24 +121,24 @@ module _ (shards capacity : ℕ) where
         legal = c.legal;
         own_there = c.of_caller s.0 s.1 ∙ ap (λ o. notes_of by_of (name_of o) 1 p.seen) (sym s.1);
         long = c.long;
-        tagged = tags_keep p.own_notes (length p.observations + 1) (length (p.observations ++ observation notes.0 notes.1 p.notes ∷ [])) tagged (let l = length-append p.observations (observation notes.0 notes.1 p.notes ∷ []) in omega arith);
+        tagged = tags_keep p.own_notes (length p.observations + 1) (length (p.observations ++ observation notes.0 notes.1 p.notes floor ∷ [])) tagged (let l = length-append p.observations (observation notes.0 notes.1 p.notes floor ∷ []) in omega arith);
       }
 
   -- ---- what it leaves of its caller's own writes
 
-  pub pushed_own : (b p y : NotedView Writing) → Observes (home_of shards) by_of Accepts p y → (request : Request) (change : Change) (since : ℕ) (o : Option (ℕ × Reply)) → Pushes b request change o p
+  pub pushed_own : (floor : ℕ) (b p y : NotedView Writing) → Observes (home_of shards) by_of Accepts floor p y → (request : Request) (change : Change) (since : ℕ) (o : Option (ℕ × Reply)) → Pushes b request change o p
       → WritesOwn (caller_by b) (ticket_by capacity request since o) (caller_by y)
-  pushed_own b p y notes request change since (Some r) h =
+  pushed_own floor b p y notes request change since (Some r) h =
       let full = h.0.0.0 in
       subst (λ (x : Caller). WritesOwn (caller_by b) (ticket_by capacity request since (Some r)) x) (sym (ap caller_by notes.4)) record {
         name_is = ap (λ (x : NotedView Writing). name_of x.caller) full;
-        observations_stay = (observation notes.0 notes.1 p.notes ∷ [], ap (λ (x : NotedView Writing). x.observations ++ observation notes.0 notes.1 p.notes ∷ []) (sym full));
+        observations_stay = (observation notes.0 notes.1 p.notes floor ∷ [], ap (λ (x : NotedView Writing). x.observations ++ observation notes.0 notes.1 p.notes floor ∷ []) (sym full));
         own_is = inr (ap drew_revision h.0.1 ∙ is_told shards capacity change (stamp change r.0), (writing_by b request change, ap (λ (x : NotedView Writing). x.own_notes) full, refl, refl, refl));
       }
-  pushed_own b p y notes request change since None h =
+  pushed_own floor b p y notes request change since None h =
       subst (λ (x : Caller). WritesOwn (caller_by b) (ticket_by capacity request since None) x) (sym (ap caller_by notes.4)) record {
         name_is = ap (λ (x : NotedView Writing). name_of x.caller) h.1;
-        observations_stay = (observation notes.0 notes.1 p.notes ∷ [], ap (λ (x : NotedView Writing). x.observations ++ observation notes.0 notes.1 p.notes ∷ []) (sym h.1));
+        observations_stay = (observation notes.0 notes.1 p.notes floor ∷ [], ap (λ (x : NotedView Writing). x.observations ++ observation notes.0 notes.1 p.notes floor ∷ []) (sym h.1));
         own_is = inl (refl, ap (λ (x : NotedView Writing). x.own_notes) h.1);
       }
 
@@ -147,10 +147,10 @@ module _ (shards capacity : ℕ) where
   plainly (Same o) reply u = ap drew_revision u
   plainly (Write ch) reply u = absurd u
 
-  pub noted_own : (index d : ℕ) (notes : List (ℕ × Writing)) (c c' : Caller) (t : Ticket) (v : Verdict) (reply : Reply) → HasObserved shards capacity index notes c d c' → t.reply ≡ Some reply → Unwritten v reply → WritesOwn c t c'
-  noted_own index d notes c c' t v reply n is un = record {
+  pub noted_own : (floor index d : ℕ) (notes : List (ℕ × Writing)) (c c' : Caller) (t : Ticket) (v : Verdict) (reply : Reply) → HasObserved shards capacity index notes floor c d c' → t.reply ≡ Some reply → Unwritten v reply → WritesOwn c t c'
+  noted_own floor index d notes c c' t v reply n is un = record {
     name_is = n.name;
-    observations_stay = (observation index d notes ∷ [], sym n.observations);
+    observations_stay = (observation index d notes floor ∷ [], sym n.observations);
     own_is = inl (subst (λ o. IfSome o (λ r. drew_revision r ≡ false)) (sym is) (plainly v reply un), n.own_notes);
   }
 
@@ -176,13 +176,13 @@ module _ (shards capacity : ℕ) where
 
   -- ---- its ticket is due
 
-  pub pushed_due : (b p y : NotedView Writing) → Observes (home_of shards) by_of Accepts p y → p.plain.capacity ≡ capacity
+  pub pushed_due : (floor : ℕ) (b p y : NotedView Writing) → Observes (home_of shards) by_of Accepts floor p y → p.plain.capacity ≡ capacity
       → (request : Request) (change : Change) (key : Key) (since : ℕ) → is_write request ≡ true → key_named request ≡ Some key → b.shard ≡ Some (shard_of key shards) → verdict request (current_of b.notes key) ≡ Write change
       → IsCallerView shards b → since ≤ length b.seen → length b.seen ≤ capacity → (o : Option (ℕ × Reply)) → Pushes b request change o p → IsTicketOf shards capacity (ticket_by capacity request since o) (caller_by y)
-  pushed_due b p y notes sized request change key since write named here judged known since_le within (Some r) h =
-      published_due shards capacity b p y (shard_of key shards) here notes sized request change key since write named refl judged known since_le r.0 h.0.0 r.1 h.0.1 h.0.2 h.0.3 h.0.4 h.0.5
-  pushed_due b p y notes sized request change key since write named here judged known since_le within None h =
-      spent_due shards capacity b p y (shard_of key shards) here notes sized request change key since write named refl judged known since_le h.1 within
+  pushed_due floor b p y notes sized request change key since write named here judged known since_le within (Some r) h =
+      published_due shards capacity floor b p y (shard_of key shards) here notes sized request change key since write named refl judged known since_le r.0 h.0.0 r.1 h.0.1 h.0.2 h.0.3 h.0.4 h.0.5
+  pushed_due floor b p y notes sized request change key since write named here judged known since_le within None h =
+      spent_due shards capacity floor b p y (shard_of key shards) here notes sized request change key since write named refl judged known since_le h.1 within
 
   -- ---- a whole holding of a lock by a write
 

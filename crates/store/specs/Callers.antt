@@ -35,14 +35,22 @@ pub record GoesOn (c d : Caller) : Type 0 where
   pub begins : IsPrefix c.seen d.seen
   pub loads : c.loads ≤ d.loads
 
--- the numbers below n, from 0 on
-abbrev pub first : ℕ → List ℕ
-first zero = []
-first (suc n) = first n ++ n ∷ []
+-- which shard it was, and from which number on that could be read
+abbrev pub floor_noted : Observation Writing → ℕ × ℕ
+floor_noted o = (o.shard, o.floor)
 
--- a caller noted the shards 0, 1, .. of n in turn, each under its lock, and no others
-abbrev pub HeldInTurn : ℕ → Caller → Caller → Type 0
-HeldInTurn n c d = map (λ o. o.shard) d.observations ≡ map (λ o. o.shard) c.observations ++ first n
+-- the shards 0, 1, .. of n, each with that floor
+abbrev pub in_turn : (n floor : ℕ) → List (ℕ × ℕ)
+in_turn zero floor = []
+in_turn (suc n) floor = in_turn n floor ++ (n, floor) ∷ []
+
+-- a caller noted the shards 0, 1, .. of n in turn, each under its lock and with that floor, and no others
+abbrev pub HeldInTurn : (n floor : ℕ) → Caller → Caller → Type 0
+HeldInTurn n floor c d = map floor_noted d.observations ≡ map floor_noted c.observations ++ in_turn n floor
+
+-- a caller noted one shard, under its lock, that can't be read at n any more
+abbrev pub FoundAbove : (n : ℕ) → Caller → Caller → Type 0
+FoundAbove n c d = (o : Observation Writing) × (d.observations ≡ c.observations ++ o ∷ []) × (n < o.floor)
 
 -- after a call that loaded the frontier at least once: what the caller has seen is a history, of whose writes its own
 -- are just the accepted ones with a number up to its length, each at its number

@@ -154,7 +154,9 @@ abbrev pub numbered_coded : Coded Numbered
 numbered_coded = coded_list (coded× coded_ℕ writing_coded)
 
 abbrev pub observation_coded : Coded (Observation Writing)
-observation_coded = code_by (ℕ × (ℕ × Numbered)) (coded× coded_ℕ (coded× coded_ℕ numbered_coded)) (λ c. (c.shard, (c.drawn, c.notes))) (λ p. record { shard = p.0; drawn = p.1.0; notes = p.1.1 }) (λ _. refl)
+observation_coded =
+    code_by (ℕ × (ℕ × (Numbered × ℕ))) (coded× coded_ℕ (coded× coded_ℕ (coded× numbered_coded coded_ℕ))) (λ c. (c.shard, (c.drawn, (c.notes, c.floor))))
+    (λ p. record { shard = p.0; drawn = p.1.0; notes = p.1.1.0; floor = p.1.1.1 }) (λ _. refl)
 
 abbrev pub caller_coded : Coded Caller
 caller_coded =

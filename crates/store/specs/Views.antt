@@ -77,11 +77,11 @@ pub record Stays (c d : Caller) : Type 0 where
   pub loads : d.loads ≡ c.loads
   pub seen : d.seen ≡ c.seen
 
--- a caller noted what the shard i has, when so many numbers were drawn
-pub record HasObserved (shards capacity i : ℕ) (notes : List (ℕ × Writing)) (c : Caller) (count : ℕ) (d : Caller) : Type 0 where
+-- a caller noted what the shard i has, when so many numbers were drawn, and its floor
+pub record HasObserved (shards capacity i : ℕ) (notes : List (ℕ × Writing)) (floor : ℕ) (c : Caller) (count : ℕ) (d : Caller) : Type 0 where
   pub name : d.name ≡ c.name
   pub own_notes : d.own_notes ≡ c.own_notes
-  pub observations : d.observations ≡ c.observations ++ observation i count notes ∷ []
+  pub observations : d.observations ≡ c.observations ++ observation i count notes floor ∷ []
   pub loads : d.loads ≡ c.loads
   pub seen : d.seen ≡ c.seen
   pub within : count ≤ capacity

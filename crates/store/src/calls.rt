@@ -11,7 +11,7 @@ ghost use Rattle.requests.specs.declared.reply.Reply.TheVariants.{Listed};
 ghost use Rattle.plain_store.specs.Store.{collection, step};
 ghost use Rattle.store.specs.History.{store_after};
 ghost use Rattle.store.specs.Parts.{part_of};
-ghost use Rattle.store.specs.Callers.{GoesOn, HasRead, IsLine};
+ghost use Rattle.store.specs.Callers.{FoundAbove, GoesOn, HasRead, IsLine};
 ghost use Rattle.store.specs.Tickets.{IsTicketOf, WritesOwn};
 ghost use Rattle.store.specs.Views.{HasObserved, Stays};
 ghost use Rattle.store.specs.declared.writing.Writing.{Writing};
@@ -100,7 +100,7 @@ pub(crate) fn compact<H: Sharding, N: Naming, W: Wait>(
     requires line { IsLine N.line N.capacity line.now }
     requires number { number ≤ length caller.old.seen }
     ensures stays { Stays caller.old caller.new }
-    ensures held { (n : ℕ) × (notes : List (ℕ × Writing)) × HasObserved H.shards N.capacity index notes caller.old n caller.new }
+    ensures held { (n : ℕ) × (notes : List (ℕ × Writing)) × HasObserved H.shards N.capacity index notes number caller.old n caller.new }
 {
     let mut locked = shard.lock(rt);
     // No run meets another shard here, nor a higher floor, since every caller that raises one holds the store's. But no
@@ -110,6 +110,30 @@ pub(crate) fn compact<H: Sharding, N: Naming, W: Wait>(
         unreachable!()
     }
     locked.compact(line, caller, number);
+}
+
+/// Notes a shard that can't be read at a number any more. It does not return if the shard can be read there, nor if its
+/// floor is above what the caller has seen.
+pub(crate) fn find_above<H: Sharding, N: Naming, W: Wait>(
+    rt: &W,
+    line: &Line<Writing, ByShards<H>>,
+    shard: &Mutex<Locked<H, N>>,
+    caller: &mut Caller<H, N>,
+    number: u64,
+)
+    requires { IsLine N.line N.capacity line.now }
+    ensures stays { Stays caller.old caller.new }
+    ensures found { FoundAbove number caller.old caller.new }
+{
+    let mut locked = shard.lock(rt);
+    let floor = locked.floor();
+    // No run meets such a floor here: the caller holds the store's, which the shard's is, and has loaded the frontier
+    // since. But no clause can say so.
+    if floor <= number || caller.seen() < floor {
+        for _ in rt.forever() {}
+        unreachable!()
+    }
+    locked.note(line, caller);
 }
 
 /// The reply to a list, at one frontier, which the caller has then seen. If a shard can't be read there any more, the

@@ -88,7 +88,7 @@ impl<H: Sharding, N: Naming> Locked<H, N> {
     }
 
     /// Raises the floor of the shard to a number that the frontier has reached, as the caller has seen. The caller
-    /// notes what the shard has.
+    /// notes what the shard has, with the floor that it then has.
     pub(crate) fn compact(
         &mut self,
         line: &Line<Writing, ByShards<H>>,
@@ -99,32 +99,32 @@ impl<H: Sharding, N: Naming> Locked<H, N> {
         requires floor { self.old.shard.floor ≤ number }
         requires seen { number ≤ length caller.old.seen }
         ensures raised { self.new ≡ record self.old { shard = raised self.old.shard number } }
-        ensures noted { (d : ℕ) × HasObserved H.shards N.capacity self.old.index self.old.notes caller.old d caller.new }
+        ensures noted { (d : ℕ) × HasObserved H.shards N.capacity self.old.index self.old.notes number caller.old d caller.new }
     {
         let Some(seat) = caller.seat.take() else {
             unreachable!();
         };
+        self.shard.compact(number);
         // By this visit the shard's seat knows a frontier not below the floor: a number drawn later is above it.
         let seen = line.enter(&mut self.seat, seat);
-        // So that contracts see that the lock was held.
-        line.observe(&mut self.seat);
+        // So that contracts see that the lock was held, and the floor that was raised.
+        line.observe(&mut self.seat, self.shard.floor());
         caller.seat = Some(line.leave(&mut self.seat, seen));
-        self.shard.compact(number);
     }
 
-    /// The caller notes what the shard has.
-    fn note(&mut self, line: &Line<Writing, ByShards<H>>, caller: &mut Caller<H, N>)
+    /// The caller notes what the shard has, and its floor.
+    pub(crate) fn note(&mut self, line: &Line<Writing, ByShards<H>>, caller: &mut Caller<H, N>)
         requires line { IsLine N.line N.capacity line.now }
         requires floor { self.old.shard.floor ≤ length caller.old.seen }
         ensures same { self.new ≡ self.old }
-        ensures noted { (d : ℕ) × HasObserved H.shards N.capacity self.old.index self.old.notes caller.old d caller.new }
+        ensures noted { (d : ℕ) × HasObserved H.shards N.capacity self.old.index self.old.notes self.old.shard.floor caller.old d caller.new }
     {
         let Some(seat) = caller.seat.take() else {
             unreachable!();
         };
         let seen = line.enter(&mut self.seat, seat);
         // Any later frontier of the caller has to agree with what is noted here.
-        line.observe(&mut self.seat);
+        line.observe(&mut self.seat, self.shard.floor());
         caller.seat = Some(line.leave(&mut self.seat, seen));
     }
 
@@ -144,7 +144,7 @@ impl<H: Sharding, N: Naming> Locked<H, N> {
         requires key { shard_of key.now H.shards ≡ self.old.index }
         requires floor { self.old.shard.floor ≤ length caller.old.seen }
         ensures same { self.new ≡ self.old }
-        ensures noted { (d : ℕ) × HasObserved H.shards N.capacity self.old.index self.old.notes caller.old d caller.new }
+        ensures noted { (d : ℕ) × HasObserved H.shards N.capacity self.old.index self.old.notes self.old.shard.floor caller.old d caller.new }
         ensures reply { IfOk result (λ reply. reply ≡ (step (store_after N.capacity caller.new.seen) (Get key.now)).1) }
     {
         let number = caller.seen();
@@ -164,7 +164,7 @@ impl<H: Sharding, N: Naming> Locked<H, N> {
         requires line { IsLine N.line N.capacity line.now }
         requires number { (self.old.shard.floor ≤ number) × (number ≤ length caller.old.seen) }
         ensures same { self.new ≡ self.old }
-        ensures noted { (d : ℕ) × HasObserved H.shards N.capacity self.old.index self.old.notes caller.old d caller.new }
+        ensures noted { (d : ℕ) × HasObserved H.shards N.capacity self.old.index self.old.notes self.old.shard.floor caller.old d caller.new }
         ensures part { IfOk result (λ objects. objects.items
             ≡ collection (part_of (store_after N.capacity (take number caller.new.seen)).objects H.shards self.old.index) kind namespace.now) }
     {

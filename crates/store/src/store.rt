@@ -8,11 +8,13 @@ ghost use Rattle.requests.specs.Keys.{key_named};
 ghost use Rattle.requests.specs.Verdict.{is_write};
 ghost use Rattle.requests.specs.declared.request.Request.TheVariants as request;
 ghost use Rattle.requests.specs.declared.request.Request.TheVariants.{Get};
+ghost use Rattle.requests.specs.declared.reply.Reason.TheVariants.{Expired};
+ghost use Rattle.requests.specs.declared.reply.Reply.TheVariants.{Refused};
 ghost use Rattle.store.specs.Floors.{floor_after};
 ghost use Rattle.store.specs.History.{store_after};
 ghost use Rattle.store.specs.Floors.{compacted_reply, is_compacted, list_reply};
 ghost use Rattle.plain_store.specs.Store.{denied};
-ghost use Rattle.store.specs.Callers.{GoesOn, HasRead, HeldInTurn, IsLine};
+ghost use Rattle.store.specs.Callers.{FoundAbove, GoesOn, HasRead, HeldInTurn, IsLine};
 ghost use Rattle.store.specs.Tickets.{IsTicketOf, WritesOwn};
 ghost use Rattle.store.specs.Views.{Stays};
 ghost use Rattle.store.specs.declared.error.StoreError.TheVariants.{TooManyCallers};
@@ -29,7 +31,7 @@ use crate::ticket::Ticket;
 use crate::writing::{ByShards, Writing};
 use line::{Ends, Line, ShardSeat};
 use objects::{Key, Kind, Memory, Text, shard_of};
-use requests::{Reply, Request};
+use requests::{Reason, Reply, Request};
 use std::alloc::{AllocError, Global};
 use std::marker::Model;
 use std::sync::{Mutex, Wait};
@@ -224,11 +226,13 @@ impl<H: Sharding, N: Naming> Store<H, N> {
 
     /// Drops what was before a revision: Compacted, or TooLarge if the number is above the frontier, else Expired if
     /// the past was dropped beyond it. The floor's lock is held to the end, and each shard's in turn. The frontier is
-    /// the one that the caller has then seen.
+    /// the one that the caller has then seen. It has noted each shard with the number as its floor, or for Expired one
+    /// shard with a higher floor.
     pub fn compact<W: Wait>(&self, rt: &W, caller: &mut Caller<H, N>, number: u64) -> Reply
         ensures read { HasRead N.capacity caller.old caller.new }
         ensures reply { (floor : ℕ) × (result ≡ compacted_reply (denied floor (length caller.new.seen) number) number) }
-        ensures held { is_compacted result ≡ true → HeldInTurn self.now caller.old caller.new }
+        ensures held { is_compacted result ≡ true → HeldInTurn self.now number caller.old caller.new }
+        ensures expired { result ≡ Refused Expired → FoundAbove number caller.old caller.new }
     {
         // Taken before any shard's lock, and never by a thread that holds one, so that no two wait for each other.
         let mut floor = self.floor.lock(rt);
@@ -246,20 +250,40 @@ impl<H: Sharding, N: Naming> Store<H, N> {
     ) -> Reply
         ensures read { HasRead N.capacity caller.old caller.new }
         ensures reply { result ≡ compacted_reply (denied floor.old (length caller.new.seen) number) number }
-        ensures held { is_compacted result ≡ true → HeldInTurn self.now caller.old caller.new }
+        ensures held { is_compacted result ≡ true → HeldInTurn self.now number caller.old caller.new }
+        ensures expired { result ≡ Refused Expired → FoundAbove number caller.old caller.new }
         ensures floor { floor.new ≡ floor_after floor.old number (denied floor.old (length caller.new.seen) number) }
     {
         if let Some(reason) = floor.raise(&self.numbers, caller, number) {
-            return Reply::Refused(reason);
+            return self.refuse(rt, caller, number, reason);
         }
         self.compact_all(rt, caller, number);
         Reply::Compacted { revision: number }
     }
 
+    /// The refusal of a number. If it is below the floor, the caller notes a shard that can't be read there.
+    fn refuse<W: Wait>(
+        &self,
+        rt: &W,
+        caller: &mut Caller<H, N>,
+        number: u64,
+        reason: Reason,
+    ) -> Reply
+        ensures stays { Stays caller.old caller.new }
+        ensures reply { result ≡ Refused reason }
+        ensures expired { result ≡ Refused Expired → FoundAbove number caller.old caller.new }
+    {
+        if let Reason::Expired = reason {
+            calls::find_above(rt, &self.numbers, &self.shards[0], caller, number);
+            return Reply::Refused(Reason::Expired);
+        }
+        Reply::Refused(reason)
+    }
+
     fn compact_all<W: Wait>(&self, rt: &W, caller: &mut Caller<H, N>, number: u64)
         requires { number ≤ length caller.old.seen }
         ensures stays { Stays caller.old caller.new }
-        ensures held { HeldInTurn self.now caller.old caller.new }
+        ensures held { HeldInTurn self.now number caller.old caller.new }
     {
         for shard in 0..self.shards.len() {
             calls::compact(
@@ -275,7 +299,8 @@ impl<H: Sharding, N: Naming> Store<H, N> {
 
     /// The objects of a kind in a namespace exactly as they were at a revision, in byte order of their names, or
     /// TooLarge or Expired as for a compaction. The floor's lock is held to the end, and each shard's in turn. The
-    /// objects are those of the plain store after that many of the writes that the caller has seen.
+    /// objects are those of the plain store after that many of the writes that the caller has seen. For Expired the
+    /// caller has noted a shard with a higher floor.
     ///
     /// # Errors
     ///
@@ -291,6 +316,7 @@ impl<H: Sharding, N: Naming> Store<H, N> {
         ensures read { HasRead N.capacity caller.old caller.new }
         ensures reply { IfOk result (λ reply. (floor : ℕ) × (reply
             ≡ list_reply (denied floor (length caller.new.seen) number) N.capacity caller.new.seen kind namespace.now number)) }
+        ensures expired { IfOk result (λ reply. reply ≡ Refused Expired → FoundAbove number caller.old caller.new) }
     {
         // It is held while the shards are read, so that no compaction passes the number meanwhile.
         let floor = self.floor.lock(rt);
@@ -311,9 +337,10 @@ impl<H: Sharding, N: Naming> Store<H, N> {
         ensures read { HasRead N.capacity caller.old caller.new }
         ensures reply { IfOk result (λ reply. reply
             ≡ list_reply (denied floor.now (length caller.new.seen) number) N.capacity caller.new.seen kind namespace.now number) }
+        ensures expired { IfOk result (λ reply. reply ≡ Refused Expired → FoundAbove number caller.old caller.new) }
     {
         if let Some(reason) = floor.denied(&self.numbers, caller, number) {
-            return Ok(Reply::Refused(reason));
+            return Ok(self.refuse(rt, caller, number, reason));
         }
         self.list_past(rt, caller, kind, namespace, number)
     }

@@ -128,9 +128,7 @@ fn answer_unwritten<H: Sharding, N: Naming>(
         (verdict request.value (current shard.now.records k)) result shard.now.records }
     ensures is { result ≡ record { request = request.value; since = since; saw = saw; place = max saw loaded; reply = Some reply } }
 {
-    // For the contract alone; it costs nothing.
-    let _ = shard;
-    line.observe(seat);
+    line.observe(seat, shard.floor());
     Ticket {
         request,
         since,
@@ -203,7 +201,7 @@ fn publish<H: Sharding, N: Naming, G: Gate>(
     ensures is { (result.request ≡ request.value) × (result.since ≡ since) × IsSome result.reply }
 {
     let published = push_drawn::<H, N, G>(line, seat, shard, &request, change, gate);
-    line.observe(seat);
+    line.observe(seat, shard.floor());
     ticket_of(line, request, since, published)
 }
 

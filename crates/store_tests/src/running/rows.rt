@@ -6,7 +6,7 @@ use std::test::Fail;
 /// A pod is created, read, changed at its version and read again; the past is listed, compacted away and refused; then
 /// the store is full, and lists its pods in the order of their names. No get and no refused write keeps the past from
 /// being listed.
-pub(crate) static ROWS: [(&str, &str); 21] = [
+pub(crate) static ROWS: [(&str, &str); 22] = [
     (
         r#"{"do":"list","kind":"Pod"}"#,
         r#"{"code":200,"items":[],"resourceVersion":"0","result":"Listed"}"#,
@@ -50,6 +50,10 @@ pub(crate) static ROWS: [(&str, &str); 21] = [
     (
         r#"{"do":"list","kind":"Pod","resourceVersion":"2"}"#,
         r#"{"code":200,"items":[{"kind":"Pod","metadata":{"generation":1,"labels":{"a":"b"},"name":"web-0","namespace":"default","resourceVersion":"2","uid":"00000000-0000-4000-8000-000000000001"}}],"resourceVersion":"2","result":"Listed"}"#,
+    ),
+    (
+        r#"{"do":"list","kind":"Pod","namespace":"other","resourceVersion":"2"}"#,
+        r#"{"code":200,"items":[],"resourceVersion":"2","result":"Listed"}"#,
     ),
     (
         r#"{"do":"compact","resourceVersion":"1"}"#,

@@ -30,7 +30,7 @@ returns-clause-holds g c =
       loads = ap (λ (n : NotedView Writing). n.plain.loads) notes.4;
       pending = ap (λ (n : NotedView Writing). n.plain.pending) notes.4 ∙ h.pending;
       agrees = agrees_as _ _ _ _ _ _ _ h.agrees (ap (λ (n : NotedView Writing). n.notes) notes.4) (ap (λ (n : NotedView Writing). n.plain.filled) notes.4) (omega arith);
-      caller = noted_view g.H.Sharding.shards 0 c.args.seat.now.view c.observe.new.seat.view (shard_of k.0 g.H.Sharding.shards) q.0 notes h.caller;
+      caller = noted_view g.H.Sharding.shards 0 _ c.args.seat.now.view c.observe.new.seat.view (shard_of k.0 g.H.Sharding.shards) q.0 notes h.caller;
     }
 
 pub returns-clause-ticket : goal.returns-clause-ticket
@@ -41,9 +41,9 @@ returns-clause-ticket g c =
     let q = c.requires.key k.0 k.1 in
     let h = c.requires.holds in
     let b = c.args.seat.now.view in
-    let n = noted S C b c.observe.new.seat.view (shard_of k.0 S) q.0 c.observe.ensures.observed (c.observe.ensures.capacity ∙ c.requires.line.1.1) in
+    let n = noted S C _ b c.observe.new.seat.view (shard_of k.0 S) q.0 c.observe.ensures.observed (c.observe.ensures.capacity ∙ c.requires.line.1.1) in
     subst (λ p. IsTicketOf S C (record { request = c.args.request.value; since = c.args.since; saw = c.args.saw; place = p; reply = Some c.args.reply }) (caller_by c.observe.new.seat.view)) (sym c.max.ensures)
-    (unwritten_due S C c.args.request.value k.0 c.args.since c.args.saw c.args.loaded (shard_of k.0 S) n.0 c.args.reply b.notes (caller_by b) (caller_by c.observe.new.seat.view) n.1 c.requires.write k.1
+    (unwritten_due S C _ c.args.request.value k.0 c.args.since c.args.saw c.args.loaded (shard_of k.0 S) n.0 c.args.reply b.notes (caller_by b) (caller_by c.observe.new.seat.view) n.1 c.requires.write k.1
     refl (q.1 ∙ number_is c.args.shard.now.records b.notes h.agrees.latest k.0) (subst (λ o. Unwritten (verdict c.args.request.value o) c.args.reply) (current_is c.args.shard.now.records b.notes h.agrees.latest k.0) q.2) c.requires.seen.0 c.requires.seen.1
     (λ m there. h.agrees.positive m (subst (λ (xs : List ℕ). Contains xs m) h.agrees.noted there)))
 
@@ -54,8 +54,8 @@ returns-clause-own g c =
     let k = some_key c.args.request.value c.requires.write in
     let q = c.requires.key k.0 k.1 in
     let b = c.args.seat.now.view in
-    let n = noted S C b c.observe.new.seat.view (shard_of k.0 S) q.0 c.observe.ensures.observed (c.observe.ensures.capacity ∙ c.requires.line.1.1) in
-    noted_own S C (shard_of k.0 S) n.0 b.notes (caller_by b) (caller_by c.observe.new.seat.view) (record { request = c.args.request.value; since = c.args.since; saw = c.args.saw; place = c.max.result; reply = Some c.args.reply })
+    let n = noted S C _ b c.observe.new.seat.view (shard_of k.0 S) q.0 c.observe.ensures.observed (c.observe.ensures.capacity ∙ c.requires.line.1.1) in
+    noted_own S C _ (shard_of k.0 S) n.0 b.notes (caller_by b) (caller_by c.observe.new.seat.view) (record { request = c.args.request.value; since = c.args.since; saw = c.args.saw; place = c.max.result; reply = Some c.args.reply })
     (verdict c.args.request.value (current c.args.shard.now.records k.0)) c.args.reply n.1 refl q.2
 
 pub returns-clause-wrote : goal.returns-clause-wrote

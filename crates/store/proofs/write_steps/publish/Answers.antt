@@ -45,7 +45,7 @@ returns-clause-holds g c =
       loads = ap (λ (n : NotedView Writing). n.plain.loads) notes.4 ∙ keeps.loads;
       pending = ap (λ (n : NotedView Writing). n.plain.pending) notes.4 ∙ keeps.pending h.pending;
       agrees = agrees_as _ _ _ _ _ _ _ c.push_drawn-published.ensures.agrees (ap (λ (n : NotedView Writing). n.notes) notes.4) (ap (λ (n : NotedView Writing). n.plain.filled) notes.4) (omega arith);
-      caller = pushed_view S C c.args.seat.now.view c.push_drawn-published.new.seat.view c.observe.new.seat.view c.args.request.value c.args.change c.push_drawn-published.result pushes h.caller notes;
+      caller = pushed_view S C _ c.args.seat.now.view c.push_drawn-published.new.seat.view c.observe.new.seat.view c.args.request.value c.args.change c.push_drawn-published.result pushes h.caller notes;
     }
 
 pub returns-clause-ticket : goal.returns-clause-ticket
@@ -59,7 +59,7 @@ returns-clause-ticket g c =
     let q = c.requires.key k.0 k.1 in
     let judged = ap (verdict c.args.request.value) (sym (current_is c.args.shard.now.records v.notes h.agrees.latest k.0)) ∙ q.1 in
     subst (λ t. IsTicketOf S C t (caller_by c.observe.new.seat.view)) (sym c.ticket_of.ensures)
-    (pushed_due S C v c.push_drawn-published.new.seat.view c.observe.new.seat.view c.observe.ensures.observed (c.observe.ensures.capacity ∙ c.requires.line.1.1)
+    (pushed_due S C _ v c.push_drawn-published.new.seat.view c.observe.new.seat.view c.observe.ensures.observed (c.observe.ensures.capacity ∙ c.requires.line.1.1)
     c.args.request.value c.args.change k.0 c.args.since c.requires.write k.1 q.0 judged h.caller c.requires.seen.0 c.requires.seen.1 c.push_drawn-published.result pushes)
 
 pub returns-clause-own : goal.returns-clause-own
@@ -69,7 +69,7 @@ returns-clause-own g c =
     let v = c.args.seat.now.view in
     let pushes : Pushes S C v c.args.request.value c.args.change c.push_drawn-published.result c.push_drawn-published.new.seat.view = (c.push_drawn-published.ensures.some, c.push_drawn-published.ensures.none) in
     subst (λ t. WritesOwn (caller_by v) t (caller_by c.observe.new.seat.view)) (sym c.ticket_of.ensures)
-    (pushed_own S C v c.push_drawn-published.new.seat.view c.observe.new.seat.view c.observe.ensures.observed c.args.request.value c.args.change c.args.since c.push_drawn-published.result pushes)
+    (pushed_own S C _ v c.push_drawn-published.new.seat.view c.observe.new.seat.view c.observe.ensures.observed c.args.request.value c.args.change c.args.since c.push_drawn-published.result pushes)
 
 pub returns-clause-wrote : goal.returns-clause-wrote
 returns-clause-wrote g c =

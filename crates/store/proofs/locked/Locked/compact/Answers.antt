@@ -1,10 +1,10 @@
-use Rattle.std.proofs.Common.{◌≡◌, ℕ, ◌∙◌, length, ap, sym, subst, arith}
+use Rattle.std.proofs.Common.{◌≡◌, ◌≤◌, ℕ, ◌∙◌, length, ap, sym, subst, arith}
 use Rattle.line.specs.declared.view.NotedView.{NotedView}
 use Rattle.store.specs.declared.writing.Writing.{Writing}
 use Rattle.store.specs.Callers.{Caller}
 use Rattle.store.specs.Rule.{Locked}
 use Rattle.store.specs.Views.{IsCaller, HasObserved, caller_by, view_or}
-use Rattle.store.proofs.Agreeing.{agrees_as, agrees_raised}
+use Rattle.store.proofs.Agreeing.{agrees_as, agrees_raised, floor_raised}
 use Rattle.store.proofs.Visits.{entered_view, left_view, noted_view, visited}
 use Rattle.store.proofs.locked.Locked.compact.Goals as goal
 
@@ -34,12 +34,16 @@ invariant_of-caller g c =
     let own = subst (IsCaller g.N.Naming.line S) (sym c.take.ensures.value ∙ c.in-Some.is) c.caller.invariant in
     let at = ap (λ (n : NotedView Writing). n.shard) c.enter-seen.ensures.both ∙ c.self.invariant.1 in (
       c.leave.ensures.line.1 ∙ c.observe.ensures.line ∙ c.enter-seen.ensures.line ∙ c.self.invariant.0,
-      left_view S 0 c.observe.new.seat.view c.leave.result.view c.leave.ensures.left (noted_view S 0 c.enter-seen.new.seat.view c.observe.new.seat.view c.self.inside.index at c.observe.ensures.observed
+      left_view S 0 c.observe.new.seat.view c.leave.result.view c.leave.ensures.left (noted_view S 0 _ c.enter-seen.new.seat.view c.observe.new.seat.view c.self.inside.index at c.observe.ensures.observed
           (entered_view S 0 c.self.inside.seat.view c.in-Some.seat.view c.enter-seen.new.seat.view c.enter-seen.ensures.both own.1)),
     )
 
 pub returns-clause-noted : goal.returns-clause-noted
 returns-clause-noted g c =
-    let n = visited g.H.Sharding.shards g.N.Naming.capacity c.self.inside.seat.view c.in-Some.seat.view c.enter-seen.new.seat.view c.observe.new.seat.view c.leave.result.view c.self.inside.index c.self.invariant.1 c.enter-seen.ensures.both c.observe.ensures.observed c.leave.ensures.left (c.observe.ensures.capacity ∙ c.requires.line.1) in
-    subst (λ (l : Locked). (d : ℕ) × HasObserved g.H.Sharding.shards g.N.Naming.capacity l.index l.notes c.args.caller.now d (caller_by c.leave.result.view)) c.self.view_is
-    (subst (λ (x : Caller). (d : ℕ) × HasObserved g.H.Sharding.shards g.N.Naming.capacity c.self.inside.index c.self.inside.seat.view.notes x d (caller_by c.leave.result.view)) (ap (λ o. caller_by (view_or o)) (sym c.in-Some.is ∙ c.take.ensures.value) ∙ c.caller.view_is) n)
+    let n = visited g.H.Sharding.shards g.N.Naming.capacity _ c.self.inside.seat.view c.in-Some.seat.view c.enter-seen.new.seat.view c.observe.new.seat.view c.leave.result.view c.self.inside.index c.self.invariant.1 c.enter-seen.ensures.both c.observe.ensures.observed c.leave.ensures.left (c.observe.ensures.capacity ∙ c.requires.line.1) in
+    let low = subst (λ (l : Locked). l.shard.floor ≤ c.args.number) (sym c.self.view_is) c.requires.floor in
+    let raised_to = c.floor.ensures ∙ floor_raised c.self.inside.shard c.compact.new.self c.args.number c.compact.ensures.raised low in
+    let at = subst (λ floor. (d : ℕ) × HasObserved g.H.Sharding.shards g.N.Naming.capacity c.self.inside.index c.self.inside.seat.view.notes floor (caller_by c.in-Some.seat.view) d (caller_by c.leave.result.view)) raised_to n in
+    subst (λ (l : Locked). (d : ℕ) × HasObserved g.H.Sharding.shards g.N.Naming.capacity l.index l.notes c.args.number c.args.caller.now d (caller_by c.leave.result.view)) c.self.view_is
+    (subst (λ (x : Caller). (d : ℕ) × HasObserved g.H.Sharding.shards g.N.Naming.capacity c.self.inside.index c.self.inside.seat.view.notes c.args.number x d (caller_by c.leave.result.view))
+    (ap (λ o. caller_by (view_or o)) (sym c.in-Some.is ∙ c.take.ensures.value) ∙ c.caller.view_is) at)

@@ -31,12 +31,14 @@ invariant_of-caller g c =
     let own = subst (IsCaller g.N.Naming.line S) (sym c.take.ensures.value ∙ c.in-Some.is) c.caller.invariant in
     let at = ap (λ (n : NotedView Writing). n.shard) c.enter-seen.ensures.both ∙ c.self.invariant.1 in (
       c.leave.ensures.line.1 ∙ c.observe.ensures.line ∙ c.enter-seen.ensures.line ∙ c.self.invariant.0,
-      left_view S 0 c.observe.new.seat.view c.leave.result.view c.leave.ensures.left (noted_view S 0 c.enter-seen.new.seat.view c.observe.new.seat.view c.self.inside.index at c.observe.ensures.observed
+      left_view S 0 c.observe.new.seat.view c.leave.result.view c.leave.ensures.left (noted_view S 0 _ c.enter-seen.new.seat.view c.observe.new.seat.view c.self.inside.index at c.observe.ensures.observed
           (entered_view S 0 c.self.inside.seat.view c.in-Some.seat.view c.enter-seen.new.seat.view c.enter-seen.ensures.both own.1)),
     )
 
 pub returns-clause-noted : goal.returns-clause-noted
 returns-clause-noted g c =
-    let n = visited g.H.Sharding.shards g.N.Naming.capacity c.self.inside.seat.view c.in-Some.seat.view c.enter-seen.new.seat.view c.observe.new.seat.view c.leave.result.view c.self.inside.index c.self.invariant.1 c.enter-seen.ensures.both c.observe.ensures.observed c.leave.ensures.left (c.observe.ensures.capacity ∙ c.requires.line.1) in
-    subst (λ (l : Locked). (d : ℕ) × HasObserved g.H.Sharding.shards g.N.Naming.capacity l.index l.notes c.args.caller.now d (caller_by c.leave.result.view)) c.self.view_is
-    (subst (λ (x : Caller). (d : ℕ) × HasObserved g.H.Sharding.shards g.N.Naming.capacity c.self.inside.index c.self.inside.seat.view.notes x d (caller_by c.leave.result.view)) (ap (λ o. caller_by (view_or o)) (sym c.in-Some.is ∙ c.take.ensures.value) ∙ c.caller.view_is) n)
+    let n = visited g.H.Sharding.shards g.N.Naming.capacity _ c.self.inside.seat.view c.in-Some.seat.view c.enter-seen.new.seat.view c.observe.new.seat.view c.leave.result.view c.self.inside.index c.self.invariant.1 c.enter-seen.ensures.both c.observe.ensures.observed c.leave.ensures.left (c.observe.ensures.capacity ∙ c.requires.line.1) in
+    let at = subst (λ floor. (d : ℕ) × HasObserved g.H.Sharding.shards g.N.Naming.capacity c.self.inside.index c.self.inside.seat.view.notes floor (caller_by c.in-Some.seat.view) d (caller_by c.leave.result.view)) c.floor.ensures n in
+    subst (λ (l : Locked). (d : ℕ) × HasObserved g.H.Sharding.shards g.N.Naming.capacity l.index l.notes l.shard.floor c.args.caller.now d (caller_by c.leave.result.view)) c.self.view_is
+    (subst (λ (x : Caller). (d : ℕ) × HasObserved g.H.Sharding.shards g.N.Naming.capacity c.self.inside.index c.self.inside.seat.view.notes c.self.inside.shard.floor x d (caller_by c.leave.result.view))
+    (ap (λ o. caller_by (view_or o)) (sym c.in-Some.is ∙ c.take.ensures.value) ∙ c.caller.view_is) at)
