@@ -1,7 +1,8 @@
-mod Ends
-mod Answered
-mod Short
-mod Open
-mod Asked
-mod Stays
-mod Rounds
+pub mod Ends
+pub mod Plain
+pub mod Answered
+pub mod Short
+pub mod Open
+pub mod Asked
+pub mod Stays
+pub mod Rounds

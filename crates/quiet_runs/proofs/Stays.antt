@@ -69,7 +69,7 @@ module _ (z : Size) (count : ℕ) (reconcilers : ℕ → Reconciler) where
   idle_stays n k (Waiting saw p r) at is = absurd cc
   idle_stays n k (Reading number p q parts found) at is = absurd cc
 
-  none_carried : (n : ℕ) (k : Cluster) → is_open ((world_of z k).phase n) ≡ false → carried n z count reconcilers k ≡ ([], None)
+  pub none_carried : (n : ℕ) (k : Cluster) → is_open ((world_of z k).phase n) ≡ false → carried n z count reconcilers k ≡ ([], None)
   unfolding carried
   none_carried n k is = stays most_steps n k (idle_stays n k ((world_of z k).phase n) refl is)
 

@@ -6,6 +6,7 @@ ghost use Rattle.cluster_runs.specs.Turns.{Course, approach, asked, asked_as, ca
 ghost use Rattle.cluster_runs.specs.declared.turn.Turn.{Turn};
 ghost use Rattle.interleavings.specs.declared.trace.Item.TheVariants as item;
 ghost use Rattle.interleavings.specs.World.{Idle, Size, opening};
+ghost use Rattle.quiet_runs.specs.Plain.{AnswersPlainly, phases_after};
 ghost use Rattle.quiet_runs.specs.Quiet.{Answers, HasShards, IsAtRest, IsQuiet, KeepsQuiet, is_open, is_single, steps_of_a_request, world_of};
 ghost use Rattle.requests.specs.declared.reply.Reply.{Reply};
 ghost use Rattle.requests.specs.declared.request.Request.{Request};
@@ -36,6 +37,22 @@ pub fn quiet_asks_are_answered()
         → cluster.incarnations caller ≡ None
         → Answers (asked_as caller request) (item.Call (world_of size cluster).now caller request ∷ [])
         caller (steps_of_a_request size + 1) size count reconcilers cluster }
+{}
+
+/// And the reply is the one that a plain store gives, which handles whole requests one at a time: the store that the writes so
+/// far make up. The request leaves in the interleaved store what it leaves in that one. A controller then continues from this
+/// reply; nothing else changes of any controller. So while one caller at a time asks, a quiet store is a plain one.
+pub fn quiet_stores_are_plain_stores()
+    ensures controllers { (size : Size) (count : ℕ) (reconcilers : ℕ → Reconciler) (events : List ClusterEvent) (controller : ℕ)
+        → HasShards size → controller < count
+        → let cluster = run size count reconcilers (start count) events in
+        IsQuiet (world_of size cluster) → (world_of size cluster).phase (cluster.callers controller) ≡ Idle
+        → AnswersPlainly (asked controller) (asks (reconcilers controller) (cluster.phases controller))
+        (phases_after size reconcilers cluster controller) size count reconcilers cluster }
+    ensures others { (size : Size) (count : ℕ) (reconcilers : ℕ → Reconciler) (cluster : Cluster) (caller : ℕ) (request : Request)
+        → HasShards size → IsQuiet (world_of size cluster) → (world_of size cluster).phase caller ≡ Idle
+        → cluster.incarnations caller ≡ None
+        → AnswersPlainly (asked_as caller request) request cluster.phases size count reconcilers cluster }
 {}
 
 /// Lines that send or continue requests keep a quiet store quiet, and no caller waits for a reply that did not wait
