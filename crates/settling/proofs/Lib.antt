@@ -1,0 +1,9 @@
+pub mod Inside
+pub mod Asking
+pub mod Settled
+pub mod Few
+pub mod Rounds
+pub mod Rest
+pub mod Comes
+pub mod Begun
+pub mod Lines
