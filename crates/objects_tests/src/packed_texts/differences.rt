@@ -79,6 +79,16 @@ fn has_length_past(alloc: Global, count: usize, length: usize) -> Result<bool, A
     has_length(alloc, &base, &text, length)
 }
 
+/// The same where so many bytes of the base stand between its next quote and the one from which on both are alike.
+fn has_length_beyond(alloc: Global, count: usize, length: usize) -> Result<bool, AllocError> {
+    let end = repeated(alloc, b"\"the same end", 10, b"")?;
+    let between = repeated(alloc, b"s", count, &end)?;
+    let base = repeated(alloc, b"\"aaaaaaaaa", 1, b"\"")?;
+    let base = repeated(alloc, &base, 1, &between)?;
+    let text = repeated(alloc, b"\"bbbbbbbbb", 1, &end)?;
+    has_length(alloc, &base, &text, length)
+}
+
 #[test]
 fn long_texts_are_copied_added_and_skipped(rt: HostRuntime) -> Result<(), AllocError> {
     // 275 pieces copy 255 bytes each, or the rest; or they add as many.
@@ -99,5 +109,10 @@ fn long_texts_are_copied_added_and_skipped(rt: HostRuntime) -> Result<(), AllocE
     // The first quote of part 1,024 is the last that is looked for: 77 parts of 30 bytes but for their first quote are added by 10
     // pieces.
     assert!(rt; has_length_in_turn(rt.alloc(), 1_100, 1_023 * (3 + 19) + 10 * 3 + 77 * 30 - 1)?);
+    // The 8 bytes that are compared are the last of 4,096. A piece adds nine bytes; then 17 pieces skip 4,097 of the
+    // base, the last of which copies the end.
+    assert!(rt; has_length_beyond(rt.alloc(), 4_087, 3 + 9 + 17 * 3)?);
+    // One byte farther it is not found, and the end is added too.
+    assert!(rt; has_length_beyond(rt.alloc(), 4_088, 3 + 9 + 130)?);
     Ok(())
 }
