@@ -1,4 +1,4 @@
-//! A run of one controller over a plain store, and what the store handles.
+//! A run of one controller over a plain store, what the store handles, and what the controller asks then.
 ghost use Rattle.std.specs.Prelude.{◌≡◌, IfOk};
 ghost use Rattle.std.specs.List.{AllByRecursion};
 ghost use Rattle.controllers.specs.Controller.{phase_of};
@@ -8,6 +8,7 @@ use crate::sample::{
     GET_SET, LIST_CLAIMS, LIST_PODS, LIST_REVISIONS, LIST_SETS, Named, ONE, STATUS, controller,
     is_asked, request_of, store,
 };
+use crate::turns::is_next;
 use controllers::{Controller, Taken, WholeEvent, WholeRun, run_whole};
 use objects::Memory;
 use plain::Reply;
@@ -68,21 +69,45 @@ pub(crate) fn controllers(alloc: Global) -> Result<Vec<Controller>, Memory>
     Ok(controllers)
 }
 
-fn run_over(alloc: Global, plain: &mut Trees, events: &[WholeEvent]) -> Result<WholeRun, Memory> {
-    let mut controllers = controllers(alloc)?;
-    let run = run_whole(alloc, plain, controllers.as_mut_slice(), events);
-    drop(controllers);
-    Ok(run)
+/// Whether the controller asks what comes behind so many entries, of which the first is another client's.
+fn asks_behind(web: &mut Controller, taken: usize) -> bool {
+    match TAKEN.get(taken.max(1)) {
+        Some(entry) => is_next(web, &entry.1),
+        None => is_next(web, &LIST_CLAIMS),
+    }
 }
 
-fn run_of(alloc: Global, events: &[WholeEvent]) -> Result<WholeRun, Memory> {
+/// Whether the controller asks what comes behind so many entries; or the last one again, of a run that was stopped
+/// before it heard the reply.
+fn asks_on(controllers: &mut [Controller], taken: usize, is_stopped: bool) -> bool {
+    let Some(web) = controllers.first_mut() else {
+        return false;
+    };
+    asks_behind(web, taken) || is_stopped && 0 < taken && asks_behind(web, taken - 1)
+}
+
+/// The run, and whether its controller asks on behind it.
+fn run_over(
+    alloc: Global,
+    plain: &mut Trees,
+    events: &[WholeEvent],
+) -> Result<(WholeRun, bool), Memory> {
+    let mut controllers = controllers(alloc)?;
+    let run = run_whole(alloc, plain, controllers.as_mut_slice(), events);
+    let taken = run.taken.len();
+    let goes_on = asks_on(controllers.as_mut_slice(), taken, run.fault.is_some());
+    drop(controllers);
+    Ok((run, goes_on))
+}
+
+fn run_of(alloc: Global, events: &[WholeEvent]) -> Result<(WholeRun, bool), Memory> {
     let mut plain = store(alloc)?;
     let run = run_over(alloc, &mut plain, events);
     drop(plain);
     run
 }
 
-fn run(alloc: Global) -> Result<WholeRun, Memory> {
+fn run(alloc: Global) -> Result<(WholeRun, bool), Memory> {
     let mut events = Vec::new(alloc);
     let run = match add_events(alloc, &mut events) {
         Ok(()) => run_of(alloc, events.as_slice()),
@@ -119,12 +144,12 @@ fn are_entries(taken: &[Taken]) -> bool {
     taken.len() <= 21
 }
 
-/// Whether what a run handles is right as far as it gets, and whether it reaches its end.
+/// Whether what a run handles is right as far as it gets, and its controller asks on; and whether it reaches its end.
 pub(crate) fn ran(alloc: Global) -> Result<(bool, bool), Memory> {
-    let run = run(alloc)?;
+    let (run, asks_on) = run(alloc)?;
     let is_right = are_entries(run.taken.as_slice());
     let is_whole = run.taken.len() == 21;
     let is_stopped = run.fault.is_some();
     drop(run);
-    Ok((is_right && (is_whole || is_stopped), is_whole))
+    Ok((is_right && asks_on && (is_whole || is_stopped), is_whole))
 }
