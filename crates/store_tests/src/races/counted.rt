@@ -3,7 +3,8 @@ ghost use Rattle.std.specs.Prelude.{◌≡◌, ◌<◌, vec_len};
 ghost use Rattle.line.specs.Seat.{AreShards};
 ghost use Rattle.store.specs.Callers.{IsLine};
 
-use crate::races::counting::Counting;
+use crate::races::counting::{Counting, longest_pause};
+use interleavings::Item;
 use line::{Ends, Line};
 use race_log::{CAPACITY, RaceFault, RaceSpec};
 use racing::{SharedStore, race_over};
@@ -27,7 +28,13 @@ fn spec() -> RaceSpec {
     }
 }
 
-/// Whether each controller compacted once a round, and what was sent was noted.
+/// Whether a controller's next call has a place behind what others sent while its compaction waited.
+fn is_behind(items: &[Item]) -> bool {
+    // A reply, a call, its reply and one more call.
+    longest_pause(items, 0) >= 4 || longest_pause(items, 1) >= 4 || longest_pause(items, 2) >= 4
+}
+
+/// Whether each controller compacted once a round, what was sent was noted, and no call has a place of before it came.
 fn agrees<S: SharedStore + Sync, R: Threads + Wait + Sync>(
     rt: &R,
     alloc: Global,
@@ -39,8 +46,9 @@ where
 {
     let counting = Counting::of(store);
     let history = race_over(rt, alloc, &counting, &spec(), &NoGate)?;
+    let items = history.trace.items.as_slice();
     // Three controllers make five rounds each.
-    let agrees = counting.agrees(history.trace.items.as_slice(), 15);
+    let agrees = counting.agrees(items, 15) && is_behind(items);
     drop(history);
     Ok(agrees)
 }

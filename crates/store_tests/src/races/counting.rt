@@ -2,17 +2,28 @@
 use interleavings::Item;
 use objects::{Key, Kind, Memory, Text};
 use racing::SharedStore;
-use requests::{Reply, Request};
+use requests::{Reason, Reply, Request};
 use std::sync::Wait;
 use std::sync::atomic::{AtomicU64, Ordering};
+use std::thread::yield_now;
 use store::Gate;
 
-/// A store, and how many requests of each of these kinds it got.
+/// How often a thread looks for requests of others.
+const TURNS: u64 = 1_000_000_000;
+
+/// How many requests of four others come before the first compaction is carried out: one of these then has sent three,
+/// and got the reply to the second in between.
+const OTHERS: u64 = 9;
+
+/// A store, how many requests of each of these kinds it got, how many compactions were accepted, and how many were
+/// above the frontier.
 pub(crate) struct Counting<'a, S> {
     store: &'a S,
     writes: AtomicU64,
     lists: AtomicU64,
     compactions: AtomicU64,
+    compacted: AtomicU64,
+    ahead: AtomicU64,
 }
 
 impl<S> Drop for Counting<'_, S> {
@@ -22,10 +33,14 @@ impl<S> Drop for Counting<'_, S> {
             writes,
             lists,
             compactions,
+            compacted,
+            ahead,
         } = self;
         drop(writes);
         drop(lists);
         drop(compactions);
+        drop(compacted);
+        drop(ahead);
     }
 }
 
@@ -44,14 +59,43 @@ impl<'a, S> Counting<'a, S> {
             writes: AtomicU64::new(0),
             lists: AtomicU64::new(0),
             compactions: AtomicU64::new(0),
+            compacted: AtomicU64::new(0),
+            ahead: AtomicU64::new(0),
         }
     }
 
-    /// Whether it got as many compactions, and as many writes and lists as were noted.
+    /// Whether it got as many compactions, of which some were accepted and none was above the frontier, and as many
+    /// writes and lists as were noted.
     pub(crate) fn agrees(&self, items: &[Item], compactions: u64) -> bool {
         has_counted(&self.compactions, compactions)
+            && !has_counted(&self.compacted, 0)
+            && has_counted(&self.ahead, 0)
             && has_counted(&self.writes, count_of(items, Wanted::Write))
             && has_counted(&self.lists, count_of(items, Wanted::List))
+    }
+
+    fn asked(&self) -> u64 {
+        let writes = self.writes.load(Ordering::SeqCst);
+        writes.wrapping_add(self.lists.load(Ordering::SeqCst))
+    }
+
+    /// Waits until so many more writes and lists have come.
+    fn wait_for(&self, more: u64) {
+        let last = self.asked().wrapping_add(more);
+        for _ in 0..TURNS {
+            if self.asked() >= last {
+                return;
+            }
+            yield_now();
+        }
+    }
+
+    fn note_compaction(&self, reply: &Reply) {
+        match reply {
+            Reply::Compacted { revision: _ } => add_one(&self.compacted),
+            Reply::Refused(Reason::TooLarge) => add_one(&self.ahead),
+            _ => {}
+        }
     }
 }
 
@@ -120,9 +164,14 @@ impl<S: SharedStore> SharedStore for Counting<'_, S> {
         self.store.list_at(rt, caller, kind, namespace, exact)
     }
 
+    /// The first one waits for requests of others.
     fn compact<R: Wait>(&self, rt: &R, caller: &mut S::Caller, to: u64) -> Reply {
-        add_one(&self.compactions);
-        self.store.compact(rt, caller, to)
+        if self.compactions.fetch_add(1, Ordering::SeqCst) == 0 {
+            self.wait_for(OTHERS);
+        }
+        let reply = self.store.compact(rt, caller, to);
+        self.note_compaction(&reply);
+        reply
     }
 
     fn seen(&self, caller: &S::Caller) -> u64 {
@@ -184,6 +233,40 @@ fn is_by(item: &Item, asker: u64) -> bool {
             reply: _,
         } => *caller == asker,
     }
+}
+
+fn is_call(item: &Item) -> bool {
+    match item {
+        Item::Call {
+            place: _,
+            caller: _,
+            request: _,
+        } => true,
+        Item::Reply {
+            place: _,
+            caller: _,
+            reply: _,
+        } => false,
+    }
+}
+
+/// The most calls and replies of others that came between a reply to a caller and its next call.
+pub(crate) fn longest_pause(items: &[Item], asker: u64) -> u64 {
+    let mut longest = 0u64;
+    let mut others = 0u64;
+    let mut replied = false;
+    for item in items {
+        if !is_by(item, asker) {
+            others = others.wrapping_add(1);
+        } else {
+            if replied && is_call(item) {
+                longest = longest.max(others);
+            }
+            replied = !is_call(item);
+            others = 0;
+        }
+    }
+    longest
 }
 
 /// How many calls and replies a caller has.
