@@ -1,10 +1,11 @@
 // Four threads: one is held between the draw of its number and its fill, under its shard's lock. A compaction waits for
-// that lock and holds the floor's; and an exact list, which must hold none, waits for the floor's.
+// that lock and holds the floor's; and an exact list, which must hold none, waits for the floor's. Or a list of now
+// waits for that lock, and must not hold the floor's: then exact lists are answered.
 ghost use Rattle.std.specs.Prelude.{◌≡◌, true};
 ghost use Rattle.requests.specs.Verdict.{is_write};
 
-use crate::running::asking::{TURNS, assert_so, has_reply, is_printed, write_of};
-use racing::SharedStore;
+use crate::running::asking::{TURNS, assert_so, has_reply, is_printed, request_of, write_of};
+use racing::{SharedStore, answered};
 use requests::{Reply, Request};
 use std::alloc::Global;
 use std::process::Abort;
@@ -14,9 +15,17 @@ use std::test::Fail;
 use std::thread::{Threads, join, yield_now};
 use store::{Gate, NoGate};
 
+/// What waits for the held lock.
+#[derive(Clone, Copy, PartialEq)]
+enum Waiter {
+    Compaction,
+    List,
+}
+
 /// A line that creates a pod, and lines about a pod in the other of two shards.
 #[derive(Clone, Copy)]
 pub(crate) struct Lines {
+    waiter: Waiter,
     held: &'static str,
     create: &'static str,
     created: &'static str,
@@ -24,6 +33,7 @@ pub(crate) struct Lines {
 }
 
 pub(crate) const B_IS_HELD: Lines = Lines {
+    waiter: Waiter::Compaction,
     held: r#"{"do":"create","object":{"kind":"Pod","metadata":{"name":"b"}}}"#,
     create: r#"{"do":"create","object":{"kind":"Pod","metadata":{"name":"a"}}}"#,
     created: r#"{"code":201,"object":{"kind":"Pod","metadata":{"generation":1,"name":"a","namespace":"default","resourceVersion":"2","uid":"00000000-0000-4000-8000-000000000002"}},"result":"Created"}"#,
@@ -31,10 +41,16 @@ pub(crate) const B_IS_HELD: Lines = Lines {
 };
 
 pub(crate) const A_IS_HELD: Lines = Lines {
+    waiter: Waiter::Compaction,
     held: r#"{"do":"create","object":{"kind":"Pod","metadata":{"name":"a"}}}"#,
     create: r#"{"do":"create","object":{"kind":"Pod","metadata":{"name":"b"}}}"#,
     created: r#"{"code":201,"object":{"kind":"Pod","metadata":{"generation":1,"name":"b","namespace":"default","resourceVersion":"2","uid":"00000000-0000-4000-8000-000000000002"}},"result":"Created"}"#,
     get: r#"{"do":"get","kind":"Pod","name":"b"}"#,
+};
+
+pub(crate) const LIST_WAITS: Lines = Lines {
+    waiter: Waiter::List,
+    ..B_IS_HELD
 };
 
 const MISSING: &str = r#"{"code":404,"reason":"NotFound"}"#;
@@ -42,17 +58,20 @@ const MISSING: &str = r#"{"code":404,"reason":"NotFound"}"#;
 /// No write gets this number, so that a list at it is refused, by the floor's lock alone.
 const LIST: &str = r#"{"do":"list","kind":"Pod","resourceVersion":"3"}"#;
 
+const LIST_OF_NOW: &str = r#"{"do":"list","kind":"Pod"}"#;
+
 const TOO_LARGE: &str = r#"{"code":504,"reason":"TooLarge"}"#;
 
-/// How often the other pod is read while a compaction waits: often enough for the compaction to have reached the held
-/// lock, and the list that of the floor.
+/// How often the other pod is read, and an exact list is sent, while the compaction or the list of now waits: often
+/// enough for it to have reached the held lock, and for the exact list to have reached that of the floor.
 const READS: u64 = 1_000;
 
 /// Steps that the threads have reached.
 #[derive(Drop)]
 struct Steps {
     drawn: AtomicU64,
-    compacts: AtomicU64,
+    waits: AtomicU64,
+    refused: AtomicU64,
     tried: AtomicU64,
     filled: AtomicU64,
     late: AtomicU64,
@@ -123,8 +142,13 @@ fn is_missing<S: SharedStore, R: Wait>(
     true
 }
 
-/// Whether the create of the other pod gets the reply that it should, after reads of it while the compaction waits; or
-/// none if a step came too early or too late.
+/// Whether exact lists are refused meanwhile, often. Those beside a compaction wait for it.
+fn is_refused(lines: Lines, steps: &Steps) -> bool {
+    lines.waiter == Waiter::Compaction || is_made(&steps.refused)
+}
+
+/// Whether the create of the other pod gets the reply that it should, after reads of it while the compaction or the
+/// list of now waits; or none if a step came too early or too late.
 fn second<S: SharedStore, R: Wait>(
     rt: &R,
     alloc: Global,
@@ -133,7 +157,10 @@ fn second<S: SharedStore, R: Wait>(
     lines: Lines,
     steps: &Steps,
 ) -> Option<bool> {
-    if !is_made(&steps.compacts) || !is_missing(rt, alloc, store, &mut caller, lines) {
+    if !is_made(&steps.waits)
+        || !is_missing(rt, alloc, store, &mut caller, lines)
+        || !is_refused(lines, steps)
+    {
         make(&steps.tried);
         return None;
     }
@@ -198,16 +225,57 @@ fn answered_in_steps<S: SharedStore, R: Wait>(
     }
 }
 
-/// Whether a compaction to 0, which begins while the first write is held, gets its reply.
-fn third<S: SharedStore, R: Wait>(rt: &R, store: &S, mut caller: S::Caller, steps: &Steps) -> bool {
-    if !is_made(&steps.drawn) {
-        return false;
-    }
-    make(&steps.compacts);
-    let reply = store.compact(rt, &mut caller, 0);
+/// Whether a compaction to 0 gets its reply.
+fn is_compacted<S: SharedStore, R: Wait>(rt: &R, store: &S, caller: &mut S::Caller) -> bool {
+    let reply = store.compact(rt, caller, 0);
     let is_so = matches!(reply, Reply::Compacted { revision: 0 });
     drop(reply);
     is_so
+}
+
+/// Whether a list of now is answered.
+fn is_listed<S: SharedStore, R: Wait>(
+    rt: &R,
+    alloc: Global,
+    store: &S,
+    caller: &mut S::Caller,
+) -> bool {
+    let Some(request) = request_of(alloc, LIST_OF_NOW) else {
+        return false;
+    };
+    match answered(rt, store, &NoGate, caller, request) {
+        Ok((reply, _)) => {
+            let is_so = matches!(
+                reply,
+                Reply::Listed {
+                    objects: _,
+                    revision: _,
+                }
+            );
+            drop(reply);
+            is_so
+        }
+        Err(_) => false,
+    }
+}
+
+/// Whether the compaction or the list of now, which begins while the first write is held, gets its reply.
+fn third<S: SharedStore, R: Wait>(
+    rt: &R,
+    alloc: Global,
+    store: &S,
+    mut caller: S::Caller,
+    lines: Lines,
+    steps: &Steps,
+) -> bool {
+    if !is_made(&steps.drawn) {
+        return false;
+    }
+    make(&steps.waits);
+    match lines.waiter {
+        Waiter::Compaction => is_compacted(rt, store, &mut caller),
+        Waiter::List => is_listed(rt, alloc, store, &mut caller),
+    }
 }
 
 /// Whether a list above all numbers is refused, each time that it is sent until the other write is tried.
@@ -218,12 +286,15 @@ fn fourth<S: SharedStore, R: Wait>(
     mut caller: S::Caller,
     steps: &Steps,
 ) -> bool {
-    if !is_made(&steps.compacts) {
+    if !is_made(&steps.waits) {
         return false;
     }
-    for _ in 0..TURNS {
+    for turn in 0..TURNS {
         if has_reply(rt, alloc, store, &mut caller, LIST, TOO_LARGE) != Some(true) {
             return false;
+        }
+        if turn == READS {
+            make(&steps.refused);
         }
         if steps.tried.load(Ordering::SeqCst) != 0 {
             return true;
@@ -254,13 +325,14 @@ where
     )
 }
 
-/// The compaction and the list at once.
+/// The compaction, or the list of now, and the exact list at once.
 fn waiters<S: SharedStore + Sync, R: Threads + Wait + Sync>(
     rt: &R,
     alloc: Global,
     store: &S,
     three: S::Caller,
     four: S::Caller,
+    lines: Lines,
     steps: &Steps,
 ) -> (bool, bool)
 where
@@ -269,13 +341,13 @@ where
 {
     join(
         rt,
-        || third(rt, store, three, steps),
+        || third(rt, alloc, store, three, lines, steps),
         || fourth(rt, alloc, store, four, steps),
     )
 }
 
-/// A shard works while another is held, a compaction waits for that one, and an exact list for the compaction; and its write
-/// waits for the number before its own.
+/// A shard works while another is held, a compaction or a list of now waits for that one, and an exact list for the
+/// compaction alone; and its write waits for the number before its own.
 pub(crate) fn assert_steps<S: SharedStore + Sync, R: Threads + Wait + Abort + Sync>(
     rt: &R,
     alloc: Global,
@@ -292,23 +364,24 @@ where
     let four = store.caller(rt)?;
     let steps = Steps {
         drawn: AtomicU64::new(0),
-        compacts: AtomicU64::new(0),
+        waits: AtomicU64::new(0),
+        refused: AtomicU64::new(0),
         tried: AtomicU64::new(0),
         filled: AtomicU64::new(0),
         late: AtomicU64::new(0),
     };
     let made = &steps;
-    let ((placed, answered), (compacted, refused)) = join(
+    let ((placed, written), (waited, refused)) = join(
         rt,
         || writers(rt, alloc, store, one, two, lines, made),
-        || waiters(rt, alloc, store, three, four, made),
+        || waiters(rt, alloc, store, three, four, lines, made),
     );
     let in_time = steps.late.load(Ordering::SeqCst) == 0;
     drop(steps);
     assert_so(rt, placed, "the number 1 of the first create");
     assert_so(rt, in_time, "a step that is in time");
-    assert_so(rt, answered == Some(true), "the reply to the other create");
-    assert_so(rt, compacted, "the reply to the compaction");
-    assert_so(rt, refused, "the replies to the list");
+    assert_so(rt, written == Some(true), "the reply to the other create");
+    assert_so(rt, waited, "the reply to the compaction or the list of now");
+    assert_so(rt, refused, "the replies to the exact list");
     Ok(())
 }

@@ -116,11 +116,12 @@ fn the_last_of_4097_callers_is_refused(rt: HostRuntime) -> Result<(), Fail> {
 }
 
 /// A shard works while another is held, and its write waits for the number before its own. No list that waits for a compaction
-/// holds it, whichever of the two it is.
+/// holds it, whichever of the two it is. No list of now holds what compactions wait for.
 #[test]
 fn shards_work_at_once(rt: HostRuntime) -> Result<(), Fail> {
     assert_on(&rt, rt.alloc(), 10, 2, Scene::Gate)?;
-    assert_on(&rt, rt.alloc(), 10, 2, Scene::OtherGate)
+    assert_on(&rt, rt.alloc(), 10, 2, Scene::OtherGate)?;
+    assert_on(&rt, rt.alloc(), 10, 2, Scene::ListGate)
 }
 
 /// Eight threads send random requests; their replies are legal.

@@ -8,7 +8,7 @@ use crate::running::allocation_failures::assert_ample;
 use crate::running::asking::{assert_rows, assert_so};
 use crate::running::callers::assert_callers;
 use crate::running::crowds::assert_replies_are_legal;
-use crate::running::gates::{A_IS_HELD, B_IS_HELD, assert_steps};
+use crate::running::gates::{A_IS_HELD, B_IS_HELD, LIST_WAITS, Lines, assert_steps};
 use crate::running::meeting::assert_meeting;
 use crate::running::rows::ROWS;
 use line::{Ends, Line, LineError};
@@ -27,9 +27,21 @@ pub(crate) enum Scene {
     Callers,
     Gate,
     OtherGate,
+    ListGate,
     Crowd,
     /// Here a store may be refused because memory ran out.
     AllocationFailures,
+}
+
+/// The lines of a scene with a held shard.
+fn lines_of(scene: Scene) -> Lines {
+    if scene == Scene::Gate {
+        return B_IS_HELD;
+    }
+    if scene == Scene::OtherGate {
+        return A_IS_HELD;
+    }
+    LIST_WAITS
 }
 
 fn assert_scene<
@@ -41,14 +53,8 @@ fn assert_scene<
         Scene::Rows => assert_rows(rt, alloc, store, ROWS.as_slice()),
         Scene::Meeting => assert_meeting(rt, alloc, store),
         Scene::Callers => assert_callers(rt, store),
-        Scene::Gate | Scene::OtherGate => {
-            let is_first = scene == Scene::Gate;
-            assert_steps(
-                rt,
-                alloc,
-                store,
-                if is_first { B_IS_HELD } else { A_IS_HELD },
-            )
+        Scene::Gate | Scene::OtherGate | Scene::ListGate => {
+            assert_steps(rt, alloc, store, lines_of(scene))
         }
         Scene::Crowd => assert_replies_are_legal(rt, alloc, store),
         Scene::AllocationFailures => assert_ample(rt, alloc, store),
