@@ -6,7 +6,7 @@ use std::test::Fail;
 /// A pod is created, read, changed at its version and read again; the past is listed, compacted away and refused; then
 /// the store is full, and lists its pods in the order of their names. No get and no refused write keeps the past from
 /// being listed.
-pub(crate) static ROWS: [(&str, &str); 22] = [
+pub(crate) static ROWS: [(&str, &str); 23] = [
     (
         r#"{"do":"list","kind":"Pod"}"#,
         r#"{"code":200,"items":[],"resourceVersion":"0","result":"Listed"}"#,
@@ -37,6 +37,10 @@ pub(crate) static ROWS: [(&str, &str); 22] = [
     ),
     (
         r#"{"do":"list","kind":"Pod","resourceVersion":"3"}"#,
+        r#"{"code":504,"reason":"TooLarge"}"#,
+    ),
+    (
+        r#"{"do":"compact","resourceVersion":"3"}"#,
         r#"{"code":504,"reason":"TooLarge"}"#,
     ),
     (
