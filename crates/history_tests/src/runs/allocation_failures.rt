@@ -2,7 +2,7 @@
 //! one call may run out of memory, and the same call after it has enough. A test says nothing if its own setup is
 //! refused memory.
 use crate::runs::orders::{EARLY_CONFLICT, trace};
-use crate::runs::steps::{events, is_right};
+use crate::runs::steps::{call_of, events, is_right};
 use history::{Event, Replay, ReplayError, check_order, replay};
 use objects::Memory;
 use std::alloc::Global;
@@ -100,6 +100,60 @@ fn a_step_that_is_refused_an_allocation_changes_nothing(rt: HostRuntime) {
         return;
     };
     let is_so = steps(rt.alloc(), events.as_slice());
+    drop(events);
+    assert!(rt; is_so);
+}
+
+/// One less than a run may have.
+const CALLERS: u64 = 4_095;
+
+/// Whether so many callers are taken, none of which has called.
+fn takes_callers(replay: &mut Replay, count: u64) -> bool {
+    for caller in 0..count {
+        let event = Event::Check(caller);
+        if !takes(replay, &event) && !takes(replay, &event) {
+            return false;
+        }
+    }
+    true
+}
+
+/// Whether of two more callers one is taken, and the other is one too many: if memory runs out at the first, that one
+/// is none.
+fn takes_one_more(replay: &mut Replay, events: &[Event]) -> bool {
+    let mut count = 0u64;
+    for event in events {
+        if takes(replay, event) {
+            count = count.wrapping_add(1);
+        }
+    }
+    count == 1
+}
+
+fn fills_up(alloc: Global, events: &[Event]) -> bool {
+    let Ok(mut replay) = Replay::new(alloc, 1, 1) else {
+        return true;
+    };
+    let is_so = takes_callers(&mut replay, CALLERS) && takes_one_more(&mut replay, events);
+    drop(replay.finish());
+    is_so
+}
+
+/// The calls of two callers.
+fn two_calls(alloc: Global) -> Result<Vec<Event>, Memory> {
+    let mut events = Vec::new(alloc);
+    for caller in CALLERS..CALLERS + 2 {
+        events.push(call_of(alloc, caller)?)?;
+    }
+    Ok(events)
+}
+
+#[test]
+fn a_caller_that_is_refused_an_allocation_is_none(rt: HostRuntime) {
+    let Ok(events) = two_calls(rt.alloc()) else {
+        return;
+    };
+    let is_so = fills_up(rt.alloc(), events.as_slice());
     drop(events);
     assert!(rt; is_so);
 }

@@ -88,13 +88,22 @@ static REPLIES: [(u64, u64, &str, u64); 7] = [
 /// The get did not see the update, which comes after the creation of `a`. The refused creation depends on the update.
 const ORDER: [u64; 8] = [0, 19, 6, 9, 14, 28, 33, 39];
 
+fn called(alloc: Global, caller: u64, line: &str) -> Result<Event, Memory> {
+    match read_request(alloc, line.as_bytes()) {
+        Ok(request) => Ok(Event::Call(caller, request)),
+        Err(_) => Err(Memory),
+    }
+}
+
+/// The call of a get.
+pub(crate) fn call_of(alloc: Global, caller: u64) -> Result<Event, Memory> {
+    called(alloc, caller, GET_B)
+}
+
 fn event(alloc: Global, step: &(&'static str, u64, &'static str)) -> Result<Event, Memory> {
     let (word, caller, line) = step;
     if *word == "call" {
-        return match read_request(alloc, line.as_bytes()) {
-            Ok(request) => Ok(Event::Call(*caller, request)),
-            Err(_) => Err(Memory),
-        };
+        return called(alloc, *caller, line);
     }
     Ok(match *word {
         "check" => Event::Check(*caller),
