@@ -49,6 +49,7 @@ module _ (n : Noted) (h : IsNoted n) where
   still_stamped new here s k = record {
     reply = k.reply;
     is = reply_of-more n.items new s.reply _ k.reply refl k.is;
+    follows = k.follows;
     answers = answers_more n.items (length n.items) new here h.placed s.reply s.call k.reply k.answers;
   }
 
@@ -126,6 +127,7 @@ module _ (n : Noted) (h : IsNoted n) where
       subst (IsStamped (n.items ++ item.Reply (length n.items) c r ∷ [])) (sym e) (record {
         reply = r;
         is = ap reply_of (slice_get-last n.items (item.Reply (length n.items) c r));
+        follows = refl;
         answers = answered_now c p r (h.waits c p is);
       })
 

@@ -28,11 +28,12 @@ pub record IsOpen (items : List Item) (caller place : ℕ) : Type 0 where
   pub last : (p : ℕ) (r : Request) → Has (item.Call p caller r) items → p ≤ place
   pub no_reply : (p : ℕ) (r : Reply) → Has (item.Reply p caller r) items → p < place
 
--- the reply that the stamp names answers the call that it names
+-- the reply that the stamp names answers the call that it names, and is that of an accepted write or follows one
 pub record IsStamped (items : List Item) (s : Stamp) : Type 0 where
   pub reply : Reply
   pub is : reply_at items s.reply ≡ Some reply
   pub answers : Answers items s.reply s.call reply
+  pub follows : s.follows ≡ not (drew_revision reply)
 
 -- indices are below the length, and calls and stamps match them
 pub record IsNoted (n : Noted) : Type 0 where

@@ -1,7 +1,8 @@
 // The log of a race, from the parts of its callers.
 ghost use Rattle.std.specs.Prelude.{◌≡◌, ◌==◌, ◌<◌, ◌++◌, ◌∷◌, [], ℕ, false, length, List, IfOk, OnOk, if◌then◌else◌, MatchOption};
-ghost use Rattle.race_log.specs.Merge.{IsMergeOf, Event, event, exchange_events, part_events, events_of};
-ghost use Rattle.race_log.specs.Waiting.{AreTurnsOf, HasHeard, Hears, Holds, left_of, said};
+ghost use Rattle.race_log.specs.Judged.{noted_of};
+ghost use Rattle.race_log.specs.Merge.{IsByTurns, IsMergeOf, Event, event, exchange_events, part_events, events_of};
+ghost use Rattle.race_log.specs.Waiting.{AreExchanges, AreTurnsOf, HasHeard, Hears, Holds, left_of, said};
 
 use crate::log::Log;
 use crate::part::{Part, TimedExchange};
@@ -122,7 +123,7 @@ impl Log {
     /// Notes what the caller adds next.
     fn note_next(&mut self, queues: &mut Queues, caller: u64) -> Result<(), Memory>
         requires { 0 < length (left_of caller queues.old) }
-        ensures { OnOk result (Hears caller self.old.items.items self.new.items.items queues.old queues.new) }
+        ensures { OnOk result (Hears caller (noted_of self.old) (noted_of self.new) queues.old queues.new) }
     {
         match queues.take(caller) {
             Some(Word::Asks(request)) => self.call(caller, request),
@@ -134,8 +135,9 @@ impl Log {
 
 /// The log of what the callers add in these turns.
 fn log_of(alloc: Global, queues: Queues, turns: &[(u64, u64)]) -> Result<Log, Memory>
-    requires { AreTurnsOf turns.now queues }
-    ensures { IfOk result (λ log. HasHeard log.items.items queues turns.now) }
+    requires turns { AreTurnsOf turns.now queues }
+    requires exchanges { AreExchanges queues }
+    ensures { IfOk result (λ log. HasHeard (noted_of log) queues turns.now) }
 {
     let mut left = queues;
     let mut log = Log::new(alloc);
@@ -146,9 +148,11 @@ fn log_of(alloc: Global, queues: Queues, turns: &[(u64, u64)]) -> Result<Log, Me
 }
 
 /// The log with these parts. Callers take turns by the places of the events, and in its turn a caller adds its next
-/// call or reply: so the log has each part in its order, whatever its places are. The time is at most n log n.
+/// call or reply: so the log has each part in its order, whatever its places are, and each reply a stamp with its
+/// number. The time is at most n log n.
 pub fn merged(alloc: Global, parts: Vec<Part>) -> Result<Log, Memory>
-    ensures merged { IfOk result (λ log. IsMergeOf parts.items log.items.items) }
+    ensures merged { IfOk result (λ log. IsMergeOf parts.items (noted_of log)) }
+    ensures turns { IfOk result (λ log. IsByTurns parts.items (noted_of log)) }
 {
     let waiting = Waiting::of(alloc, parts)?;
     let Waiting { turns, queues } = waiting;

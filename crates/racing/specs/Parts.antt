@@ -19,7 +19,7 @@ use Rattle.race_log.specs.declared.part.Part.{Part}
 use Rattle.race_log.specs.declared.spec.RaceSpec.{RaceSpec}
 use Rattle.race_log.specs.declared.judge.RaceHistory.{RaceHistory}
 use Rattle.race_log.specs.Judged.{IsHistoryOf}
-use Rattle.race_log.specs.Logged.{Noted}
+use Rattle.race_log.specs.Logged.{IsNoted, Noted}
 use Rattle.race_log.specs.Merge.{IsMergeOf}
 use Rattle.race_log.specs.Operator.{operator_asks}
 use Rattle.race_log.specs.RaceSet.{creates_set, set_name, set_namespace}
@@ -181,10 +181,12 @@ pub record AreParts (gave : Gives) (spec : RaceSpec) (parts : List Part) : Type 
 
 -- ---- the race
 
--- The requests and replies of the callers are what was noted, and the history is that of what was noted.
+-- The requests and replies of the callers are what was noted, each reply by one stamp, with the number that the store
+-- gave; and the history is that of what was noted.
 pub record IsRaceOf (gave : Gives) (capacity : ℕ) (spec : RaceSpec) (history : RaceHistory) : Type 0 where
   pub parts : List Part
   pub asked : AreParts gave spec parts
   pub log : Noted
-  pub merged : IsMergeOf parts log.items
+  pub noted : ∥ IsNoted log ∥₁
+  pub merged : IsMergeOf parts log
   pub judged : IsHistoryOf capacity spec log history

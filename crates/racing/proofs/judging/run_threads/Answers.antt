@@ -13,6 +13,7 @@ returns-clause-race g c =
       parts = parts;
       asked = subst (λ s. AreParts g.S.SharedStore.gave s parts) c.new-course.ensures c.in_ok-parts.ensures;
       log = noted_of c.in_ok-log.log;
+      noted = c.in_ok-log.log.noted;
       merged = c.in_ok-log.ensures.merged;
       judged = is;
     })
