@@ -16,7 +16,6 @@ use crate::asked::Counts;
 use crate::timing::report;
 use anyhow::Result;
 use line::{Ends, Line, MAX_NUMBERS};
-use objects::ReadError;
 use pods::{Drafts, PODS, key};
 use racing::{SharedStore, answered};
 use readers::{Reading, read_all};
@@ -164,7 +163,7 @@ fn together(works: &[Work]) -> Option<Work> {
 }
 
 /// Creates all pods.
-fn fill<S: SharedStore, R: Wait>(rt: &R, alloc: Global, store: &S) -> Result<(), ReadError> {
+fn fill<S: SharedStore, R: Wait>(rt: &R, alloc: Global, store: &S) -> Result<()> {
     let mut caller = store.caller(rt)?;
     let mut drafts = Drafts::new(alloc);
     for pod in 0..PODS {
@@ -176,7 +175,7 @@ fn fill<S: SharedStore, R: Wait>(rt: &R, alloc: Global, store: &S) -> Result<(),
 }
 
 /// How many writes were accepted in all, as one more caller sees it.
-fn frontier<S: SharedStore, R: Wait>(rt: &R, alloc: Global, store: &S) -> Result<u64, ReadError> {
+fn frontier<S: SharedStore, R: Wait>(rt: &R, alloc: Global, store: &S) -> Result<u64> {
     let mut caller = store.caller(rt)?;
     let key = key(alloc, 0)?;
     let reply = store.get(rt, &mut caller, &key)?;

@@ -4,10 +4,8 @@ use Rattle.clap.specs.Words.{Text}
 use Rattle.plain.specs.Streams.{Puts, PutsPart}
 use Rattle.scripts.specs.RaceHistory.{history_text}
 use Rattle.race_log.specs.declared.judge.RaceHistory.{RaceHistory}
-use Rattle.race_log.specs.declared.spec.TheConstants.{CAPACITY}
 use Rattle.race_log.specs.Report.{report_text}
-use Rattle.racing.specs.Answered.{IsAnswered}
-use Rattle.racing.specs.Parts.{IsRaceOf}
+use Rattle.racing.specs.Parts.{IsRace}
 use Rattle.commands.specs.declared.race_words.RaceWords.{RaceWords}
 use Rattle.commands.specs.CommandLine.{IsRaceAsked}
 
@@ -22,7 +20,7 @@ race_shown asked race = history_shown asked race ++ report_text race.report
 -- What is requested was written of some race of this size, whose report is legal or not. If it is legal, it counts no
 -- pod that was created twice.
 abbrev pub Reports : Bool → RaceWords → Option (List ℕ) → Option (List ℕ) → Type 0
-Reports legal asked before after = (race : RaceHistory) × IsRaceOf (IsAnswered CAPACITY) CAPACITY asked.spec race × (race.report.legal ≡ legal)
+Reports legal asked before after = (race : RaceHistory) × IsRace asked.spec race × (race.report.legal ≡ legal)
     × (IsTrue race.report.legal → race.report.twice ≡ 0) × Puts before (race_shown asked race) after
 
 -- the same for the requested race
@@ -31,7 +29,7 @@ Races legal words before after = (asked : RaceWords) × IsRaceAsked words asked 
 
 -- A prefix of what is requested was written of some race of this size.
 abbrev pub ReportsPart : RaceWords → Option (List ℕ) → Option (List ℕ) → Type 0
-ReportsPart asked before after = (race : RaceHistory) × IsRaceOf (IsAnswered CAPACITY) CAPACITY asked.spec race × PutsPart before (race_shown asked race) after
+ReportsPart asked before after = (race : RaceHistory) × IsRace asked.spec race × PutsPart before (race_shown asked race) after
 
 -- the same for the requested race
 abbrev pub RacesPart : List Text → Option (List ℕ) → Option (List ℕ) → Type 0

@@ -40,8 +40,8 @@ pub(crate) fn run_race<T: Threads + Wait + Sync, W: Sink>(
             heap.refused = true;
             FAILURE
         }
-        // The arguments give no race of another size.
-        Err(RaceFault::BadRace) => unreachable!(),
+        // The arguments give no race of another size, and its store is new.
+        Err(RaceFault::BadRace | RaceFault::TooManyCallers) => unreachable!(),
     }
 }
 

@@ -16,8 +16,9 @@ pub const NAMESPACE: &str = "default";
 /// The name of the set.
 pub const SET: &str = "web";
 
+/// The key of the set.
 #[tactic(auto, unfolding(objects::specs::Names::is_dns_label))]
-fn key(alloc: Global) -> Result<Key, AllocError>
+pub fn set_key(alloc: Global) -> Result<Key, AllocError>
     ensures { IfOk result (λ key. key ≡ key_parts StatefulSet set_namespace set_name) }
 {
     let namespace = Text::copy_of(alloc, NAMESPACE)?;
@@ -55,7 +56,7 @@ pub(crate) fn set_draft(
     ensures { IfOk result (λ draft. draft ≡ set_draft replicas template) }
 {
     let members = members(alloc, replicas, template)?;
-    let object = Object::of(alloc, key(alloc)?, Members::none(alloc)?, members)?;
+    let object = Object::of(alloc, set_key(alloc)?, Members::none(alloc)?, members)?;
     Ok(Draft {
         object,
         uid: None,

@@ -35,6 +35,9 @@ pub enum RaceFault {
     /// A number is out of range.
     #[error("a number of the race is out of range")]
     BadRace,
+    /// The store has fewer callers left than the race has.
+    #[error("the store has too many callers")]
+    TooManyCallers,
     /// An allocation was refused.
     #[error("out of memory")]
     Memory,

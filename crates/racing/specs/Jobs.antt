@@ -4,7 +4,7 @@ use Rattle.race_log.specs.declared.part.Part.{Part}
 use Rattle.race_log.specs.declared.spec.RaceSpec.{RaceSpec}
 use Rattle.racing.specs.declared.jobs.Job.{Job}
 use Rattle.racing.specs.declared.jobs.Job.TheVariants.{Controller, Kubelet, Operator}
-use Rattle.racing.specs.Parts.{Gives, IsPartOf}
+use Rattle.racing.specs.Parts.{IsPartOf}
 
 abbrev pub number_of : {C : Type 0} → Job C → ℕ
 number_of (Controller me caller) = me
@@ -18,6 +18,6 @@ IsJob spec (Kubelet me caller) = me ≡ spec.controllers
 IsJob spec (Operator me caller) = me ≡ spec.controllers + 2
 
 -- the part of the caller of that number
-pub record IsPartAt (gave : Gives) (spec : RaceSpec) (number : ℕ) (part : Part) : Type 0 where
+pub record IsPartAt (shards capacity : ℕ) (spec : RaceSpec) (number : ℕ) (part : Part) : Type 0 where
   pub caller : part.caller ≡ number
-  pub asked : IsPartOf gave spec part
+  pub asked : IsPartOf shards capacity spec part

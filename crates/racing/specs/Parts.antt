@@ -19,23 +19,24 @@ use Rattle.race_log.specs.declared.part.Part.{Part}
 use Rattle.race_log.specs.declared.spec.RaceSpec.{RaceSpec}
 use Rattle.race_log.specs.declared.judge.RaceHistory.{RaceHistory}
 use Rattle.race_log.specs.Judged.{IsHistoryOf}
+use Rattle.race_log.specs.Limits.{race_capacity}
 use Rattle.race_log.specs.Logged.{IsNoted, Noted}
 use Rattle.race_log.specs.Merge.{IsMergeOf}
 use Rattle.race_log.specs.Operator.{operator_asks}
 use Rattle.race_log.specs.RaceSet.{creates_set, set_name, set_namespace}
-
--- what a store says of an answer: that it gave this reply to this request at this number
-abbrev pub Gives : Type 1
-Gives = Request → Reply → ℕ → Type 0
+use Rattle.store.specs.Callers.{Caller}
+use Rattle.racing.specs.Answered.{HasReply, IsAnswered}
 
 abbrev pub exchanges_of : List TimedExchange → List Exchange
 exchanges_of [] = []
 exchanges_of (a ∷ more) = (a.request, a.reply) ∷ exchanges_of more
 
--- each reply is one that the store gave to its request
-abbrev pub AreGiven : Gives → List TimedExchange → Type 0
-AreGiven gave [] = ⊤
-AreGiven gave (a ∷ more) = gave a.request a.reply a.number × AreGiven gave more
+-- Each reply is the plain store's in what the caller has seen in the end. No number is below n, nor below that of an
+-- earlier reply.
+abbrev pub AreGiven : (shards capacity : ℕ) → Caller → (n : ℕ) → List TimedExchange → Type 0
+AreGiven shards capacity known n [] = ⊤
+AreGiven shards capacity known n (a ∷ more) =
+    (n ≤ a.number) × IsAnswered shards capacity known a.request a.reply a.number × AreGiven shards capacity known a.number more
 
 -- the last reply, if there is one
 abbrev pub last_reply : List TimedExchange → Option Reply
@@ -43,12 +44,20 @@ last_reply [] = None
 last_reply (a ∷ []) = Some a.reply
 last_reply (a ∷ b ∷ more) = last_reply (b ∷ more)
 
--- that request was sent too, and the store gave it a reply
-pub record HasAsked (gave : Gives) (request : Request) (old new : List TimedExchange) : Type 0 where
+-- that request was sent too, by a caller that was c, and the store replied to it
+pub record HasAsked (shards capacity : ℕ) (c d : Caller) (request : Request) (old new : List TimedExchange) : Type 0 where
   pub asked : TimedExchange
   pub longer : new ≡ old ++ asked ∷ []
   pub request_is : asked.request ≡ request
-  pub given : gave asked.request asked.reply asked.number
+  pub replied : HasReply shards capacity c d asked.request asked.reply asked.number
+
+-- that request was sent, and no other
+pub record HasAskedOnce (shards capacity : ℕ) (request : Request) (exchanges : List TimedExchange) : Type 0 where
+  pub known : Caller
+  pub asked : TimedExchange
+  pub only : exchanges ≡ asked ∷ []
+  pub request_is : asked.request ≡ request
+  pub given : AreGiven shards capacity known 0 exchanges
 
 -- ---- controllers
 
@@ -67,16 +76,17 @@ rounds_in (e ∷ es) = begins e.0 + rounds_in es
 
 -- A controller that began at the read of its set has sent and got this, and is then in this phase. So many rounds are
 -- begun.
-pub record IsStanding (gave : Gives) (c : Reconciler) (rounds : ℕ) (phase : Phase) (exchanges : List TimedExchange) : Type 0 where
-  pub given : AreGiven gave exchanges
+pub record IsStanding (shards capacity : ℕ) (known : Caller) (c : Reconciler) (rounds : ℕ) (phase : Phase) (exchanges : List TimedExchange) : Type 0 where
+  pub given : AreGiven shards capacity known 0 exchanges
   pub follows : Follows c reading_set (exchanges_of exchanges)
   pub many : rounds_in (exchanges_of exchanges) ≡ rounds
   pub phase_is : phase_after c reading_set (exchanges_of exchanges) ≡ phase
 
 -- It made so many rounds, from the read of its set on, and begins the next one.
-pub record HasMadeRounds (gave : Gives) (c : Reconciler) (rounds : ℕ) (exchanges : List TimedExchange) : Type 0 where
+pub record HasMadeRounds (shards capacity : ℕ) (c : Reconciler) (rounds : ℕ) (exchanges : List TimedExchange) : Type 0 where
+  pub known : Caller
   pub phase : Phase
-  pub stands : IsStanding gave c rounds phase exchanges
+  pub stands : IsStanding shards capacity known c rounds phase exchanges
   pub ended : is_get (asks c phase) ≡ true
 
 -- the reconciler of the controllers of a race
@@ -121,8 +131,8 @@ turns_in left [] = 0
 turns_in left (e ∷ es) = begun_at left + turns_in (left_by left e.1) es
 
 -- this was sent and replied, by which so many turns are begun, and these requests are left of the last one
-pub record IsTurning (gave : Gives) (turns : ℕ) (left : List Request) (exchanges : List TimedExchange) : Type 0 where
-  pub given : AreGiven gave exchanges
+pub record IsTurning (shards capacity : ℕ) (known : Caller) (turns : ℕ) (left : List Request) (exchanges : List TimedExchange) : Type 0 where
+  pub given : AreGiven shards capacity known 0 exchanges
   pub follows : Turns [] (exchanges_of exchanges)
   pub many : turns_in [] (exchanges_of exchanges) ≡ turns
   pub left_is : left_after [] (exchanges_of exchanges) ≡ left
@@ -132,9 +142,10 @@ abbrev pub most_turns : ℕ
 most_turns = 64
 
 -- It made whole turns, at least one, and no more than a race of so many rounds may have.
-pub record HasTurned (gave : Gives) (rounds : ℕ) (exchanges : List TimedExchange) : Type 0 where
+pub record HasTurned (shards capacity : ℕ) (rounds : ℕ) (exchanges : List TimedExchange) : Type 0 where
+  pub known : Caller
   pub turns : ℕ
-  pub turning : IsTurning gave turns [] exchanges
+  pub turning : IsTurning shards capacity known turns [] exchanges
   pub some : 0 < turns
   pub few : 0 < rounds → turns ≤ rounds * most_turns
 
@@ -146,19 +157,24 @@ AsksFrom replicas n [] = ⊤
 AsksFrom replicas n (a ∷ more) = (a.request ≡ operator_asks replicas n) × AsksFrom replicas (n + 1) more
 
 -- it made so many turns, from the first one on
-pub record HasOperated (gave : Gives) (replicas turns : ℕ) (exchanges : List TimedExchange) : Type 0 where
-  pub given : AreGiven gave exchanges
+pub record IsOperating (shards capacity : ℕ) (known : Caller) (replicas turns : ℕ) (exchanges : List TimedExchange) : Type 0 where
+  pub given : AreGiven shards capacity known 0 exchanges
   pub many : length exchanges ≡ turns
   pub asks : AsksFrom replicas 0 exchanges
+
+-- the same, whatever it has seen in the end
+pub record HasOperated (shards capacity : ℕ) (replicas turns : ℕ) (exchanges : List TimedExchange) : Type 0 where
+  pub known : Caller
+  pub operating : IsOperating shards capacity known replicas turns exchanges
 
 -- ---- all of them
 
 -- by its number: a controller, the kubelet, the caller that created the set, or the operator
-pub record IsPartOf (gave : Gives) (spec : RaceSpec) (p : Part) : Type 0 where
-  pub controller : p.caller < spec.controllers → HasMadeRounds gave racer spec.rounds p.exchanges.items
-  pub kubelet : p.caller ≡ spec.controllers → HasTurned gave spec.rounds p.exchanges.items
-  pub creator : p.caller ≡ spec.controllers + 1 → HasAsked gave (creates_set spec.replicas) [] p.exchanges.items
-  pub operator : p.caller ≡ spec.controllers + 2 → HasOperated gave spec.replicas spec.rounds p.exchanges.items
+pub record IsPartOf (shards capacity : ℕ) (spec : RaceSpec) (p : Part) : Type 0 where
+  pub controller : p.caller < spec.controllers → HasMadeRounds shards capacity racer spec.rounds p.exchanges.items
+  pub kubelet : p.caller ≡ spec.controllers → HasTurned shards capacity spec.rounds p.exchanges.items
+  pub creator : p.caller ≡ spec.controllers + 1 → HasAskedOnce shards capacity (creates_set spec.replicas) p.exchanges.items
+  pub operator : p.caller ≡ spec.controllers + 2 → HasOperated shards capacity spec.replicas spec.rounds p.exchanges.items
 
 abbrev pub caller_of : Part → ℕ
 caller_of p = p.caller
@@ -174,19 +190,23 @@ operators_in spec = if spec.operator then (spec.controllers + 2) ∷ [] else []
 
 -- One for each controller, one for the kubelet, one for the caller that created the set, and one for the operator if
 -- there is one. Each has the number of its index, and is the part of that number.
-pub record AreParts (gave : Gives) (spec : RaceSpec) (parts : List Part) : Type 0 where
-  pub each : All (IsPartOf gave spec) parts
+pub record AreParts (shards capacity : ℕ) (spec : RaceSpec) (parts : List Part) : Type 0 where
+  pub each : All (IsPartOf shards capacity spec) parts
   pub numbered : CountFrom 0 (map caller_of parts)
   pub many : length parts ≡ spec.controllers + 2 + length (operators_in spec)
 
 -- ---- the race
 
--- The requests and replies of the callers are what was noted, each reply by one stamp, with the number that the store
--- gave; and the history is that of what was noted.
-pub record IsRaceOf (gave : Gives) (capacity : ℕ) (spec : RaceSpec) (history : RaceHistory) : Type 0 where
+-- The requests and replies of the callers of a store of so many shards and revisions are what was noted, each reply by
+-- one stamp, with the number that the store gave; and the history is that of what was noted, for that capacity.
+pub record IsRaceOf (shards revisions capacity : ℕ) (spec : RaceSpec) (history : RaceHistory) : Type 0 where
   pub parts : List Part
-  pub asked : AreParts gave spec parts
+  pub asked : AreParts shards revisions spec parts
   pub log : Noted
   pub noted : ∥ IsNoted log ∥₁
   pub merged : IsMergeOf parts log
   pub judged : IsHistoryOf capacity spec log history
+
+-- the race over a new store
+abbrev pub IsRace : RaceSpec → RaceHistory → Type 0
+IsRace spec history = IsRaceOf spec.shards race_capacity race_capacity spec history

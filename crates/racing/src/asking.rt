@@ -1,6 +1,7 @@
 // How a racer sends requests.
 ghost use Rattle.std.specs.Prelude.{◌≡◌, true, false, IfOk};
 ghost use Rattle.requests.specs.Verdict.{is_write};
+ghost use Rattle.racing.specs.Answered.{HasReply};
 
 use crate::shared::SharedStore;
 use objects::Memory;
@@ -10,6 +11,7 @@ use std::thread::yield_now;
 use store::Gate;
 
 /// Sends a write, and tries to get its reply until it comes.
+#[tactic(auto, using(crate::proofs::Giving::learns_trans, crate::proofs::Giving::replied_to))]
 fn ask_write<S: SharedStore, R: Wait, G: Gate>(
     rt: &R,
     store: &S,
@@ -18,7 +20,7 @@ fn ask_write<S: SharedStore, R: Wait, G: Gate>(
     request: Request,
 ) -> Result<(Reply, u64), Memory>
     requires { is_write request ≡ true }
-    ensures { IfOk result (λ r. S.gave request r.0 r.1) }
+    ensures { IfOk result (λ r. HasReply S.shards S.capacity (S.known caller.old) (S.known caller.new) request r.0 r.1) }
 {
     let mut ticket = store.submit(rt, caller, request, gate)?;
     let mut seen = store.seen(caller);
@@ -46,7 +48,7 @@ fn read<S: SharedStore, R: Wait>(
     request: &Request,
 ) -> Result<(Reply, u64), Memory>
     requires { is_write request.now ≡ false }
-    ensures { IfOk result (λ r. S.gave request.now r.0 r.1) }
+    ensures { IfOk result (λ r. HasReply S.shards S.capacity (S.known caller.old) (S.known caller.new) request.now r.0 r.1) }
 {
     let reply = match request {
         Request::Get(key) => store.get(rt, caller, key)?,
@@ -76,7 +78,7 @@ pub fn answered<S: SharedStore, R: Wait, G: Gate>(
     caller: &mut S::Caller,
     request: Request,
 ) -> Result<(Reply, u64), Memory>
-    ensures { IfOk result (λ r. S.gave request r.0 r.1) }
+    ensures { IfOk result (λ r. HasReply S.shards S.capacity (S.known caller.old) (S.known caller.new) request r.0 r.1) }
 {
     if request.is_write() {
         return ask_write(rt, store, gate, caller, request);

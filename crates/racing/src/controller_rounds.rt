@@ -2,6 +2,7 @@
 ghost use Rattle.std.specs.Prelude.{◌≡◌, ◌+◌, ℕ, true, false, IfOk, OnOk};
 ghost use Rattle.rounds.specs.Phase.{asks, reading_set};
 ghost use Rattle.controllers.specs.Controller.{is_waiting, phase_of, reconciler_of};
+ghost use Rattle.racing.specs.Answered.{Learns};
 ghost use Rattle.racing.specs.Parts.{HasMadeRounds, IsStanding, begins, is_get, racer};
 
 use crate::field::{RaceContext, last_reply};
@@ -47,14 +48,15 @@ fn make_step<S: SharedStore, R: Wait, G: Gate>(
 ) -> Result<(), Memory>
     requires waits { is_waiting controller.old ≡ true }
     requires request { request ≡ asks (reconciler_of controller.old) (phase_of controller.old) }
-    ensures stands { (rounds : ℕ) → IsStanding S.gave (reconciler_of controller.old) rounds (phase_of controller.old) exchanges.old.items
-        → OnOk result (IsStanding S.gave (reconciler_of controller.old) (rounds + begins request) (phase_of controller.new) exchanges.new.items) }
+    ensures stands { (rounds : ℕ) → IsStanding S.shards S.capacity (S.known caller.old) (reconciler_of controller.old) rounds (phase_of controller.old) exchanges.old.items
+        → OnOk result (IsStanding S.shards S.capacity (S.known caller.new) (reconciler_of controller.old) (rounds + begins request) (phase_of controller.new) exchanges.new.items) }
     ensures same { OnOk result (reconciler_of controller.new ≡ reconciler_of controller.old) }
 {
     field.ask(rt, caller, exchanges, request)?;
     match last_reply(exchanges.as_slice()) {
         Some(reply) => controller.take(reply),
-        None => Err(Memory),
+        // The reply was just noted.
+        None => unreachable!(),
     }
 }
 
@@ -67,10 +69,10 @@ fn make_round<S: SharedStore, R: Wait, G: Gate>(
     exchanges: &mut Vec<TimedExchange>,
     rounds: u64,
 ) -> Result<(), Memory>
-    requires stands { IsStanding S.gave racer rounds (phase_of controller.old) exchanges.old.items }
+    requires stands { IsStanding S.shards S.capacity (S.known caller.old) racer rounds (phase_of controller.old) exchanges.old.items }
     requires begins { is_get (asks racer (phase_of controller.old)) ≡ true }
     requires racer { reconciler_of controller.old ≡ racer }
-    ensures stands { OnOk result (IsStanding S.gave racer (rounds + 1) (phase_of controller.new) exchanges.new.items) }
+    ensures stands { OnOk result (IsStanding S.shards S.capacity (S.known caller.new) racer (rounds + 1) (phase_of controller.new) exchanges.new.items) }
     ensures begins { OnOk result (is_get (asks racer (phase_of controller.new)) ≡ true) }
     ensures racer { OnOk result (reconciler_of controller.new ≡ racer) }
 {
@@ -88,7 +90,10 @@ fn make_round<S: SharedStore, R: Wait, G: Gate>(
 }
 
 /// Compacts what was before the frontier that the caller has seen.
-fn compact<S: SharedStore, R: Wait>(rt: &R, store: &S, caller: &mut S::Caller) {
+#[tactic(auto, using(crate::proofs::Giving::learns_self))]
+fn compact<S: SharedStore, R: Wait>(rt: &R, store: &S, caller: &mut S::Caller)
+    ensures { Learns (S.known caller.old) (S.known caller.new) }
+{
     let seen = store.seen(caller);
     // At 0 nothing is written yet, so there is nothing before it.
     if seen != 0 {
@@ -96,14 +101,14 @@ fn compact<S: SharedStore, R: Wait>(rt: &R, store: &S, caller: &mut S::Caller) {
     }
 }
 
-#[tactic(auto, using(crate::proofs::Standing::stands_first, crate::proofs::First::begins_first))]
+#[tactic(auto, using(crate::proofs::Standing::stands_first, crate::proofs::Standing::stands_later, crate::proofs::First::begins_first))]
 fn make_rounds<S: SharedStore, R: Wait, G: Gate>(
     rt: &R,
     field: &RaceContext<'_, S, G>,
     me: u64,
     caller: &mut S::Caller,
 ) -> Result<Vec<TimedExchange>, Memory>
-    ensures { IfOk result (λ exchanges. HasMadeRounds S.gave racer field.now.course.now.spec.rounds exchanges.items) }
+    ensures { IfOk result (λ exchanges. HasMadeRounds S.shards S.capacity racer field.now.course.now.spec.rounds exchanges.items) }
 {
     let mut controller = controller(field.course.alloc)?;
     let mut exchanges = Vec::new(field.course.alloc);
@@ -123,7 +128,7 @@ pub(crate) fn run_controller<S: SharedStore, R: Wait, G: Gate>(
     me: u64,
     mut caller: S::Caller,
 ) -> Result<Vec<TimedExchange>, Memory>
-    ensures { IfOk result (λ exchanges. HasMadeRounds S.gave racer field.now.course.now.spec.rounds exchanges.items) }
+    ensures { IfOk result (λ exchanges. HasMadeRounds S.shards S.capacity racer field.now.course.now.spec.rounds exchanges.items) }
 {
     let made = make_rounds(rt, field, me, &mut caller);
     field.course.end();

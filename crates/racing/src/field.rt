@@ -47,7 +47,7 @@ impl<S: SharedStore, G: Gate> RaceContext<'_, S, G> {
         exchanges: &mut Vec<TimedExchange>,
         request: Request,
     ) -> Result<(), Memory>
-        ensures { OnOk result (HasAsked S.gave request exchanges.old.items exchanges.new.items) }
+        ensures { OnOk result (HasAsked S.shards S.capacity (S.known caller.old) (S.known caller.new) request exchanges.old.items exchanges.new.items) }
     {
         let Ok(noted) = request.clone() else {
             drop(request);

@@ -13,7 +13,7 @@ use crate::shared::SharedStore;
 use objects::Memory;
 use race_log::Part;
 use std::sync::Wait;
-use store::Gate;
+use store::{Gate, StoreError};
 
 /// What one thread does; its number is its caller's.
 #[derive(Drop)]
@@ -40,7 +40,7 @@ pub(crate) fn racers_of<S: SharedStore, R: Wait>(
     rt: &R,
     store: &S,
     course: &Course,
-) -> Result<Vec<Job<S::Caller>>, Memory>
+) -> Result<Vec<Job<S::Caller>>, StoreError>
     ensures jobs { IfOk result (λ jobs. All (IsJob course.now.spec) jobs.items) }
     ensures numbers { IfOk result (λ jobs. CountFrom 0 (map number_of jobs.items)) }
     ensures many { IfOk result (λ jobs. length jobs.items ≡ course.now.spec.controllers + 1) }
@@ -59,7 +59,7 @@ pub(crate) fn operators_of<S: SharedStore, R: Wait>(
     rt: &R,
     store: &S,
     course: &Course,
-) -> Result<Vec<Job<S::Caller>>, Memory>
+) -> Result<Vec<Job<S::Caller>>, StoreError>
     requires few { course.now.spec.controllers ≤ 64 }
     ensures jobs { IfOk result (λ jobs. All (IsJob course.now.spec) jobs.items) }
     ensures numbers { IfOk result (λ jobs. map number_of jobs.items ≡ operators_in course.now.spec) }
@@ -79,7 +79,7 @@ fn part_of<S: SharedStore, R: Wait, G: Gate>(
     job: Job<S::Caller>,
 ) -> Result<Part, Memory>
     requires { IsJob field.now.course.now.spec job }
-    ensures { IfOk result (IsPartAt S.gave field.now.course.now.spec (number_of job)) }
+    ensures { IfOk result (IsPartAt S.shards S.capacity field.now.course.now.spec (number_of job)) }
 {
     match job {
         Job::Controller(me, caller) => Ok(Part {
@@ -104,7 +104,7 @@ pub(crate) fn run_job<S: SharedStore, R: Wait, G: Gate>(
     job: Job<S::Caller>,
 ) -> Result<Part, Memory>
     requires { IsJob field.now.course.now.spec job }
-    ensures { IfOk result (IsPartAt S.gave field.now.course.now.spec (number_of job)) }
+    ensures { IfOk result (IsPartAt S.shards S.capacity field.now.course.now.spec (number_of job)) }
 {
     if field.course.wait_for_start(rt).is_err() {
         drop(job);

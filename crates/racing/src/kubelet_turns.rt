@@ -2,12 +2,13 @@
 ghost use Rattle.std.specs.Prelude.{◌≡◌, ◌+◌, [], ◌∷◌, List, IfOk, OnOk, codes};
 ghost use Rattle.objects.specs.Key.{key_parts};
 ghost use Rattle.requests.specs.declared.request.Request.{Request};
+ghost use Rattle.racing.specs.Answered.{Learns};
 ghost use Rattle.racing.specs.Parts.{HasTurned, IsTurning, asks_after, left_by, lists_pods, turns_to};
 
 use crate::field::{RaceContext, last_reply};
 use crate::shared::SharedStore;
 use objects::{Key, Kind, Memory, Text};
-use race_log::{NAMESPACE, SET, TimedExchange};
+use race_log::{NAMESPACE, TimedExchange, set_key};
 use requests::{Reply, Request};
 use rounds::kubelet_requests;
 use std::alloc::Global;
@@ -50,14 +51,6 @@ fn requests_after(alloc: Global, reply: &Reply) -> Result<Vec<Request>, Memory>
     }
 }
 
-/// The key of the set that the controllers reconcile.
-fn key_of_set(alloc: Global) -> Result<Key, Memory> {
-    match Key::of(alloc, Kind::StatefulSet, NAMESPACE, SET) {
-        Ok(key) => Ok(key),
-        Err(_) => Err(Memory),
-    }
-}
-
 /// Lists the pods after so many turns, and returns what it sends after that.
 #[tactic(auto, using(crate::proofs::Standing::turning_more))]
 fn begin_turn<S: SharedStore, R: Wait, G: Gate>(
@@ -67,13 +60,14 @@ fn begin_turn<S: SharedStore, R: Wait, G: Gate>(
     exchanges: &mut Vec<TimedExchange>,
     turns: u64,
 ) -> Result<Vec<Request>, Memory>
-    requires { IsTurning S.gave turns [] exchanges.old.items }
-    ensures { IfOk result (λ left. IsTurning S.gave (turns + 1) left.items exchanges.new.items) }
+    requires { IsTurning S.shards S.capacity (S.known caller.old) turns [] exchanges.old.items }
+    ensures { IfOk result (λ left. IsTurning S.shards S.capacity (S.known caller.new) (turns + 1) left.items exchanges.new.items) }
 {
     field.ask(rt, caller, exchanges, list_of_pods(field.course.alloc)?)?;
     match last_reply(exchanges.as_slice()) {
         Some(reply) => requests_after(field.course.alloc, reply),
-        None => Err(Memory),
+        // The reply was just noted.
+        None => unreachable!(),
     }
 }
 
@@ -87,8 +81,8 @@ fn make_turn<S: SharedStore, R: Wait, G: Gate>(
     exchanges: &mut Vec<TimedExchange>,
     turns: u64,
 ) -> Result<bool, Memory>
-    requires { IsTurning S.gave turns [] exchanges.old.items }
-    ensures { OnOk result (IsTurning S.gave (turns + 1) [] exchanges.new.items) }
+    requires { IsTurning S.shards S.capacity (S.known caller.old) turns [] exchanges.old.items }
+    ensures { OnOk result (IsTurning S.shards S.capacity (S.known caller.new) (turns + 1) [] exchanges.new.items) }
 {
     let requests = begin_turn(rt, field, caller, exchanges, turns)?;
     let is_busy = !requests.is_empty();
@@ -100,12 +94,15 @@ fn make_turn<S: SharedStore, R: Wait, G: Gate>(
 
 /// Sleeps until something was written since the caller looked, or all controllers have ended, but for at most so many
 /// looks. An earlier list would show what the last one showed.
+#[tactic(auto, using(crate::proofs::Giving::learns_self, crate::proofs::Giving::learns_trans))]
 fn wait_for_news<S: SharedStore, R: Wait, G: Gate>(
     rt: &R,
     field: &RaceContext<'_, S, G>,
     caller: &mut S::Caller,
     key: &Key,
-) -> Result<(), Memory> {
+) -> Result<(), Memory>
+    ensures { OnOk result (Learns (S.known caller.old) (S.known caller.new)) }
+{
     let listed = field.store.seen(caller);
     let mut micros = FIRST_SLEEP;
     for _ in 0..LOOKS {
@@ -125,9 +122,9 @@ pub(crate) fn run_kubelet<S: SharedStore, R: Wait, G: Gate>(
     field: &RaceContext<'_, S, G>,
     mut caller: S::Caller,
 ) -> Result<Vec<TimedExchange>, Memory>
-    ensures { IfOk result (λ exchanges. HasTurned S.gave field.now.course.now.spec.rounds exchanges.items) }
+    ensures { IfOk result (λ exchanges. HasTurned S.shards S.capacity field.now.course.now.spec.rounds exchanges.items) }
 {
-    let key = key_of_set(field.course.alloc)?;
+    let key = set_key(field.course.alloc)?;
     let mut exchanges = Vec::new(field.course.alloc);
     make_turn(rt, field, &mut caller, &mut exchanges, 0)?;
     for turns in 1..field.course.spec.rounds.saturating_mul(TURNS) {

@@ -17,7 +17,7 @@ pub(crate) fn run_operator<S: SharedStore, R: Wait, G: Gate>(
     field: &RaceContext<'_, S, G>,
     mut caller: S::Caller,
 ) -> Result<Vec<TimedExchange>, Memory>
-    ensures { IfOk result (λ exchanges. HasOperated S.gave field.now.course.now.spec.replicas field.now.course.now.spec.rounds exchanges.items) }
+    ensures { IfOk result (λ exchanges. HasOperated S.shards S.capacity field.now.course.now.spec.replicas field.now.course.now.spec.rounds exchanges.items) }
 {
     let controllers = field.course.spec.controllers;
     let mut exchanges = Vec::new(field.course.alloc);

@@ -4,8 +4,7 @@ ghost use Rattle.line.specs.Seat.{AreShards};
 ghost use Rattle.store.specs.Callers.{IsLine};
 ghost use Rattle.race_log.specs.Limits.{is_race};
 ghost use Rattle.race_log.specs.declared.judge.RaceHistory.{RaceHistory};
-ghost use Rattle.racing.specs.Answered.{IsAnswered};
-ghost use Rattle.racing.specs.Parts.{IsRaceOf};
+ghost use Rattle.racing.specs.Parts.{IsRace, IsRaceOf};
 
 use crate::judging::race_over;
 use crate::shared::SharedStore;
@@ -19,34 +18,29 @@ use std::sync::Wait;
 use std::thread::Threads;
 use store::{ByShards, Caller, Gate, Naming, Sharding, Store, StoreError, Ticket, Writing};
 
-/// No race has as many callers as a store may have.
-fn memory_of(error: StoreError) -> Memory {
-    // Only out of memory is left, so the error is not read.
-    let _ = error;
-    Memory
-}
-
 impl<H: Sharding, N: Naming> SharedStore for Store<H, N> {
-    ghost use Rattle.std.specs.Prelude.{length};
     ghost use Rattle.store.specs.Tickets.{IsTicketOf};
-    ghost use Rattle.racing.specs.Answered.{IsAnswered};
 
     type Caller = Caller<H, N>;
 
     type Ticket = Ticket<H, N>;
 
-    ghost gave = { IsAnswered N.capacity };
+    ghost shards = { H.shards };
+
+    ghost capacity = { N.capacity };
+
+    ghost known = { λ caller. caller };
 
     ghost asked = { λ ticket. ticket.request };
+
+    ghost since_of = { λ ticket. ticket.since };
 
     ghost place_of = { λ ticket. ticket.place };
 
     ghost is_of = { λ ticket caller. IsTicketOf H.shards N.capacity ticket caller };
 
-    ghost seen_by = { λ caller. length caller.seen };
-
-    fn caller<R: Wait>(&self, rt: &R) -> Result<Caller<H, N>, Memory> {
-        Store::caller(self, rt).map_err(memory_of)
+    fn caller<R: Wait>(&self, rt: &R) -> Result<Caller<H, N>, StoreError> {
+        Store::caller(self, rt)
     }
 
     fn submit<R: Wait, G: Gate>(
@@ -101,6 +95,32 @@ impl<H: Sharding, N: Naming> SharedStore for Store<H, N> {
     }
 }
 
+/// Races over a store that is new.
+fn race_over_new<S: SharedStore + Sync, R: Threads + Wait + Sync, G: Gate + Sync>(
+    rt: &R,
+    alloc: Global,
+    store: &S,
+    spec: &RaceSpec,
+    gate: &G,
+) -> Result<RaceHistory, RaceFault>
+where
+    S::Caller: Send,
+    S::Ticket: Send,
+    ensures refused { IsErrOf result RaceFault.BadRace ↔ (is_race spec.now ≡ false) }
+    ensures callers { IsErrOf result RaceFault.TooManyCallers → ⊥ }
+    ensures race { IfOk result (IsRaceOf S.shards S.capacity CAPACITY spec.now) }
+    ensures once { IfOk result (λ history. IsTrue history.report.legal → history.report.twice ≡ 0) }
+{
+    match race_over(rt, alloc, store, spec, gate) {
+        // A new store has callers enough for any race, but they are counted under a lock, so no clause can say so.
+        Err(RaceFault::TooManyCallers) => {
+            for _ in rt.forever() {}
+            unreachable!()
+        }
+        ended => ended,
+    }
+}
+
 /// Races over the store of this line.
 fn race_over_line<
     H: Sharding + Send + Sync,
@@ -119,13 +139,15 @@ fn race_over_line<
     requires capacity { N.capacity ≡ CAPACITY }
     requires shards { AreShards N.line N.capacity ends.shards.items }
     requires some { (vec_len ends.shards ≡ H.shards) × (0 < H.shards) }
+    requires many { H.shards ≡ spec.now.shards }
     requires allowed { is_race spec.now ≡ true }
     ensures allowed { IsErrOf result RaceFault.BadRace → ⊥ }
-    ensures race { IfOk result (IsRaceOf (IsAnswered CAPACITY) CAPACITY spec.now) }
+    ensures callers { IsErrOf result RaceFault.TooManyCallers → ⊥ }
+    ensures race { IfOk result (IsRace spec.now) }
     ensures once { IfOk result (λ history. IsTrue history.report.legal → history.report.twice ≡ 0) }
 {
     match Store::<H, N>::new(alloc, ends) {
-        Ok(store) => race_over(rt, alloc, &store, spec, gate),
+        Ok(store) => race_over_new(rt, alloc, &store, spec, gate),
         Err(_) => Err(RaceFault::Memory),
     }
 }
@@ -140,7 +162,8 @@ fn race_over_shards<H: Sharding + Send + Sync, R: Threads + Wait + Sync, G: Gate
     requires shards { H.shards ≡ spec.now.shards }
     requires allowed { is_race spec.now ≡ true }
     ensures allowed { IsErrOf result RaceFault.BadRace → ⊥ }
-    ensures race { IfOk result (IsRaceOf (IsAnswered CAPACITY) CAPACITY spec.now) }
+    ensures callers { IsErrOf result RaceFault.TooManyCallers → ⊥ }
+    ensures race { IfOk result (IsRace spec.now) }
     ensures once { IfOk result (λ history. IsTrue history.report.legal → history.report.twice ≡ 0) }
 {
     match Line::<Writing, ByShards<H>>::new(alloc, CAPACITY, spec.shards as usize) {
@@ -156,7 +179,7 @@ fn race_over_shards<H: Sharding + Send + Sync, R: Threads + Wait + Sync, G: Gate
 ///
 /// # Errors
 ///
-/// `BadRace` if a size is out of range; `Memory`, also if a thread cannot be made.
+/// `BadRace` if a size is out of range; `Memory`, also if a thread cannot be made; never `TooManyCallers`.
 pub fn race_history<R: Threads + Wait + Sync, G: Gate + Sync>(
     rt: &R,
     alloc: Global,
@@ -164,7 +187,8 @@ pub fn race_history<R: Threads + Wait + Sync, G: Gate + Sync>(
     gate: &G,
 ) -> Result<RaceHistory, RaceFault>
     ensures refused { IsErrOf result RaceFault.BadRace ↔ (is_race spec.now ≡ false) }
-    ensures race { IfOk result (IsRaceOf (IsAnswered CAPACITY) CAPACITY spec.now) }
+    ensures callers { IsErrOf result RaceFault.TooManyCallers → ⊥ }
+    ensures race { IfOk result (IsRace spec.now) }
     ensures once { IfOk result (λ history. IsTrue history.report.legal → history.report.twice ≡ 0) }
 {
     if !spec.is_allowed() {
@@ -185,7 +209,8 @@ pub fn race<R: Threads + Wait + Sync, G: Gate + Sync>(
     gate: &G,
 ) -> Result<RaceReport, RaceFault>
     ensures refused { IsErrOf result RaceFault.BadRace ↔ (is_race spec.now ≡ false) }
-    ensures race { IfOk result (λ report. (history : RaceHistory) × IsRaceOf (IsAnswered CAPACITY) CAPACITY spec.now history × (report ≡ history.report)) }
+    ensures callers { IsErrOf result RaceFault.TooManyCallers → ⊥ }
+    ensures race { IfOk result (λ report. (history : RaceHistory) × IsRace spec.now history × (report ≡ history.report)) }
     ensures once { IfOk result (λ report. IsTrue report.legal → report.twice ≡ 0) }
 {
     let history = race_history(rt, alloc, spec, gate)?;

@@ -4,7 +4,7 @@ ghost use Rattle.std.specs.List.{All};
 ghost use Rattle.race_log.specs.RaceSet.{creates_set};
 ghost use Rattle.racing.specs.Children.{Promises, promised_number};
 ghost use Rattle.racing.specs.Jobs.{IsJob, IsPartAt, number_of};
-ghost use Rattle.racing.specs.Parts.{AreParts, CountFrom, HasAsked, IsPartOf, caller_of, operators_in};
+ghost use Rattle.racing.specs.Parts.{AreParts, CountFrom, HasAskedOnce, IsPartOf, caller_of, operators_in};
 
 use crate::course::Course;
 use crate::field::RaceContext;
@@ -15,7 +15,7 @@ use race_log::{Part, RaceSpec, TimedExchange, set_creation};
 use std::sync::Wait;
 use std::thread;
 use std::thread::{Promise, PromisedHandle, Scope, Threads};
-use store::Gate;
+use store::{Gate, StoreError};
 
 /// The thread yields the part of that number.
 #[derive(Drop)]
@@ -30,7 +30,7 @@ impl<'a, S: SharedStore> Promise<Result<Part, Memory>> for PartOf<'a, S> {
     ghost use Rattle.racing.specs.Children.{Promises, promised_number};
     ghost use Rattle.racing.specs.Jobs.{IsPartAt};
 
-    ghost kept_by = { λ promise result. IfOk result (IsPartAt S.gave promise.spec promise.number) };
+    ghost kept_by = { λ promise result. IfOk result (IsPartAt S.shards S.capacity promise.spec promise.number) };
 }
 
 /// A thread for each job, in their order. If one is refused, those that were made wait for the start.
@@ -60,7 +60,7 @@ where
             promise,
             move || -> Result<Part, Memory>
                 requires { IsJob course.now.spec job }
-                ensures { IfOk result (IsPartAt S.gave course.entry.now.spec (number_of job)) }
+                ensures { IfOk result (IsPartAt S.shards S.capacity course.entry.now.spec (number_of job)) }
             {
                 run_job(
                     rt,
@@ -90,7 +90,7 @@ fn join_all<S: SharedStore, R: Threads>(
 ) -> Result<(), Memory>
     requires spec { All (Promises spec.now) children.items }
     ensures numbers { OnOk result (map caller_of parts.new.items ≡ map caller_of parts.old.items ++ map promised_number children.entry.items) }
-    ensures each { All (IsPartOf S.gave spec.now) parts.old.items → OnOk result (All (IsPartOf S.gave spec.now) parts.new.items) }
+    ensures each { All (IsPartOf S.shards S.capacity spec.now) parts.old.items → OnOk result (All (IsPartOf S.shards S.capacity spec.now) parts.new.items) }
 {
     for child in children {
         let part = child.join(rt)?;
@@ -112,7 +112,7 @@ fn spawn_race<'s, E, S: SharedStore + Sync, R: Threads + Wait + Sync, G: Gate + 
     store: &'s S,
     gate: &'s G,
     course: &'s Course,
-) -> Result<Children<'s, S>, Memory>
+) -> Result<Children<'s, S>, StoreError>
 where
     S::Caller: Send,
     S::Ticket: Send,
@@ -139,13 +139,13 @@ fn join_race<S: SharedStore, R: Threads>(
     creation: Vec<TimedExchange>,
 ) -> Result<Vec<Part>, Memory>
     requires few { course.now.spec.controllers ≤ 64 }
-    requires creation { HasAsked S.gave (creates_set course.now.spec.replicas) [] creation.items }
+    requires creation { HasAskedOnce S.shards S.capacity (creates_set course.now.spec.replicas) creation.items }
     requires racers { All (Promises course.now.spec) children.racers.items }
     requires numbers { CountFrom 0 (map promised_number children.racers.items) }
     requires many { length children.racers.items ≡ course.now.spec.controllers + 1 }
     requires operators { All (Promises course.now.spec) children.operators.items }
     requires operator { map promised_number children.operators.items ≡ operators_in course.now.spec }
-    ensures { IfOk result (λ parts. AreParts S.gave course.now.spec parts.items) }
+    ensures { IfOk result (λ parts. AreParts S.shards S.capacity course.now.spec parts.items) }
 {
     let Children { racers, operators } = children;
     let mut parts = Vec::new(course.alloc);
@@ -163,8 +163,8 @@ fn join_race<S: SharedStore, R: Threads>(
 fn create_set<S: SharedStore, R: Wait, G: Gate>(
     rt: &R,
     field: &RaceContext<'_, S, G>,
-) -> Result<Vec<TimedExchange>, Memory>
-    ensures { IfOk result (λ exchanges. HasAsked S.gave (creates_set field.now.course.now.spec.replicas) [] exchanges.items) }
+) -> Result<Vec<TimedExchange>, StoreError>
+    ensures { IfOk result (λ exchanges. HasAskedOnce S.shards S.capacity (creates_set field.now.course.now.spec.replicas) exchanges.items) }
 {
     let mut caller = field.store.caller(rt)?;
     let creation = set_creation(field.course.alloc, field.course.spec.replicas)?;
@@ -180,12 +180,12 @@ fn run_in<'s, E, S: SharedStore + Sync, R: Threads + Wait + Sync, G: Gate + Sync
     store: &'s S,
     gate: &'s G,
     course: &'s Course,
-) -> Result<Vec<Part>, Memory>
+) -> Result<Vec<Part>, StoreError>
 where
     S::Caller: Send,
     S::Ticket: Send,
     requires few { course.now.spec.controllers ≤ 64 }
-    ensures { IfOk result (λ parts. AreParts S.gave course.now.spec parts.items) }
+    ensures { IfOk result (λ parts. AreParts S.shards S.capacity course.now.spec parts.items) }
 {
     let creation = create_set(
         rt,
@@ -198,7 +198,7 @@ where
     let children = spawn_race(rt, scope, store, gate, course);
     // Threads wait for this word, so it is set even if one of them could not be made.
     course.begin(children.is_ok());
-    join_race(rt, course, children?, creation)
+    Ok(join_race(rt, course, children?, creation)?)
 }
 
 /// All of a race except its judgement.
@@ -207,19 +207,19 @@ pub(crate) fn run_all<S: SharedStore + Sync, R: Threads + Wait + Sync, G: Gate +
     store: &S,
     gate: &G,
     course: &Course,
-) -> Result<Vec<Part>, Memory>
+) -> Result<Vec<Part>, StoreError>
 where
     S::Caller: Send,
     S::Ticket: Send,
     requires few { course.now.spec.controllers ≤ 64 }
-    ensures { IfOk result (λ parts. AreParts S.gave course.now.spec parts.items) }
+    ensures { IfOk result (λ parts. AreParts S.shards S.capacity course.now.spec parts.items) }
 {
     thread::scope(
         thread::scope_env(),
         rt,
-        |scope| -> Result<Vec<Part>, Memory>
+        |scope| -> Result<Vec<Part>, StoreError>
             requires { course.now.spec.controllers ≤ 64 }
-            ensures { IfOk result (λ parts. AreParts S.gave course.entry.now.spec parts.items) }
+            ensures { IfOk result (λ parts. AreParts S.shards S.capacity course.entry.now.spec parts.items) }
         { run_in(rt, scope, store, gate, course) },
     )
 }

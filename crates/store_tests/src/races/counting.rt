@@ -6,7 +6,7 @@ use requests::{Reason, Reply, Request};
 use std::sync::Wait;
 use std::sync::atomic::{AtomicU64, Ordering};
 use std::thread::yield_now;
-use store::Gate;
+use store::{Gate, StoreError};
 
 /// How often a thread looks for requests of others.
 const TURNS: u64 = 1_000_000_000;
@@ -104,17 +104,21 @@ impl<S: SharedStore> SharedStore for Counting<'_, S> {
 
     type Ticket = S::Ticket;
 
-    ghost gave = { S.gave };
+    ghost shards = { S.shards };
+
+    ghost capacity = { S.capacity };
+
+    ghost known = { S.known };
 
     ghost asked = { S.asked };
+
+    ghost since_of = { S.since_of };
 
     ghost place_of = { S.place_of };
 
     ghost is_of = { S.is_of };
 
-    ghost seen_by = { S.seen_by };
-
-    fn caller<R: Wait>(&self, rt: &R) -> Result<S::Caller, Memory> {
+    fn caller<R: Wait>(&self, rt: &R) -> Result<S::Caller, StoreError> {
         self.store.caller(rt)
     }
 

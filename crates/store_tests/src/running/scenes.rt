@@ -52,7 +52,7 @@ fn assert_scene<
     match scene {
         Scene::Rows => assert_rows(rt, alloc, store, ROWS.as_slice()),
         Scene::Meeting => assert_meeting(rt, alloc, store),
-        Scene::Callers => assert_callers(rt, store),
+        Scene::Callers => assert_callers(rt, alloc, store),
         Scene::Gate | Scene::OtherGate | Scene::ListGate => {
             assert_steps(rt, alloc, store, lines_of(scene))
         }

@@ -11,5 +11,5 @@ invariant-loop-child g l = record {
   spec : All (Promises l.fn.spec) (into_iter_items l.child-iterator);
   numbers : map caller_of l.parts.items ++ map promised_number (into_iter_items l.child-iterator)
       ≡ map caller_of l.initial.parts.items ++ map promised_number l.fn.children.items;
-  each : All (IsPartOf g.S.SharedStore.gave l.fn.spec) l.initial.parts.items → All (IsPartOf g.S.SharedStore.gave l.fn.spec) l.parts.items;
+  each : All (IsPartOf g.S.SharedStore.shards g.S.SharedStore.capacity l.fn.spec) l.initial.parts.items → All (IsPartOf g.S.SharedStore.shards g.S.SharedStore.capacity l.fn.spec) l.parts.items;
 }

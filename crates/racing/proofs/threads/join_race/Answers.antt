@@ -10,7 +10,8 @@ use Rattle.racing.proofs.threads.join_race.Goals as goal
 
 pub returns : goal.returns
 returns g c =
-    let gave = g.S.SharedStore.gave in
+    let shards = g.S.SharedStore.shards in
+    let capacity = g.S.SharedStore.capacity in
     let spec = c.args.course.now.spec in
     let racers = c.args.children.racers.items in
     let parts = c.join_all.new.parts.items in
@@ -18,10 +19,10 @@ returns g c =
     let none = c.new-parts.ensures.items in
     let items = c.in_ok-push.ensures.items in
     let callers : map caller_of parts ≡ map promised_number racers = c.in_ok-join_all.ensures.numbers ∙ ap (λ l. map caller_of l ++ map promised_number racers) none in
-    let threads : All (IsPartOf gave spec) parts = c.in_ok-join_all.ensures.each (subst (All (IsPartOf gave spec)) (sym none) (All-nil (IsPartOf gave spec))) in
-    joined gave spec parts c.join_all-2.new.parts.items creation (map promised_number c.args.children.operators.items)
+    let threads : All (IsPartOf shards capacity spec) parts = c.in_ok-join_all.ensures.each (subst (All (IsPartOf shards capacity spec)) (sym none) (All-nil (IsPartOf shards capacity spec))) in
+    joined shards capacity spec parts c.join_all-2.new.parts.items creation (map promised_number c.args.children.operators.items)
     (c.in_ok-join_all-2.ensures.each
-    (subst (All (IsPartOf gave spec)) (sym items) (all_more (IsPartOf gave spec) parts creation threads (creator_is gave spec creation refl c.requires.creation))))
+    (subst (All (IsPartOf shards capacity spec)) (sym items) (all_more (IsPartOf shards capacity spec) parts creation threads (creator_is shards capacity spec creation refl c.requires.creation))))
     (subst (CountFrom 0) (sym callers) c.requires.numbers)
     (long_as caller_of promised_number parts racers callers ∙ c.requires.many)
     refl

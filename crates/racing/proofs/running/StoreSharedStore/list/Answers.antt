@@ -5,4 +5,8 @@ use Rattle.racing.proofs.Giving.{answered_to_read}
 use Rattle.racing.proofs.running.StoreSharedStore.list.Goals as goal
 
 pub returns : goal.returns
-returns g c = IfOk-weaker c.list.result _ _ (λ reply is. answered_to_read g.N.Naming.capacity (request.List c.args.kind c.args.namespace.now 0) reply c.args.caller.now c.list.new.caller c.list.ensures.read refl (λ _. is)) c.list.ensures.reply
+returns g c =
+    IfOk-weaker c.list.result _ _
+    (λ reply is.
+    answered_to_read g.H.Sharding.shards g.N.Naming.capacity (request.List c.args.kind c.args.namespace.now 0) reply c.args.caller.now c.list.new.caller
+    c.list.ensures.read refl (λ _. is)) c.list.ensures.reply
