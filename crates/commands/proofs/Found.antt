@@ -1,32 +1,35 @@
 -- What is found or refused of a litmus test that was read.
-use Rattle.std.proofs.Common.{◌≡◌, ◌<◌, ℕ, Bool, true, false, List, [], ◌∷◌, length, Option, Some, None, inl, inr, refl, sym, subst}
+use Rattle.std.proofs.Common.{◌<◌, ◌∷◌, ◌≡◌, ℕ, [], Bool, List, None, Option, Some, codes, false, inl, inr, length, subst, sym, true}
 use Rattle.std.specs.List.{AllByRecursion, Contains}
+use Rattle.std.specs.Option.{IfSome}
 use Rattle.std.proofs.lemmas.List.Elements.{All-contains, All-from_recursion}
 use Rattle.std.proofs.lemmas.Option.{slice_get_within}
-use Rattle.std.specs.Option.{IfSome}
-use Rattle.outcome_lines.specs.Litmus.{litmus_of, parts_of}
-use Rattle.outcomes.specs.declared.litmus.Litmus.{Litmus}
-use Rattle.scripts.specs.Events.{Fails}
-use Rattle.scripts.specs.declared.fault.ScriptError.{ScriptError}
-use Rattle.scripts.specs.declared.fault.ScriptError.TheVariants.{BadScript, Memory}
 use Rattle.interleavings.specs.World.{changed}
+use Rattle.outcome_lines.specs.Litmus.{litmus_of, parts_of}
 use Rattle.outcomes.specs.Found.{AreNext, IsOutcome}
 use Rattle.outcomes.specs.declared.litmus.Ask.{Ask}
+use Rattle.outcomes.specs.declared.litmus.Litmus.{Litmus}
 use Rattle.outcomes.specs.declared.outcome.Outcome.{Outcome}
-use Rattle.commands.specs.Finding.{AreOutcomes, IsFindingRefusal, IsLitmusRefusal}
-use Rattle.commands.specs.Replaying.{script_refusal}
-
--- a text that is no litmus test is refused by that name
-pub refused_litmus : (error : ScriptError) (choice : Option ℕ) (name : Option (List ℕ)) (input : List ℕ) → name ≡ script_refusal error
-    → Fails error (litmus_of input) → IfSome name (IsLitmusRefusal choice input)
-refused_litmus BadScript choice name input is fails = subst (λ o. IfSome o (IsLitmusRefusal choice input)) (sym is) (inl (fails, refl))
-refused_litmus Memory choice name input is fails = subst (λ o. IfSome o (IsLitmusRefusal choice input)) (sym is) tt
+use Rattle.commands.specs.Ending.{IsBadCapacity}
+use Rattle.commands.specs.Finding.{AreOutcomes, IsChoiceRefusal, IsFindingRefusal, IsLitmusRefusal}
 
 -- what is refused is the litmus test that the input is
-pub refused_finding : (name : Option (List ℕ)) (choice : Option ℕ) (input : List ℕ) (litmus : Litmus) → litmus_of input ≡ Some (parts_of litmus)
-    → IfSome name (IsFindingRefusal choice litmus) → IfSome name (IsLitmusRefusal choice input)
-refused_finding None choice input litmus is refused = tt
-refused_finding (Some name) choice input litmus is refused = inr (litmus, is, refused)
+pub refused_finding : (name : Option (List ℕ)) (choice : Option ℕ) (shows_line : Bool) (input : List ℕ) (litmus : Litmus) → litmus_of input ≡ Some (parts_of litmus)
+    → IfSome name (IsFindingRefusal choice litmus) → IfSome name (IsLitmusRefusal choice shows_line input)
+refused_finding None choice shows_line input litmus is refused = tt
+refused_finding (Some name) choice shows_line input litmus is refused = inr (litmus, is, refused)
+
+-- what is not printed for its capacity is refused
+pub not_printed : (name : Option (List ℕ)) (choice given : Option ℕ) (litmus : Litmus) → given ≡ choice
+    → IfSome name (λ n. IsBadCapacity litmus.capacity × (n ≡ codes "BadCapacity")) → IfSome name (IsFindingRefusal given litmus)
+not_printed None choice given litmus same refused = tt
+not_printed (Some name) choice given litmus same refused = inl refused
+
+-- and so is a choice
+pub not_chosen : (name : Option (List ℕ)) (choice given : Option ℕ) (litmus : Litmus) (found : List Outcome) → given ≡ choice → AreOutcomes litmus found
+    → IfSome name (IsChoiceRefusal choice found) → IfSome name (IsFindingRefusal given litmus)
+not_chosen None choice given litmus found same are refused = tt
+not_chosen (Some name) choice given litmus found same are refused = inr (inr (found, are, subst (λ o. IsChoiceRefusal o found name) (sym same) refused))
 
 -- ---- what is found can be printed
 

@@ -15,10 +15,11 @@ use Rattle.race_log.specs.Limits.{is_race}
 abbrev pub IsScriptBy : (text : Text → Option Text) → ScriptWords → Type 0
 IsScriptBy text script = IsFormatBy text script.form × IsFlagBy (text (codes "where")) script.shows_line
 
--- which outcome's script is requested, whether outcomes are printed in words, and whether they are those of controllers
+-- which outcome's script is requested, whether outcomes are printed in words, whether they are those of controllers, and
+-- whether a refusal names its line
 abbrev pub AreOptionsBy : (text : Text → Option Text) → OutcomesWords → Type 0
 AreOptionsBy text options = IsChoiceBy (text (codes "script")) options.choice × IsFlagBy (text (codes "brief")) options.brief
-    × IsFlagBy (text (codes "final")) options.final_stores
+    × IsFlagBy (text (codes "final")) options.final_stores × IsFlagBy (text (codes "where")) options.shows_line
 
 -- the arguments after `plan`
 abbrev pub IsPlanAsked : List Text → PlanWords → Type 0

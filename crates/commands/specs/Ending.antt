@@ -1,17 +1,19 @@
 -- What `stsctl outcomes --final` has written, and what it refuses.
-use Rattle.std.specs.Prelude.{◌≡◌, ◌≢◌, ◌⊎◌, ◌≤◌, ◌<◌, ℕ, Bool, true, false, zero, suc, List, Option, Some, None, codes, map}
+use Rattle.std.specs.Prelude.{◌≡◌, ◌≢◌, ◌⊎◌, ◌≤◌, ◌<◌, ℕ, Bool, true, false, zero, suc, List, [], Option, Some, None, codes, map}
 use Rattle.std.specs.List.{All, AllPairs, Contains, slice_get}
 use Rattle.controller_outcomes.specs.Progress.{HasManyStates}
 use Rattle.controller_outcomes.specs.declared.race.Move.{Move}
 use Rattle.controller_outcomes.specs.Races.{IsFinal, IsWhole, shown_after}
 use Rattle.controller_outcomes.specs.declared.race.FinalStore.{FinalStore}
 use Rattle.controller_outcomes.specs.declared.race.Race.{Race}
-use Rattle.outcome_lines.specs.Looks.{looks_of}
+use Rattle.outcome_lines.specs.Looks.{looks_of, objects_begun}
+use Rattle.outcome_lines.specs.RefusedLines.{refused_race_line_of}
 use Rattle.outcome_lines.specs.Race.{race_of, race_parts}
 use Rattle.outcome_lines.specs.StoreScripts.{ShowsStore}
 use Rattle.outcome_lines.specs.Stores.{stores_brief_text, stores_text}
 use Rattle.plain_store.specs.Reached.{most_revisions}
 use Rattle.requests.specs.declared.reply.Reply.{Reply}
+use Rattle.commands.specs.Halts.{refused_as, told_line}
 
 -- what is looked at in each
 abbrev pub shown_in : List FinalStore → List (List Reply)
@@ -24,10 +26,10 @@ pub record AreFinals (race : Race) (found : List FinalStore) : Type 0 where
   pub all : (order : List Move) → IsWhole race order → Contains (shown_in found) (shown_after race order)
   pub once : AllPairs (λ x y. x ≢ y) (shown_in found)
 
--- the lines of all, without versions and UIDs if that is requested
-abbrev pub stores_lines : (brief : Bool) → List FinalStore → List ℕ
-stores_lines true found = stores_brief_text found
-stores_lines false found = stores_text found
+-- the lines of all, in words if that is requested
+abbrev pub stores_lines : (brief : Bool) → Race → List FinalStore → List ℕ
+stores_lines true race found = stores_brief_text (objects_begun race.capacity race.beginning.items) found
+stores_lines false race found = stores_text found
 
 -- the store of that number, from 1
 abbrev pub store_of : (number : ℕ) → List FinalStore → Option FinalStore
@@ -36,7 +38,7 @@ store_of (suc index) found = slice_get found index
 
 -- these lines, or a script that leads to the chosen one
 abbrev pub IsChosenStore : (choice : Option ℕ) → (brief : Bool) → Race → List FinalStore → (text : List ℕ) → Type 0
-IsChosenStore None brief race found text = text ≡ stores_lines brief found
+IsChosenStore None brief race found text = text ≡ stores_lines brief race found
 IsChosenStore (Some number) brief race found text = (f : FinalStore) × (store_of number found ≡ Some f) × ShowsStore race f.shown.items text
 
 abbrev pub IsRaceText : (choice : Option ℕ) → (brief : Bool) → Race → (text : List ℕ) → Type 0
@@ -55,17 +57,24 @@ IsStoresText choice brief input text = (race : Race) × IsRaceOf input race × I
 abbrev pub IsBadCapacity : ℕ → Type 0
 IsBadCapacity capacity = 1 ≤ capacity → most_revisions < capacity
 
--- there is no store of that number, or no script to it was found
+-- there is no store of that number, or there is one, and no script to it was found
 abbrev pub IsStoreRefusal : (choice : Option ℕ) → List FinalStore → (name : List ℕ) → Type 0
 IsStoreRefusal None found name = ⊥
-IsStoreRefusal (Some number) found name = ((store_of number found ≡ None) × (name ≡ codes "NoSuchOutcome")) ⊎ (name ≡ codes "NoScript")
+IsStoreRefusal (Some number) found name = ((store_of number found ≡ None) × (name ≡ codes "NoSuchOutcome"))
+    ⊎ ((f : FinalStore) × (store_of number found ≡ Some f) × (name ≡ codes "NoScript"))
+
+-- the same, or the capacity is none
+abbrev pub IsEndRefusal : (choice : Option ℕ) → Race → List FinalStore → (name : List ℕ) → Type 0
+IsEndRefusal choice race found name = (IsBadCapacity race.capacity × (name ≡ codes "BadCapacity")) ⊎ IsStoreRefusal choice found name
 
 -- the stores are not printed, or the chosen one is not
 abbrev pub IsRaceRefusal : (choice : Option ℕ) → Race → (name : List ℕ) → Type 0
 IsRaceRefusal choice race name = (IsBadCapacity race.capacity × (name ≡ codes "BadCapacity"))
     ⊎ ((HasManyStates race × (name ≡ codes "TooManyOutcomes")) ⊎ ((found : List FinalStore) × AreFinals race found × IsStoreRefusal choice found name))
 
--- The input is refused as BadScript exactly if it is no race of controllers.
-abbrev pub IsStoresRefusal : (choice : Option ℕ) → (input name : List ℕ) → Type 0
-IsStoresRefusal choice input name = ((race_of input ≡ None) × (name ≡ codes "BadScript"))
+-- The input is refused as BadScript exactly if it is no race of controllers, for its first line that cannot stand where
+-- it does.
+abbrev pub IsStoresRefusal : (choice : Option ℕ) → (shows_line : Bool) → (input name : List ℕ) → Type 0
+IsStoresRefusal choice shows_line input name =
+    ((race_of input ≡ None) × (name ≡ refused_as (told_line shows_line (refused_race_line_of input)) [] (codes "BadScript")))
     ⊎ ((race : Race) × IsRaceOf input race × IsRaceRefusal choice race name)

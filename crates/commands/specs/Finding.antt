@@ -1,9 +1,11 @@
 -- What a run of `stsctl outcomes` has done, as far as the devices show it.
-use Rattle.std.specs.Prelude.{◌≡◌, ◌≢◌, ◌⊎◌, ℕ, Bool, true, false, zero, suc, List, Option, Some, None, codes, map}
+use Rattle.std.specs.Prelude.{◌≡◌, ◌≢◌, ◌⊎◌, ℕ, Bool, true, false, zero, suc, List, [], Option, Some, None, codes, map}
 use Rattle.std.specs.List.{All, AllPairs, Contains, slice_get}
 use Rattle.clap.specs.Words.{Text}
 use Rattle.outcome_lines.specs.Litmus.{litmus_of, parts_of}
 use Rattle.outcome_lines.specs.Brief.{outcomes_brief_text}
+use Rattle.outcome_lines.specs.Looks.{objects_begun}
+use Rattle.outcome_lines.specs.RefusedLines.{refused_line_of}
 use Rattle.outcome_lines.specs.Printing.{outcomes_text as all_outcomes}
 use Rattle.outcome_lines.specs.Scripting.{ShowsOutcome}
 use Rattle.outcome_lines.specs.declared.fault.ScriptingError.{ScriptingError}
@@ -16,7 +18,7 @@ use Rattle.outcomes.specs.declared.outcome.Outcome.{Outcome}
 use Rattle.outcomes.specs.declared.outcome.OutcomesError.{OutcomesError}
 use Rattle.outcomes.specs.declared.outcome.OutcomesError.TheVariants as finding
 use Rattle.requests.specs.declared.reply.Reply.{Reply}
-use Rattle.commands.specs.Halts.{IsRefusedIn}
+use Rattle.commands.specs.Halts.{IsRefusedIn, refused_as, told_line}
 use Rattle.commands.specs.Forms.{WritesBy}
 use Rattle.commands.specs.CommandLine.{AreOptionsBy}
 use Rattle.commands.specs.Ending.{IsBadCapacity, IsStoresRefusal, IsStoresText}
@@ -41,7 +43,7 @@ outcome_of (suc index) found = slice_get found index
 
 -- the lines of all, in words if that is requested
 abbrev pub lines_of_all : (brief : Bool) → Litmus → List Outcome → List ℕ
-lines_of_all true litmus found = outcomes_brief_text litmus found
+lines_of_all true litmus found = outcomes_brief_text litmus (objects_begun litmus.capacity litmus.beginning.items) found
 lines_of_all false litmus found = all_outcomes litmus found
 
 -- these lines, or a script that shows the chosen one
@@ -74,24 +76,26 @@ Finds puts words had left before after =
 
 -- ---- refusals
 
--- there is no outcome of that number, or no script of it was found
+-- there is no outcome of that number, or there is one, and no script of it was found
 abbrev pub IsChoiceRefusal : (choice : Option ℕ) → List Outcome → (name : List ℕ) → Type 0
 IsChoiceRefusal None found name = ⊥
-IsChoiceRefusal (Some number) found name = ((outcome_of number found ≡ None) × (name ≡ codes "NoSuchOutcome")) ⊎ (name ≡ codes "NoScript")
+IsChoiceRefusal (Some number) found name = ((outcome_of number found ≡ None) × (name ≡ codes "NoSuchOutcome"))
+    ⊎ ((o : Outcome) × (outcome_of number found ≡ Some o) × (name ≡ codes "NoScript"))
 
 -- the outcomes are not printed, or the chosen one is not
 abbrev pub IsFindingRefusal : (choice : Option ℕ) → Litmus → (name : List ℕ) → Type 0
 IsFindingRefusal choice litmus name = (IsBadCapacity litmus.capacity × (name ≡ codes "BadCapacity"))
     ⊎ ((HasManyParts litmus × (name ≡ codes "TooManyOutcomes")) ⊎ ((found : List Outcome) × AreOutcomes litmus found × IsChoiceRefusal choice found name))
 
--- The input is refused as BadScript exactly if it is no litmus test.
-abbrev pub IsLitmusRefusal : (choice : Option ℕ) → (input name : List ℕ) → Type 0
-IsLitmusRefusal choice input name = ((litmus_of input ≡ None) × (name ≡ codes "BadScript"))
+-- The input is refused as BadScript exactly if it is no litmus test, for its first line that cannot stand where it does.
+abbrev pub IsLitmusRefusal : (choice : Option ℕ) → (shows_line : Bool) → (input name : List ℕ) → Type 0
+IsLitmusRefusal choice shows_line input name =
+    ((litmus_of input ≡ None) × (name ≡ refused_as (told_line shows_line (refused_line_of input)) [] (codes "BadScript")))
     ⊎ ((litmus : Litmus) × (litmus_of input ≡ Some (parts_of litmus)) × IsFindingRefusal choice litmus name)
 
 abbrev pub IsRefusalBy : (final_stores : Bool) → OutcomesWords → (input name : List ℕ) → Type 0
-IsRefusalBy true options input name = IsStoresRefusal options.choice input name
-IsRefusalBy false options input name = IsLitmusRefusal options.choice input name
+IsRefusalBy true options input name = IsStoresRefusal options.choice options.shows_line input name
+IsRefusalBy false options input name = IsLitmusRefusal options.choice options.shows_line input name
 
 abbrev pub IsOutcomesRefusal : OutcomesWords → (input name : List ℕ) → Type 0
 IsOutcomesRefusal options input name = IsRefusalBy options.final_stores options input name

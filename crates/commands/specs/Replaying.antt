@@ -10,7 +10,6 @@ use Rattle.interleavings.specs.declared.event.Event.{Event}
 use Rattle.interleavings.specs.declared.trace.Run.{Run}
 use Rattle.scripts.specs.Printing.{run_text}
 use Rattle.scripts.specs.Scripts.{parts_of, script_of}
-use Rattle.scripts.specs.declared.fault.ScriptError.{ScriptError}
 use Rattle.clap.specs.Words.{Text}
 use Rattle.pictures.specs.Heading.{no_role}
 use Rattle.pictures.specs.Picture.{picture_text}
@@ -23,7 +22,6 @@ use Rattle.commands.specs.Grammar.{flag_text}
 use Rattle.commands.specs.Running.{IsScriptRefusal, IsScriptText}
 use Rattle.commands.specs.declared.options.OutputFormat.{OutputFormat}
 use Rattle.commands.specs.declared.options.OutputFormat.TheVariants.{Lines, Picture, Trace, Writes}
-use Rattle.scripts.specs.declared.fault.ScriptError.TheVariants.{BadScript, Memory}
 
 -- the replies of the run of these events, and its order
 abbrev pub IsRunText : Size × List Event → List ℕ → Type 0
@@ -71,8 +69,3 @@ IsReplayRefusal shows_line input name = IsScriptRefusal script_of parts_of refus
 -- All of the reader's bytes were read, and are refused by this name.
 abbrev pub IsRefusedBy : (shows_line : Bool) → Option (List ℕ) → Option (List ℕ) → List ℕ → Type 0
 IsRefusedBy shows_line had left name = IsRefusedIn (IsReplayRefusal shows_line) had left name
-
--- the name of the refusal of a text that is no script
-abbrev pub script_refusal : ScriptError → Option (List ℕ)
-script_refusal BadScript = Some (codes "BadScript")
-script_refusal Memory = None

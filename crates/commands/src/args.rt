@@ -40,13 +40,14 @@ pub(crate) struct ScriptWords {
     pub(crate) shows_line: bool,
 }
 
-/// Which outcome's script is requested, by its number from 1, whether outcomes are printed in words, and whether they
-/// are the stores that a race of controllers can leave.
+/// Which outcome's script is requested, by its number from 1, whether outcomes are printed in words, whether they are the
+/// stores that a race of controllers can leave, and whether a refusal names its line.
 #[derive(Clone, Copy, Drop)]
 pub(crate) struct OutcomesWords {
     pub(crate) choice: Option<u64>,
     pub(crate) brief: bool,
     pub(crate) final_stores: bool,
+    pub(crate) shows_line: bool,
 }
 
 /// What the arguments request.
@@ -71,7 +72,7 @@ pub(crate) enum CommandLine<'a> {
 /// `cluster [--picture] [--writes] [--trace] [--where]`,
 /// `plan --set NAME [--namespace NS] [--digits H] [--brief] [--where]`,
 /// `race [--controllers N] [--shards N] [--rounds N] [--replicas N] [--operator] [--history]`, and
-/// `outcomes [--script K] [--brief] [--final]`, and what `clap` adds for help and the version.
+/// `outcomes [--script K] [--brief] [--final] [--where]`, and what `clap` adds for help and the version.
 fn grammar<'a>(alloc: Global) -> Result<Command<'a>, AllocError>
     ensures { IfOk result (λ c. app_of c ≡ stsctl_app) }
 {
@@ -160,13 +161,14 @@ fn outcomes_grammar<'a>(alloc: Global) -> Result<Command<'a>, AllocError>
         .arg(flag_arg(
             alloc,
             "brief",
-            "Print outcomes in words instead, without versions and UIDs, those that are then alike as one",
+            "Print outcomes in words instead, those that are alike but for versions and UIDs as one",
         ))?
         .arg(flag_arg(
             alloc,
             "final",
             "Print instead each store in which the controllers on standard input may end",
-        ))
+        ))?
+        .arg(where_arg(alloc))
 }
 
 fn plan_grammar<'a>(alloc: Global) -> Result<Command<'a>, AllocError>
@@ -300,6 +302,7 @@ fn outcomes_words(matches: &ArgMatches<'_>) -> OutcomesWords
         choice: choice_in(matches),
         brief: flag_in(matches, "brief"),
         final_stores: flag_in(matches, "final"),
+        shows_line: flag_in(matches, "where"),
     }
 }
 

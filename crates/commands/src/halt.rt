@@ -4,7 +4,7 @@ ghost use Rattle.commands.specs.Clustering.{cluster_refusal};
 ghost use Rattle.commands.specs.Finding.{finding_refusal, scripting_refusal};
 ghost use Rattle.commands.specs.Halts.{IsNamed, Tells, halt_of, is_read, name_of, refused_as};
 ghost use Rattle.commands.specs.Planning.{plan_refusal, read_refusal};
-ghost use Rattle.commands.specs.Replaying.{run_refusal, script_refusal};
+ghost use Rattle.commands.specs.Replaying.{run_refusal};
 
 use crate::status::{
     BAD_WORDS, FAILURE, REFUSED, SUCCESS, TrackedAlloc, write_foreign, write_refusal,
@@ -17,7 +17,6 @@ use outcome_lines::ScriptingError;
 use outcomes::OutcomesError;
 use plain::{InputFault, RequestError, Sink};
 use plan_lines::plan_error_name;
-use scripts::ScriptError;
 use sets::PlanError;
 use std::alloc::AllocError;
 
@@ -81,17 +80,6 @@ impl From<PlanError> for Halt {
         match error {
             PlanError::Memory => Halt::Memory,
             error => Halt::Refused(plan_error_name(&error)),
-        }
-    }
-}
-
-impl From<ScriptError> for Halt {
-    ghost from_gives = { λ error halt. (is_read halt ≡ false) × (name_of halt ≡ script_refusal error) };
-
-    fn from(error: ScriptError) -> Halt {
-        match error {
-            ScriptError::Memory => Halt::Memory,
-            ScriptError::BadScript => Halt::Refused("BadScript"),
         }
     }
 }

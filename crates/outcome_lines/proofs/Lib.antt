@@ -1,8 +1,12 @@
-pub mod Apart
+pub mod Agreeing
+pub mod ByText
 pub mod Firsts
 pub mod InTurn
+pub mod Leaving
 pub mod Printed
 pub mod Sameness
 pub mod StoreLed
 pub mod Stored
 pub mod Telling
+pub mod ToBlame
+pub mod ToldOnce

@@ -1,47 +1,57 @@
--- Lines of stores: the version in one, and lines that are there once.
-use Rattle.std.proofs.Common.{◌≡◌, ◌∙◌, ◌++◌, ◌||◌, ℕ, Bool, true, false, List, [], ◌∷◌, length, suc, refl, sym, ap, bytes_eq, codes, decimal, if◌then◌else◌}
+-- Lists of texts, and which keys are there.
+use Rattle.std.proofs.Common.{◌++◌, ◌||◌, ◌∙◌, ◌∷◌, ◌≡◌, ℕ, [], Bool, List, ap, codes, decimal, false, refl, sym, true}
+use Rattle.std.specs.Prelude.{bytes_eq, if◌then◌else◌}
+use Rattle.std.specs.Cmp.Lexicographic.{bytes_decides}
 use Rattle.std.specs.Global.{Vec}
-use Rattle.controller_outcomes.specs.declared.race.FinalStore.{FinalStore}
 use Rattle.std.specs.List.{list_any}
 use Rattle.json.specs.Token.{Token, key, number}
-use Rattle.outcome_lines.specs.Stores.{count_line, joined, lists_in, stores_brief_text, with_line, with_stores}
+use Rattle.outcome_lines.specs.Brief.{is_among}
+use Rattle.outcome_lines.specs.ObjectWords.{lists_in}
 
 pub of_revision : (before : List Token) (n m : ℕ) → n ≡ m
     → before ++ key (codes "revision") ∷ number (decimal n) ∷ [] ≡ before ++ key (codes "revision") ∷ number (decimal m) ∷ []
 of_revision before n m e = ap (λ v. before ++ key (codes "revision") ∷ number (decimal v) ∷ []) e
 
-abbrev same_as : Vec ℕ → Vec ℕ → Bool
+abbrev pub same_as : Vec ℕ → Vec ℕ → Bool
 same_as k l = bytes_eq k.items l.items
 
-any_same : (keys : List (Vec ℕ)) (k : Vec ℕ) → list_any (same_as k) keys ≡ list_any (bytes_eq k.items) (lists_in keys)
+pub any_same : (keys : List (Vec ℕ)) (k : Vec ℕ) → list_any (same_as k) keys ≡ is_among (lists_in keys) k.items
 any_same [] k = refl
 any_same (l ∷ keys) k = ap (λ b. same_as k l || b) (any_same keys k)
 
-lists_push : (keys : List (Vec ℕ)) (k : Vec ℕ) → lists_in (keys ++ k ∷ []) ≡ lists_in keys ++ k.items ∷ []
+pub lists_push : (keys : List (Vec ℕ)) (k : Vec ℕ) → lists_in (keys ++ k ∷ []) ≡ lists_in keys ++ k.items ∷ []
 lists_push [] k = refl
 lists_push (x ∷ keys) k = ap (λ l. x.items ∷ l) (lists_push keys k)
 
-lists_length : (keys : List (Vec ℕ)) → length (lists_in keys) ≡ length keys
-lists_length [] = refl
-lists_length (k ∷ keys) = ap suc (lists_length keys)
+or_true : (b : Bool) → b || true ≡ true
+or_true true = refl
+or_true false = refl
 
--- the lines are what the keys hold, and the count is how many there are
-brief_is : (keys : List (Vec ℕ)) (found : List FinalStore) → lists_in keys ≡ with_stores [] found → joined (lists_in keys) ++ count_line (length keys) ≡ stores_brief_text found
-brief_is keys found e = ap (λ n. joined (lists_in keys) ++ count_line n) (sym (lists_length keys)) ∙ ap (λ ls. joined ls ++ count_line (length ls)) e
+or_turned : (b c d : Bool) → b || (c || d) ≡ c || (b || d)
+or_turned true true d = refl
+or_turned true false d = refl
+or_turned false true d = refl
+or_turned false false d = refl
 
-pub brief_text : (none lines keys : List (Vec ℕ)) (found : List FinalStore) (empty all : List ℕ) (count : ℕ) (text : List ℕ) → lists_in keys ≡ with_stores (lists_in none) found
-    → none ≡ [] → lines ≡ keys → empty ≡ [] → all ≡ empty ++ joined (lists_in lines) → count ≡ length keys → text ≡ all ++ count_line count → text ≡ stores_brief_text found
-brief_text none lines keys found empty all count text told begun same first is counted last =
-    last
-    ∙ ap (λ j. j ++ count_line count) (is ∙ ap (λ e. e ++ joined (lists_in lines)) first ∙ ap (λ ls. joined (lists_in ls)) same)
-    ∙ ap (λ n. joined (lists_in keys) ++ count_line n) counted
-    ∙ brief_is keys found (told ∙ ap (λ ks. with_stores (lists_in ks) found) begun)
+-- at the end as at the beginning
+among_push : (texts : List (List ℕ)) (k t : List ℕ) → is_among (texts ++ k ∷ []) t ≡ (bytes_eq t k || is_among texts t)
+among_push [] k t = refl
+among_push (x ∷ texts) k t = ap (λ b. bytes_eq t x || b) (among_push texts k t) ∙ or_turned (bytes_eq t x) (bytes_eq t k) (is_among texts t)
+
+-- one that is there already
+among_twice : (texts : List (List ℕ)) (k t : List ℕ) → is_among texts k ≡ true → is_among texts t ≡ (bytes_eq t k || is_among texts t)
+among_twice texts k t there = go (bytes_eq t k) refl
+  where
+    go : (b : Bool) → bytes_eq t k ≡ b → is_among texts t ≡ (b || is_among texts t)
+    go true same = ap (is_among texts) ((bytes_decides t k).0 same) ∙ there
+    go false differs = refl
 
 -- what is put among keys is put among what they hold
-pub line_put : (keys after : List (Vec ℕ)) (k : Vec ℕ) → after ≡ (if list_any (same_as k) keys then keys else keys ++ k ∷ []) → lists_in after ≡ with_line (lists_in keys) k.items
-line_put keys after k e =
-    ap lists_in e ∙ put (list_any (same_as k) keys) ∙ ap (λ b. if b then lists_in keys else lists_in keys ++ k.items ∷ []) (any_same keys k)
+pub among_put : (keys after : List (Vec ℕ)) (k : Vec ℕ) → after ≡ (if list_any (same_as k) keys then keys else keys ++ k ∷ [])
+    → (t : List ℕ) → is_among (lists_in after) t ≡ (bytes_eq t k.items || is_among (lists_in keys) t)
+among_put keys after k e t = ap (λ ks. is_among (lists_in ks) t) e ∙ put (list_any (same_as k) keys) refl
   where
-    put : (b : Bool) → lists_in (if b then keys else keys ++ k ∷ []) ≡ (if b then lists_in keys else lists_in keys ++ k.items ∷ [])
-    put true = refl
-    put false = lists_push keys k
+    put : (b : Bool) → list_any (same_as k) keys ≡ b
+        → is_among (lists_in (if b then keys else keys ++ k ∷ [])) t ≡ (bytes_eq t k.items || is_among (lists_in keys) t)
+    put true there = among_twice (lists_in keys) k.items t (sym (any_same keys k) ∙ there)
+    put false new = ap (λ ls. is_among ls t) (lists_push keys k) ∙ among_push (lists_in keys) k.items t

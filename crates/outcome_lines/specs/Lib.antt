@@ -2,8 +2,10 @@
 pub mod Brief
 pub mod Litmus
 pub mod Looks
+pub mod ObjectWords
 pub mod Printing
 pub mod Race
+pub mod RefusedLines
 pub mod Scripting
 pub mod StoreScripts
 pub mod Stores

@@ -1,4 +1,4 @@
--- What is looked at after a race: a list of each kind in each namespace that the race names. Nothing is created
+-- What is looked at before and after a race: a list of each kind in each namespace that the race names. Nothing is created
 -- elsewhere.
 use Rattle.std.specs.Prelude.{ℕ, List, [], ◌∷◌, ◌++◌, map}
 use Rattle.std.specs.BTreeSet.{insert_key}
@@ -6,6 +6,9 @@ use Rattle.std.specs.Cmp.Lexicographic.{slice_cmp}
 use Rattle.std.specs.Ordering.{nat_cmp}
 use Rattle.objects.specs.declared.kind.Kind.{Kind}
 use Rattle.objects.specs.declared.kind.Kind.TheVariants.{StatefulSet, Pod, PersistentVolumeClaim, ControllerRevision}
+use Rattle.plain_store.specs.Run.{after, replies}
+use Rattle.plain_store.specs.Store.{opening}
+use Rattle.requests.specs.declared.reply.Reply.{Reply}
 use Rattle.requests.specs.declared.request.Request.{Request}
 use Rattle.requests.specs.declared.request.Request.TheVariants as request
 use Rattle.controller_outcomes.specs.declared.race.Racer.{Racer}
@@ -42,3 +45,7 @@ lists_in names = ((map (list_of StatefulSet) names ++ map (list_of Pod) names) +
 -- in the order in which the store keeps what is listed: by kind, then by namespace
 abbrev pub looks_of : (beginning : List Request) → List Racer → List Request
 looks_of beginning racers = lists_in (named_by (namespaces_by [] beginning) racers)
+
+-- lists of all objects that a store has after these requests
+abbrev pub objects_begun : (capacity : ℕ) → List Request → List Reply
+objects_begun capacity beginning = replies (after (opening capacity) beginning) (looks_of beginning [])

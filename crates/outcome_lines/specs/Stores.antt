@@ -1,7 +1,6 @@
 -- What `stsctl outcomes --final` prints: a line for each store that a race can leave, and last how many there are. All
--- are compact JSON with keys in byte order.
-use Rattle.std.specs.Prelude.{ℕ, Bool, true, false, List, [], ◌∷◌, ◌++◌, length, map, bytes_eq, codes, if◌then◌else◌}
-use Rattle.std.specs.List.{list_any}
+-- are compact JSON with keys in byte order, or with `--brief` words.
+use Rattle.std.specs.Prelude.{ℕ, ◌+◌, List, [], ◌∷◌, ◌++◌, length, map, codes, Option}
 use Rattle.serde_json.specs.Data.{Data, number, unsigned, array, Items, no_items, item, object, no_members, member}
 use Rattle.serde_json.specs.Written.{compact_text}
 use Rattle.objects.specs.declared.object.Object.{Object}
@@ -10,7 +9,8 @@ use Rattle.requests.specs.declared.reply.Reply.{Reply}
 use Rattle.requests.specs.declared.reply.Reply.TheVariants.{Created, Found, Listed, Updated, Unchanged, Marked, Removed, Compacted, Refused}
 use Rattle.plain.specs.ValueLines.{text_lines}
 use Rattle.controller_outcomes.specs.declared.race.FinalStore.{FinalStore}
-pub use Rattle.controller_outcomes.specs.Numbers.{lists_in}
+use Rattle.outcome_lines.specs.Brief.{Said, alike_texts, brief_text, first_shown, times_shown}
+use Rattle.outcome_lines.specs.ObjectWords.{Known, kind_words}
 
 -- ---- what lists show
 
@@ -48,26 +48,14 @@ revision_in (r ∷ replies) = revision_of r
 
 -- ---- one store
 
--- without the version and the UID
-abbrev pub bare : Object → Object
-bare o = record o { meta = record (o.meta) { uid = 0; revision = 0 } }
-
-abbrev pub object_shown : (is_bare : Bool) → Object → Object
-object_shown true o = bare o
-object_shown false o = o
-
-abbrev pub store_items : (is_bare : Bool) → List Object → Items
-store_items b [] = no_items
-store_items b (o ∷ os) = item (printed (object_shown b o)) (store_items b os)
+abbrev pub store_items : List Object → Items
+store_items [] = no_items
+store_items (o ∷ os) = item (printed o) (store_items os)
 
 -- `{"revision":V,"store":[OBJECT,..]}`
 abbrev pub store_data : List Reply → Data
 store_data shown =
-    object (member (codes "revision") (number (unsigned (revision_in shown))) (member (codes "store") (array (store_items false (objects_in shown))) no_members))
-
--- `{"store":[OBJECT,..]}`, without versions and UIDs
-abbrev pub bare_store_data : List Reply → Data
-bare_store_data shown = object (member (codes "store") (array (store_items true (objects_in shown))) no_members)
+    object (member (codes "revision") (number (unsigned (revision_in shown))) (member (codes "store") (array (store_items (objects_in shown))) no_members))
 
 -- ---- all lines
 
@@ -75,31 +63,41 @@ bare_store_data shown = object (member (codes "store") (array (store_items true 
 abbrev pub count_data : ℕ → Data
 count_data n = object (member (codes "stores") (number (unsigned n)) no_members)
 
-abbrev pub count_line : ℕ → List ℕ
-count_line n = compact_text (count_data n) ++ 10 ∷ []
-
 abbrev pub data_of_store : FinalStore → Data
 data_of_store f = store_data f.shown.items
 
 abbrev pub stores_text : List FinalStore → List ℕ
-stores_text found = text_lines (map data_of_store found) ++ count_line (length found)
+stores_text found = text_lines (map data_of_store found) ++ (compact_text (count_data (length found)) ++ 10 ∷ [])
 
--- ---- the same without versions and UIDs
+-- ---- in words
 
-abbrev pub bare_line : List Reply → List ℕ
-bare_line shown = compact_text (bare_store_data shown) ++ 10 ∷ []
+-- `StatefulSet web, Pod web-0`, with this text before the first and a comma before each other
+abbrev pub kinds_words : Known → (lead : List ℕ) → List Object → List ℕ
+kinds_words k lead [] = []
+kinds_words k lead (o ∷ os) = lead ++ (kind_words k o ++ kinds_words k (codes ", ") os)
 
--- the line is appended, unless it is there
-abbrev pub with_line : (lines : List (List ℕ)) → List ℕ → List (List ℕ)
-with_line lines line = if list_any (bytes_eq line) lines then lines else lines ++ line ∷ []
+abbrev pub objects_words : Known → List Object → List ℕ
+objects_words k [] = codes " no object"
+objects_words k (o ∷ os) = kinds_words k (codes " ") (o ∷ os)
 
-abbrev pub with_stores : (lines : List (List ℕ)) → List FinalStore → List (List ℕ)
-with_stores lines [] = lines
-with_stores lines (f ∷ found) = with_stores (with_line lines (bare_line f.shown.items)) found
+-- of how many of the objects of these stores a text is true
+abbrev pub times_left : List FinalStore → List ℕ → ℕ
+times_left [] t = 0
+times_left (f ∷ found) t = times_shown f.shown.items t + times_left found t
 
-abbrev pub joined : (lines : List (List ℕ)) → List ℕ
-joined [] = []
-joined (line ∷ lines) = line ++ joined lines
+abbrev pub store_known : (counts : List ℕ → ℕ) → (begun : List ℕ → Option ℕ) → List Reply → Known
+store_known counts begun shown = record { counts = counts; begun = begun; here = first_shown shown }
 
-abbrev pub stores_brief_text : List FinalStore → List ℕ
-stores_brief_text found = let lines = with_stores [] found in joined lines ++ count_line (length lines)
+-- objects in the store's order, each with its key
+abbrev pub store_said : (counts : List ℕ → ℕ) → (begun : List ℕ → Option ℕ) → FinalStore → Said
+store_said counts begun f = let k = store_known counts begun f.shown.items in record {
+  key = alike_texts k (objects_in f.shown.items);
+  words = objects_words k (objects_in f.shown.items);
+}
+
+abbrev pub stores_said : (counts : List ℕ → ℕ) → (begun : List ℕ → Option ℕ) → List FinalStore → List Said
+stores_said counts begun found = map (store_said counts begun) found
+
+-- given what lists show of the objects at the beginning
+abbrev pub stores_brief_text : (begun : List Reply) → List FinalStore → List ℕ
+stores_brief_text begun found = brief_text (codes "store") (length found) (stores_said (times_left found) (first_shown begun) found)

@@ -1,7 +1,7 @@
 //! Laws of litmus tests that are read, and of lines for a person.
-ghost use Rattle.std.specs.Prelude.{◌≡◌, ◌<◌, ℕ, [], List, Some, map};
+ghost use Rattle.std.specs.Prelude.{◌≡◌, ◌<◌, ℕ, [], List, Some};
 ghost use Rattle.interleavings.specs.World.{Size};
-ghost use Rattle.outcome_lines.specs.Brief.{AreToldOnce, outcome_words, told_apart};
+ghost use Rattle.outcome_lines.specs.Brief.{AreToldOnce, Said, firsts};
 ghost use Rattle.outcome_lines.specs.Litmus.{litmus_of, parts_of};
 ghost use Rattle.outcomes.specs.Found.{IsOutcome, told};
 ghost use Rattle.outcomes.specs.Outcomes.{MayHappen};
@@ -20,7 +20,7 @@ pub fn what_is_read_happens()
     what_is_explained_happens();
 }
 
-/// Each text of an outcome has one line for a person, with the number of the first outcome that has it.
-pub fn outcomes_are_told_once()
-    ensures { (litmus : Litmus) (found : List Outcome) → AreToldOnce (map (outcome_words litmus) found) (told_apart litmus found) }
+/// Each end has one line for a person, with the number of the first that is the same but for versions and UIDs.
+pub fn ends_are_told_once()
+    ensures { (ends : List Said) → AreToldOnce ends (firsts [] 1 ends) }
 {}

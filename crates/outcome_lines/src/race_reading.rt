@@ -42,7 +42,7 @@ pub fn read_race(alloc: Global, text: &[u8]) -> Result<Race, ScriptError>
 
 /// The race of the first line alone.
 #[tactic(auto, using(scripts::proofs::Readings::fails_bind))]
-fn read_race_opening(
+pub(crate) fn read_race_opening(
     alloc: Global,
     reader: &mut TreeReader,
     line: &[u8],
@@ -82,7 +82,7 @@ fn read_race_lines(
     Ok(race)
 }
 
-fn with_race_line(alloc: Global, race: Race, line: RaceLine) -> Result<Race, ScriptError>
+pub(crate) fn with_race_line(alloc: Global, race: Race, line: RaceLine) -> Result<Race, ScriptError>
     ensures { Reads race_parts result (with_race_line (race_parts race) (line_parts line)) }
 {
     match line {

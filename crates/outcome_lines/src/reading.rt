@@ -37,7 +37,11 @@ pub fn read_litmus(alloc: Global, text: &[u8]) -> Result<Litmus, ScriptError>
 
 /// The litmus test of the first line alone.
 #[tactic(auto, using(scripts::proofs::Readings::fails_bind))]
-fn read_opening(alloc: Global, reader: &mut TreeReader, line: &[u8]) -> Result<Litmus, ScriptError>
+pub(crate) fn read_opening(
+    alloc: Global,
+    reader: &mut TreeReader,
+    line: &[u8],
+) -> Result<Litmus, ScriptError>
     ensures { Reads parts_of result (opened line.now) }
 {
     let members = read_members(reader, line)?;
@@ -72,7 +76,7 @@ fn read_lines(
     Ok(litmus)
 }
 
-fn with_line(litmus: Litmus, line: LitmusLine) -> Result<Litmus, ScriptError>
+pub(crate) fn with_line(litmus: Litmus, line: LitmusLine) -> Result<Litmus, ScriptError>
     ensures { Reads parts_of result (with_line (parts_of litmus) line) }
 {
     match line {

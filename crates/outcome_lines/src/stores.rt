@@ -1,10 +1,10 @@
 // Stores that a race can leave, as lines of JSON.
-ghost use Rattle.std.specs.Prelude.{◌≡◌, ◌++◌, ◌∷◌, [], codes, length, map, IfOk, OnOk};
+ghost use Rattle.std.specs.Prelude.{◌≡◌, ◌++◌, ◌∷◌, [], codes, map, IfOk, OnOk};
 ghost use Rattle.json.specs.Token.{key as key_token};
 ghost use Rattle.json.specs.Tree.{json_tokens};
 ghost use Rattle.serde_json.specs.Data.{array};
 ghost use Rattle.serde_json.specs.Written.{compact_text, outline};
-ghost use Rattle.outcome_lines.specs.Stores.{bare_store_data, count_data, data_of_store, objects_in, revision_in, revision_of, store_data, store_items, stores_text};
+ghost use Rattle.outcome_lines.specs.Stores.{count_data, data_of_store, objects_in, revision_in, revision_of, store_data, store_items, stores_text};
 ghost use Rattle.plain.specs.ValueLines.{text_lines};
 
 use crate::store_objects::write_objects;
@@ -46,7 +46,7 @@ fn write_store(shown: &[Reply], out: &mut Writer) -> Result<(), AllocError>
 {
     out.begin_object()?;
     write_integer_member("revision", revision_in(shown), out)?;
-    write_objects_member(false, shown, out)?;
+    write_objects_member(shown, out)?;
     out.end_object()
 }
 
@@ -71,36 +71,18 @@ fn revision_of(reply: &Reply) -> u64
     }
 }
 
-/// Appends the line of a store without its versions and UIDs.
-pub(crate) fn put_bare_store(shown: &[Reply], out: Vec<u8>) -> Result<Vec<u8>, AllocError>
-    ensures { IfOk result (λ text. text.items ≡ out.items ++ (compact_text (bare_store_data shown.now) ++ 10 ∷ [])) }
-{
-    let mut writer = Writer::new(out);
-    write_bare_store(shown, &mut writer)?;
-    end_line(writer)
-}
-
-fn write_bare_store(shown: &[Reply], out: &mut Writer) -> Result<(), AllocError>
-    ensures tokens { OnOk result (out.new.tokens ≡ out.old.tokens ++ json_tokens (outline (bare_store_data shown.now))) }
-    ensures before { out.new.before ≡ out.old.before }
-{
-    out.begin_object()?;
-    write_objects_member(true, shown, out)?;
-    out.end_object()
-}
-
-fn write_objects_member(bare: bool, shown: &[Reply], out: &mut Writer) -> Result<(), AllocError>
+fn write_objects_member(shown: &[Reply], out: &mut Writer) -> Result<(), AllocError>
     ensures tokens { OnOk result (out.new.tokens ≡ out.old.tokens ++ key_token (codes "store")
-        ∷ json_tokens (outline (array (store_items bare (objects_in shown.now))))) }
+        ∷ json_tokens (outline (array (store_items (objects_in shown.now))))) }
     ensures before { out.new.before ≡ out.old.before }
 {
     out.key("store")?;
     out.begin_array()?;
-    write_objects(bare, shown, out)
+    write_objects(shown, out)
 }
 
 /// Appends the last line.
-pub(crate) fn put_count(count: u64, out: Vec<u8>) -> Result<Vec<u8>, AllocError>
+fn put_count(count: u64, out: Vec<u8>) -> Result<Vec<u8>, AllocError>
     ensures { IfOk result (λ text. text.items ≡ out.items ++ (compact_text (count_data count) ++ 10 ∷ [])) }
 {
     let mut writer = Writer::new(out);

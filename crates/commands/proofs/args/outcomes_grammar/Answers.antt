@@ -1,7 +1,7 @@
 use Rattle.std.proofs.Common.{◌≡◌, ◌∙◌, ap, ap₂, codes}
 use Rattle.std.proofs.lemmas.Result.{IfOk-weaker}
-use Rattle.clap.specs.Words.{app_of, new_app, rule_of, with_rule}
 use Rattle.clap.specs.Simple.{app_of_fields}
+use Rattle.clap.specs.Words.{app_of, new_app, rule_of, with_rule}
 use Rattle.clap.specs.declared.builder.value_parser.ValueParser.TheVariants as parsers
 use Rattle.commands.specs.Grammar.{option_rule}
 use Rattle.commands.proofs.args.outcomes_grammar.Goals as goal
@@ -16,4 +16,5 @@ returns c =
     let brief = c.flag_arg.ensures in
     let two_is = c.in_ok-arg-2.ensures.shape brief.own ∙ ap₂ with_rule one_is brief.rule in
     let final_stores = c.flag_arg-2.ensures in
-    IfOk-weaker c.arg-3.result _ _ (λ r h. h.shape final_stores.own ∙ ap₂ with_rule two_is final_stores.rule) c.arg-3.ensures
+    let three_is = c.in_ok-arg-3.ensures.shape final_stores.own ∙ ap₂ with_rule two_is final_stores.rule in
+    IfOk-weaker c.arg-4.result _ _ (λ r h. h.shape c.where_arg.ensures.own ∙ ap₂ with_rule three_is c.where_arg.ensures.rule) c.arg-4.ensures
