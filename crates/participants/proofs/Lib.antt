@@ -1,0 +1,9 @@
+pub mod Alike
+pub mod Telling
+pub mod Turning
+pub mod Field
+pub mod Hearing
+pub mod Lists
+pub mod Patches
+pub mod Placing
+pub mod Stands
