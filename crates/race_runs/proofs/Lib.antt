@@ -1,0 +1,11 @@
+mod Asking
+mod Behind
+mod Carrying
+mod Ended
+mod Futures
+mod Happening
+mod Incarnations
+mod Machines
+mod Phases
+mod Places
+mod Wholes
