@@ -9,13 +9,16 @@ ghost use Rattle.scripts.specs.Events.{Fails};
 
 use crate::args::OutcomesWords;
 use crate::halt::{Halt, halt_at};
-use controller_outcomes::{FinalStore, Race, final_stores};
+use explorer::{End, Race, ends};
 use objects::Memory;
 use outcome_lines::{
     objects_begun, read_race, refused_race_line, store_script_text, stores_brief_text, stores_text,
 };
 use scripts::ScriptError;
 use std::alloc::Global;
+
+/// How many states a search may have.
+const MAX_STATES: usize = 200_000;
 
 /// The stores that the race of these lines can leave, or the script that leads to the one of the requested number, from
 /// 1.
@@ -83,7 +86,7 @@ fn stores_of(alloc: Global, choice: Option<u64>, brief: bool, race: &Race) -> Re
     ensures refused { IfErr result (λ halt. IfSome (name_of halt) (IsRaceRefusal choice race.now)) }
     ensures read { IfErr result (λ halt. is_read halt ≡ false) }
 {
-    let found = final_stores(alloc, race)?;
+    let found = ends(alloc, race, MAX_STATES)?;
     let text = text_of_stores(alloc, choice, brief, race, found.as_slice());
     drop(found);
     text
@@ -95,7 +98,7 @@ fn text_of_stores(
     choice: Option<u64>,
     brief: bool,
     race: &Race,
-    found: &[FinalStore],
+    found: &[End],
 ) -> Result<Vec<u8>, Halt>
     ensures chosen { IfOk result (λ text. IsChosenStore choice brief race.now found.now text.items) }
     ensures refused { IfErr result (λ halt. IfSome (name_of halt) (IsEndRefusal choice race.now found.now)) }
@@ -108,12 +111,7 @@ fn text_of_stores(
 }
 
 /// The script that leads to the store of that number, from 1.
-fn script_of_store(
-    alloc: Global,
-    number: u64,
-    race: &Race,
-    found: &[FinalStore],
-) -> Result<Vec<u8>, Halt>
+fn script_of_store(alloc: Global, number: u64, race: &Race, found: &[End]) -> Result<Vec<u8>, Halt>
     ensures chosen { IfOk result (λ text. IsChosenStore (Some number) false race.now found.now text.items) }
     ensures refused { IfErr result (λ halt. IfSome (name_of halt) (IsStoreRefusal (Some number) found.now)) }
     ensures read { IfErr result (λ halt. is_read halt ≡ false) }
@@ -124,18 +122,13 @@ fn script_of_store(
     }
 }
 
-fn store_of_number(number: u64, found: &[FinalStore]) -> Option<&FinalStore>
+fn store_of_number(number: u64, found: &[End]) -> Option<&End>
     ensures { option_copied result ≡ store_of number found.now }
 {
     found.get(number.checked_sub(1)? as usize)
 }
 
-fn lines_of_stores(
-    alloc: Global,
-    brief: bool,
-    race: &Race,
-    found: &[FinalStore],
-) -> Result<Vec<u8>, Halt>
+fn lines_of_stores(alloc: Global, brief: bool, race: &Race, found: &[End]) -> Result<Vec<u8>, Halt>
     ensures told { IfOk result (λ text. text.items ≡ stores_lines brief race.now found.now) }
     ensures refused { IfErr result (λ halt. IfSome (name_of halt)
         (λ name. IsBadCapacity race.now.capacity × (name ≡ codes "BadCapacity"))) }

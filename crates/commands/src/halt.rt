@@ -1,6 +1,7 @@
 //! Why a run over a whole input has no output, and its exit status.
 ghost use Rattle.std.specs.Prelude.{◌≡◌, ◌≢◌, ◌<◌, ◌⊎◌, None, Some, false, true};
 ghost use Rattle.commands.specs.Clustering.{cluster_refusal};
+ghost use Rattle.commands.specs.Ending.{ending_refusal};
 ghost use Rattle.commands.specs.Finding.{finding_refusal, scripting_refusal};
 ghost use Rattle.commands.specs.Halts.{IsNamed, Tells, halt_of, is_read, name_of, refused_as};
 ghost use Rattle.commands.specs.Planning.{plan_refusal, read_refusal};
@@ -11,6 +12,7 @@ use crate::status::{
     write_refusal_at,
 };
 use controllers::ClusterFault;
+use explorer::Refusal;
 use history::ReplayError;
 use objects::{Memory, ReadError, Text};
 use outcome_lines::ScriptingError;
@@ -118,6 +120,18 @@ impl From<OutcomesError> for Halt {
             OutcomesError::Memory => Halt::Memory,
             OutcomesError::BadCapacity => Halt::Refused("BadCapacity"),
             OutcomesError::TooManyOutcomes => Halt::Refused("TooManyOutcomes"),
+        }
+    }
+}
+
+impl From<Refusal> for Halt {
+    ghost from_gives = { λ error halt. (is_read halt ≡ false) × (name_of halt ≡ ending_refusal error) };
+
+    fn from(error: Refusal) -> Halt {
+        match error {
+            Refusal::Memory => Halt::Memory,
+            Refusal::BadCapacity => Halt::Refused("BadCapacity"),
+            Refusal::TooManyOutcomes => Halt::Refused("TooManyOutcomes"),
         }
     }
 }

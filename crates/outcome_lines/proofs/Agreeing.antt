@@ -1,7 +1,7 @@
 -- What is known of objects by numbers that agree.
 use Rattle.std.proofs.Common.{◌∙◌, ◌≡◌, ℕ, List, Option, ap}
 use mathlib.Core.Path.{fun_ext}
-use Rattle.controller_outcomes.specs.declared.race.FinalStore.{FinalStore}
+use Rattle.explorer.specs.declared.race.End.{End}
 use Rattle.outcomes.specs.declared.litmus.Litmus.{Litmus}
 use Rattle.outcomes.specs.declared.outcome.Outcome.{Outcome}
 use Rattle.outcome_lines.specs.Brief.{brief_text, outcomes_said}
@@ -23,7 +23,7 @@ outcomes_same l found noun all f g p q counts firsts text is =
     is ∙ ap (λ h. brief_text noun all (outcomes_said h p l found)) (fun_ext counts)
     ∙ ap (λ h. brief_text noun all (outcomes_said g h l found)) (fun_ext firsts)
 
-pub stores_same : (found : List FinalStore) (noun : List ℕ) (all : ℕ) (f g : List ℕ → ℕ) (p q : List ℕ → Option ℕ) → ((t : List ℕ) → f t ≡ g t) → ((t : List ℕ) → p t ≡ q t)
+pub stores_same : (found : List End) (noun : List ℕ) (all : ℕ) (f g : List ℕ → ℕ) (p q : List ℕ → Option ℕ) → ((t : List ℕ) → f t ≡ g t) → ((t : List ℕ) → p t ≡ q t)
     → (text : List ℕ) → text ≡ brief_text noun all (stores_said f p found) → text ≡ brief_text noun all (stores_said g q found)
 stores_same found noun all f g p q counts firsts text is =
     is ∙ ap (λ h. brief_text noun all (stores_said h p found)) (fun_ext counts)

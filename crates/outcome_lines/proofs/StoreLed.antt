@@ -1,6 +1,8 @@
 -- What is tested of the script that leads to a store holds.
-use Rattle.std.proofs.Common.{◌≡◌, ◌⊎◌, inl, inr, ℕ, Bool, true, false, ◌==◌, ◌&&◌, ◌||◌, List, [], ◌∷◌, ◌++◌, length, map, Option, Some, None, suc, refl, sym, ap, ◌∙◌}
-use Rattle.std.specs.Prelude.{bytes_eq}
+use Rattle.std.proofs.Common.{◌≡◌, ◌⊎◌, inl, inr, ◌<◌, ℕ, zero, Bool, true, false, ◌==◌, ◌&&◌, ◌||◌, List, [], ◌∷◌, ◌++◌, length, map, drop, get_or, Option, Some, None, suc, refl, sym, ap, ◌∙◌, arith}
+use Rattle.std.specs.Prelude.{bytes_eq, option_and_then, if◌then◌else◌}
+use Rattle.std.proofs.lemmas.List.{append-nil}
+use Rattle.std.proofs.lemmas.Option.{same_Some}
 use Rattle.std.proofs.lemmas.Bool.{and_parts}
 use Rattle.std.proofs.lemmas.Bool.Decides.{Decides-eqb}
 use Rattle.std.proofs.lemmas.Slice.Eq.{bytes_eq-Decides}
@@ -11,16 +13,17 @@ use Rattle.cluster_runs.specs.Ran.{IsClusterRun}
 use Rattle.cluster_runs.specs.declared.run.ClusterRun.{ClusterRun}
 use Rattle.cluster_runs.specs.declared.turn.Turn.{Turn}
 use Rattle.cluster_runs.specs.declared.turn.Turn.TheVariants as turn
-use Rattle.scripts.specs.Sets.{set_parts}
+use Rattle.scripts.specs.Sets.{SetParts, set_parts}
 use Rattle.scripts.specs.declared.cluster_script.ClusterScript.{ClusterScript}
 use Rattle.controllers.specs.Cluster.{reconciler_named, size_of}
 use Rattle.controllers.specs.declared.set_spec.SetSpec.{SetSpec}
-use Rattle.controller_outcomes.specs.declared.race.Race.{Race}
-use Rattle.controller_outcomes.specs.declared.race.Racer.{Racer}
+use Rattle.explorer.specs.declared.race.Race.{Race}
+use Rattle.participants.specs.declared.participant.Participant.{Participant}
+use Rattle.participants.specs.declared.participant.Participant.TheVariants.{Caller, Controller, Kubelet}
 use Rattle.interleavings.specs.declared.trace.Item.{Item}
 use Rattle.outcomes.specs.Outcomes.{Exchange, exchanges_by}
 use Rattle.outcome_lines.specs.Same.{same_request}
-use Rattle.outcome_lines.specs.StoreScripts.{LeadsTo, answered_by, are_looks, are_sets_of, asks_of, ends_with_looks, events_by, is_look, is_none, is_of_race, is_told, is_told_just, is_told_last, same_set}
+use Rattle.outcome_lines.specs.StoreScripts.{LeadsTo, again_behind, all_behind, answered_by, are_looks, are_sets_of, asks_of, ends_with_looks, events_by, is_look, is_none, is_of_race, is_told, is_nothing, is_told_just, is_told_last, same_set, set_behind, sets_again, sets_behind, sets_in}
 use Rattle.outcome_lines.proofs.Sameness.{requests_equal}
 
 -- ---- the sets
@@ -38,12 +41,59 @@ set_equal s t is =
     ∙ ap (λ x. record (set_parts s) { digits = x; moment = t.moment }) digits
     ∙ ap (λ x. record (set_parts s) { moment = x }) moments
 
-sets_equal : (racers : List Racer) (sets : List SetSpec) → are_sets_of racers sets ≡ true → map set_parts sets ≡ map set_parts (map (λ (r : Racer). r.set) racers)
-sets_equal [] [] is = refl
-sets_equal (r ∷ racers) (s ∷ sets) is =
-    let parts = and_parts (same_set r.set s) (are_sets_of racers sets) is in
-    ap (λ x. x ∷ map set_parts sets) (set_equal r.set s parts.0) ∙ ap (λ xs. set_parts r.set ∷ xs) (sets_equal racers sets parts.1)
-sets_equal racers sets is = cc
+first_equal : (set : SetSpec) (sets behind : List SetSpec) → set_behind set sets ≡ Some behind → map set_parts sets ≡ set_parts set ∷ map set_parts behind
+first_equal set [] behind is = absurd cc
+first_equal set (s ∷ sets) behind is = by (same_set set s) refl
+  where
+    by : (b : Bool) → same_set set s ≡ b → map set_parts (s ∷ sets) ≡ set_parts set ∷ map set_parts behind
+    by true same =
+        let rest : sets ≡ behind = same_Some sets behind (sym (ap (λ b. if b then Some sets else None) same) ∙ is) in
+        ap (λ x. x ∷ map set_parts sets) (set_equal set s same) ∙ ap (λ xs. set_parts set ∷ map set_parts xs) rest
+    by false differs = let clash : None ≡ Some behind = sym (ap (λ b. if b then Some sets else None) differs) ∙ is in absurd cc
+
+nothing_behind : (participants : List Participant) → all_behind participants None ≡ None
+nothing_behind [] = refl
+nothing_behind (q ∷ participants) = nothing_behind participants
+
+pub none_at : (participants : List Participant) (i : ℕ) (q : Participant) (left : List SetSpec) → i < length participants → q ≡ get_or participants i q → sets_behind q left ≡ None
+    → all_behind (drop i participants) (Some left) ≡ None
+none_at [] i q left inside is none = absurd (omega (arith, inside))
+none_at (p ∷ participants) zero q left inside is none = ap (all_behind participants) (ap (λ v. sets_behind v left) (sym is) ∙ none) ∙ nothing_behind participants
+none_at (p ∷ participants) (suc i) q left inside is none = none_at participants i q left (omega (arith, inside)) is none
+
+-- the sets of one who races come first
+one_equal : (q : Participant) (participants : List Participant) (sets behind : List SetSpec) (rest : List SetParts) → sets_behind q sets ≡ Some behind
+    → map set_parts behind ≡ map set_parts (sets_in participants) ++ rest → map set_parts sets ≡ map set_parts (sets_in (q ∷ participants)) ++ rest
+one_equal (Caller c) participants sets behind rest is later = ap (map set_parts) (same_Some sets behind is) ∙ later
+one_equal (Kubelet namespace turns may_crash) participants sets behind rest is later = ap (map set_parts) (same_Some sets behind is) ∙ later
+one_equal (Controller set rounds may_crash) participants sets behind rest is later = by (set_behind set sets) refl
+  where
+    again : (b : Bool) (next : List SetSpec) → again_behind set b next ≡ Some behind → set_behind set sets ≡ Some next → map set_parts sets ≡ map set_parts (sets_again set b (sets_in participants)) ++ rest
+    again true next same first = first_equal set sets next first ∙ ap (λ xs. set_parts set ∷ xs) (first_equal set next behind same ∙ ap (λ xs. set_parts set ∷ xs) later)
+    again false next same first = first_equal set sets next first ∙ ap (λ xs. set_parts set ∷ xs) (ap (map set_parts) (same_Some next behind same) ∙ later)
+
+    by : (o : Option (List SetSpec)) → set_behind set sets ≡ o → map set_parts sets ≡ map set_parts (sets_in (Controller set rounds may_crash ∷ participants)) ++ rest
+    by None none = let clash : None ≡ Some behind = sym (ap (option_and_then (again_behind set may_crash)) none) ∙ is in absurd cc
+    by (Some next) first = again may_crash next (sym (ap (option_and_then (again_behind set may_crash)) first) ∙ is) first
+
+all_equal : (participants : List Participant) (sets behind : List SetSpec) → all_behind participants (Some sets) ≡ Some behind
+    → map set_parts sets ≡ map set_parts (sets_in participants) ++ map set_parts behind
+all_equal [] sets behind is = ap (map set_parts) (same_Some sets behind is)
+all_equal (q ∷ participants) sets behind is = by (sets_behind q sets) refl (λ next later. all_equal participants next behind later)
+  where
+    by : (o : Option (List SetSpec)) → sets_behind q sets ≡ o
+        → ((next : List SetSpec) → all_behind participants (Some next) ≡ Some behind → map set_parts next ≡ map set_parts (sets_in participants) ++ map set_parts behind)
+        → map set_parts sets ≡ map set_parts (sets_in (q ∷ participants)) ++ map set_parts behind
+    by None none ih = let clash : None ≡ Some behind = sym (nothing_behind participants) ∙ sym (ap (all_behind participants) none) ∙ is in absurd cc
+    by (Some next) first ih = one_equal q participants sets next (map set_parts behind) first (ih next (sym (ap (all_behind participants) first) ∙ is))
+
+sets_equal : (participants : List Participant) (sets : List SetSpec) → are_sets_of participants sets ≡ true → map set_parts sets ≡ map set_parts (sets_in participants)
+sets_equal participants sets is = by (all_behind participants (Some sets)) refl
+  where
+    by : (o : Option (List SetSpec)) → all_behind participants (Some sets) ≡ o → map set_parts sets ≡ map set_parts (sets_in participants)
+    by None none = let clash : false ≡ true = sym (ap is_nothing none) ∙ is in absurd cc
+    by (Some []) none = all_equal participants sets [] none ∙ append-nil (map set_parts (sets_in participants))
+    by (Some (s ∷ more)) some = let clash : false ≡ true = sym (ap is_nothing some) ∙ is in absurd cc
 
 -- ---- the last turns
 look_equal : (c : ℕ) (l : Request) (t : Turn) → is_look c l t ≡ true → t ≡ turn.Ask c l
@@ -120,13 +170,13 @@ pub leads : (race : Race) (shown : List Reply) (looker : ℕ) (script : ClusterS
     → IsClusterRun (size_of script.spec) (length script.spec.sets.items) (reconciler_named script.spec.sets.items) (events_by script) found
     → is_told_last race.beginning.items (exchanges_by looker found.run.trace.items.items) race.looks.items shown ≡ true → LeadsTo race shown script
 leads race shown looker script found of run told =
-    let second = and_parts (script.spec.capacity == race.capacity && are_sets_of race.racers.items script.spec.sets.items)
+    let second = and_parts (script.spec.capacity == race.capacity && are_sets_of race.participants.items script.spec.sets.items)
     (ends_with_looks looker race.looks.items script.turns.items) of in
-    let first = and_parts (script.spec.capacity == race.capacity) (are_sets_of race.racers.items script.spec.sets.items) second.0 in
+    let first = and_parts (script.spec.capacity == race.capacity) (are_sets_of race.participants.items script.spec.sets.items) second.0 in
     let ends = turns_end looker race.looks.items script.turns.items second.1 in
     let last = last_told race.beginning.items (exchanges_by looker found.run.trace.items.items) race.looks.items shown told in record {
       capacity = (Decides-eqb script.spec.capacity race.capacity).0 first.0;
-      sets = sets_equal race.racers.items script.spec.sets.items first.1;
+      sets = sets_equal race.participants.items script.spec.sets.items first.1;
       looker = looker;
       others = ends.0;
       last = ends.1;

@@ -11,7 +11,11 @@ use Rattle.plain_store.specs.Store.{opening}
 use Rattle.requests.specs.declared.reply.Reply.{Reply}
 use Rattle.requests.specs.declared.request.Request.{Request}
 use Rattle.requests.specs.declared.request.Request.TheVariants as request
-use Rattle.controller_outcomes.specs.declared.race.Racer.{Racer}
+use Rattle.participants.specs.declared.caller.Ask.{Ask}
+use Rattle.participants.specs.declared.caller.Asked.{Asked}
+use Rattle.participants.specs.declared.caller.Asked.TheVariants as asked
+use Rattle.participants.specs.declared.participant.Participant.{Participant}
+use Rattle.participants.specs.declared.participant.Participant.TheVariants.{Caller, Controller, Kubelet}
 
 -- ---- namespaces, each once
 
@@ -28,10 +32,24 @@ abbrev pub namespaces_by : (names : List (List ℕ)) → List Request → List (
 namespaces_by names [] = names
 namespaces_by names (r ∷ requests) = namespaces_by (with_created names r) requests
 
--- the namespaces of the controllers' sets
-abbrev pub named_by : (names : List (List ℕ)) → List Racer → List (List ℕ)
+-- the namespaces in which a caller creates
+abbrev pub with_sent : (names : List (List ℕ)) → Asked → List (List ℕ)
+with_sent names (asked.Request r) = with_created names r
+with_sent names (asked.Last verb patch) = names
+
+abbrev pub sent_by : (names : List (List ℕ)) → List Ask → List (List ℕ)
+sent_by names [] = names
+sent_by names (a ∷ asks) = sent_by (with_sent names a.asked) asks
+
+-- the namespaces of one who races
+abbrev pub with_named : (names : List (List ℕ)) → Participant → List (List ℕ)
+with_named names (Caller c) = sent_by names c.asks.items
+with_named names (Controller set rounds may_crash) = with_name names set.namespace
+with_named names (Kubelet namespace turns may_crash) = with_name names namespace
+
+abbrev pub named_by : (names : List (List ℕ)) → List Participant → List (List ℕ)
 named_by names [] = names
-named_by names (r ∷ racers) = named_by (with_name names r.set.namespace) racers
+named_by names (q ∷ participants) = named_by (with_named names q) participants
 
 -- ---- lists
 
@@ -43,8 +61,8 @@ abbrev pub lists_in : (namespaces : List (List ℕ)) → List Request
 lists_in names = ((map (list_of StatefulSet) names ++ map (list_of Pod) names) ++ map (list_of PersistentVolumeClaim) names) ++ map (list_of ControllerRevision) names
 
 -- in the order in which the store keeps what is listed: by kind, then by namespace
-abbrev pub looks_of : (beginning : List Request) → List Racer → List Request
-looks_of beginning racers = lists_in (named_by (namespaces_by [] beginning) racers)
+abbrev pub looks_of : (beginning : List Request) → List Participant → List Request
+looks_of beginning participants = lists_in (named_by (namespaces_by [] beginning) participants)
 
 -- lists of all objects that a store has after these requests
 abbrev pub objects_begun : (capacity : ℕ) → List Request → List Reply

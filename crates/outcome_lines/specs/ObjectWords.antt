@@ -10,7 +10,10 @@ use Rattle.objects.specs.Kind.{kind_name}
 use Rattle.objects.specs.ShardOf.{key_text}
 use Rattle.objects.specs.declared.object.Object.{Object}
 use Rattle.outcome_lines.specs.declared.known.KnownNumbers.{KnownNumbers}
-pub use Rattle.controller_outcomes.specs.Numbers.{lists_in}
+
+abbrev pub lists_in : List (Vec ℕ) → List (List ℕ)
+lists_in [] = []
+lists_in (v ∷ vs) = v.items ∷ lists_in vs
 
 -- ---- the members of an object
 

@@ -1,5 +1,5 @@
 -- The script of `stsctl cluster` that leads to a store that a race can leave.
-use Rattle.std.specs.Prelude.{◌≡◌, ℕ, Bool, true, false, ◌==◌, ◌&&◌, ◌||◌, bytes_eq, List, [], ◌∷◌, ◌++◌, length, map, Option, Some, None}
+use Rattle.std.specs.Prelude.{◌≡◌, ℕ, Bool, true, false, ◌==◌, ◌&&◌, ◌||◌, bytes_eq, List, [], ◌∷◌, ◌++◌, length, map, Option, Some, None, option_and_then, if◌then◌else◌}
 use Rattle.requests.specs.declared.reply.Reply.{Reply}
 use Rattle.requests.specs.declared.request.Request.{Request}
 use Rattle.requests.specs.Same.{same_reply}
@@ -16,9 +16,9 @@ use Rattle.scripts.specs.Sets.{set_parts}
 use Rattle.scripts.specs.declared.cluster_script.ClusterScript.{ClusterScript}
 use Rattle.controllers.specs.Cluster.{namespaces_of, reconciler_named, size_of}
 use Rattle.controllers.specs.declared.set_spec.SetSpec.{SetSpec}
-use Rattle.controller_outcomes.specs.Races.{sets_of}
-use Rattle.controller_outcomes.specs.declared.race.Race.{Race}
-use Rattle.controller_outcomes.specs.declared.race.Racer.{Racer}
+use Rattle.participants.specs.declared.participant.Participant.{Participant}
+use Rattle.participants.specs.declared.participant.Participant.TheVariants.{Caller, Controller, Kubelet}
+use Rattle.explorer.specs.declared.race.Race.{Race}
 use Rattle.outcomes.specs.Outcomes.{Exchange, exchanges_by}
 use Rattle.outcome_lines.specs.Same.{same_request}
 use Rattle.outcome_lines.specs.declared.fault.ScriptingError.{ScriptingError}
@@ -38,11 +38,22 @@ answered_by (l ∷ looks) (s ∷ shown) = record { request = l; reply = Some s }
 abbrev pub events_by : ClusterScript → List ClusterEvent
 events_by script = events_of_turns (size_of script.spec) (length script.spec.sets.items) (reconciler_named script.spec.sets.items) (namespaces_of script.spec.sets.items) script.turns.items
 
+-- the sets of the controllers: that of one that may crash twice, before the crash and after it
+abbrev pub sets_again : SetSpec → (may_crash : Bool) → List SetSpec → List SetSpec
+sets_again set true sets = set ∷ (set ∷ sets)
+sets_again set false sets = set ∷ sets
+
+abbrev pub sets_in : List Participant → List SetSpec
+sets_in [] = []
+sets_in (Caller c ∷ participants) = sets_in participants
+sets_in (Controller set rounds may_crash ∷ participants) = sets_again set may_crash (sets_in participants)
+sets_in (Kubelet namespace turns may_crash ∷ participants) = sets_in participants
+
 -- The script is of a store of the race's capacity, and of controllers of its sets. It ends with the looks of a caller,
 -- and the last replies to that caller in its run are what the store shows.
 pub record LeadsTo (race : Race) (shown : List Reply) (script : ClusterScript) : Type 0 where
   pub capacity : script.spec.capacity ≡ race.capacity
-  pub sets : map set_parts script.spec.sets.items ≡ map set_parts (sets_of race)
+  pub sets : map set_parts script.spec.sets.items ≡ map set_parts (sets_in race.participants.items)
   pub looker : ℕ
   pub others : List Turn
   pub last : script.turns.items ≡ others ++ asks_of looker race.looks.items
@@ -63,10 +74,31 @@ pub record ShowsStore (race : Race) (shown : List Reply) (text : List ℕ) : Typ
 abbrev pub same_set : SetSpec → SetSpec → Bool
 same_set s t = bytes_eq s.namespace t.namespace && bytes_eq s.name t.name && s.digits == t.digits && bytes_eq s.moment t.moment
 
-abbrev pub are_sets_of : List Racer → List SetSpec → Bool
-are_sets_of [] [] = true
-are_sets_of (r ∷ racers) (s ∷ sets) = same_set r.set s && are_sets_of racers sets
-are_sets_of racers sets = false
+-- what is left of the sets behind that one
+abbrev pub set_behind : SetSpec → List SetSpec → Option (List SetSpec)
+set_behind set [] = None
+set_behind set (s ∷ sets) = if same_set set s then Some sets else None
+
+abbrev pub again_behind : SetSpec → (may_crash : Bool) → List SetSpec → Option (List SetSpec)
+again_behind set true sets = set_behind set sets
+again_behind set false sets = Some sets
+
+abbrev pub sets_behind : Participant → List SetSpec → Option (List SetSpec)
+sets_behind (Caller c) sets = Some sets
+sets_behind (Controller set rounds may_crash) sets = option_and_then (again_behind set may_crash) (set_behind set sets)
+sets_behind (Kubelet namespace turns may_crash) sets = Some sets
+
+abbrev pub all_behind : List Participant → Option (List SetSpec) → Option (List SetSpec)
+all_behind [] sets = sets
+all_behind (q ∷ participants) sets = all_behind participants (option_and_then (sets_behind q) sets)
+
+abbrev pub is_nothing : Option (List SetSpec) → Bool
+is_nothing None = false
+is_nothing (Some []) = true
+is_nothing (Some (s ∷ sets)) = false
+
+abbrev pub are_sets_of : List Participant → List SetSpec → Bool
+are_sets_of participants sets = is_nothing (all_behind participants (Some sets))
 
 abbrev pub is_look : (caller : ℕ) → (look : Request) → Turn → Bool
 is_look c look (turn.Ask caller request) = caller == c && same_request request look
@@ -100,7 +132,7 @@ is_told_last (r ∷ rs) [] looks shown = false
 is_told_last (r ∷ rs) (x ∷ xs) looks shown = is_told_last rs xs looks shown
 
 abbrev pub is_of_race : Race → (looker : ℕ) → ClusterScript → Bool
-is_of_race race looker script = script.spec.capacity == race.capacity && are_sets_of race.racers.items script.spec.sets.items
+is_of_race race looker script = script.spec.capacity == race.capacity && are_sets_of race.participants.items script.spec.sets.items
     && ends_with_looks looker race.looks.items script.turns.items
 
 abbrev pub cluster_fault : ClusterFault → ScriptingError

@@ -8,7 +8,7 @@ use Rattle.objects.specs.Text.{printed}
 use Rattle.requests.specs.declared.reply.Reply.{Reply}
 use Rattle.requests.specs.declared.reply.Reply.TheVariants.{Created, Found, Listed, Updated, Unchanged, Marked, Removed, Compacted, Refused}
 use Rattle.plain.specs.ValueLines.{text_lines}
-use Rattle.controller_outcomes.specs.declared.race.FinalStore.{FinalStore}
+use Rattle.explorer.specs.declared.race.End.{End}
 use Rattle.outcome_lines.specs.Brief.{Said, alike_texts, brief_text, first_shown, times_shown}
 use Rattle.outcome_lines.specs.ObjectWords.{Known, kind_words}
 
@@ -63,10 +63,10 @@ store_data shown =
 abbrev pub count_data : ℕ → Data
 count_data n = object (member (codes "stores") (number (unsigned n)) no_members)
 
-abbrev pub data_of_store : FinalStore → Data
-data_of_store f = store_data f.shown.items
+abbrev pub data_of_store : End → Data
+data_of_store f = store_data f.looks.items
 
-abbrev pub stores_text : List FinalStore → List ℕ
+abbrev pub stores_text : List End → List ℕ
 stores_text found = text_lines (map data_of_store found) ++ (compact_text (count_data (length found)) ++ 10 ∷ [])
 
 -- ---- in words
@@ -81,23 +81,23 @@ objects_words k [] = codes " no object"
 objects_words k (o ∷ os) = kinds_words k (codes " ") (o ∷ os)
 
 -- of how many of the objects of these stores a text is true
-abbrev pub times_left : List FinalStore → List ℕ → ℕ
+abbrev pub times_left : List End → List ℕ → ℕ
 times_left [] t = 0
-times_left (f ∷ found) t = times_shown f.shown.items t + times_left found t
+times_left (f ∷ found) t = times_shown f.looks.items t + times_left found t
 
 abbrev pub store_known : (counts : List ℕ → ℕ) → (begun : List ℕ → Option ℕ) → List Reply → Known
 store_known counts begun shown = record { counts = counts; begun = begun; here = first_shown shown }
 
 -- objects in the store's order, each with its key
-abbrev pub store_said : (counts : List ℕ → ℕ) → (begun : List ℕ → Option ℕ) → FinalStore → Said
-store_said counts begun f = let k = store_known counts begun f.shown.items in record {
-  key = alike_texts k (objects_in f.shown.items);
-  words = objects_words k (objects_in f.shown.items);
+abbrev pub store_said : (counts : List ℕ → ℕ) → (begun : List ℕ → Option ℕ) → End → Said
+store_said counts begun f = let k = store_known counts begun f.looks.items in record {
+  key = alike_texts k (objects_in f.looks.items);
+  words = objects_words k (objects_in f.looks.items);
 }
 
-abbrev pub stores_said : (counts : List ℕ → ℕ) → (begun : List ℕ → Option ℕ) → List FinalStore → List Said
+abbrev pub stores_said : (counts : List ℕ → ℕ) → (begun : List ℕ → Option ℕ) → List End → List Said
 stores_said counts begun found = map (store_said counts begun) found
 
 -- given what lists show of the objects at the beginning
-abbrev pub stores_brief_text : (begun : List Reply) → List FinalStore → List ℕ
+abbrev pub stores_brief_text : (begun : List Reply) → List End → List ℕ
 stores_brief_text begun found = brief_text (codes "store") (length found) (stores_said (times_left found) (first_shown begun) found)

@@ -11,7 +11,7 @@ use crate::marks::put_kind_and_name;
 use crate::numbers::Numbers;
 use crate::store_objects::listed_in;
 use crate::told::{count_shown, firsts_shown};
-use controller_outcomes::FinalStore;
+use explorer::End;
 use objects::Object;
 use plain::Reply;
 use std::alloc::{AllocError, Global};
@@ -25,7 +25,7 @@ use std::alloc::{AllocError, Global};
 pub fn stores_brief_text(
     alloc: Global,
     begun: &[Reply],
-    found: &[FinalStore],
+    found: &[End],
 ) -> Result<Vec<u8>, AllocError>
     ensures { IfOk result (λ text. text.items ≡ stores_brief_text begun.now found.now) }
 {
@@ -35,12 +35,12 @@ pub fn stores_brief_text(
 }
 
 /// Of how many of the objects of the stores each text is true.
-fn counts_of(alloc: Global, found: &[FinalStore]) -> Result<Numbers, AllocError>
+fn counts_of(alloc: Global, found: &[End]) -> Result<Numbers, AllocError>
     ensures { IfOk result (λ counts. (t : List ℕ) → times_in counts.entries t ≡ times_left found.now t) }
 {
     let mut counts = Numbers::new(alloc);
     for store in found {
-        count_shown(alloc, store.shown.as_slice(), &mut counts)?;
+        count_shown(alloc, store.looks.as_slice(), &mut counts)?;
     }
     Ok(counts)
 }
@@ -49,7 +49,7 @@ fn text_by(
     alloc: Global,
     counts: &Numbers,
     begun: &Numbers,
-    found: &[FinalStore],
+    found: &[End],
 ) -> Result<Vec<u8>, AllocError>
     ensures { IfOk result (λ text. text.items
         ≡ brief_text (codes "store") (length found.now) (stores_said (times_in counts.now.entries) (number_in begun.now.entries) found.now)) }
@@ -81,7 +81,7 @@ fn put_store(
     counts: &Numbers,
     begun: &Numbers,
     number: usize,
-    store: &FinalStore,
+    store: &End,
     seen: &mut Keys,
     out: &mut Vec<u8>,
 ) -> Result<bool, AllocError>
@@ -92,7 +92,7 @@ fn put_store(
     ensures line { let said = store_said (times_in counts.now.entries) (number_in begun.now.entries) store.now in
         IfOk result (λ new. out.new.items ≡ out.old.items ++ (if new then brief_line number said.words else [])) }
 {
-    let shown = store.shown.as_slice();
+    let shown = store.looks.as_slice();
     let objects = objects_in(alloc, shown)?;
     let key = key_of(alloc, counts, begun, shown, objects.as_slice())?;
     if !note_key(key, seen)? {

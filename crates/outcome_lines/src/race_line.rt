@@ -1,20 +1,20 @@
 // The lines of a race of controllers after the first.
 ghost use Rattle.std.specs.Prelude.{◌≡◌};
-ghost use Rattle.outcome_lines.specs.Race.{begun_by, begun_in, line_parts, race_line_in, race_line_of, racer_in, racer_parts};
+ghost use Rattle.outcome_lines.specs.Race.{begun_by, begun_in, controller_in, line_parts, participant_parts, race_line_in, race_line_of};
 ghost use Rattle.scripts.specs.Events.{Reads};
 
 use crate::line::{LitmusLine, crash_in, line_in};
-use controller_outcomes::Racer;
 use objects::{Members, TreeReader};
+use participants::Participant;
 use plain::Request;
 use scripts::{ScriptError, count_in, read_members, set_of};
 use std::alloc::Global;
 
-/// A request of the beginning, or a racing controller.
+/// A request of the beginning, or one who races.
 #[derive(Drop)]
 pub(crate) enum RaceLine {
     Before(Request),
-    Controller(Racer),
+    Races(Participant),
 }
 
 /// The request or the controller of a line.
@@ -35,7 +35,7 @@ fn race_line_in(alloc: Global, members: Members) -> Result<RaceLine, ScriptError
     ensures { Reads line_parts result (race_line_in members) }
 {
     if members.get("controller").is_some() {
-        Ok(RaceLine::Controller(racer_in(alloc, &members)?))
+        Ok(RaceLine::Races(controller_in(alloc, &members)?))
     } else {
         begun_in(alloc, members)
     }
@@ -43,8 +43,8 @@ fn race_line_in(alloc: Global, members: Members) -> Result<RaceLine, ScriptError
 
 /// The controller that a line names, its rounds, and whether it may crash.
 #[tactic(auto, using(scripts::proofs::Readings::fails_bind))]
-fn racer_in(alloc: Global, members: &Members) -> Result<Racer, ScriptError>
-    ensures { Reads racer_parts result (racer_in members.now) }
+fn controller_in(alloc: Global, members: &Members) -> Result<Participant, ScriptError>
+    ensures { Reads participant_parts result (controller_in members.now) }
 {
     let Some(rounds) = count_in(members, "rounds") else {
         return Err(ScriptError::BadScript);
@@ -56,7 +56,7 @@ fn racer_in(alloc: Global, members: &Members) -> Result<Racer, ScriptError>
         return Err(ScriptError::BadScript);
     };
     let set = set_of(alloc, controller)?;
-    Ok(Racer {
+    Ok(Participant::Controller {
         set,
         rounds,
         may_crash,

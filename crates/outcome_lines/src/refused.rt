@@ -10,7 +10,7 @@ use crate::line::read_line;
 use crate::race_line::read_race_line;
 use crate::race_reading::{read_race_opening, with_race_line};
 use crate::reading::{read_opening, with_line};
-use controller_outcomes::Race;
+use explorer::Race;
 use objects::{Memory, TreeReader};
 use outcomes::Litmus;
 use plain::split_line;
@@ -138,5 +138,5 @@ fn with_next_of_race(
     ensures { Reads race_parts result (next_race (race_parts race) line.now) }
 {
     let said = read_race_line(alloc, reader, line)?;
-    with_race_line(alloc, race, said)
+    with_race_line(race, said)
 }

@@ -4,31 +4,27 @@ ghost use Rattle.outcome_lines.specs.StoreScripts.{LeadsTo, ShowsStore, is_of_ra
 
 use crate::fault::ScriptingError;
 use crate::last_told::{ends_with_looks, is_told_last};
-use crate::race_script::script_of_race;
+use crate::race_script::{controllers_of, script_of_race};
 use crate::same_sets::are_sets_of;
-use controller_outcomes::{FinalStore, Race};
 use controllers::run_turns;
+use explorer::{End, Race};
 use plain::Reply;
 use scripts::{ClusterScript, read_cluster_script};
 use std::alloc::Global;
 
 /// The script of `stsctl cluster` that leads to a store that the race can leave, over one shard. A caller sends the
-/// beginning, then the controllers send requests in the order of the store, and last the caller sends the looks. Before
+/// beginning, then the controllers send requests in the order of the end, and last the caller sends the looks. Before
 /// the script is returned, the replies to these are compared with what the store shows.
 ///
 /// # Errors
 ///
 /// `NoScript` if they differ or the script cannot be read, for example because a line of it is too long.
-pub fn store_script_text(
-    alloc: Global,
-    race: &Race,
-    store: &FinalStore,
-) -> Result<Vec<u8>, ScriptingError>
-    ensures { IfOk result (λ text. ShowsStore race.now store.now.shown.items text.items) }
+pub fn store_script_text(alloc: Global, race: &Race, end: &End) -> Result<Vec<u8>, ScriptingError>
+    ensures { IfOk result (λ text. ShowsStore race.now end.now.looks.items text.items) }
 {
-    let looker = race.racers.len() as u64;
-    let text = script_of_race(alloc, race, store.order.as_slice(), looker)?;
-    if is_script_to(alloc, race, store.shown.as_slice(), looker, text.as_slice())? {
+    let looker = controllers_of(race.participants.as_slice()) as u64;
+    let text = script_of_race(alloc, race, end.order.as_slice(), looker)?;
+    if is_script_to(alloc, race, end.looks.as_slice(), looker, text.as_slice())? {
         Ok(text)
     } else {
         Err(ScriptingError::NoScript)
@@ -80,6 +76,6 @@ fn is_of_race(race: &Race, looker: u64, script: &ClusterScript) -> bool
     ensures { result ≡ is_of_race race.now looker script.now }
 {
     script.spec.capacity == race.capacity
-        && are_sets_of(race.racers.as_slice(), script.spec.sets.as_slice())
+        && are_sets_of(race.participants.as_slice(), script.spec.sets.as_slice())
         && ends_with_looks(looker, race.looks.as_slice(), script.turns.as_slice())
 }

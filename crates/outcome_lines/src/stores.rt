@@ -8,26 +8,26 @@ ghost use Rattle.outcome_lines.specs.Stores.{count_data, data_of_store, objects_
 ghost use Rattle.plain.specs.ValueLines.{text_lines};
 
 use crate::store_objects::write_objects;
-use controller_outcomes::FinalStore;
+use explorer::End;
 use json::Writer;
 use plain::{Reply, end_line, write_integer_member};
 use std::alloc::{AllocError, Global};
 
 /// The lines of the stores that a race can leave: `{"revision":V,"store":[OBJECT,..]}` for each, V the newest revision
 /// of the store, with its objects in the store's order as replies of `serve` show them; and last `{"stores":K}`.
-pub fn stores_text(alloc: Global, found: &[FinalStore]) -> Result<Vec<u8>, AllocError>
+pub fn stores_text(alloc: Global, found: &[End]) -> Result<Vec<u8>, AllocError>
     ensures { IfOk result (λ text. text.items ≡ stores_text found.now) }
 {
     let lines = put_stores(found, Vec::new(alloc))?;
     put_count(found.len() as u64, lines)
 }
 
-fn put_stores(found: &[FinalStore], out: Vec<u8>) -> Result<Vec<u8>, AllocError>
+fn put_stores(found: &[End], out: Vec<u8>) -> Result<Vec<u8>, AllocError>
     ensures { IfOk result (λ text. text.items ≡ out.items ++ text_lines (map data_of_store found.now)) }
 {
     let mut text = out;
     for store in found {
-        text = put_store(store.shown.as_slice(), text)?;
+        text = put_store(store.looks.as_slice(), text)?;
     }
     Ok(text)
 }

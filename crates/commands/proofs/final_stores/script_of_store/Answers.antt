@@ -1,5 +1,13 @@
 use Rattle.std.proofs.Common.{sym}
+use Rattle.commands.specs.Halts.{name_of}
+use Rattle.commands.proofs.Ended.{no_script}
+use Rattle.commands.proofs.Replayed.{error_has}
 use Rattle.commands.proofs.final_stores.script_of_store.Goals as goal
 
 pub returns-in_ok-store_script_text-in-Some-clause-chosen : goal.returns-in_ok-store_script_text-in-Some-clause-chosen
 returns-in_ok-store_script_text-in-Some-clause-chosen c = (c.in-Some.store.now, sym c.in-Some.ensures, c.in_ok-store_script_text-in-Some.ensures)
+
+pub returns-in_err-store_script_text-in-Some-clause-refused : goal.returns-in_err-store_script_text-in-Some-clause-refused
+returns-in_err-store_script_text-in-Some-clause-refused c =
+    error_has c.from_residual.result _ _ c.from_residual.ensures.1
+    (λ halt is. no_script c.in_err-store_script_text-in-Some.field-0.0 (name_of halt) c.args.number c.args.found.now c.in-Some.store.now (sym c.in-Some.ensures) is.1)

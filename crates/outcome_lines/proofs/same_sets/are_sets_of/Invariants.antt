@@ -1,9 +1,6 @@
-use Rattle.std.proofs.Common.{◌≡◌, length}
-use Rattle.outcome_lines.specs.StoreScripts.{are_sets_of}
+use Rattle.std.proofs.Common.{◌≡◌, Some, drop}
+use Rattle.outcome_lines.specs.StoreScripts.{all_behind}
 use Rattle.outcome_lines.proofs.same_sets.are_sets_of.Given as goal
 
-abbrev pub invariant-sets : goal.invariant-sets
-invariant-sets l = are_sets_of l.racers l.sets ≡ are_sets_of l.racers_left l.sets_left
-
-abbrev pub decreases-sets : goal.decreases-sets
-decreases-sets l = length l.racers_left
+abbrev pub invariant-loop-participant : goal.invariant-loop-participant
+invariant-loop-participant l = all_behind (drop l.participant-index l.participants) (Some l.left) ≡ all_behind l.participants (Some l.sets)

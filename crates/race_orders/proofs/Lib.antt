@@ -1,6 +1,0 @@
-mod Asking
-mod Behind
-mod Sparing
-mod Taken
-mod Taking
-mod Wholes
