@@ -2,7 +2,11 @@ pub mod Lines
 pub mod Readings
 pub mod Unread
 pub mod ClusterLines
+pub mod DraftValues
+pub mod DraftBack
 pub mod ReadBack
 pub mod Tokens
 pub mod RaceCalls
 pub mod RaceHistories
+pub mod ReadDrafts
+pub mod ReadRequests

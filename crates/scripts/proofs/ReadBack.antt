@@ -14,10 +14,9 @@ use Rattle.objects.specs.Again.{text_unless_zero}
 use Rattle.objects.specs.Key.{KeyParts, is_key}
 use Rattle.objects.specs.Kind.{kind_name}
 use Rattle.objects.specs.Names.{is_dns_label}
-use Rattle.objects.specs.Reading.{collection_in, draft_of, key_in, namespace_in}
-use Rattle.objects.specs.Text.{printed}
+use Rattle.objects.specs.Reading.{collection_in, key_in, namespace_in}
 use Rattle.objects.specs.Uid.{version_number}
-use Rattle.objects.proofs.DraftAgain.{draft_again, key_again, kind_again, label_some}
+use Rattle.objects.proofs.DraftAgain.{key_again, kind_again, label_some}
 use Rattle.objects.proofs.UidRound.{length-decimal, version_number-decimal}
 use Rattle.requests.specs.declared.request.Request.{Request}
 use Rattle.requests.specs.declared.request.Request.TheVariants as request
@@ -26,7 +25,8 @@ use Rattle.plain.specs.RequestParts.{◌>>=◌, required, exact_in, exact_number
 use Rattle.plain.specs.Requests.{request_in}
 use Rattle.plain.specs.Verbs.{request_by, verb_in, verb_named}
 use Rattle.plain.proofs.Readings.{compaction_read, deletion_read, list_read, of_create, of_get, of_status, of_update, part_read}
-use Rattle.scripts.specs.RequestLine.{IsNotEmpty, IsOfItsObject, IsReadable, compaction_data, deletion_data, get_data, key_members, list_data, member_if, request_data, with_object}
+use Rattle.scripts.specs.RequestLine.{IsNotEmpty, IsReadable, IsReadableDraft, compaction_data, deletion_data, get_data, key_members, list_data, member_if, printed_draft, request_data, with_draft}
+use Rattle.scripts.proofs.DraftBack.{draft_read}
 
 -- ---- members that may be left out
 
@@ -107,25 +107,22 @@ exact_by false n is small =
 
 -- ---- the requests
 
-draft_read : (d : Draft) → IsOfItsObject d → draft_of (printed d.object) ≡ Ok d
-draft_read d h = draft_again d.object h.rules.body h.rules.key h.rules.meta h.canonical ∙ ap Ok (sym h.again)
-
 abbrev object_members : List ℕ → Data → Members
 object_members name o = member (codes "do") (string name) (member (codes "object") o no_members)
 
-create_read : (d : Draft) → IsOfItsObject d → request_in (with_object (codes "create") d.object) ≡ Ok (request.Create d)
+create_read : (d : Draft) → IsReadableDraft d → request_in (with_draft (codes "create") d) ≡ Ok (request.Create d)
 create_read d h =
-    let ms = object_members (codes "create") (printed d.object) in
+    let ms = object_members (codes "create") (printed_draft d) in
     verb_read ms (codes "create") refl ∙ part_read _ _ ms _ request.Create d (of_create ms) refl (draft_read d h)
 
-update_read : (d : Draft) → IsOfItsObject d → request_in (with_object (codes "update") d.object) ≡ Ok (request.Update d)
+update_read : (d : Draft) → IsReadableDraft d → request_in (with_draft (codes "update") d) ≡ Ok (request.Update d)
 update_read d h =
-    let ms = object_members (codes "update") (printed d.object) in
+    let ms = object_members (codes "update") (printed_draft d) in
     verb_read ms (codes "update") refl ∙ part_read _ _ ms _ request.Update d (of_update ms) refl (draft_read d h)
 
-status_read : (d : Draft) → IsOfItsObject d → request_in (with_object (codes "status") d.object) ≡ Ok (request.UpdateStatus d)
+status_read : (d : Draft) → IsReadableDraft d → request_in (with_draft (codes "status") d) ≡ Ok (request.UpdateStatus d)
 status_read d h =
-    let ms = object_members (codes "status") (printed d.object) in
+    let ms = object_members (codes "status") (printed_draft d) in
     verb_read ms (codes "status") refl ∙ part_read _ _ ms _ request.UpdateStatus d (of_status ms) refl (draft_read d h)
 
 get_read : (key : KeyParts) → is_key key ≡ true → request_in (get_data key) ≡ Ok (request.Get key)

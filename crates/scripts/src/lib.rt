@@ -5,6 +5,7 @@
 mod cluster_header;
 mod cluster_printing;
 mod cluster_script;
+mod draft_value;
 mod event;
 mod fault;
 mod from_lines;

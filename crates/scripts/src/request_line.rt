@@ -7,29 +7,30 @@ ghost use Rattle.serde_json.specs.Written.{outline};
 ghost use Rattle.objects.specs.Again.{text_unless_zero};
 ghost use Rattle.objects.specs.Key.{key_parts};
 ghost use Rattle.objects.specs.Kind.{kind_name};
-ghost use Rattle.scripts.specs.RequestLine.{compaction_data, deletion_data, get_data, optional_tokens, key_tokens, list_data, request_data, with_object};
+ghost use Rattle.scripts.specs.RequestLine.{compaction_data, deletion_data, get_data, optional_tokens, key_tokens, list_data, request_data, with_draft};
 
+use crate::draft_value::write_draft_value;
 use json::Writer;
-use objects::{Key, Kind, Object, Text};
-use plain::{Request, write_object_member, write_text_member};
+use objects::{Draft, Key, Kind, Text};
+use plain::{Request, write_text_member};
 use std::alloc::AllocError;
 
 /// Writes the request as a request line of `serve`, as a JSON value. The UID and the resource version of a draft are
-/// written as those of its object, if it has them.
+/// written as the draft has them, also if the store gives no such texts.
 pub fn write_request(request: &Request, out: &mut Writer) -> Result<(), AllocError>
     ensures tokens { OnOk result (out.new.tokens ≡ out.old.tokens ++ json_tokens (outline (request_data request.now))) }
     ensures before { out.new.before ≡ out.old.before }
 {
     match request {
-        Request::Create(draft) => write_draft("create", &draft.object, out),
+        Request::Create(draft) => write_draft("create", draft, out),
         Request::Get(key) => write_get(key, out),
         Request::List {
             kind,
             namespace,
             exact,
         } => write_list(*kind, namespace.as_str(), *exact, out),
-        Request::Update(draft) => write_draft("update", &draft.object, out),
-        Request::UpdateStatus(draft) => write_draft("status", &draft.object, out),
+        Request::Update(draft) => write_draft("update", draft, out),
+        Request::UpdateStatus(draft) => write_draft("status", draft, out),
         Request::Delete {
             key,
             uid,
@@ -40,13 +41,14 @@ pub fn write_request(request: &Request, out: &mut Writer) -> Result<(), AllocErr
     }
 }
 
-fn write_draft(verb: &str, object: &Object, out: &mut Writer) -> Result<(), AllocError>
-    ensures tokens { OnOk result (out.new.tokens ≡ out.old.tokens ++ json_tokens (outline (with_object verb.now object.now))) }
+fn write_draft(verb: &str, draft: &Draft, out: &mut Writer) -> Result<(), AllocError>
+    ensures tokens { OnOk result (out.new.tokens ≡ out.old.tokens ++ json_tokens (outline (with_draft verb.now draft.now))) }
     ensures before { out.new.before ≡ out.old.before }
 {
     out.begin_object()?;
     write_text_member("do", verb, out)?;
-    write_object_member("object", object, out)?;
+    out.key("object")?;
+    write_draft_value(draft, out)?;
     out.end_object()
 }
 

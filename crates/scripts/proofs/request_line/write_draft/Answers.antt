@@ -1,10 +1,10 @@
 use Rattle.std.proofs.Common.{refl}
 use Rattle.std.proofs.lemmas.Result.{on_ok_weaker}
-use Rattle.plain.proofs.Written.{four}
+use Rattle.plain.proofs.Written.{five}
 use Rattle.scripts.proofs.request_line.write_draft.Goals as goal
 
 pub returns-clause-tokens : goal.returns-clause-tokens
 returns-clause-tokens c =
     on_ok_weaker c.end_object.result (λ last.
-    four c.args.out.now.tokens _ _ _ _ _ _ _ _ _
-    c.in_ok-begin_object.ensures.ok c.in_ok-write_text_member.ensures.tokens c.in_ok-write_object_member.ensures.tokens last refl) c.end_object.ensures.ok
+    five c.args.out.now.tokens _ _ _ _ _ _ _ _ _ _ _
+    c.in_ok-begin_object.ensures.ok c.in_ok-write_text_member.ensures.tokens c.in_ok-key.ensures.ok c.in_ok-write_draft_value.ensures.tokens last refl) c.end_object.ensures.ok
