@@ -56,8 +56,8 @@ def answer_faults(program):
 
 
 def refusal_faults():
-    """The names by which scripts, litmus tests and plans are refused."""
-    for what, words in (("script", ("replay", "cluster")), ("litmus test", ("outcomes",)), ("plan", ("plan",))):
+    """The names by which scripts, races and plans are refused."""
+    for what, words in (("script", ("replay", "cluster")), ("race", ("outcomes",)), ("plan", ("plan",))):
         told = {name for names, _ in table(f"A refused {what}") for name in re.findall(r"\w+", names)}
         shown = [example.said[2].decode() for example in SHOWN if example.name.startswith(words)]
         shown += re.findall(rf'"(?:{"|".join(words)})\b.*(refused: \w+)', LIMITS)

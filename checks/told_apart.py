@@ -1,10 +1,11 @@
-"""Ends of a litmus test or of a race in words, by docs/LITMUS.md: those that are the same but for versions and UIDs are one
-line; of an object that differs between ends is said how.
+"""Ends of a race in words, by docs/LITMUS.md: those that are the same but for versions and UIDs are one line; of an object that
+differs between ends is said how.
 """
 from collections import Counter
 
 from store_of_maps import number_of, text_of
 
+NOT_SENT = "not sent"  # what became of a request that its caller leaves out
 HELD = ("name", "namespace", "uid", "resourceVersion", "deletionTimestamp", "generation")
 
 
@@ -30,7 +31,9 @@ def members(held):
 
 
 def objects_of(reply):
-    return reply.get("items", [reply["object"]] if "object" in reply else []) if reply else []
+    if reply is None or reply is NOT_SENT:
+        return []
+    return reply.get("items", [reply["object"]] if "object" in reply else [])
 
 
 class Words:
@@ -82,28 +85,11 @@ def lines_of(noun, said):
     return [*numbers.values(), f"{len(numbers)} {noun}{'s' * (len(numbers) != 1)}, {len(said)} with their versions"]
 
 
-# Stores.
-
-
-def stores_lines(begun, stores):
-    """The lines of stores, each a list of its objects in order, after a beginning with these objects."""
-    words = Words(begun, stores)
-
-    def named(held, end):
-        kind, namespace, name = key_of(held)
-        return f"{kind} {'' if namespace == 'default' else namespace + '/'}{name}{words.marks(held, end)}"
-
-    return lines_of("store", [
-        ([words.alike(held, end) for held in end], " " + (", ".join(named(held, end) for held in end) or "no object"))
-        for end in stores
-    ])
-
-
-# Outcomes.
-
-
-def asked_words(request):
+def asked_words(line):
+    request = line.get("request") or line["ask"]
     verb, version = request["do"], request.get("resourceVersion")
+    if "last" in request:
+        return f"{verb} last"
     if verb == "compact":
         return f"compact to {version}"
     held = request.get("object", request)
@@ -116,29 +102,40 @@ def asked_words(request):
     return words if verb in ("create", "get") or version is None else f"{words} at {version}"
 
 
+def word_told(reply):
+    """The one word for what became of a request."""
+    if reply is None or reply is NOT_SENT:
+        return reply or "no reply"
+    return reply.get("result") or reply["reason"]
+
+
 def told_words(words, reply, end):
-    if reply is None:
-        return "no reply"
-    if "items" in reply:
+    if reply is not None and "items" in reply:
         names = (held["metadata"]["name"] + words.marks(held, end) for held in reply["items"])
         return "Listed " + (", ".join(names) or "no object")
-    said = reply.get("result") or reply["reason"]
-    return said + "".join(words.marks(held, end) for held in objects_of(reply))
+    return word_told(reply) + "".join(words.marks(held, end) for held in objects_of(reply))
 
 
-def outcomes_lines(begun, asks, outcomes):
-    """The lines of outcomes, each a list of replies to these requests, after a beginning with these objects."""
-    shown = [[held for reply in outcome for held in objects_of(reply)] for outcome in outcomes]
+def named(words, held, end):
+    kind, namespace, name = key_of(held)
+    return f"{kind} {'' if namespace == 'default' else namespace + '/'}{name}{words.marks(held, end)}"
+
+
+def ends_lines(noun, begun, asks, ends):
+    """The lines of ends, after a beginning with these objects. An end is what became of each line of a caller, or None if that
+    is not asked for, and the objects of its store in their order, or None."""
+    shown = [[held for reply in told or [] for held in objects_of(reply)] + (store or []) for told, store in ends]
     words = Words(begun, shown)
 
-    def compared(reply, end):
-        word = reply and (reply.get("result") or reply["reason"])
-        return [word, [words.alike(held, end) for held in objects_of(reply)]]
+    def compared(told, store, end):
+        replies = [[word_told(reply), [words.alike(held, end) for held in objects_of(reply)]] for reply in told or []]
+        return [replies, [words.alike(held, end) for held in store or []]]
 
-    def said(outcome, end):
-        pairs = zip(asks, outcome)
-        return ";".join(f" caller {ask['caller']}: {asked_words(ask['request'])}: {told_words(words, reply, end)}" for ask, reply in pairs)
+    def said(told, store, end):
+        parts = [f"caller {ask['caller']}: {asked_words(ask)}: {told_words(words, reply, end)}" for ask, reply in zip(asks, told or [])]
+        if store is not None:
+            lead = "" if told is None else "store: "
+            parts.append(lead + (", ".join(named(words, held, end) for held in store) or "no object"))
+        return ";".join(f" {part}" for part in parts)
 
-    return lines_of("outcome", [
-        ([compared(reply, end) for reply in outcome], said(outcome, end)) for outcome, end in zip(outcomes, shown)
-    ])
+    return lines_of(noun, [(compared(*end, all_shown), said(*end, all_shown)) for end, all_shown in zip(ends, shown)])

@@ -1,6 +1,5 @@
 pub mod Inputs
 pub mod CommandLine
-pub mod Ended
 pub mod Found
 pub mod Grammars
 pub mod Halted

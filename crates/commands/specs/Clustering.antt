@@ -20,7 +20,7 @@ use Rattle.traces.specs.declared.refused_plan.RefusedPlan.{RefusedPlan}
 use Rattle.pictures.specs.Story.{story_text}
 use Rattle.traces.specs.Traced.{trace_by_lines_text}
 use Rattle.scripts.specs.Refusals.{refused_cluster_line_of}
-pub use Rattle.outcome_lines.specs.StoreScripts.{events_by}
+pub use Rattle.race_scripts.specs.Leading.{events_by}
 use Rattle.commands.specs.Halts.{IsRefusedIn}
 use Rattle.commands.specs.Forms.{IsFormatBy, WritesBy}
 use Rattle.commands.specs.Grammar.{flag_text}

@@ -15,11 +15,12 @@ use Rattle.race_log.specs.Limits.{is_race}
 abbrev pub IsScriptBy : (text : Text → Option Text) → ScriptWords → Type 0
 IsScriptBy text script = IsFormatBy text script.form × IsFlagBy (text (codes "where")) script.shows_line
 
--- which outcome's script is requested, whether outcomes are printed in words, whether they are those of controllers, and
--- whether a refusal names its line
+-- which end's script is requested, whether ends are printed in words, whether they are stores or both stores and what
+-- callers are told, how many states the search may have, and whether a refusal names its line
 abbrev pub AreOptionsBy : (text : Text → Option Text) → OutcomesWords → Type 0
 AreOptionsBy text options = IsChoiceBy (text (codes "script")) options.choice × IsFlagBy (text (codes "brief")) options.brief
-    × IsFlagBy (text (codes "final")) options.final_stores × IsFlagBy (text (codes "where")) options.shows_line
+    × IsFlagBy (text (codes "final")) options.final_stores × IsFlagBy (text (codes "both")) options.both
+    × IsNumberBy 200000 1 1000000 (text (codes "states")) options.limit × IsFlagBy (text (codes "where")) options.shows_line
 
 -- the arguments after `plan`
 abbrev pub IsPlanAsked : List Text → PlanWords → Type 0

@@ -2,7 +2,7 @@
 -- `replay [--picture] [--writes] [--trace] [--where]`, `cluster [--picture] [--writes] [--trace] [--where]`,
 -- `plan --set NAME [--namespace NS] [--digits H] [--brief] [--where]`,
 -- `race [--controllers N] [--shards N] [--rounds N] [--replicas N] [--operator] [--history]`, and
--- `outcomes [--script K] [--brief] [--final] [--where]`. `clap` adds help and the version.
+-- `outcomes [--final] [--both] [--brief] [--states N] [--script K] [--where]`. `clap` adds help and the version.
 use Rattle.std.specs.Prelude.{◌≡◌, ◌≤◌, ◌<◌, ◌^◌, ℕ, Bool, true, false, List, [], ◌∷◌, Option, Some, None, codes, if◌then◌else◌}
 use Rattle.std.specs.Option.{option_map_or}
 use Rattle.std.specs.Str.{bytes_eq}
@@ -82,8 +82,9 @@ abbrev pub race_app : App
 race_app = with_rule (with_rule sized_app (flag_rule (codes "operator"))) (flag_rule (codes "history"))
 
 abbrev pub outcomes_app : App
-outcomes_app = with_rule (with_rule (with_rule (with_rule (new_app (codes "outcomes")) (option_rule (codes "script") (parsers.Unsigned 1 20000))) brief_rule) (flag_rule (codes "final")))
-    (flag_rule (codes "where"))
+outcomes_app = with_rule (with_rule (with_rule (with_rule (with_rule (with_rule (new_app (codes "outcomes"))
+    (option_rule (codes "script") (parsers.Unsigned 1 1000000))) brief_rule) (flag_rule (codes "final"))) (flag_rule (codes "both")))
+    (option_rule (codes "states") (parsers.Unsigned 1 1000000))) (flag_rule (codes "where"))
 
 abbrev pub stsctl_app : App
 stsctl_app = with_subcommand (with_subcommand (with_subcommand (with_subcommand (with_subcommand (with_subcommand
@@ -178,7 +179,7 @@ race_text option words = one_of option (rows_under (codes "race") (subcommand_of
 unfoldable pub outcomes_text : Text → List Text → Option Text
 outcomes_text option words = one_of option (rows_under (codes "outcomes") (subcommand_of stsctl_app words))
 
--- The outcome whose script is requested has the number that the text says in decimal digits; without a text none is. If
+-- The end whose script is requested has the number that the text says in decimal digits; without a text none is. If
 -- the text is no such number, the arguments have a fault.
 abbrev pub IsChoiceBy : Option Text → Option ℕ → Type 0
 IsChoiceBy None choice = choice ≡ None

@@ -1,7 +1,6 @@
 -- ---- cited by public clauses
 pub mod CommandLine
 pub mod Clustering
-pub mod Ending
 pub mod Finding
 pub mod Forms
 pub mod Grammar

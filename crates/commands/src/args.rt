@@ -7,7 +7,7 @@ ghost use Rattle.commands.specs.Forms.{IsFlagBy};
 
 use crate::help::{CLUSTER_END, OUTCOMES_END, PLAN_END, REPLAY_END, SERVE_END};
 use crate::options::{
-    OutputFormat, flag_arg, flag_in, format_in, from_1_to_64, from_1_to_20000, number_arg,
+    OutputFormat, flag_arg, flag_in, format_in, from_1_to_64, from_1_to_1000000, number_arg,
     number_in, picture_arg, trace_arg, writes_arg,
 };
 use crate::race_words::{RaceWords, race_grammar, race_words};
@@ -21,6 +21,12 @@ const DIGITS: u64 = 10;
 
 /// The most hex digits that a hash has.
 const MAX_DIGITS: u64 = 64;
+
+/// How many states the search for the ends of a race may have by default.
+const STATES: u64 = 200_000;
+
+/// The most that it may have.
+const MAX_STATES: u64 = 1_000_000;
 
 /// What is to be planned: the set of this namespace and name, how many hex digits of its hash the name of a new
 /// revision gets, whether the actions are written in words, and whether a refusal names its line.
@@ -40,13 +46,16 @@ pub(crate) struct ScriptWords {
     pub(crate) shows_line: bool,
 }
 
-/// Which outcome's script is requested, by its number from 1, whether outcomes are printed in words, whether they are the
-/// stores that a race of controllers can leave, and whether a refusal names its line.
+/// What is asked about the ends of a race: which one's script is requested, by its number from 1; whether they are
+/// printed in words; whether they are the stores that are left, or both these and what callers are told; how many states
+/// the search may have; and whether a refusal names its line.
 #[derive(Clone, Copy, Drop)]
 pub(crate) struct OutcomesWords {
     pub(crate) choice: Option<u64>,
     pub(crate) brief: bool,
     pub(crate) final_stores: bool,
+    pub(crate) both: bool,
+    pub(crate) limit: u64,
     pub(crate) shows_line: bool,
 }
 
@@ -63,8 +72,7 @@ pub(crate) enum CommandLine<'a> {
     Plan(PlanWords<'a>),
     /// Let controllers race.
     Race(RaceWords),
-    /// Find the replies that racing callers can get, or the script that shows one such outcome, or the stores that
-    /// racing controllers can leave.
+    /// Find all ends of a race, or the script that shows one.
     Outcomes(OutcomesWords),
 }
 
@@ -72,7 +80,7 @@ pub(crate) enum CommandLine<'a> {
 /// `cluster [--picture] [--writes] [--trace] [--where]`,
 /// `plan --set NAME [--namespace NS] [--digits H] [--brief] [--where]`,
 /// `race [--controllers N] [--shards N] [--rounds N] [--replicas N] [--operator] [--history]`, and
-/// `outcomes [--script K] [--brief] [--final] [--where]`, and what `clap` adds for help and the version.
+/// `outcomes [--final] [--both] [--brief] [--states N] [--script K] [--where]`, and what `clap` adds for help and the version.
 fn grammar<'a>(alloc: Global) -> Result<Command<'a>, AllocError>
     ensures { IfOk result (λ c. app_of c ≡ stsctl_app) }
 {
@@ -149,24 +157,38 @@ fn outcomes_grammar<'a>(alloc: Global) -> Result<Command<'a>, AllocError>
     ensures { IfOk result (λ c. app_of c ≡ outcomes_app) }
 {
     Command::new(alloc, "outcomes")
-        .about("Prints all that the callers of the litmus test on standard input can be told")
+        .about(
+            "Prints all ends of the race on standard input: what its callers can be told, or the stores that can be left",
+        )
         .after_help(OUTCOMES_END)
         .arg(number_arg(
             alloc,
             "script",
             "K",
-            from_1_to_20000(),
-            "Print a script of `replay` (with --final of `cluster`) that shows the outcome of line K, from 1 to 20000",
+            from_1_to_1000000(),
+            "Print a script that shows the end of line K, from 1 to 1000000: of `replay` for what callers alone are told, else of `cluster`",
         ))?
         .arg(flag_arg(
             alloc,
             "brief",
-            "Print outcomes in words instead, those that are alike but for versions and UIDs as one",
+            "Print the ends in words instead, those that are alike but for versions and UIDs as one",
         ))?
         .arg(flag_arg(
             alloc,
             "final",
-            "Print instead each store in which the controllers on standard input may end",
+            "Print instead each store in which the race may end",
+        ))?
+        .arg(flag_arg(
+            alloc,
+            "both",
+            "Print what callers are told, and the store that is left then",
+        ))?
+        .arg(number_arg(
+            alloc,
+            "states",
+            "N",
+            from_1_to_1000000(),
+            "How many states the search may have, from 1 to 1000000 [default: 200000]",
         ))?
         .arg(where_arg(alloc))
 }
@@ -302,6 +324,8 @@ fn outcomes_words(matches: &ArgMatches<'_>) -> OutcomesWords
         choice: choice_in(matches),
         brief: flag_in(matches, "brief"),
         final_stores: flag_in(matches, "final"),
+        both: flag_in(matches, "both"),
+        limit: number_in(matches, "states", STATES, 1, MAX_STATES),
         shows_line: flag_in(matches, "where"),
     }
 }

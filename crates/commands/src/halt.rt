@@ -1,8 +1,7 @@
 //! Why a run over a whole input has no output, and its exit status.
 ghost use Rattle.std.specs.Prelude.{◌≡◌, ◌≢◌, ◌<◌, ◌⊎◌, None, Some, false, true};
 ghost use Rattle.commands.specs.Clustering.{cluster_refusal};
-ghost use Rattle.commands.specs.Ending.{ending_refusal};
-ghost use Rattle.commands.specs.Finding.{finding_refusal, scripting_refusal};
+ghost use Rattle.commands.specs.Finding.{ending_refusal, scripting_refusal};
 ghost use Rattle.commands.specs.Halts.{IsNamed, Tells, halt_of, is_read, name_of, refused_as};
 ghost use Rattle.commands.specs.Planning.{plan_refusal, read_refusal};
 ghost use Rattle.commands.specs.Replaying.{run_refusal};
@@ -15,10 +14,9 @@ use controllers::ClusterFault;
 use explorer::Refusal;
 use history::ReplayError;
 use objects::{Memory, ReadError, Text};
-use outcome_lines::ScriptingError;
-use outcomes::OutcomesError;
 use plain::{InputFault, RequestError, Sink};
 use plan_lines::plan_error_name;
+use race_scripts::ScriptingError;
 use sets::PlanError;
 use std::alloc::AllocError;
 
@@ -108,18 +106,6 @@ impl From<ClusterFault> for Halt {
             ClusterFault::BadShards => Halt::Refused("BadShards"),
             ClusterFault::BadCapacity => Halt::Refused("BadCapacity"),
             ClusterFault::TooManyCallers => Halt::Refused("TooManyCallers"),
-        }
-    }
-}
-
-impl From<OutcomesError> for Halt {
-    ghost from_gives = { λ error halt. (is_read halt ≡ false) × (name_of halt ≡ finding_refusal error) };
-
-    fn from(error: OutcomesError) -> Halt {
-        match error {
-            OutcomesError::Memory => Halt::Memory,
-            OutcomesError::BadCapacity => Halt::Refused("BadCapacity"),
-            OutcomesError::TooManyOutcomes => Halt::Refused("TooManyOutcomes"),
         }
     }
 }

@@ -96,13 +96,14 @@ Exit status:
 
 More in docs/PLANS.md"#;
 
-/// For `outcomes`: a litmus test, and a race of controllers.
+/// For `outcomes`: a race of callers, and one of controllers.
 pub(crate) const OUTCOMES_END: &str =
     r#"Whole input, of two callers who race for a name; from a file as `stsctl outcomes < FILE`:
 {"capacity":100}
 {"caller":1,"request":{"do":"create","object":{"kind":"Pod","metadata":{"name":"a"}}}}
 {"caller":2,"request":{"do":"create","object":{"kind":"Pod","metadata":{"name":"a"}}}}
-Either is told Created, and the other AlreadyExists
+Either is told Created, and the other AlreadyExists; with --final, the stores that may be left
+"ask" in place of "request" tells the caller to use what it was told before
 
 Whole input of `stsctl outcomes --final < FILE`, of two controllers that make a round each of a set that is new:
 {"capacity":100}
@@ -111,12 +112,13 @@ Whole input of `stsctl outcomes --final < FILE`, of two controllers that make a 
 {"controller":{"name":"web"},"rounds":1}
 They leave the set and its revision, or a pod too
 With "crash":true in its line a controller may crash once, and begins its round anew
+A line {"kubelet":{},"turns":2} is of a kubelet; callers may race beside both
 
 Exit status:
   0  all was answered
   1  reading or writing failed, or memory ran out
   2  an unknown command line
-  3  the litmus test or the race is refused; standard error says `refused: NAME`
+  3  the race is refused; standard error says `refused: NAME`
 
 More in docs/LITMUS.md"#;
 

@@ -7,7 +7,6 @@ mod args;
 mod cluster;
 mod cluster_roles;
 mod explain;
-mod final_stores;
 mod finding;
 mod halt;
 mod help;

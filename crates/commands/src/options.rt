@@ -42,11 +42,11 @@ pub(crate) fn from_1_to_1024<'a>() -> ValueParser<'a>
     value_parser!(u64).range(1..=1_024)
 }
 
-/// Accepts a number from 1 to 20,000.
-pub(crate) fn from_1_to_20000<'a>() -> ValueParser<'a>
-    ensures { result ≡ parsers.Unsigned 1 20000 }
+/// Accepts a number from 1 to 1,000,000.
+pub(crate) fn from_1_to_1000000<'a>() -> ValueParser<'a>
+    ensures { result ≡ parsers.Unsigned 1 1000000 }
 {
-    value_parser!(u64).range(1..=20_000)
+    value_parser!(u64).range(1..=1_000_000)
 }
 
 /// Accepts a number from 0 to 64.

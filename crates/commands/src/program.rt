@@ -31,7 +31,7 @@ use std::thread::Threads;
 /// The whole program: does what the arguments request, the program's name first, and returns the exit status. It is 0
 /// on success and for help and the version, which are written to `writer`; 1, with no message, if reading or writing
 /// fails or memory runs out; 2 if the arguments are bad, with the reason written to `faults`; and 3 if the script of a
-/// replay or a cluster, a litmus test or the input of a plan is refused, with the name of the refusal written to
+/// replay or a cluster, a race or the input of a plan is refused, with the name of the refusal written to
 /// `faults` and nothing to `writer`, or if the report of a race, which `writer` then has, is not legal. Only a race
 /// starts threads and waits.
 pub fn command<T: Threads + Wait + Sync, S: AsStr, R: Source, W: Sink, F: Sink>(

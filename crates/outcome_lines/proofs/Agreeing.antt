@@ -2,11 +2,12 @@
 use Rattle.std.proofs.Common.{◌∙◌, ◌≡◌, ℕ, List, Option, ap}
 use mathlib.Core.Path.{fun_ext}
 use Rattle.explorer.specs.declared.race.End.{End}
-use Rattle.outcomes.specs.declared.litmus.Litmus.{Litmus}
-use Rattle.outcomes.specs.declared.outcome.Outcome.{Outcome}
-use Rattle.outcome_lines.specs.Brief.{brief_text, outcomes_said}
+use Rattle.participants.specs.declared.told.Told.{Told}
+use Rattle.requests.specs.declared.reply.Reply.{Reply}
+use Rattle.race_lines.specs.declared.question.AskedRace.{AskedRace}
+use Rattle.race_lines.specs.declared.question.Question.{Question}
+use Rattle.outcome_lines.specs.Brief.{brief_text, ends_said, said_by}
 use Rattle.outcome_lines.specs.ObjectWords.{Known}
-use Rattle.outcome_lines.specs.Stores.{stores_said}
 
 abbrev pub known_with : (counts : List ℕ → ℕ) → (begun here : List ℕ → Option ℕ) → Known
 known_with counts begun here = record { counts = counts; begun = begun; here = here }
@@ -17,14 +18,14 @@ pub said_here : (say : Known → List ℕ) (counts : List ℕ → ℕ) (begun f 
 said_here say counts begun f g same text is = is ∙ ap (λ h. say (known_with counts begun h)) (fun_ext same)
 
 -- all lines
-pub outcomes_same : (l : Litmus) (found : List Outcome) (noun : List ℕ) (all : ℕ) (f g : List ℕ → ℕ) (p q : List ℕ → Option ℕ) → ((t : List ℕ) → f t ≡ g t) → ((t : List ℕ) → p t ≡ q t)
-    → (text : List ℕ) → text ≡ brief_text noun all (outcomes_said f p l found) → text ≡ brief_text noun all (outcomes_said g q l found)
-outcomes_same l found noun all f g p q counts firsts text is =
-    is ∙ ap (λ h. brief_text noun all (outcomes_said h p l found)) (fun_ext counts)
-    ∙ ap (λ h. brief_text noun all (outcomes_said g h l found)) (fun_ext firsts)
+pub ends_same : (q : Question) (a : AskedRace) (found : List End) (noun : List ℕ) (all : ℕ) (f g : List ℕ → ℕ) (p o : List ℕ → Option ℕ) → ((t : List ℕ) → f t ≡ g t) → ((t : List ℕ) → p t ≡ o t)
+    → (text : List ℕ) → text ≡ brief_text noun all (ends_said q f p a found) → text ≡ brief_text noun all (ends_said q g o a found)
+ends_same q a found noun all f g p o counts firsts text is =
+    is ∙ ap (λ h. brief_text noun all (ends_said q h p a found)) (fun_ext counts)
+    ∙ ap (λ h. brief_text noun all (ends_said q g h a found)) (fun_ext firsts)
 
-pub stores_same : (found : List End) (noun : List ℕ) (all : ℕ) (f g : List ℕ → ℕ) (p q : List ℕ → Option ℕ) → ((t : List ℕ) → f t ≡ g t) → ((t : List ℕ) → p t ≡ q t)
-    → (text : List ℕ) → text ≡ brief_text noun all (stores_said f p found) → text ≡ brief_text noun all (stores_said g q found)
-stores_same found noun all f g p q counts firsts text is =
-    is ∙ ap (λ h. brief_text noun all (stores_said h p found)) (fun_ext counts)
-    ∙ ap (λ h. brief_text noun all (stores_said g h found)) (fun_ext firsts)
+-- by lists that are the same
+pub said_same : (q : Question) (f : List ℕ → ℕ) (g : List ℕ → Option ℕ) (rs ss : List (List ℕ)) (t u : List Told) (x y : List Reply) → rs ≡ ss → t ≡ u → x ≡ y
+    → said_by q f g rs t x ≡ said_by q f g ss u y
+said_same q f g rs ss t u x y words told shown =
+    ap (λ v. said_by q f g v t x) words ∙ ap (λ v. said_by q f g ss v x) told ∙ ap (λ v. said_by q f g ss u v) shown

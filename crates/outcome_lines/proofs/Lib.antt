@@ -1,12 +1,8 @@
 pub mod Agreeing
 pub mod ByText
 pub mod Firsts
-pub mod InTurn
 pub mod Leaving
-pub mod Printed
-pub mod Sameness
-pub mod StoreLed
+pub mod Lines
+pub mod Sending
 pub mod Stored
-pub mod Telling
-pub mod ToBlame
 pub mod ToldOnce

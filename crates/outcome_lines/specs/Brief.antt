@@ -1,6 +1,7 @@
--- Outcomes in words, as `1: caller 1: create Pod/default/a: Created; caller 2: create Pod/default/a: AlreadyExists`:
--- each caller's request, as in a picture, and its reply. Outcomes that are the same but for versions and UIDs have one
--- line, with the number of the first. The last line says how many lines there are, and how many outcomes.
+-- Ends in words, as `1: caller 1: create Pod/default/a: Created; caller 2: create Pod/default/a: AlreadyExists`: each
+-- caller's request, and what became of it; as `2: StatefulSet web (status.replicas 1), Pod web-0`, the store; or both. Ends
+-- that are the same but for versions and UIDs have one line, with the number of the first. The last line says how many
+-- lines there are, and how many ends.
 use Rattle.std.specs.Prelude.{◌≡◌, ◌≢◌, ◌<◌, ℕ, Bool, ◌+◌, ◌==◌, List, [], ◌∷◌, ◌++◌, length, map, bytes_eq, codes, decimal, Option, Some, None, if◌then◌else◌}
 use Rattle.std.specs.List.{All, AllPairs, Contains, list_any, slice_get}
 use Rattle.objects.specs.declared.object.Object.{Object}
@@ -8,30 +9,37 @@ use Rattle.objects.specs.Text.{text}
 use Rattle.requests.specs.declared.reply.Reply.{Reply}
 use Rattle.requests.specs.declared.reply.Reply.TheVariants.{Created, Found, Listed, Updated, Unchanged, Marked, Removed, Compacted, Refused}
 use Rattle.requests.specs.Reasons.{reason_name}
-use Rattle.pictures.specs.Labels.{request_words}
 use Rattle.outcomes.specs.Names.{objects_of}
-use Rattle.outcomes.specs.declared.litmus.Ask.{Ask}
-use Rattle.outcomes.specs.declared.litmus.Litmus.{Litmus}
-use Rattle.outcomes.specs.declared.outcome.Outcome.{Outcome}
-use Rattle.outcome_lines.specs.ObjectWords.{Known, alike, first_among, lower, marks_words, name_words, times_among}
+use Rattle.participants.specs.declared.told.Told.{Told}
+use Rattle.participants.specs.declared.told.Told.TheVariants.{Heard, Unasked, Unheard}
+use Rattle.explorer.specs.declared.race.End.{End}
+use Rattle.race_lines.specs.declared.question.AskedRace.{AskedRace}
+use Rattle.race_lines.specs.declared.question.Question.{Question}
+use Rattle.race_lines.specs.declared.question.Question.TheVariants as question
+use Rattle.outcome_lines.specs.AskedWords.{all_words}
+use Rattle.outcome_lines.specs.Lined.{every_told}
+use Rattle.race_lines.specs.Questions.{told_lists}
+use Rattle.outcome_lines.specs.ObjectWords.{Known, alike, first_among, kind_words, lower, marks_words, name_words, times_among}
+use Rattle.outcome_lines.specs.Stores.{objects_in}
 
 -- ---- what replies show
 
-abbrev pub told_objects : Option Reply → List Object
-told_objects None = []
-told_objects (Some r) = objects_of r
+abbrev pub told_objects : Told → List Object
+told_objects (Heard r) = objects_of r
+told_objects Unasked = []
+told_objects Unheard = []
 
--- of how many of the objects that these replies show a text is true
-abbrev pub times_told : List (Option Reply) → List ℕ → ℕ
+-- of how many of the objects that callers are told a text is true
+abbrev pub times_told : List Told → List ℕ → ℕ
 times_told [] t = 0
-times_told (r ∷ rs) t = times_among (told_objects r) t + times_told rs t
+times_told (x ∷ told) t = times_among (told_objects x) t + times_told told t
 
--- the first object of a name among those that these replies show
-abbrev pub first_told : List (Option Reply) → (name : List ℕ) → Option ℕ
+-- the first object of a name among those that callers are told
+abbrev pub first_told : List Told → (name : List ℕ) → Option ℕ
 first_told [] t = None
-first_told (r ∷ rs) t = lower (first_among (told_objects r) t) (first_told rs t)
+first_told (x ∷ told) t = lower (first_among (told_objects x) t) (first_told told t)
 
--- the same of replies that were all given
+-- the same of the objects that replies show
 abbrev pub times_shown : List Reply → List ℕ → ℕ
 times_shown [] t = 0
 times_shown (r ∷ rs) t = times_among (objects_of r) t + times_shown rs t
@@ -40,12 +48,11 @@ abbrev pub first_shown : List Reply → (name : List ℕ) → Option ℕ
 first_shown [] t = None
 first_shown (r ∷ rs) t = lower (first_among (objects_of r) t) (first_shown rs t)
 
--- of all outcomes
-abbrev pub times_found : List Outcome → List ℕ → ℕ
-times_found [] t = 0
-times_found (o ∷ found) t = times_told o.replies.items t + times_found found t
+-- the same of both
+abbrev pub first_in : List Told → List Reply → (name : List ℕ) → Option ℕ
+first_in told shown t = lower (first_shown shown t) (first_told told t)
 
--- ---- one outcome
+-- ---- what callers are told
 
 -- the names of objects, with this text before the first and a comma before each other
 abbrev pub names_words : Known → (lead : List ℕ) → List Object → List ℕ
@@ -69,24 +76,28 @@ answer_words k (Removed o) = codes "Removed" ++ marks_words k o
 answer_words k (Compacted revision) = codes "Compacted"
 answer_words k (Refused reason) = reason_name reason
 
--- a caller that crashes within the request gets none
-abbrev pub told_words : Known → Option Reply → List ℕ
-told_words k None = codes "no reply"
-told_words k (Some reply) = answer_words k reply
+-- a caller that crashes within a request gets no reply
+abbrev pub told_words : Known → Told → List ℕ
+told_words k (Heard reply) = answer_words k reply
+told_words k Unasked = codes "not sent"
+told_words k Unheard = codes "no reply"
 
--- `caller 1: create Pod/default/a: `
-abbrev pub asked_words : Ask → List ℕ
-asked_words a = (codes "caller " ++ (decimal a.caller ++ codes ": ")) ++ (request_words a.request ++ codes ": ")
+-- requests by their words, and what became of each, with this text before the first and a semicolon before each other
+abbrev pub exchanges_words : Known → (lead : List ℕ) → (requests : List (List ℕ)) → List Told → List ℕ
+exchanges_words k lead [] told = []
+exchanges_words k lead (r ∷ requests) [] = []
+exchanges_words k lead (r ∷ requests) (t ∷ told) = lead ++ ((r ++ told_words k t) ++ exchanges_words k (codes "; ") requests told)
 
--- `caller 1: create Pod/default/a: Created`
-abbrev pub exchange_words : Known → Ask → Option Reply → List ℕ
-exchange_words k a reply = asked_words a ++ told_words k reply
+-- ---- which store is left
 
--- one for each request of a caller, with this text before the first and a semicolon before each other
-abbrev pub exchanges_words : Known → (lead : List ℕ) → List Ask → List (Option Reply) → List ℕ
-exchanges_words k lead [] replies = []
-exchanges_words k lead (a ∷ asks) [] = []
-exchanges_words k lead (a ∷ asks) (r ∷ replies) = lead ++ (exchange_words k a r ++ exchanges_words k (codes "; ") asks replies)
+-- `StatefulSet web, Pod web-0`, with this text before the first and a comma before each other
+abbrev pub kinds_words : Known → (lead : List ℕ) → List Object → List ℕ
+kinds_words k lead [] = []
+kinds_words k lead (o ∷ os) = lead ++ (kind_words k o ++ kinds_words k (codes ", ") os)
+
+abbrev pub objects_words : Known → List Object → List ℕ
+objects_words k [] = codes " no object"
+objects_words k (o ∷ os) = kinds_words k (codes " ") (o ∷ os)
 
 -- ---- which are the same but for versions and UIDs
 
@@ -106,16 +117,17 @@ reply_word (Removed o) = codes "Removed"
 reply_word (Compacted revision) = codes "Compacted"
 reply_word (Refused reason) = reason_name reason
 
-abbrev pub told_word : Option Reply → List ℕ
-told_word None = codes "no reply"
-told_word (Some reply) = reply_word reply
+abbrev pub told_word : Told → List ℕ
+told_word (Heard reply) = reply_word reply
+told_word Unasked = codes "not sent"
+told_word Unheard = codes "no reply"
 
-abbrev pub told_key : Known → Option Reply → List ℕ
-told_key k r = (told_word r ++ codes "\n") ++ alike_texts k (told_objects r)
+abbrev pub told_key : Known → Told → List ℕ
+told_key k t = (told_word t ++ codes "\n") ++ alike_texts k (told_objects t)
 
-abbrev pub replies_key : Known → List (Option Reply) → List ℕ
+abbrev pub replies_key : Known → List Told → List ℕ
 replies_key k [] = []
-replies_key k (r ∷ rs) = told_key k r ++ replies_key k rs
+replies_key k (t ∷ told) = told_key k t ++ replies_key k told
 
 -- ---- ends, each once
 
@@ -160,23 +172,53 @@ brief_count noun apart all = counted noun apart ++ (codes ", " ++ (decimal all +
 abbrev pub brief_text : (noun : List ℕ) → (all : ℕ) → List Said → List ℕ
 brief_text noun all ends = let apart = firsts [] 1 ends in brief_lines apart ++ brief_count noun (length apart) all
 
--- ---- outcomes
+-- ---- the ends of a race
 
-abbrev pub known_by : (counts : List ℕ → ℕ) → (begun : List ℕ → Option ℕ) → List (Option Reply) → Known
-known_by counts begun replies = record { counts = counts; begun = begun; here = first_told replies }
+abbrev pub known_by : (counts : List ℕ → ℕ) → (begun : List ℕ → Option ℕ) → List Told → List Reply → Known
+known_by counts begun told shown = record { counts = counts; begun = begun; here = first_in told shown }
 
-abbrev pub outcome_said : (counts : List ℕ → ℕ) → (begun : List ℕ → Option ℕ) → Litmus → Outcome → Said
-outcome_said counts begun l o = let k = known_by counts begun o.replies.items in record {
-  key = replies_key k o.replies.items;
-  words = exchanges_words k (codes " ") l.asks.items o.replies.items;
-}
+-- the store comes behind what callers are told, if they are told anything
+abbrev pub store_lead : (requests : List (List ℕ)) → List ℕ
+store_lead [] = codes " store:"
+store_lead (r ∷ requests) = codes "; store:"
 
-abbrev pub outcomes_said : (counts : List ℕ → ℕ) → (begun : List ℕ → Option ℕ) → Litmus → List Outcome → List Said
-outcomes_said counts begun l found = map (outcome_said counts begun l) found
+abbrev pub both_words : Known → (requests : List (List ℕ)) → List Told → List Reply → List ℕ
+both_words k requests told shown = exchanges_words k (codes " ") requests told ++ (store_lead requests ++ objects_words k (objects_in shown))
+
+abbrev pub words_by : Question → Known → (requests : List (List ℕ)) → List Told → List Reply → List ℕ
+words_by question.Told k requests told shown = exchanges_words k (codes " ") requests told
+words_by question.Stores k requests told shown = objects_words k (objects_in shown)
+words_by question.Both k requests told shown = both_words k requests told shown
+
+abbrev pub key_by : Known → List Told → List Reply → List ℕ
+key_by k told shown = (replies_key k told ++ codes "store\n") ++ alike_texts k (objects_in shown)
+
+-- what is said of an end by what it shows
+abbrev pub said_by : Question → (counts : List ℕ → ℕ) → (begun : List ℕ → Option ℕ) → (requests : List (List ℕ)) → List Told → List Reply → Said
+said_by q counts begun requests told shown = let k = known_by counts begun told shown in record { key = key_by k told shown; words = words_by q k requests told shown }
+
+abbrev pub told_of : AskedRace → End → List Told
+told_of a e = every_told a.sent.items (told_lists e.told.items)
+
+abbrev pub end_said : Question → (counts : List ℕ → ℕ) → (begun : List ℕ → Option ℕ) → AskedRace → End → Said
+end_said q counts begun a e = said_by q counts begun (all_words a.race.participants.items a.sent.items) (told_of a e) e.looks.items
+
+abbrev pub ends_said : Question → (counts : List ℕ → ℕ) → (begun : List ℕ → Option ℕ) → AskedRace → List End → List Said
+ends_said q counts begun a found = map (end_said q counts begun a) found
+
+-- of how many of the objects that these ends show a text is true
+abbrev pub times_found : AskedRace → List End → List ℕ → ℕ
+times_found a [] t = 0
+times_found a (e ∷ found) t = (times_told (told_of a e) t + times_shown e.looks.items t) + times_found a found t
+
+abbrev pub noun : Question → List ℕ
+noun question.Told = codes "outcome"
+noun question.Stores = codes "store"
+noun question.Both = codes "end"
 
 -- given what lists show of the objects at the beginning
-abbrev pub outcomes_brief_text : Litmus → (begun : List Reply) → List Outcome → List ℕ
-outcomes_brief_text l begun found = brief_text (codes "outcome") (length found) (outcomes_said (times_found found) (first_shown begun) l found)
+abbrev pub ends_brief_text : Question → AskedRace → (begun : List Reply) → List End → List ℕ
+ends_brief_text q a begun found = brief_text (noun q) (length found) (ends_said q (times_found a found) (first_shown begun) a found)
 
 -- ---- what the lines are
 

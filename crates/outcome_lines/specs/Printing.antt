@@ -1,44 +1,90 @@
--- What `stsctl outcomes` prints: a line for each outcome, and last how many there are. All are compact JSON with keys in byte
--- order.
-use Rattle.std.specs.Prelude.{ℕ, ◌+◌, List, [], ◌∷◌, ◌++◌, length, map, codes, Option, Some, None}
-use Rattle.serde_json.specs.Data.{Data, null, number, unsigned, array, Items, no_items, item, object, no_members, member}
+-- What `stsctl outcomes` prints: a line for each end of a race, and last how many there are. All are compact JSON with
+-- keys in byte order.
+use Rattle.std.specs.Prelude.{ℕ, List, [], ◌∷◌, ◌++◌, false, length, map, codes}
+use Rattle.serde_json.specs.Data.{Data, null, boolean, number, unsigned, array, Items, no_items, item, object, Members, no_members, member}
 use Rattle.serde_json.specs.Written.{compact_text}
 use Rattle.requests.specs.declared.reply.Reply.{Reply}
+use Rattle.explorer.specs.declared.race.End.{End}
+use Rattle.participants.specs.declared.told.Told.{Told}
+use Rattle.participants.specs.declared.told.Told.TheVariants.{Heard, Unasked, Unheard}
 use Rattle.plain.specs.Replies.{reply_data}
 use Rattle.plain.specs.ValueLines.{text_lines}
-use Rattle.scripts.specs.Printing.{numbers}
-use Rattle.outcomes.specs.declared.litmus.Ask.{Ask}
-use Rattle.outcomes.specs.declared.litmus.Litmus.{Litmus}
-use Rattle.outcomes.specs.declared.outcome.Outcome.{Outcome}
+use Rattle.race_lines.specs.declared.race.Sent.{Sent}
+use Rattle.outcome_lines.specs.declared.lined.LinedMove.{LinedMove}
+use Rattle.outcome_lines.specs.declared.lined.LinedMove.TheVariants.{Ask, Crash, Late}
+use Rattle.race_lines.specs.declared.question.AskedRace.{AskedRace}
+use Rattle.race_lines.specs.declared.question.Question.{Question}
+use Rattle.race_lines.specs.declared.question.Question.TheVariants as question
+use Rattle.outcome_lines.specs.Lined.{every_told, lined_order}
+use Rattle.race_lines.specs.Questions.{told_lists}
+use Rattle.outcome_lines.specs.Stores.{objects_in, revision_in, store_data, store_items}
 
--- null for a request within which its caller crashes
-abbrev pub told_data : Option Reply → Data
-told_data None = null
-told_data (Some reply) = reply_data reply
+-- ---- what callers are told
 
 -- `{"caller":N,"reply":R}`
-abbrev pub answer_data : (caller : ℕ) → Option Reply → Data
-answer_data caller reply = object (member (codes "caller") (number (unsigned caller)) (member (codes "reply") (told_data reply) no_members))
+abbrev pub replied_data : (caller : ℕ) → (reply : Data) → Data
+replied_data caller reply = object (member (codes "caller") (number (unsigned caller)) (member (codes "reply") reply no_members))
+
+-- `{"asked":false,"caller":N}`
+abbrev pub unasked_data : (caller : ℕ) → Data
+unasked_data caller = object (member (codes "asked") (boolean false) (member (codes "caller") (number (unsigned caller)) no_members))
+
+-- the reply is null for a request within which its caller crashes
+abbrev pub answer_data : (caller : ℕ) → Told → Data
+answer_data caller (Heard reply) = replied_data caller (reply_data reply)
+answer_data caller Unasked = unasked_data caller
+answer_data caller Unheard = replied_data caller null
 
 -- one for each request of a caller
-abbrev pub answers : List Ask → List (Option Reply) → Items
-answers [] replies = no_items
-answers (a ∷ asks) [] = no_items
-answers (a ∷ asks) (r ∷ replies) = item (answer_data a.caller r) (answers asks replies)
+abbrev pub answers : List Sent → List Told → Items
+answers [] told = no_items
+answers (s ∷ sent) [] = no_items
+answers (s ∷ sent) (t ∷ told) = item (answer_data s.caller t) (answers sent told)
 
--- requests of callers by the indices of their lines, after so many of the beginning
-abbrev pub line_indices : (before : ℕ) → (order : List ℕ) → List ℕ
-line_indices before order = map (λ i. before + i) order
+-- ---- in which order
 
--- `{"order":[I,..],"replies":[{"caller":N,"reply":R},..]}`
-abbrev pub outcome_data : Litmus → Outcome → Data
-outcome_data l o =
-    object (member (codes "order") (array (numbers (line_indices (length l.beginning.items) o.order.items)))
-    (member (codes "replies") (array (answers l.asks.items o.replies.items)) no_members))
+-- `{"crash":I}`
+abbrev pub named_data : (name : List ℕ) → (line : ℕ) → Data
+named_data name line = object (member name (number (unsigned line)) no_members)
 
--- `{"outcomes":K}`
-abbrev pub count_data : ℕ → Data
-count_data n = object (member (codes "outcomes") (number (unsigned n)) no_members)
+abbrev pub move_data : LinedMove → Data
+move_data (Ask line) = number (unsigned line)
+move_data (Crash line) = named_data (codes "crash") line
+move_data (Late line) = named_data (codes "late") line
 
-abbrev pub outcomes_text : Litmus → List Outcome → List ℕ
-outcomes_text l found = text_lines (map (outcome_data l) found) ++ (compact_text (count_data (length found)) ++ 10 ∷ [])
+abbrev pub move_items : List LinedMove → Items
+move_items [] = no_items
+move_items (m ∷ order) = item (move_data m) (move_items order)
+
+-- ---- one end
+
+-- `"order":[..],"replies":[..]`, and the members after them
+abbrev pub told_members : List LinedMove → List Sent → List Told → Members → Members
+told_members order sent told ms = member (codes "order") (array (move_items order)) (member (codes "replies") (array (answers sent told)) ms)
+
+abbrev pub told_data : List LinedMove → List Sent → List Told → Data
+told_data order sent told = object (told_members order sent told no_members)
+
+-- `{"order":[..],"replies":[..],"revision":V,"store":[OBJECT,..]}`
+abbrev pub both_data : List LinedMove → List Sent → List Told → List Reply → Data
+both_data order sent told shown =
+    object (told_members order sent told
+    (member (codes "revision") (number (unsigned (revision_in shown))) (member (codes "store") (array (store_items (objects_in shown))) no_members)))
+
+abbrev pub told_of : AskedRace → End → List Told
+told_of a e = every_told a.sent.items (told_lists e.told.items)
+
+abbrev pub end_data : Question → AskedRace → End → Data
+end_data question.Told a e = told_data (lined_order a e) a.sent.items (told_of a e)
+end_data question.Stores a e = store_data e.looks.items
+end_data question.Both a e = both_data (lined_order a e) a.sent.items (told_of a e) e.looks.items
+
+-- ---- all lines
+
+abbrev pub nouns : Question → List ℕ
+nouns question.Told = codes "outcomes"
+nouns question.Stores = codes "stores"
+nouns question.Both = codes "ends"
+
+abbrev pub ends_text : Question → AskedRace → List End → List ℕ
+ends_text q a found = text_lines (map (end_data q a) found) ++ (compact_text (named_data (nouns q) (length found)) ++ 10 ∷ [])

@@ -1,39 +1,37 @@
-// An outcome in words.
-ghost use Rattle.std.specs.Prelude.{◌≡◌, ◌++◌, codes, decimal, string_bytes, IfOk, OnOk};
-ghost use Rattle.std.specs.Option.{option_copied};
-ghost use Rattle.outcome_lines.specs.Brief.{answer_words, asked_words, exchange_words, exchanges_words, listed_words, names_words, told_words};
-ghost use Rattle.outcome_lines.specs.ObjectWords.{known_of, marks_words};
+// What callers are told, in words.
+ghost use Rattle.std.specs.Prelude.{◌≡◌, ◌++◌, codes, OnOk};
+ghost use Rattle.outcome_lines.specs.Brief.{answer_words, exchanges_words, listed_words, names_words, told_words};
+ghost use Rattle.outcome_lines.specs.ObjectWords.{known_of, lists_in, marks_words};
 
 use crate::known::KnownNumbers;
 use crate::marks::{put_marks, put_name};
 use objects::Object;
-use outcomes::Ask;
-use pictures::put_request;
+use participants::Told;
 use plain::Reply;
 use std::alloc::{AllocError, Global};
 
-/// Appends the requests of callers and their replies, in this order.
+/// Appends requests, by the words of each, and what became of them.
 pub(crate) fn put_exchanges(
     alloc: Global,
     known: KnownNumbers<'_>,
-    asks: &[Ask],
-    replies: &[Option<Reply>],
+    requests: &[Vec<u8>],
+    told: &[Told],
     out: &mut Vec<u8>,
 ) -> Result<(), AllocError>
-    ensures { OnOk result (out.new.items ≡ out.old.items ++ exchanges_words (known_of known.entry) (codes " ") asks.now replies.now) }
+    ensures { OnOk result (out.new.items ≡ out.old.items ++ exchanges_words (known_of known.entry) (codes " ") (lists_in requests.now) told.now) }
 {
     let mut lead = " ".as_bytes();
-    let mut asks_left = asks;
-    let mut replies_left = replies;
-    'exchanges: while let Some((ask, asks_behind)) = asks_left.split_first() {
-        let Some((reply, replies_behind)) = replies_left.split_first() else {
+    let mut requests_left = requests;
+    let mut told_left = told;
+    'exchanges: while let Some((words, requests_behind)) = requests_left.split_first() {
+        let Some((one, told_behind)) = told_left.split_first() else {
             return Ok(());
         };
         out.extend_from_slice(lead)?;
-        put_exchange(alloc, known, ask, reply.as_ref(), out)?;
+        put_exchange(alloc, known, words.as_slice(), one, out)?;
         lead = "; ".as_bytes();
-        asks_left = asks_behind;
-        replies_left = replies_behind;
+        requests_left = requests_behind;
+        told_left = told_behind;
     }
     Ok(())
 }
@@ -41,45 +39,28 @@ pub(crate) fn put_exchanges(
 fn put_exchange(
     alloc: Global,
     known: KnownNumbers<'_>,
-    ask: &Ask,
-    reply: Option<&Reply>,
+    words: &[u8],
+    told: &Told,
     out: &mut Vec<u8>,
 ) -> Result<(), AllocError>
-    ensures { OnOk result (out.new.items ≡ out.old.items ++ exchange_words (known_of known.entry) ask.now (option_copied reply.entry)) }
+    ensures { OnOk result (out.new.items ≡ out.old.items ++ (words.now ++ told_words (known_of known.entry) told.now)) }
 {
-    let asked = asked_words(alloc, ask)?;
-    out.extend_from_slice(asked.as_bytes())?;
-    put_told(alloc, known, reply, out)
-}
-
-/// A caller and its request.
-fn asked_words(alloc: Global, ask: &Ask) -> Result<String, AllocError>
-    ensures { IfOk result (λ text. string_bytes text ≡ asked_words ask.now) }
-{
-    let mut text = String::new(alloc);
-    put_caller(ask.caller, &mut text)?;
-    put_request(&ask.request, &mut text)?;
-    text.push_str(": ")?;
-    Ok(text)
-}
-
-fn put_caller(caller: u64, out: &mut String) -> Result<(), AllocError>
-    ensures { OnOk result (string_bytes out.new ≡ string_bytes out.old ++ (codes "caller " ++ (decimal caller ++ codes ": "))) }
-{
-    write!(out, "caller {caller}: ")
+    out.extend_from_slice(words)?;
+    put_told(alloc, known, told, out)
 }
 
 fn put_told(
     alloc: Global,
     known: KnownNumbers<'_>,
-    reply: Option<&Reply>,
+    told: &Told,
     out: &mut Vec<u8>,
 ) -> Result<(), AllocError>
-    ensures { OnOk result (out.new.items ≡ out.old.items ++ told_words (known_of known.entry) (option_copied reply.entry)) }
+    ensures { OnOk result (out.new.items ≡ out.old.items ++ told_words (known_of known.entry) told.now) }
 {
-    match reply {
-        Some(reply) => put_answer(alloc, known, reply, out),
-        None => out.extend_from_slice("no reply".as_bytes()),
+    match told {
+        Told::Heard(reply) => put_answer(alloc, known, reply, out),
+        Told::Unasked => out.extend_from_slice("not sent".as_bytes()),
+        Told::Unheard => out.extend_from_slice("no reply".as_bytes()),
     }
 }
 

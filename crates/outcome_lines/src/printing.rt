@@ -1,164 +1,297 @@
-// Outcomes, as lines of JSON.
-ghost use Rattle.std.specs.Prelude.{◌≡◌, ◌<◌, ◌++◌, ◌∷◌, [], ℕ, codes, length, map, IfOk, OnOk};
-ghost use Rattle.std.specs.List.{Contains};
-ghost use Rattle.std.specs.Option.{option_copied};
+// Ends of a race, as lines of JSON.
+ghost use Rattle.std.specs.Prelude.{◌≡◌, ◌++◌, ◌∷◌, [], codes, map, IfOk, OnOk};
 ghost use Rattle.json.specs.Token.{key as key_token};
 ghost use Rattle.json.specs.Tree.{items_tokens, json_tokens};
-ghost use Rattle.outcome_lines.specs.Printing.{answer_data, answers, count_data, line_indices, outcome_data, outcomes_text, told_data};
-ghost use Rattle.outcomes.specs.declared.outcome.Outcome.{Outcome as SpecOutcome};
+ghost use Rattle.outcome_lines.specs.Printing.{answer_data, answers, both_data, end_data, ends_text, move_data, move_items, named_data, nouns, replied_data, told_data, unasked_data};
+ghost use Rattle.plain.specs.Replies.{reply_data};
 ghost use Rattle.plain.specs.ValueLines.{text_lines};
-ghost use Rattle.scripts.specs.Printing.{numbers};
-ghost use Rattle.serde_json.specs.Data.{array};
+ghost use Rattle.serde_json.specs.Data.{array, null};
 ghost use Rattle.serde_json.specs.Written.{compact_text, items_outline, outline};
 
+use crate::lined::{LinedMove, every_told, lined_order};
+use crate::stores::{put_store, revision_in, write_objects_member};
+use explorer::End;
 use json::Writer;
-use outcomes::{Ask, Litmus, Outcome};
+use objects::Memory;
+use participants::Told;
 use plain::{Reply, end_line, write_integer_member, write_reply};
+use race_lines::{AskedRace, Question, Sent};
 use std::alloc::{AllocError, Global};
 
-/// The lines of the outcomes of a litmus test: `{"order":[I,..],"replies":[{"caller":N,"reply":R},..]}` for each, and
-/// last `{"outcomes":K}`. The order names requests by the indices of their lines, from 0 for the line after the first
-/// one of the test; the replies are in the order of the lines, R as a reply line of `serve`, and null if the caller
-/// crashes.
-pub fn outcomes_text(
+/// The lines of the ends of a race, and last how many there are.
+///
+/// - What callers are told: `{"order":[I,..],"replies":[{"caller":N,"reply":R},..]}`, and last `{"outcomes":K}`. The
+///   order has for each request the line of the one who sends it, from 0 for the line after the first one of the text;
+///   `{"crash":I}` for the crash of the one of line I, and `{"late":I}` where what it had called is carried out. The
+///   replies are in the order of the lines, R as a reply line of `serve`, and null if the caller crashes; a request that
+///   is left out is `{"asked":false,"caller":N}`.
+/// - The stores: `{"revision":V,"store":[OBJECT,..]}`, V the newest revision of the store, with its objects in the store's
+///   order as replies of `serve` show them; and last `{"stores":K}`.
+/// - Both: the members of the one and then those of the other, and last `{"ends":K}`.
+pub fn ends_text(
     alloc: Global,
-    litmus: &Litmus,
-    found: &[Outcome],
-) -> Result<Vec<u8>, AllocError>
-    requires { (o : SpecOutcome) (i : ℕ) → Contains found.now o → Contains o.order.items i → i < length litmus.now.asks.items }
-    ensures { IfOk result (λ text. text.items ≡ outcomes_text litmus.now found.now) }
+    question: Question,
+    asked: &AskedRace,
+    found: &[End],
+) -> Result<Vec<u8>, Memory>
+    ensures { IfOk result (λ text. text.items ≡ ends_text question asked.now found.now) }
 {
-    let lines = put_outcomes(litmus, found, Vec::new(alloc))?;
-    put_count(found.len() as u64, lines)
+    let lines = put_ends(alloc, question, asked, found, Vec::new(alloc))?;
+    let text = put_count(nouns(question), found.len() as u64, lines)?;
+    Ok(text)
 }
 
-fn put_outcomes(litmus: &Litmus, found: &[Outcome], out: Vec<u8>) -> Result<Vec<u8>, AllocError>
-    requires { (o : SpecOutcome) (i : ℕ) → Contains found.now o → Contains o.order.items i → i < length litmus.now.asks.items }
-    ensures { IfOk result (λ text. text.items ≡ out.items ++ text_lines (map (outcome_data litmus.now) found.now)) }
+fn nouns(question: Question) -> &'static str
+    ensures { result.now ≡ nouns question }
+{
+    match question {
+        Question::Told => "outcomes",
+        Question::Stores => "stores",
+        Question::Both => "ends",
+    }
+}
+
+fn put_ends(
+    alloc: Global,
+    question: Question,
+    asked: &AskedRace,
+    found: &[End],
+    out: Vec<u8>,
+) -> Result<Vec<u8>, Memory>
+    ensures { IfOk result (λ text. text.items ≡ out.items ++ text_lines (map (end_data question asked.now) found.now)) }
 {
     let mut text = out;
-    for outcome in found {
-        text = put_outcome(litmus, outcome, text)?;
+    for end in found {
+        text = put_end(alloc, question, asked, end, text)?;
     }
     Ok(text)
 }
 
-fn put_outcome(litmus: &Litmus, outcome: &Outcome, out: Vec<u8>) -> Result<Vec<u8>, AllocError>
-    requires { (i : ℕ) → Contains outcome.now.order.items i → i < length litmus.now.asks.items }
-    ensures { IfOk result (λ text. text.items ≡ out.items ++ (compact_text (outcome_data litmus.now outcome.now) ++ 10 ∷ [])) }
+fn put_end(
+    alloc: Global,
+    question: Question,
+    asked: &AskedRace,
+    end: &End,
+    out: Vec<u8>,
+) -> Result<Vec<u8>, Memory>
+    ensures { IfOk result (λ text. text.items ≡ out.items ++ (compact_text (end_data question asked.now end.now) ++ 10 ∷ [])) }
+{
+    match question {
+        Question::Told => put_told(alloc, asked, end, out),
+        Question::Stores => Ok(put_store(end.looks.as_slice(), out)?),
+        Question::Both => put_both(alloc, asked, end, out),
+    }
+}
+
+fn put_told(alloc: Global, asked: &AskedRace, end: &End, out: Vec<u8>) -> Result<Vec<u8>, Memory>
+    ensures { IfOk result (λ text. text.items ≡ out.items ++ (compact_text (end_data Question.Told asked.now end.now) ++ 10 ∷ [])) }
+{
+    let order = lined_order(alloc, asked, end)?;
+    let told = every_told(alloc, asked.sent.as_slice(), end.told.as_slice())?;
+    let line = told_line(
+        order.as_slice(),
+        asked.sent.as_slice(),
+        told.as_slice(),
+        out,
+    );
+    drop(told);
+    Ok(line?)
+}
+
+fn put_both(alloc: Global, asked: &AskedRace, end: &End, out: Vec<u8>) -> Result<Vec<u8>, Memory>
+    ensures { IfOk result (λ text. text.items ≡ out.items ++ (compact_text (end_data Question.Both asked.now end.now) ++ 10 ∷ [])) }
+{
+    let order = lined_order(alloc, asked, end)?;
+    let told = every_told(alloc, asked.sent.as_slice(), end.told.as_slice())?;
+    let line = both_line(
+        order.as_slice(),
+        asked.sent.as_slice(),
+        told.as_slice(),
+        end.looks.as_slice(),
+        out,
+    );
+    drop(told);
+    Ok(line?)
+}
+
+fn told_line(
+    order: &[LinedMove],
+    sent: &[Sent],
+    told: &[Told],
+    out: Vec<u8>,
+) -> Result<Vec<u8>, AllocError>
+    ensures { IfOk result (λ text. text.items ≡ out.items ++ (compact_text (told_data order.now sent.now told.now) ++ 10 ∷ [])) }
 {
     let mut writer = Writer::new(out);
-    write_outcome(litmus, outcome, &mut writer)?;
+    write_told_end(order, sent, told, &mut writer)?;
     end_line(writer)
 }
 
-fn write_outcome(litmus: &Litmus, outcome: &Outcome, out: &mut Writer) -> Result<(), AllocError>
-    requires { (i : ℕ) → Contains outcome.now.order.items i → i < length litmus.now.asks.items }
-    ensures tokens { OnOk result (out.new.tokens ≡ out.old.tokens ++ json_tokens (outline (outcome_data litmus.now outcome.now))) }
+fn both_line(
+    order: &[LinedMove],
+    sent: &[Sent],
+    told: &[Told],
+    shown: &[Reply],
+    out: Vec<u8>,
+) -> Result<Vec<u8>, AllocError>
+    ensures { IfOk result (λ text. text.items ≡ out.items ++ (compact_text (both_data order.now sent.now told.now shown.now) ++ 10 ∷ [])) }
+{
+    let mut writer = Writer::new(out);
+    write_both_end(order, sent, told, shown, &mut writer)?;
+    end_line(writer)
+}
+
+fn write_told_end(
+    order: &[LinedMove],
+    sent: &[Sent],
+    told: &[Told],
+    out: &mut Writer,
+) -> Result<(), AllocError>
+    ensures tokens { OnOk result (out.new.tokens ≡ out.old.tokens ++ json_tokens (outline (told_data order.now sent.now told.now))) }
     ensures before { out.new.before ≡ out.old.before }
 {
     out.begin_object()?;
-    write_order_member(litmus, outcome.order.as_slice(), out)?;
-    write_replies_member(litmus.asks.as_slice(), outcome.replies.as_slice(), out)?;
+    write_order_member(order, out)?;
+    write_replies_member(sent, told, out)?;
     out.end_object()
 }
 
-fn write_order_member(litmus: &Litmus, order: &[usize], out: &mut Writer) -> Result<(), AllocError>
-    requires { (i : ℕ) → Contains order.now i → i < length litmus.now.asks.items }
-    ensures tokens { OnOk result (out.new.tokens ≡ out.old.tokens ++ key_token (codes "order")
-        ∷ json_tokens (outline (array (numbers (line_indices (length litmus.now.beginning.items) order.now))))) }
+fn write_both_end(
+    order: &[LinedMove],
+    sent: &[Sent],
+    told: &[Told],
+    shown: &[Reply],
+    out: &mut Writer,
+) -> Result<(), AllocError>
+    ensures tokens { OnOk result (out.new.tokens ≡ out.old.tokens ++ json_tokens (outline (both_data order.now sent.now told.now shown.now))) }
+    ensures before { out.new.before ≡ out.old.before }
+{
+    out.begin_object()?;
+    write_order_member(order, out)?;
+    write_replies_member(sent, told, out)?;
+    write_integer_member("revision", revision_in(shown), out)?;
+    write_objects_member(shown, out)?;
+    out.end_object()
+}
+
+fn write_order_member(order: &[LinedMove], out: &mut Writer) -> Result<(), AllocError>
+    ensures tokens { OnOk result (out.new.tokens ≡ out.old.tokens ++ key_token (codes "order") ∷ json_tokens (outline (array (move_items order.now)))) }
     ensures before { out.new.before ≡ out.old.before }
 {
     out.key("order")?;
     out.begin_array()?;
-    write_order(litmus, order, out)
+    write_moves(order, out)
 }
 
-fn write_replies_member(
-    asks: &[Ask],
-    replies: &[Option<Reply>],
-    out: &mut Writer,
-) -> Result<(), AllocError>
+fn write_replies_member(sent: &[Sent], told: &[Told], out: &mut Writer) -> Result<(), AllocError>
     ensures tokens { OnOk result (out.new.tokens ≡ out.old.tokens ++ key_token (codes "replies")
-        ∷ json_tokens (outline (array (answers asks.now replies.now)))) }
+        ∷ json_tokens (outline (array (answers sent.now told.now)))) }
     ensures before { out.new.before ≡ out.old.before }
 {
     out.key("replies")?;
     out.begin_array()?;
-    write_answers(asks, replies, out)
+    write_answers(sent, told, out)
 }
 
 // With the closing bracket.
-fn write_order(litmus: &Litmus, order: &[usize], out: &mut Writer) -> Result<(), AllocError>
-    requires { (i : ℕ) → Contains order.now i → i < length litmus.now.asks.items }
-    ensures tokens { OnOk result (out.new.tokens
-        ≡ out.old.tokens ++ items_tokens (items_outline (numbers (line_indices (length litmus.now.beginning.items) order.now)))) }
+fn write_moves(order: &[LinedMove], out: &mut Writer) -> Result<(), AllocError>
+    ensures tokens { OnOk result (out.new.tokens ≡ out.old.tokens ++ items_tokens (items_outline (move_items order.now))) }
     ensures before { out.new.before ≡ out.old.before }
 {
-    for index in order {
-        out.u64((litmus.beginning.len() + *index) as u64)?;
+    for happens in order {
+        write_move(*happens, out)?;
     }
     out.end_array()
 }
 
-// With the closing bracket.
-fn write_answers(
-    asks: &[Ask],
-    replies: &[Option<Reply>],
-    out: &mut Writer,
-) -> Result<(), AllocError>
-    ensures tokens { OnOk result (out.new.tokens ≡ out.old.tokens ++ items_tokens (items_outline (answers asks.now replies.now))) }
+fn write_move(happens: LinedMove, out: &mut Writer) -> Result<(), AllocError>
+    ensures tokens { OnOk result (out.new.tokens ≡ out.old.tokens ++ json_tokens (outline (move_data happens))) }
     ensures before { out.new.before ≡ out.old.before }
 {
-    let mut asks_left = asks;
-    let mut replies_left = replies;
-    'answers: while let Some((ask, asks_behind)) = asks_left.split_first() {
-        let Some((reply, replies_behind)) = replies_left.split_first() else {
+    match happens {
+        LinedMove::Ask(line) => out.u64(line as u64),
+        LinedMove::Crash(line) => write_named("crash", line as u64, out),
+        LinedMove::Late(line) => write_named("late", line as u64, out),
+    }
+}
+
+/// `{"crash":I}`, and so with another name.
+fn write_named(name: &str, number: u64, out: &mut Writer) -> Result<(), AllocError>
+    ensures tokens { OnOk result (out.new.tokens ≡ out.old.tokens ++ json_tokens (outline (named_data name.now number))) }
+    ensures before { out.new.before ≡ out.old.before }
+{
+    out.begin_object()?;
+    write_integer_member(name, number, out)?;
+    out.end_object()
+}
+
+// With the closing bracket.
+fn write_answers(sent: &[Sent], told: &[Told], out: &mut Writer) -> Result<(), AllocError>
+    ensures tokens { OnOk result (out.new.tokens ≡ out.old.tokens ++ items_tokens (items_outline (answers sent.now told.now))) }
+    ensures before { out.new.before ≡ out.old.before }
+{
+    let mut sent_left = sent;
+    let mut told_left = told;
+    'answers: while let Some((one, sent_behind)) = sent_left.split_first() {
+        let Some((heard, told_behind)) = told_left.split_first() else {
             break 'answers;
         };
-        write_answer(ask.caller, reply.as_ref(), out)?;
-        asks_left = asks_behind;
-        replies_left = replies_behind;
+        write_answer(one.caller, heard, out)?;
+        sent_left = sent_behind;
+        told_left = told_behind;
     }
     out.end_array()
 }
 
-fn write_answer(caller: u64, reply: Option<&Reply>, out: &mut Writer) -> Result<(), AllocError>
-    ensures tokens { OnOk result (out.new.tokens
-        ≡ out.old.tokens ++ json_tokens (outline (answer_data caller (option_copied reply.entry)))) }
+fn write_answer(caller: u64, told: &Told, out: &mut Writer) -> Result<(), AllocError>
+    ensures tokens { OnOk result (out.new.tokens ≡ out.old.tokens ++ json_tokens (outline (answer_data caller told.now))) }
+    ensures before { out.new.before ≡ out.old.before }
+{
+    match told {
+        Told::Heard(reply) => write_replied(caller, reply, out),
+        Told::Unasked => write_unasked(caller, out),
+        Told::Unheard => write_unreplied(caller, out),
+    }
+}
+
+fn write_replied(caller: u64, reply: &Reply, out: &mut Writer) -> Result<(), AllocError>
+    ensures tokens { OnOk result (out.new.tokens ≡ out.old.tokens ++ json_tokens (outline (replied_data caller (reply_data reply.now)))) }
     ensures before { out.new.before ≡ out.old.before }
 {
     out.begin_object()?;
     write_integer_member("caller", caller, out)?;
     out.key("reply")?;
-    write_told(reply, out)?;
+    write_reply(reply, out)?;
     out.end_object()
 }
 
-fn write_told(reply: Option<&Reply>, out: &mut Writer) -> Result<(), AllocError>
-    ensures tokens { OnOk result (out.new.tokens ≡ out.old.tokens ++ json_tokens (outline (told_data (option_copied reply.entry)))) }
-    ensures before { out.new.before ≡ out.old.before }
-{
-    match reply {
-        Some(reply) => write_reply(reply, out),
-        None => out.null(),
-    }
-}
-
-/// Appends the last line.
-fn put_count(count: u64, out: Vec<u8>) -> Result<Vec<u8>, AllocError>
-    ensures { IfOk result (λ text. text.items ≡ out.items ++ (compact_text (count_data count) ++ 10 ∷ [])) }
-{
-    let mut writer = Writer::new(out);
-    write_count(count, &mut writer)?;
-    end_line(writer)
-}
-
-fn write_count(count: u64, out: &mut Writer) -> Result<(), AllocError>
-    ensures tokens { OnOk result (out.new.tokens ≡ out.old.tokens ++ json_tokens (outline (count_data count))) }
+fn write_unreplied(caller: u64, out: &mut Writer) -> Result<(), AllocError>
+    ensures tokens { OnOk result (out.new.tokens ≡ out.old.tokens ++ json_tokens (outline (replied_data caller null))) }
     ensures before { out.new.before ≡ out.old.before }
 {
     out.begin_object()?;
-    write_integer_member("outcomes", count, out)?;
+    write_integer_member("caller", caller, out)?;
+    out.key("reply")?;
+    out.null()?;
     out.end_object()
+}
+
+fn write_unasked(caller: u64, out: &mut Writer) -> Result<(), AllocError>
+    ensures tokens { OnOk result (out.new.tokens ≡ out.old.tokens ++ json_tokens (outline (unasked_data caller))) }
+    ensures before { out.new.before ≡ out.old.before }
+{
+    out.begin_object()?;
+    out.key("asked")?;
+    out.boolean(false)?;
+    write_integer_member("caller", caller, out)?;
+    out.end_object()
+}
+
+/// Appends the last line.
+fn put_count(nouns: &str, count: u64, out: Vec<u8>) -> Result<Vec<u8>, AllocError>
+    ensures { IfOk result (λ text. text.items ≡ out.items ++ (compact_text (named_data nouns.now count) ++ 10 ∷ [])) }
+{
+    let mut writer = Writer::new(out);
+    write_named(nouns, count, &mut writer)?;
+    end_line(writer)
 }

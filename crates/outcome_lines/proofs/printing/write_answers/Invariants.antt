@@ -7,10 +7,10 @@ use Rattle.outcome_lines.proofs.printing.write_answers.Given as goal
 -- what is written and what is left to write are together the whole
 abbrev pub invariant-answers : goal.invariant-answers
 invariant-answers l = record {
-  tokens : l.out.tokens ++ items_tokens (items_outline (answers l.asks_left l.replies_left))
-      ≡ l.fn.out.tokens ++ items_tokens (items_outline (answers l.asks l.replies));
+  tokens : l.out.tokens ++ items_tokens (items_outline (answers l.sent_left l.told_left))
+      ≡ l.fn.out.tokens ++ items_tokens (items_outline (answers l.sent l.told));
   before : l.out.before ≡ l.fn.out.before;
 }
 
 abbrev pub decreases-answers : goal.decreases-answers
-decreases-answers l = length l.asks_left
+decreases-answers l = length l.sent_left

@@ -4,5 +4,5 @@ use Rattle.outcome_lines.specs.ObjectWords.{times_in}
 use Rattle.outcome_lines.proofs.told.count_told.Given as goal
 
 -- what is counted and what is left to count are together the whole
-abbrev pub invariant-loop-reply : goal.invariant-loop-reply
-invariant-loop-reply l = (t : List ℕ) → times_told (drop l.reply-index l.replies) t + times_in l.counts.entries t ≡ times_told l.replies t + times_in l.fn.counts.entries t
+abbrev pub invariant-loop-one : goal.invariant-loop-one
+invariant-loop-one l = (t : List ℕ) → times_told (drop l.one-index l.told) t + times_in l.counts.entries t ≡ times_told l.told t + times_in l.fn.counts.entries t

@@ -1,8 +1,0 @@
-use Rattle.outcome_lines.specs.Brief.{is_among}
-use Rattle.outcome_lines.specs.ObjectWords.{lists_in, number_in, times_in}
-use Rattle.outcome_lines.specs.Stores.{stores_said}
-use Rattle.outcome_lines.proofs.Firsts.{AreTold}
-use Rattle.outcome_lines.proofs.brief_stores.text_by.Given as goal
-
-abbrev pub invariant-loop-at : goal.invariant-loop-at
-invariant-loop-at l = AreTold (stores_said (times_in l.counts.entries) (number_in l.begun.entries) l.found) l.at (is_among (lists_in l.seen.keys)) l.text.items l.apart
