@@ -14,7 +14,7 @@ use Rattle.race_lines.specs.declared.race.Sent.{Sent}
 
 abbrev pub ask_of : Participant → (index : ℕ) → Option Ask
 ask_of (Caller c) i = slice_get c.asks.items i
-ask_of (Controller set rounds may_crash) i = None
+ask_of (Controller set rounds may_crash spares_reads) i = None
 ask_of (Kubelet namespace turns may_crash) i = None
 
 abbrev pub ask_in : List Participant → Sent → Option Ask

@@ -6,4 +6,6 @@ pub mod Kubelets
 pub mod Machine
 pub mod Machines
 pub mod Merging
+pub mod Spared
+pub mod Sparing
 pub mod Stands

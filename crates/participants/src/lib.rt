@@ -11,11 +11,12 @@ mod laws;
 mod merging;
 mod participant;
 mod printed;
+mod sparing;
 mod stand;
 mod told;
 
 pub use caller::{Ask, Asked, Caller, Verb};
-pub use laws::stands_are_phases_and_turns;
+pub use laws::{spared_reads_lead_nowhere, stands_are_phases_and_turns};
 pub use merging::merged;
 pub use participant::Participant;
 pub use stand::{Mark, Stand};

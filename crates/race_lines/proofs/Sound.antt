@@ -14,7 +14,8 @@ use Rattle.scripts.specs.Events.{◌>>=◌, Reads, count_in, line_members}
 use Rattle.race_lines.specs.declared.race.Sent.{Sent}
 use Rattle.race_lines.specs.declared.race.WrittenRace.{WrittenRace}
 use Rattle.race_lines.specs.RaceLines.{Asks, Begins, LineParts, MakesRounds, ParticipantParts, Rounds, SendsRequests, TakesTurns, Turns, line_of, participant_parts}
-use Rattle.race_lines.specs.RaceTexts.{CrashesLast, EachCrashesLast, RaceParts, has_crashed, is_caller, is_over, opened, opened_by, race_by, race_of, race_parts, with_ask, with_ask_at, with_begun, with_first, with_line, with_lines, with_next, with_number_at, with_participant, with_request, with_sent}
+use Rattle.participants.specs.Machines.{CrashesLast}
+use Rattle.race_lines.specs.RaceTexts.{EachCrashesLast, RaceParts, has_crashed, is_caller, is_over, opened, opened_by, race_by, race_of, race_parts, with_ask, with_ask_at, with_begun, with_first, with_line, with_lines, with_next, with_number_at, with_participant, with_request, with_sent}
 
 -- behind one that crashes there is none
 abbrev Last : List Ask → Type 0
@@ -23,7 +24,7 @@ Last (a ∷ asks) = (a.crashes ≡ true → asks ≡ []) × Last asks
 
 abbrev StopsLast : ParticipantParts → Type 0
 StopsLast (SendsRequests asks) = Last asks
-StopsLast (MakesRounds set rounds may_crash) = ⊤
+StopsLast (MakesRounds set rounds may_crash spares_reads) = ⊤
 StopsLast (TakesTurns namespace turns may_crash) = ⊤
 
 pub record IsSound (p : RaceParts) : Type 0 where
@@ -74,7 +75,7 @@ last_more (b ∷ asks) a none =
     ((λ crashes. (let not_so : true ≡ false = sym crashes ∙ parts.0 in absurd cc)), last_more asks a parts.1)
 
 more_stops : (a : Ask) (q r : ParticipantParts) → with_ask a q ≡ Some r → StopsLast r
-more_stops a (MakesRounds set rounds may_crash) r is = absurd cc
+more_stops a (MakesRounds set rounds may_crash spares_reads) r is = absurd cc
 more_stops a (TakesTurns namespace turns may_crash) r is = absurd cc
 more_stops a (SendsRequests asks) r is = go (is_over asks) refl
   where
@@ -155,7 +156,7 @@ asks_at (Some place) p r line caller a is sound = asks_next p r line caller a pl
 line_sound : (said : LineParts) (p r : RaceParts) (line : ℕ) → with_line p line said ≡ Some r → IsSound p → IsSound r
 line_sound (Begins request) p r line is sound = begins p.participants p r request is sound
 line_sound (Asks caller a) p r line is sound = asks_at (position (is_caller caller) p.callers) p r line caller a is sound
-line_sound (Rounds set rounds may_crash) p r line is sound = joins p r line None (MakesRounds set rounds may_crash) is tt sound
+line_sound (Rounds set rounds may_crash) p r line is sound = joins p r line None (MakesRounds set rounds may_crash true) is tt sound
 line_sound (Turns namespace turns may_crash) p r line is sound = joins p r line None (TakesTurns namespace turns may_crash) is tt sound
 
 -- ---- what is read
@@ -166,7 +167,7 @@ by_place (b ∷ asks) last (suc i) a is crashes = let rest : length asks ≡ i +
 
 crashes_last : (q : Participant) → StopsLast (participant_parts q) → CrashesLast q
 crashes_last (Caller caller) stops = by_place caller.asks.items stops
-crashes_last (Controller set rounds may_crash) stops = tt
+crashes_last (Controller set rounds may_crash spares_reads) stops = tt
 crashes_last (Kubelet namespace turns may_crash) stops = tt
 
 pub each_last : (qs : List Participant) → AllByRecursion StopsLast (map participant_parts qs) → EachCrashesLast qs

@@ -44,7 +44,7 @@ sent_by names (a ∷ asks) = sent_by (with_sent names a.asked) asks
 -- the namespaces of one who races
 abbrev pub with_named : (names : List (List ℕ)) → Participant → List (List ℕ)
 with_named names (Caller c) = sent_by names c.asks.items
-with_named names (Controller set rounds may_crash) = with_name names set.namespace
+with_named names (Controller set rounds may_crash spares_reads) = with_name names set.namespace
 with_named names (Kubelet namespace turns may_crash) = with_name names namespace
 
 abbrev pub named_by : (names : List (List ℕ)) → List Participant → List (List ℕ)

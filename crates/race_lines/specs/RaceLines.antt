@@ -17,12 +17,12 @@ use Rattle.race_lines.specs.Asks.{are_named, asked_of, has, only_if_in}
 -- what a `Participant` has
 pub data ParticipantParts : Type 0 where
   SendsRequests : (asks : List Ask) → ParticipantParts
-  MakesRounds : SetParts → (rounds : ℕ) → (may_crash : Bool) → ParticipantParts
+  MakesRounds : SetParts → (rounds : ℕ) → (may_crash spares_reads : Bool) → ParticipantParts
   TakesTurns : (namespace : List ℕ) → (turns : ℕ) → (may_crash : Bool) → ParticipantParts
 
 abbrev pub participant_parts : Participant → ParticipantParts
 participant_parts (Caller c) = SendsRequests c.asks.items
-participant_parts (Controller set rounds may_crash) = MakesRounds (set_parts set) rounds may_crash
+participant_parts (Controller set rounds may_crash spares_reads) = MakesRounds (set_parts set) rounds may_crash spares_reads
 participant_parts (Kubelet namespace turns may_crash) = TakesTurns namespace turns may_crash
 
 pub data LineParts : Type 0 where

@@ -7,6 +7,7 @@ use Rattle.requests.specs.declared.request.Request.{Request}
 use Rattle.scripts.specs.Events.{◌>>=◌, count_in, line_members}
 use Rattle.participants.specs.declared.caller.Ask.{Ask}
 use Rattle.participants.specs.declared.participant.Participant.{Participant}
+use Rattle.participants.specs.Machines.{CrashesLast}
 use Rattle.participants.specs.declared.participant.Participant.TheVariants.{Caller, Controller, Kubelet}
 use Rattle.race_lines.specs.declared.race.Sent.{Sent}
 use Rattle.race_lines.specs.declared.race.WrittenRace.{WrittenRace}
@@ -65,7 +66,7 @@ is_over asks = nat_le 256 (length asks) || has_crashed asks
 
 abbrev pub with_ask : Ask → ParticipantParts → Option ParticipantParts
 with_ask ask (SendsRequests asks) = if is_over asks then None else Some (SendsRequests (asks ++ ask ∷ []))
-with_ask ask (MakesRounds set rounds may_crash) = None
+with_ask ask (MakesRounds set rounds may_crash spares_reads) = None
 with_ask ask (TakesTurns namespace turns may_crash) = None
 
 abbrev pub with_ask_at : List ParticipantParts → (place : ℕ) → Ask → Option (List ParticipantParts)
@@ -93,7 +94,8 @@ is_caller caller (Some n) = n == caller
 abbrev pub with_line : RaceParts → (line : ℕ) → LineParts → Option RaceParts
 with_line p line (Begins request) = with_begun p.participants p request
 with_line p line (Asks caller ask) = with_request p line caller ask (position (is_caller caller) p.callers)
-with_line p line (Rounds set rounds may_crash) = with_participant p line None (MakesRounds set rounds may_crash)
+-- Controllers leave out reads that lead nowhere else.
+with_line p line (Rounds set rounds may_crash) = with_participant p line None (MakesRounds set rounds may_crash true)
 with_line p line (Turns namespace turns may_crash) = with_participant p line None (TakesTurns namespace turns may_crash)
 
 -- ---- all lines
@@ -118,12 +120,6 @@ unfoldable pub race_of : List ℕ → Option RaceParts
 race_of text = race_by (lines text)
 
 -- ---- the callers in what is read
-
--- a caller that crashes within a request has none behind it
-abbrev pub CrashesLast : Participant → Type 0
-CrashesLast (Caller caller) = (i : ℕ) (a : Ask) → slice_get caller.asks.items i ≡ Some a → a.crashes ≡ true → length caller.asks.items ≡ i + 1
-CrashesLast (Controller set rounds may_crash) = ⊤
-CrashesLast (Kubelet namespace turns may_crash) = ⊤
 
 abbrev pub EachCrashesLast : List Participant → Type 0
 EachCrashesLast participants = (n : ℕ) (q : Participant) → slice_get participants n ≡ Some q → CrashesLast q

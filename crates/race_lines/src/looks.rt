@@ -63,6 +63,7 @@ fn add_of(participant: &Participant, names: &mut BTreeSet<Text>) -> Result<(), A
             set,
             rounds: _,
             may_crash: _,
+            spares_reads: _,
         } => add(&set.namespace, names),
         Participant::Kubelet {
             namespace,

@@ -38,6 +38,7 @@ pub(crate) fn put_line(
                 set,
                 rounds,
                 may_crash,
+                spares_reads: true,
             };
             put_participant(alloc, race, number, None, controller)
         }

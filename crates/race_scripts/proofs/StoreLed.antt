@@ -74,13 +74,13 @@ one_equal : (q : Participant) (participants : List Participant) (sets behind : L
     → map set_parts behind ≡ map set_parts (sets_in participants) ++ rest → map set_parts sets ≡ map set_parts (sets_in (q ∷ participants)) ++ rest
 one_equal (Caller c) participants sets behind rest is later = ap (map set_parts) (same_Some sets behind is) ∙ later
 one_equal (Kubelet namespace turns may_crash) participants sets behind rest is later = ap (map set_parts) (same_Some sets behind is) ∙ later
-one_equal (Controller set rounds may_crash) participants sets behind rest is later = by (set_behind set sets) refl
+one_equal (Controller set rounds may_crash spares_reads) participants sets behind rest is later = by (set_behind set sets) refl
   where
     again : (b : Bool) (next : List SetSpec) → again_behind set b next ≡ Some behind → set_behind set sets ≡ Some next → map set_parts sets ≡ map set_parts (sets_again set b (sets_in participants)) ++ rest
     again true next same first = first_equal set sets next first ∙ ap (λ xs. set_parts set ∷ xs) (first_equal set next behind same ∙ ap (λ xs. set_parts set ∷ xs) later)
     again false next same first = first_equal set sets next first ∙ ap (λ xs. set_parts set ∷ xs) (ap (map set_parts) (same_Some next behind same) ∙ later)
 
-    by : (o : Option (List SetSpec)) → set_behind set sets ≡ o → map set_parts sets ≡ map set_parts (sets_in (Controller set rounds may_crash ∷ participants)) ++ rest
+    by : (o : Option (List SetSpec)) → set_behind set sets ≡ o → map set_parts sets ≡ map set_parts (sets_in (Controller set rounds may_crash spares_reads ∷ participants)) ++ rest
     by None none = let clash : None ≡ Some behind = sym (ap (option_and_then (again_behind set may_crash)) none) ∙ is in absurd cc
     by (Some next) first = again may_crash next (sym (ap (option_and_then (again_behind set may_crash)) first) ∙ is) first
 

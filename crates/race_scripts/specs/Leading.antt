@@ -52,7 +52,7 @@ sets_again set false sets = set ∷ sets
 abbrev pub sets_in : List Participant → List SetSpec
 sets_in [] = []
 sets_in (Caller c ∷ participants) = sets_in participants
-sets_in (Controller set rounds may_crash ∷ participants) = sets_again set may_crash (sets_in participants)
+sets_in (Controller set rounds may_crash spares_reads ∷ participants) = sets_again set may_crash (sets_in participants)
 sets_in (Kubelet namespace turns may_crash ∷ participants) = sets_in participants
 
 -- In the run the looker sends just the beginning, and then the looks, and is told what the end shows. Each participant
@@ -102,7 +102,7 @@ again_behind set false sets = Some sets
 
 abbrev pub sets_behind : Participant → List SetSpec → Option (List SetSpec)
 sets_behind (Caller c) sets = Some sets
-sets_behind (Controller set rounds may_crash) sets = option_and_then (again_behind set may_crash) (set_behind set sets)
+sets_behind (Controller set rounds may_crash spares_reads) sets = option_and_then (again_behind set may_crash) (set_behind set sets)
 sets_behind (Kubelet namespace turns may_crash) sets = Some sets
 
 abbrev pub all_behind : List Participant → Option (List SetSpec) → Option (List SetSpec)

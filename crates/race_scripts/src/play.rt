@@ -18,7 +18,15 @@ pub(crate) struct Sending {
     pub request: Request,
     /// Whether its caller crashes within it.
     pub crashes: bool,
+    pub outcome: Outcome,
+}
+
+/// What becomes of a request.
+#[derive(Clone, Copy, Drop)]
+pub(crate) struct Outcome {
     pub effect: Effect,
+    /// How many reads the sender leaves out behind it.
+    pub reads_left_out: usize,
 }
 
 /// What a request does to the store.
@@ -146,8 +154,8 @@ impl Player {
         match self.team.asks(alloc, participants, number)? {
             Some(request) => {
                 let crashes = self.team.may_leave(participants, number);
-                let effect = self.send(alloc, participants, number, &request);
-                sent_with(request, crashes, effect)
+                let outcome = self.send(alloc, participants, number, &request);
+                sent_with(request, crashes, outcome)
             }
             None => Ok(None),
         }
@@ -160,16 +168,33 @@ impl Player {
         participants: &[Participant],
         number: usize,
         request: &Request,
-    ) -> Result<Effect, Memory>
+    ) -> Result<Outcome, Memory>
         requires { AreOnTheWay self.old.team.replies self.old.team.stands.items }
         ensures { AreOnTheWay self.new.team.replies self.new.team.stands.items }
     {
         let reply = self.store.take(request.clone()?)?;
-        let effect = effect_of(&reply);
-        let taken = self.team.take(alloc, participants, number, &reply);
+        let outcome = self.take(alloc, participants, number, &reply);
         drop(reply);
-        taken?;
-        Ok(effect)
+        outcome
+    }
+
+    /// The participant takes the reply.
+    fn take(
+        &mut self,
+        alloc: Global,
+        participants: &[Participant],
+        number: usize,
+        reply: &Reply,
+    ) -> Result<Outcome, Memory>
+        requires { AreOnTheWay self.old.team.replies self.old.team.stands.items }
+        ensures { AreOnTheWay self.new.team.replies self.new.team.stands.items }
+    {
+        let reads_left_out = self.team.left_out(alloc, participants, number, reply)?;
+        self.team.take(alloc, participants, number, reply)?;
+        Ok(Outcome {
+            effect: effect_of(reply),
+            reads_left_out,
+        })
     }
 
     fn crash(
@@ -183,8 +208,8 @@ impl Player {
     {
         match self.team.asks(alloc, participants, number)? {
             Some(request) => {
-                let effect = self.leave_open(alloc, participants, number, &request);
-                sent_with(request, false, effect)
+                let outcome = self.leave_open(alloc, participants, number, &request);
+                sent_with(request, false, outcome)
             }
             None => Ok(None),
         }
@@ -197,7 +222,7 @@ impl Player {
         participants: &[Participant],
         number: usize,
         request: &Request,
-    ) -> Result<Effect, Memory>
+    ) -> Result<Outcome, Memory>
         requires { AreOnTheWay self.old.team.replies self.old.team.stands.items }
         ensures { AreOnTheWay self.new.team.replies self.new.team.stands.items }
     {
@@ -206,7 +231,10 @@ impl Player {
             let copy = request.clone()?;
             drop(mem::replace(&mut self.late[number], Some(copy)));
         }
-        Ok(Effect::Nothing)
+        Ok(Outcome {
+            effect: Effect::Nothing,
+            reads_left_out: 0,
+        })
     }
 
     /// Carries out what the participant called before its crash.
@@ -240,13 +268,13 @@ impl Player {
 fn sent_with(
     request: Request,
     crashes: bool,
-    effect: Result<Effect, Memory>,
+    outcome: Result<Outcome, Memory>,
 ) -> Result<Option<Sending>, Memory> {
-    match effect {
-        Ok(effect) => Ok(Some(Sending {
+    match outcome {
+        Ok(outcome) => Ok(Some(Sending {
             request,
             crashes,
-            effect,
+            outcome,
         })),
         Err(error) => {
             drop(request);

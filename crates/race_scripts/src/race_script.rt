@@ -10,7 +10,8 @@ use scripts::write_request;
 use std::alloc::{AllocError, Global};
 
 /// The script in which the looker sends the beginning, those who race send requests in that order, each brought to its
-/// reply, and the looker sends the looks. A controller or a kubelet that crashes just makes no further step once it has
+/// reply, and the looker sends the looks. Reads that the order leaves out come right behind the reply that lets a
+/// controller leave them out. A controller or a kubelet that crashes just makes no further step once it has
 /// called, which is all that the store can notice; a late write is then brought to its reply.
 pub(crate) fn script_of_race(
     alloc: Global,
@@ -51,6 +52,7 @@ fn write_sets_of(participant: &Participant, out: &mut Writer) -> Result<(), Allo
             set,
             rounds: _,
             may_crash,
+            spares_reads: _,
         } => {
             if *may_crash {
                 write_set(set, out)?;
@@ -118,10 +120,7 @@ fn put_move(
 /// What is asked is brought to its reply, or its caller crashes.
 fn put_ask(seat: Seat, sending: Option<&Sending>, out: Vec<u8>) -> Result<Vec<u8>, AllocError> {
     match seat {
-        Seat::Controller(number) => {
-            let called = put_turn("next", number, out)?;
-            put_turn("run", number, called)
-        }
+        Seat::Controller(number) => put_asks_of(number, sending, out),
         Seat::Caller(caller) => match sending {
             Some(sending) => put_sending(caller, sending, out),
             None => Ok(out),
@@ -129,12 +128,33 @@ fn put_ask(seat: Seat, sending: Option<&Sending>, out: Vec<u8>) -> Result<Vec<u8
     }
 }
 
+/// What a controller asks, and the reads that the order leaves out behind it.
+fn put_asks_of(
+    controller: u64,
+    sending: Option<&Sending>,
+    out: Vec<u8>,
+) -> Result<Vec<u8>, AllocError> {
+    let mut text = put_turns(controller, out)?;
+    if let Some(sending) = sending {
+        for _ in 0..sending.outcome.reads_left_out {
+            text = put_turns(controller, text)?;
+        }
+    }
+    Ok(text)
+}
+
+/// A controller asks, and is brought to its reply.
+fn put_turns(controller: u64, out: Vec<u8>) -> Result<Vec<u8>, AllocError> {
+    let called = put_turn("next", controller, out)?;
+    put_turn("run", controller, called)
+}
+
 fn put_sending(caller: u64, sending: &Sending, out: Vec<u8>) -> Result<Vec<u8>, AllocError> {
     if !sending.crashes {
         return put_call("ask", caller, &sending.request, out);
     }
     let called = put_call("outside", caller, &sending.request, out)?;
-    match sending.effect {
+    match sending.outcome.effect {
         Effect::Nothing => put_step("crash", caller, called),
         Effect::Write => put_crash_within_a_write(caller, called),
         Effect::Compaction => {

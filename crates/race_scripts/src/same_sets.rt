@@ -28,6 +28,7 @@ fn sets_behind<'s>(participant: &Participant, sets: &'s [SetSpec]) -> Option<&'s
             set,
             rounds: _,
             may_crash,
+            spares_reads: _,
         } => again_behind(set, *may_crash, set_behind(set, sets)?),
         Participant::Caller(_)
         | Participant::Kubelet {

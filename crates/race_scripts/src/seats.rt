@@ -88,6 +88,7 @@ fn first_seat(
             set: _,
             rounds: _,
             may_crash: _,
+            spares_reads: _,
         } => Seat::Controller(controller),
         _ => match own {
             Some(number) if controllers <= number => Seat::Caller(number),
@@ -107,6 +108,7 @@ fn second_seat(
             set: _,
             rounds: _,
             may_crash: _,
+            spares_reads: _,
         } => Seat::Controller(controller.saturating_add(1)),
         Participant::Kubelet {
             namespace: _,
@@ -158,6 +160,7 @@ fn numbers_of(participant: &Participant) -> u64 {
             set: _,
             rounds: _,
             may_crash,
+            spares_reads: _,
         } => { if *may_crash { 2 } else { 1 } }
         _ => 0,
     }

@@ -79,6 +79,26 @@ impl Team {
         Ok(())
     }
 
+    /// How many reads the participant leaves out once it has that reply.
+    pub(crate) fn left_out(
+        &mut self,
+        alloc: Global,
+        participants: &[Participant],
+        number: usize,
+        reply: &Reply,
+    ) -> Result<usize, Memory>
+        requires { AreOnTheWay self.old.replies self.old.stands.items }
+        ensures { AreOnTheWay self.new.replies self.new.stands.items }
+    {
+        let Some(participant) = participants.get(number) else {
+            return Ok(0);
+        };
+        match self.stands.get(number) {
+            Some(stand) => participant.left_out(alloc, &mut self.replies, stand, reply),
+            None => Ok(0),
+        }
+    }
+
     /// The participant crashes.
     pub(crate) fn crash(
         &mut self,

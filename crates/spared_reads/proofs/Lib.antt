@@ -1,0 +1,10 @@
+mod Lists
+mod Places
+mod Pairs
+mod Leading
+mod Alike
+mod SparedReads
+mod Back
+mod Falling
+mod Forth
+mod Ends

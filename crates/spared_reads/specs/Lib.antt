@@ -1,0 +1,2 @@
+-- ---- what public clauses cite
+pub mod Sparing
